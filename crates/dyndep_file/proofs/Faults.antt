@@ -1,0 +1,113 @@
+-- Statements without a fault can be written, and statements that can be written have no fault.
+use Rattle.std.proofs.Common.{◌≡◌, ℕ, suc, ◌+◌, ◌<◌, ◌≤◌, Bool, true, false, not, cond, IsTrue, List, [], ◌∷◌, length, get_or, Option, Some, None, option_map, Err, ◌⊎◌, inl, inr, refl, ap, sym, ◌∙◌, arith}
+use Rattle.std.specs.Prelude.{position, nat_lt, All}
+use Rattle.std.specs.List.{position_from}
+use Rattle.std.specs.Option.{option_or}
+use Rattle.std.proofs.lemmas.Bool.{ltb-true}
+use Rattle.std.proofs.lemmas.List.Elements.{All-nil, All-cons}
+use Rattle.std.proofs.lemmas.Iterator.Adapters.{position_from-zero}
+use Rattle.ninja_text.specs.declared.counting.Counted.{Counted}
+use Rattle.ninja_text.specs.declared.failure.Failure.TheVariants.{Fault}
+use Rattle.ninja_text.specs.Escapes.{is_writable, IsWritable}
+use Rattle.ninja_text.proofs.ForCallers.{is_writable-meaning}
+use Rattle.dyndep_file.specs.StatementValue.{StatementValue}
+use Rattle.dyndep_file.specs.Writing.{build_line}
+use Rattle.dyndep_file.specs.WriteFaults.{LeavesWriter, AnswersFault, write_fault, line_limit, paths_of, statement_fault, fault_from, CanBeWritten}
+use Rattle.dyndep_file.specs.declared.writing.WriteFault.{WriteFault}
+use Rattle.dyndep_file.specs.declared.writing.WriteFault.TheVariants.{Unwritable, StatementTooLong, Io}
+use Rattle.dyndep_file.proofs.Positions.{position_none}
+
+cond_none : {X : Type 0} (b : Bool) (x : X) (o : Option X) → cond b (Some x) o ≡ None → (b ≡ false) × (o ≡ None)
+cond_none true x o h = cc
+cond_none false x o h = (refl, h)
+
+or_none : {X : Type 0} (a b : Option X) → option_or a b ≡ None → (a ≡ None) × (b ≡ None)
+or_none None b h = (refl, h)
+or_none (Some x) b h = cc
+
+map_none : {X Y : Type 0} (f : X → Y) (o : Option X) → option_map f o ≡ None → o ≡ None
+map_none f None h = refl
+map_none f (Some x) h = cc
+
+fails_each : {X : Type 0} (p : X → Bool) (i : ℕ) (xs : List X) → position_from p i xs ≡ None → All (λ x. p x ≡ false) xs
+fails_each p i [] h = All-nil (λ x. p x ≡ false)
+fails_each p i (x ∷ xs) h =
+    let both = cond_none (p x) i (position_from p (i + 1) xs) h in
+    All-cons (λ y. p y ≡ false) x xs both.0 (fails_each p (i + 1) xs both.1)
+
+-- ---- from no fault
+
+not_not : (b : Bool) → not b ≡ false → IsTrue b
+not_not true h = refl
+not_not false h = cc
+
+paths_written : (paths : List (List ℕ)) → position (λ path. not (is_writable path)) paths ≡ None → All IsWritable paths
+paths_written paths h k d lt =
+    (is_writable-meaning (get_or paths k d)).0
+    (not_not (is_writable (get_or paths k d)) (fails_each (λ path. not (is_writable path)) 0 paths (sym (position_from-zero (λ path. not (is_writable path)) paths) ∙ h) k d lt))
+
+not_longer : (n : ℕ) → nat_lt line_limit n ≡ false → n ≤ line_limit
+not_longer n h = grind (arith, h)
+
+statement_written : (number : ℕ) (s : StatementValue) → statement_fault number s ≡ None → CanBeWritten s
+statement_written number s h =
+    let both = or_none (option_map (λ path. Unwritable number path) (position (λ path. not (is_writable path)) (paths_of s))) (cond (nat_lt line_limit (length (build_line s))) (Some (StatementTooLong number)) None) h in
+    record {
+      paths = paths_written (paths_of s) (map_none (λ path. Unwritable number path) (position (λ path. not (is_writable path)) (paths_of s)) both.0);
+      line = not_longer (length (build_line s)) (cond_none (nat_lt line_limit (length (build_line s))) (StatementTooLong number) None both.1).0;
+    }
+
+pub all_written : (number : ℕ) (statements : List StatementValue) → fault_from number statements ≡ None → All CanBeWritten statements
+all_written number [] h = All-nil CanBeWritten
+all_written number (s ∷ ss) h =
+    let both = or_none (statement_fault number s) (fault_from (number + 1) ss) h in
+    All-cons CanBeWritten s ss (statement_written number s both.0) (all_written (number + 1) ss both.1)
+
+-- ---- to no fault
+
+test_of : (b : Bool) → IsTrue b → not b ≡ false
+test_of true h = refl
+test_of false h = cc
+
+no_longer : (n : ℕ) → n ≤ line_limit → nat_lt line_limit n ≡ false
+no_longer n h = grind (arith, h)
+
+statement_unfaulty : (number : ℕ) (s : StatementValue) → CanBeWritten s → statement_fault number s ≡ None
+statement_unfaulty number s w =
+    ap (λ o. option_or (option_map (λ path. Unwritable number path) o) (cond (nat_lt line_limit (length (build_line s))) (Some (StatementTooLong number)) None))
+    (position_none (λ path. not (is_writable path)) (paths_of s) [] (λ k lt. test_of (is_writable (get_or (paths_of s) k [])) ((is_writable-meaning (get_or (paths_of s) k [])).1 (w.paths k [] lt))))
+    ∙ ap (λ b. cond b (Some (StatementTooLong number)) None) (no_longer (length (build_line s)) w.line)
+
+tail_of : (s : StatementValue) (ss : List StatementValue) → All CanBeWritten (s ∷ ss) → All CanBeWritten ss
+tail_of s ss a k d lt = a (suc k) d (omega (arith, lt))
+
+pub none_faulty : (number : ℕ) (statements : List StatementValue) → All CanBeWritten statements → fault_from number statements ≡ None
+none_faulty number [] a = refl
+none_faulty number (s ∷ ss) a =
+    ap (λ o. option_or o (fault_from (number + 1) ss)) (statement_unfaulty number s (a 0 s (omega arith)))
+    ∙ none_faulty (number + 1) ss (tail_of s ss a)
+
+-- ---- the fault of the statements is never one of the writer
+
+one_io : (number : ℕ) (place : Option ℕ) (long : Bool) (count : ℕ) → option_or (option_map (λ path. Unwritable number path) place) (cond long (Some (StatementTooLong number)) None) ≡ Some (Io count) → ⊥
+one_io number (Some place) long count h = cc
+one_io number None true count h = cc
+one_io number None false count h = cc
+
+or_some : {X : Type 0} (a b : Option X) (x : X) → option_or a b ≡ Some x → (a ≡ Some x) ⊎ (b ≡ Some x)
+or_some None b x h = inr h
+or_some (Some a) b x h = inl h
+
+never_io : (number : ℕ) (statements : List StatementValue) (count : ℕ) → fault_from number statements ≡ Some (Io count) → ⊥
+never_io number [] count h = cc
+never_io number (s ∷ ss) count h = elim (or_some (statement_fault number s) (fault_from (number + 1) ss) (Io count) h) [
+  | inl here ↦ one_io number (position (λ path. not (is_writable path)) (paths_of s)) (nat_lt line_limit (length (build_line s))) count here
+  | inr later ↦ never_io (number + 1) ss count later
+]
+
+-- so a call that answers it before the first byte says what is true
+pub answered : {W : Type 0} (contents : W → Option (List ℕ)) (out : Counted W) (text : List ℕ) (statements : List StatementValue) (fault : WriteFault) → write_fault statements ≡ Some fault
+    → LeavesWriter contents out out text (Fault fault) × AnswersFault {T = Unit {0}} (write_fault statements) (Err (Fault fault))
+answered contents out text statements (Unwritable statement path) h = (refl, h)
+answered contents out text statements (StatementTooLong statement) h = (refl, h)
+answered contents out text statements (Io count) h = absurd (never_io 0 statements count h)

@@ -1,0 +1,4 @@
+pub mod Numbers
+pub mod Positions
+pub mod Parts
+pub mod Faults

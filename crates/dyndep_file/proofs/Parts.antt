@@ -1,0 +1,46 @@
+-- The paths of a part, as vectors and as lists, and what is written of the first of them.
+use Rattle.std.proofs.Common.{◌≡◌, ℕ, suc, ◌+◌, ◌<◌, List, [], ◌∷◌, ◌++◌, length, get_or, take, map, Vec, Global, refl, ap, sym, ◌∙◌, subst, arith, append_assoc, length-append}
+use Rattle.std.specs.Prelude.{All}
+use Rattle.std.specs.List.{flat_map}
+use Rattle.std.proofs.lemmas.List.{take_more, get_or-map, length-map, append-nil, get_or_append_left, get_or-append-add}
+use Rattle.std.proofs.lemmas.Grind.{flat_map-append}
+
+-- the bytes of the paths
+abbrev pub texts : List (Vec ℕ Global) → List (List ℕ)
+texts paths = map (λ path. path.items) paths
+
+pub text_at : (paths : List (Vec ℕ Global)) (i : ℕ) (path : Vec ℕ Global) (d : List ℕ) → i < length paths → path ≡ get_or paths i path → get_or (texts paths) i d ≡ path.items
+text_at paths i path d lt is = get_or-map (λ p. p.items) paths i path d lt ∙ ap (λ p. p.items) (sym is)
+
+pub same_length : (paths : List (Vec ℕ Global)) → length (texts paths) ≡ length paths
+same_length paths = length-map paths (λ p. p.items)
+
+-- what is written of one more element
+pub flat_map_next : {X : Type 0} (f : X → List ℕ) (xs : List X) (i : ℕ) (x : X) → i < length xs → get_or xs i x ≡ x → flat_map f (take (i + 1) xs) ≡ flat_map f (take i xs) ++ f x
+flat_map_next f xs i x lt is =
+    ap (flat_map f) (take_more xs i x lt ∙ ap (λ y. take i xs ++ y ∷ []) is)
+    ∙ flat_map-append f (take i xs) (x ∷ [])
+    ∙ ap (λ t. flat_map f (take i xs) ++ t) (append-nil (f x))
+
+-- the same of a path, told by its vector
+pub flat_map_next_path : (f : List ℕ → List ℕ) (paths : List (Vec ℕ Global)) (i : ℕ) (path : Vec ℕ Global) → i < length paths → path ≡ get_or paths i path → flat_map f (take (i + 1) (texts paths)) ≡ flat_map f (take i (texts paths)) ++ f path.items
+flat_map_next_path f paths i path lt is =
+    flat_map_next f (texts paths) i path.items (subst (λ n. i < n) (sym (same_length paths)) lt) (text_at paths i path path.items lt is)
+
+-- a path that is written behind what stands there
+pub written_next : (start front text path : List ℕ) (byte : ℕ) → ((start ++ (front ++ text)) ++ byte ∷ []) ++ path ≡ start ++ (front ++ (text ++ byte ∷ path))
+written_next start front text path byte =
+    append_assoc (start ++ (front ++ text)) (byte ∷ []) path
+    ∙ append_assoc start (front ++ text) (byte ∷ path)
+    ∙ ap (λ rest. start ++ rest) (append_assoc front text (byte ∷ path))
+
+-- what holds of all paths of a statement holds of those of each part
+pub first_part : (P : List ℕ → Type 0) (output : List ℕ) (outputs inputs : List (List ℕ)) → All P (output ∷ (outputs ++ inputs)) → All P outputs
+first_part P output outputs inputs a k d lt =
+    subst P (get_or_append_left outputs inputs d k lt)
+    (a (suc k) d (let both = length-append outputs inputs in omega (arith, both, lt)))
+
+pub second_part : (P : List ℕ → Type 0) (output : List ℕ) (outputs inputs : List (List ℕ)) → All P (output ∷ (outputs ++ inputs)) → All P inputs
+second_part P output outputs inputs a k d lt =
+    subst P (get_or-append-add outputs inputs k d)
+    (a (suc (length outputs + k)) d (let both = length-append outputs inputs in omega (arith, both, lt)))

@@ -1,0 +1,3 @@
+pub mod StatementValue
+pub mod Writing
+pub mod WriteFaults

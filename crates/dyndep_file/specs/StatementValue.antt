@@ -1,0 +1,9 @@
+-- What a statement of a dyndep file says.
+use Rattle.std.specs.Prelude.{ℕ, Bool, List}
+
+-- Its paths are the bytes that their spellings stand for.
+pub record StatementValue : Type 0 where
+  pub output : List ℕ
+  pub implicit_outputs : List (List ℕ)
+  pub implicit_inputs : List (List ℕ)
+  pub restat : Bool

@@ -1,0 +1,58 @@
+-- Which lists of statements can't be written, and what a call that writes leaves behind.
+use Rattle.std.specs.Prelude.{◌≡◌, ℕ, ◌+◌, ◌-◌, ◌^◌, min, ◌≤◌, nat_lt, not, if◌then◌else◌, List, [], ◌∷◌, ◌++◌, length, All, position, Option, Some, None, option_map, Result, Ok, Err, ⊤}
+use Rattle.std.specs.Option.{option_or}
+use Rattle.ninja_text.specs.declared.counting.Counted.{Counted}
+use Rattle.ninja_text.specs.declared.failure.Failure.{Failure}
+use Rattle.ninja_text.specs.declared.failure.Failure.TheVariants.{Memory, Fault}
+use Rattle.ninja_text.specs.Counting.{IsCutShort}
+use Rattle.ninja_text.specs.Escapes.{is_writable, IsWritable}
+use Rattle.dyndep_file.specs.StatementValue.{StatementValue}
+use Rattle.dyndep_file.specs.Writing.{build_line}
+use Rattle.dyndep_file.specs.declared.writing.WriteFault.{WriteFault}
+use Rattle.dyndep_file.specs.declared.writing.WriteFault.TheVariants.{Unwritable, StatementTooLong, Io}
+
+-- the most bytes of a logical line, its end included
+abbrev pub line_limit : ℕ
+line_limit = 1048576
+
+-- a length as a number of 64 bits, which stops at the greatest one
+abbrev pub capped : ℕ → ℕ
+capped len = min len (2 ^ 64 - 1)
+
+-- a statement's paths, in the order that faults count them in
+abbrev pub paths_of : StatementValue → List (List ℕ)
+paths_of s = s.output ∷ (s.implicit_outputs ++ s.implicit_inputs)
+
+-- the fault of a statement, told by its number: the first path that has no spelling, else too long a build line
+abbrev pub statement_fault : ℕ → StatementValue → Option WriteFault
+statement_fault number s = option_or
+    (option_map (λ path. Unwritable number path) (position (λ path. not (is_writable path)) (paths_of s)))
+    (if nat_lt line_limit (length (build_line s)) then Some (StatementTooLong number) else None)
+
+-- the fault of the first statement that has one, where the first of the list has this number
+abbrev pub fault_from : ℕ → List StatementValue → Option WriteFault
+fault_from number [] = None
+fault_from number (s ∷ ss) = option_or (statement_fault number s) (fault_from (number + 1) ss)
+
+abbrev pub write_fault : List StatementValue → Option WriteFault
+write_fault statements = fault_from 0 statements
+
+-- A statement that can be written: each path has a spelling, and the build line keeps the limit.
+pub record CanBeWritten (s : StatementValue) : Type 0 where
+  pub paths : All IsWritable (paths_of s)
+  pub line : length (build_line s) ≤ line_limit
+
+-- what stands after a call that failed: before the first byte nothing has changed, and an `Io` comes of a failed call
+abbrev pub LeavesWriter : {W : Type 0} → (W → Option (List ℕ)) → Counted W → Counted W → List ℕ → Failure WriteFault → Type 0
+LeavesWriter contents old new text Memory = new ≡ old
+LeavesWriter contents old new text (Fault (Unwritable statement path)) = new ≡ old
+LeavesWriter contents old new text (Fault (StatementTooLong statement)) = new ≡ old
+LeavesWriter contents old new text (Fault (Io written)) = IsCutShort contents old new text written
+
+-- memory and the writer aside, a call answers the statements' fault, where there is one
+abbrev pub AnswersFault : {T : Type 0} → Option WriteFault → Result T (Failure WriteFault) → Type 0
+AnswersFault fault (Ok done) = fault ≡ None
+AnswersFault fault (Err Memory) = ⊤
+AnswersFault fault (Err (Fault (Unwritable statement path))) = fault ≡ Some (Unwritable statement path)
+AnswersFault fault (Err (Fault (StatementTooLong statement))) = fault ≡ Some (StatementTooLong statement)
+AnswersFault fault (Err (Fault (Io written))) = fault ≡ None

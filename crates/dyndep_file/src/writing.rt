@@ -1,0 +1,239 @@
+//! The writer of dyndep files.
+ghost use Rattle.std.specs.Prelude.{◌≡◌, ◌↔◌, ◌++◌, List, length, map, not, count_by, All, position, MatchResult, IfOk, OnOk, None};
+ghost use Rattle.ninja_text.specs.Counting.{IsWritten};
+ghost use Rattle.ninja_text.specs.Escapes.{escaped, is_escaped, is_writable, IsWritable};
+ghost use Rattle.dyndep_file.specs.StatementValue.{StatementValue};
+ghost use Rattle.dyndep_file.specs.Writing.{part_text, build_line, statement_text, dyndep_text};
+ghost use Rattle.dyndep_file.specs.WriteFaults.{capped, paths_of, statement_fault, fault_from, write_fault, CanBeWritten, LeavesWriter, AnswersFault};
+
+use crate::statement::{Dyndep, Statement};
+use ninja_text::{Counted, Failure, escape_into, is_writable};
+use std::alloc::{AllocError, Global};
+use std::io::Write;
+use thiserror::Error;
+
+/// The most bytes of a logical line, its end included.
+const LINE_LIMIT: usize = 1_048_576;
+
+const VERSION_LINE: &[u8] = b"ninja_dyndep_version = 1\n";
+
+const BINDING_LINE: &[u8] = b"  restat = 1\n";
+
+/// Why a list of statements was not written. The first statement with a fault counts, and in it a path before the line.
+#[derive(Clone, Copy, Debug, PartialEq, Eq, Error)]
+pub enum WriteFault {
+    /// A path is empty or holds `|`, NUL, CR or LF, which no spelling stands for. Paths are counted from 0: the output,
+    /// the implicit outputs, the implicit inputs.
+    #[error("Y1 Unwritable statement {statement} path {path}")]
+    Unwritable { statement: usize, path: usize },
+    /// The build line has more than 1,048,576 bytes, its end included.
+    #[error("Y2 StatementTooLong statement {statement}")]
+    StatementTooLong { statement: usize },
+    /// A call of the writer answered an error or took no byte. This many bytes went out before, from the text's beginning.
+    #[error("Y3 Io written {written}")]
+    Io { written: u128 },
+}
+
+/// Writes a dyndep file: the version line, and for each statement its build line and, where its flag is set, a `restat`
+/// binding. Lines end in LF, and paths are escaped.
+///
+/// A path without a spelling and too long a build line are told before the first byte, as is want of memory: the writer is
+/// as it was then. After an `Io` exactly so many bytes went out, and they are a beginning of the text. No call of the
+/// writer is tried again.
+pub fn write<W: Write>(
+    alloc: Global,
+    dyndep: &Dyndep,
+    out: &mut Counted<W>,
+) -> Result<(), Failure<WriteFault>>
+    ensures text { MatchResult result
+        (λ _. IsWritten W.contents out.old out.new (dyndep_text dyndep.now))
+        (λ failure. LeavesWriter W.contents out.old out.new (dyndep_text dyndep.now) failure) }
+    ensures fault { AnswersFault (write_fault dyndep.now) result }
+{
+    let statements = dyndep.statements.as_slice();
+    if let Some(fault) = first_fault(statements) {
+        return Err(Failure::Fault(fault));
+    }
+    let text = text_of(alloc, statements)?;
+    match out.write_text(&text) {
+        Ok(()) => Ok(()),
+        Err(stopped) => Err(Failure::Fault(WriteFault::Io {
+            written: stopped.written,
+        })),
+    }
+}
+
+/// A law: a list of statements has no fault exactly where each of them can be written.
+pub fn writable_statements()
+    ensures { (statements : List StatementValue) → write_fault statements ≡ None ↔ All CanBeWritten statements }
+{}
+
+/// The first fault of the statements.
+fn first_fault(statements: &[Statement]) -> Option<WriteFault>
+    ensures { result ≡ write_fault statements.now }
+{
+    for (number, statement) in statements.iter().enumerate() {
+        let fault = statement_fault(number, statement);
+        if fault.is_some() {
+            return fault;
+        }
+    }
+    None
+}
+
+/// The fault of a statement, told by its number.
+fn statement_fault(number: usize, statement: &Statement) -> Option<WriteFault>
+    ensures { result ≡ statement_fault number statement.now }
+{
+    if let Some(path) = unwritable_path(statement) {
+        return Some(WriteFault::Unwritable {
+            statement: number,
+            path,
+        });
+    }
+    if build_line_len(statement) > LINE_LIMIT {
+        return Some(WriteFault::StatementTooLong { statement: number });
+    }
+    None
+}
+
+/// The number of the first path that has no spelling.
+fn unwritable_path(statement: &Statement) -> Option<usize>
+    ensures { result ≡ position (λ path. not (is_writable path)) (paths_of statement.now) }
+{
+    if !is_writable(&statement.output) {
+        return Some(0);
+    }
+    if let Some(place) = first_unwritable(&statement.implicit_outputs) {
+        return Some(1 + place);
+    }
+    let place = first_unwritable(&statement.implicit_inputs)?;
+    Some(1 + statement.implicit_outputs.len() + place)
+}
+
+/// The place of the first path that has no spelling.
+fn first_unwritable(paths: &[Vec<u8>]) -> Option<usize>
+    ensures { result ≡ position (λ path. not (is_writable path)) (map (λ path. path.items) paths.now) }
+{
+    for (place, path) in paths.iter().enumerate() {
+        if !is_writable(path) {
+            return Some(place);
+        }
+    }
+    None
+}
+
+/// The length of a statement's build line, or the greatest number where it is greater.
+fn build_line_len(statement: &Statement) -> usize
+    ensures { result ≡ capped (length (build_line statement.now)) }
+{
+    b"build ".len()
+        .saturating_add(escaped_len(&statement.output))
+        .saturating_add(part_len(&statement.implicit_outputs))
+        .saturating_add(b": dyndep".len())
+        .saturating_add(part_len(&statement.implicit_inputs))
+        .saturating_add(b"\n".len())
+}
+
+/// The length of a part of a build line, or the greatest number where it is greater.
+fn part_len(paths: &[Vec<u8>]) -> usize
+    ensures { result ≡ capped (length (part_text (map (λ path. path.items) paths.now))) }
+{
+    if paths.is_empty() {
+        return 0;
+    }
+    let mut len = b" |".len();
+    for path in paths {
+        len = len.saturating_add(1).saturating_add(escaped_len(path));
+    }
+    len
+}
+
+/// The length of a path as it is spelled, or the greatest number where it is greater.
+fn escaped_len(path: &[u8]) -> usize
+    ensures { result ≡ capped (length (escaped path.now)) }
+{
+    path.len().saturating_add(escapes_in(path))
+}
+
+/// How many bytes of a path are spelled with a `$` before them.
+fn escapes_in(path: &[u8]) -> usize
+    ensures { result ≡ count_by is_escaped path.now }
+{
+    path.iter().filter(|b| is_escaped(**b)).count()
+}
+
+/// Whether a byte is spelled with a `$` before it.
+fn is_escaped(byte: u8) -> bool
+    ensures { result ≡ is_escaped byte }
+{
+    matches!(byte, b'$' | b' ' | b':')
+}
+
+/// The length of the text of the statements, or the greatest number where it is greater.
+fn text_len(statements: &[Statement]) -> usize
+    ensures { result ≡ capped (length (dyndep_text statements.now)) }
+{
+    let mut len = VERSION_LINE.len();
+    for statement in statements {
+        len = len.saturating_add(build_line_len(statement));
+        if statement.restat {
+            len = len.saturating_add(BINDING_LINE.len());
+        }
+    }
+    len
+}
+
+/// The text of the statements, in a buffer that was grown once.
+fn text_of(alloc: Global, statements: &[Statement]) -> Result<Vec<u8>, AllocError>
+    requires { All CanBeWritten statements.now }
+    ensures { IfOk result (λ text. text.items ≡ dyndep_text statements.now) }
+{
+    let mut text = Vec::with_capacity(alloc, text_len(statements))?;
+    text.extend_from_slice(VERSION_LINE)?;
+    for statement in statements {
+        push_statement(statement, &mut text)?;
+    }
+    Ok(text)
+}
+
+/// Appends the text of a statement.
+fn push_statement(statement: &Statement, text: &mut Vec<u8>) -> Result<(), AllocError>
+    requires { CanBeWritten statement.now }
+    ensures { OnOk result (text.new.items ≡ text.old.items ++ statement_text statement.now) }
+{
+    push_build_line(statement, text)?;
+    if statement.restat {
+        text.extend_from_slice(BINDING_LINE)?;
+    }
+    Ok(())
+}
+
+/// Appends the build line of a statement.
+fn push_build_line(statement: &Statement, text: &mut Vec<u8>) -> Result<(), AllocError>
+    requires { All IsWritable (paths_of statement.now) }
+    ensures { OnOk result (text.new.items ≡ text.old.items ++ build_line statement.now) }
+{
+    text.extend_from_slice(b"build ")?;
+    escape_into(&statement.output, text)?;
+    push_part(&statement.implicit_outputs, text)?;
+    text.extend_from_slice(b": dyndep")?;
+    push_part(&statement.implicit_inputs, text)?;
+    text.extend_from_slice(b"\n")
+}
+
+/// Appends a part of a build line.
+fn push_part(paths: &[Vec<u8>], text: &mut Vec<u8>) -> Result<(), AllocError>
+    requires { All IsWritable (map (λ path. path.items) paths.now) }
+    ensures { OnOk result (text.new.items ≡ text.old.items ++ part_text (map (λ path. path.items) paths.now)) }
+{
+    if paths.is_empty() {
+        return Ok(());
+    }
+    text.extend_from_slice(b" |")?;
+    for path in paths {
+        text.extend_from_slice(b" ")?;
+        escape_into(path, text)?;
+    }
+    Ok(())
+}

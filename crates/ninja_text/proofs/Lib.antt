@@ -1,0 +1,10 @@
+pub mod ReducedList
+pub mod Rows
+pub mod Shape
+pub mod Spelling
+pub mod Canonical
+pub mod Components
+pub mod ListText
+pub mod KnownBytes
+pub mod Writable
+pub mod ForCallers

@@ -1,0 +1,38 @@
+-- The test of what can be spelled means what the record says.
+use Rattle.std.proofs.Common.{◌≡◌, ℕ, Bool, true, false, not, ◌||◌, ◌==◌, IsTrue, ◌↔◌, List, [], ◌∷◌, length, refl, ap}
+use Rattle.std.specs.Prelude.{All}
+use Rattle.std.specs.List.{list_any}
+use Rattle.std.proofs.lemmas.List.Elements.{All-nil, All-cons}
+use Rattle.std.proofs.lemmas.List.Folds.{list_any_none}
+use Rattle.ninja_text.specs.Escapes.{is_unwritable, is_writable, IsWritable}
+
+or-false : (a b : Bool) → (a || b) ≡ false → (a ≡ false) × (b ≡ false)
+or-false true b h = cc
+or-false false b h = (refl, h)
+
+-- where no element passes the test, each fails it
+none_passes : (p : ℕ → Bool) (bs : List ℕ) → list_any p bs ≡ false → All (λ b. p b ≡ false) bs
+none_passes p [] h = All-nil (λ b. p b ≡ false)
+none_passes p (b ∷ bs) h =
+    let both = or-false (p b) (list_any p bs) h in
+    All-cons (λ x. p x ≡ false) b bs both.0 (none_passes p bs both.1)
+
+not-false : (b : Bool) → IsTrue (not b) → b ≡ false
+not-false true h = cc
+not-false false h = refl
+
+writable_record : (path : List ℕ) → IsTrue (is_writable path) → IsWritable path
+writable_record [] h = cc
+writable_record (b ∷ bs) h = record { some = λ e. cc; each = none_passes is_unwritable (b ∷ bs) (not-false (list_any is_unwritable (b ∷ bs)) h) }
+
+writable_test : (path : List ℕ) → IsWritable path → IsTrue (is_writable path)
+writable_test [] w = absurd (w.some refl)
+writable_test (b ∷ bs) w = ap not (list_any_none is_unwritable (b ∷ bs) w.each)
+
+pub writable : (path : List ℕ) → IsTrue (is_writable path) ↔ IsWritable path
+writable path = (writable_record path, writable_test path)
+
+-- the answer of the test at a path that has a byte
+pub some_byte : (path : List ℕ) (found : Bool) → (length path == 0) ≡ false → found ≡ list_any is_unwritable path → not found ≡ is_writable path
+some_byte [] found h e = cc
+some_byte (b ∷ bs) found h e = ap not e

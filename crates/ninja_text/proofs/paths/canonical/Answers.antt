@@ -1,0 +1,47 @@
+use Rattle.std.proofs.Common.{rules, ap, sym, ◌∙◌, option_copied}
+use Rattle.ninja_text.specs.Reduction.{components, reduced}
+use Rattle.ninja_text.specs.Paths.{seen_from}
+use Rattle.ninja_text.proofs.Canonical.{is-empty, is-above, is-unwritable, is-long, is-path, canonical-path}
+use Rattle.ninja_text.proofs.Shape.{canonical-text}
+use Rattle.ninja_text.proofs.paths.canonical.Goals as goal
+
+pub returns-then-is_nothing-clause-meaning : goal.returns-then-is_nothing-clause-meaning
+returns-then-is_nothing-clause-meaning c = is-empty _ c.args.text.now (sym (c.is_nothing.ensures c.args.text.now (c.deref.ensures.value ∙ c.in_ok-list.ensures)) ∙ c.if-is_nothing.true)
+
+pub returns-then-is_above_root-clause-meaning : goal.returns-then-is_above_root-clause-meaning
+returns-then-is_above_root-clause-meaning c = is-above _ c.args.text.now (sym (c.is_nothing.ensures c.args.text.now (c.deref.ensures.value ∙ c.in_ok-list.ensures)) ∙ c.if-is_nothing.false) (sym c.is_above_root.ensures ∙ c.if-is_above_root.true)
+
+pub returns-in-Some-clause-meaning : goal.returns-in-Some-clause-meaning
+returns-in-Some-clause-meaning c = is-unwritable _ c.args.text.now c.in-Some.place (sym (c.is_nothing.ensures c.args.text.now (c.deref.ensures.value ∙ c.in_ok-list.ensures)) ∙ c.if-is_nothing.false) (sym c.is_above_root.ensures ∙ c.if-is_above_root.false) (sym c.first_unwritable.ensures ∙ c.in-Some.is)
+
+pub returns-then-len-gt-PATH_LIMIT-clause-meaning : goal.returns-then-len-gt-PATH_LIMIT-clause-meaning
+returns-then-len-gt-PATH_LIMIT-clause-meaning c = is-long _ c.args.text.now c.in_ok-text.text.items
+    (sym (c.is_nothing.ensures c.args.text.now (c.deref.ensures.value ∙ c.in_ok-list.ensures)) ∙ c.if-is_nothing.false)
+    (sym c.is_above_root.ensures ∙ c.if-is_above_root.false)
+    (sym c.first_unwritable.ensures ∙ c.in_default.is)
+    (c.in_ok-text.ensures c.args.text.now c.in_ok-list.ensures ∙ ap (λ b. seen_from (option_copied c.args.build) b (reduced (components c.args.text.now))) c.is_rooted.ensures)
+    (search rules)
+
+pub returns-clause-meaning : goal.returns-clause-meaning
+returns-clause-meaning c = is-path _ c.args.text.now c.in_ok-text.text.items
+    (sym (c.is_nothing.ensures c.args.text.now (c.deref.ensures.value ∙ c.in_ok-list.ensures)) ∙ c.if-is_nothing.false)
+    (sym c.is_above_root.ensures ∙ c.if-is_above_root.false)
+    (sym c.first_unwritable.ensures ∙ c.in_default.is)
+    (c.in_ok-text.ensures c.args.text.now c.in_ok-list.ensures ∙ ap (λ b. seen_from (option_copied c.args.build) b (reduced (components c.args.text.now))) c.is_rooted.ensures)
+    (search rules)
+
+pub invariant_of-result : goal.invariant_of-result
+invariant_of-result c = canonical-path (option_copied c.args.build) c.args.text.now c.in_ok-text.text.items (is-path _ c.args.text.now c.in_ok-text.text.items
+    (sym (c.is_nothing.ensures c.args.text.now (c.deref.ensures.value ∙ c.in_ok-list.ensures)) ∙ c.if-is_nothing.false)
+    (sym c.is_above_root.ensures ∙ c.if-is_above_root.false)
+    (sym c.first_unwritable.ensures ∙ c.in_default.is)
+    (c.in_ok-text.ensures c.args.text.now c.in_ok-list.ensures ∙ ap (λ b. seen_from (option_copied c.args.build) b (reduced (components c.args.text.now))) c.is_rooted.ensures)
+    (search rules))
+
+pub returns-clause-text : goal.returns-clause-text
+returns-clause-text c u = canonical-text (option_copied c.args.build) c.args.text.now c.in_ok-text.text.items (is-path _ c.args.text.now c.in_ok-text.text.items
+    (sym (c.is_nothing.ensures c.args.text.now (c.deref.ensures.value ∙ c.in_ok-list.ensures)) ∙ c.if-is_nothing.false)
+    (sym c.is_above_root.ensures ∙ c.if-is_above_root.false)
+    (sym c.first_unwritable.ensures ∙ c.in_default.is)
+    (c.in_ok-text.ensures c.args.text.now c.in_ok-list.ensures ∙ ap (λ b. seen_from (option_copied c.args.build) b (reduced (components c.args.text.now))) c.is_rooted.ensures)
+    (search rules)) u

@@ -1,0 +1,20 @@
+-- What a call that may want memory answers.
+use Rattle.std.specs.Prelude.{◌≡◌, Result, Ok, Err, ⊤}
+use Rattle.ninja_text.specs.declared.failure.Failure.{Failure}
+use Rattle.ninja_text.specs.declared.failure.Failure.TheVariants.{Memory, Fault}
+
+-- The answer is what it means, a value seen by `view` or a fault, unless memory was refused.
+abbrev pub Gives : {T V F : Type 0} → (T → V) → Result T (Failure F) → Result V F → Type 0
+Gives view (Ok value) meaning = meaning ≡ Ok (view value)
+Gives view (Err Memory) meaning = ⊤
+Gives view (Err (Fault fault)) meaning = meaning ≡ Err fault
+
+-- Memory stays memory, and the fault is turned into another one by what a call of the closure ensures.
+abbrev pub Turns : {F G : Type 0} → (F → G → Type 0) → Failure F → Failure G → Type 0
+Turns {F} {G} turned Memory new = new ≡ Memory
+Turns {F} {G} turned (Fault fault) new = (other : G) × turned fault other × (new ≡ Fault other)
+
+-- what a closure requires of the fault, if there is one
+abbrev pub ForFault : {F : Type 0} → (F → Type 0) → Failure F → Type 0
+ForFault P Memory = ⊤
+ForFault P (Fault fault) = P fault

@@ -1,0 +1,56 @@
+//! Spellings of paths in Ninja files.
+ghost use Rattle.std.specs.Prelude.{◌≡◌, ◌≢◌, ◌↔◌, ℕ, List, [], ◌++◌, IsTrue, OnOk, OnErr};
+ghost use Rattle.std.specs.List.{list_any};
+ghost use Rattle.ninja_text.specs.Escapes.{is_unwritable, is_writable, IsWritable, escaped, escaped_byte, Spells};
+
+use crate::reduction::is_unwritable;
+use std::alloc::AllocError;
+
+/// Appends a byte with a `$` before it where it needs one.
+fn push_escaped(out: &mut Vec<u8>, byte: u8) -> Result<(), AllocError>
+    ensures ok { OnOk result (out.new.items ≡ out.old.items ++ escaped_byte byte) }
+    ensures err { OnErr result (out.new.items ≡ out.old.items) }
+{
+    match byte {
+        b'$' | b' ' | b':' => out.extend_from_slice(&[b'$', byte]),
+        _ => out.extend_from_slice(&[byte]),
+    }
+}
+
+/// Whether a path can be spelled in a Ninja file.
+pub fn is_writable(path: &[u8]) -> bool
+    ensures value { result ≡ is_writable path.now }
+    ensures meaning { IsTrue result ↔ IsWritable path.now }
+{
+    !path.is_empty() && !has_unwritable(path)
+}
+
+/// Whether a byte of a path has no spelling.
+fn has_unwritable(path: &[u8]) -> bool
+    ensures { result ≡ list_any is_unwritable path.now }
+{
+    path.iter().any(|b| is_unwritable(*b))
+}
+
+/// Appends a path as it is spelled in a Ninja file. An `Err` leaves the vector as it was.
+pub fn escape_into(path: &[u8], out: &mut Vec<u8>) -> Result<(), AllocError>
+    requires { IsWritable path.now }
+    ensures ok { OnOk result (out.new.items ≡ out.old.items ++ escaped path.now) }
+    ensures err { OnErr result (out.new.items ≡ out.old.items) }
+    // The spelling stands for the path, and for nothing else.
+    ensures meaning { (value : List ℕ) → Spells (escaped path.now) value ↔ (value ≡ path.now) }
+{
+    let start = out.len();
+    for byte in path {
+        if let Err(e) = push_escaped(out, *byte) {
+            out.truncate(start);
+            return Err(e);
+        }
+    }
+    Ok(())
+}
+
+/// A spelling stands for one value at most.
+pub fn one_meaning()
+    ensures { (raw a b : List ℕ) → Spells raw a → Spells raw b → a ≡ b }
+{}

@@ -1,0 +1,62 @@
+//! What a call answers that may want memory.
+ghost use Rattle.std.specs.Prelude.{◌≡◌};
+ghost use Rattle.ninja_text.specs.Failure.{Turns, ForFault};
+
+use std::alloc::{AllocError, AllocFailed};
+use std::error::Error;
+use std::fmt;
+
+/// Why a call that may want memory gave no value: a growth was refused, or the input has a fault.
+///
+/// A fault type never speaks of memory itself, so a fault is always a fact about the input.
+#[derive(Clone, Copy, Debug, PartialEq, Eq)]
+pub enum Failure<F> {
+    /// A growth was refused.
+    Memory,
+    /// The input has this fault.
+    Fault(F),
+}
+
+impl<F> Failure<F> {
+    /// The same failure, with its fault turned into another one.
+    pub fn map<G, H: FnOnce(F) -> G>(self, turn: H) -> Failure<G>
+        requires { ForFault (H.pre turn) self }
+        ensures { Turns (H.post turn) self result }
+    {
+        match self {
+            Failure::Memory => Failure::Memory,
+            Failure::Fault(fault) => Failure::Fault(turn(fault)),
+        }
+    }
+}
+
+impl<F: fmt::Display> fmt::Display for Failure<F> {
+    fn fmt<W: fmt::Write>(&self, f: &mut fmt::Formatter<W>) -> fmt::Result {
+        match self {
+            Failure::Memory => f.write_str("out of memory"),
+            Failure::Fault(fault) => write!(f, "{fault}"),
+        }
+    }
+}
+
+impl<F: fmt::Debug + fmt::Display + Drop> Error for Failure<F> {}
+
+impl<F> From<AllocError> for Failure<F> {
+    ghost use Rattle.ninja_text.specs.declared.failure.Failure.TheVariants.{Memory};
+
+    ghost from_gives = { λ _ e. e ≡ Memory };
+
+    fn from(_e: AllocError) -> Failure<F> {
+        Failure::Memory
+    }
+}
+
+impl<F, T: Drop> From<AllocFailed<T>> for Failure<F> {
+    ghost use Rattle.ninja_text.specs.declared.failure.Failure.TheVariants.{Memory};
+
+    ghost from_gives = { λ _ e. e ≡ Memory };
+
+    fn from(_e: AllocFailed<T>) -> Failure<F> {
+        Failure::Memory
+    }
+}

@@ -1,0 +1,285 @@
+//! Canonical paths.
+ghost use Rattle.std.specs.Prelude.{◌≡◌, ◌↔◌, ℕ, List, [], ◌∷◌, ◌++◌, Ok, Err, IfOk, IsUtf8, true, option_map, option_copied};
+ghost use Rattle.std.specs.Option.{ForSome};
+ghost use Rattle.ninja_text.specs.Failure.{Gives};
+ghost use Rattle.ninja_text.specs.Escapes.{IsWritable};
+ghost use Rattle.ninja_text.specs.Reduction.{ReducesTo, components, reduced};
+ghost use Rattle.ninja_text.specs.Paths.{path_of, IsPath, is_rooted, below, seen_from, canonical_of, placed};
+ghost use Rattle.ninja_text.specs.PathShape.{parts, IsShaped};
+ghost use Rattle.ninja_text.specs.ComponentLists.{list_text};
+ghost use Rattle.ninja_text.specs.declared.paths.PathFault.TheVariants.{Empty};
+
+use crate::failure::Failure;
+use crate::reduction;
+use std::alloc::{AllocError, Global};
+use std::cmp::Ordering;
+use std::hash::{Hash, Hasher};
+use std::marker::Model;
+use thiserror::Error;
+
+/// The most bytes that a canonical path has.
+pub const PATH_LIMIT: usize = 4096;
+
+/// Why a text is no path. Of several faults the first in this order is answered.
+#[derive(Clone, Copy, Debug, PartialEq, Eq, Error)]
+pub enum PathFault {
+    /// No component is left.
+    #[error("N1 Empty")]
+    Empty,
+    /// The path is absolute, and a `..` is left.
+    #[error("N2 AboveRoot")]
+    AboveRoot,
+    /// The text that was read has a byte that no spelling in a Ninja file stands for: `|`, NUL, CR or LF.
+    /// The place is that of the first one, from 0, before anything is deleted.
+    #[error("N3 Unwritable")]
+    Unwritable { place: usize },
+    /// The canonical path has more than 4,096 bytes.
+    #[error("N4 TooLong")]
+    TooLong,
+}
+
+/// A canonical path: the text that is left when empty components and `.` are deleted, and a name together with a `..`
+/// behind it, until neither can be done. An absolute path keeps the slash that it begins with, and a relative one the `..`
+/// that it begins with. Nothing is looked up in a file system.
+///
+/// A contract sees a path as its text. It has 1 to 4,096 bytes, none of them `|`, NUL, CR or LF.
+#[derive(Drop)]
+pub struct Path {
+    text: Vec<u8>,
+}
+
+impl Model for Path {
+    ghost use Rattle.std.specs.Prelude.{ℕ, List};
+    ghost use Rattle.ninja_text.specs.Paths.{IsPath};
+
+    ghost Value = { List ℕ };
+
+    ghost view = { λ p. p.text.items };
+
+    ghost invariant = { λ p. IsPath p.text.items };
+}
+
+impl Path {
+    /// The canonical path of a text. The fault is the first one that is present, in the order of [`PathFault`].
+    pub fn of(alloc: Global, text: &[u8]) -> Result<Path, Failure<PathFault>>
+        ensures meaning { Gives (λ path. path) result (path_of text.now) }
+        ensures text { IsUtf8 text.now → IfOk result IsUtf8 }
+    {
+        canonical(alloc, None, text)
+    }
+
+    /// The canonical text. It is the text of this very path, and can be spelled in a Ninja file.
+    pub fn bytes(&self) -> &[u8]
+        ensures text { result.now ≡ self.now }
+        ensures canonical { path_of result.now ≡ Ok self.now }
+        ensures writable { IsWritable result.now }
+    {
+        self.text.as_slice()
+    }
+
+    /// Whether the path is absolute.
+    pub fn is_rooted(&self) -> bool
+        ensures { result ≡ is_rooted self.now }
+    {
+        reduction::is_rooted(self.text.as_slice())
+    }
+
+    /// The same path once more.
+    pub fn copy(&self, alloc: Global) -> Result<Path, AllocError>
+        ensures { IfOk result (λ copy. copy ≡ self.now) }
+    {
+        let text = Vec::from_slice(alloc, self.text.as_slice())?;
+        Ok(Path { text })
+    }
+}
+
+/// The canonical path that a text names in a work directory, as seen from a build directory, which has to be absolute.
+///
+/// An empty text has no path (N1). A relative text is read behind the work directory and a slash, unless there is no
+/// work directory or it is empty; an absolute one is read as it is. Where the build directory's components are a proper
+/// beginning of an absolute result's components, they are taken off and the result is relative.
+///
+/// The place of N3 is one in the text that was read, work directory included, and N4 counts the last result.
+#[tactic(auto, unfolding(crate::specs::Paths::placed))]
+pub fn place(
+    alloc: Global,
+    work: Option<&[u8]>,
+    build: Option<&Path>,
+    path: &[u8],
+) -> Result<Path, Failure<PathFault>>
+    requires { ForSome (option_copied build) (λ b. is_rooted b ≡ true) }
+    ensures meaning { Gives (λ path. path) result (placed (option_copied work.entry) (option_copied build.entry) path.now) }
+    ensures text { ForSome (option_copied work.entry) IsUtf8 → IsUtf8 path.now → IfOk result IsUtf8 }
+{
+    if path.is_empty() {
+        return Err(Failure::Fault(PathFault::Empty));
+    }
+    match work {
+        Some(work) if !work.is_empty() && !reduction::is_rooted(path) => {
+            let text = joined(alloc, work, path)?;
+            canonical(alloc, build, &text)
+        }
+        _ => canonical(alloc, build, path),
+    }
+}
+
+/// A law: whatever the choice of steps, a list of components is made canonical in one way.
+pub fn one_canonical_list()
+    ensures reached { (list : List (List ℕ)) → ReducesTo list (reduced list) }
+    ensures only { (list other : List (List ℕ)) → ReducesTo list other → other ≡ reduced list }
+{}
+
+/// A law: the path of a text has the components that the text's components come to, whatever the choice of steps, and is
+/// absolute where the text is; a text whose components come to none has no path; and each path has the shape that its
+/// name promises.
+pub fn path_meaning()
+    ensures path { (text path : List ℕ) → path_of text ≡ Ok path
+        → (is_rooted path ≡ is_rooted text) × ReducesTo (components text) (parts path) }
+    ensures empty { (text : List ℕ) → path_of text ≡ Err Empty ↔ ReducesTo (components text) [] }
+    ensures shape { (path : List ℕ) → IsPath path → IsShaped path }
+{}
+
+/// A relative text behind its work directory.
+fn joined(alloc: Global, work: &[u8], path: &[u8]) -> Result<Vec<u8>, AllocError>
+    ensures { IfOk result (λ text. text.items ≡ work.now ++ 47 ∷ path.now) }
+{
+    let mut text = Vec::from_slice(alloc, work)?;
+    text.push(b'/')?;
+    text.extend_from_slice(path)?;
+    Ok(text)
+}
+
+/// The canonical path of a text, as seen from a build directory.
+fn canonical(alloc: Global, build: Option<&Path>, text: &[u8]) -> Result<Path, Failure<PathFault>>
+    requires { ForSome (option_copied build) (λ b. is_rooted b ≡ true) }
+    ensures meaning { Gives (λ path. path) result (canonical_of (option_copied build.entry) text.now) }
+    ensures text { IsUtf8 text.now → IfOk result IsUtf8 }
+{
+    let list = reduction::reduce(alloc, text)?;
+    if reduction::is_nothing(&list) {
+        return Err(Failure::Fault(PathFault::Empty));
+    }
+    if reduction::is_above_root(text, &list) {
+        return Err(Failure::Fault(PathFault::AboveRoot));
+    }
+    if let Some(place) = reduction::first_unwritable(text) {
+        return Err(Failure::Fault(PathFault::Unwritable { place }));
+    }
+    let text = seen(alloc, build, reduction::is_rooted(text), list)?;
+    if text.len() > PATH_LIMIT {
+        return Err(Failure::Fault(PathFault::TooLong));
+    }
+    Ok(Path { text })
+}
+
+/// A canonical list of components as a path's text, as seen from a build directory.
+fn seen(
+    alloc: Global,
+    build: Option<&Path>,
+    rooted: bool,
+    list: Vec<u8>,
+) -> Result<Vec<u8>, AllocError>
+    requires { ForSome (option_copied build) (λ b. is_rooted b ≡ true) }
+    ensures { IfOk result (λ seen. (text : List ℕ) → list.items ≡ list_text (reduced (components text))
+        → seen.items ≡ seen_from (option_copied build.entry) rooted (reduced (components text))) }
+{
+    if !rooted {
+        return Ok(list);
+    }
+    match build {
+        Some(build) => match below(build, &list) {
+            Some(rest) => Vec::from_slice(alloc, rest),
+            None => with_root(list),
+        },
+        None => with_root(list),
+    }
+}
+
+/// What of an absolute path's list stands below a build directory, where the directory is a proper beginning of it.
+fn below<'t>(build: &Path, list: &'t [u8]) -> Option<&'t [u8]>
+    requires { is_rooted build.now ≡ true }
+    ensures { (text : List ℕ) → list.now ≡ list_text (reduced (components text))
+        → option_map list_text (below (reduced (components build.now)) (reduced (components text))) ≡ option_map (λ r. r.now) result }
+{
+    let directory = build.bytes().strip_prefix(b"/")?;
+    list.strip_prefix(directory)?.strip_prefix(b"/")
+}
+
+/// A list behind the slash that an absolute path begins with.
+fn with_root(mut list: Vec<u8>) -> Result<Vec<u8>, AllocError>
+    ensures { IfOk result (λ text. text.items ≡ 47 ∷ list.items) }
+{
+    list.insert(0, b'/')?;
+    Ok(list)
+}
+
+/// Two paths are equal where their canonical texts are.
+impl PartialEq for Path {
+    ghost use Rattle.std.specs.Prelude.{bytes_eq};
+    ghost use Rattle.std.specs.Cmp.{partial_equiv_from_equiv};
+    ghost use Rattle.std.proofs.lemmas.Cmp.{nat_list_eq_equiv};
+
+    ghost eq = { bytes_eq };
+
+    ghost laws = { partial_equiv_from_equiv nat_list_eq_equiv };
+
+    fn eq(&self, other: &Path) -> bool {
+        self.text.as_slice() == other.text.as_slice()
+    }
+}
+
+impl Eq for Path {
+    ghost use Rattle.std.proofs.lemmas.Cmp.{nat_list_eq_equiv};
+
+    ghost laws = { nat_list_eq_equiv };
+}
+
+/// Paths are in the byte order of their canonical texts.
+impl Ord for Path {
+    ghost use Rattle.std.proofs.Common.{rules};
+    ghost use Rattle.std.specs.Cmp.Rules.{comparing};
+    ghost use Rattle.std.specs.Ordering.{nat_cmp};
+    ghost use Rattle.std.specs.Cmp.Lexicographic.{slice_cmp};
+
+    ghost cmp = { slice_cmp nat_cmp };
+
+    ghost total = { Prim.search (comparing, rules) };
+
+    ghost matches_partial_cmp = { Prim.search (comparing, rules) };
+
+    ghost matches_eq = { Prim.search (comparing, rules) };
+
+    fn cmp(&self, other: &Path) -> Ordering {
+        self.text.as_slice().cmp(other.text.as_slice())
+    }
+}
+
+impl PartialOrd for Path {
+    ghost use Rattle.std.proofs.Common.{rules};
+    ghost use Rattle.std.specs.Cmp.{partial_order_from_own_ties};
+    ghost use Rattle.std.specs.Cmp.Rules.{comparing};
+    ghost use Rattle.std.specs.Ordering.{nat_cmp, as_partial_cmp};
+    ghost use Rattle.std.specs.Cmp.Lexicographic.{slice_cmp};
+
+    ghost partial_cmp = { as_partial_cmp (slice_cmp nat_cmp) };
+
+    ghost laws = { partial_order_from_own_ties (Prim.search (comparing, rules)) (Prim.search (comparing, rules)) };
+
+    fn partial_cmp(&self, other: &Path) -> Option<Ordering> {
+        Some(self.cmp(other))
+    }
+}
+
+impl Hash for Path {
+    ghost use Rattle.std.proofs.Common.{rules};
+    ghost use Rattle.std.specs.Cmp.Rules.{hashing};
+    ghost use Rattle.std.specs.Hash as fed;
+
+    ghost hash_input = { λ p. fed.slice fed.u8 p };
+
+    ghost respects_eq = { Prim.search (hashing, rules) };
+
+    fn hash<H: Hasher>(&self, state: &mut H) {
+        self.text.as_slice().hash(state);
+    }
+}

@@ -1,0 +1,139 @@
+//! From a text to its canonical list of components, in one pass.
+//!
+//! The list is kept as a text, its components joined by slashes and without the slash that an absolute path begins
+//! with. It is never longer than the text that is read.
+ghost use Rattle.std.specs.Prelude.{◌≡◌, ◌≢◌, ℕ, ◌+◌, ◌-◌, ◌<◌, ◌≤◌, ◌&&◌, List, [], ◌∷◌, ◌++◌, length, slice_index, take, MatchOption, IfOk, OnOk, true, false, position};
+ghost use Rattle.std.specs.List.{list_any};
+ghost use Rattle.ninja_text.specs.Escapes.{is_unwritable};
+ghost use Rattle.ninja_text.specs.Reduction.{components, is_current, is_parent, reduced};
+ghost use Rattle.ninja_text.specs.Paths.{is_empty, is_rooted};
+ghost use Rattle.ninja_text.specs.ComponentLists.{list_text, LacksSlash, EachLacksSlash, appended};
+
+use std::alloc::{AllocError, Global};
+
+/// The canonical list of a text's components.
+pub(crate) fn reduce(alloc: Global, text: &[u8]) -> Result<Vec<u8>, AllocError>
+    ensures { IfOk result (λ list. list.items ≡ list_text (reduced (components text.now))) }
+{
+    let mut list = Vec::new(alloc);
+    for component in text.split(|b| *b == b'/') {
+        put(&mut list, component)?;
+    }
+    Ok(list)
+}
+
+/// Whether a text's canonical list is empty.
+pub(crate) fn is_nothing(list: &[u8]) -> bool
+    ensures { (text : List ℕ) → list.now ≡ list_text (reduced (components text)) → result ≡ is_empty (reduced (components text)) }
+{
+    list.is_empty()
+}
+
+/// Whether a text is absolute and its canonical list leads above the root.
+pub(crate) fn is_above_root(text: &[u8], list: &[u8]) -> bool
+    requires { list.now ≡ list_text (reduced (components text.now)) }
+    ensures { result ≡ (is_rooted text.now && list_any is_parent (reduced (components text.now))) }
+{
+    is_rooted(text) && has_parent(list)
+}
+
+/// The place of the first byte of a text that has no spelling in a Ninja file.
+pub(crate) fn first_unwritable(text: &[u8]) -> Option<usize>
+    ensures { result ≡ position is_unwritable text.now }
+{
+    text.iter().position(|b| is_unwritable(*b))
+}
+
+/// Whether a byte has no spelling in a Ninja file.
+pub(crate) fn is_unwritable(byte: u8) -> bool
+    ensures { result ≡ is_unwritable byte }
+{
+    matches!(byte, b'|' | 0 | b'\r' | b'\n')
+}
+
+/// Whether a text begins with `/`.
+pub(crate) fn is_rooted(text: &[u8]) -> bool
+    ensures { result ≡ is_rooted text.now }
+{
+    match text {
+        [first, ..] => *first == b'/',
+        [] => false,
+    }
+}
+
+/// Puts a component behind a canonical list, and takes the step that applies then, if there is one.
+fn put(list: &mut Vec<u8>, component: &[u8]) -> Result<(), AllocError>
+    ensures { OnOk result ((before : List (List ℕ)) → EachLacksSlash before
+        → list.old.items ≡ list_text (reduced before)
+        → list.new.items ≡ list_text (reduced (before ++ component.now ∷ []))) }
+{
+    if is_current(component) {
+        return Ok(());
+    }
+    if !is_parent(component) {
+        return append(list, component);
+    }
+    match len_without_name(list) {
+        Some(len) => {
+            list.truncate(len);
+            Ok(())
+        }
+        None => append(list, component),
+    }
+}
+
+/// Writes a component behind a list.
+fn append(list: &mut Vec<u8>, component: &[u8]) -> Result<(), AllocError>
+    ensures { OnOk result (list.new.items ≡ appended list.old.items component.now) }
+{
+    if !list.is_empty() {
+        list.push(b'/')?;
+    }
+    list.extend_from_slice(component)
+}
+
+/// The length of a list without its last component, where that is a name.
+fn len_without_name(list: &[u8]) -> Option<usize>
+    ensures empty { list.now ≡ [] → result ≡ None }
+    ensures last { (init : List (List ℕ)) (last : List ℕ) → LacksSlash last → is_current last ≡ false
+        → list.now ≡ list_text (init ++ last ∷ [])
+        → MatchOption result (is_parent last ≡ true) (λ n. (is_parent last ≡ false) × (take n list.now ≡ list_text init)) }
+{
+    let start = last_start(list);
+    if start == list.len() || is_parent(&list[start..]) {
+        None
+    } else {
+        Some(start.saturating_sub(1))
+    }
+}
+
+/// Where the last component of a list begins.
+fn last_start(list: &[u8]) -> usize
+    ensures bound { result ≤ length list.now }
+    ensures slash { 0 < result → slice_index list.now (result - 1) ≡ 47 }
+    ensures rest { (k : ℕ) → result ≤ k → k < length list.now → slice_index list.now k ≢ 47 }
+{
+    list.iter().rposition(|b| *b == b'/').map_or(0, |i| i + 1)
+}
+
+/// Whether a component of a canonical list is `..`.
+fn has_parent(list: &[u8]) -> bool
+    ensures { (text : List ℕ) → list.now ≡ list_text (reduced (components text))
+        → result ≡ list_any is_parent (reduced (components text)) }
+{
+    list.split(|b| *b == b'/').any(is_parent)
+}
+
+/// Whether a component is empty or `.`.
+fn is_current(component: &[u8]) -> bool
+    ensures { result ≡ is_current component.now }
+{
+    component.is_empty() || component == b".".as_slice()
+}
+
+/// Whether a component is `..`.
+fn is_parent(component: &[u8]) -> bool
+    ensures { result ≡ is_parent component.now }
+{
+    component == b"..".as_slice()
+}
