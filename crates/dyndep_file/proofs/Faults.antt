@@ -1,5 +1,5 @@
 -- Statements without a fault can be written, and statements that can be written have no fault.
-use Rattle.std.proofs.Common.{◌≡◌, ℕ, suc, ◌+◌, ◌<◌, ◌≤◌, Bool, true, false, not, cond, IsTrue, List, [], ◌∷◌, length, get_or, Option, Some, None, option_map, Err, ◌⊎◌, inl, inr, refl, ap, sym, ◌∙◌, arith}
+use Rattle.std.proofs.Common.{◌≡◌, ℕ, suc, ◌+◌, ◌<◌, ◌≤◌, Bool, true, false, not, cond, IsTrue, List, [], ◌∷◌, length, get_or, Option, Some, None, option_map, Ok, Err, Vec, Global, ◌⊎◌, inl, inr, refl, ap, sym, ◌∙◌, arith}
 use Rattle.std.specs.Prelude.{position, nat_lt, All}
 use Rattle.std.specs.List.{position_from}
 use Rattle.std.specs.Option.{option_or}
@@ -7,12 +7,14 @@ use Rattle.std.proofs.lemmas.Bool.{ltb-true}
 use Rattle.std.proofs.lemmas.List.Elements.{All-nil, All-cons}
 use Rattle.std.proofs.lemmas.Iterator.Adapters.{position_from-zero}
 use Rattle.ninja_text.specs.declared.counting.Counted.{Counted}
-use Rattle.ninja_text.specs.declared.failure.Failure.TheVariants.{Fault}
+use Rattle.ninja_text.specs.declared.failure.Failure.{Failure}
+use Rattle.ninja_text.specs.declared.failure.Failure.TheVariants.{Memory, Fault}
+use Rattle.ninja_text.specs.Failure.{Gives}
 use Rattle.ninja_text.specs.Escapes.{is_writable, IsWritable}
 use Rattle.ninja_text.proofs.ForCallers.{is_writable-meaning}
 use Rattle.dyndep_file.specs.StatementValue.{StatementValue}
-use Rattle.dyndep_file.specs.Writing.{build_line}
-use Rattle.dyndep_file.specs.WriteFaults.{LeavesWriter, AnswersFault, write_fault, line_limit, paths_of, statement_fault, fault_from, CanBeWritten}
+use Rattle.dyndep_file.specs.Writing.{build_line, dyndep_text}
+use Rattle.dyndep_file.specs.WriteFaults.{text_unless, text_or_fault, LeavesWriter, AnswersFault, write_fault, line_limit, paths_of, statement_fault, fault_from, CanBeWritten}
 use Rattle.dyndep_file.specs.declared.writing.WriteFault.{WriteFault}
 use Rattle.dyndep_file.specs.declared.writing.WriteFault.TheVariants.{Unwritable, StatementTooLong, Io}
 use Rattle.dyndep_file.proofs.Positions.{position_none}
@@ -105,9 +107,24 @@ never_io number (s ∷ ss) count h = elim (or_some (statement_fault number s) (f
   | inr later ↦ never_io (number + 1) ss count later
 ]
 
--- so a call that answers it before the first byte says what is true
-pub answered : {W : Type 0} (contents : W → Option (List ℕ)) (out : Counted W) (text : List ℕ) (statements : List StatementValue) (fault : WriteFault) → write_fault statements ≡ Some fault
-    → LeavesWriter contents out out text (Fault fault) × AnswersFault {T = Unit {0}} (write_fault statements) (Err (Fault fault))
-answered contents out text statements (Unwritable statement path) h = (refl, h)
-answered contents out text statements (StatementTooLong statement) h = (refl, h)
-answered contents out text statements (Io count) h = absurd (never_io 0 statements count h)
+-- the fault that is told in place of a text
+told : (fault : Option WriteFault) (statements : List StatementValue) (answer : WriteFault) → text_unless fault statements ≡ Err answer → fault ≡ Some answer
+told None statements answer h = cc
+told (Some fault) statements answer h = cc
+
+given : (fault : Option WriteFault) (statements : List StatementValue) (text : List ℕ) → text_unless fault statements ≡ Ok text → (fault ≡ None) × (text ≡ dyndep_text statements)
+given None statements text h = (refl, let same : dyndep_text statements ≡ text = cc in sym same)
+given (Some fault) statements text h = cc
+
+-- A failure to make the text is what a call may answer before the first byte.
+pub failed : {W : Type 0} (contents : W → Option (List ℕ)) (out : Counted W) (text : List ℕ) (statements : List StatementValue) (failure : Failure WriteFault)
+    → Gives {T = Vec ℕ Global} (λ made. made.items) (Err failure) (text_or_fault statements)
+    → LeavesWriter contents out out text failure × AnswersFault {T = Unit {0}} (write_fault statements) (Err failure)
+failed contents out text statements Memory h = (refl, tt)
+failed contents out text statements (Fault (Unwritable statement path)) h = (refl, told (write_fault statements) statements (Unwritable statement path) h)
+failed contents out text statements (Fault (StatementTooLong statement)) h = (refl, told (write_fault statements) statements (StatementTooLong statement) h)
+failed contents out text statements (Fault (Io count)) h = absurd (never_io 0 statements count (told (write_fault statements) statements (Io count) h))
+
+-- A text that was made is the text of the statements, which have no fault.
+pub made : (statements : List StatementValue) (text : Vec ℕ Global) → Gives {T = Vec ℕ Global} (λ made. made.items) (Ok text) (text_or_fault statements) → (write_fault statements ≡ None) × (text.items ≡ dyndep_text statements)
+made statements text h = given (write_fault statements) statements text.items h

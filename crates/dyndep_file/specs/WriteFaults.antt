@@ -7,7 +7,7 @@ use Rattle.ninja_text.specs.declared.failure.Failure.TheVariants.{Memory, Fault}
 use Rattle.ninja_text.specs.Counting.{IsCutShort}
 use Rattle.ninja_text.specs.Escapes.{is_writable, IsWritable}
 use Rattle.dyndep_file.specs.StatementValue.{StatementValue}
-use Rattle.dyndep_file.specs.Writing.{build_line}
+use Rattle.dyndep_file.specs.Writing.{build_line, dyndep_text}
 use Rattle.dyndep_file.specs.declared.writing.WriteFault.{WriteFault}
 use Rattle.dyndep_file.specs.declared.writing.WriteFault.TheVariants.{Unwritable, StatementTooLong, Io}
 
@@ -36,6 +36,14 @@ fault_from number (s ∷ ss) = option_or (statement_fault number s) (fault_from 
 
 abbrev pub write_fault : List StatementValue → Option WriteFault
 write_fault statements = fault_from 0 statements
+
+-- the text, or the fault of the statements, where there is one
+abbrev pub text_unless : Option WriteFault → List StatementValue → Result (List ℕ) WriteFault
+text_unless None statements = Ok (dyndep_text statements)
+text_unless (Some fault) statements = Err fault
+
+abbrev pub text_or_fault : List StatementValue → Result (List ℕ) WriteFault
+text_or_fault statements = text_unless (write_fault statements) statements
 
 -- A statement that can be written: each path has a spelling, and the build line keeps the limit.
 pub record CanBeWritten (s : StatementValue) : Type 0 where

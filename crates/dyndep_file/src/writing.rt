@@ -1,10 +1,11 @@
 //! The writer of dyndep files.
 ghost use Rattle.std.specs.Prelude.{◌≡◌, ◌↔◌, ◌++◌, List, length, map, not, count_by, All, position, MatchResult, IfOk, OnOk, None};
 ghost use Rattle.ninja_text.specs.Counting.{IsWritten};
+ghost use Rattle.ninja_text.specs.Failure.{Gives};
 ghost use Rattle.ninja_text.specs.Escapes.{escaped, is_escaped, is_writable, IsWritable};
 ghost use Rattle.dyndep_file.specs.StatementValue.{StatementValue};
 ghost use Rattle.dyndep_file.specs.Writing.{part_text, build_line, statement_text, dyndep_text};
-ghost use Rattle.dyndep_file.specs.WriteFaults.{capped, paths_of, statement_fault, fault_from, write_fault, CanBeWritten, LeavesWriter, AnswersFault};
+ghost use Rattle.dyndep_file.specs.WriteFaults.{text_or_fault, capped, paths_of, statement_fault, fault_from, write_fault, CanBeWritten, LeavesWriter, AnswersFault};
 
 use crate::statement::{Dyndep, Statement};
 use ninja_text::{Counted, Failure, escape_into, is_writable};
@@ -34,8 +35,23 @@ pub enum WriteFault {
     Io { written: u128 },
 }
 
-/// Writes a dyndep file: the version line, and for each statement its build line and, where its flag is set, a `restat`
-/// binding. Lines end in LF, and paths are escaped.
+impl Dyndep {
+    /// The text of the statements: the version line, and for each statement its build line and, where its flag is set, a
+    /// `restat` binding. Lines end in LF, and paths are escaped. The buffer is grown once, to the text's length.
+    ///
+    /// A path without a spelling and too long a build line are told before memory is asked for.
+    pub fn to_text(&self, alloc: Global) -> Result<Vec<u8>, Failure<WriteFault>>
+        ensures { Gives (λ text. text.items) result (text_or_fault self.now) }
+    {
+        let statements = self.statements.as_slice();
+        if let Some(fault) = first_fault(statements) {
+            return Err(Failure::Fault(fault));
+        }
+        Ok(text_of(alloc, statements)?)
+    }
+}
+
+/// Writes the text of a dyndep file.
 ///
 /// A path without a spelling and too long a build line are told before the first byte, as is want of memory: the writer is
 /// as it was then. After an `Io` exactly so many bytes went out, and they are a beginning of the text. No call of the
@@ -50,11 +66,10 @@ pub fn write<W: Write>(
         (λ failure. LeavesWriter W.contents out.old out.new (dyndep_text dyndep.now) failure) }
     ensures fault { AnswersFault (write_fault dyndep.now) result }
 {
-    let statements = dyndep.statements.as_slice();
-    if let Some(fault) = first_fault(statements) {
-        return Err(Failure::Fault(fault));
-    }
-    let text = text_of(alloc, statements)?;
+    let text = match dyndep.to_text(alloc) {
+        Ok(text) => text,
+        Err(failure) => return Err(failure),
+    };
     match out.write_text(&text) {
         Ok(()) => Ok(()),
         Err(stopped) => Err(Failure::Fault(WriteFault::Io {

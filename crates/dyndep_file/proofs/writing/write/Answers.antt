@@ -1,18 +1,17 @@
-use Rattle.std.proofs.Common.{ap, sym, subst, ◌∙◌}
+use Rattle.std.proofs.Common.{subst, ◌∙◌}
+use Rattle.ninja_text.specs.Counting.{IsWritten}
 use Rattle.dyndep_file.specs.Writing.{dyndep_text}
-use Rattle.dyndep_file.specs.WriteFaults.{write_fault}
-use Rattle.dyndep_file.proofs.Faults.{all_written, answered}
+use Rattle.dyndep_file.proofs.Faults.{failed, made}
 use Rattle.dyndep_file.proofs.writing.write.Goals as goal
 
-pub text_of-requires : goal.text_of-requires
-text_of-requires g c = all_written 0 c.as_slice-statements.result.now (sym c.first_fault.ensures ∙ c.in_default.is)
+pub returns-in-Err-clause-text : goal.returns-in-Err-clause-text
+returns-in-Err-clause-text g c = (failed g.W.Write.contents c.args.out.now (dyndep_text c.args.dyndep.now) c.args.dyndep.now c.in-Err.failure c.in-Err.ensures).0
 
-pub returns-in-Some-clause-text : goal.returns-in-Some-clause-text
-returns-in-Some-clause-text g c =
-    (answered g.W.Write.contents c.args.out.now (dyndep_text c.args.dyndep.now) c.args.dyndep.now c.in-Some.fault
-    (ap write_fault (sym (c.as_slice-statements.ensures.value ∙ c.dyndep.view_is)) ∙ sym c.first_fault.ensures ∙ c.in-Some.is)).0
+pub returns-in-Err-clause-fault : goal.returns-in-Err-clause-fault
+returns-in-Err-clause-fault g c = (failed g.W.Write.contents c.args.out.now (dyndep_text c.args.dyndep.now) c.args.dyndep.now c.in-Err.failure c.in-Err.ensures).1
 
-pub returns-in-Some-clause-fault : goal.returns-in-Some-clause-fault
-returns-in-Some-clause-fault g c =
-    (answered g.W.Write.contents c.args.out.now (dyndep_text c.args.dyndep.now) c.args.dyndep.now c.in-Some.fault
-    (ap write_fault (sym (c.as_slice-statements.ensures.value ∙ c.dyndep.view_is)) ∙ sym c.first_fault.ensures ∙ c.in-Some.is)).1
+pub returns-in-Ok-write_text-clause-text : goal.returns-in-Ok-write_text-clause-text
+returns-in-Ok-write_text-clause-text g c =
+    subst (λ text. IsWritten g.W.Write.contents c.args.out.now c.write_text.new.self text)
+    (c.deref.ensures.value ∙ (made c.args.dyndep.now c.in-Ok.text c.in-Ok.ensures).1)
+    c.in-Ok-write_text.ensures
