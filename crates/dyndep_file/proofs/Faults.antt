@@ -1,9 +1,8 @@
 -- Statements without a fault can be written, and statements that can be written have no fault.
-use Rattle.std.proofs.Common.{◌≡◌, ℕ, suc, ◌+◌, ◌<◌, ◌≤◌, Bool, true, false, not, cond, IsTrue, List, [], ◌∷◌, length, get_or, Option, Some, None, option_map, Ok, Err, Vec, Global, ◌⊎◌, inl, inr, refl, ap, sym, ◌∙◌, arith}
+use Rattle.std.proofs.Common.{◌≡◌, ℕ, suc, ◌+◌, ◌≤◌, Bool, true, false, not, cond, IsTrue, List, [], ◌∷◌, length, get_or, Option, Some, None, option_map, Ok, Err, Vec, Global, ◌⊎◌, inl, inr, refl, ap, sym, ◌∙◌, arith}
 use Rattle.std.specs.Prelude.{position, nat_lt, All}
 use Rattle.std.specs.List.{position_from}
 use Rattle.std.specs.Option.{option_or}
-use Rattle.std.proofs.lemmas.Bool.{ltb-true}
 use Rattle.std.proofs.lemmas.List.Elements.{All-nil, All-cons}
 use Rattle.std.proofs.lemmas.Iterator.Adapters.{position_from-zero}
 use Rattle.ninja_text.specs.declared.counting.Counted.{Counted}
@@ -19,18 +18,22 @@ use Rattle.dyndep_file.specs.declared.writing.WriteFault.{WriteFault}
 use Rattle.dyndep_file.specs.declared.writing.WriteFault.TheVariants.{Unwritable, StatementTooLong, Io}
 use Rattle.dyndep_file.proofs.Positions.{position_none}
 
+-- what holds where a choice between some value and another answer gives none
 cond_none : {X : Type 0} (b : Bool) (x : X) (o : Option X) → cond b (Some x) o ≡ None → (b ≡ false) × (o ≡ None)
 cond_none true x o h = cc
 cond_none false x o h = (refl, h)
 
+-- none of two answers is there
 or_none : {X : Type 0} (a b : Option X) → option_or a b ≡ None → (a ≡ None) × (b ≡ None)
 or_none None b h = (refl, h)
 or_none (Some x) b h = cc
 
+-- nothing comes of nothing alone
 map_none : {X Y : Type 0} (f : X → Y) (o : Option X) → option_map f o ≡ None → o ≡ None
 map_none f None h = refl
 map_none f (Some x) h = cc
 
+-- where no element is found, each fails the test
 fails_each : {X : Type 0} (p : X → Bool) (i : ℕ) (xs : List X) → position_from p i xs ≡ None → All (λ x. p x ≡ false) xs
 fails_each p i [] h = All-nil (λ x. p x ≡ false)
 fails_each p i (x ∷ xs) h =
@@ -39,18 +42,22 @@ fails_each p i (x ∷ xs) h =
 
 -- ---- from no fault
 
+-- a test whose contrary fails holds
 not_not : (b : Bool) → not b ≡ false → IsTrue b
 not_not true h = refl
 not_not false h = cc
 
+-- where no path is found that has no spelling, each has one
 paths_written : (paths : List (List ℕ)) → position (λ path. not (is_writable path)) paths ≡ None → All IsWritable paths
 paths_written paths h k d lt =
     (is_writable-meaning (get_or paths k d)).0
     (not_not (is_writable (get_or paths k d)) (fails_each (λ path. not (is_writable path)) 0 paths (sym (position_from-zero (λ path. not (is_writable path)) paths) ∙ h) k d lt))
 
+-- a length that is not found greater than the limit keeps it
 not_longer : (n : ℕ) → nat_lt line_limit n ≡ false → n ≤ line_limit
 not_longer n h = grind (arith, h)
 
+-- a statement without a fault can be written
 statement_written : (number : ℕ) (s : StatementValue) → statement_fault number s ≡ None → CanBeWritten s
 statement_written number s h =
     let both = or_none (option_map (λ path. Unwritable number path) (position (λ path. not (is_writable path)) (paths_of s))) (cond (nat_lt line_limit (length (build_line s))) (Some (StatementTooLong number)) None) h in
@@ -59,6 +66,7 @@ statement_written number s h =
       line = not_longer (length (build_line s)) (cond_none (nat_lt line_limit (length (build_line s))) (StatementTooLong number) None both.1).0;
     }
 
+-- so can each statement of a list without a fault
 pub all_written : (number : ℕ) (statements : List StatementValue) → fault_from number statements ≡ None → All CanBeWritten statements
 all_written number [] h = All-nil CanBeWritten
 all_written number (s ∷ ss) h =
@@ -67,22 +75,27 @@ all_written number (s ∷ ss) h =
 
 -- ---- to no fault
 
+-- the contrary of a test that holds fails
 test_of : (b : Bool) → IsTrue b → not b ≡ false
 test_of true h = refl
 test_of false h = cc
 
+-- a length that keeps the limit is not found greater
 no_longer : (n : ℕ) → n ≤ line_limit → nat_lt line_limit n ≡ false
 no_longer n h = grind (arith, h)
 
+-- a statement that can be written has no fault
 statement_unfaulty : (number : ℕ) (s : StatementValue) → CanBeWritten s → statement_fault number s ≡ None
 statement_unfaulty number s w =
     ap (λ o. option_or (option_map (λ path. Unwritable number path) o) (cond (nat_lt line_limit (length (build_line s))) (Some (StatementTooLong number)) None))
     (position_none (λ path. not (is_writable path)) (paths_of s) [] (λ k lt. test_of (is_writable (get_or (paths_of s) k [])) ((is_writable-meaning (get_or (paths_of s) k [])).1 (w.paths k [] lt))))
     ∙ ap (λ b. cond b (Some (StatementTooLong number)) None) (no_longer (length (build_line s)) w.line)
 
+-- what can be written of a list can be written of its rest
 tail_of : (s : StatementValue) (ss : List StatementValue) → All CanBeWritten (s ∷ ss) → All CanBeWritten ss
 tail_of s ss a k d lt = a (suc k) d (omega (arith, lt))
 
+-- a list of statements that can be written has no fault
 pub none_faulty : (number : ℕ) (statements : List StatementValue) → All CanBeWritten statements → fault_from number statements ≡ None
 none_faulty number [] a = refl
 none_faulty number (s ∷ ss) a =
@@ -91,15 +104,18 @@ none_faulty number (s ∷ ss) a =
 
 -- ---- the fault of the statements is never one of the writer
 
+-- the fault of one statement is never one of the writer
 one_io : (number : ℕ) (place : Option ℕ) (long : Bool) (count : ℕ) → option_or (option_map (λ path. Unwritable number path) place) (cond long (Some (StatementTooLong number)) None) ≡ Some (Io count) → ⊥
 one_io number (Some place) long count h = cc
 one_io number None true count h = cc
 one_io number None false count h = cc
 
+-- the first of two answers, or else the second
 or_some : {X : Type 0} (a b : Option X) (x : X) → option_or a b ≡ Some x → (a ≡ Some x) ⊎ (b ≡ Some x)
 or_some None b x h = inr h
 or_some (Some a) b x h = inl h
 
+-- nor is the fault of a list
 never_io : (number : ℕ) (statements : List StatementValue) (count : ℕ) → fault_from number statements ≡ Some (Io count) → ⊥
 never_io number [] count h = cc
 never_io number (s ∷ ss) count h = elim (or_some (statement_fault number s) (fault_from (number + 1) ss) (Io count) h) [
@@ -112,6 +128,7 @@ told : (fault : Option WriteFault) (statements : List StatementValue) (answer : 
 told None statements answer h = cc
 told (Some fault) statements answer h = cc
 
+-- the text that is told in place of a fault
 given : (fault : Option WriteFault) (statements : List StatementValue) (text : List ℕ) → text_unless fault statements ≡ Ok text → (fault ≡ None) × (text ≡ dyndep_text statements)
 given None statements text h = (refl, let same : dyndep_text statements ≡ text = cc in sym same)
 given (Some fault) statements text h = cc

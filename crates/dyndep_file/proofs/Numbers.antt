@@ -1,5 +1,5 @@
 -- Lengths that stop at the greatest number of 64 bits.
-use Rattle.std.proofs.Common.{◌≡◌, ℕ, ◌+◌, ◌-◌, ◌^◌, min, ◌≤◌, ◌<◌, arith, List, [], ◌∷◌, ◌++◌, length, cond, true, false, Bool, refl, ap, sym, ◌∙◌, length-append, append_assoc}
+use Rattle.std.proofs.Common.{◌≡◌, ℕ, ◌+◌, ◌-◌, ◌^◌, min, arith, List, [], ◌∷◌, ◌++◌, length, cond, true, false, Bool, refl, ap, sym, ◌∙◌, length-append, append_assoc}
 use Rattle.std.specs.Prelude.{count_by}
 use Rattle.std.proofs.lemmas.List.Sums.{sum_by-cons}
 use Rattle.ninja_text.specs.Escapes.{is_escaped, escaped_byte, escaped}

@@ -1,5 +1,5 @@
 -- The paths of a part, as vectors and as lists, and what is written of the first of them.
-use Rattle.std.proofs.Common.{◌≡◌, ℕ, suc, ◌+◌, ◌<◌, List, [], ◌∷◌, ◌++◌, length, get_or, take, map, Vec, Global, refl, ap, sym, ◌∙◌, subst, arith, append_assoc, length-append}
+use Rattle.std.proofs.Common.{◌≡◌, ℕ, suc, ◌+◌, ◌<◌, List, [], ◌∷◌, ◌++◌, length, get_or, take, map, Vec, Global, ap, sym, ◌∙◌, subst, arith, append_assoc, length-append}
 use Rattle.std.specs.Prelude.{All}
 use Rattle.std.specs.List.{flat_map}
 use Rattle.std.proofs.lemmas.List.{take_more, get_or-map, length-map, append-nil, get_or_append_left, get_or-append-add}
@@ -9,9 +9,11 @@ use Rattle.std.proofs.lemmas.Grind.{flat_map-append}
 abbrev pub texts : List (Vec ℕ Global) → List (List ℕ)
 texts paths = map (λ path. path.items) paths
 
+-- the bytes of the path at a place
 pub text_at : (paths : List (Vec ℕ Global)) (i : ℕ) (path : Vec ℕ Global) (d : List ℕ) → i < length paths → path ≡ get_or paths i path → get_or (texts paths) i d ≡ path.items
 text_at paths i path d lt is = get_or-map (λ p. p.items) paths i path d lt ∙ ap (λ p. p.items) (sym is)
 
+-- there are as many as there are paths
 pub same_length : (paths : List (Vec ℕ Global)) → length (texts paths) ≡ length paths
 same_length paths = length-map paths (λ p. p.items)
 
@@ -40,6 +42,7 @@ first_part P output outputs inputs a k d lt =
     subst P (get_or_append_left outputs inputs d k lt)
     (a (suc k) d (let both = length-append outputs inputs in omega (arith, both, lt)))
 
+-- the same of the second of two lists
 pub second_part : (P : List ℕ → Type 0) (output : List ℕ) (outputs inputs : List (List ℕ)) → All P (output ∷ (outputs ++ inputs)) → All P inputs
 second_part P output outputs inputs a k d lt =
     subst P (get_or-append-add outputs inputs k d)

@@ -1,7 +1,7 @@
 -- Where the first element that passes a test stands, in a list and in lists behind one another.
-use Rattle.std.proofs.Common.{◌≡◌, ℕ, ◌+◌, ◌<◌, ◌≤◌, Bool, true, false, cond, List, [], ◌∷◌, ◌++◌, length, get_or, Option, Some, None, option_map, refl, ap, sym, ◌∙◌, arith, add_assoc}
+use Rattle.std.proofs.Common.{◌≡◌, ℕ, ◌+◌, ◌<◌, Bool, true, false, cond, List, [], ◌∷◌, ◌++◌, length, get_or, Option, Some, None, option_map, refl, ap, sym, ◌∙◌, arith, add_assoc}
 use Rattle.std.specs.Prelude.{position, nat_lt}
-use Rattle.std.specs.List.{position_or_len, position_from}
+use Rattle.std.specs.List.{position_from}
 use Rattle.std.specs.Option.{option_or}
 use Rattle.std.proofs.lemmas.List.Sums.{position_or_len_is}
 use Rattle.std.proofs.lemmas.Bool.{lt-ltb}
@@ -13,6 +13,7 @@ position_is p xs i d lt before here =
     ap (λ n. cond (nat_lt n (length xs)) (Some n) None) (position_or_len_is p xs i d (omega (arith, lt)) before (λ _. here))
     ∙ ap (λ b. cond b (Some i) None) (lt-ltb i (length xs) lt)
 
+-- no number is below itself
 not_below : (n : ℕ) → nat_lt n n ≡ false
 not_below n = grind arith
 
@@ -31,6 +32,7 @@ shifted p i j (x ∷ xs) =
       | false ↦ ap (λ n. position_from p n xs) (add_assoc i j 1) ∙ shifted p i (j + 1) xs
     ]
 
+-- the first place in two lists, the second of which is counted on from the first
 joined : {X : Type 0} (p : X → Bool) (i n : ℕ) (xs ys : List X) → n ≡ i + length xs → position_from p i (xs ++ ys) ≡ option_or (position_from p i xs) (position_from p n ys)
 joined p i n [] ys e = ap (λ k. position_from p k ys) (omega (arith, e))
 joined p i n (x ∷ xs) ys e =
@@ -47,6 +49,7 @@ position-cons p x xs h =
     ∙ shifted p 1 0 xs
     ∙ ap (option_map (λ k. 1 + k)) (sym (position_from-zero p xs))
 
+-- the first place in two lists
 pub position-append : {X : Type 0} (p : X → Bool) (xs ys : List X) → position p (xs ++ ys) ≡ option_or (position p xs) (option_map (λ k. length xs + k) (position p ys))
 position-append p xs ys =
     position_from-zero p (xs ++ ys)
@@ -57,19 +60,23 @@ position-append p xs ys =
 
 -- ---- behind an element that does not pass, in the first or in the second of two lists
 
+-- the place is in the first list
 pub in_first : {X : Type 0} (p : X → Bool) (x : X) (xs ys : List X) (place : ℕ) → p x ≡ false → position p xs ≡ Some place → Some (1 + place) ≡ position p (x ∷ (xs ++ ys))
 in_first p x xs ys place h found =
     sym (position-cons p x (xs ++ ys) h
     ∙ ap (option_map (λ k. 1 + k)) (position-append p xs ys ∙ ap (λ o. option_or o (option_map (λ k. length xs + k) (position p ys))) found))
 
+-- no place is in the first list, and what there is is in the second
 in_second_map : {X : Type 0} (p : X → Bool) (x : X) (xs ys : List X) (found : Option ℕ) → p x ≡ false → position p xs ≡ None → position p ys ≡ found → position p (x ∷ (xs ++ ys)) ≡ option_map (λ k. 1 + k) (option_map (λ k. length xs + k) found)
 in_second_map p x xs ys found h none is =
     position-cons p x (xs ++ ys) h
     ∙ ap (option_map (λ k. 1 + k)) (position-append p xs ys ∙ ap (λ o. option_or o (option_map (λ k. length xs + k) (position p ys))) none ∙ ap (option_map (λ k. length xs + k)) is)
 
+-- the place is in the second list
 pub in_second : {X : Type 0} (p : X → Bool) (x : X) (xs ys : List X) (before place : ℕ) → p x ≡ false → position p xs ≡ None → position p ys ≡ Some place → before ≡ 1 + length xs → Some (before + place) ≡ position p (x ∷ (xs ++ ys))
 in_second p x xs ys before place h none is b =
     ap (λ n. Some n) (omega (arith, b)) ∙ sym (in_second_map p x xs ys (Some place) h none is)
 
+-- no place is in either
 pub in_none : {X : Type 0} (p : X → Bool) (x : X) (xs ys : List X) → p x ≡ false → position p xs ≡ None → position p ys ≡ None → position p (x ∷ (xs ++ ys)) ≡ None
 in_none p x xs ys h none is = in_second_map p x xs ys None h none is

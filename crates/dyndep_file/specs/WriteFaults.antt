@@ -34,14 +34,16 @@ abbrev pub fault_from : ℕ → List StatementValue → Option WriteFault
 fault_from number [] = None
 fault_from number (s ∷ ss) = option_or (statement_fault number s) (fault_from (number + 1) ss)
 
+-- the fault of a list of statements, numbered from 0
 abbrev pub write_fault : List StatementValue → Option WriteFault
 write_fault statements = fault_from 0 statements
 
--- the text, or the fault of the statements, where there is one
+-- the text, unless there is a fault
 abbrev pub text_unless : Option WriteFault → List StatementValue → Result (List ℕ) WriteFault
 text_unless None statements = Ok (dyndep_text statements)
 text_unless (Some fault) statements = Err fault
 
+-- the text of a list of statements, or its fault, where there is one
 abbrev pub text_or_fault : List StatementValue → Result (List ℕ) WriteFault
 text_or_fault statements = text_unless (write_fault statements) statements
 

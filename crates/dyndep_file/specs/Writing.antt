@@ -22,9 +22,11 @@ build_line s = codes "build " ++ escaped s.output ++ part_text s.implicit_output
 abbrev pub binding_line : StatementValue → List ℕ
 binding_line s = if s.restat then codes "  restat = 1" ++ line_feed ∷ [] else []
 
+-- the lines of a statement
 abbrev pub statement_text : StatementValue → List ℕ
 statement_text s = build_line s ++ binding_line s
 
+-- the line that a dyndep file begins with
 abbrev pub version_line : List ℕ
 version_line = codes "ninja_dyndep_version = 1" ++ line_feed ∷ []
 

@@ -9,6 +9,8 @@
 #![tactic(auto)]
 
 mod statement;
+#[cfg(test)]
+mod tests;
 mod writing;
 
 pub use statement::{Dyndep, Statement};

@@ -23,10 +23,10 @@ impl Model for Statement {
     ghost Value = { StatementValue };
 
     ghost view = { λ s. record {
-        output = s.output.items;
-        implicit_outputs = map (λ path. path.items) s.implicit_outputs.items;
-        implicit_inputs = map (λ path. path.items) s.implicit_inputs.items;
-        restat = s.restat
+      output = s.output.items;
+      implicit_outputs = map (λ path. path.items) s.implicit_outputs.items;
+      implicit_inputs = map (λ path. path.items) s.implicit_inputs.items;
+      restat = s.restat;
     } };
 }
 

@@ -142,7 +142,8 @@ fn first_unwritable(paths: &[Vec<u8>]) -> Option<usize>
 fn build_line_len(statement: &Statement) -> usize
     ensures { result ≡ capped (length (build_line statement.now)) }
 {
-    b"build ".len()
+    b"build "
+        .len()
         .saturating_add(escaped_len(&statement.output))
         .saturating_add(part_len(&statement.implicit_outputs))
         .saturating_add(b": dyndep".len())

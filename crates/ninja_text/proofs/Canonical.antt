@@ -18,18 +18,22 @@ pub record Facts (build : Option (List ℕ)) (text path : List ℕ) : Type 0 whe
   pub made : seen_from build (is_rooted text) (reduced (components text)) ≡ path
   pub short : nat_lt 4096 (length path) ≡ false
 
+-- a test that answers a fault failed where there is a path
 err_or : (b : Bool) (f : PathFault) (r : Result (List ℕ) PathFault) (p : List ℕ) → cond b (Err f) r ≡ Ok p → (b ≡ false) × (r ≡ Ok p)
 err_or true f r p h = cc
 err_or false f r p h = (refl, h)
 
+-- so did the test of the length
 long_or : (b : Bool) (last p : List ℕ) → cond b (Err TooLong) (Ok last) ≡ Ok p → (b ≡ false) × (last ≡ p)
 long_or true last p h = cc
 long_or false last p h = (refl, cc)
 
+-- what held at the last two tests where there is a path
 checked_ok : (o : Option ℕ) (last p : List ℕ) → checked o last ≡ Ok p → (o ≡ None) × (last ≡ p) × (nat_lt 4096 (length p) ≡ false)
 checked_ok None last p h = let k = long_or (nat_lt 4096 (length last)) last p h in (refl, k.1, ap (λ l. nat_lt 4096 (length l)) (sym k.1) ∙ k.0)
 checked_ok (Some n) last p h = cc
 
+-- the path of a text tells these facts
 pub facts : (build : Option (List ℕ)) (text p : List ℕ) → canonical_of build text ≡ Ok p → Facts build text p
 unfolding canonical_of
 facts build text p h =
@@ -38,6 +42,7 @@ facts build text p h =
     let k = checked_ok (position is_unwritable text) (seen_from build (is_rooted text) (reduced (components text))) p b.1 in
     record { some = a.0; inside = b.0; clean = k.0; made = k.1; short = k.2 }
 
+-- and they tell the path
 pub from_facts : (build : Option (List ℕ)) (text p : List ℕ) → Facts build text p → canonical_of build text ≡ Ok p
 unfolding canonical_of
 from_facts build text p f =
@@ -50,6 +55,7 @@ from_facts build text p f =
 
 -- ---- no unwritable byte
 
+-- each byte has a spelling
 abbrev pub IsClean : List ℕ → Type 0
 IsClean text = AllByRecursion (λ b. is_unwritable b ≡ false) text
 
@@ -61,32 +67,38 @@ pub record IsWhole (rooted : Bool) (list : List (List ℕ)) : Type 0 where
   pub clean : AllByRecursion IsClean list
   pub inside : (rooted && list_any is_parent list) ≡ false
 
+-- a list that is written out begins with no slash
 rooted-list : (x : List ℕ) (xs : List (List ℕ)) → IsFixed (x ∷ xs) → EachLacksSlash (x ∷ xs) → is_rooted (list_text (x ∷ xs)) ≡ false
 rooted-list [] [] f e = cc
 rooted-list [] (y ∷ ys) f e = let g = f.0 in cc
 rooted-list (b ∷ bs) [] f e = e.0.0
 rooted-list (b ∷ bs) (y ∷ ys) f e = e.0.0
 
+-- a path begins at the root where it is written so
 pub rooted-text : (rooted : Bool) (list : List (List ℕ)) → IsWhole rooted list → is_rooted (path_text rooted list) ≡ rooted
 rooted-text true list w = refl
 rooted-text false [] w = let h = w.some in cc
 rooted-text false (x ∷ xs) w = rooted-list x xs w.fixed w.lacks
 
+-- a whole list that is written out has that very list
 pub reduced-text : (rooted : Bool) (list : List (List ℕ)) → IsWhole rooted list → reduced (components (path_text rooted list)) ≡ list
 reduced-text true [] w = let h = w.some in cc
 reduced-text false [] w = let h = w.some in cc
 reduced-text true (x ∷ xs) w = in_front-current [] (reduced (components (list_text (x ∷ xs)))) refl ∙ ap reduced (components-list x xs w.lacks) ∙ fixed-reduced (x ∷ xs) w.fixed
 reduced-text false (x ∷ xs) w = ap reduced (components-list x xs w.lacks) ∙ fixed-reduced (x ∷ xs) w.fixed
 
+-- what is made of clean parts is clean
 clean-append : (a b : List ℕ) → IsClean a → IsClean b → IsClean (a ++ b)
 clean-append [] b h k = k
 clean-append (x ∷ a) b h k = (h.0, clean-append a b h.1 k)
 
+-- so is a list that is written out
 clean-list : (list : List (List ℕ)) → AllByRecursion IsClean list → IsClean (list_text list)
 clean-list [] a = tt
 clean-list (x ∷ []) a = a.0
 clean-list (x ∷ y ∷ ys) a = clean-append x (47 ∷ list_text (y ∷ ys)) a.0 (refl, clean-list (y ∷ ys) a.1)
 
+-- so is a path
 clean-text : (rooted : Bool) (list : List (List ℕ)) → AllByRecursion IsClean list → IsClean (path_text rooted list)
 clean-text true list a = (refl, clean-list list a)
 clean-text false list a = clean-list list a
@@ -95,16 +107,20 @@ clean-text false list a = clean-list list a
 abbrev run_of : List ℕ → ℕ
 run_of text = prefix_len (λ b. not (is_unwritable b)) text
 
+-- a clean byte makes the run before the first unwritable byte longer by one
 run-step : (b : ℕ) (bs : List ℕ) → is_unwritable b ≡ false → run_of (b ∷ bs) ≡ run_of bs + 1
 run-step b bs h = ap (λ t. cond (not t) (1 + run_of bs) 0) h ∙ omega arith
 
+-- an unwritable byte ends it
 run-stop : (b : ℕ) (bs : List ℕ) → is_unwritable b ≡ true → run_of (b ∷ bs) ≡ 0
 run-stop b bs h = ap (λ t. cond (not t) (1 + run_of bs) 0) h
 
+-- the run of a clean text is all of it
 clean-run : (text : List ℕ) → IsClean text → run_of text ≡ length text
 clean-run [] a = refl
 clean-run (b ∷ bs) a = run-step b bs a.0 ∙ ap (λ n. n + 1) (clean-run bs a.1) ∙ omega arith
 
+-- a text whose run is all of it is clean
 run-clean : (text : List ℕ) → (run_of text < length text → ⊥) → IsClean text
 run-clean [] h = tt
 run-clean (b ∷ bs) h = go (run-clean bs) (is_unwritable b) refl
@@ -113,20 +129,25 @@ run-clean (b ∷ bs) h = go (run-clean bs) (is_unwritable b) refl
     go more true e = let z = run-stop b bs e in absurd (h (omega arith))
     go more false e = let z = run-step b bs e in (e, more (λ lt. h (omega arith)))
 
+-- no number is below itself
 not-below : (n : ℕ) → nat_lt n n ≡ false
 not-below n = grind arith
 
+-- no unwritable byte is found in a clean text
 pub clean-none : (text : List ℕ) → IsClean text → position is_unwritable text ≡ None
 clean-none text a =
     let e = clean-run text a in
     ap (λ t. cond t (Some (run_of text)) None) (ap (λ n. nat_lt n (length text)) e ∙ not-below (length text))
 
+-- the test says what the order says
 pub is-below : (m n : ℕ) → m < n → nat_lt m n ≡ true
 is-below m n lt = grind arith
 
+-- the test says what the order says
 pub not-above : (m n : ℕ) → m ≤ n → nat_lt n m ≡ false
 not-above m n le = grind arith
 
+-- a text in which no unwritable byte is found is clean
 pub none-clean : (text : List ℕ) → position is_unwritable text ≡ None → IsClean text
 none-clean text h = run-clean text (λ lt. found (nat_lt (run_of text) (length text)) (is-below (run_of text) (length text) lt) h)
   where
@@ -134,28 +155,34 @@ none-clean text h = run-clean text (λ lt. found (nat_lt (run_of text) (length t
     found true e k = cc
     found false e k = cc
 
+-- a clean byte in front of the first component
 clean-onto : (b : ℕ) (parts : List (List ℕ)) → is_unwritable b ≡ false → AllByRecursion IsClean parts → AllByRecursion IsClean (onto_first b parts)
 clean-onto b [] h e = ((h, tt), tt)
 clean-onto b (part ∷ parts) h e = ((h, e.0), e.1)
 
+-- a clean byte, which is a slash or not, in front of components
 clean-cond : (t : Bool) (b : ℕ) (parts : List (List ℕ)) → is_unwritable b ≡ false → AllByRecursion IsClean parts → AllByRecursion IsClean (cond t ([] ∷ parts) (onto_first b parts))
 clean-cond true b parts h e = (tt, e)
 clean-cond false b parts h e = clean-onto b parts h e
 
+-- the components of a clean text are clean
 clean-components : (text : List ℕ) → IsClean text → AllByRecursion IsClean (components text)
 clean-components [] a = (tt, tt)
 clean-components (b ∷ bs) a = clean-cond (b == 47) b (components bs) a.0 (clean-components bs a.1)
 
 -- ---- what is left of a text that has no fault
 
+-- no step applies to the rest of a list to which none applies
 below-fixed : (ds cs : List (List ℕ)) → IsFixed (ds ++ cs) → IsFixed cs
 below-fixed [] cs f = f
 below-fixed (d ∷ ds) cs f = below-fixed ds cs (fixed-tail d (ds ++ cs) f)
 
+-- what holds of each component holds of the rest
 below-each : (P : List ℕ → Type 0) (ds cs : List (List ℕ)) → AllByRecursion P (ds ++ cs) → AllByRecursion P cs
 below-each P [] cs a = a
 below-each P (d ∷ ds) cs a = below-each P ds cs a.1
 
+-- a list that is not empty
 some-list : (list : List (List ℕ)) → list ≢ [] → is_empty list ≡ false
 some-list [] n = absurd (n refl)
 some-list (x ∷ xs) n = refl
@@ -167,6 +194,7 @@ pub record Seen (path : List ℕ) : Type 0 where
   pub whole : IsWhole rooted list
   pub is : path_text rooted list ≡ path
 
+-- what is left below a build directory is a whole relative list
 seen-rest : (dirs : List (List ℕ)) (list rest : List (List ℕ)) → IsWhole true list → below dirs list ≡ Some rest → IsWhole false rest
 seen-rest dirs list rest w h =
     let k = below-some dirs list rest h in
@@ -178,15 +206,18 @@ seen-rest dirs list rest w h =
       inside = refl;
     }
 
+-- what is left below it, or all of the absolute list
 seen-or : (dirs list : List (List ℕ)) (o : Option (List (List ℕ))) → IsWhole true list → below dirs list ≡ o → Seen (relative_or list o)
 seen-or dirs list None w h = record { rooted = true; list = list; whole = w; is = refl }
 seen-or dirs list (Some rest) w h = record { rooted = false; list = rest; whole = seen-rest dirs list rest w h; is = refl }
 
+-- a whole list is written as one, from wherever it is seen
 seen-whole : (build : Option (List ℕ)) (rooted : Bool) (list : List (List ℕ)) → IsWhole rooted list → Seen (seen_from build rooted list)
 seen-whole None rooted list w = record { rooted = rooted; list = list; whole = w; is = refl }
 seen-whole (Some b) true list w = seen-or (reduced (components b)) list (below (reduced (components b)) list) w refl
 seen-whole (Some b) false list w = record { rooted = false; list = list; whole = w; is = refl }
 
+-- the list of a text without a fault is whole
 pub whole-list : (build : Option (List ℕ)) (text p : List ℕ) → Facts build text p → IsWhole (is_rooted text) (reduced (components text))
 whole-list build text p f = record {
   some = f.some;
@@ -228,17 +259,21 @@ path-first p h = go (reduced (components p)) (facts None p p h).some
     go [] e = cc
     go (d ∷ ds) e = (d, ds, refl)
 
+-- lists with one head have one tail
 cons-tail : (b : ℕ) (xs ys : List ℕ) → b ∷ xs ≡ b ∷ ys → xs ≡ ys
 cons-tail b xs ys e = cc
 
 -- ---- what the two strips of a prefix say
 
+-- a rooted path without its slash is its list, written out
 pub directory-is : (build directory : List ℕ) → IsPath build → is_rooted build ≡ true → build ≡ (47 ∷ []) ++ directory → directory ≡ list_text (reduced (components build))
 directory-is build directory h r e = cons-tail 47 directory (list_text (reduced (components build))) (sym e ∙ rooted-is build h r)
 
+-- no component that is left has a slash
 each-reduced : (text : List ℕ) → EachLacksSlash (reduced (components text))
 each-reduced text = reduced-each LacksSlash (components text) (components-lack text)
 
+-- where both prefixes were taken off, what is left is the list below the directory
 pub below-found : (build directory list rest r text : List ℕ) → IsPath build → directory ≡ list_text (reduced (components build)) → list ≡ list_text (reduced (components text)) → list ≡ directory ++ rest → rest ≡ (47 ∷ []) ++ r
     → option_map list_text (below (reduced (components build)) (reduced (components text))) ≡ Some r
 below-found build directory list rest r text h d e k m =
@@ -247,6 +282,7 @@ below-found build directory list rest r text h d e k m =
     ap (λ l. option_map list_text (below l (reduced (components text)))) f.2
     ∙ below-is f.0 f.1 (reduced (components text)) r (subst EachLacksSlash f.2 (each-reduced build)) (each-reduced text) whole
 
+-- where one of them was not there, no list is below the directory
 pub below-missed : (build directory list text : List ℕ) → IsPath build → directory ≡ list_text (reduced (components build)) → list ≡ list_text (reduced (components text)) → ((r : List ℕ) → list ≡ directory ++ 47 ∷ r → ⊥)
     → option_map list_text (below (reduced (components build)) (reduced (components text))) ≡ None
 below-missed build directory list text h d e absent =
@@ -256,38 +292,49 @@ below-missed build directory list text h d e absent =
 
 -- ---- each fault, where it is the lowest
 
+-- the tests behind that of the root
 abbrev last_tests : Option (List ℕ) → List ℕ → Result (List ℕ) PathFault
 last_tests build text = checked (position is_unwritable text) (seen_from build (is_rooted text) (reduced (components text)))
 
+-- the tests behind the first
 abbrev later_tests : Option (List ℕ) → List ℕ → Result (List ℕ) PathFault
 later_tests build text = cond (is_rooted text && list_any is_parent (reduced (components text))) (Err AboveRoot) (last_tests build text)
 
+-- no component is left
 pub is-empty : (build : Option (List ℕ)) (text : List ℕ) → is_empty (reduced (components text)) ≡ true → canonical_of build text ≡ Err Empty
 unfolding canonical_of
 is-empty build text h = ap (λ b. cond b (Err Empty) (later_tests build text)) h
 
+-- some component is left, and the later tests decide
 go-on : (build : Option (List ℕ)) (text : List ℕ) → is_empty (reduced (components text)) ≡ false → canonical_of build text ≡ later_tests build text
 unfolding canonical_of
 go-on build text h = ap (λ b. cond b (Err Empty) (later_tests build text)) h
 
+-- an absolute path has a `..` left
 pub is-above : (build : Option (List ℕ)) (text : List ℕ) → is_empty (reduced (components text)) ≡ false → (is_rooted text && list_any is_parent (reduced (components text))) ≡ true → canonical_of build text ≡ Err AboveRoot
 is-above build text h k = go-on build text h ∙ ap (λ b. cond b (Err AboveRoot) (last_tests build text)) k
 
+-- none is left, and the last tests decide
 go-last : (build : Option (List ℕ)) (text : List ℕ) → is_empty (reduced (components text)) ≡ false → (is_rooted text && list_any is_parent (reduced (components text))) ≡ false → canonical_of build text ≡ last_tests build text
 go-last build text h k = go-on build text h ∙ ap (λ b. cond b (Err AboveRoot) (last_tests build text)) k
 
+-- a byte of the text has no spelling
 pub is-unwritable : (build : Option (List ℕ)) (text : List ℕ) (place : ℕ) → is_empty (reduced (components text)) ≡ false → (is_rooted text && list_any is_parent (reduced (components text))) ≡ false → position is_unwritable text ≡ Some place → canonical_of build text ≡ Err (Unwritable place)
 is-unwritable build text place h k m = go-last build text h k ∙ ap (λ o. checked o (seen_from build (is_rooted text) (reduced (components text)))) m
 
+-- each byte has one, and the length decides
 go-checked : (build : Option (List ℕ)) (text last : List ℕ) → is_empty (reduced (components text)) ≡ false → (is_rooted text && list_any is_parent (reduced (components text))) ≡ false → position is_unwritable text ≡ None → last ≡ seen_from build (is_rooted text) (reduced (components text)) → canonical_of build text ≡ checked None last
 go-checked build text last h k m e = go-last build text h k ∙ ap (λ o. checked o (seen_from build (is_rooted text) (reduced (components text)))) m ∙ ap (checked None) (sym e)
 
+-- the path is too long
 pub is-long : (build : Option (List ℕ)) (text last : List ℕ) → is_empty (reduced (components text)) ≡ false → (is_rooted text && list_any is_parent (reduced (components text))) ≡ false → position is_unwritable text ≡ None → last ≡ seen_from build (is_rooted text) (reduced (components text)) → 4096 < length last → canonical_of build text ≡ Err TooLong
 is-long build text last h k m e lt = go-checked build text last h k m e ∙ ap (λ b. cond b (Err TooLong) (Ok last)) (is-below 4096 (length last) lt)
 
+-- the path is short enough
 pub is-path : (build : Option (List ℕ)) (text last : List ℕ) → is_empty (reduced (components text)) ≡ false → (is_rooted text && list_any is_parent (reduced (components text))) ≡ false → position is_unwritable text ≡ None → last ≡ seen_from build (is_rooted text) (reduced (components text)) → length last ≤ 4096 → canonical_of build text ≡ Ok last
 is-path build text last h k m e le = go-checked build text last h k m e ∙ ap (λ b. cond b (Err TooLong) (Ok last)) (not-above (length last) 4096 le)
 
+-- the last tests never answer that no component is left
 checked-not-empty : (o : Option ℕ) (last : List ℕ) → checked o last ≡ Err Empty → ⊥
 checked-not-empty (Some n) last e = cc
 checked-not-empty None last e = go (nat_lt 4096 (length last)) e
@@ -296,6 +343,7 @@ checked-not-empty None last e = go (nat_lt 4096 (length last)) e
     go true k = cc
     go false k = cc
 
+-- nor do the later ones
 pub some-not-empty : (build : Option (List ℕ)) (text : List ℕ) → is_empty (reduced (components text)) ≡ false → canonical_of build text ≡ Err Empty → ⊥
 some-not-empty build text h e = go (is_rooted text && list_any is_parent (reduced (components text))) (sym (go-on build text h) ∙ e)
   where

@@ -9,37 +9,45 @@ use Rattle.ninja_text.specs.Reduction.{is_parent, components}
 use Rattle.ninja_text.specs.Paths.{below}
 use Rattle.ninja_text.specs.ComponentLists.{list_text, LacksSlash, EachLacksSlash}
 
+-- a byte that is no slash in front of the first component
 lacks-onto : (b : ℕ) (parts : List (List ℕ)) → (b == 47) ≡ false → EachLacksSlash parts → EachLacksSlash (onto_first b parts)
 lacks-onto b [] h e = ((h, tt), tt)
 lacks-onto b (part ∷ parts) h e = ((h, e.0), e.1)
 
+-- a byte, which is a slash or not, in front of components
 lacks-cond : (t : Bool) (b : ℕ) (parts : List (List ℕ)) → (t ≡ false → (b == 47) ≡ false) → EachLacksSlash parts → EachLacksSlash (cond t ([] ∷ parts) (onto_first b parts))
 lacks-cond true b parts h e = (tt, e)
 lacks-cond false b parts h e = lacks-onto b parts (h refl) e
 
+-- no component of a text has a slash
 pub components-lack : (text : List ℕ) → EachLacksSlash (components text)
 components-lack [] = (tt, tt)
 components-lack (b ∷ bs) = lacks-cond (b == 47) b (components bs) (λ h. h) (components-lack bs)
 
+-- what holds of each holds of each of the first ones
 pub each-take : (P : List ℕ → Type 0) (n : ℕ) (xs : List (List ℕ)) → AllByRecursion P xs → AllByRecursion P (take n xs)
 each-take P zero xs a = tt
 each-take P (suc n) [] a = tt
 each-take P (suc n) (x ∷ xs) a = (a.0, each-take P n xs a.1)
 
+-- a map of a list with one more element behind it
 pub map-snoc : {A : Type 0} (f : A → List ℕ) (xs : List A) (x : A) → map f (xs ++ x ∷ []) ≡ map f xs ++ f x ∷ []
 map-snoc f [] x = refl
 map-snoc f (y ∷ ys) x = ap (λ l. f y ∷ l) (map-snoc f ys x)
 
 -- ---- the components of a list that is written out
 
+-- the component before the first slash
 pub components-at : (x ys : List ℕ) → LacksSlash x → components (x ++ 47 ∷ ys) ≡ x ∷ components ys
 components-at [] ys h = refl
 components-at (b ∷ bs) ys h = slice_split-cons_no (λ b. b == 47) b (bs ++ 47 ∷ ys) h.0 ∙ ap (onto_first b) (components-at bs ys h.1)
 
+-- a text without a slash is one component
 pub components-one : (x : List ℕ) → LacksSlash x → components x ≡ x ∷ []
 components-one [] h = refl
 components-one (b ∷ bs) h = slice_split-cons_no (λ b. b == 47) b bs h.0 ∙ ap (onto_first b) (components-one bs h.1)
 
+-- the components of a list that is written out are the list
 pub components-list : (x : List ℕ) (xs : List (List ℕ)) → EachLacksSlash (x ∷ xs) → components (list_text (x ∷ xs)) ≡ x ∷ xs
 components-list x [] e = components-one x e.0
 components-list x (y ∷ ys) e = components-at x (list_text (y ∷ ys)) e.0 ∙ ap (λ l. x ∷ l) (components-list y ys e.1)
@@ -51,13 +59,16 @@ any-parent (x ∷ xs) e = ap (list_any is_parent) (components-list x xs e)
 
 -- ---- a proper beginning
 
+-- a text is equal to itself
 bytes-same : (d : List ℕ) → bytes_eq d d ≡ true
 bytes-same d = (bytes_eq-Decides d d).1 refl
 
+-- what stands behind a directory is below it
 pub below-front : (ds : List (List ℕ)) (x : List ℕ) (xs : List (List ℕ)) → below ds (ds ++ x ∷ xs) ≡ Some (x ∷ xs)
 below-front [] x xs = refl
 below-front (d ∷ ds) x xs = ap (λ b. cond b (below ds (ds ++ x ∷ xs)) None) (bytes-same d) ∙ below-front ds x xs
 
+-- what is below a directory stands behind it, and is not empty
 pub below-some : (ds cs rest : List (List ℕ)) → below ds cs ≡ Some rest → (cs ≡ ds ++ rest) × (rest ≢ [])
 below-some [] [] rest e = cc
 below-some [] (c ∷ cs) rest e = let k : c ∷ cs ≡ rest = cc in (k, λ h. let j : c ∷ cs ≡ [] = k ∙ h in cc)
@@ -76,11 +87,13 @@ pub list_text-append : (x : List ℕ) (xs : List (List ℕ)) (y : List ℕ) (ys 
 list_text-append x [] y ys = refl
 list_text-append x (z ∷ zs) y ys = ap (λ t. x ++ 47 ∷ t) (list_text-append z zs y ys) ∙ sym (append_assoc x (47 ∷ list_text (z ∷ zs)) (47 ∷ list_text (y ∷ ys)))
 
+-- the components of a text behind a list and a slash
 components-behind : (x : List ℕ) (xs : List (List ℕ)) (r : List ℕ) → EachLacksSlash (x ∷ xs) → components (list_text (x ∷ xs) ++ 47 ∷ r) ≡ (x ∷ xs) ++ components r
 components-behind x [] r e = components-at x r e.0
 components-behind x (y ∷ ys) r e =
     ap components (append_assoc x (47 ∷ list_text (y ∷ ys)) (47 ∷ r)) ∙ components-at x (list_text (y ∷ ys) ++ 47 ∷ r) e.0 ∙ ap (λ l. x ∷ l) (components-behind y ys r e.1)
 
+-- each text has a component
 components-some : (r : List ℕ) → (p : List ℕ) × (ps : List (List ℕ)) × (components r ≡ p ∷ ps)
 components-some r = go (components r) refl
   where
@@ -109,6 +122,7 @@ below-text d ds cs r each lacks some e =
     let p = components-some r in
     ap (below (d ∷ ds)) (k ∙ ap (λ l. (d ∷ ds) ++ l) p.2) ∙ below-front (d ∷ ds) p.0 p.1 ∙ ap Some (sym p.2)
 
+-- a list below a directory is written behind it and a slash
 pub text-below : (d : List ℕ) (ds cs rest : List (List ℕ)) → below (d ∷ ds) cs ≡ Some rest → list_text cs ≡ list_text (d ∷ ds) ++ 47 ∷ list_text rest
 text-below d ds cs rest e = let k = below-some (d ∷ ds) cs rest e in go rest k.0 k.1
   where
@@ -125,6 +139,7 @@ below-is d ds [] r each lacks e = absurd (no (list_text (d ∷ ds)) e)
     no (x ∷ xs) h = cc
 below-is d ds (c ∷ cs) r each lacks e = ap (option_map list_text) (below-text d ds (c ∷ cs) r each lacks (c, cs, refl) e) ∙ ap Some (join_with_byte-slice_split 47 r)
 
+-- nothing is below where the text does not begin with the directory and a slash
 pub below-not : (d : List ℕ) (ds cs : List (List ℕ)) → ((r : List ℕ) → list_text cs ≡ list_text (d ∷ ds) ++ 47 ∷ r → ⊥) → option_map list_text (below (d ∷ ds) cs) ≡ None
 below-not d ds cs absent = go (below (d ∷ ds) cs) refl
   where

@@ -13,15 +13,17 @@ pub ends : (l : List (List ℕ)) → (l ≡ []) ⊎ ((init : List (List ℕ)) ×
 ends [] = inl refl
 ends (c ∷ cs) = elim (ends cs) [ inl h ↦ inr ([], c, ap (λ l. c ∷ l) h) | inr w ↦ inr (c ∷ w.0, w.1, ap (λ l. c ∷ l) w.2) ]
 
+-- a component behind a list is written behind it and a slash
 pub list_text-behind : (x : List ℕ) (xs : List (List ℕ)) (c : List ℕ) → list_text ((x ∷ xs) ++ c ∷ []) ≡ list_text (x ∷ xs) ++ 47 ∷ c
 list_text-behind x [] c = refl
 list_text-behind x (y ∷ ys) c = ap (λ t. x ++ 47 ∷ t) (list_text-behind y ys c) ∙ sym (append_assoc x (47 ∷ list_text (y ∷ ys)) (47 ∷ c))
 
+-- behind a text that is not empty a slash comes first
 appended-front : (x rest c : List ℕ) → is_current x ≡ false → appended (x ++ rest) c ≡ (x ++ rest) ++ 47 ∷ c
 appended-front [] rest c h = cc
 appended-front (b ∷ bs) rest c h = refl
 
--- a component behind a list that begins with no idle one
+-- a component behind a list whose first component is not empty
 pub list_text-appended : (x : List ℕ) (xs : List (List ℕ)) (c : List ℕ) → is_current x ≡ false → list_text ((x ∷ xs) ++ c ∷ []) ≡ appended (list_text (x ∷ xs)) c
 list_text-appended [] xs c h = cc
 list_text-appended (b ∷ bs) [] c h = refl
@@ -29,6 +31,7 @@ list_text-appended (b ∷ bs) (y ∷ ys) c h = list_text-behind (b ∷ bs) (y �
 
 -- ---- where the last component begins
 
+-- no byte of a component is a slash
 lacks-at : (l : List ℕ) (k : ℕ) → LacksSlash l → k < length l → get_or l k 0 ≢ 47
 lacks-at [] k h lt e = absurd (omega arith)
 lacks-at (b ∷ bs) zero h lt e = absurd (not-slash b e h.0)
@@ -42,6 +45,7 @@ abbrev pub up_to_last : List (List ℕ) → List ℕ
 up_to_last [] = []
 up_to_last (x ∷ xs) = list_text (x ∷ xs) ++ 47 ∷ []
 
+-- a list is written as what is in front of its last component, and that component
 pub list_text-last : (init : List (List ℕ)) (last : List ℕ) → list_text (init ++ last ∷ []) ≡ up_to_last init ++ last
 list_text-last [] last = refl
 list_text-last (x ∷ xs) last = list_text-behind x xs last ∙ sym (append_assoc (list_text (x ∷ xs)) (47 ∷ []) last)
@@ -55,6 +59,7 @@ not-after p last start h bound slash lt =
     let e : get_or last k 0 ≡ 47 = sym (get_or-append-add p last k 0) ∙ ap (λ i. get_or (p ++ last) i 0) (sym at) ∙ slash (omega arith) in
     lacks-at last k h (omega arith) e
 
+-- nor can the last component begin before the last slash
 not-before : (q last : List ℕ) (start : ℕ) → ((k : ℕ) → start ≤ k → k < length ((q ++ 47 ∷ []) ++ last) → get_or ((q ++ 47 ∷ []) ++ last) k 0 ≢ 47) → start ≤ length q → ⊥
 not-before q last start rest le =
     let e : (q ++ 47 ∷ []) ++ last ≡ q ++ 47 ∷ last = append_assoc q (47 ∷ []) last in
@@ -62,6 +67,7 @@ not-before q last start rest le =
     let total : length ((q ++ 47 ∷ []) ++ last) ≡ length q + (1 + length last) = ap length e ∙ length-append q (47 ∷ last) ∙ omega arith in
     rest (length q + 0) (omega arith) (omega arith) (ap (λ l. get_or l (length q + 0) 0) e ∙ at)
 
+-- so the last component begins there
 pub start-is : (init : List (List ℕ)) (last : List ℕ) (start : ℕ) → LacksSlash last
     → start ≤ length (up_to_last init ++ last)
     → (0 < start → get_or (up_to_last init ++ last) (start - 1) 0 ≡ 47)
@@ -74,6 +80,7 @@ start-is (x ∷ xs) last start h bound slash rest =
     let total : length (up_to_last (x ∷ xs)) ≡ length (list_text (x ∷ xs)) + 1 = length-append (list_text (x ∷ xs)) (47 ∷ []) in
     omega arith
 
+-- what is left in front of the last component, without the slash
 pub without-last : (init : List (List ℕ)) (last : List ℕ) → take (length (up_to_last init) - 1) (up_to_last init ++ last) ≡ list_text init
 without-last [] last = refl
 without-last (x ∷ xs) last =
@@ -92,14 +99,17 @@ start-of list init last start e h bound slash rest =
     let f : P (up_to_last init ++ last) = subst P (e ∙ list_text-last init last) (bound, slash, rest) in
     start-is init last start h f.0 f.1 f.2
 
+-- what stands from there on is the last component
 pub last-of : (list : List ℕ) (init : List (List ℕ)) (last : List ℕ) (start : ℕ) → list ≡ list_text (init ++ last ∷ []) → start ≡ length (up_to_last init) → take (length list - start) (drop start list) ≡ last
 last-of list init last start e s =
     rest-is start list ∙ ap (drop start) (e ∙ list_text-last init last) ∙ ap (λ n. drop n (up_to_last init ++ last)) s ∙ drop-append_seam (up_to_last init) last
 
+-- what stands before the slash in front of it is the rest of the list
 pub init-of : (list : List ℕ) (init : List (List ℕ)) (last : List ℕ) (start n : ℕ) → list ≡ list_text (init ++ last ∷ []) → start ≡ length (up_to_last init) → n ≡ start - 1 → take n list ≡ list_text init
 init-of list init last start n e s k =
     ap (take n) (e ∙ list_text-last init last) ∙ ap (λ m. take m (up_to_last init ++ last)) (k ∙ ap (λ m. m - 1) s) ∙ without-last init last
 
+-- the last component is not empty
 pub not-all : (list : List ℕ) (init : List (List ℕ)) (last : List ℕ) (start : ℕ) → list ≡ list_text (init ++ last ∷ []) → start ≡ length (up_to_last init) → is_current last ≡ false → start ≡ length list → ⊥
 not-all list init [] start e s h k = cc
 not-all list init (b ∷ bs) start e s h k =
@@ -108,15 +118,18 @@ not-all list init (b ∷ bs) start e s h k =
 
 -- ---- a component behind a canonical list
 
+-- the last component of a canonical list is not empty and no `.`
 fixed-last : (init : List (List ℕ)) (last : List ℕ) → IsFixed (init ++ last ∷ []) → is_current last ≡ false
 fixed-last [] last f = f
 fixed-last (a ∷ []) last f = f.2
 fixed-last (a ∷ b ∷ init) last f = fixed-last (b ∷ init) last f.2
 
+-- what holds of each component holds of the last
 each-last : (P : List ℕ → Type 0) (init : List (List ℕ)) (last : List ℕ) → AllByRecursion P (init ++ last ∷ []) → P last
 each-last P [] last a = a.0
 each-last P (x ∷ init) last a = each-last P init last a.1
 
+-- the first component of a canonical list is not empty and no `.`
 fixed-first : (x : List ℕ) (xs : List (List ℕ)) → IsFixed (x ∷ xs) → is_current x ≡ false
 fixed-first x [] f = f
 fixed-first x (y ∷ ys) f = f.0
@@ -127,27 +140,29 @@ list_text-fixed [] last c f = list_text-appended last [] c (fixed-first last [] 
 list_text-fixed (a ∷ init) last c f =
     ap list_text (sym (append_assoc (a ∷ init) (last ∷ []) (c ∷ []))) ∙ list_text-appended a (init ++ last ∷ []) c (fixed-first a (init ++ last ∷ []) f)
 
+-- what is not empty, no `.` and no `..` is a name
 name-by : (i u : Bool) → i ≡ false → u ≡ false → not (i || u) ≡ true
 name-by i u h k = ap (λ b. not (b || u)) h ∙ ap not k
 
-none-up : (n u : Bool) → u ≡ false → (n && u) ≡ false
-none-up true u h = h
-none-up false u h = refl
+-- what is no `..` makes no pair
+none-parent : (n u : Bool) → u ≡ false → (n && u) ≡ false
+none-parent true u h = h
+none-parent false u h = refl
 
 -- `..` behind a list that ends in a name
 pub put-parent : (before : List (List ℕ)) (c list : List ℕ) (n : ℕ) → EachLacksSlash before → list ≡ list_text (reduced before) → is_parent c ≡ true
     → (list ≡ [] → Some n ≡ None)
     → ((init : List (List ℕ)) (last : List ℕ) → LacksSlash last → is_current last ≡ false → list ≡ list_text (init ++ last ∷ []) → (is_parent last ≡ false) × (take n list ≡ list_text init))
     → take n list ≡ list_text (reduced (before ++ c ∷ []))
-put-parent before c list n each e up empty parent =
+put-parent before c list n each e goes_up empty parent =
     elim (ends (reduced before)) [
       | inl h ↦ let no : Some n ≡ None = empty (e ∙ ap list_text h) in cc
       | inr w ↦
           let fixed : IsFixed (w.0 ++ w.1 ∷ []) = subst IsFixed w.2 (reduced-fixed before) in
           let lacks : LacksSlash w.1 = each-last LacksSlash w.0 w.1 (subst EachLacksSlash w.2 (reduced-each LacksSlash before each)) in
-          let idle = fixed-last w.0 w.1 fixed in
-          let p = parent w.0 w.1 lacks idle (e ∙ ap list_text w.2) in
-          p.1 ∙ ap list_text (sym (behind-pair before w.0 w.1 c w.2 (name-by (is_current w.1) (is_parent w.1) idle p.0) up))
+          let not_current = fixed-last w.0 w.1 fixed in
+          let p = parent w.0 w.1 lacks not_current (e ∙ ap list_text w.2) in
+          p.1 ∙ ap list_text (sym (behind-pair before w.0 w.1 c w.2 (name-by (is_current w.1) (is_parent w.1) not_current p.0) goes_up))
     ]
 
 -- any other component, and `..` behind a list that ends in none
@@ -155,16 +170,16 @@ pub put-behind : (before : List (List ℕ)) (c list new : List ℕ) → EachLack
     → (is_parent c ≡ false) ⊎ ((init : List (List ℕ)) (last : List ℕ) → LacksSlash last → is_current last ≡ false → list ≡ list_text (init ++ last ∷ []) → is_parent last ≡ true)
     → new ≡ appended list c
     → new ≡ list_text (reduced (before ++ c ∷ []))
-put-behind before c list new each e idle up made =
+put-behind before c list new each e not_current no_pair made =
     elim (ends (reduced before)) [
-      | inl h ↦ made ∙ ap (λ l. appended l c) (e ∙ ap list_text h) ∙ ap list_text (sym (behind-none before c h idle))
+      | inl h ↦ made ∙ ap (λ l. appended l c) (e ∙ ap list_text h) ∙ ap list_text (sym (behind-none before c h not_current))
       | inr w ↦
           let fixed : IsFixed (w.0 ++ w.1 ∷ []) = subst IsFixed w.2 (reduced-fixed before) in
           let lacks : LacksSlash w.1 = each-last LacksSlash w.0 w.1 (subst EachLacksSlash w.2 (reduced-each LacksSlash before each)) in
-          let stays : (is_name w.1 && is_parent c) ≡ false = elim up [
-            | inl k ↦ none-up (is_name w.1) (is_parent c) k
+          let stays : (is_name w.1 && is_parent c) ≡ false = elim no_pair [
+            | inl k ↦ none-parent (is_name w.1) (is_parent c) k
             | inr k ↦ ap (λ b. b && is_parent c) (parent-not-name (is_current w.1) (is_parent w.1) (k w.0 w.1 lacks (fixed-last w.0 w.1 fixed) (e ∙ ap list_text w.2)))
           ] in
           made ∙ ap (λ l. appended l c) (e ∙ ap list_text w.2) ∙ sym (list_text-fixed w.0 w.1 c fixed)
-          ∙ ap list_text (sym (behind-stays before w.0 w.1 c w.2 idle stays))
+          ∙ ap list_text (sym (behind-stays before w.0 w.1 c w.2 not_current stays))
     ]

@@ -1,4 +1,4 @@
--- The definitions at the worked rows.
+-- The definitions, computed at examples.
 use Rattle.std.proofs.Common.{◌≡◌, [], refl, Some, None, Ok, Err, replicate}
 use Rattle.std.proofs.Common.{inl, ◌∷◌}
 use lib.Chars.{codes}
@@ -6,69 +6,69 @@ use Rattle.ninja_text.specs.Escapes.{escaped, Spells}
 use Rattle.ninja_text.specs.Paths.{canonical_of, placed, path_of}
 use Rattle.ninja_text.specs.declared.paths.PathFault.TheVariants.{Empty, AboveRoot, Unwritable, TooLong}
 
-pub row-a : path_of (codes "./obj//x/../a.o") ≡ Ok (codes "obj/a.o")
+pub canonical_text : path_of (codes "./obj//x/../a.o") ≡ Ok (codes "obj/a.o")
 unfolding canonical_of
-row-a = refl
+canonical_text = refl
 
-pub row-b : placed (Some (codes "/w/b")) (Some (codes "/w/b")) (codes "obj/a.o") ≡ Ok (codes "obj/a.o")
+pub in_work_and_build_directory : placed (Some (codes "/w/b")) (Some (codes "/w/b")) (codes "obj/a.o") ≡ Ok (codes "obj/a.o")
 unfolding placed canonical_of
-row-b = refl
+in_work_and_build_directory = refl
 
-pub row-c : placed None (Some (codes "/w/b")) (codes "/w/bc/x") ≡ Ok (codes "/w/bc/x")
+pub longer_directory_name_stays : placed None (Some (codes "/w/b")) (codes "/w/bc/x") ≡ Ok (codes "/w/bc/x")
 unfolding placed canonical_of
-row-c = refl
+longer_directory_name_stays = refl
 
-pub row-d : placed None (Some (codes "/w/b")) (codes "/w/b") ≡ Ok (codes "/w/b")
+pub build_directory_itself_stays : placed None (Some (codes "/w/b")) (codes "/w/b") ≡ Ok (codes "/w/b")
 unfolding placed canonical_of
-row-d = refl
+build_directory_itself_stays = refl
 
-pub row-e : path_of (codes "../../x") ≡ Ok (codes "../../x")
+pub leading_parents_stay : path_of (codes "../../x") ≡ Ok (codes "../../x")
 unfolding canonical_of
-row-e = refl
+leading_parents_stay = refl
 
-pub row-f : path_of (codes "a/..") ≡ Err Empty
+pub no_component_left : path_of (codes "a/..") ≡ Err Empty
 unfolding canonical_of
-row-f = refl
+no_component_left = refl
 
-pub row-g : path_of (codes "/a/../..") ≡ Err AboveRoot
+pub above_the_root : path_of (codes "/a/../..") ≡ Err AboveRoot
 unfolding canonical_of
-row-g = refl
+above_the_root = refl
 
-pub row-h : path_of (codes "a|b/../c") ≡ Err (Unwritable 1)
+pub unwritable_byte : path_of (codes "a|b/../c") ≡ Err (Unwritable 1)
 unfolding canonical_of
-row-h = refl
+unwritable_byte = refl
 
-pub row-i : placed (Some (codes "/w/b")) (Some (codes "/w")) (codes "../o/a.o") ≡ Ok (codes "o/a.o")
+pub below_the_build_directory : placed (Some (codes "/w/b")) (Some (codes "/w")) (codes "../o/a.o") ≡ Ok (codes "o/a.o")
 unfolding placed canonical_of
-row-i = refl
+below_the_build_directory = refl
 
-pub row-j : placed (Some (codes "/w/b")) None (codes "../o/a.o") ≡ Ok (codes "/w/o/a.o")
+pub without_build_directory : placed (Some (codes "/w/b")) None (codes "../o/a.o") ≡ Ok (codes "/w/o/a.o")
 unfolding placed canonical_of
-row-j = refl
+without_build_directory = refl
 
-pub row-k : placed (Some (codes "/w")) None [] ≡ Err Empty
+pub empty_in_a_work_directory : placed (Some (codes "/w")) None [] ≡ Err Empty
 unfolding placed canonical_of
-row-k = refl
+empty_in_a_work_directory = refl
 
-pub row-l : path_of (codes "/") ≡ Err Empty
+pub slash_alone : path_of (codes "/") ≡ Err Empty
 unfolding canonical_of
-row-l = refl
+slash_alone = refl
 
-pub row-m : placed (Some []) (Some (codes "/w")) (codes "/w/../w/./x/") ≡ Ok (codes "x")
+pub empty_work_directory : placed (Some []) (Some (codes "/w")) (codes "/w/../w/./x/") ≡ Ok (codes "x")
 unfolding placed canonical_of
-row-m = refl
+empty_work_directory = refl
 
-pub row-n : path_of (replicate 4096 97) ≡ Ok (replicate 4096 97)
+pub longest_path : path_of (replicate 4096 97) ≡ Ok (replicate 4096 97)
 unfolding canonical_of
-row-n = refl
+longest_path = refl
 
-pub row-o : path_of (replicate 4097 97) ≡ Err TooLong
+pub one_byte_too_long : path_of (replicate 4097 97) ≡ Err TooLong
 unfolding canonical_of
-row-o = refl
+one_byte_too_long = refl
 
-pub row-p : escaped (codes "my mods/$x:y/A.bmi") ≡ codes "my$ mods/$$x$:y/A.bmi"
-row-p = refl
+pub three_bytes_escaped : escaped (codes "my mods/$x:y/A.bmi") ≡ codes "my$ mods/$$x$:y/A.bmi"
+three_bytes_escaped = refl
 
 -- `a$`, a line's end, two spaces and `b` are the one word `ab`
-pub row-q : Spells (97 ∷ 36 ∷ 10 ∷ 32 ∷ 32 ∷ 98 ∷ []) (97 ∷ 98 ∷ [])
-row-q = (97 ∷ [], 36 ∷ 10 ∷ 32 ∷ 32 ∷ [], 98 ∷ [], (refl, refl), ((36 ∷ 10 ∷ 32 ∷ 32 ∷ []) ∷ [], ((2, inl refl), tt), refl), (refl, refl), refl)
+pub continuation_in_a_word : Spells (97 ∷ 36 ∷ 10 ∷ 32 ∷ 32 ∷ 98 ∷ []) (97 ∷ 98 ∷ [])
+continuation_in_a_word = (97 ∷ [], 36 ∷ 10 ∷ 32 ∷ 32 ∷ [], 98 ∷ [], (refl, refl), ((36 ∷ 10 ∷ 32 ∷ 32 ∷ []) ∷ [], ((2, inl refl), tt), refl), (refl, refl), refl)

@@ -18,22 +18,27 @@ use Rattle.ninja_text.proofs.Canonical.{facts, none-clean, whole-list, rooted-te
 
 -- ---- the names stand behind the `..`
 
+-- what is not empty, no `.` and no `..` is a name
 name-of : (i u : Bool) → i ≡ false → u ≡ false → not (i || u) ≡ true
 name-of i u h k = ap (λ b. not (b || u)) h ∙ ap not k
 
+-- the second of two tests fails where the first holds and not both do
 and-other : (n u : Bool) → n ≡ true → (n && u) ≡ false → u ≡ false
 and-other n u h k = sym (ap (λ b. b && u) h) ∙ k
 
+-- behind a name there are only names
 all-names : (c : List ℕ) (cs : List (List ℕ)) → IsFixed (c ∷ cs) → is_parent c ≡ false → AllByRecursion (λ n. is_name n ≡ true) (c ∷ cs)
 all-names c [] f h = (name-of (is_current c) (is_parent c) f h, tt)
 all-names c (d ∷ ds) f h =
     let n = name-of (is_current c) (is_parent c) f.0 h in
     (n, all-names d ds f.2 (and-other (is_name c) (is_parent d) n f.1))
 
+-- no step applies to the rest of a list to which none applies
 fixed-rest : (c : List ℕ) (cs : List (List ℕ)) → IsFixed (c ∷ cs) → IsFixed cs
 fixed-rest c [] f = tt
 fixed-rest c (d ∷ ds) f = f.2
 
+-- behind the `..` in front there are only names
 behind-parents : (l : List (List ℕ)) → IsFixed l → AllByRecursion (λ n. is_name n ≡ true) (drop (prefix_len is_parent l) l)
 behind-parents [] f = tt
 behind-parents (c ∷ cs) f = elim (either_way (is_parent c)) [
@@ -45,6 +50,7 @@ behind-parents (c ∷ cs) f = elim (either_way (is_parent c)) [
       subst (λ n. AllByRecursion (λ n. is_name n ≡ true) (drop n (c ∷ cs))) (sym e) (all-names c cs f h)
 ]
 
+-- no `..` is in front where there is none
 no-parents : (l : List (List ℕ)) → list_any is_parent l ≡ false → prefix_len is_parent l ≡ 0
 no-parents [] h = refl
 no-parents (c ∷ cs) h = elim (either_way (is_parent c)) [
@@ -55,13 +61,16 @@ no-parents (c ∷ cs) h = elim (either_way (is_parent c)) [
     both : (b : Bool) → (true || b) ≡ false → ⊥
     both b e = cc
 
+-- a list that has a component
 empty-not : (l : List (List ℕ)) → is_empty l ≡ false → l ≢ []
 empty-not [] h e = cc
 empty-not (c ∷ cs) h e = cc
 
+-- a number that is not found greater
 at-most : (m n : ℕ) → nat_lt m n ≡ false → n ≤ m
 at-most m n h = grind arith
 
+-- a path has a byte
 path-some : (rooted : Bool) (l : List (List ℕ)) → IsFixed l → is_empty l ≡ false → path_text rooted l ≢ []
 path-some true l f h e = cc
 path-some false [] f h e = cc
@@ -70,6 +79,7 @@ path-some false ([] ∷ y ∷ ys) f h e = let g = f.0 in cc
 path-some false ((b ∷ bs) ∷ []) f h e = cc
 path-some false ((b ∷ bs) ∷ y ∷ ys) f h e = cc
 
+-- a path can be spelled
 pub writable : (path : List ℕ) → IsPath path → IsWritable path
 writable path h =
     let f = facts None path path h in
@@ -78,6 +88,7 @@ writable path h =
       each = All-from_recursion (λ b. is_unwritable b ≡ false) path (none-clean path f.clean);
     }
 
+-- a path has the shape that its name promises
 pub shape : (path : List ℕ) → IsPath path → IsShaped path
 shape path h =
     let f = facts None path path h in
@@ -90,6 +101,7 @@ shape path h =
       short = at-most 4096 (length path) f.short;
     }
 
+-- the path of a text has its root, and the components that its components come to
 pub meaning : (text path : List ℕ) → path_of text ≡ Ok path → (is_rooted path ≡ is_rooted text) × ReducesTo (components text) (parts path)
 meaning text path h =
     let f = facts None text path h in
@@ -98,9 +110,11 @@ meaning text path h =
       subst (ReducesTo (components text)) (sym (reduced-text (is_rooted text) (reduced (components text)) w) ∙ ap (λ t. reduced (components t)) f.made) (reaches (components text)),
     )
 
+-- no component is left of none
 is-nothing : (l : List (List ℕ)) → [] ≡ l → is_empty l ≡ true
 is-nothing l e = ap is_empty (sym e)
 
+-- a text has no path for want of components exactly where they come to none
 pub empty : (text : List ℕ) → (path_of text ≡ Err Empty → ReducesTo (components text) []) × (ReducesTo (components text) [] → path_of text ≡ Err Empty)
 empty text = (λ h. go h (reduced (components text)) refl, λ r. is-empty None text (is-nothing (reduced (components text)) (reaches-only (components text) [] r)))
   where
@@ -110,6 +124,7 @@ empty text = (λ h. go h (reduced (components text)) refl, λ r. is-empty None t
 
 -- ---- a text stays a text
 
+-- both sides of a slash are texts
 split-text : (x t : List ℕ) → IsUtf8 (x ++ 47 ∷ t) → IsUtf8 x × IsUtf8 t
 split-text x t u =
     let total : length (x ++ 47 ∷ t) ≡ length x + (1 + length t) = length-append x (47 ∷ t) ∙ omega arith in
@@ -118,40 +133,49 @@ split-text x t u =
       subst IsUtf8 (drop-append-add x (47 ∷ t) 1) (IsUtf8-drop (x ++ 47 ∷ t) (length x + 1) u (IsCharBoundary-after_ascii (x ++ 47 ∷ t) (length x) u (omega arith) (omega arith))),
     )
 
+-- so are the components of a text
 parts-text : (list : List (List ℕ)) → IsUtf8 (list_text list) → AllByRecursion IsUtf8 list
 parts-text [] u = tt
 parts-text (x ∷ []) u = (u, tt)
 parts-text (x ∷ y ∷ ys) u = let s = split-text x (list_text (y ∷ ys)) u in (s.0, parts-text (y ∷ ys) s.1)
 
+-- a slash is one letter
 slash-ascii : (i : ℕ) → get_or (47 ∷ []) i 0 < 128
 slash-ascii zero = lit< tt
 slash-ascii (suc i) = lit< tt
 
+-- a text behind a slash
 slash-text : (t : List ℕ) → IsUtf8 t → IsUtf8 (47 ∷ t)
 slash-text t u = IsUtf8-append (47 ∷ []) t (IsUtf8-from_ascii (47 ∷ []) slash-ascii) u
 
+-- a list of texts, written out, is a text
 text-parts : (list : List (List ℕ)) → AllByRecursion IsUtf8 list → IsUtf8 (list_text list)
 text-parts [] a = IsUtf8-nil
 text-parts (x ∷ []) a = a.0
 text-parts (x ∷ y ∷ ys) a = IsUtf8-append x (47 ∷ list_text (y ∷ ys)) a.0 (slash-text (list_text (y ∷ ys)) (text-parts (y ∷ ys) a.1))
 
+-- so is a path
 path-text : (rooted : Bool) (list : List (List ℕ)) → AllByRecursion IsUtf8 list → IsUtf8 (path_text rooted list)
 path-text true list a = slash-text (list_text list) (text-parts list a)
 path-text false list a = text-parts list a
 
+-- what is left below a directory are texts
 rest-each : (ds cs : List (List ℕ)) → AllByRecursion IsUtf8 (ds ++ cs) → AllByRecursion IsUtf8 cs
 rest-each [] cs a = a
 rest-each (d ∷ ds) cs a = rest-each ds cs a.1
 
+-- what is seen from a build directory is a text
 or-text : (dirs list : List (List ℕ)) (o : Option (List (List ℕ))) → below dirs list ≡ o → AllByRecursion IsUtf8 list → IsUtf8 (relative_or list o)
 or-text dirs list None e a = path-text true list a
 or-text dirs list (Some rest) e a = path-text false rest (rest-each dirs rest (subst (AllByRecursion IsUtf8) (below-some dirs list rest e).0 a))
 
+-- so is what is seen from anywhere
 seen-text : (build : Option (List ℕ)) (rooted : Bool) (list : List (List ℕ)) → AllByRecursion IsUtf8 list → IsUtf8 (seen_from build rooted list)
 seen-text None rooted list a = path-text rooted list a
 seen-text (Some b) true list a = or-text (reduced (components b)) list (below (reduced (components b)) list) refl a
 seen-text (Some b) false list a = path-text false list a
 
+-- the path of a text in UTF-8 is one in UTF-8
 pub canonical-text : (build : Option (List ℕ)) (text p : List ℕ) → canonical_of build text ≡ Ok p → IsUtf8 text → IsUtf8 p
 canonical-text build text p h u =
     let a = parts-text (components text) (subst IsUtf8 (sym (join_with_byte-slice_split 47 text)) u) in

@@ -5,9 +5,11 @@ use Rattle.std.specs.List.{concat, AllByRecursion}
 use Rattle.ninja_text.specs.Escapes.{is_unwritable, IsWritable, is_escaped, escaped_byte, escaped, IsPiece, IsContinuation, Spells}
 use Rattle.ninja_text.proofs.ReducedList.{either_way, is_true, true_is}
 
+-- equal lists have equal tails
 tail-of : (b c : ℕ) (x y : List ℕ) → b ∷ x ≡ c ∷ y → x ≡ y
 tail-of b c x y e = cc
 
+-- and equal heads
 head-of : (b c : ℕ) (x y : List ℕ) → b ∷ x ≡ c ∷ y → b ≡ c
 head-of b c x y e = cc
 
@@ -19,12 +21,15 @@ not-escaped b h = go (is_escaped b) (is_unwritable b) (true_is _ h)
     go true u k = cc
     go false u k = refl
 
+-- a `$` is no ordinary byte
 plain-dollar : (b : ℕ) → b ≡ 36 → is_escaped b ≡ false → ⊥
 plain-dollar b e h = let k : is_escaped 36 ≡ false = ap is_escaped (sym e) ∙ h in cc
 
+-- nor is a space
 plain-space : (b : ℕ) → b ≡ 32 → is_escaped b ≡ false → ⊥
 plain-space b e h = let k : is_escaped 32 ≡ false = ap is_escaped (sym e) ∙ h in cc
 
+-- what is not escaped does not stand behind a `$`
 escaped-not : (b n : ℕ) → b ≡ n → is_escaped n ≡ false → IsTrue (is_escaped b) → ⊥
 escaped-not b n e h t = let k : is_escaped n ≡ true = ap is_escaped (sym e) ∙ true_is _ t in let j : false ≡ true = sym h ∙ k in cc
 
@@ -53,6 +58,7 @@ piece-same (d ∷ b ∷ f ∷ more) q v w x y h k e = absurd h
 dollar-space : (d : ℕ) → d ≡ 36 → d ≡ 32 → ⊥
 dollar-space d h k = omega arith
 
+-- a piece does not begin with a space
 begins-space : (text rest : List ℕ) → Begins text → text ≡ 32 ∷ rest → ⊥
 begins-space text rest b e = go b.piece b.is_piece (sym b.is ∙ e)
   where
@@ -62,6 +68,7 @@ begins-space text rest b e = go b.piece b.is_piece (sym b.is ∙ e)
     go (d ∷ c ∷ []) h k = dollar-space d h.0 (head-of d 32 (c ∷ b.rest) rest k)
     go (d ∷ c ∷ f ∷ more) h k = h
 
+-- nor with a `$` before what is not escaped
 begins-dollar : (text rest : List ℕ) (n : ℕ) → Begins text → text ≡ 36 ∷ n ∷ rest → is_escaped n ≡ false → ⊥
 begins-dollar text rest n b e plain = go b.piece b.is_piece (sym b.is ∙ e)
   where
@@ -82,6 +89,7 @@ gap-space (p ∷ ps) x rest a b e = elim a.0.1 [
     front : (t : List ℕ) → p ≡ 36 ∷ t → ◌≡◌ {A = ℕ} 36 32
     front t h = head-of 36 32 ((t ++ concat ps) ++ x) rest (ap (λ l. (l ++ concat ps) ++ x) (sym h) ∙ e)
 
+-- spaces in front of what begins with none leave one rest
 spaces-same : (m n : ℕ) (x y : List ℕ) → ((rest : List ℕ) → x ≡ 32 ∷ rest → ⊥) → ((rest : List ℕ) → y ≡ 32 ∷ rest → ⊥) → replicate m 32 ++ x ≡ replicate n 32 ++ y → x ≡ y
 spaces-same zero zero x y h k e = e
 spaces-same zero (suc n) x y h k e = absurd (h (replicate n 32 ++ y) e)
@@ -92,12 +100,15 @@ spaces-same (suc m) (suc n) x y h k e = spaces-same m n x y h k (tail-of 32 32 (
 part-of : (p : List ℕ) (c : IsContinuation p) (more : List ℕ) → ((p ++ more) ≡ 36 ∷ 10 ∷ (replicate c.0 32 ++ more)) ⊎ ((p ++ more) ≡ 36 ∷ 13 ∷ 10 ∷ (replicate c.0 32 ++ more))
 part-of p c more = elim c.1 [ inl h ↦ inl (ap (λ l. l ++ more) h) | inr h ↦ inr (ap (λ l. l ++ more) h) ]
 
+-- LF is not CR
 feed-carriage : (d : ℕ) → d ≡ 10 → d ≡ 13 → ⊥
 feed-carriage d h k = omega arith
 
+-- so the two ends of a line differ
 line-ends : (x y : List ℕ) → 36 ∷ 10 ∷ x ≡ 36 ∷ 13 ∷ y → ⊥
 line-ends x y e = feed-carriage 10 refl (head-of 10 13 x y (tail-of 36 36 (10 ∷ x) (13 ∷ y) e))
 
+-- continuations in front of what begins with no space leave one rest
 part-same : (p q : List ℕ) (c : IsContinuation p) (d : IsContinuation q) (x y : List ℕ) → ((rest : List ℕ) → x ≡ 32 ∷ rest → ⊥) → ((rest : List ℕ) → y ≡ 32 ∷ rest → ⊥) → p ++ x ≡ q ++ y → x ≡ y
 part-same p q c d x y h k e = elim (part-of p c x) [
   | inl s ↦ elim (part-of q d y) [
@@ -110,6 +121,7 @@ part-same p q c d x y h k e = elim (part-of p c x) [
   ]
 ]
 
+-- what begins with a piece begins with no continuation
 part-piece : (p : List ℕ) (c : IsContinuation p) (more x : List ℕ) → Begins x → x ≡ p ++ more → ⊥
 part-piece p c more x b e = elim (part-of p c more) [ inl s ↦ begins-dollar x (replicate c.0 32 ++ more) 10 b (e ∙ s) refl | inr s ↦ begins-dollar x (10 ∷ (replicate c.0 32 ++ more)) 13 b (e ∙ s) refl ]
 
@@ -123,10 +135,12 @@ gap-same (p ∷ ps) (q ∷ qs) x y a b f g e =
     (part-same p q a.0 b.0 (concat ps ++ x) (concat qs ++ y) (λ r. gap-space ps x r a.1 f) (λ r. gap-space qs y r b.1 g)
     (sym (append_assoc p (concat ps) x) ∙ e ∙ append_assoc q (concat qs) y))
 
+-- nothing behind a text
 append-none : (p : List ℕ) → p ++ [] ≡ p
 append-none [] = refl
 append-none (b ∷ p) = ap (λ l. b ∷ l) (append-none p)
 
+-- a spelling begins with a piece
 spells-begins : (raw : List ℕ) (c : ℕ) (cs : List ℕ) → Spells raw (c ∷ cs) → Begins raw
 spells-begins raw c [] h = record { piece = raw; value = c; rest = []; is_piece = h; is = sym (append-none raw) }
 spells-begins raw c (d ∷ ds) h = record { piece = h.0; value = c; rest = h.1 ++ h.2; is_piece = h.3; is = h.6 }
@@ -140,6 +154,7 @@ not-nothing [] rest b e = go b.piece b.is_piece (e ∙ b.is)
     go (c ∷ p) h k = cc
 not-nothing (g ∷ gap) rest b e = cc
 
+-- a spelling stands for one value
 pub spells-same : (raw a b : List ℕ) → Spells raw a → Spells raw b → a ≡ b
 spells-same raw [] b h k = absurd h
 spells-same raw (v ∷ []) [] h k = absurd k
@@ -157,17 +172,20 @@ spells-same raw (v ∷ v2 ∷ vs) (w ∷ w2 ∷ ws) h k =
 
 -- ---- what `escape_into` writes
 
+-- a byte as it is spelled is a piece that stands for it
 piece-is : (b : ℕ) → is_unwritable b ≡ false → IsPiece (escaped_byte b) b
 piece-is b h = elim (either_way (is_escaped b)) [
   | inl k ↦ subst (λ t. IsPiece (cond t (36 ∷ b ∷ []) (b ∷ [])) b) (sym k) (refl, refl, is_true _ k)
   | inr k ↦ subst (λ t. IsPiece (cond t (36 ∷ b ∷ []) (b ∷ [])) b) (sym k) (refl, is_true _ (ap (λ t. not (t || is_unwritable b)) k ∙ ap not h))
 ]
 
+-- a path as it is spelled stands for the path
 pub escaped-spells : (path : List ℕ) → path ≢ [] → AllByRecursion (λ b. is_unwritable b ≡ false) path → Spells (escaped path) path
 escaped-spells [] some clean = absurd (some refl)
 escaped-spells (b ∷ []) some clean = subst (λ l. IsPiece l b) (sym (append-none (escaped_byte b))) (piece-is b clean.0)
 escaped-spells (b ∷ c ∷ cs) some clean = (escaped_byte b, [], escaped (c ∷ cs), piece-is b clean.0, ([], tt, refl), escaped-spells (c ∷ cs) (λ h. cc) clean.1, refl)
 
+-- and for nothing else
 pub escaped-means : (path : List ℕ) → IsWritable path → (value : List ℕ) → (Spells (escaped path) value → value ≡ path) × (value ≡ path → Spells (escaped path) value)
 escaped-means path w value =
     let s = escaped-spells path w.some (recursion_from_All (λ b. is_unwritable b ≡ false) path w.each) in

@@ -6,6 +6,7 @@ use Rattle.std.proofs.lemmas.List.Elements.{All-nil, All-cons}
 use Rattle.std.proofs.lemmas.List.Folds.{list_any_none}
 use Rattle.ninja_text.specs.Escapes.{is_unwritable, is_writable, IsWritable}
 
+-- neither of two tests holds
 or-false : (a b : Bool) → (a || b) ≡ false → (a ≡ false) × (b ≡ false)
 or-false true b h = cc
 or-false false b h = (refl, h)
@@ -17,18 +18,22 @@ none_passes p (b ∷ bs) h =
     let both = or-false (p b) (list_any p bs) h in
     All-cons (λ x. p x ≡ false) b bs both.0 (none_passes p bs both.1)
 
+-- a test whose contrary holds fails
 not-false : (b : Bool) → IsTrue (not b) → b ≡ false
 not-false true h = cc
 not-false false h = refl
 
+-- the test tells the record
 writable_record : (path : List ℕ) → IsTrue (is_writable path) → IsWritable path
 writable_record [] h = cc
 writable_record (b ∷ bs) h = record { some = λ e. cc; each = none_passes is_unwritable (b ∷ bs) (not-false (list_any is_unwritable (b ∷ bs)) h) }
 
+-- the record tells the test
 writable_test : (path : List ℕ) → IsWritable path → IsTrue (is_writable path)
 writable_test [] w = absurd (w.some refl)
 writable_test (b ∷ bs) w = ap not (list_any_none is_unwritable (b ∷ bs) w.each)
 
+-- so the test means what the record says
 pub writable : (path : List ℕ) → IsTrue (is_writable path) ↔ IsWritable path
 writable path = (writable_record path, writable_test path)
 

@@ -7,6 +7,7 @@ use Rattle.ninja_text.specs.Bytes.{slash}
 abbrev pub LacksSlash : List ℕ → Type 0
 LacksSlash component = AllByRecursion (λ b. (b == slash) ≡ false) component
 
+-- no slash in any of them
 abbrev pub EachLacksSlash : List (List ℕ) → Type 0
 EachLacksSlash list = AllByRecursion LacksSlash list
 

@@ -1,5 +1,5 @@
 -- What a call that may want memory answers.
-use Rattle.std.specs.Prelude.{◌≡◌, Result, Ok, Err, ⊤}
+use Rattle.std.specs.Prelude.{◌≡◌, ℕ, List, Option, Some, Result, Ok, Err, ⊤, codes}
 use Rattle.ninja_text.specs.declared.failure.Failure.{Failure}
 use Rattle.ninja_text.specs.declared.failure.Failure.TheVariants.{Memory, Fault}
 
@@ -18,3 +18,8 @@ Turns {F} {G} turned (Fault fault) new = (other : G) × turned fault other × (n
 abbrev pub ForFault : {F : Type 0} → (F → Type 0) → Failure F → Type 0
 ForFault P Memory = ⊤
 ForFault P (Fault fault) = P fault
+
+-- how a failure is printed, where it is known how the fault is
+abbrev pub failure_text : {F : Type 0} → (F → Option (List ℕ)) → Failure F → Option (List ℕ)
+failure_text text Memory = Some (codes "out of memory")
+failure_text text (Fault fault) = text fault

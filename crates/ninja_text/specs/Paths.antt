@@ -7,6 +7,7 @@ use Rattle.ninja_text.specs.Reduction.{components, is_parent, reduced}
 use Rattle.ninja_text.specs.declared.paths.PathFault.{PathFault}
 use Rattle.ninja_text.specs.declared.paths.PathFault.TheVariants.{Empty, AboveRoot, Unwritable, TooLong}
 
+-- a list without elements
 abbrev pub is_empty : {X : Type 0} → List X → Bool
 is_empty [] = true
 is_empty (x ∷ xs) = false

@@ -31,6 +31,10 @@ impl<F> Failure<F> {
 }
 
 impl<F: fmt::Display> fmt::Display for Failure<F> {
+    ghost use Rattle.ninja_text.specs.Failure.{failure_text};
+
+    ghost output = { failure_text F.output };
+
     fn fmt<W: fmt::Write>(&self, f: &mut fmt::Formatter<W>) -> fmt::Result {
         match self {
             Failure::Memory => f.write_str("out of memory"),

@@ -74,7 +74,7 @@ impl Path {
         ensures canonical { path_of result.now ≡ Ok self.now }
         ensures writable { IsWritable result.now }
     {
-        self.text.as_slice()
+        &self.text
     }
 
     /// Whether the path is absolute.

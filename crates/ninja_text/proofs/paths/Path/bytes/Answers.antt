@@ -4,4 +4,4 @@ use Rattle.ninja_text.specs.Escapes.{IsWritable}
 use Rattle.ninja_text.proofs.paths.Path.bytes.Goals as goal
 
 pub returns-clause-writable : goal.returns-clause-writable
-returns-clause-writable c = subst IsWritable (sym c.as_slice.ensures.value) (writable c.self.inside.text.items c.self.invariant)
+returns-clause-writable c = subst IsWritable (sym c.deref.ensures.value) (writable c.self.inside.text.items c.self.invariant)
