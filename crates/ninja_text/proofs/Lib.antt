@@ -8,3 +8,19 @@ pub mod ListText
 pub mod KnownBytes
 pub mod Writable
 pub mod ForCallers
+mod LineRows
+pub mod UnitLemmas
+pub mod ScanLemmas
+pub mod ScanLists
+pub mod ReachLemmas
+pub mod CutLemmas
+pub mod TokenLemmas
+pub mod PlaceLemmas
+pub mod SpanLemmas
+pub mod ListLemmas
+pub mod LinesForCallers
+pub mod SpelledUnits
+pub mod SpelledPaths
+pub mod SpelledTokens
+pub mod SpelledLines
+pub mod SpelledTexts

@@ -1,10 +1,18 @@
-//! The text of Ninja files: paths and their spellings, and readers and writers whose failed calls are counted.
+//! The text of Ninja files: paths and their spellings, lines and words, and readers and writers whose failed calls are
+//! counted.
 //!
 //! - [`Path`] is a canonical path. [`Path::of`] and [`place`] answer the path that a text means, or the first fault that
 //!   keeps it from being one. What a text means is stated by rewriting steps, in `specs/Reduction.antt` and
 //!   `specs/Paths.antt`; [`one_canonical_list`] proves that the choice of steps does not matter.
 //! - [`escape_into`] spells a path as Ninja reads it, and [`one_meaning`] proves that a spelling stands for one value
 //!   (`specs/Escapes.antt`).
+//! - [`LineCutter`] cuts bytes that come in pieces of any size into logical lines. Whatever the pieces are, the lines lent are
+//!   those of the bytes taken, in order and numbered (`specs/Lines.antt`, `specs/Cutting.antt`), and its buffer never passes
+//!   [`LINE_LIMIT`] bytes.
+//! - [`words`] gives all tokens of a line in order (`specs/Tokens.antt`), and [`assignment`] its name and value
+//!   (`specs/Assignments.antt`), or the line's first lexical fault (`specs/Lexical.antt`). The rules are those of the Ninja 1.11
+//!   manual, "Lexical syntax"; the definitions state them on whole texts, and know nothing of pieces.
+//! - [`laws`] proves that there is one division of a text into lines, and one list of tokens, and no other.
 //! - [`Counted`] counts the failed calls of a reader or a writer, and writes a text up to the first one
 //!   (`specs/Counting.antt`).
 //! - [`Failure`] is what a call answers that may want memory (`specs/Failure.antt`).
@@ -12,15 +20,40 @@
 //! It stands on `std`, and on `thiserror` for the texts of faults.
 #![tactic(auto)]
 
+mod assigning;
+#[cfg(test)]
+mod assigning_tests;
+mod assignments;
+mod checking;
 mod counting;
+mod cutter;
+#[cfg(test)]
+mod cutter_tests;
 mod escapes;
 mod failure;
+pub mod faults;
+pub mod laws;
+mod lexing;
+#[cfg(test)]
+mod lexing_tests;
+mod line;
+mod meaning;
 mod paths;
 mod reduction;
+mod scan;
 #[cfg(test)]
 mod tests;
+mod token;
+mod unit;
 
+pub use assigning::assignment;
+pub use assignments::Assignment;
 pub use counting::{Counted, Stopped};
+pub use cutter::LineCutter;
 pub use escapes::{escape_into, is_writable, one_meaning};
 pub use failure::Failure;
+pub use faults::{CutFault, LexFault};
+pub use lexing::words;
+pub use line::{LINE_LIMIT, Line};
 pub use paths::{PATH_LIMIT, Path, PathFault, one_canonical_list, path_meaning, place};
+pub use token::{Token, TokenKind, Words};

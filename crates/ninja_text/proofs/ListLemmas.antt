@@ -1,0 +1,243 @@
+-- The tokens of a text are a list of tokens that it is divided into, and the only one.
+use Rattle.std.proofs.Common.{inl, inr, ◌⊎◌, ◌≡◌, ℕ, ◌+◌, Bool, true, false, ◌&&◌, List, [], ◌∷◌, ◌++◌, refl, sym, ap, ◌∙◌, subst, arith, append_assoc}
+use Rattle.std.specs.List.{AllByRecursion}
+use Rattle.std.proofs.lemmas.Bool.{cases_Bool}
+use Rattle.ninja_text.specs.Units.{units, unit_len, is_byte, is_continuation}
+use Rattle.ninja_text.specs.declared.unit.LineUnit.{LineUnit}
+use Rattle.ninja_text.specs.declared.unit.LineUnit.TheVariants.{Continuation, Escape, Byte}
+use Rattle.ninja_text.specs.declared.token.TokenKind.{TokenKind}
+use Rattle.ninja_text.specs.declared.token.TokenKind.TheVariants.{Word, Bar, DoubleBar, BarAt, Colon}
+use Rattle.ninja_text.specs.Tokens.{TokenAt, is_blank, is_piece, goes_on, with_first_start, with_unit, tokens_from, tokens}
+use Rattle.ninja_text.specs.TokenLists.{total_len, may_follow, is_word, begins_with, IsToken, AreBlank, Leads, LexesAs, AreTokens}
+use Rattle.ninja_text.proofs.TokenLemmas.{tokens_with, tokens_blank, tokens_piece, piece_else, goes_on_piece, continuation_blank, byte_is, byte_len}
+
+-- blank units add no token
+blank_first : (gap us : List LineUnit) (place : ℕ) → AreBlank gap → tokens_from place (gap ++ us) ≡ tokens_from (place + total_len gap) us
+blank_first [] us place h = ap (λ n. tokens_from n us) {x = place} {y = place + 0} (omega arith)
+blank_first (u ∷ gap) us place h = tokens_blank place u (gap ++ us) h.0 ∙ blank_first gap us (place + unit_len u) h.1
+    ∙ ap (λ n. tokens_from n us) {x = place + unit_len u + total_len gap} {y = place + (unit_len u + total_len gap)} (omega arith)
+
+blank_alone : (us : List LineUnit) (place : ℕ) → AreBlank us → tokens_from place us ≡ []
+blank_alone [] place h = refl
+blank_alone (u ∷ us) place h = tokens_blank place u us h.0 ∙ blank_alone us (place + unit_len u) h.1
+
+-- a word from start, and the tokens after it
+abbrev word_then : ℕ → ℕ → List LineUnit → List TokenAt
+word_then start end after = record { kind = Word; start = start; end = end } ∷ tokens_from end after
+
+word_at : (start m n : ℕ) (after : List LineUnit) → m ≡ n → word_then start m after ≡ word_then start n after
+word_at start m n after e = ap (λ k. word_then start k after) e
+
+-- a word goes on in these units, which begin at a place
+record GoesOn (start place : ℕ) (us after : List LineUnit) : Type 0 where
+  on : goes_on (us ++ after) ≡ true
+  word : with_first_start start (tokens_from place (us ++ after)) ≡ word_then start (place + total_len us) after
+
+-- it ends here, or goes on
+abbrev Follows : Bool → ℕ → ℕ → List LineUnit → List LineUnit → Type 0
+Follows may_end start place us after = ((us ≡ []) × (may_end ≡ true)) ⊎ GoesOn start place us after
+
+-- the word that a piece begins
+word_first : (s : ℕ) (u : LineUnit) (us after : List LineUnit) → is_piece u ≡ true → goes_on after ≡ false → Follows true s (s + unit_len u) us after
+    → tokens_from s (u ∷ (us ++ after)) ≡ word_then s (s + total_len (u ∷ us)) after
+word_first s u us after p stop (inl none) =
+    subst (λ xs. tokens_from s (u ∷ (xs ++ after)) ≡ word_then s (s + total_len (u ∷ xs)) after) (sym none.0)
+    (tokens_piece s u after p ∙ rw stop (word_at s (s + unit_len u) (s + (unit_len u + 0)) after (omega arith)))
+word_first s u us after p stop (inr goes) =
+    tokens_piece s u (us ++ after) p ∙ rw goes.on (goes.word ∙ word_at s (s + unit_len u + total_len us) (s + (unit_len u + total_len us)) after (omega arith))
+
+no_piece : (u : LineUnit) → is_continuation u ≡ true → is_piece u ≡ false
+no_piece (Continuation len) h = refl
+no_piece (Escape b) h = absurd (let x : false ≡ true = h in cc)
+no_piece (Byte b) h = absurd (let x : false ≡ true = h in cc)
+
+goes_over : (u : LineUnit) (us : List LineUnit) → is_continuation u ≡ true → goes_on (u ∷ us) ≡ goes_on us
+goes_over (Continuation len) us h = refl
+goes_over (Escape b) us h = absurd (let x : false ≡ true = h in cc)
+goes_over (Byte b) us h = absurd (let x : false ≡ true = h in cc)
+
+both_true : (a b : Bool) → (a && b) ≡ true → (a ≡ true) × (b ≡ true)
+both_true true true h = (refl, refl)
+both_true true false h = absurd (cc)
+both_true false b h = absurd (cc)
+
+-- a continuation in a word is passed over
+passed_over : (u : LineUnit) (us after : List LineUnit) (may_end : Bool) (start place : ℕ) → is_continuation u ≡ true → Follows false start (place + unit_len u) us after → Follows may_end start place (u ∷ us) after
+passed_over u us after may_end start place h (inl none) = absurd (let x : false ≡ true = none.1 in cc)
+passed_over u us after may_end start place h (inr goes) = inr (record {
+  on = goes_over u (us ++ after) h ∙ goes.on;
+  word = ap (with_first_start start) (tokens_blank place u (us ++ after) (continuation_blank u h)) ∙ goes.word
+      ∙ word_at start (place + unit_len u + total_len us) (place + (unit_len u + total_len us)) after (omega arith);
+})
+
+-- what follows in a word, to its end
+follows : (us after : List LineUnit) (may_end : Bool) (start place : ℕ) → goes_on after ≡ false → may_follow may_end us ≡ true → Follows may_end start place us after
+follows [] after may_end start place stop h = inl (refl, h)
+follows (u ∷ us) after may_end start place stop h = elim (cases_Bool (is_piece u)) [
+  | inl p ↦ inr (record {
+    on = goes_on_piece u (us ++ after) p;
+    word = ap (with_first_start start) (word_first place u us after p stop (follows us after true place (place + unit_len u) stop (rw p at h)));
+  })
+  | inr p ↦ let both = both_true (is_continuation u) (may_follow false us) (rw p at h) in
+      passed_over u us after may_end start place both.0 (follows us after false start (place + unit_len u) stop both.1)
+]
+
+-- the token at the front
+token_first : (kind : TokenKind) (s : ℕ) (own after : List LineUnit) → IsToken kind own after
+    → tokens_from s (own ++ after) ≡ record { kind = kind; start = s; end = s + total_len own } ∷ tokens_from (s + total_len own) after
+token_first Word s [] after h = absurd (let x : false ≡ true = h.0 in cc)
+token_first Word s (u ∷ us) after h =
+    let both = both_true (is_piece u) (may_follow true us) h.0 in
+    word_first s u us after both.0 h.1 (follows us after true s (s + unit_len u) h.1 both.1)
+token_first Bar s own after h = subst (λ xs. tokens_from s (xs ++ after) ≡ record { kind = Bar; start = s; end = s + total_len xs } ∷ tokens_from (s + total_len xs) after) (sym h.0) (alone after h.1 h.2) where
+  alone : (us : List LineUnit) → begins_with 124 us ≡ false → begins_with 64 us ≡ false → tokens_from s (Byte 124 ∷ us) ≡ record { kind = Bar; start = s; end = s + 1 } ∷ tokens_from (s + 1) us
+  alone [] bar at = refl
+  alone (v ∷ us) bar at = rw (bar, at) refl
+token_first DoubleBar s own after h = subst (λ xs. tokens_from s (xs ++ after) ≡ record { kind = DoubleBar; start = s; end = s + total_len xs } ∷ tokens_from (s + total_len xs) after) (sym h) refl
+token_first BarAt s own after h = subst (λ xs. tokens_from s (xs ++ after) ≡ record { kind = BarAt; start = s; end = s + total_len xs } ∷ tokens_from (s + total_len xs) after) (sym h) refl
+token_first Colon s own after h = subst (λ xs. tokens_from s (xs ++ after) ≡ record { kind = Colon; start = s; end = s + total_len xs } ∷ tokens_from (s + total_len xs) after) (sym h) (tokens_with s (Byte 58) after refl)
+
+-- units are divided into one list of tokens only
+one_list : (ts : List TokenAt) (place : ℕ) (us : List LineUnit) → LexesAs place us ts → tokens_from place us ≡ ts
+one_list [] place us h = blank_alone us place h
+one_list (t ∷ ts) place us h =
+    let leads = h.1 in
+    let front : tokens_from place us ≡ record { kind = t.kind; start = t.start; end = t.end } ∷ tokens_from t.end h.0 =
+    ap (tokens_from place) leads.whole ∙ blank_first leads.gap (leads.own ++ h.0) place leads.blank
+    ∙ ap (λ n. tokens_from n (leads.own ++ h.0)) (sym leads.start) ∙ token_first t.kind t.start leads.own h.0 leads.token
+    ∙ ap (λ n. record { kind = t.kind; start = t.start; end = n } ∷ tokens_from n h.0) (sym leads.end) in
+    front ∙ ap (λ xs. t ∷ xs) (one_list ts t.end h.0 h.2)
+
+pub tokens_one : (text : List ℕ) (ts : List TokenAt) → AreTokens text ts → ts ≡ tokens text
+tokens_one text ts h = sym (one_list ts 0 (units text) h)
+
+total_len-append : (us vs : List LineUnit) → total_len (us ++ vs) ≡ total_len us + total_len vs
+total_len-append [] vs = omega arith
+total_len-append (u ∷ us) vs = let later = total_len-append us vs in omega arith
+
+-- past blank units alone no word goes on
+blank_stops : (us : List LineUnit) → AreBlank us → goes_on us ≡ false
+blank_stops [] h = refl
+blank_stops (Continuation len ∷ us) h = blank_stops us h.1
+blank_stops (Escape b ∷ us) h = absurd (let x : false ≡ true = h.0 in cc)
+blank_stops (Byte b ∷ us) h = rw h.0 refl
+
+abbrev AreContinuations : List LineUnit → Type 0
+AreContinuations us = AllByRecursion (λ u. is_continuation u ≡ true) us
+
+-- blank units over which a word goes on are continuations
+gap_continues : (gap us : List LineUnit) → AreBlank gap → goes_on (gap ++ us) ≡ true → AreContinuations gap × (goes_on us ≡ true)
+gap_continues [] us blank h = (tt, h)
+gap_continues (Continuation len ∷ gap) us blank h = let later = gap_continues gap us blank.1 h in ((refl, later.0), later.1)
+gap_continues (Escape b ∷ gap) us blank h = absurd (let x : false ≡ true = blank.0 in cc)
+gap_continues (Byte b ∷ gap) us blank h = absurd (let x : false ≡ true = rw blank.0 at h in cc)
+
+-- the token in which a word goes on
+record GoesOnIn (kind : TokenKind) (own after : List LineUnit) : Type 0 where
+  kind_is : kind ≡ Word
+  own_is : is_word own ≡ true
+  stops : goes_on after ≡ false
+
+goes_on_in : (kind : TokenKind) (own after : List LineUnit) → IsToken kind own after → goes_on (own ++ after) ≡ true → GoesOnIn kind own after
+goes_on_in Word own after h g = record { kind_is = refl; own_is = h.0; stops = h.1 }
+goes_on_in Bar own after h g = absurd (let x : false ≡ true = subst (λ xs. goes_on (xs ++ after) ≡ true) h.0 g in cc)
+goes_on_in DoubleBar own after h g = absurd (let x : false ≡ true = subst (λ xs. goes_on (xs ++ after) ≡ true) h g in cc)
+goes_on_in BarAt own after h g = absurd (let x : false ≡ true = subst (λ xs. goes_on (xs ++ after) ≡ true) h g in cc)
+goes_on_in Colon own after h g = absurd (let x : false ≡ true = subst (λ xs. goes_on (xs ++ after) ≡ true) h g in cc)
+
+-- a word may follow a piece, past continuations
+word_over : (gap own : List LineUnit) (may_end : Bool) → AreContinuations gap → is_word own ≡ true → may_follow may_end (gap ++ own) ≡ true
+word_over [] [] may_end g w = absurd (let x : false ≡ true = w in cc)
+word_over [] (u ∷ us) may_end g w = let both = both_true (is_piece u) (may_follow true us) w in rw both.0 both.1
+word_over (u ∷ gap) own may_end g w = rw (no_piece u g.0, g.0) (word_over gap own false g.1 w)
+
+-- a piece in front of the word that goes on after it
+piece_joins : (place : ℕ) (u : LineUnit) (us : List LineUnit) (rest : List TokenAt) → is_piece u ≡ true → goes_on us ≡ true → LexesAs (place + unit_len u) us rest → LexesAs place (u ∷ us) (with_first_start place rest)
+piece_joins place u us [] p g h = absurd (let x : true ≡ false = sym g ∙ blank_stops us h in cc)
+piece_joins place u us (t ∷ ts) p g h =
+    let leads = h.1 in
+    let gap = gap_continues leads.gap (leads.own ++ h.0) leads.blank (ap goes_on (sym leads.whole) ∙ g) in
+    let word = goes_on_in t.kind leads.own h.0 leads.token gap.1 in
+    let joined : is_word (u ∷ (leads.gap ++ leads.own)) ≡ true = rw p (word_over leads.gap leads.own true gap.0 word.own_is) in (
+      h.0,
+      record {
+        gap = [];
+        own = u ∷ (leads.gap ++ leads.own);
+        whole = ap (λ xs. u ∷ xs) (leads.whole ∙ sym (append_assoc leads.gap leads.own h.0));
+        blank = tt;
+        start = omega arith;
+        end = omega (arith, leads.end, leads.start, total_len-append leads.gap leads.own);
+        token = subst (λ kind. IsToken kind (u ∷ (leads.gap ++ leads.own)) h.0) (sym word.kind_is) (joined, word.stops);
+      },
+      h.2,
+    )
+
+-- a unit that is a token by itself
+alone : (place : ℕ) (u : LineUnit) (us : List LineUnit) (kind : TokenKind) (end : ℕ) → end ≡ place + unit_len u → IsToken kind (u ∷ []) us → Leads place (u ∷ us) (record { kind = kind; start = place; end = end }) us
+alone place u us kind end e token = record { gap = []; own = u ∷ []; whole = refl; blank = tt; start = omega arith; end = omega arith; token = token }
+
+-- a blank unit in front
+blank_joins : (place : ℕ) (u : LineUnit) (us : List LineUnit) (rest : List TokenAt) → is_blank u ≡ true → LexesAs (place + unit_len u) us rest → LexesAs place (u ∷ us) rest
+blank_joins place u us [] b h = (b, h)
+blank_joins place u us (t ∷ ts) b h = let leads = h.1 in (
+  h.0,
+  record {
+    gap = u ∷ leads.gap;
+    own = leads.own;
+    whole = ap (λ xs. u ∷ xs) leads.whole;
+    blank = (b, leads.blank);
+    start = omega (arith, leads.start);
+    end = leads.end;
+    token = leads.token;
+  },
+  h.2,
+)
+
+blank_else : (u : LineUnit) → is_piece u ≡ false → is_byte 58 u ≡ false → is_byte 124 u ≡ false → is_blank u ≡ true
+blank_else u p colon bar = elim (cases_Bool (is_blank u)) [
+  | inl b ↦ b
+  | inr b ↦ absurd (let x : true ≡ false = sym (piece_else u b colon bar) ∙ p in cc)
+]
+
+-- what a unit adds in front is a list of tokens again, where a `|` in front is one alone
+with_unit_lexes : (place : ℕ) (u : LineUnit) (us : List LineUnit) (rest : List TokenAt) → (is_byte 124 u ≡ true → (begins_with 124 us ≡ false) × (begins_with 64 us ≡ false))
+    → LexesAs (place + unit_len u) us rest → LexesAs place (u ∷ us) (with_unit place u us rest)
+with_unit_lexes place u us rest longest h = elim (cases_Bool (is_piece u)) [
+  | inl p ↦ elim (cases_Bool (goes_on us)) [
+    | inl g ↦ rw (p, g) (piece_joins place u us rest p g h)
+    | inr g ↦ rw (p, g) (us, alone place u us Word (place + unit_len u) refl (rw p refl, g), h)
+  ]
+  | inr p ↦ elim (cases_Bool (is_byte 58 u)) [
+    | inl c ↦ rw (p, c) (us, alone place u us Colon (place + 1) (omega (arith, byte_len 58 u c)) (ap (λ v. v ∷ []) (byte_is 58 u c)), subst (λ n. LexesAs (place + n) us rest) (byte_len 58 u c) h)
+    | inr c ↦ elim (cases_Bool (is_byte 124 u)) [
+      | inl b ↦ rw (p, c, b) (us, alone place u us Bar (place + 1) (omega (arith, byte_len 124 u b)) (ap (λ v. v ∷ []) (byte_is 124 u b), (longest b).0, (longest b).1), subst (λ n. LexesAs (place + n) us rest) (byte_len 124 u b) h)
+      | inr b ↦ rw (p, c, b) (blank_joins place u us rest (blank_else u p c b) h)
+    ]
+  ]
+]
+
+-- two units that are a token
+pair_leads : (place : ℕ) (u v : LineUnit) (us : List LineUnit) (kind : TokenKind) → unit_len u ≡ 1 → unit_len v ≡ 1 → IsToken kind (u ∷ v ∷ []) us → Leads place (u ∷ v ∷ us) (record { kind = kind; start = place; end = place + 2 }) us
+pair_leads place u v us kind one other token = record { gap = []; own = u ∷ v ∷ []; whole = refl; blank = tt; start = omega arith; end = omega arith; token = token }
+
+two_units : {u v a b : LineUnit} → u ≡ a → v ≡ b → ◌≡◌ {A = List LineUnit} (u ∷ v ∷ []) (a ∷ b ∷ [])
+two_units p q = rw (p, q) refl
+
+lexes : (us : List LineUnit) (place : ℕ) → LexesAs place us (tokens_from place us)
+lexes [] place = tt
+lexes (u ∷ []) place = with_unit_lexes place u [] [] (λ _. (refl, refl)) tt
+lexes (u ∷ v ∷ us) place = elim (cases_Bool (is_byte 124 u)) [
+  | inr n ↦ subst (LexesAs place (u ∷ v ∷ us)) (sym (tokens_with place u (v ∷ us) n))
+      (with_unit_lexes place u (v ∷ us) _ (λ b. absurd (let x : true ≡ false = sym b ∙ n in cc)) (lexes (v ∷ us) (place + unit_len u)))
+  | inl b ↦ elim (cases_Bool (is_byte 124 v)) [
+    | inl d ↦ rw (b, d) (us, pair_leads place u v us DoubleBar (byte_len 124 u b) (byte_len 124 v d) (two_units (byte_is 124 u b) (byte_is 124 v d)), lexes us (place + 2))
+    | inr d ↦ elim (cases_Bool (is_byte 64 v)) [
+      | inl a ↦ rw (b, d, a) (us, pair_leads place u v us BarAt (byte_len 124 u b) (byte_len 64 v a) (two_units (byte_is 124 u b) (byte_is 64 v a)), lexes us (place + 2))
+      | inr a ↦ subst (λ w. LexesAs place (w ∷ v ∷ us) (tokens_from place (w ∷ v ∷ us))) (sym (byte_is 124 u b))
+          (rw (d, a) (with_unit_lexes place (Byte 124) (v ∷ us) (tokens_from (place + 1) (v ∷ us)) (λ _. (d, a)) (lexes (v ∷ us) (place + 1))))
+    ]
+  ]
+]
+
+pub tokens_are : (text : List ℕ) → AreTokens text (tokens text)
+tokens_are text = lexes (units text) 0

@@ -1,0 +1,124 @@
+-- The tokens of units, one after another, wherever in a text they stand.
+use Rattle.std.proofs.Common.{◌≡◌, ℕ, ◌+◌, ◌-◌, true, false, List, [], ◌∷◌, ◌++◌, length, map, take, refl, sym, ap, ◌∙◌, subst, arith, length-append, ◌==◌}
+use Rattle.std.specs.Prelude.{slice_range}
+use Rattle.std.specs.List.{list_all}
+use Rattle.std.proofs.lemmas.List.{append-nil, append_assoc, take_at, drop_at}
+use Rattle.std.proofs.lemmas.Grind.{flat_map-append}
+use Rattle.std.proofs.lemmas.Bool.{and_parts, or_parts, not-true}
+use Rattle.ninja_text.specs.Units.{unit_len, is_byte}
+use Rattle.ninja_text.specs.declared.unit.LineUnit.{LineUnit}
+use Rattle.ninja_text.specs.declared.unit.LineUnit.TheVariants.{Continuation, Escape, Byte}
+use Rattle.ninja_text.specs.declared.token.TokenKind.{TokenKind}
+use Rattle.ninja_text.specs.declared.token.TokenKind.TheVariants.{Word, Bar, Colon}
+use Rattle.ninja_text.specs.Tokens.{TokenAt, is_piece, goes_on, with_first_start, tokens_from, raw}
+use Rattle.ninja_text.proofs.TokenLemmas.{tokens_with, tokens_blank}
+use Rattle.ninja_text.specs.Escapes.{IsWritable, escaped}
+use Rattle.ninja_text.proofs.SpelledUnits.{unit_text, text_of_units}
+use Rattle.ninja_text.proofs.SpelledPaths.{path_unit, path_units, path_text, path_pieces, has_spelling}
+
+-- a piece is no continuation and no `|`
+piece_len : (u : LineUnit) → is_piece u ≡ true → unit_len u ≡ length (unit_text u)
+piece_len (Continuation len) h = absurd (let e : false ≡ true = h in cc)
+piece_len (Escape b) h = refl
+piece_len (Byte b) h = refl
+
+pub goes_on_piece : (u : LineUnit) (us : List LineUnit) → is_piece u ≡ true → goes_on (u ∷ us) ≡ true
+goes_on_piece (Continuation len) us h = absurd (let e : false ≡ true = h in cc)
+goes_on_piece (Escape b) us h = refl
+goes_on_piece (Byte b) us h = h
+
+piece_no_bar : (u : LineUnit) → is_piece u ≡ true → is_byte 124 u ≡ false
+piece_no_bar (Continuation len) h = refl
+piece_no_bar (Escape b) h = refl
+piece_no_bar (Byte b) h = (or_parts _ (b == 124) (not-true _ h)).1
+
+-- a piece goes on where one follows, and ends its word where none does
+pub piece_alone : (n : ℕ) (u : LineUnit) (vs : List LineUnit) → is_piece u ≡ true → goes_on vs ≡ false
+    → tokens_from n (u ∷ vs) ≡ record { kind = Word; start = n; end = n + unit_len u } ∷ tokens_from (n + unit_len u) vs
+piece_alone n u vs p g = tokens_with n u vs (piece_no_bar u p) ∙ rw (p, g) refl
+
+pub piece_before : (n : ℕ) (u : LineUnit) (vs : List LineUnit) → is_piece u ≡ true → goes_on vs ≡ true
+    → tokens_from n (u ∷ vs) ≡ with_first_start n (tokens_from (n + unit_len u) vs)
+piece_before n u vs p g = tokens_with n u vs (piece_no_bar u p) ∙ rw (p, g) refl
+
+-- a word from start up to end, and the tokens of what follows
+abbrev pub word_and : ℕ → ℕ → List LineUnit → List TokenAt
+word_and start end vs = record { kind = Word; start = start; end = end } ∷ tokens_from end vs
+
+-- pieces are one word, where no piece follows
+pub word_token : (u : LineUnit) (us vs : List LineUnit) (n : ℕ) → list_all is_piece (u ∷ us) ≡ true → goes_on vs ≡ false
+    → tokens_from n (u ∷ (us ++ vs)) ≡ word_and n (n + length (text_of_units (u ∷ us))) vs
+word_token u [] vs n h g =
+    let p : is_piece u ≡ true = (and_parts (is_piece u) true h).0 in
+    piece_alone n u vs p g
+    ∙ ap (λ e. word_and n e vs) {x = n + unit_len u} {y = n + length (unit_text u ++ [])} (ap (λ k. n + k) (piece_len u p ∙ ap length (sym (append-nil (unit_text u)))))
+word_token u (w ∷ us) vs n h g =
+    let p = and_parts (is_piece u) (list_all is_piece (w ∷ us)) h in
+    let q = and_parts (is_piece w) (list_all is_piece us) p.1 in
+    piece_before n u (w ∷ (us ++ vs)) p.0 (goes_on_piece w (us ++ vs) q.0) ∙ ap (with_first_start n) (word_token w us vs (n + unit_len u) p.1 g)
+    ∙ ap (λ e. word_and n e vs) {x = n + unit_len u + length (text_of_units (w ∷ us))} {y = n + length (unit_text u ++ text_of_units (w ∷ us))}
+    (omega (arith, piece_len u p.0, length-append (unit_text u) (text_of_units (w ∷ us))))
+
+-- the bytes of units between others
+bytes_between : (front us vs : List LineUnit) → slice_range (text_of_units (front ++ (us ++ vs))) (length (text_of_units front)) (length (text_of_units front) + length (text_of_units us)) ≡ text_of_units us
+bytes_between front us vs =
+    let a = text_of_units front in
+    let b = text_of_units us in
+    let c = text_of_units vs in
+    let whole : text_of_units (front ++ (us ++ vs)) ≡ a ++ (b ++ c) = flat_map-append unit_text front (us ++ vs) ∙ ap (λ x. a ++ x) (flat_map-append unit_text us vs) in
+    ap (λ t. slice_range t (length a) (length a + length b)) whole
+    ∙ ap (take (length a + length b - length a)) (drop_at a (b ++ c) (length a) refl)
+    ∙ take_at b c (length a + length b - length a) (omega arith)
+
+same_cons : {X : Type 0} {x y : X} {xs ys : List X} → x ≡ y → xs ≡ ys → x ∷ xs ≡ y ∷ ys
+same_cons p q = rw (p, q) refl
+
+module _ {X : Type 0} (view : TokenKind → List ℕ → X) where
+  -- a token by its kind and its bytes
+  abbrev pub viewed : List ℕ → TokenAt → X
+  viewed text t = view t.kind (raw text t)
+
+  -- These are the tokens of the units, wherever they stand.
+  abbrev pub Yields : List LineUnit → List X → Type 0
+  Yields us xs = (front : List LineUnit) → map (viewed (text_of_units (front ++ us))) (tokens_from (length (text_of_units front)) us) ≡ xs
+
+  -- the tokens past some units
+  past : (front us vs : List LineUnit) (xs : List X) → Yields vs xs
+      → map (viewed (text_of_units (front ++ (us ++ vs)))) (tokens_from (length (text_of_units front) + length (text_of_units us)) vs) ≡ xs
+  past front us vs xs later =
+      ap (λ w. map (viewed (text_of_units w)) (tokens_from (length (text_of_units front) + length (text_of_units us)) vs)) (sym (append_assoc front us vs))
+      ∙ ap (λ n. map (viewed (text_of_units ((front ++ us) ++ vs))) (tokens_from n vs)) (sym (ap length (flat_map-append unit_text front us) ∙ length-append (text_of_units front) (text_of_units us)))
+      ∙ later (front ++ us)
+
+  -- each unit, in front of units whose tokens are known
+  pub no_units : Yields [] []
+  no_units front = refl
+
+  -- pieces are one word
+  pub word_yields : (u : LineUnit) (us vs : List LineUnit) (xs : List X) → list_all is_piece (u ∷ us) ≡ true → goes_on vs ≡ false → Yields vs xs
+      → Yields (u ∷ (us ++ vs)) (view Word (text_of_units (u ∷ us)) ∷ xs)
+  word_yields u us vs xs h g later front =
+      let n = length (text_of_units front) in
+      ap (map (viewed (text_of_units (front ++ (u ∷ (us ++ vs)))))) (word_token u us vs n h g)
+      ∙ same_cons (ap (view Word) (bytes_between front (u ∷ us) vs)) (past front (u ∷ us) vs xs later)
+
+  pub space_yields : (vs : List LineUnit) (xs : List X) → Yields vs xs → Yields (Byte 32 ∷ vs) xs
+  space_yields vs xs later front =
+      ap (map (viewed (text_of_units (front ++ (Byte 32 ∷ vs))))) (tokens_blank (length (text_of_units front)) (Byte 32) vs refl) ∙ past front (Byte 32 ∷ []) vs xs later
+
+  pub colon_yields : (vs : List LineUnit) (xs : List X) → Yields vs xs → Yields (Byte 58 ∷ vs) (view Colon (58 ∷ []) ∷ xs)
+  colon_yields vs xs later front =
+      ap (map (viewed (text_of_units (front ++ (Byte 58 ∷ vs))))) (tokens_with (length (text_of_units front)) (Byte 58) vs refl)
+      ∙ same_cons (ap (view Colon) (bytes_between front (Byte 58 ∷ []) vs)) (past front (Byte 58 ∷ []) vs xs later)
+
+  pub bar_yields : (vs : List LineUnit) (xs : List X) → Yields (Byte 32 ∷ vs) xs → Yields (Byte 124 ∷ Byte 32 ∷ vs) (view Bar (124 ∷ []) ∷ xs)
+  bar_yields vs xs later front =
+      same_cons (ap (view Bar) (bytes_between front (Byte 124 ∷ []) (Byte 32 ∷ vs))) (past front (Byte 124 ∷ []) (Byte 32 ∷ vs) xs later)
+
+  -- a path as it is spelled is one word
+  pub path_yields : (path : List ℕ) (vs : List LineUnit) (xs : List X) → IsWritable path → goes_on vs ≡ false → Yields vs xs
+      → Yields (path_units path ++ vs) (view Word (escaped path) ∷ xs)
+  path_yields [] vs xs writable g later = absurd (writable.some refl)
+  path_yields (b ∷ path) vs xs writable g later =
+      subst (λ word. Yields (path_units (b ∷ path) ++ vs) (view Word word ∷ xs)) (path_text (b ∷ path))
+      (word_yields (path_unit b) (path_units path) vs xs (path_pieces (b ∷ path) (has_spelling (b ∷ path) writable)) g later)

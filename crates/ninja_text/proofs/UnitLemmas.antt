@@ -1,0 +1,140 @@
+-- The first unit of a text, by its first bytes.
+use Rattle.std.proofs.Common.{take_all, take, length-drop, ◌-◌, get_or, ◌≤◌, inl, inr, suc, subst, ◌≡◌, ℕ, ◌+◌, List, [], ◌∷◌, length, drop, refl, sym, ap, ◌∙◌, false, ◌==◌, ◌&&◌, arith}
+use Rattle.std.proofs.lemmas.Bool.{cases_Bool, eqb-true}
+use Rattle.ninja_text.specs.Units.{units, with_continuation, spaces_at}
+use Rattle.ninja_text.specs.declared.unit.LineUnit.{LineUnit}
+use Rattle.ninja_text.specs.declared.unit.LineUnit.TheVariants.{Continuation, Escape, Byte}
+use Rattle.ninja_text.specs.Lines.{begins_with_line_feed, end_from}
+
+pub units_byte : (b : ℕ) (bytes : List ℕ) → (b == 36) ≡ false → units (b ∷ bytes) ≡ Byte b ∷ units bytes
+units_byte b [] h = refl
+units_byte b (c ∷ []) h = rw h refl
+units_byte b (c ∷ d ∷ bytes) h = rw h refl
+
+pub units_feed : (bytes : List ℕ) → units (36 ∷ 10 ∷ bytes) ≡ with_continuation 2 (units bytes)
+units_feed [] = refl
+units_feed (c ∷ bytes) = refl
+
+pub units_pair : (b : ℕ) (bytes : List ℕ) → (b == 10) ≡ false → (b == 13) ≡ false → units (36 ∷ b ∷ bytes) ≡ Escape b ∷ units bytes
+units_pair b [] feed return = rw feed refl
+units_pair b (c ∷ bytes) feed return = rw (feed, return) refl
+
+pub units_return : (b : ℕ) (bytes : List ℕ) → (b == 10) ≡ false → units (36 ∷ 13 ∷ b ∷ bytes) ≡ Escape 13 ∷ units (b ∷ bytes)
+units_return b bytes feed = rw feed refl
+
+-- a continuation comes first, however many spaces it takes
+continued_begins : (len : ℕ) (us : List LineUnit) → begins_with_line_feed (with_continuation len us) ≡ false
+continued_begins len [] = refl
+continued_begins len (Byte b ∷ us) = elim (cases_Bool (b == 32)) [
+  | inl h ↦ rw h (continued_begins (len + 1) us)
+  | inr h ↦ rw h refl
+]
+continued_begins len (Escape b ∷ us) = refl
+continued_begins len (Continuation more ∷ us) = refl
+
+escape_begins_at : (c : ℕ) (bytes : List ℕ) → (c == 10) ≡ false → begins_with_line_feed (units (36 ∷ c ∷ bytes)) ≡ false
+escape_begins_at c [] f = rw f refl
+escape_begins_at c (d ∷ bytes) f = elim (cases_Bool ((c == 13) && (d == 10))) [
+  | inl r ↦ rw (f, r) (continued_begins _ (units bytes))
+  | inr r ↦ rw (f, r) refl
+]
+
+escape_begins : (bytes : List ℕ) → begins_with_line_feed (units (36 ∷ bytes)) ≡ false
+escape_begins [] = refl
+escape_begins (c ∷ bytes) = elim (cases_Bool (c == 10)) [
+  | inl f ↦ subst (λ x. begins_with_line_feed (units (36 ∷ x ∷ bytes)) ≡ false) (sym (eqb-true c 10 f)) (rw (units_feed bytes) (continued_begins _ (units bytes)))
+  | inr f ↦ escape_begins_at c bytes f
+]
+
+-- only an LF is a unit that is an LF
+pub units_begin : (b : ℕ) (bytes : List ℕ) → (b == 10) ≡ false → begins_with_line_feed (units (b ∷ bytes)) ≡ false
+units_begin b bytes h = elim (cases_Bool (b == 36)) [
+  | inl d ↦ subst (λ x. begins_with_line_feed (units (x ∷ bytes)) ≡ false) (sym (eqb-true b 36 d)) (escape_begins bytes)
+  | inr d ↦ rw (units_byte b bytes d) h
+]
+
+-- the spaces of a continuation hide no end
+pub end_continued : (n len : ℕ) (us : List LineUnit) → end_from n (with_continuation len us) ≡ end_from (n + len) us
+end_continued n len [] = refl
+end_continued n len (Byte b ∷ us) = elim (cases_Bool (b == 32)) [
+  | inl h ↦ let e : b ≡ 32 = eqb-true b 32 h in
+      rw e (end_continued n (len + 1) us ∙ ap (λ k. end_from k us) {x = n + (len + 1)} {y = n + len + 1} (omega arith))
+  | inr h ↦ rw h refl
+]
+end_continued n len (Escape b ∷ us) = refl
+end_continued n len (Continuation more ∷ us) = refl
+
+-- two continuations are two units
+continued_twice : (len more : ℕ) (us : List LineUnit) → with_continuation len (with_continuation more us) ≡ Continuation len ∷ with_continuation more us
+continued_twice len more [] = refl
+continued_twice len more (Byte b ∷ us) = elim (cases_Bool (b == 32)) [
+  | inl h ↦ rw h (continued_twice len (more + 1) us)
+  | inr h ↦ rw h refl
+]
+continued_twice len more (Escape b ∷ us) = refl
+continued_twice len more (Continuation k ∷ us) = refl
+
+continued_at_pair : (len c : ℕ) (bytes : List ℕ) → (c == 10) ≡ false → with_continuation len (units (36 ∷ c ∷ bytes)) ≡ Continuation len ∷ units (36 ∷ c ∷ bytes)
+continued_at_pair len c [] f = rw f refl
+continued_at_pair len c (d ∷ bytes) f = elim (cases_Bool ((c == 13) && (d == 10))) [
+  | inl r ↦ rw (f, r) (continued_twice len 3 (units bytes))
+  | inr r ↦ rw (f, r) refl
+]
+
+continued_at_dollar : (len : ℕ) (bytes : List ℕ) → with_continuation len (units (36 ∷ bytes)) ≡ Continuation len ∷ units (36 ∷ bytes)
+continued_at_dollar len [] = refl
+continued_at_dollar len (c ∷ bytes) = elim (cases_Bool (c == 10)) [
+  | inl f ↦ subst (λ x. with_continuation len (units (36 ∷ x ∷ bytes)) ≡ Continuation len ∷ units (36 ∷ x ∷ bytes)) (sym (eqb-true c 10 f))
+      (rw (units_feed bytes) (continued_twice len 2 (units bytes)))
+  | inr f ↦ continued_at_pair len c bytes f
+]
+
+continued_stops : (len b : ℕ) (bytes : List ℕ) → (b == 32) ≡ false → with_continuation len (units (b ∷ bytes)) ≡ Continuation len ∷ units (b ∷ bytes)
+continued_stops len b bytes s = elim (cases_Bool (b == 36)) [
+  | inl d ↦ subst (λ x. with_continuation len (units (x ∷ bytes)) ≡ Continuation len ∷ units (x ∷ bytes)) (sym (eqb-true b 36 d)) (continued_at_dollar len bytes)
+  | inr d ↦ rw (units_byte b bytes d, s) refl
+]
+
+-- a continuation takes the spaces at the front of what follows
+pub continued_spaces : (len : ℕ) (bytes : List ℕ) → with_continuation len (units bytes) ≡ Continuation (len + spaces_at bytes) ∷ units (drop (spaces_at bytes) bytes)
+continued_spaces len [] = ap (λ k. Continuation k ∷ []) {x = len} {y = len + 0} (omega arith)
+continued_spaces len (b ∷ bytes) = elim (cases_Bool (b == 32)) [
+  | inl s ↦ rw s (subst (λ x. with_continuation len (units (x ∷ bytes)) ≡ Continuation (len + (1 + spaces_at bytes)) ∷ units (drop (1 + spaces_at bytes) (x ∷ bytes))) (sym (eqb-true b 32 s))
+      (rw (units_byte 32 bytes refl) (continued_spaces (len + 1) bytes ∙ pushed)))
+  | inr s ↦ rw s (continued_stops len b bytes s ∙ ap (λ k. Continuation k ∷ units (b ∷ bytes)) {x = len} {y = len + 0} (omega arith))
+] where
+  pushed : Continuation (len + 1 + spaces_at bytes) ∷ units (drop (spaces_at bytes) bytes) ≡ Continuation (len + (1 + spaces_at bytes)) ∷ units (drop (1 + spaces_at bytes) (32 ∷ bytes))
+  pushed = same (omega arith) (ap (λ k. units (drop k (32 ∷ bytes))) {x = suc (spaces_at bytes)} {y = 1 + spaces_at bytes} (omega arith)) where
+    same : {k j : ℕ} {us vs : List LineUnit} → k ≡ j → us ≡ vs → ◌≡◌ {A = List LineUnit} (Continuation k ∷ us) (Continuation j ∷ vs)
+    same p q = rw (p, q) refl
+
+same_continuation : {k j : ℕ} {us vs : List LineUnit} → k ≡ j → us ≡ vs → ◌≡◌ {A = List LineUnit} (Continuation k ∷ us) (Continuation j ∷ vs)
+same_continuation p q = rw (p, q) refl
+
+-- `$` LF at the front
+pub continuation_at : (bytes : List ℕ) (n : ℕ) → 2 ≤ length bytes → get_or bytes 0 0 ≡ 36 → get_or bytes 1 0 ≡ 10 → n ≡ spaces_at (drop 2 bytes)
+    → units bytes ≡ Continuation (2 + n) ∷ units (drop (2 + n) bytes)
+continuation_at [] n long first second is = absurd (omega arith)
+continuation_at (a ∷ []) n long first second is = absurd (omega arith)
+continuation_at (a ∷ b ∷ rest) n long first second is =
+    subst (λ x. units (x ∷ b ∷ rest) ≡ Continuation (2 + n) ∷ units (drop (2 + n) (x ∷ b ∷ rest))) (sym first)
+    (subst (λ x. units (36 ∷ x ∷ rest) ≡ Continuation (2 + n) ∷ units (drop (2 + n) (36 ∷ x ∷ rest))) (sym second)
+    (units_feed rest ∙ continued_spaces 2 rest
+    ∙ same_continuation (omega (arith, is)) (ap (λ k. units (drop k rest)) (sym is) ∙ ap (λ k. units (drop k (36 ∷ 10 ∷ rest))) {x = suc (suc n)} {y = 2 + n} (omega arith))))
+
+-- `$` CR LF at the front
+pub return_continuation_at : (bytes : List ℕ) (n : ℕ) → 3 ≤ length bytes → get_or bytes 0 0 ≡ 36 → get_or bytes 1 0 ≡ 13 → get_or bytes 2 0 ≡ 10 → n ≡ spaces_at (drop 3 bytes)
+    → units bytes ≡ Continuation (3 + n) ∷ units (drop (3 + n) bytes)
+return_continuation_at [] n long first second third is = absurd (omega arith)
+return_continuation_at (a ∷ []) n long first second third is = absurd (omega arith)
+return_continuation_at (a ∷ b ∷ []) n long first second third is = absurd (omega arith)
+return_continuation_at (a ∷ b ∷ c ∷ rest) n long first second third is =
+    subst (λ x. units (x ∷ b ∷ c ∷ rest) ≡ Continuation (3 + n) ∷ units (drop (3 + n) (x ∷ b ∷ c ∷ rest))) (sym first)
+    (subst (λ x. units (36 ∷ x ∷ c ∷ rest) ≡ Continuation (3 + n) ∷ units (drop (3 + n) (36 ∷ x ∷ c ∷ rest))) (sym second)
+    (subst (λ x. units (36 ∷ 13 ∷ x ∷ rest) ≡ Continuation (3 + n) ∷ units (drop (3 + n) (36 ∷ 13 ∷ x ∷ rest))) (sym third)
+    (continued_spaces 3 rest
+    ∙ same_continuation (omega (arith, is)) (ap (λ k. units (drop k rest)) (sym is) ∙ ap (λ k. units (drop k (36 ∷ 13 ∷ 10 ∷ rest))) {x = suc (suc (suc n))} {y = 3 + n} (omega arith)))))
+
+-- what a slice up to the end has
+pub to_the_end : (i : ℕ) (bytes : List ℕ) → take (length bytes - i) (drop i bytes) ≡ drop i bytes
+to_the_end i bytes = take_all (length bytes - i) (drop i bytes) (omega (arith, length-drop i bytes))

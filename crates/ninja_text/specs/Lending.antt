@@ -1,0 +1,17 @@
+-- What a cutter is once its line is no longer borrowed.
+use Rattle.std.specs.Prelude.{◌≡◌, ℕ, false, List, ◌++◌}
+use Rattle.std.specs.Borrow.{Fml, MutBor}
+use Rattle.std.specs.Io.BufRead.{Rests}
+use Rattle.ninja_text.specs.Lines.{LogicalLine}
+use Rattle.ninja_text.specs.Cutting.{CutterState, after_lending, lent_next, Cuts}
+use Rattle.ninja_text.specs.contracts.cutter.LineCutter.{the_row}
+
+-- The line that waited, if any, was lent: it comes after all lines lent before, and none waits now.
+pub record AfterLending (old new : CutterState) : Type 0 where
+  pub value : new ≡ after_lending old
+  pub none_waits : new.waits ≡ false
+  pub all : (taken : List ℕ) (lent : List LogicalLine) → Cuts taken lent old → Cuts taken (lent ++ lent_next old) new
+
+-- Where the loan ends, the cutter is as after lending.
+abbrev pub EndsLent : MutBor CutterState → Fml
+EndsLent c = Rests the_row c (λ new. AfterLending c.now new)

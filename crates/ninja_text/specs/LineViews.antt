@@ -1,0 +1,17 @@
+-- A line as contracts see it, and what a cutter lends.
+use Rattle.std.specs.Prelude.{◌≡◌, true, false, Option, Some, None, Result, Ok, Err}
+use Rattle.ninja_text.specs.Lines.{LogicalLine}
+use Rattle.ninja_text.specs.Cutting.{CutterState, waiting_line}
+use Rattle.ninja_text.specs.declared.line.Line.{Line}
+use Rattle.ninja_text.specs.declared.faults.CutFault.{CutFault}
+use Rattle.ninja_text.specs.declared.faults.CutFault.TheVariants.{LineTooLong}
+
+-- what a `Line` shows
+abbrev pub seen_line : Line → LogicalLine
+seen_line line = record { text = line.text.now; number = line.number; comment = line.is_comment }
+
+-- `next_line` lends the line that waits, answers None only where none waits, and the fault of a cutter that has failed.
+abbrev pub Lends : CutterState → Result (Option Line) CutFault → Type 0
+Lends h (Ok (Some line)) = (h.failed ≡ false) × (h.waits ≡ true) × (seen_line line ≡ waiting_line h)
+Lends h (Ok None) = (h.failed ≡ false) × (h.waits ≡ false)
+Lends h (Err fault) = (h.failed ≡ true) × (fault ≡ LineTooLong h.number)

@@ -1,0 +1,120 @@
+-- The tokens of a text that has no lexical fault: words, `|`, `||`, `|@` and `:`.
+use Rattle.std.specs.Prelude.{◌≡◌, ℕ, ◌+◌, ◌<◌, ◌≤◌, Bool, true, false, ◌==◌, ◌||◌, not, if◌then◌else◌, List, [], ◌∷◌, length, map, drop, slice_range}
+use Rattle.std.specs.List.{flat_map}
+use Rattle.ninja_text.specs.Bytes.{space, colon, vertical_bar}
+use Rattle.ninja_text.specs.Units.{unit_len, is_byte, units, at_sign}
+use Rattle.ninja_text.specs.declared.unit.LineUnit.{LineUnit}
+use Rattle.ninja_text.specs.declared.unit.LineUnit.TheVariants.{Continuation, Escape, Byte}
+use Rattle.ninja_text.specs.declared.token.TokenKind.{TokenKind}
+use Rattle.ninja_text.specs.declared.token.TokenKind.TheVariants.{Word, Bar, DoubleBar, BarAt, Colon}
+
+-- a token's kind, and its span in the text
+pub record TokenAt : Type 0 where
+  pub kind : TokenKind
+  pub start : ℕ
+  pub end : ℕ
+
+-- what may stand between two tokens: a space or a continuation
+abbrev pub is_blank : LineUnit → Bool
+is_blank (Continuation len) = true
+is_blank (Escape b) = false
+is_blank (Byte b) = b == space
+
+-- a piece of a word: an escape, or a byte other than space, `:` and `|`
+abbrev pub is_piece : LineUnit → Bool
+is_piece (Continuation len) = false
+is_piece (Escape b) = true
+is_piece (Byte b) = not ((b == space) || (b == colon) || (b == vertical_bar))
+
+-- whether, past continuations, a piece follows: a word before them goes on
+abbrev pub goes_on : List LineUnit → Bool
+goes_on [] = false
+goes_on (Continuation len ∷ us) = goes_on us
+goes_on (Escape b ∷ us) = true
+goes_on (Byte b ∷ us) = is_piece (Byte b)
+
+-- these tokens, the first of which begins at this place instead
+abbrev pub with_first_start : ℕ → List TokenAt → List TokenAt
+with_first_start place [] = []
+with_first_start place (t ∷ ts) = record t { start = place } ∷ ts
+
+-- What a unit at a place adds in front of the tokens of the units after it. A piece belongs to the word that goes on after it,
+-- or else it is the end of a word, here the whole of it; a blank unit adds none.
+abbrev pub with_unit : ℕ → LineUnit → List LineUnit → List TokenAt → List TokenAt
+with_unit place u us ts =
+    if is_piece u then
+    (if goes_on us then with_first_start place ts
+    else record { kind = Word; start = place; end = place + unit_len u } ∷ ts)
+    else if is_byte colon u then record { kind = Colon; start = place; end = place + 1 } ∷ ts
+    else if is_byte vertical_bar u then record { kind = Bar; start = place; end = place + 1 } ∷ ts
+    else ts
+
+-- the tokens of units that begin at a place: of `||`, `|@` and `|` the longest that fits
+abbrev pub tokens_from : ℕ → List LineUnit → List TokenAt
+tokens_from place [] = []
+tokens_from place (u ∷ []) = with_unit place u [] []
+tokens_from place (u ∷ v ∷ us) =
+    if is_byte vertical_bar u then
+    (if is_byte vertical_bar v then record { kind = DoubleBar; start = place; end = place + 2 } ∷ tokens_from (place + 2) us
+    else if is_byte at_sign v then record { kind = BarAt; start = place; end = place + 2 } ∷ tokens_from (place + 2) us
+    else with_unit place u (v ∷ us) (tokens_from (place + 1) (v ∷ us)))
+    else with_unit place u (v ∷ us) (tokens_from (place + unit_len u) (v ∷ us))
+
+-- all tokens of a text
+abbrev pub tokens : List ℕ → List TokenAt
+tokens text = tokens_from 0 (units text)
+
+-- the bytes of a token
+abbrev pub raw : List ℕ → TokenAt → List ℕ
+raw text t = slice_range text t.start t.end
+
+-- what a unit stands for: an escape for its second byte, a continuation for nothing
+abbrev pub unit_value : LineUnit → List ℕ
+unit_value (Continuation len) = []
+unit_value (Escape b) = b ∷ []
+unit_value (Byte b) = b ∷ []
+
+-- what the bytes of a word or a value stand for
+abbrev pub value_of : List ℕ → List ℕ
+value_of bytes = flat_map unit_value (units bytes)
+
+-- the tokens that begin at a place of the text or after it, where a unit begins at that place
+abbrev pub tokens_at : List ℕ → ℕ → List TokenAt
+tokens_at text place = tokens_from place (units (drop place text))
+
+-- a token as its readers see it, with its bytes
+pub record SeenToken : Type 0 where
+  pub kind : TokenKind
+  pub start : ℕ
+  pub end : ℕ
+  pub raw : List ℕ
+
+abbrev pub with_raw : List ℕ → TokenAt → SeenToken
+with_raw text t = record { kind = t.kind; start = t.start; end = t.end; raw = raw text t }
+
+-- all tokens of a text, with their bytes
+abbrev pub seen_tokens : List ℕ → List SeenToken
+seen_tokens text = map (with_raw text) (tokens text)
+
+-- The token has at least one byte, it ends within the text, and its raw bytes are those of the text from its start to its end.
+pub record IsSlice (text : List ℕ) (t : SeenToken) : Type 0 where
+  pub some : t.start < t.end
+  pub within : t.end ≤ length text
+  pub raw : t.raw ≡ slice_range text t.start t.end
+
+-- Each token begins where the one before it ends, or after that; the first one, at this place or after it.
+abbrev pub RiseFrom : ℕ → List SeenToken → Type 0
+RiseFrom place [] = Unit {0}
+RiseFrom place (t ∷ ts) = (place ≤ t.start) × RiseFrom t.end ts
+
+-- At this place a token begins, or the text ends.
+abbrev pub BeginsToken : List ℕ → ℕ → Type 0
+BeginsToken text place = place < length text → (u : LineUnit) × (us : List LineUnit) × (units (drop place text) ≡ u ∷ us) × (is_blank u ≡ false)
+
+-- At this place a word's first piece stands.
+abbrev pub BeginsPiece : List ℕ → ℕ → Type 0
+BeginsPiece text place = (u : LineUnit) × (us : List LineUnit) × (units (drop place text) ≡ u ∷ us) × (is_piece u ≡ true)
+
+-- At this place a `|` stands.
+abbrev pub BeginsBar : List ℕ → ℕ → Type 0
+BeginsBar text place = units (drop place text) ≡ Byte vertical_bar ∷ units (drop (place + 1) text)

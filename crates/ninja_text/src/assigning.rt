@@ -1,0 +1,103 @@
+//! The assignment that a line is: a name, `=` and a value.
+ghost use Rattle.std.specs.Prelude.{◌≡◌, ◌<◌, ◌≤◌, length, drop, false, IfOk, IfSome};
+ghost use Rattle.ninja_text.specs.LineViews.{seen_line};
+ghost use Rattle.ninja_text.specs.AssignmentViews.{IsAssignment, seen_assignment};
+ghost use Rattle.ninja_text.specs.Tokens.{is_blank};
+ghost use Rattle.ninja_text.specs.Assignments.{LiesIn, assignment_places, is_name_unit, Run};
+
+use crate::assignments::Assignment;
+use crate::checking::fault_in;
+use crate::faults::LexFault;
+use crate::line::Line;
+use crate::unit::unit_at;
+
+/// Where the parts of an assignment stand: the name, and the value, which goes to the end.
+#[derive(Clone, Copy, Debug)]
+pub(crate) struct AssignmentPlaces {
+    pub(crate) name_start: usize,
+    pub(crate) name_end: usize,
+    pub(crate) value_start: usize,
+}
+
+/// The assignment that a line is that is no comment, `None` where it is none, or the line's first lexical fault.
+///
+/// The name begins at the line's first byte that is not blank, `=` follows it, and the value goes to the line's end; spaces
+/// and continuations may stand between them.
+pub fn assignment(line: Line<'_>) -> Result<Option<Assignment<'_>>, LexFault>
+    requires { (seen_line line).comment ≡ false }
+    ensures found { IsAssignment (seen_line line.entry) result }
+    // The name and the value are slices of the text, the name before the value.
+    ensures slices { IfOk result (λ a. IfSome a (λ b. LiesIn (seen_line line.entry).text (seen_assignment b))) }
+{
+    let text = line.text();
+    if let Some(fault) = fault_in(text) {
+        return Err(fault);
+    }
+    match places_in(text) {
+        None => Ok(None),
+        Some(places) => Ok(Some(Assignment {
+            name_start: places.name_start,
+            name: &text[places.name_start..places.name_end],
+            raw_value: &text[places.value_start..],
+        })),
+    }
+}
+
+/// Where the parts of the assignment stand that a text is.
+fn places_in(text: &[u8]) -> Option<AssignmentPlaces>
+    ensures value { result ≡ assignment_places text.now }
+    ensures within { IfSome result (λ a. (a.name_start < a.name_end) × (a.name_end < a.value_start) × (a.value_start ≤ length text.now)) }
+{
+    let name_start = blank_end(text, 0);
+    let name_end = name_end(text, name_start);
+    let sign = blank_end(text, name_end);
+    if name_start == name_end {
+        return None;
+    }
+    if sign == text.len() {
+        return None;
+    }
+    if !unit_at(text, sign).is_byte(b'=') {
+        return None;
+    }
+    let value_start = blank_end(text, sign + 1);
+    Some(AssignmentPlaces {
+        name_start,
+        name_end,
+        value_start,
+    })
+}
+
+/// Where the blank run ends that begins at a place.
+fn blank_end(text: &[u8], from: usize) -> usize
+    requires { from ≤ length text.now }
+    ensures within { (from ≤ result) × (result ≤ length text.now) }
+    ensures run { Run is_blank text.now from result }
+{
+    let mut place = from;
+    while place < text.len() {
+        let unit = unit_at(text, place);
+        if !unit.is_blank() {
+            return place;
+        }
+        place += unit.len();
+    }
+    place
+}
+
+/// Where the name ends that begins at a place.
+fn name_end(text: &[u8], from: usize) -> usize
+    requires { from ≤ length text.now }
+    ensures within { (from ≤ result) × (result ≤ length text.now) }
+    ensures run { Run is_name_unit text.now from result }
+{
+    let mut place = from;
+    while place < text.len() {
+        let unit = unit_at(text, place);
+        if !unit.is_name_part() {
+            return place;
+        }
+        place += unit.len();
+    }
+    place
+}

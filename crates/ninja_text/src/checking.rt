@@ -1,0 +1,39 @@
+//! The lexical faults of a line's text.
+ghost use Rattle.std.specs.Prelude.{◌≡◌};
+ghost use Rattle.ninja_text.specs.Lexical.{unit_fault, lexical_fault};
+
+use crate::faults::LexFault;
+use crate::unit::{LineUnit, unit_at};
+
+/// The first lexical fault, in the order of the bytes.
+pub(crate) fn fault_in(text: &[u8]) -> Option<LexFault>
+    ensures { result ≡ lexical_fault text.now }
+{
+    let mut place = 0;
+    while place < text.len() {
+        let unit = unit_at(text, place);
+        let fault = fault_at(place, unit);
+        if fault.is_some() {
+            return fault;
+        }
+        place += unit.len();
+    }
+    None
+}
+
+/// The fault of a unit that stands at a place.
+fn fault_at(place: usize, unit: LineUnit) -> Option<LexFault>
+    ensures { result ≡ unit_fault place unit }
+{
+    match unit {
+        LineUnit::Continuation(_) => None,
+        LineUnit::Escape(b'{' | b'_' | b'-' | b'a'..=b'z' | b'A'..=b'Z' | b'0'..=b'9') => Some(
+            LexFault::Variable { place },
+        ),
+        LineUnit::Escape(b'$' | b' ' | b':') => None,
+        LineUnit::Escape(_) => Some(LexFault::BadEscape { place }),
+        LineUnit::Byte(0) => Some(LexFault::Nul { place }),
+        LineUnit::Byte(b'\r') => Some(LexFault::LoneCr { place }),
+        LineUnit::Byte(_) => None,
+    }
+}

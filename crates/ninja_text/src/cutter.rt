@@ -1,0 +1,232 @@
+//! Bytes that come in pieces, cut into logical lines.
+ghost use Rattle.std.specs.Prelude.{◌≡◌, ℕ, ◌+◌, ◌^◌, ◌<◌, ◌≤◌, List, [], ◌++◌, length, take, false, IfOk};
+ghost use Rattle.ninja_text.specs.Lines.{is_comment, line_feeds_in};
+ghost use Rattle.ninja_text.specs.Reaching.{IsGoing, PhaseFits, bytes_in, Reaches};
+
+use crate::failure::Failure;
+use crate::faults::CutFault;
+use crate::line::{LINE_LIMIT, Line};
+use crate::scan::{ScanState, Scanned, scan_bytes};
+use std::alloc::Global;
+use std::marker::Model;
+
+/// Cuts bytes that come in pieces of any size into logical lines (Ninja 1.11 manual, "Lexical syntax").
+///
+/// Feed it a piece; while a line waits, take it by `next_line` and feed the rest of the piece. A line ends at its first LF
+/// that no `$` before it escapes; in a comment, at its first LF. Of an unfinished line the cutter holds the bytes, at most
+/// [`LINE_LIMIT`] of them, and one small state, so that the search for its end goes on where it stopped.
+#[derive(Drop)]
+pub struct LineCutter {
+    buffer: Vec<u8>,
+    phase: Phase,
+    number: u64,
+}
+
+#[derive(Clone, Copy, Debug)]
+enum Phase {
+    /// The buffer holds the beginning of a line.
+    Gathering(ScanState),
+    /// The buffer holds a whole line, whose text has this length.
+    Waiting { text_len: usize },
+    /// The buffer holds a line that was lent, and whose bytes count no more.
+    Lent,
+    /// The line at hand is too long.
+    Failed,
+}
+
+impl Model for LineCutter {
+    ghost use Rattle.ninja_text.specs.Cutting.{CutterState};
+    ghost use Rattle.ninja_text.specs.CutterViews.{state_of, IsKept};
+
+    ghost Value = { CutterState };
+
+    ghost view = { state_of };
+
+    ghost invariant = { IsKept };
+}
+
+impl LineCutter {
+    ghost use Rattle.std.specs.Borrow.{sem};
+    ghost use Rattle.ninja_text.specs.Lines.{LogicalLine};
+    ghost use Rattle.ninja_text.specs.Cutting.{new_cutter, Feeds, Cuts, FeedsAll, Finishes};
+    ghost use Rattle.ninja_text.specs.LineViews.{Lends};
+    ghost use Rattle.ninja_text.specs.Lending.{EndsLent};
+
+    /// A cutter that has taken nothing. It takes no memory yet.
+    pub fn new(alloc: Global) -> LineCutter
+        ensures value { result ≡ new_cutter }
+        ensures nothing { Cuts [] [] result }
+    {
+        LineCutter {
+            buffer: Vec::new(alloc),
+            phase: Phase::Gathering(ScanState::Start),
+            number: 1,
+        }
+    }
+
+    /// Takes a beginning of the piece, up to and with the end of the next line, else the whole piece, and answers how many
+    /// bytes it took. While a line waits it takes none.
+    ///
+    /// `LineTooLong` as soon as the line's first [`LINE_LIMIT`] bytes are there and hold no end; every later call answers
+    /// the same. `Memory` where the line's bytes found no room: then nothing was taken, and the same piece can be fed again.
+    pub fn feed(&mut self, piece: &[u8]) -> Result<usize, Failure<CutFault>>
+        ensures exact { Feeds self.old piece.now result self.new }
+        ensures within { IfOk result (λ n. n ≤ length piece.now) }
+        ensures some { self.old.waits ≡ false → 0 < length piece.now → IfOk result (λ n. 0 < n) }
+        // Whatever was taken and lent before, this call takes what it answers.
+        ensures all { (taken : List ℕ) (lent : List LogicalLine) → Cuts taken lent self.old → FeedsAll taken lent piece.now result self.new }
+    {
+        self.take_from(piece)
+    }
+
+    /// Lends the line that waits, once; `None` only where none waits. After a line that is too long: that fault again.
+    pub fn next_line(&mut self) -> Result<Option<Line<'_>>, CutFault>
+        ensures line { Lends self.old result }
+        // Once the line is no longer borrowed, it has been lent.
+        ensures* after { sem 𝓛 (EndsLent self.entry) }
+    {
+        match self.phase {
+            Phase::Failed => Err(CutFault::LineTooLong { line: self.number }),
+            Phase::Waiting { text_len } => {
+                let number = self.number;
+                let is_comment = begins_comment(self.buffer.as_slice());
+                self.number = number.saturating_add(line_feeds(self.buffer.as_slice()));
+                self.phase = Phase::Lent;
+                let text = &self.buffer.as_slice()[..text_len];
+                Ok(Some(Line {
+                    text,
+                    number,
+                    is_comment,
+                }))
+            }
+            Phase::Lent | Phase::Gathering(_) => Ok(None),
+        }
+    }
+
+    /// The number of the line at hand, or of the one that comes next.
+    pub fn number(&self) -> u64
+        ensures { result ≡ self.now.number }
+    {
+        self.number
+    }
+
+    /// Whether the bytes end with a line's end: `Truncated` where bytes are left without one.
+    pub fn finish(&self) -> Result<(), CutFault>
+        requires { self.now.waits ≡ false }
+        ensures { Finishes self.now result }
+    {
+        match self.phase {
+            Phase::Failed => Err(CutFault::LineTooLong { line: self.number }),
+            Phase::Gathering(_) if !self.buffer.is_empty() => Err(CutFault::Truncated {
+                line: self.number,
+            }),
+            _ => Ok(()),
+        }
+    }
+
+    fn take_from(&mut self, piece: &[u8]) -> Result<usize, Failure<CutFault>>
+        ensures exact { Feeds self.old piece.now result self.new }
+        ensures within { IfOk result (λ n. n ≤ length piece.now) }
+        ensures some { self.old.waits ≡ false → 0 < length piece.now → IfOk result (λ n. 0 < n) }
+    {
+        match self.phase {
+            Phase::Failed => Err(Failure::Fault(CutFault::LineTooLong { line: self.number })),
+            Phase::Waiting { .. } => Ok(0),
+            Phase::Lent | Phase::Gathering(_) => self.gather(piece),
+        }
+    }
+
+    /// Takes from the piece where no line waits. The bytes are looked at before room is asked for them.
+    fn gather(&mut self, piece: &[u8]) -> Result<usize, Failure<CutFault>>
+        requires { (self.old.waits ≡ false) × (self.old.failed ≡ false) }
+        ensures exact { Feeds self.old piece.now result self.new }
+        ensures within { IfOk result (λ n. n ≤ length piece.now) }
+        ensures some { 0 < length piece.now → IfOk result (λ n. 0 < n) }
+    {
+        let state = go_on(&mut self.buffer, self.phase);
+        self.phase = Phase::Gathering(state);
+        match reach_of(self.buffer.as_slice(), state, piece) {
+            Reach::Whole { taken, text_len } => {
+                self.buffer.extend_from_slice(&piece[..taken])?;
+                self.phase = Phase::Waiting { text_len };
+                Ok(taken)
+            }
+            Reach::Part(next) => {
+                self.buffer.extend_from_slice(piece)?;
+                self.phase = Phase::Gathering(next);
+                Ok(piece.len())
+            }
+            Reach::TooLong => {
+                self.phase = Phase::Failed;
+                Err(Failure::Fault(CutFault::LineTooLong { line: self.number }))
+            }
+        }
+    }
+}
+
+/// How far the line at hand goes into a piece.
+#[derive(Clone, Copy, Debug)]
+enum Reach {
+    /// To its end, after so many bytes of the piece; its text has this length.
+    Whole { taken: usize, text_len: usize },
+    /// To the piece's end, and on.
+    Part(ScanState),
+    /// Past the limit.
+    TooLong,
+}
+
+/// The state of the line at hand. A line that was lent is given up.
+fn go_on(buffer: &mut Vec<u8>, phase: Phase) -> ScanState
+    requires { IsGoing phase × PhaseFits phase buffer.old.items }
+    ensures fits { PhaseFits (Phase.Gathering result) buffer.new.items }
+    ensures same { bytes_in phase buffer.old.items ≡ buffer.new.items }
+{
+    match phase {
+        Phase::Gathering(state) => state,
+        Phase::Lent | Phase::Waiting { .. } | Phase::Failed => {
+            buffer.clear();
+            ScanState::Start
+        }
+    }
+}
+
+/// How far the line goes whose beginning is in the buffer.
+fn reach_of(buffer: &[u8], state: ScanState, piece: &[u8]) -> Reach
+    requires { PhaseFits (Phase.Gathering state) buffer.now }
+    ensures { Reaches buffer.now piece.now result }
+{
+    let held = buffer.len();
+    let reach = piece.len().min(LINE_LIMIT - held);
+    match scan_bytes(held, state, &piece[..reach]) {
+        Scanned::End { text_len, line_len } => Reach::Whole {
+            taken: line_len - held,
+            text_len,
+        },
+        Scanned::Open(next) => {
+            if held + reach == LINE_LIMIT {
+                Reach::TooLong
+            } else {
+                Reach::Part(next)
+            }
+        }
+    }
+}
+
+/// How many LF bytes there are.
+fn line_feeds(bytes: &[u8]) -> u64
+    ensures { result ≡ line_feeds_in bytes.now }
+{
+    bytes.iter().filter(|b| **b == b'\n').count() as u64
+}
+
+/// Whether the first byte other than space is `#`.
+fn begins_comment(bytes: &[u8]) -> bool
+    ensures { result ≡ is_comment bytes.now }
+{
+    for byte in bytes {
+        if *byte != b' ' {
+            return *byte == b'#';
+        }
+    }
+    false
+}

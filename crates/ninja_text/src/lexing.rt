@@ -1,0 +1,109 @@
+//! The tokens of a line: where each begins, what it is, and where it ends.
+ghost use Rattle.std.specs.Prelude.{◌≡◌, ◌≢◌, ℕ, ◌+◌, ◌<◌, ◌≤◌, ◌∷◌, length, false, IfOk};
+ghost use Rattle.ninja_text.specs.LineViews.{seen_line};
+ghost use Rattle.ninja_text.specs.TokenViews.{IsWords, tokens_left};
+ghost use Rattle.std.specs.List.{AllByRecursion};
+ghost use Rattle.ninja_text.specs.Tokens.{IsSlice, RiseFrom, tokens_at, BeginsToken, BeginsPiece, BeginsBar};
+
+use crate::checking::fault_in;
+use crate::faults::LexFault;
+use crate::line::Line;
+use crate::token::{TokenKind, Words};
+use crate::unit::unit_at;
+
+/// The tokens of a line that is no comment, in order, or the line's first lexical fault (Ninja 1.11 manual, "Lexical
+/// syntax").
+pub fn words(line: Line<'_>) -> Result<Words<'_>, LexFault>
+    requires { (seen_line line).comment ≡ false }
+    ensures tokens { IsWords (seen_line line.entry) result }
+    // The tokens' bytes are slices of the text, and their spans rise.
+    ensures slices { IfOk result (λ words. AllByRecursion (IsSlice (seen_line line.entry).text) (tokens_left words)) }
+    ensures rise { IfOk result (λ words. RiseFrom 0 (tokens_left words)) }
+{
+    match fault_in(line.text()) {
+        Some(fault) => Err(fault),
+        None => Ok(Words {
+            text: line.text(),
+            place: 0,
+        }),
+    }
+}
+
+/// Where the next token begins, or the end.
+pub(crate) fn token_start(text: &[u8], from: usize) -> usize
+    requires { from ≤ length text.now }
+    ensures within { result ≤ length text.now }
+    ensures same { tokens_at text.now result ≡ tokens_at text.now from }
+    ensures begins { BeginsToken text.now result }
+{
+    let mut place = from;
+    while place < text.len() {
+        let unit = unit_at(text, place);
+        if !unit.is_blank() {
+            return place;
+        }
+        place += unit.len();
+    }
+    place
+}
+
+/// The kind of the token that begins at a place, and its end.
+pub(crate) fn token_at(text: &[u8], start: usize) -> (TokenKind, usize)
+    requires in_text { start < length text.now }
+    requires begins { BeginsToken text.now start }
+    ensures within { (start < result.1) × (result.1 ≤ length text.now) }
+    ensures first { tokens_at text.now start ≡ record { kind = result.0; start = start; end = result.1 } ∷ tokens_at text.now result.1 }
+{
+    let unit = unit_at(text, start);
+    if unit.is_byte(b':') {
+        return (TokenKind::Colon, start + 1);
+    }
+    if unit.is_byte(b'|') {
+        return bar_at(text, start);
+    }
+    (TokenKind::Word, word_end(text, start))
+}
+
+/// The token that a `|` begins: the longest of `||`, `|@` and `|`.
+fn bar_at(text: &[u8], start: usize) -> (TokenKind, usize)
+    requires in_text { start < length text.now }
+    requires is_bar { BeginsBar text.now start }
+    ensures within { (start < result.1) × (result.1 ≤ length text.now) }
+    ensures first { tokens_at text.now start ≡ record { kind = result.0; start = start; end = result.1 } ∷ tokens_at text.now result.1 }
+{
+    if start + 1 == text.len() {
+        return (TokenKind::Bar, start + 1);
+    }
+    let next = unit_at(text, start + 1);
+    if next.is_byte(b'|') {
+        return (TokenKind::DoubleBar, start + 2);
+    }
+    if next.is_byte(b'@') {
+        return (TokenKind::BarAt, start + 2);
+    }
+    (TokenKind::Bar, start + 1)
+}
+
+/// Where the word ends whose first piece stands at a place: after its last piece, and before the continuations behind it.
+fn word_end(text: &[u8], start: usize) -> usize
+    requires in_text { start < length text.now }
+    requires begins { BeginsPiece text.now start }
+    ensures within { (start < result) × (result ≤ length text.now) }
+    ensures first { tokens_at text.now start ≡ record { kind = TokenKind.Word; start = start; end = result } ∷ tokens_at text.now result }
+{
+    let first = unit_at(text, start);
+    let mut place = start + first.len();
+    let mut end = place;
+    while place < text.len() {
+        let unit = unit_at(text, place);
+        if unit.is_piece() {
+            place += unit.len();
+            end = place;
+        } else if unit.is_continuation() {
+            place += unit.len();
+        } else {
+            break;
+        }
+    }
+    end
+}

@@ -1,0 +1,38 @@
+//! What the bytes of a word or a value stand for.
+ghost use Rattle.std.specs.Prelude.{◌≡◌, ◌++◌, OnOk, OnErr};
+ghost use Rattle.ninja_text.specs.Tokens.{unit_value, value_of};
+
+use crate::unit::{LineUnit, unit_at};
+use std::alloc::AllocError;
+
+/// Appends what the bytes of a word or a value stand for. Where the vector cannot grow, it is left as it was.
+pub(crate) fn append_meaning(raw: &[u8], out: &mut Vec<u8>) -> Result<(), AllocError>
+    ensures ok { OnOk result (out.new.items ≡ out.old.items ++ value_of raw.now) }
+    ensures err { OnErr result (out.new.items ≡ out.old.items) }
+{
+    let before = out.len();
+    let mut place = 0;
+    while place < raw.len() {
+        let unit = unit_at(raw, place);
+        if append_unit(unit, out).is_err() {
+            out.truncate(before);
+            return Err(AllocError);
+        }
+        place += unit.len();
+    }
+    Ok(())
+}
+
+/// Appends what a unit stands for.
+fn append_unit(unit: LineUnit, out: &mut Vec<u8>) -> Result<(), AllocError>
+    ensures ok { OnOk result (out.new.items ≡ out.old.items ++ unit_value unit) }
+    ensures err { OnErr result (out.new.items ≡ out.old.items) }
+{
+    match unit {
+        LineUnit::Continuation(_) => Ok(()),
+        LineUnit::Escape(byte) | LineUnit::Byte(byte) => {
+            out.push(byte)?;
+            Ok(())
+        }
+    }
+}

@@ -1,0 +1,99 @@
+//! The scan for a line's end, byte by byte: what is remembered between two pieces is one small state.
+ghost use Rattle.std.specs.Prelude.{◌≡◌, ℕ, ◌+◌, ◌^◌, ◌<◌, length};
+ghost use Rattle.ninja_text.specs.Scanning.{step_of, scan_from, scan_end};
+
+/// What is known of an unfinished line at its last byte.
+#[derive(Clone, Copy, Debug, PartialEq, Eq)]
+pub(crate) enum ScanState {
+    /// Only spaces so far.
+    Start,
+    Comment,
+    /// A comment whose last byte is CR.
+    CommentReturn,
+    Plain,
+    /// The last unit is a CR.
+    Return,
+    /// A `$` whose unit is not finished.
+    Dollar,
+    /// `$` and CR: an escape, or the beginning of a continuation.
+    DollarReturn,
+}
+
+/// Where a scan came to.
+#[derive(Clone, Copy, Debug, PartialEq, Eq)]
+pub(crate) enum Scanned {
+    /// The line ends: its text's length, and its own.
+    End { text_len: usize, line_len: usize },
+    /// The bytes end before the line does.
+    Open(ScanState),
+}
+
+/// Scans bytes that stand at a place of the line, up to its end.
+pub(crate) fn scan_bytes(place: usize, from: ScanState, bytes: &[u8]) -> Scanned
+    requires { place + length bytes.now < 2 ^ 64 }
+    ensures { result ≡ scan_from place from bytes.now }
+{
+    let mut state = from;
+    for (i, byte) in bytes.iter().enumerate() {
+        let at = place + i;
+        match next_state(state, *byte) {
+            Some(next) => state = next,
+            None => return line_ended(at, state),
+        }
+    }
+    Scanned::Open(state)
+}
+
+/// The next state, or `None` where the byte ends the line.
+fn next_state(state: ScanState, byte: u8) -> Option<ScanState>
+    ensures { result ≡ step_of state byte }
+{
+    match state {
+        ScanState::Comment | ScanState::CommentReturn => match byte {
+            b'\n' => None,
+            b'\r' => Some(ScanState::CommentReturn),
+            _ => Some(ScanState::Comment),
+        },
+        ScanState::Dollar => match byte {
+            b'\r' => Some(ScanState::DollarReturn),
+            _ => Some(ScanState::Plain),
+        },
+        ScanState::DollarReturn => match byte {
+            b'\n' => Some(ScanState::Plain),
+            _ => plain_state(byte),
+        },
+        ScanState::Start => match byte {
+            b' ' => Some(ScanState::Start),
+            b'#' => Some(ScanState::Comment),
+            _ => plain_state(byte),
+        },
+        ScanState::Plain | ScanState::Return => plain_state(byte),
+    }
+}
+
+/// The state after a byte that begins a unit.
+fn plain_state(byte: u8) -> Option<ScanState>
+    ensures { result ≡ step_of ScanState.Plain byte }
+{
+    match byte {
+        b'\n' => None,
+        b'\r' => Some(ScanState::Return),
+        b'$' => Some(ScanState::Dollar),
+        _ => Some(ScanState::Plain),
+    }
+}
+
+/// The end of a line whose LF stands at a place: a CR just before it belongs to the end.
+fn line_ended(place: usize, before: ScanState) -> Scanned
+    requires { place + 1 < 2 ^ 64 }
+    ensures { result ≡ scan_end place before }
+{
+    let text_len = match before {
+        ScanState::Return | ScanState::CommentReturn => place.saturating_sub(1),
+        _ => place,
+    };
+    Scanned::End {
+        text_len,
+        line_len: place + 1,
+    }
+}

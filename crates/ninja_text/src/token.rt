@@ -1,0 +1,107 @@
+//! Tokens, and the iterator that finds them one by one.
+ghost use Rattle.std.specs.Prelude.{◌≡◌, ◌≤◌, length};
+
+use crate::lexing::{token_at, token_start};
+use crate::meaning::append_meaning;
+use std::alloc::AllocError;
+
+#[derive(Clone, Copy, Debug, PartialEq, Eq)]
+pub enum TokenKind {
+    /// A run of pieces: ordinary bytes, and escapes such as `$ ` and `$:`.
+    Word,
+    /// `|`
+    Bar,
+    /// `||`
+    DoubleBar,
+    /// `|@`
+    BarAt,
+    /// `:`
+    Colon,
+}
+
+/// A token, and where it stands in its line's text.
+#[derive(Clone, Copy, Debug)]
+pub struct Token<'a> {
+    kind: TokenKind,
+    start: usize,
+    end: usize,
+    raw: &'a [u8],
+}
+
+impl<'a> Token<'a> {
+    ghost use Rattle.std.specs.Prelude.{◌≡◌, ◌++◌, OnOk, OnErr};
+    ghost use Rattle.ninja_text.specs.Tokens.{value_of};
+    ghost use Rattle.ninja_text.specs.TokenViews.{seen_token};
+
+    pub fn kind(&self) -> TokenKind
+        ensures { result ≡ (seen_token self.now).kind }
+    {
+        self.kind
+    }
+
+    /// The place of its first byte in the line's text.
+    pub fn start(&self) -> usize
+        ensures { result ≡ (seen_token self.now).start }
+    {
+        self.start
+    }
+
+    /// The place after its last byte.
+    pub fn end(&self) -> usize
+        ensures { result ≡ (seen_token self.now).end }
+    {
+        self.end
+    }
+
+    /// Its bytes in the line's text, from `start` to `end`, escapes and continuations included.
+    pub fn raw(&self) -> &'a [u8]
+        ensures { result.now ≡ (seen_token self.now).raw }
+    {
+        self.raw
+    }
+
+    /// Appends what its bytes stand for: an escape stands for its second byte, and a continuation for nothing. Where the
+    /// vector cannot grow, it is left as it was.
+    pub fn value_into(&self, out: &mut Vec<u8>) -> Result<(), AllocError>
+        ensures ok { OnOk result (out.new.items ≡ out.old.items ++ value_of (seen_token self.now).raw) }
+        ensures err { OnErr result (out.new.items ≡ out.old.items) }
+    {
+        append_meaning(self.raw, out)
+    }
+}
+
+/// The tokens of a line, in order.
+#[derive(Clone, Copy, Debug)]
+pub struct Words<'a> {
+    pub(crate) text: &'a [u8],
+    pub(crate) place: usize,
+    ghost in_text: { place ≤ length text.now },
+}
+
+impl<'a> Iterator for Words<'a> {
+    ghost use Rattle.std.specs.Iterator.{YieldsFirstBy, item_count};
+    ghost use Rattle.ninja_text.specs.TokenViews.{seen_token, tokens_left};
+
+    type Item = Token<'a>;
+
+    ghost next_gives = { YieldsFirstBy seen_token tokens_left };
+
+    ghost remaining = { item_count tokens_left };
+
+    fn next(&mut self) -> Option<Token<'a>> {
+        let text = self.text;
+        let start = token_start(text, self.place);
+        self.place = start;
+        if start == text.len() {
+            return None;
+        }
+        let (kind, end) = token_at(text, start);
+        self.place = end;
+        Some(Token {
+            kind,
+            start,
+            end,
+            raw: &text[start..end],
+        })
+    }
+}

@@ -1,0 +1,118 @@
+//! The units that a line is made of, and what each may be.
+ghost use Rattle.std.specs.Prelude.{◌≡◌, ◌∷◌, ◌+◌, ◌<◌, ◌≤◌, length, drop};
+ghost use Rattle.ninja_text.specs.Units.{units, unit_len, spaces_at};
+
+/// A unit of a line that is no comment.
+#[derive(Clone, Copy, Debug, PartialEq, Eq)]
+pub(crate) enum LineUnit {
+    /// `$` and a line's end, with the spaces after it; so many bytes.
+    Continuation(usize),
+    /// `$` and this byte.
+    Escape(u8),
+    /// This byte by itself.
+    Byte(u8),
+}
+
+impl LineUnit {
+    ghost use Rattle.ninja_text.specs.Units.{is_byte, is_continuation};
+    ghost use Rattle.ninja_text.specs.Tokens.{is_blank, is_piece};
+    ghost use Rattle.ninja_text.specs.Assignments.{is_name_unit};
+
+    /// How many bytes of the text it is.
+    pub(crate) fn len(&self) -> usize
+        ensures { result ≡ unit_len self.now }
+    {
+        match self {
+            LineUnit::Continuation(len) => *len,
+            LineUnit::Escape(_) => 2,
+            LineUnit::Byte(_) => 1,
+        }
+    }
+
+    /// This byte by itself.
+    pub(crate) fn is_byte(&self, byte: u8) -> bool
+        ensures { result ≡ is_byte byte self.now }
+    {
+        match self {
+            LineUnit::Byte(b) => *b == byte,
+            LineUnit::Escape(_) | LineUnit::Continuation(_) => false,
+        }
+    }
+
+    pub(crate) fn is_continuation(&self) -> bool
+        ensures { result ≡ is_continuation self.now }
+    {
+        matches!(self, LineUnit::Continuation(_))
+    }
+
+    /// What may stand between two tokens: a space or a continuation.
+    pub(crate) fn is_blank(&self) -> bool
+        ensures { result ≡ is_blank self.now }
+    {
+        matches!(self, LineUnit::Continuation(_) | LineUnit::Byte(b' '))
+    }
+
+    /// What words are made of.
+    pub(crate) fn is_piece(&self) -> bool
+        ensures { result ≡ is_piece self.now }
+    {
+        !matches!(
+            self,
+            LineUnit::Continuation(_) | LineUnit::Byte(b' ' | b':' | b'|')
+        )
+    }
+
+    /// What names are made of: a letter, a digit, `_`, `.` or `-`.
+    pub(crate) fn is_name_part(&self) -> bool
+        ensures { result ≡ is_name_unit self.now }
+    {
+        matches!(self, LineUnit::Byte(b'_' | b'.' | b'-' | b'a'..=b'z' | b'A'..=b'Z' | b'0'..=b'9'))
+    }
+}
+
+/// The unit that begins at a place.
+pub(crate) fn unit_at(text: &[u8], place: usize) -> LineUnit
+    requires { place < length text.now }
+    ensures within { place + unit_len result ≤ length text.now }
+    ensures some { 0 < unit_len result }
+    ensures first { units (drop place text.now) ≡ result ∷ units (drop (place + unit_len result) text.now) }
+{
+    first_unit(&text[place..])
+}
+
+/// The unit at the front.
+fn first_unit(bytes: &[u8]) -> LineUnit
+    requires { 0 < length bytes.now }
+    ensures within { unit_len result ≤ length bytes.now }
+    ensures some { 0 < unit_len result }
+    ensures first { units bytes.now ≡ result ∷ units (drop (unit_len result) bytes.now) }
+{
+    let first = bytes[0];
+    if first != b'$' || bytes.len() == 1 {
+        return LineUnit::Byte(first);
+    }
+    let second = bytes[1];
+    if second == b'\n' {
+        return LineUnit::Continuation(2 + leading_spaces(&bytes[2..]));
+    }
+    if second != b'\r' || bytes.len() == 2 {
+        return LineUnit::Escape(second);
+    }
+    if bytes[2] == b'\n' {
+        return LineUnit::Continuation(3 + leading_spaces(&bytes[3..]));
+    }
+    LineUnit::Escape(second)
+}
+
+/// How many spaces stand at the front.
+fn leading_spaces(bytes: &[u8]) -> usize
+    ensures value { result ≡ spaces_at bytes.now }
+    ensures within { result ≤ length bytes.now }
+{
+    for (i, byte) in bytes.iter().enumerate() {
+        if *byte != b' ' {
+            return i;
+        }
+    }
+    bytes.len()
+}
