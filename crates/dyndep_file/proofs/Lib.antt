@@ -1,4 +1,19 @@
 pub mod Numbers
 pub mod Positions
 pub mod Parts
-pub mod Faults
+pub mod WriteFaultLemmas
+mod ReaderRows
+pub mod Runs
+pub mod EndLemmas
+pub mod TakeLemmas
+pub mod FaultLemmas
+pub mod TableLemmas
+pub mod BuildLemmas
+pub mod LineLemmas
+pub mod ClassLemmas
+pub mod LawLemmas
+pub mod ReadLemmas
+pub mod WrittenLine
+pub mod WrittenText
+pub mod WrittenOnly
+mod WrittenRows

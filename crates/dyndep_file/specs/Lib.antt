@@ -1,3 +1,15 @@
 pub mod StatementValue
 pub mod Writing
 pub mod WriteFaults
+pub mod Classes
+pub mod Grammar
+pub mod Faults
+pub mod BuildTokens
+pub mod Steps
+pub mod LineReading
+pub mod Reading
+pub mod ReadingAll
+pub mod Laws
+pub mod Reader
+pub mod ProgressViews
+pub mod ReaderViews

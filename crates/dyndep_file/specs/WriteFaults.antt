@@ -5,15 +5,12 @@ use Rattle.ninja_text.specs.declared.counting.Counted.{Counted}
 use Rattle.ninja_text.specs.declared.failure.Failure.{Failure}
 use Rattle.ninja_text.specs.declared.failure.Failure.TheVariants.{Memory, Fault}
 use Rattle.ninja_text.specs.Counting.{IsCutShort}
+use Rattle.ninja_text.specs.Lines.{line_limit}
 use Rattle.ninja_text.specs.Escapes.{is_writable, IsWritable}
 use Rattle.dyndep_file.specs.StatementValue.{StatementValue}
 use Rattle.dyndep_file.specs.Writing.{build_line, dyndep_text}
 use Rattle.dyndep_file.specs.declared.writing.WriteFault.{WriteFault}
 use Rattle.dyndep_file.specs.declared.writing.WriteFault.TheVariants.{Unwritable, StatementTooLong, Io}
-
--- the most bytes of a logical line, its end included
-abbrev pub line_limit : ℕ
-line_limit = 1048576
 
 -- a length as a number of 64 bits, which stops at the greatest one
 abbrev pub capped : ℕ → ℕ

@@ -1,17 +1,35 @@
-//! Dyndep files of Ninja (Ninja 1.11 manual, "Dynamic dependencies"): their statements, and the writer.
+//! Dyndep files of Ninja (Ninja 1.11 manual, "Dynamic dependencies"): their statements, the reader and the writer.
 //!
 //! - A [`Dyndep`] is a list of [`Statement`]s.
-//! - [`write`] writes their text, byte for byte as `specs/Writing.antt` states it, or tells the first fault of
-//!   `specs/WriteFaults.antt` before the first byte. [`writable_statements`] proves that there is no such fault exactly
-//!   where each path has a spelling and each build line keeps the limit.
+//! - [`DyndepReader`] reads a text that comes in pieces of any size, and [`read_all`] reads one from any `Read`. For every
+//!   cutting the answer is the list that the grammar of `specs/Grammar.antt` gives the whole text, or the first faulty line
+//!   and its fault (`specs/Reading.antt`, `specs/Faults.antt`).
+//! - [`Dyndep::to_text`] makes the text of the statements, byte for byte as `specs/Writing.antt` states it, and [`write`] writes
+//!   it, or the first fault of `specs/WriteFaults.antt` is told before the first byte. The grammar relates the text to the
+//!   statements, and to no other list. [`writable_statements`] proves that there is no such fault exactly where each path has a
+//!   spelling and each build line keeps the limit.
+//! - [`laws`] proves of those definitions that a text has one list of statements or a fault, and not both.
 //!
-//! It stands on `ninja_text`, whose spellings and counted writers it uses, and on `thiserror` for the texts of faults.
+//! It stands on `ninja_text`, which cuts the lines, tells their tokens, spells paths and counts failed calls, and on
+//! `thiserror` for the texts of faults.
 #![tactic(auto)]
 
-mod statement;
+mod build_line;
+pub mod faults;
+mod from_reader;
+pub mod laws;
+mod line;
+mod progress;
+mod reader;
+#[cfg(test)]
+mod reader_tests;
+pub mod statement;
 #[cfg(test)]
 mod tests;
 mod writing;
 
+pub use faults::{LineFault, ReadFault};
+pub use from_reader::read_all;
+pub use reader::DyndepReader;
 pub use statement::{Dyndep, Statement};
 pub use writing::{WriteFault, writable_statements, write};

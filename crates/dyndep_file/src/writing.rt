@@ -4,17 +4,15 @@ ghost use Rattle.ninja_text.specs.Counting.{IsWritten};
 ghost use Rattle.ninja_text.specs.Failure.{Gives};
 ghost use Rattle.ninja_text.specs.Escapes.{escaped, is_escaped, is_writable, IsWritable};
 ghost use Rattle.dyndep_file.specs.StatementValue.{StatementValue};
+ghost use Rattle.dyndep_file.specs.Reading.{StandsForOnly};
 ghost use Rattle.dyndep_file.specs.Writing.{part_text, build_line, statement_text, dyndep_text};
 ghost use Rattle.dyndep_file.specs.WriteFaults.{text_or_fault, capped, paths_of, statement_fault, fault_from, write_fault, CanBeWritten, LeavesWriter, AnswersFault};
 
 use crate::statement::{Dyndep, Statement};
-use ninja_text::{Counted, Failure, escape_into, is_writable};
+use ninja_text::{Counted, Failure, LINE_LIMIT, escape_into, is_writable};
 use std::alloc::{AllocError, Global};
 use std::io::Write;
 use thiserror::Error;
-
-/// The most bytes of a logical line, its end included.
-const LINE_LIMIT: usize = 1_048_576;
 
 const VERSION_LINE: &[u8] = b"ninja_dyndep_version = 1\n";
 
@@ -41,7 +39,9 @@ impl Dyndep {
     ///
     /// A path without a spelling and too long a build line are told before memory is asked for.
     pub fn to_text(&self, alloc: Global) -> Result<Vec<u8>, Failure<WriteFault>>
-        ensures { Gives (λ text. text.items) result (text_or_fault self.now) }
+        ensures text { Gives (λ text. text.items) result (text_or_fault self.now) }
+        // The grammar relates the text to these statements, and to no others.
+        ensures meaning { IfOk result (λ text. StandsForOnly text.items self.now) }
     {
         let statements = self.statements.as_slice();
         if let Some(fault) = first_fault(statements) {
@@ -65,6 +65,8 @@ pub fn write<W: Write>(
         (λ _. IsWritten W.contents out.old out.new (dyndep_text dyndep.now))
         (λ failure. LeavesWriter W.contents out.old out.new (dyndep_text dyndep.now) failure) }
     ensures fault { AnswersFault (write_fault dyndep.now) result }
+    // The grammar relates the text to these statements, and to no others.
+    ensures meaning { OnOk result (StandsForOnly (dyndep_text dyndep.now) dyndep.now) }
 {
     let text = match dyndep.to_text(alloc) {
         Ok(text) => text,

@@ -18,6 +18,7 @@ pub mod TokenLemmas
 pub mod PlaceLemmas
 pub mod SpanLemmas
 pub mod ListLemmas
+pub mod AssignmentLemmas
 pub mod LinesForCallers
 pub mod SpelledUnits
 pub mod SpelledPaths

@@ -17,15 +17,15 @@ pub enum CutFault {
 #[derive(Clone, Copy, Debug, PartialEq, Eq, Error)]
 pub enum LexFault {
     /// A NUL.
-    #[error("N7 Nul")]
+    #[error("N7 Nul at {place}")]
     Nul { place: usize },
     /// A CR that is no part of the line's end.
-    #[error("N8 LoneCr")]
+    #[error("N8 LoneCr at {place}")]
     LoneCr { place: usize },
     /// `$` and a letter, a digit, `_`, `-` or `{`: a reference to a variable, and there are none here.
-    #[error("N9 Variable")]
+    #[error("N9 Variable at {place}")]
     Variable { place: usize },
     /// `$` and any other byte but `$`, space and `:`.
-    #[error("N10 BadEscape")]
+    #[error("N10 BadEscape at {place}")]
     BadEscape { place: usize },
 }

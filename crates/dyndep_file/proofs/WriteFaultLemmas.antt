@@ -9,11 +9,12 @@ use Rattle.ninja_text.specs.declared.counting.Counted.{Counted}
 use Rattle.ninja_text.specs.declared.failure.Failure.{Failure}
 use Rattle.ninja_text.specs.declared.failure.Failure.TheVariants.{Memory, Fault}
 use Rattle.ninja_text.specs.Failure.{Gives}
+use Rattle.ninja_text.specs.Lines.{line_limit}
 use Rattle.ninja_text.specs.Escapes.{is_writable, IsWritable}
 use Rattle.ninja_text.proofs.ForCallers.{is_writable-meaning}
 use Rattle.dyndep_file.specs.StatementValue.{StatementValue}
 use Rattle.dyndep_file.specs.Writing.{build_line, dyndep_text}
-use Rattle.dyndep_file.specs.WriteFaults.{text_unless, text_or_fault, LeavesWriter, AnswersFault, write_fault, line_limit, paths_of, statement_fault, fault_from, CanBeWritten}
+use Rattle.dyndep_file.specs.WriteFaults.{text_unless, text_or_fault, LeavesWriter, AnswersFault, write_fault, paths_of, statement_fault, fault_from, CanBeWritten}
 use Rattle.dyndep_file.specs.declared.writing.WriteFault.{WriteFault}
 use Rattle.dyndep_file.specs.declared.writing.WriteFault.TheVariants.{Unwritable, StatementTooLong, Io}
 use Rattle.dyndep_file.proofs.Positions.{position_none}

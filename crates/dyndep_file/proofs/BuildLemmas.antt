@@ -1,0 +1,135 @@
+-- The tokens of a build line that has no fault, by its parts.
+use Rattle.std.proofs.Common.{inl, inr, ◌≡◌, ℕ, false, List, [], ◌∷◌, ◌++◌, map, refl, sym, ap, ◌∙◌, subst, Some, None}
+use Rattle.std.specs.Prelude.{Option, codes}
+use Rattle.std.proofs.lemmas.Bool.{cases_Bool}
+use Rattle.ninja_text.specs.declared.token.TokenKind.TheVariants.{Word, Bar, DoubleBar, BarAt, Colon}
+use Rattle.std.specs.Iterator.{YieldsFirstBy}
+use Rattle.ninja_text.specs.Tokens.{SeenToken, value_of}
+use Rattle.ninja_text.specs.TokenViews.{seen_token, tokens_left}
+use Rattle.ninja_text.specs.declared.token.Token.{Token}
+use Rattle.ninja_text.specs.declared.token.Words.{Words}
+use Rattle.dyndep_file.specs.StatementValue.{StatementValue}
+use Rattle.dyndep_file.specs.Classes.{Symbol, WordSymbol, SignSymbol, IsPart}
+use Rattle.dyndep_file.specs.Faults.{same_bytes, implicit_inputs_fault, after_rule_fault, rule_fault, implicit_outputs_fault, after_output_fault, output_fault}
+use Rattle.dyndep_file.specs.BuildTokens.{symbol_of, symbols_left, words_before_colon, after_colon, Names, IsNamed}
+use Rattle.dyndep_file.specs.declared.faults.LineFault.{LineFault}
+use Rattle.dyndep_file.proofs.TableLemmas.{same_bytes-true, symbol_said}
+
+-- a fault is there, and is not
+faulty : {fault : LineFault} {A : Type 0} → ◌≡◌ {A = Option LineFault} (Some fault) None → A
+faulty h = absurd (cc)
+
+inputs_are : (symbols : List Symbol) → implicit_inputs_fault symbols ≡ None → symbols ≡ map WordSymbol (words_before_colon symbols)
+inputs_are [] h = refl
+inputs_are (WordSymbol word ∷ more) h = ap (λ s. WordSymbol word ∷ s) (inputs_are more h)
+inputs_are (SignSymbol DoubleBar ∷ more) h = faulty h
+inputs_are (SignSymbol BarAt ∷ more) h = faulty h
+inputs_are (SignSymbol other ∷ more) h = faulty h
+
+inputs_part : (symbols : List Symbol) → after_rule_fault symbols ≡ None → IsPart symbols (words_before_colon symbols)
+inputs_part [] h = inl (refl, refl)
+inputs_part (WordSymbol word ∷ more) h = faulty h
+inputs_part (SignSymbol Bar ∷ more) h = inr (ap (λ s. SignSymbol Bar ∷ s) (inputs_are more h))
+inputs_part (SignSymbol DoubleBar ∷ more) h = faulty h
+inputs_part (SignSymbol BarAt ∷ more) h = faulty h
+inputs_part (SignSymbol other ∷ more) h = faulty h
+
+-- the rule, and the implicit inputs after it
+record Ruled (symbols : List Symbol) : Type 0 where
+  pub after : List Symbol
+  pub are : symbols ≡ WordSymbol (codes "dyndep") ∷ after
+  pub is_after : IsPart after (words_before_colon after)
+
+ruled : (symbols : List Symbol) → rule_fault symbols ≡ None → Ruled symbols
+ruled [] h = faulty h
+ruled (WordSymbol word ∷ more) h = elim (cases_Bool (same_bytes word (codes "dyndep"))) [
+  | inl t ↦ record { after = more; are = ap (λ w. WordSymbol w ∷ more) (same_bytes-true word (codes "dyndep") t); is_after = inputs_part more (rw t at h) }
+  | inr f ↦ faulty (rw f at h)
+]
+ruled (SignSymbol other ∷ more) h = faulty h
+
+-- the implicit outputs up to the `:`
+record Divided (symbols : List Symbol) : Type 0 where
+  pub before : List Symbol
+  pub are : symbols ≡ before ++ SignSymbol Colon ∷ after_colon symbols
+  pub is_before : IsPart before (words_before_colon symbols)
+  pub rule : rule_fault (after_colon symbols) ≡ None
+
+outputs_are : (symbols : List Symbol) → implicit_outputs_fault symbols ≡ None → (symbols ≡ map WordSymbol (words_before_colon symbols) ++ SignSymbol Colon ∷ after_colon symbols) × (rule_fault (after_colon symbols) ≡ None)
+outputs_are [] h = faulty h
+outputs_are (WordSymbol word ∷ more) h = let later = outputs_are more h in (ap (λ s. WordSymbol word ∷ s) later.0, later.1)
+outputs_are (SignSymbol Colon ∷ more) h = (refl, h)
+outputs_are (SignSymbol DoubleBar ∷ more) h = faulty h
+outputs_are (SignSymbol BarAt ∷ more) h = faulty h
+outputs_are (SignSymbol other ∷ more) h = faulty h
+
+divided : (symbols : List Symbol) → after_output_fault symbols ≡ None → Divided symbols
+divided [] h = faulty h
+divided (WordSymbol word ∷ more) h = faulty h
+divided (SignSymbol Bar ∷ more) h = let later = outputs_are more h in
+    record { before = SignSymbol Bar ∷ map WordSymbol (words_before_colon more); are = ap (λ s. SignSymbol Bar ∷ s) later.0; is_before = inr refl; rule = later.1 }
+divided (SignSymbol Colon ∷ more) h = record { before = []; are = refl; is_before = inl (refl, refl); rule = h }
+divided (SignSymbol DoubleBar ∷ more) h = faulty h
+divided (SignSymbol BarAt ∷ more) h = faulty h
+divided (SignSymbol Word ∷ more) h = faulty h
+
+-- the parts of a build line without fault, as the reader takes them
+pub record Parts (symbols : List Symbol) : Type 0 where
+  pub output : List ℕ
+  pub more : List Symbol
+  pub is_first : symbols ≡ WordSymbol output ∷ more
+  pub after : List Symbol
+  pub rule : after_colon more ≡ WordSymbol (codes "dyndep") ∷ after
+  pub names : Names symbols output (words_before_colon more) (words_before_colon after)
+
+pub parts : (symbols : List Symbol) → output_fault symbols ≡ None → Parts symbols
+parts [] h = faulty h
+parts (WordSymbol output ∷ more) h =
+    let d = divided more h in
+    let r = ruled (after_colon more) d.rule in
+    record {
+      output = output;
+      more = more;
+      is_first = refl;
+      after = r.after;
+      rule = r.are;
+      names = record {
+        before = d.before;
+        after = r.after;
+        is_before = d.is_before;
+        is_after = r.is_after;
+        are = ap (λ s. WordSymbol output ∷ s) (d.are ∙ ap (λ s. d.before ++ SignSymbol Colon ∷ s) r.are);
+      };
+    }
+parts (SignSymbol other ∷ more) h = faulty h
+
+-- a call of `next` passes over one token
+pub passed_over : (r : Option Token) (old new : Words) → YieldsFirstBy seen_token tokens_left old r new → (head : Symbol) (more : List Symbol) → symbols_left old ≡ head ∷ more → symbols_left new ≡ more
+passed_over None old new gives head more h = absurd (let x : [] ≡ head ∷ more = sym (ap (map symbol_of) gives.0) ∙ h in cc)
+passed_over (Some token) old new gives head more h = let x : symbol_of (seen_token token) ∷ symbols_left new ≡ head ∷ more = sym (ap (map symbol_of) gives) ∙ h in cc
+
+pub begins_somehow : (symbols : List Symbol) → symbols ≡ [] → output_fault symbols ≡ None → ⊥
+begins_somehow symbols h none = faulty (subst (λ s. output_fault s ≡ None) h none)
+
+-- what the reader takes from a build line without fault is the statement that it names
+pub named : (symbols more rule after : List Symbol) (head : SeenToken) (output : List ℕ) (outputs inputs : List (List ℕ))
+    → symbols ≡ symbol_of head ∷ more → output_fault symbols ≡ None → output ≡ value_of head.raw
+    → outputs ≡ map value_of (words_before_colon more) → rule ≡ after_colon more
+    → ((first : Symbol) (others : List Symbol) → rule ≡ first ∷ others → after ≡ others)
+    → inputs ≡ map value_of (words_before_colon after)
+    → IsNamed symbols (record { output = output; implicit_outputs = outputs; implicit_inputs = inputs; restat = false })
+named symbols more rule after head output outputs inputs first none is_output are_outputs is_rule passed are_inputs =
+    let p = parts symbols none in
+    let same : symbol_of head ∷ more ≡ WordSymbol p.output ∷ p.more = sym first ∙ p.is_first in
+    let rest : more ≡ p.more = cc in
+    let raw : head.raw ≡ p.output = symbol_said head.kind head.raw p.output (cc) in
+    let past : after ≡ p.after = passed (WordSymbol (codes "dyndep")) p.after (is_rule ∙ ap after_colon rest ∙ p.rule) in (
+      p.output,
+      words_before_colon p.more,
+      words_before_colon p.after,
+      p.names,
+      parts_same (is_output ∙ ap value_of raw) (are_outputs ∙ ap (λ s. map value_of (words_before_colon s)) rest) (are_inputs ∙ ap (λ s. map value_of (words_before_colon s)) past),
+    ) where
+      parts_same : {o p : List ℕ} {os ps is qs : List (List ℕ)} → o ≡ p → os ≡ ps → is ≡ qs
+          → ◌≡◌ {A = StatementValue} (record { output = o; implicit_outputs = os; implicit_inputs = is; restat = false }) (record { output = p; implicit_outputs = ps; implicit_inputs = qs; restat = false })
+      parts_same a b c = rw (a, b, c) refl

@@ -1,0 +1,5 @@
+use Rattle.dyndep_file.proofs.WrittenOnly.{stands_for_only}
+use Rattle.dyndep_file.proofs.laws.written_text.Goals as goal
+
+pub returns : goal.returns
+returns c = stands_for_only

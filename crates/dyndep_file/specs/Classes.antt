@@ -1,0 +1,86 @@
+-- The classes of lines of a dyndep text.
+use Rattle.std.specs.Prelude.{◌≡◌, ℕ, ◌≤◌, Bool, true, false, ◌==◌, ◌&&◌, ◌||◌, not, nat_lt, IsTrue, List, [], ◌∷◌, ◌++◌, length, map, codes, ◌⊎◌, Some, None}
+use Rattle.ninja_text.specs.Units.{is_digit}
+use Rattle.ninja_text.specs.Bytes.{space}
+use Rattle.ninja_text.specs.Lines.{line_limit, is_comment, text_of}
+use Rattle.ninja_text.specs.Lexical.{lexical_fault}
+use Rattle.ninja_text.specs.Tokens.{TokenAt, tokens, raw, value_of}
+use Rattle.ninja_text.specs.declared.token.TokenKind.{TokenKind}
+use Rattle.ninja_text.specs.declared.token.TokenKind.TheVariants.{Word, Bar, DoubleBar, BarAt, Colon}
+use Rattle.ninja_text.specs.Assignments.{SeenAssignment, assignment_of}
+
+pub data Class : Type 0 where
+  Comment : Class
+  Blank : Class
+  Version : Class
+  Build : List ℕ → List (List ℕ) → List (List ℕ) → Class
+  Binding : Bool → Class
+
+-- a token as grammar sees it: a word by its raw bytes, or a sign
+pub data Symbol : Type 0 where
+  WordSymbol : List ℕ → Symbol
+  SignSymbol : TokenKind → Symbol
+
+abbrev pub symbol : TokenKind → List ℕ → Symbol
+symbol Word bytes = WordSymbol bytes
+symbol Bar bytes = SignSymbol Bar
+symbol DoubleBar bytes = SignSymbol DoubleBar
+symbol BarAt bytes = SignSymbol BarAt
+symbol Colon bytes = SignSymbol Colon
+
+abbrev pub symbols : List ℕ → List Symbol
+symbols text = map (λ t. symbol t.kind (raw text t)) (tokens text)
+
+-- the first token begins at the first byte
+abbrev pub begins_at_start : List TokenAt → Bool
+begins_at_start [] = false
+begins_at_start (t ∷ ts) = t.start == 0
+
+-- The part is absent, or `|` and these words.
+abbrev pub IsPart : List Symbol → List (List ℕ) → Type 0
+IsPart part words = ((part ≡ []) × (words ≡ [])) ⊎ (part ≡ SignSymbol Bar ∷ map WordSymbol words)
+
+-- The text is `build output | outputs : dyndep | inputs`, by the raw bytes of its words.
+abbrev pub IsBuild : List ℕ → List ℕ → List (List ℕ) → List (List ℕ) → Type 0
+IsBuild text output outputs inputs =
+    (before after : List Symbol) × IsPart before outputs × IsPart after inputs × IsTrue (begins_at_start (tokens text))
+    × (symbols text ≡ WordSymbol (codes "build") ∷ WordSymbol output ∷ before ++ SignSymbol Colon ∷ WordSymbol (codes "dyndep") ∷ after)
+
+-- The text assigns a value to the name.
+abbrev pub Assigns : List ℕ → List ℕ → ℕ → List ℕ → Type 0
+Assigns text name start value =
+    (a : SeenAssignment) × (assignment_of text ≡ Some a) × (a.name_start ≡ start) × (a.name ≡ name) × (value_of a.raw_value ≡ value)
+
+abbrev pub begins_with_space : List ℕ → Bool
+begins_with_space [] = false
+begins_with_space (b ∷ bytes) = b == space
+
+-- nothing, or a byte that is no digit and, where dots are refused, no `.`
+abbrev pub ends_number : Bool → List ℕ → Bool
+ends_number dots [] = true
+ends_number dots (b ∷ bytes) = not (is_digit b) && (dots || not (b == 46))
+
+-- `1` or `1.0`, and then no more of a number
+abbrev pub is_version_one : List ℕ → Bool
+is_version_one [] = false
+is_version_one (a ∷ rest) = (a == 49) && (ends_number false rest || dot_zero rest) where
+  dot_zero : List ℕ → Bool
+  dot_zero [] = false
+  dot_zero (a ∷ []) = false
+  dot_zero (a ∷ b ∷ rest) = (a == 46) && (b == 48) && ends_number true rest
+
+-- A line's text is of the class; comment says whether the line is one.
+abbrev pub TextIsOfClass : List ℕ → Bool → Class → Type 0
+TextIsOfClass text comment Comment = comment ≡ true
+TextIsOfClass text comment Blank = (comment ≡ false) × (lexical_fault text ≡ None) × (tokens text ≡ [])
+TextIsOfClass text comment Version = (comment ≡ false) × (lexical_fault text ≡ None)
+    × (value : List ℕ) × Assigns text (codes "ninja_dyndep_version") 0 value × IsTrue (is_version_one value)
+TextIsOfClass text comment (Build output outputs inputs) = (comment ≡ false) × (lexical_fault text ≡ None)
+    × (raw_output : List ℕ) × (raw_outputs raw_inputs : List (List ℕ)) × IsBuild text raw_output raw_outputs raw_inputs
+    × (output ≡ value_of raw_output) × (outputs ≡ map value_of raw_outputs) × (inputs ≡ map value_of raw_inputs)
+TextIsOfClass text comment (Binding flag) = (comment ≡ false) × (lexical_fault text ≡ None) × IsTrue (begins_with_space text)
+    × (start : ℕ) × (value : List ℕ) × Assigns text (codes "restat") start value × (flag ≡ nat_lt 0 (length value))
+
+-- The line, its end included, is of the class.
+abbrev pub IsOfClass : List ℕ → Class → Type 0
+IsOfClass line c = (length line ≤ line_limit) × TextIsOfClass (text_of line) (is_comment line) c

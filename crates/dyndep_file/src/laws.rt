@@ -1,0 +1,33 @@
+//! What holds of the definitions themselves: each law is the contract of a call that does nothing.
+ghost use Rattle.std.specs.Prelude.{List, All};
+ghost use Rattle.dyndep_file.specs.StatementValue.{StatementValue};
+ghost use Rattle.dyndep_file.specs.Writing.{dyndep_text};
+ghost use Rattle.dyndep_file.specs.WriteFaults.{CanBeWritten};
+ghost use Rattle.dyndep_file.specs.Reading.{StandsForOnly};
+ghost use Rattle.dyndep_file.specs.Laws.{OneList, NotBoth, OneOfBoth, OneFault, GoesOnUnrefused};
+
+/// The grammar relates a text to at most one list of statements.
+pub fn one_list()
+    ensures { OneList }
+{}
+
+/// A text has a list of statements or a fault, and not both.
+pub fn list_or_fault()
+    ensures not_both { NotBoth }
+    ensures one_of_both { OneOfBoth }
+{}
+
+/// A text has at most one fault, at one line.
+pub fn one_fault()
+    ensures { OneFault }
+{}
+
+/// A reader that goes on was fed no faulty line, and no line that is too long.
+pub fn unrefused()
+    ensures { GoesOnUnrefused }
+{}
+
+/// The grammar relates the text of statements that can be written to them, and to no other list.
+pub fn written_text()
+    ensures { (statements : List StatementValue) → All CanBeWritten statements → StandsForOnly (dyndep_text statements) statements }
+{}

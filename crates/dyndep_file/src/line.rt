@@ -1,0 +1,100 @@
+//! One line of a dyndep file: which row of the table of lines it is in.
+ghost use Rattle.std.specs.Prelude.{◌≡◌, ◌==◌, ◌&&◌, false, codes, None};
+ghost use Rattle.ninja_text.specs.LineViews.{seen_line};
+ghost use Rattle.ninja_text.specs.Lexical.{lexical_fault};
+ghost use Rattle.ninja_text.specs.Tokens.{seen_tokens};
+ghost use Rattle.ninja_text.specs.TokenViews.{seen_token, tokens_left};
+ghost use Rattle.dyndep_file.specs.Classes.{TextIsOfClass, begins_with_space};
+ghost use Rattle.dyndep_file.specs.Faults.{text_line_fault};
+ghost use Rattle.dyndep_file.specs.BuildTokens.{symbol_of, is_said};
+ghost use Rattle.dyndep_file.specs.LineReading.{PassesOr, ReadsLine};
+ghost use Rattle.dyndep_file.specs.ProgressViews.{progress_value};
+
+use crate::build_line::is_keyword;
+use crate::faults::{LineFault, ReadFault};
+use crate::progress::{Progress, blank_line, build_line, indented_line, margin_line};
+use ninja_text::{Failure, Line, Token, Words, assignment, words};
+use std::alloc::Global;
+
+/// Reads a line. What a refused line leaves of the progress is of no use.
+pub(crate) fn read_line(
+    alloc: Global,
+    progress: &mut Progress,
+    line: Line<'_>,
+) -> Result<(), Failure<ReadFault>>
+    ensures { ReadsLine (progress_value progress.old) (seen_line line.entry) result (progress_value progress.new) }
+{
+    match read_text(alloc, progress, line) {
+        Ok(()) => Ok(()),
+        Err(Failure::Memory) => Err(Failure::Memory),
+        Err(Failure::Fault(fault)) => Err(Failure::Fault(ReadFault::AtLine {
+            line: line.number(),
+            fault,
+        })),
+    }
+}
+
+/// Reads a line's text.
+fn read_text(
+    alloc: Global,
+    progress: &mut Progress,
+    line: Line<'_>,
+) -> Result<(), Failure<LineFault>>
+    ensures { PassesOr (text_line_fault progress.old.stage (seen_line line.entry).text (seen_line line.entry).comment)
+        (TextIsOfClass (seen_line line.entry).text (seen_line line.entry).comment) (progress_value progress.old) result (progress_value progress.new) }
+{
+    if line.is_comment() {
+        return Ok(());
+    }
+    match words(line) {
+        Ok(tokens) => read_tokens(alloc, progress, line, tokens),
+        Err(fault) => Err(Failure::Fault(LineFault::Lexical(fault))),
+    }
+}
+
+/// Reads a line that is no comment, by its tokens.
+fn read_tokens(
+    alloc: Global,
+    progress: &mut Progress,
+    line: Line<'_>,
+    tokens: Words<'_>,
+) -> Result<(), Failure<LineFault>>
+    requires comment { (seen_line line).comment ≡ false }
+    requires sound { lexical_fault (seen_line line).text ≡ None }
+    requires all { tokens_left tokens ≡ seen_tokens (seen_line line).text }
+    ensures { PassesOr (text_line_fault progress.old.stage (seen_line line.entry).text false)
+        (TextIsOfClass (seen_line line.entry).text false) (progress_value progress.old) result (progress_value progress.new) }
+{
+    let mut tokens = tokens;
+    let Some(first) = tokens.next() else {
+        blank_line(progress);
+        return Ok(());
+    };
+    if begins_build_line(first) {
+        return build_line(alloc, progress, tokens);
+    }
+    match assignment(line) {
+        Err(fault) => Err(Failure::Fault(LineFault::Lexical(fault))),
+        Ok(found) => {
+            if begins_with_space(line.text()) {
+                indented_line(alloc, progress, found)
+            } else {
+                margin_line(alloc, progress, found)
+            }
+        }
+    }
+}
+
+/// Whether a line whose first token this is is a build line.
+fn begins_build_line(first: Token<'_>) -> bool
+    ensures { result ≡ ((seen_token first.entry).start == 0) && is_said (codes "build") (symbol_of (seen_token first.entry)) }
+{
+    first.start() == 0 && is_keyword(first, b"build")
+}
+
+/// Whether a line's text is indented.
+fn begins_with_space(text: &[u8]) -> bool
+    ensures { result ≡ begins_with_space text.now }
+{
+    matches!(text, [b' ', ..])
+}

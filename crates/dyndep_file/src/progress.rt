@@ -1,0 +1,186 @@
+//! What a reader knows of the lines so far, and what a line of each kind does to it.
+ghost use Rattle.std.specs.Prelude.{◌≡◌, codes, is_some, option_map, IfOk, Some};
+ghost use Rattle.ninja_text.specs.Tokens.{value_of};
+ghost use Rattle.ninja_text.specs.AssignmentViews.{seen_assignment};
+ghost use Rattle.dyndep_file.specs.Classes.{Blank, is_version_one, ends_number};
+ghost use Rattle.dyndep_file.specs.Faults.{value_assigned, indented_fault, version_fault, build_fault, other_fault, at_margin_fault};
+ghost use Rattle.dyndep_file.specs.Steps.{step, with_last_flag};
+ghost use Rattle.dyndep_file.specs.BuildTokens.{symbols_left};
+ghost use Rattle.dyndep_file.specs.LineReading.{PassesOr, IsBuildOf, IsBindingOf, IsVersionOf, IsVersionLineOf, with_name};
+ghost use Rattle.dyndep_file.specs.ProgressViews.{progress_value};
+
+use crate::build_line::{is_same, statement_named, tokens_fault};
+use crate::faults::LineFault;
+use crate::statement::Statement;
+use ninja_text::{Assignment, Failure, Words};
+use std::alloc::{AllocError, Global};
+
+/// Which lines may come next.
+#[derive(Clone, Copy, Debug, PartialEq, Eq)]
+pub(crate) enum Stage {
+    /// No version has come.
+    BeforeVersion,
+    /// A binding would belong to no statement.
+    NoneOpen,
+    /// A binding would belong to the last statement.
+    Open,
+}
+
+/// The statements so far.
+#[derive(Drop)]
+pub(crate) struct Progress {
+    pub(crate) stage: Stage,
+    pub(crate) statements: Vec<Statement>,
+}
+
+/// A blank line closes the open statement.
+pub(crate) fn blank_line(progress: &mut Progress)
+    ensures { step progress.old.stage (progress_value progress.old).statements Blank ≡ Some (progress_value progress.new) }
+{
+    match progress.stage {
+        Stage::BeforeVersion | Stage::NoneOpen => {}
+        Stage::Open => progress.stage = Stage::NoneOpen,
+    }
+}
+
+/// An indented line: an assignment to `restat` sets the open statement's flag and closes it.
+pub(crate) fn indented_line(
+    alloc: Global,
+    progress: &mut Progress,
+    assignment: Option<Assignment<'_>>,
+) -> Result<(), Failure<LineFault>>
+    ensures { PassesOr (indented_fault progress.old.stage (is_some (value_assigned (codes "restat") (option_map seen_assignment assignment.entry))))
+        (IsBindingOf (option_map seen_assignment assignment.entry)) (progress_value progress.old) result (progress_value progress.new) }
+{
+    match progress.stage {
+        Stage::BeforeVersion => return Err(Failure::Fault(LineFault::NoVersion)),
+        Stage::NoneOpen => return Err(Failure::Fault(LineFault::Indent)),
+        Stage::Open => {}
+    }
+    let Some(binding) = named(assignment, b"restat") else {
+        return Err(Failure::Fault(LineFault::BadBinding));
+    };
+    let value = value(alloc, binding)?;
+    set_last(&mut progress.statements, !value.is_empty());
+    progress.stage = Stage::NoneOpen;
+    Ok(())
+}
+
+/// A build line opens a statement, by the tokens after its keyword.
+pub(crate) fn build_line(
+    alloc: Global,
+    progress: &mut Progress,
+    words: Words<'_>,
+) -> Result<(), Failure<LineFault>>
+    ensures { PassesOr (build_fault progress.old.stage (symbols_left words.entry)) (IsBuildOf (symbols_left words.entry)) (progress_value progress.old) result (progress_value progress.new) }
+{
+    match progress.stage {
+        Stage::BeforeVersion => return Err(Failure::Fault(LineFault::NoVersion)),
+        Stage::NoneOpen | Stage::Open => {}
+    }
+    if let Some(fault) = tokens_fault(words) {
+        return Err(Failure::Fault(fault));
+    }
+    let statement = statement_named(alloc, words)?;
+    progress.statements.push(statement)?;
+    progress.stage = Stage::Open;
+    Ok(())
+}
+
+/// A line that is neither indented nor a build line: a version line, or one that may stand nowhere.
+pub(crate) fn margin_line(
+    alloc: Global,
+    progress: &mut Progress,
+    assignment: Option<Assignment<'_>>,
+) -> Result<(), Failure<LineFault>>
+    ensures { PassesOr (at_margin_fault progress.old.stage (value_assigned (codes "ninja_dyndep_version") (option_map seen_assignment assignment.entry)) None)
+        (IsVersionLineOf (option_map seen_assignment assignment.entry)) (progress_value progress.old) result (progress_value progress.new) }
+{
+    let Some(version) = named(assignment, b"ninja_dyndep_version") else {
+        return Err(Failure::Fault(other_line(progress.stage)));
+    };
+    if version.name_start() != 0 {
+        return Err(Failure::Fault(other_line(progress.stage)));
+    }
+    version_line(alloc, progress, version)
+}
+
+/// A version line: it stands once, before all statements, and its value is `1` or `1.0`.
+fn version_line(
+    alloc: Global,
+    progress: &mut Progress,
+    version: Assignment<'_>,
+) -> Result<(), Failure<LineFault>>
+    ensures { PassesOr (version_fault progress.old.stage (value_of (seen_assignment version.entry).raw_value))
+        (IsVersionOf (value_of (seen_assignment version.entry).raw_value)) (progress_value progress.old) result (progress_value progress.new) }
+{
+    match progress.stage {
+        Stage::BeforeVersion => {}
+        Stage::NoneOpen | Stage::Open => return Err(Failure::Fault(LineFault::SecondVersion)),
+    }
+    let value = value(alloc, version)?;
+    if !is_version_one(&value) {
+        return Err(Failure::Fault(LineFault::BadVersion));
+    }
+    progress.stage = Stage::NoneOpen;
+    Ok(())
+}
+
+/// The fault of a line that may stand nowhere.
+fn other_line(stage: Stage) -> LineFault
+    ensures { result ≡ other_fault stage }
+{
+    match stage {
+        Stage::BeforeVersion => LineFault::NoVersion,
+        Stage::NoneOpen | Stage::Open => LineFault::BadLine,
+    }
+}
+
+/// The assignment, if it is to this name.
+fn named<'a>(assignment: Option<Assignment<'a>>, name: &[u8]) -> Option<Assignment<'a>>
+    ensures { option_map seen_assignment result ≡ with_name name.now (option_map seen_assignment assignment.entry) }
+{
+    match assignment {
+        Some(found) if is_same(found.name(), name) => Some(found),
+        _ => None,
+    }
+}
+
+/// What is assigned.
+fn value(alloc: Global, assignment: Assignment<'_>) -> Result<Vec<u8>, AllocError>
+    ensures { IfOk result (λ value. value.items ≡ value_of (seen_assignment assignment.entry).raw_value) }
+{
+    let mut value = Vec::with_capacity(alloc, assignment.raw_value().len())?;
+    assignment.value_into(&mut value)?;
+    Ok(value)
+}
+
+/// Sets the flag of the last statement.
+fn set_last(statements: &mut Vec<Statement>, flag: bool)
+    ensures { statements.new.items ≡ with_last_flag flag statements.old.items }
+{
+    if let Some(statement) = statements.last_mut() {
+        statement.restat = flag;
+    }
+}
+
+/// Whether a version is `1` or `1.0`, and then no more of a number.
+fn is_version_one(value: &[u8]) -> bool
+    ensures { result ≡ is_version_one value.now }
+{
+    match value {
+        [b'1', b'.', b'0', rest @ ..] => ends_number(true, rest),
+        [b'1', rest @ ..] => ends_number(false, rest),
+        _ => false,
+    }
+}
+
+/// Whether a number ends before these bytes: no digit comes next and, where dots are refused, no `.`.
+fn ends_number(dots: bool, rest: &[u8]) -> bool
+    ensures { result ≡ ends_number dots rest.now }
+{
+    match rest {
+        [] => true,
+        [byte, ..] => !byte.is_ascii_digit() && (dots || *byte != b'.'),
+    }
+}
