@@ -341,7 +341,10 @@ fn input(text: &[u8], fails_at: usize) -> Counted<Bytewise<'_>> {
 fn a_reader_is_read_to_its_end(rt: HostRuntime) -> Result<(), Fail> {
     let mut input = input(TWO_STATEMENTS, 0);
     let dyndep = read_all(rt.alloc(), &mut input)?;
-    assert_eq!(rt; listed(rt.alloc(), &dyndep)?.as_slice(), b"a.o +mod/A.bmi <mod/B.bmi !\nb.o +mod/B.bmi !\n".as_slice());
+    assert_eq!(rt;
+        listed(rt.alloc(), &dyndep)?.as_slice(),
+        b"a.o +mod/A.bmi <mod/B.bmi !\nb.o +mod/B.bmi !\n".as_slice()
+    );
     assert_eq!(rt; input.failures(), 0);
     assert_eq!(rt; input.into_inner().calls, 124);
     Ok(())
@@ -351,7 +354,10 @@ fn a_reader_is_read_to_its_end(rt: HostRuntime) -> Result<(), Fail> {
 fn a_failed_read_is_not_tried_again(rt: HostRuntime) -> Result<(), Fail> {
     for call in 1..124usize {
         let mut input = input(TWO_STATEMENTS, call);
-        assert_eq!(rt; fault_of(read_all(rt.alloc(), &mut input))?, Some(ReadFault::Io));
+        assert_eq!(rt;
+            fault_of(read_all(rt.alloc(), &mut input))?,
+            Some(ReadFault::Io)
+        );
         assert_eq!(rt; input.failures(), 1);
         assert_eq!(rt; input.into_inner().calls, call);
     }

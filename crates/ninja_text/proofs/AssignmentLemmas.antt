@@ -30,65 +30,78 @@ none_widened place (t ∷ ts) h = none_added h
 -- no token and a piece: never
 none_with : (place : ℕ) (u : LineUnit) (us : List LineUnit) (later : List TokenAt) → (later ≡ [] → list_any is_piece us ≡ true → ⊥) → with_unit place u us later ≡ [] → list_any is_piece (u ∷ us) ≡ true → ⊥
 none_with place u us later none h piece = elim (cases_Bool (is_piece u)) [
-    inl p ↦ elim (cases_Bool (goes_on us)) [
-        inl g ↦ none (none_widened place later (rw (p, g) at h)) (goes_on_piece us g)
-      | inr g ↦ none_added (rw (p, g) at h) ]
+  | inl p ↦ elim (cases_Bool (goes_on us)) [
+    | inl g ↦ none (none_widened place later (rw (p, g) at h)) (goes_on_piece us g)
+    | inr g ↦ none_added (rw (p, g) at h)
+  ]
   | inr p ↦ elim (cases_Bool (is_byte 58 u)) [
-        inl c ↦ none_added (rw (p, c) at h)
-      | inr c ↦ elim (cases_Bool (is_byte 124 u)) [
-            inl b ↦ none_added (rw (p, c, b) at h)
-          | inr b ↦ none (rw (p, c, b) at h) (rw p at piece) ] ] ]
+    | inl c ↦ none_added (rw (p, c) at h)
+    | inr c ↦ elim (cases_Bool (is_byte 124 u)) [
+      | inl b ↦ none_added (rw (p, c, b) at h)
+      | inr b ↦ none (rw (p, c, b) at h) (rw p at piece)
+    ]
+  ]
+]
 
 -- a `|` is a token, or begins one
 bar_added : (place : ℕ) (v : LineUnit) (us : List LineUnit) → tokens_from place (Byte 124 ∷ v ∷ us) ≡ [] → ⊥
 bar_added place v us h = elim (cases_Bool (is_byte 124 v)) [
-    inl d ↦ none_added (rw d at h)
+  | inl d ↦ none_added (rw d at h)
   | inr d ↦ elim (cases_Bool (is_byte 64 v)) [
-        inl a ↦ none_added (rw (d, a) at h)
-      | inr a ↦ none_added (rw (d, a) at h) ] ]
+    | inl a ↦ none_added (rw (d, a) at h)
+    | inr a ↦ none_added (rw (d, a) at h)
+  ]
+]
 
 -- a text without tokens has no piece of a word
 no_piece : (us : List LineUnit) (place : ℕ) → tokens_from place us ≡ [] → list_any is_piece us ≡ true → ⊥
 no_piece [] place h piece = let x : false ≡ true = piece in cc
 no_piece (u ∷ []) place h piece = none_with place u [] [] (λ e p. let x : false ≡ true = p in cc) h piece
 no_piece (u ∷ v ∷ us) place h piece = elim (cases_Bool (is_byte 124 u)) [
-    inr n ↦ none_with place u (v ∷ us) (tokens_from (place + unit_len u) (v ∷ us)) (λ e p. no_piece (v ∷ us) (place + unit_len u) e p) (sym (tokens_with place u (v ∷ us) n) ∙ h) piece
-  | inl b ↦ bar_added place v us (subst (λ w. tokens_from place (w ∷ v ∷ us) ≡ []) (byte_is 124 u b) h) ]
+  | inr n ↦ none_with place u (v ∷ us) (tokens_from (place + unit_len u) (v ∷ us)) (λ e p. no_piece (v ∷ us) (place + unit_len u) e p) (sym (tokens_with place u (v ∷ us) n) ∙ h) piece
+  | inl b ↦ bar_added place v us (subst (λ w. tokens_from place (w ∷ v ∷ us) ≡ []) (byte_is 124 u b) h)
+]
 
 -- what is left after a run is a part of all
 run_any : (test : LineUnit → Bool) (place : ℕ) (us : List LineUnit) → list_any is_piece (after_run test place us).units ≡ true → list_any is_piece us ≡ true
 run_any test place [] h = h
 run_any test place (u ∷ us) h = elim (cases_Bool (test u)) [
-    inl t ↦ any_later is_piece u us (run_any test (place + unit_len u) us (rw t at h))
-  | inr f ↦ rw f at h ]
+  | inl t ↦ any_later is_piece u us (run_any test (place + unit_len u) us (rw t at h))
+  | inr f ↦ rw f at h
+]
 
 -- a name's units are pieces
 name_piece : (u : LineUnit) → is_name_unit u ≡ true → is_piece u ≡ true
 name_piece (Continuation len) h = h
 name_piece (Escape b) h = refl
 name_piece (Byte b) h = elim (cases_Bool (b == 32)) [
-    inl s ↦ apart 32 s refl
+  | inl s ↦ apart 32 s refl
   | inr s ↦ elim (cases_Bool (b == 58)) [
-        inl c ↦ apart 58 c refl
-      | inr c ↦ elim (cases_Bool (b == 124)) [
-            inl v ↦ apart 124 v refl
-          | inr v ↦ rw (s, c, v) refl ] ] ] where
+    | inl c ↦ apart 58 c refl
+    | inr c ↦ elim (cases_Bool (b == 124)) [
+      | inl v ↦ apart 124 v refl
+      | inr v ↦ rw (s, c, v) refl
+    ]
+  ]
+] where
   apart : (c : ℕ) → (b == c) ≡ true → is_name_unit (Byte c) ≡ false → is_piece (Byte b) ≡ true
   apart c same none = absurd (let x : false ≡ true = sym none ∙ subst (λ n. is_name_unit (Byte n) ≡ true) (eqb-true b c same) h in cc)
 
 run_first : (place : ℕ) (us : List LineUnit) → place < (after_run is_name_unit place us).place → list_any is_piece us ≡ true
 run_first place [] h = absurd (omega arith)
 run_first place (u ∷ us) h = elim (cases_Bool (is_name_unit u)) [
-    inl t ↦ rw (name_piece u t) refl
-  | inr f ↦ absurd (let x = rw f at h in omega arith) ]
+  | inl t ↦ rw (name_piece u t) refl
+  | inr f ↦ absurd (let x = rw f at h in omega arith)
+]
 
 -- a text that is an assignment has a token
 pub assignment_has_token : (text : List ℕ) (a : SeenAssignment) → assignment_of text ≡ Some a → tokens text ≡ [] → ⊥
 assignment_has_token text a h none =
-  let name = after_run is_blank 0 (units text) in
-  let past_name = after_run is_name_unit name.place name.units in
-  let sign = after_run is_blank past_name.place past_name.units in
-  elim (cases_Bool (nat_lt name.place past_name.place && begins_with_equals sign.units)) [
-      inl t ↦ no_piece (units text) 0 none (run_any is_blank 0 (units text)
-        (run_first name.place name.units (ltb-true name.place past_name.place (and_parts (nat_lt name.place past_name.place) (begins_with_equals sign.units) t).0)))
-    | inr f ↦ let x : ◌≡◌ {A = Option SeenAssignment} None (Some a) = rw f at h in cc ]
+    let name = after_run is_blank 0 (units text) in
+    let past_name = after_run is_name_unit name.place name.units in
+    let sign = after_run is_blank past_name.place past_name.units in
+    elim (cases_Bool (nat_lt name.place past_name.place && begins_with_equals sign.units)) [
+      | inl t ↦ no_piece (units text) 0 none (run_any is_blank 0 (units text)
+          (run_first name.place name.units (ltb-true name.place past_name.place (and_parts (nat_lt name.place past_name.place) (begins_with_equals sign.units) t).0)))
+      | inr f ↦ let x : ◌≡◌ {A = Option SeenAssignment} None (Some a) = rw f at h in cc
+    ]

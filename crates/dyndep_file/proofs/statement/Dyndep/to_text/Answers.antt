@@ -11,5 +11,5 @@ pub returns-clause-meaning : goal.returns-clause-meaning
 returns-clause-meaning c =
     let statements = c.as_slice-statements.result.now in
     let meant : StandsForOnly c.in_ok-text_of.field-0.items statements =
-        subst (λ text. StandsForOnly text statements) (sym c.in_ok-text_of.ensures) (stands_for_only statements (all_written 0 statements (sym c.first_fault.ensures ∙ c.in_default.is))) in
+    subst (λ text. StandsForOnly text statements) (sym c.in_ok-text_of.ensures) (stands_for_only statements (all_written 0 statements (sym c.first_fault.ensures ∙ c.in_default.is))) in
     subst (λ ss. StandsForOnly c.in_ok-text_of.field-0.items ss) (c.as_slice-statements.ensures.value ∙ c.self.view_is) meant

@@ -1,0 +1,180 @@
+-- What the calls answer, from what their steps leave.
+use Rattle.std.proofs.Common.{◌≡◌, ◌≢◌, ℕ, ◌+◌, ◌<◌, ◌≤◌, List, [], ◌∷◌, ◌++◌, length, get_or, Option, Some, None, sym, ◌∙◌, ap, subst, inl, inr, ◌⊎◌, ⊎_elim, arith, zero, suc}
+use Rattle.std.specs.Option.{is_some, IsSome}
+use Rattle.std.specs.List.{Contains, All}
+use Rattle.std.proofs.lemmas.Bool.{cases_eq, cases_lt, false≢true, false_from_ne_true}
+use Rattle.std.proofs.lemmas.Cmp.{nat_eq_equiv}
+use Rattle.std.proofs.lemmas.List.{get_or_past, length_push, get_or_default}
+use Rattle.std.proofs.lemmas.List.Elements.{All-get_or, All-contains, Contains-push_cases, Contains-get_or}
+use Rattle.std.proofs.lemmas.Map.Keys.{IsDistinct-push}
+use Rattle.std.proofs.lemmas.Map.Steps.{length-le_from_distinct_below, le-length_from_below}
+use Rattle.dep_order.specs.Needs.{needs_of, NodeNeeds, NeedsAreNodes, IsOrderable, IsChain, Reaches, IsReach}
+use Rattle.dep_order.specs.Orders.{IsLeastOrder}
+use Rattle.dep_order.specs.Cycles.{IsCycle, IsLeastCycle, first_of}
+use Rattle.dep_order.specs.Placing.{IsPlacing}
+use Rattle.dep_order.specs.Users.{AreUsers}
+use Rattle.dep_order.specs.Steps.{AreSteps, LeadsBack, IsFewest, IsLeastFrom, AreReached}
+use Rattle.dep_order.specs.Marks.{mark_of}
+use Rattle.dep_order.proofs.Members.{has_none, has_or_not, has_from_any, any_from_has, count_from_has, has_from_count}
+use Rattle.dep_order.proofs.Chains.{chain_append, rotated}
+use Rattle.dep_order.proofs.Orders.{AreWithin, orderable, next_on_cycle}
+use Rattle.dep_order.proofs.Placings.{differ, not_more, placed_below}
+use Rattle.dep_order.proofs.Stuck.{IsStuck, HasCycle, not_orderable, has_cycle}
+use Rattle.dep_order.proofs.Searches.{none_is_no_some, some_or_none}
+use Rattle.dep_order.proofs.Greedy.{chain_steps}
+
+-- needs are among the nodes
+pub within : (graph : List (List ℕ)) → NeedsAreNodes graph → AreWithin (length graph) (NodeNeeds graph)
+within graph nodes thing needed need =
+    ⊎_elim
+    (λ lt. (lt, All-contains (λ n. n < length graph) (needs_of graph thing) needed (All-get_or (λ row. All (λ n. n < length graph) row) graph thing [] lt nodes) need))
+    (λ ge. absurd (has_none needed (subst (λ xs. Contains xs needed) (get_or_past graph thing [] ge) need)))
+    (cases_lt thing (length graph))
+
+-- users and needs are the same read backwards
+pub uses : (needs users : List (List ℕ)) → AreUsers needs users → (node user : ℕ) → NodeNeeds users node user → NodeNeeds needs user node
+uses needs users u node user h = has_from_count node (needs_of needs user) (omega (arith, count_from_has user (needs_of users node) h, u.counts node user))
+
+pub used : (needs users : List (List ℕ)) → AreUsers needs users → (node user : ℕ) → NodeNeeds needs user node → NodeNeeds users node user
+used needs users u node user h = has_from_count user (needs_of users node) (omega (arith, count_from_has node (needs_of needs user) h, u.counts node user))
+
+pub users_are_nodes : (needs users : List (List ℕ)) → AreUsers needs users → NeedsAreNodes needs → NeedsAreNodes users
+users_are_nodes needs users u nodes k d lt i e lt' =
+    let row : get_or users k d ≡ needs_of users k = get_or_default users k d [] lt in
+    let has : NodeNeeds users k (get_or (get_or users k d) i e) = subst (λ xs. Contains xs (get_or (get_or users k d) i e)) row (Contains-get_or (get_or users k d) i e lt') in
+    omega (arith, u.each, (within needs nodes (get_or (get_or users k d) i e) k (uses needs users u k (get_or (get_or users k d) i e) has)).0)
+
+-- all are placed
+pub all_placed : (needs : List (List ℕ)) (placed : List ℕ) → NeedsAreNodes needs → length placed ≡ length needs → IsPlacing needs placed → IsOrderable (length needs) (NodeNeeds needs) × IsLeastOrder (length needs) (NodeNeeds needs) placed
+all_placed needs placed nodes e h =
+    let least : IsLeastOrder (length needs) (NodeNeeds needs) placed = record { as_many = e; all = all; each = h.each } in
+    (orderable (length needs) (NodeNeeds needs) placed (within needs nodes) least, least)
+  where
+    all : (thing : ℕ) → thing < length needs → Contains placed thing
+    all thing lt =
+        ⊎_elim
+        (λ has. has)
+        (λ lacks. absurd (omega (
+          arith,
+          e,
+          length_push placed thing,
+          length-le_from_distinct_below (placed ++ thing ∷ []) (length needs)
+              (IsDistinct-push nat_eq_equiv placed thing (differ (length needs) (NodeNeeds needs) placed h.each) (false_from_ne_true _ (λ a. lacks (has_from_any placed thing a))))
+              (λ q a. ⊎_elim (λ m. placed_below (length needs) (NodeNeeds needs) placed h.each q m) (λ last. subst (λ x. x < length needs) last lt) (Contains-push_cases placed thing q (has_from_any (placed ++ thing ∷ []) q a))),
+        )))
+        (has_or_not placed thing)
+
+-- the nodes that are left
+abbrev pub IsLeft : List (List ℕ) → List ℕ → ℕ → Type 0
+IsLeft needs placed node = (node < length needs) × (¬ Contains placed node)
+
+stuck : (needs : List (List ℕ)) (placed : List ℕ) → NeedsAreNodes needs → IsPlacing needs placed → IsStuck (IsLeft needs placed) (NodeNeeds needs)
+stuck needs placed nodes h thing left =
+    let next = h.no_more_ready thing left.0 left.1 in
+    (next.0, next.1, ((within needs nodes thing next.0 next.1).1, next.2))
+
+-- some node below is left, or all are placed
+pub some_left : (needs : List (List ℕ)) (placed : List ℕ) (k : ℕ) → k ≤ length needs → ((node : ℕ) × IsLeft needs placed node) ⊎ ((node : ℕ) → node < k → Contains placed node)
+some_left needs placed zero le = inr (λ node lt. absurd (omega (arith, lt)))
+some_left needs placed (suc k) le =
+    ⊎_elim
+    (λ left. inl left)
+    (λ all. ⊎_elim
+    (λ has. inr (λ node lt. ⊎_elim (λ below. all node below) (λ ge. let e : k ≡ node = omega (arith, lt, ge) in subst (Contains placed) e has) (cases_lt node k)))
+    (λ lacks. inl (k, (omega (arith, le), lacks)))
+    (has_or_not placed k))
+    (some_left needs placed k (omega (arith, le)))
+
+-- where not all are placed, some node is left
+pub one_left : (needs : List (List ℕ)) (placed : List ℕ) → length placed ≢ length needs → IsPlacing needs placed → (node : ℕ) × IsLeft needs placed node
+one_left needs placed ne h =
+    ⊎_elim
+    (λ left. left)
+    (λ all. absurd (ne (let e : length placed ≡ length needs = omega (arith, not_more (length needs) (NodeNeeds needs) placed h.each, le-length_from_below placed (length needs) (λ q lt. any_from_has placed q (all q lt))) in e)))
+    (some_left needs placed (length needs) (omega arith))
+
+-- where not all are placed, there is no numbering, and there is a cycle
+pub not_all_placed : (needs : List (List ℕ)) (placed : List ℕ) → NeedsAreNodes needs → length placed ≢ length needs → IsPlacing needs placed → (¬ IsOrderable (length needs) (NodeNeeds needs)) × HasCycle (NodeNeeds needs)
+not_all_placed needs placed nodes ne h =
+    let left = one_left needs placed ne h in (
+      not_orderable (length needs) (IsLeft needs placed) (NodeNeeds needs) left.0 (stuck needs placed nodes h) left.1,
+      has_cycle (length needs) (IsLeft needs placed) (NodeNeeds needs) left.0 (λ x l. l.0) (stuck needs placed nodes h) left.1,
+    )
+
+-- steps along users are steps back along needs
+pub steps_back : (needs users : List (List ℕ)) (count first : ℕ) (steps : List (Option ℕ)) → AreUsers needs users → AreSteps count (NodeNeeds users) first steps → AreSteps count (LeadsBack (NodeNeeds needs)) first steps
+steps_back needs users count first steps u s = record {
+  as_many = s.as_many;
+  start = s.start;
+  only_start = s.only_start;
+  behind = λ node fewer e. let b = s.behind node fewer e in (b.0, b.1, uses needs users u b.0 node b.2);
+  nearest = λ before node k e leads. s.nearest before node k e (used needs users u before node leads);
+}
+
+-- no cycle begins with a thing that steps never lead back to
+pub no_way_back : (count : ℕ) (graph : List (List ℕ)) (first : ℕ) (steps : List (Option ℕ)) → AreSteps count (LeadsBack (NodeNeeds graph)) first steps → IsFewest (needs_of graph first) steps None → (other : List ℕ) → IsCycle (NodeNeeds graph) other → first_of other ≡ first → ⊥
+no_way_back count graph first steps s f [] h e = h
+no_way_back count graph first steps s f (x ∷ []) h e = none_is_no_some (mark_of steps first) 0 (f first (subst (λ z. NodeNeeds graph z z) e h)) s.start
+no_way_back count graph first steps s f (x ∷ next ∷ others) h e =
+    let c = chain_steps count (NodeNeeds graph) first steps s next others (subst (IsChain (NodeNeeds graph) (next ∷ others)) e h.1) in
+    none_is_no_some (mark_of steps next) c.0 (f next (subst (λ z. NodeNeeds graph z next) e h.0)) c.1
+
+-- the least cycle from the least thing on any is the least
+pub least_of_all : (Needs : ℕ → ℕ → Type 0) (first : ℕ) (cycle : List ℕ) → ((other : List ℕ) → IsCycle Needs other → first ≤ first_of other) → IsLeastFrom Needs first cycle → IsLeastCycle Needs cycle
+least_of_all Needs first cycle below h = record {
+  is_cycle = h.is_cycle;
+  least_first = λ other c k d lt.
+      let turned = rotated Needs other (get_or other k d) c (Contains-get_or other k d lt) in
+      omega (arith, h.begins_with, below (get_or other k d ∷ turned.0) turned.1);
+  shortest = λ other c has.
+      let turned = rotated Needs other (first_of cycle) c has in
+      omega (arith, turned.2, h.shortest (first_of cycle ∷ turned.0) turned.1 h.begins_with);
+  least_list = λ other c begins long. h.least_list other c (begins ∙ h.begins_with) long;
+}
+
+-- what steps lead to is reached
+pub steps_reach : (count : ℕ) (Needs : ℕ → ℕ → Type 0) (from : ℕ) (steps : List (Option ℕ)) → AreSteps count Needs from steps → (k node : ℕ) → mark_of steps node ≡ Some k → Reaches Needs from node
+steps_reach count Needs from steps s zero node e = inl (sym (s.only_start node e))
+steps_reach count Needs from steps s (suc k) node e =
+    let b = s.behind node k (e ∙ ap (λ n. Some n) (let n : suc k ≡ k + 1 = omega arith in n)) in
+    ⊎_elim
+    (λ same. inr ([], subst (λ z. Needs z node) (sym same) b.2))
+    (λ c. inr (c.0 ++ b.0 ∷ [], chain_append Needs (from ∷ c.0) b.0 [] node c.1 b.2))
+    (steps_reach count Needs from steps s k b.0 b.1)
+
+chain_reach : (count : ℕ) (Needs : ℕ → ℕ → Type 0) (from : ℕ) (steps : List (Option ℕ)) → AreSteps count Needs from steps → (x j : ℕ) (xs : List ℕ) (node : ℕ) → mark_of steps x ≡ Some j → IsChain Needs (x ∷ xs) node → (k : ℕ) × (mark_of steps node ≡ Some k)
+chain_reach count Needs from steps s x j [] node e h = let n = s.nearest x node j e h in (n.0, n.1)
+chain_reach count Needs from steps s x j (next ∷ xs) node e h =
+    let n = s.nearest x next j e h.0 in chain_reach count Needs from steps s next n.0 xs node n.1 h.1
+
+-- what is reached has steps to it
+pub reach_steps : (count : ℕ) (Needs : ℕ → ℕ → Type 0) (from : ℕ) (steps : List (Option ℕ)) → AreSteps count Needs from steps → (node : ℕ) → Reaches Needs from node → IsSome (mark_of steps node)
+reach_steps count Needs from steps s node h =
+    ⊎_elim
+    (λ e. ap is_some (subst (λ z. mark_of steps z ≡ Some 0) e s.start))
+    (λ c. ap is_some (chain_reach count Needs from steps s from 0 c.0 node s.start c.1).1)
+    h
+
+-- what a node needs is below the number of nodes
+pub row_nodes : (graph : List (List ℕ)) (node n : ℕ) → n ≡ length graph → node < length graph → NeedsAreNodes graph → All (λ needed. needed < n) (needs_of graph node)
+row_nodes graph node n e lt nodes = subst (λ m. All (λ needed. needed < m) (needs_of graph node)) (sym e) (All-get_or (λ row. All (λ needed. needed < length graph) row) graph node [] lt nodes)
+
+-- the first thing of a cycle is a node
+pub first_in_range : (graph : List (List ℕ)) (cycle : List ℕ) → NeedsAreNodes graph → IsCycle (NodeNeeds graph) cycle → first_of cycle < length graph
+first_in_range graph [] nodes h = absurd h
+first_in_range graph (first ∷ others) nodes h = let next = next_on_cycle (NodeNeeds graph) first others h in (within graph nodes first next.0 next.1).0
+
+-- no cycle begins with the node
+pub none_from : (Needs : ℕ → ℕ → Type 0) (first : ℕ) → ((cycle : List ℕ) → IsCycle Needs cycle → first_of cycle ≡ first → ⊥) → ((cycle : List ℕ) → IsCycle Needs cycle → first ≤ first_of cycle) → (cycle : List ℕ) → IsCycle Needs cycle → first + 1 ≤ first_of cycle
+none_from Needs first none below cycle h =
+    ⊎_elim (λ same. absurd (none cycle h same)) (λ ne. omega (arith, ne, below cycle h)) (cases_eq (first_of cycle) first)
+
+-- the nodes that steps lead to are what is reached
+pub is_reach : (count : ℕ) (Needs : ℕ → ℕ → Type 0) (from : ℕ) (steps : List (Option ℕ)) (reached : List ℕ) → AreSteps count Needs from steps → AreReached steps reached → IsReach Needs from reached
+is_reach count Needs from steps reached s h = record {
+  rising = h.rising;
+  exactly = λ node. (
+    (λ has. ⊎_elim (λ e. steps_reach count Needs from steps s e.0 node e.1) (λ none. absurd (false≢true (sym (ap is_some none) ∙ (h.exactly node).0 has))) (some_or_none (mark_of steps node))),
+    (λ r. (h.exactly node).1 (reach_steps count Needs from steps s node r)),
+  );
+}

@@ -1,0 +1,15 @@
+-- What other crates cite: the lemmas behind the promises of this crate, for needs of their own.
+
+-- A sorting, an order, a least cycle or a reach by some needs is one by any needs that hold of the same things.
+pub use Rattle.dep_order.proofs.Transfers.{Implies, sorting_same, orderable_same, order_same, least_cycle_same, cycle_same, chain_same, reaches_same}
+-- Numbers that put needed things lower or level, and inner numbers for those that are level, make needs orderable.
+pub use Rattle.dep_order.proofs.Transfers.{layered}
+-- What is orderable has no cycle.
+pub use Rattle.dep_order.proofs.Chains.{no_cycle}
+-- What has an order by smallest numbers is orderable, where the needs are among the things, as a digraph's are.
+pub use Rattle.dep_order.proofs.Orders.{AreWithin, orderable}
+pub use Rattle.dep_order.proofs.Answered.{within}
+-- At most one list is the order by smallest numbers, and at most one is the least cycle.
+pub use Rattle.dep_order.proofs.Unique.{one_order, one_cycle}
+-- What `Digraph::new` requires, from the same of each vector.
+pub use Rattle.dep_order.proofs.UserCounts.{rows_are_nodes}

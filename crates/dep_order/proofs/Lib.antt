@@ -1,0 +1,17 @@
+pub mod Members
+pub mod Chains
+pub mod Orders
+pub mod Stuck
+pub mod Unique
+pub mod Transfers
+pub mod UserCounts
+pub mod Releases
+pub mod Placings
+pub mod Searches
+pub mod Choices
+pub mod Greedy
+pub mod Answered
+pub mod Postorders
+pub mod Connected
+pub mod Finite
+pub mod ForCallers

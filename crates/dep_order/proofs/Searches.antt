@@ -1,0 +1,203 @@
+-- The search by levels, from step to step.
+use Rattle.std.proofs.Common.{◌≡◌, ◌≢◌, ℕ, ◌+◌, ◌<◌, ◌≤◌, Bool, true, false, not, List, [], ◌∷◌, ◌++◌, length, take, get_or, set, Option, Some, None, refl, sym, ◌∙◌, ap, subst, inl, inr, ◌⊎◌, ⊎_elim, arith, length-set, Vec, vec_len, eqb}
+use Rattle.std.specs.Option.{is_none, is_some}
+use Rattle.std.specs.declared.alloc.Global.{Global}
+use Rattle.std.specs.List.{Contains, All}
+use Rattle.std.proofs.lemmas.Bool.{cases_eq, cases_lt, false≢true}
+use Rattle.std.proofs.lemmas.List.{get_or-set_same, get_or-set_other, get_or_past, get_or_read, length_push, nil_from_length}
+use Rattle.std.proofs.lemmas.List.Elements.{Contains-append_left, Contains-push, Contains-push_cases, Contains-get_or}
+use Rattle.std.proofs.lemmas.List.Sums.{sum_by-set}
+use Rattle.dep_order.specs.Needs.{needs_of, NodeNeeds}
+use Rattle.dep_order.specs.Users.{one_if}
+use Rattle.dep_order.specs.Steps.{AreSteps, AreAdvanced}
+use Rattle.dep_order.specs.Marks.{mark_of, unmarked, AreMarked}
+use Rattle.dep_order.proofs.Members.{has_none, same, same_itself}
+use Rattle.dep_order.proofs.Releases.{has_more, has_more_front, has_more_last}
+
+-- an option is something or nothing
+pub some_or_none : (o : Option ℕ) → ((k : ℕ) × (o ≡ Some k)) ⊎ (o ≡ None)
+some_or_none None = inr refl
+some_or_none (Some k) = inl (k, refl)
+
+-- nothing is not something
+pub none_is_no_some : (o : Option ℕ) (k : ℕ) → o ≡ None → o ≡ Some k → ⊥
+none_is_no_some o k e f = let g : None ≡ Some k = sym e ∙ f in cc
+
+-- an option holds one value
+pub one_value : (o : Option ℕ) (j k : ℕ) → o ≡ Some j → o ≡ Some k → j ≡ k
+one_value o j k e f = let g : Some j ≡ Some k = sym e ∙ f in cc
+
+-- what a read and its test say
+pub read_none : (steps : List (Option ℕ)) (i : ℕ) (o : Option ℕ) (b : Bool) → i < length steps → o ≡ get_or steps i o → is_some o ≡ not b → b ≡ true → mark_of steps i ≡ None
+read_none steps i o b lt is e t = sym (get_or_read steps i o lt is None) ∙ nothing o (e ∙ ap not t)
+  where
+    nothing : (o : Option ℕ) → is_some o ≡ false → o ≡ None
+    nothing None e = refl
+    nothing (Some k) e = absurd (false≢true (sym e))
+
+-- the same where there is a value
+pub read_some : (steps : List (Option ℕ)) (i : ℕ) (o : Option ℕ) (b : Bool) → i < length steps → o ≡ get_or steps i o → is_some o ≡ not b → b ≡ false → (k : ℕ) × (mark_of steps i ≡ Some k)
+read_some steps i o b lt is e t = let s = something o (e ∙ ap not t) in (s.0, sym (get_or_read steps i o lt is None) ∙ s.1)
+  where
+    something : (o : Option ℕ) → is_some o ≡ true → (k : ℕ) × (o ≡ Some k)
+    something None e = absurd (false≢true e)
+    something (Some k) e = (k, refl)
+
+-- a node of the row that steps lead to already
+pub visited_old : (row : List ℕ) (i count : ℕ) (first steps : List (Option ℕ)) (next now : List ℕ) → i < length row → (k : ℕ) → mark_of steps (get_or row i 0) ≡ Some k → AreMarked (take i row) count first steps next now → AreMarked (take (i + 1) row) count first steps next now
+visited_old row i count first steps next now lt k is h = record {
+  as_many = h.as_many;
+  kept = h.kept;
+  came = λ node j e. ⊎_elim (λ o. inl o) (λ c. inr (c.0, has_more_front row i node lt c.1, c.2)) (h.came node j e);
+  reached = λ node has. ⊎_elim (λ front. h.reached node front) (λ last. (k, subst (λ x. mark_of steps x ≡ Some k) last is)) (has_more row i node lt has);
+  next_kept = h.next_kept;
+  next_came = h.next_came;
+  accounted = h.accounted;
+}
+
+-- a node of the row that no steps led to
+pub visited_new : (row : List ℕ) (i count : ℕ) (first steps : List (Option ℕ)) (next now : List ℕ) → i < length row → get_or row i 0 < length steps → mark_of steps (get_or row i 0) ≡ None → AreMarked (take i row) count first steps next now → AreMarked (take (i + 1) row) count first (set steps (get_or row i 0) (Some count)) next (now ++ get_or row i 0 ∷ [])
+visited_new row i count first steps next now lt in' is h = record {
+  as_many = omega (arith, h.as_many, length-set steps (get_or row i 0) (Some count));
+  kept = λ node k e. kept node k (h.kept node k e);
+  came = λ node k e. came node k e (cases_eq node (get_or row i 0));
+  reached = λ node has.
+      ⊎_elim
+      (λ front. let was = h.reached node front in (was.0, kept node was.0 was.1))
+      (λ last. (count, subst (λ x. mark_of (set steps (get_or row i 0) (Some count)) x ≡ Some count) last here))
+      (has_more row i node lt has);
+  next_kept = λ node has. Contains-append_left now (get_or row i 0 ∷ []) node (h.next_kept node has);
+  next_came = λ node has.
+      ⊎_elim
+      (λ front. ⊎_elim (λ n. inl n) (λ e. inr (kept node count e)) (h.next_came node front))
+      (λ last. inr (subst (λ x. mark_of (set steps (get_or row i 0) (Some count)) x ≡ Some count) last here))
+      (Contains-push_cases now (get_or row i 0) node has);
+  accounted =
+      let before : one_if (is_none (get_or steps (get_or row i 0) None)) ≡ 1 = ap (λ o. one_if (is_none o)) is in
+      omega (arith, h.accounted, length_push now (get_or row i 0), sum_by-set (λ o. one_if (is_none o)) steps (get_or row i 0) (Some count) None in', before);
+}
+  where
+    here : mark_of (set steps (get_or row i 0) (Some count)) (get_or row i 0) ≡ Some count
+    here = get_or-set_same steps (get_or row i 0) (Some count) None in'
+
+    there : (node : ℕ) → node ≢ get_or row i 0 → mark_of (set steps (get_or row i 0) (Some count)) node ≡ mark_of steps node
+    there node ne = get_or-set_other steps (get_or row i 0) node (Some count) None ne
+
+    kept : (node k : ℕ) → mark_of steps node ≡ Some k → mark_of (set steps (get_or row i 0) (Some count)) node ≡ Some k
+    kept node k e = there node (λ same. none_is_no_some (mark_of steps node) k (subst (λ x. mark_of steps x ≡ None) (sym same) is) e) ∙ e
+
+    came : (node k : ℕ) → mark_of (set steps (get_or row i 0) (Some count)) node ≡ Some k → (node ≡ get_or row i 0) ⊎ (node ≢ get_or row i 0) → (mark_of first node ≡ Some k) ⊎ ((k ≡ count) × Contains (take (i + 1) row) node × Contains (now ++ get_or row i 0 ∷ []) node)
+    came node k e c =
+        ⊎_elim
+        (λ same. inr (
+          one_value (mark_of (set steps (get_or row i 0) (Some count)) (get_or row i 0)) k count (subst (λ x. mark_of (set steps (get_or row i 0) (Some count)) x ≡ Some k) same e) here,
+          subst (Contains (take (i + 1) row)) (sym same) (has_more_last row i lt),
+          subst (Contains (now ++ get_or row i 0 ∷ [])) (sym same) (Contains-push now (get_or row i 0)),
+        ))
+        (λ ne. ⊎_elim (λ o. inl o) (λ w. inr (w.0, has_more_front row i node lt w.1, Contains-append_left now (get_or row i 0 ∷ []) node w.2)) (h.came node k (sym (there node ne) ∙ e)))
+        c
+
+-- one more node of the frontier
+pub advanced_more : (rows : List (List ℕ)) (frontier : List ℕ) (i count : ℕ) (first steps new_steps : List (Option ℕ)) (next new_next : List ℕ) → i < length frontier → AreAdvanced rows (take i frontier) count first steps next → AreMarked (needs_of rows (get_or frontier i 0)) count steps new_steps next new_next → AreAdvanced rows (take (i + 1) frontier) count first new_steps new_next
+advanced_more rows frontier i count first steps new_steps next new_next lt h v = record {
+  as_many = omega (arith, h.as_many, v.as_many);
+  kept = λ node k e. v.kept node k (h.kept node k e);
+  came = λ node k e.
+      ⊎_elim
+      (λ o. ⊎_elim (λ f. inl f) (λ w. inr (w.0, v.next_kept node w.1, (w.2.0, has_more_front frontier i w.2.0 lt w.2.1, w.2.2))) (h.came node k o))
+      (λ w. inr (w.0, w.2, (get_or frontier i 0, has_more_last frontier i lt, w.1)))
+      (v.came node k e);
+  reached = λ before node has leads.
+      ⊎_elim
+      (λ front. let was = h.reached before node front leads in (was.0, v.kept node was.0 was.1))
+      (λ last. v.reached node (subst (λ x. NodeNeeds rows x node) (sym last) leads))
+      (has_more frontier i before lt has);
+  next_came = λ node has. ⊎_elim (λ n. v.kept node count (h.next_came node n)) (λ e. e) (v.next_came node has);
+  accounted = omega (arith, h.accounted, v.accounted);
+}
+
+-- after so many levels: what they reached is exact, and the frontier is what the last of them reached
+pub record IsSearching (rows : List (List ℕ)) (from : ℕ) (steps : List (Option ℕ)) (frontier : List ℕ) (count : ℕ) : Type 0 where
+  pub as_many : length steps ≡ length rows
+  pub start : mark_of steps from ≡ Some 0
+  pub only_start : (node : ℕ) → mark_of steps node ≡ Some 0 → node ≡ from
+  pub behind : (node fewer : ℕ) → mark_of steps node ≡ Some (fewer + 1) → (before : ℕ) × (mark_of steps before ≡ Some fewer) × NodeNeeds rows before node
+  pub level : (node k : ℕ) → mark_of steps node ≡ Some k → k ≤ count
+  pub at_level : (node : ℕ) → Contains frontier node → mark_of steps node ≡ Some count
+  pub of_level : (node : ℕ) → mark_of steps node ≡ Some count → Contains frontier node
+  pub closed : (before node k : ℕ) → mark_of steps before ≡ Some k → k < count → NodeNeeds rows before node → (fewer : ℕ) × (mark_of steps node ≡ Some fewer) × (fewer ≤ k + 1)
+  pub few : count + unmarked steps + length frontier ≤ length rows
+
+-- one more level
+pub next_level : (rows : List (List ℕ)) (from : ℕ) (steps new_steps : List (Option ℕ)) (frontier next : List ℕ) (count : ℕ) → 0 < length frontier → IsSearching rows from steps frontier count → AreAdvanced rows frontier (count + 1) steps new_steps next → IsSearching rows from new_steps next (count + 1)
+next_level rows from steps new_steps frontier next count some h a = record {
+  as_many = omega (arith, h.as_many, a.as_many);
+  start = a.kept from 0 h.start;
+  only_start = λ node e. ⊎_elim (λ o. h.only_start node o) (λ w. absurd (omega (arith, w.0))) (a.came node 0 e);
+  behind = λ node fewer e.
+      ⊎_elim
+      (λ o. let b = h.behind node fewer o in (b.0, a.kept b.0 fewer b.1, b.2))
+      (λ w.
+      let same : count ≡ fewer = omega (arith, w.0) in
+      (w.2.0, subst (λ k. mark_of new_steps w.2.0 ≡ Some k) same (a.kept w.2.0 count (h.at_level w.2.0 w.2.1)), w.2.2))
+      (a.came node (fewer + 1) e);
+  level = level;
+  at_level = a.next_came;
+  of_level = λ node e. ⊎_elim (λ o. absurd (omega (arith, h.level node (count + 1) o))) (λ w. w.1) (a.came node (count + 1) e);
+  closed = λ before node k e lt leads.
+      ⊎_elim
+      (λ o. ⊎_elim
+      (λ below. let c = h.closed before node k o below leads in (c.0, a.kept node c.0 c.1, c.2))
+      (λ ge.
+      let same : k ≡ count = omega (arith, ge, lt) in
+      let r = a.reached before node (h.of_level before (subst (λ z. mark_of steps before ≡ Some z) same o)) leads in
+      (r.0, r.1, omega (arith, level node r.0 r.1, same)))
+      (cases_lt k count))
+      (λ w. absurd (omega (arith, w.0, lt)))
+      (a.came before k e);
+  few = omega (arith, h.few, a.accounted, some);
+}
+  where
+    level : (node k : ℕ) → mark_of new_steps node ≡ Some k → k ≤ count + 1
+    level node k e = ⊎_elim (λ o. omega (arith, h.level node k o)) (λ w. omega (arith, w.0)) (a.came node k e)
+
+-- the last level is empty
+pub all_levels : (rows : List (List ℕ)) (from : ℕ) (steps : List (Option ℕ)) (frontier : List ℕ) (count : ℕ) → frontier ≡ [] → IsSearching rows from steps frontier count → AreSteps (length rows) (NodeNeeds rows) from steps
+all_levels rows from steps frontier count e h = record {
+  as_many = h.as_many;
+  start = h.start;
+  only_start = h.only_start;
+  behind = h.behind;
+  nearest = λ before node k is leads.
+      ⊎_elim
+      (λ below. h.closed before node k is below leads)
+      (λ ge.
+      let same : k ≡ count = omega (arith, ge, h.level before k is) in
+      absurd (has_none before (subst (λ xs. Contains xs before) e (h.of_level before (subst (λ z. mark_of steps before ≡ Some z) same is)))))
+      (cases_lt k count);
+}
+
+-- a vector that is not empty has items
+pub nonempty : (v : Vec ℕ Global) → false ≡ eqb (vec_len v) 0 → 0 < length v.items
+nonempty v e =
+    ⊎_elim
+    (λ z. absurd (false≢true (e ∙ ap (λ n. eqb n 0) z ∙ same_itself 0)))
+    (λ ne. omega (arith, ne, v.ok.0))
+    (cases_eq (vec_len v) 0)
+
+-- a vector of no length has no items
+pub emptied_by : (v : Vec ℕ Global) → (0 < vec_len v → ⊥) → v.items ≡ []
+emptied_by v none = nil_from_length v.items (⊎_elim (λ lt. absurd (none lt)) (λ ge. omega (arith, ge, v.ok.0)) (cases_lt 0 (vec_len v)))
+
+-- an empty vector has no items
+pub emptied : (v : Vec ℕ Global) → true ≡ eqb (vec_len v) 0 → v.items ≡ []
+emptied v e = let z : vec_len v ≡ 0 = same (vec_len v) 0 (sym e) in nil_from_length v.items (omega (arith, z, v.ok.0))
+
+-- what steps lead to is a node
+pub node_in_range : (steps : List (Option ℕ)) (node k : ℕ) → mark_of steps node ≡ Some k → node < length steps
+node_in_range steps node k e = ⊎_elim (λ lt. lt) (λ ge. absurd (none_is_no_some (mark_of steps node) k (get_or_past steps node None ge) e)) (cases_lt node (length steps))
+
+-- the frontier are nodes
+pub frontier_in_range : (rows : List (List ℕ)) (from : ℕ) (steps : List (Option ℕ)) (frontier : List ℕ) (count n : ℕ) → length rows ≡ n → IsSearching rows from steps frontier count → All (λ node. node < n) frontier
+frontier_in_range rows from steps frontier count n e h k d lt =
+    omega (arith, e, h.as_many, node_in_range steps (get_or frontier k d) count (h.at_level (get_or frontier k d) (Contains-get_or frontier k d lt)))

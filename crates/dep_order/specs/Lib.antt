@@ -1,0 +1,11 @@
+pub mod Needs
+pub mod Orders
+pub mod Cycles
+pub mod Rows
+pub mod Sortings
+pub mod Users
+pub mod Placing
+pub mod Marks
+pub mod Steps
+pub mod Postorders
+pub mod Components

@@ -1,0 +1,68 @@
+//! The strongly connected components of a digraph, in linear time (M. Sharir, A strong-connectivity
+//! algorithm and its applications in data flow analysis, Computers and Mathematics with Applications
+//! 7, 1981).
+ghost use Rattle.std.specs.Prelude.{◌≡◌, ◌<◌, ◌+◌, ◌↔◌, All, IfOk, IsTrue, OnOk, length};
+ghost use Rattle.dep_order.specs.Needs.{NeedsAreNodes};
+ghost use Rattle.dep_order.specs.Users.{AreUsers};
+ghost use Rattle.dep_order.specs.Components.{AreComponents, AreNumbersFrom, IsNumberAdded, SharesComponent};
+ghost use Rattle.dep_order.specs.Rows.{rows};
+
+use crate::depth_first::postorder_of;
+use crate::marking::mark_row;
+use crate::rows::row_of;
+use std::alloc::{AllocError, Global};
+
+/// A number for each node: nodes have the same where each leads to the other.
+pub fn components_of(
+    alloc: Global,
+    needs: &[Vec<usize>],
+    users: &[Vec<usize>],
+) -> Result<Vec<Option<usize>>, AllocError>
+    requires nodes { NeedsAreNodes (rows needs.now) }
+    requires users { AreUsers (rows needs.now) (rows users.now) }
+    ensures { IfOk result (λ components. AreComponents (rows needs.now) components.items) }
+{
+    let mut postorder = postorder_of(alloc, needs)?;
+    let mut components: Vec<Option<usize>> = vec![in alloc; None; users.len()]?;
+    while let Some(root) = postorder.pop() {
+        add_component(alloc, users, root, postorder.len(), &mut components)?;
+    }
+    Ok(components)
+}
+
+/// Gives the number to the root and to all that users lead to from it, but for the nodes that have one.
+fn add_component(
+    alloc: Global,
+    users: &[Vec<usize>],
+    root: usize,
+    number: usize,
+    numbers: &mut Vec<Option<usize>>,
+) -> Result<(), AllocError>
+    requires nodes { NeedsAreNodes (rows users.now) }
+    requires root { root < length users.now }
+    requires numbers { AreNumbersFrom (rows users.now) (number + 1) numbers.old.items }
+    ensures numbers { OnOk result (AreNumbersFrom (rows users.now) number numbers.new.items) }
+    ensures added { OnOk result
+        (IsNumberAdded (rows users.now) root number numbers.old.items numbers.new.items) }
+{
+    let mut waiting = Vec::new(alloc);
+    mark_row(&[root], number, numbers, &mut waiting)?;
+    while let Some(node) = waiting.pop() {
+        mark_row(row_of(users, node), number, numbers, &mut waiting)?;
+    }
+    Ok(())
+}
+
+/// Whether a node of the row shares the node's component.
+pub fn shares_component(row: &[usize], components: &[Option<usize>], node: usize) -> bool
+    requires row { All (λ other. other < length components.now) row.now }
+    requires node { node < length components.now }
+    ensures { IsTrue result ↔ SharesComponent row.now components.now node }
+{
+    for other in row {
+        if components[*other] == components[node] {
+            return true;
+        }
+    }
+    false
+}

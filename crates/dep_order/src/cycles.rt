@@ -1,0 +1,114 @@
+//! The least cycle: its first node by components, its length by levels, and its nodes one by one.
+ghost use Rattle.std.specs.Prelude.{◌≡◌, ◌<◌, ◌≤◌, ℕ, All, IfOk, length, slice_index, Contains, List, ◌∷◌, Some};
+ghost use Rattle.dep_order.specs.Needs.{NodeNeeds, NeedsAreNodes, needs_of};
+ghost use Rattle.dep_order.specs.Cycles.{IsCycle, IsLeastCycle, first_of};
+ghost use Rattle.dep_order.specs.Users.{AreUsers};
+ghost use Rattle.dep_order.specs.Rows.{rows};
+ghost use Rattle.dep_order.specs.Steps.{AreSteps, IsFewest, IsLeastAt, IsLeastFrom, LeadsBack};
+ghost use Rattle.dep_order.specs.Marks.{mark_of};
+
+use crate::components::{components_of, shares_component};
+use crate::levels::steps_from;
+use crate::rows::row_of;
+use std::alloc::{AllocError, Global};
+
+/// The least cycle of a digraph that has one.
+pub fn least_cycle(
+    alloc: Global,
+    needs: &[Vec<usize>],
+    users: &[Vec<usize>],
+) -> Result<Vec<usize>, AllocError>
+    requires nodes { NeedsAreNodes (rows needs.now) }
+    requires users { AreUsers (rows needs.now) (rows users.now) }
+    requires cycle { (cycle : List ℕ) × IsCycle (NodeNeeds (rows needs.now)) cycle }
+    ensures { IfOk result (λ cycle. IsLeastCycle (NodeNeeds (rows needs.now)) cycle.items) }
+{
+    let components = components_of(alloc, needs, users)?;
+    for first in 0..needs.len() {
+        if shares_component(row_of(needs, first), components.as_slice(), first) {
+            return cycle_through(alloc, needs, users, first);
+        }
+    }
+    unreachable!()
+}
+
+/// The least cycle that begins with the first node, which lies on one.
+fn cycle_through(
+    alloc: Global,
+    needs: &[Vec<usize>],
+    users: &[Vec<usize>],
+    first: usize,
+) -> Result<Vec<usize>, AllocError>
+    requires nodes { NeedsAreNodes (rows needs.now) }
+    requires users { AreUsers (rows needs.now) (rows users.now) }
+    requires first { first < length needs.now }
+    requires cycle { (others : List ℕ) × IsCycle (NodeNeeds (rows needs.now)) (first ∷ others) }
+    ensures { IfOk result (λ cycle. IsLeastFrom (NodeNeeds (rows needs.now)) first cycle.items) }
+{
+    let steps = steps_from(alloc, users, first)?;
+    match fewest(row_of(needs, first), steps.as_slice()) {
+        None => unreachable!(),
+        Some(count) => cycle_from(alloc, needs, steps.as_slice(), first, count),
+    }
+}
+
+/// The fewest steps that a node of the row is away.
+fn fewest(row: &[usize], steps: &[Option<usize>]) -> Option<usize>
+    requires { All (λ node. node < length steps.now) row.now }
+    ensures { IsFewest row.now steps.now result }
+{
+    let mut best: Option<usize> = None;
+    for node in row {
+        if let Some(count) = steps[*node] {
+            best = Some(match best {
+                None => count,
+                Some(least) => count.min(least),
+            });
+        }
+    }
+    best
+}
+
+/// The least cycle from the first node on whose second node is so many steps away from it.
+fn cycle_from(
+    alloc: Global,
+    needs: &[Vec<usize>],
+    steps: &[Option<usize>],
+    first: usize,
+    count: usize,
+) -> Result<Vec<usize>, AllocError>
+    requires nodes { NeedsAreNodes (rows needs.now) }
+    requires first { first < length needs.now }
+    requires steps { AreSteps (length needs.now) (LeadsBack (NodeNeeds (rows needs.now))) first steps.now }
+    requires fewest { IsFewest (needs_of (rows needs.now) first) steps.now (Some count) }
+    ensures { IfOk result (λ cycle. IsLeastFrom (NodeNeeds (rows needs.now)) first cycle.items) }
+{
+    let mut cycle = vec![in alloc; first]?;
+    let mut node = first;
+    for chosen in 0..count {
+        node = least_at(row_of(needs, node), steps, count - chosen);
+        cycle.push(node)?;
+    }
+    Ok(cycle)
+}
+
+/// The least node of the row that is so many steps away, where one is.
+fn least_at(row: &[usize], steps: &[Option<usize>], count: usize) -> usize
+    requires nodes { All (λ node. node < length steps.now) row.now }
+    requires some { (node : ℕ) × Contains row.now node × (mark_of steps.now node ≡ Some count) }
+    ensures { IsLeastAt row.now steps.now count result }
+{
+    let mut least: Option<usize> = None;
+    for node in row {
+        if steps[*node] == Some(count) {
+            least = Some(match least {
+                None => *node,
+                Some(other) => other.min(*node),
+            });
+        }
+    }
+    match least {
+        Some(node) => node,
+        None => unreachable!(),
+    }
+}

@@ -1,0 +1,72 @@
+//! The order in which a search in depth leaves the nodes.
+ghost use Rattle.std.specs.Prelude.{◌≡◌, ◌<◌, All, IfOk, OnOk, length, true, []};
+ghost use Rattle.dep_order.specs.Needs.{NeedsAreNodes};
+ghost use Rattle.dep_order.specs.Postorders.{IsPostorder, IsInDepth, IsFirstUnseen, SeesMore, is_seen};
+ghost use Rattle.dep_order.specs.Rows.{rows};
+
+use crate::rows::row_of;
+use std::alloc::{AllocError, Global};
+
+/// The nodes in postorder, as a search in depth along needs leaves them.
+pub fn postorder_of(alloc: Global, needs: &[Vec<usize>]) -> Result<Vec<usize>, AllocError>
+    requires { NeedsAreNodes (rows needs.now) }
+    ensures { IfOk result (λ postorder. IsPostorder (rows needs.now) postorder.items) }
+{
+    let mut seen = vec![in alloc; false; needs.len()]?;
+    let mut places = vec![in alloc; 0; needs.len()]?;
+    let mut left = Vec::new(alloc);
+    for root in 0..needs.len() {
+        search_from(alloc, needs, root, &mut seen, &mut places, &mut left)?;
+    }
+    Ok(left)
+}
+
+/// Searches in depth from the root, where it isn't seen yet, and adds each node as it is left.
+fn search_from(
+    alloc: Global,
+    needs: &[Vec<usize>],
+    root: usize,
+    seen: &mut Vec<bool>,
+    places: &mut Vec<usize>,
+    left: &mut Vec<usize>,
+) -> Result<(), AllocError>
+    requires nodes { NeedsAreNodes (rows needs.now) }
+    requires root { root < length needs.now }
+    requires so_far { IsInDepth (rows needs.now) seen.old.items places.old.items [] left.old.items }
+    ensures searched { OnOk result
+        (IsInDepth (rows needs.now) seen.new.items places.new.items [] left.new.items) }
+    ensures root { OnOk result (is_seen seen.new.items root ≡ true) }
+    ensures kept { OnOk result (SeesMore seen.old.items seen.new.items) }
+{
+    if seen[root] {
+        return Ok(());
+    }
+    seen[root] = true;
+    let mut path = vec![in alloc; root]?;
+    while let Some(node) = path.pop() {
+        let row = row_of(needs, node);
+        match first_unseen(row, places[node], seen.as_slice()) {
+            Some(place) => {
+                places[node] = place + 1;
+                seen[row[place]] = true;
+                path.push(node)?;
+                path.push(row[place])?;
+            }
+            None => left.push(node)?,
+        }
+    }
+    Ok(())
+}
+
+/// The first place of the row from there on whose node isn't seen.
+fn first_unseen(row: &[usize], from: usize, seen: &[bool]) -> Option<usize>
+    requires { All (λ node. node < length seen.now) row.now }
+    ensures { IsFirstUnseen row.now seen.now from result }
+{
+    for place in from..row.len() {
+        if !seen[row[place]] {
+            return Some(place);
+        }
+    }
+    None
+}

@@ -1,0 +1,124 @@
+//! Digraphs of what needs what: nodes in order, the least cycle where there is no order, and what a
+//! node reaches.
+//!
+//! Nodes are numbered from 0. `order` answers all nodes, each after what it needs, by smallest
+//! numbers, or else the least cycle; `reach` answers what chains of needs lead to. One clause says all
+//! of each: `IsSortingOf` of `specs/Sortings.antt`, which stands on `specs/Orders.antt` and
+//! `specs/Cycles.antt`, and `IsReach` of `specs/Needs.antt`. The only error is want of memory. The
+//! module `laws` has the laws of these definitions: there is at most one order and one least cycle,
+//! and an order exactly where there is no cycle.
+//!
+//! The definitions speak of any relation between numbered things. A caller with needs of its own makes
+//! the digraph of the same needs, and carries the answer over with the lemmas of
+//! `proofs/ForCallers.antt`.
+//!
+//! Work grows linearly with the nodes and needs, but for a logarithm in placing nodes, and no call
+//! recurses. The crate stands on `std` alone.
+#![tactic(auto)]
+
+mod components;
+mod cycles;
+mod depth_first;
+pub mod laws;
+mod levels;
+mod marking;
+mod placing;
+mod rows;
+#[cfg(test)]
+mod tests;
+mod users;
+
+ghost use Rattle.std.specs.Prelude.{◌≡◌, ◌<◌, length, IfOk};
+ghost use Rattle.dep_order.specs.Needs.{NodeNeeds, NeedsAreNodes, IsReach};
+ghost use Rattle.dep_order.specs.Rows.{rows};
+ghost use Rattle.dep_order.specs.Sortings.{IsSortingOf};
+
+use cycles::least_cycle;
+use levels::{reached_nodes, steps_from};
+use placing::place_all;
+use std::alloc::{AllocError, Global};
+use std::marker::Model;
+use users::users_of;
+
+/// What each node needs. A contract sees it as the list of the nodes' lists of needs.
+#[derive(Drop)]
+pub struct Digraph {
+    needs: Vec<Vec<usize>>,
+}
+
+impl Model for Digraph {
+    ghost use Rattle.std.specs.Prelude.{ℕ, List};
+    ghost use Rattle.dep_order.specs.Needs.{NeedsAreNodes};
+    ghost use Rattle.dep_order.specs.Rows.{rows};
+
+    ghost Value = { List (List ℕ) };
+
+    ghost view = { λ graph. rows graph.needs.items };
+
+    ghost invariant = { λ graph. NeedsAreNodes (rows graph.needs.items) };
+}
+
+impl Digraph {
+    /// The digraph in which node i needs the nodes that are listed at i. A list may be in any order
+    /// and name a node more than once, and a node may need itself; each number in a list has to be
+    /// that of a node.
+    pub fn new(needs: Vec<Vec<usize>>) -> Digraph
+        requires { NeedsAreNodes (rows needs.items) }
+        ensures { result ≡ rows needs.items }
+    {
+        Digraph { needs }
+    }
+}
+
+/// The nodes of a digraph in order, or a cycle where they have none.
+#[derive(Debug, PartialEq, Eq, Drop)]
+pub enum Sorting {
+    /// All nodes, each once and after all that it needs. At each place stands the smallest number
+    /// that may stand there.
+    Order(Vec<usize>),
+    /// A cycle: each node needs the next, and the last needs the first. The first is the least number
+    /// on any cycle, no cycle through it is shorter, and of those that are as short this list is least.
+    Cycle(Vec<usize>),
+}
+
+/// The order by smallest numbers, or the least cycle where the needs have no order. The error is want
+/// of memory alone.
+pub fn order(alloc: Global, graph: &Digraph) -> Result<Sorting, AllocError>
+    ensures { IfOk result (IsSortingOf (length graph.now) (NodeNeeds graph.now)) }
+{
+    sort_nodes(alloc, graph.needs.as_slice())
+}
+
+/// The node itself and all that chains of needs lead to from it, in rising order. The error is want
+/// of memory alone.
+pub fn reach(alloc: Global, graph: &Digraph, from: usize) -> Result<Vec<usize>, AllocError>
+    requires { from < length graph.now }
+    ensures { IfOk result (λ reached. IsReach (NodeNeeds graph.now) from reached.items) }
+{
+    nodes_reached(alloc, graph.needs.as_slice(), from)
+}
+
+/// The order by smallest numbers, or the least cycle; each node needs those of its list.
+fn sort_nodes(alloc: Global, needs: &[Vec<usize>]) -> Result<Sorting, AllocError>
+    requires { NeedsAreNodes (rows needs.now) }
+    ensures { IfOk result (IsSortingOf (length (rows needs.now)) (NodeNeeds (rows needs.now))) }
+{
+    let users = users_of(alloc, needs)?;
+    let placed = place_all(alloc, needs, users.as_slice())?;
+    if placed.len() == needs.len() {
+        Ok(Sorting::Order(placed))
+    } else {
+        let cycle = least_cycle(alloc, needs, users.as_slice())?;
+        Ok(Sorting::Cycle(cycle))
+    }
+}
+
+/// The node and all that chains of needs lead to from it; each node needs those of its list.
+fn nodes_reached(alloc: Global, needs: &[Vec<usize>], from: usize) -> Result<Vec<usize>, AllocError>
+    requires nodes { NeedsAreNodes (rows needs.now) }
+    requires from { from < length needs.now }
+    ensures { IfOk result (λ reached. IsReach (NodeNeeds (rows needs.now)) from reached.items) }
+{
+    let steps = steps_from(alloc, needs, from)?;
+    reached_nodes(alloc, steps.as_slice())
+}

@@ -1,0 +1,86 @@
+//! What a run of a command answers.
+
+ghost use Rattle.std.specs.Prelude.{◌≡◌, [], IfOk};
+ghost use Rattle.std.specs.Result.{result_ok};
+ghost use Rattle.dyndep_file.specs.WriteFaults.{text_or_fault};
+ghost use Rattle.dyncollate.specs.Answers.{visible, line, AnswersText};
+
+use dyndep_file::Dyndep;
+use ninja_text::Failure;
+use std::alloc::{AllocError, Global};
+
+/// What a run of a command answers: the exit status, the bytes for standard output and for standard error, and the
+/// files to be written, by name and in order.
+#[derive(Drop)]
+pub struct Answer {
+    pub status: u8,
+    pub out: Vec<u8>,
+    pub err: Vec<u8>,
+    pub files: Vec<(String, Vec<u8>)>,
+}
+
+impl Answer {
+    /// The run is done, and has this text for standard output.
+    pub fn done(alloc: Global, out: Vec<u8>) -> Answer
+        ensures status { result.status ≡ 0 }
+        ensures out { result.out ≡ out }
+        ensures err { result.err.items ≡ [] }
+        ensures files { result.files.items ≡ [] }
+    {
+        Answer {
+            status: 0,
+            out,
+            err: Vec::new(alloc),
+            files: Vec::new(alloc),
+        }
+    }
+
+    /// The run prints the text of a dyndep file, or tells why it cannot be written.
+    pub fn of_dyndep(alloc: Global, dyndep: &Dyndep) -> Result<Answer, AllocError>
+        ensures { IfOk result (AnswersText (result_ok (text_or_fault dyndep.now))) }
+    {
+        match dyndep.to_text(alloc) {
+            Ok(text) => Ok(Answer::done(alloc, text)),
+            Err(Failure::Memory) => Err(AllocError),
+            Err(Failure::Fault(fault)) => {
+                let message = format!(in alloc; "{fault}")?;
+                Answer::failed(alloc, 1, message.as_bytes())
+            }
+        }
+    }
+
+    /// The run ends with a status that says why, and with one line that tells more.
+    pub fn failed(alloc: Global, status: u8, message: &[u8]) -> Result<Answer, AllocError>
+        ensures status { IfOk result (λ answer. answer.status ≡ status) }
+        ensures out { IfOk result (λ answer. answer.out.items ≡ []) }
+        ensures err { IfOk result (λ answer. answer.err.items ≡ line message.now) }
+        ensures files { IfOk result (λ answer. answer.files.items ≡ []) }
+    {
+        let err = fault_line(alloc, message)?;
+        Ok(Answer {
+            status,
+            out: Vec::new(alloc),
+            err,
+            files: Vec::new(alloc),
+        })
+    }
+}
+
+/// The line on standard error that tells why a run failed. Control bytes are shown as `?`.
+fn fault_line(alloc: Global, message: &[u8]) -> Result<Vec<u8>, AllocError>
+    ensures { IfOk result (λ text. text.items ≡ line message.now) }
+{
+    let mut text = Vec::from_slice(alloc, b"dyncollate: ")?;
+    for byte in message {
+        text.push(visible(*byte))?;
+    }
+    text.push(b'\n')?;
+    Ok(text)
+}
+
+/// A byte as it is shown in a line: `?` in place of a control byte.
+fn visible(byte: u8) -> u8
+    ensures { result ≡ visible byte }
+{
+    if byte < 32 || byte == 127 { b'?' } else { byte }
+}

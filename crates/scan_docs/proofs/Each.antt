@@ -1,0 +1,102 @@
+-- Checks that are made one after another, and entries that are read one after another, each with its checks.
+use Rattle.std.proofs.Common.{◌≡◌, ℕ, suc, ◌+◌, ◌<◌, List, [], ◌∷◌, ◌++◌, map, length, take, drop, get_or, Bool, true, false, cond, Option, Some, None, refl, sym, ap, ◌∙◌, subst, add-one}
+use Rattle.std.proofs.Math.Seq.{drop-cons}
+use Rattle.std.proofs.lemmas.List.{get_or-map, take_more, length-map}
+use Rattle.std.specs.List.{AllZip}
+use Rattle.std.specs.Option.{option_or}
+use Rattle.serde_json.specs.Data.{Data}
+use Rattle.ninja_text.specs.declared.failure.Failure.{Failure}
+use Rattle.ninja_text.specs.declared.failure.Failure.TheVariants.{Fault}
+use Rattle.scan_docs.specs.declared.fault.DocFault.{DocFault}
+use Rattle.scan_docs.specs.Check.{Check, first_refusal, each_from}
+use Rattle.scan_docs.specs.Reading.{first_failure}
+
+-- ---- what a call answers, and the refusal
+
+none_of : (holds : Bool) (f : DocFault) (r : Option (Failure DocFault)) (s : Option DocFault) → cond holds r (Some (Fault f)) ≡ None → (r ≡ None → s ≡ None) → cond holds s (Some f) ≡ None
+none_of true f r s e k = k e
+none_of false f r s e k = absurd (cc)
+
+some_of : (holds : Bool) (f g : DocFault) (r : Option (Failure DocFault)) (s : Option DocFault) → cond holds r (Some (Fault f)) ≡ Some (Fault g) → (r ≡ Some (Fault g) → s ≡ Some g) → cond holds s (Some f) ≡ Some g
+some_of true f g r s e k = k e
+some_of false f g r s e k = cc
+
+pub none_refused : (cs : List Check) → first_failure cs ≡ None → first_refusal cs ≡ None
+none_refused [] e = refl
+none_refused (c ∷ cs) e = none_of c.holds c.refusal (first_failure cs) (first_refusal cs) e (none_refused cs)
+
+pub some_refused : (cs : List Check) (g : DocFault) → first_failure cs ≡ Some (Fault g) → first_refusal cs ≡ Some g
+some_refused [] g e = absurd (cc)
+some_refused (c ∷ cs) g e = some_of c.holds c.refusal g (first_failure cs) (first_refusal cs) e (some_refused cs g)
+
+-- ---- checks before others
+
+none_step : {F : Type 0} (holds : Bool) (f : F) (r s t : Option F) → cond holds r (Some f) ≡ None → (r ≡ None → s ≡ t) → cond holds s (Some f) ≡ t
+none_step true f r s t e k = k e
+none_step false f r s t e k = absurd (cc)
+
+some_step : {F : Type 0} (holds : Bool) (f g : F) (r s : Option F) → cond holds r (Some f) ≡ Some g → (r ≡ Some g → s ≡ Some g) → cond holds s (Some f) ≡ Some g
+some_step true f g r s e k = k e
+some_step false f g r s e k = e
+
+either : {F : Type 0} (holds : Bool) (f : F) (r s : Option F) → cond holds (option_or r s) (Some f) ≡ option_or (cond holds r (Some f)) s
+either true f r s = refl
+either false f r s = refl
+
+-- the first checks decide, and where they hold the others
+pub failure_of_both : (a b : List Check) → first_failure (a ++ b) ≡ option_or (first_failure a) (first_failure b)
+failure_of_both [] b = refl
+failure_of_both (c ∷ cs) b = ap (λ r. cond c.holds r (Some (Fault c.refusal))) (failure_of_both cs b) ∙ either c.holds (Fault c.refusal) (first_failure cs) (first_failure b)
+
+-- where the first checks hold, the others decide
+pub failure_after : (a b : List Check) → first_failure a ≡ None → first_failure (a ++ b) ≡ first_failure b
+failure_after [] b e = refl
+failure_after (c ∷ cs) b e = none_step c.holds (Fault c.refusal) (first_failure cs) (first_failure (cs ++ b)) (first_failure b) e (failure_after cs b)
+
+pub refusal_after : (a b : List Check) → first_refusal a ≡ None → first_refusal (a ++ b) ≡ first_refusal b
+refusal_after [] b e = refl
+refusal_after (c ∷ cs) b e = none_step c.holds c.refusal (first_refusal cs) (first_refusal (cs ++ b)) (first_refusal b) e (refusal_after cs b)
+
+-- a refusal of the first checks is that of all
+pub failure_before : (a b : List Check) (f : Failure DocFault) → first_failure a ≡ Some f → first_failure (a ++ b) ≡ Some f
+failure_before [] b f e = absurd (cc)
+failure_before (c ∷ cs) b f e = some_step c.holds (Fault c.refusal) f (first_failure cs) (first_failure (cs ++ b)) e (failure_before cs b f)
+
+-- ---- entries of a list
+
+AllZip-push : {A B : Type 0} (R : A → B → Type 0) (xs : List A) (ys : List B) (x : A) (y : B) → AllZip R xs ys → R x y → AllZip R (xs ++ x ∷ []) (ys ++ y ∷ [])
+AllZip-push R [] [] x y h r = (r, tt)
+AllZip-push R [] (b ∷ ys) x y h r = absurd h
+AllZip-push R (a ∷ xs) [] x y h r = absurd h
+AllZip-push R (a ∷ xs) (b ∷ ys) x y h r = (h.0, AllZip-push R xs ys x y h.1 r)
+
+-- i entries have passed their checks and were read
+pub record SoFar {T : Type 0} (checks : ℕ → Data → List Check) (means : Data → T → Type 0) (ds : List Data) (i : ℕ) (found : List T) : Type 0 where
+  pub told : first_failure (each_from checks i (drop i ds)) ≡ first_failure (each_from checks 0 ds)
+  pub read : AllZip means (take i ds) found
+
+module _ {V D : Type 0} (g : V → D) (vs : List V) where
+  at : (i : ℕ) (v : V) → i < length vs → v ≡ get_or vs i v → get_or (map g vs) i (g v) ≡ g v
+  at i v lt is = get_or-map g vs i v (g v) lt ∙ ap g (sym is)
+
+  pub front : (i : ℕ) (v : V) → i < length vs → v ≡ get_or vs i v → drop i (map g vs) ≡ g v ∷ drop (i + 1) (map g vs)
+  front i v lt is = let within : i < length (map g vs) = rw length-map lt in
+      rw add-one (drop-cons (map g vs) i (g v) within ∙ ap (λ d. d ∷ drop (suc i) (map g vs)) (at i v lt is))
+
+  pub last : (i : ℕ) (v : V) → i < length vs → v ≡ get_or vs i v → take (i + 1) (map g vs) ≡ take i (map g vs) ++ g v ∷ []
+  last i v lt is = let within : i < length (map g vs) = rw length-map lt in
+      take_more (map g vs) i (g v) within ∙ ap (λ d. take i (map g vs) ++ d ∷ []) (at i v lt is)
+
+module _ {V T : Type 0} (g : V → Data) (checks : ℕ → Data → List Check) (means : Data → T → Type 0) (vs : List V) where
+  pub one_more : (i : ℕ) (v : V) (x : T) (found : List T) → i < length vs → v ≡ get_or vs i v → first_failure (checks i (g v)) ≡ None → means (g v) x
+      → SoFar checks means (map g vs) i found → SoFar checks means (map g vs) (i + 1) (found ++ x ∷ [])
+  one_more i v x found lt is passes m so_far = record {
+    told = sym (ap (λ ds. first_failure (each_from checks i ds)) (front g vs i v lt is) ∙ failure_after (checks i (g v)) (each_from checks (i + 1) (drop (i + 1) (map g vs))) passes) ∙ so_far.told;
+    read = let P : List Data → Type 0 = λ ds. AllZip means ds (found ++ x ∷ []) in
+        subst P (sym (last g vs i v lt is)) (AllZip-push means (take i (map g vs)) found (g v) x so_far.read m);
+  }
+
+  pub refused_at : (i : ℕ) (v : V) (f : Failure DocFault) (found : List T) → i < length vs → v ≡ get_or vs i v → first_failure (checks i (g v)) ≡ Some f
+      → SoFar checks means (map g vs) i found → first_failure (each_from checks 0 (map g vs)) ≡ Some f
+  refused_at i v f found lt is stops so_far =
+      sym so_far.told ∙ ap (λ ds. first_failure (each_from checks i ds)) (front g vs i v lt is) ∙ failure_before (checks i (g v)) (each_from checks (i + 1) (drop (i + 1) (map g vs))) f stops

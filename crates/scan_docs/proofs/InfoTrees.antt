@@ -1,0 +1,114 @@
+-- The tree that is written for an info is read as that info.
+use Rattle.std.proofs.Common.{◌≡◌, ℕ, ◌+◌, ◌≤◌, List, [], ◌∷◌, Bool, true, false, map, Some, None, IsUtf8, refl, ◌∙◌, arith}
+use Rattle.std.specs.List.{AllZip, AllByRecursion}
+use Rattle.std.proofs.lemmas.List.Elements.{recursion_from_All}
+use Rattle.serde_json.specs.Data.{depth, items_depth}
+use Rattle.serde_json.specs.Read.{read, max_depth}
+use Rattle.serde_json.specs.View.{items_of}
+use Rattle.serde_json.specs.Written.{has_float, items_have_float}
+use Rattle.scan_docs.specs.declared.fault.Place.{Place}
+use Rattle.scan_docs.specs.declared.fault.Place.TheVariants as place
+use Rattle.scan_docs.specs.Document.{large}
+use Rattle.scan_docs.specs.Check.{first_refusal, each_from}
+use Rattle.scan_docs.specs.Member.{key}
+use Rattle.scan_docs.specs.Scan.{IsText}
+use Rattle.scan_docs.specs.Info.{ModuleValue, InfoValue, visibility_meaning, IsRequirement, IsModule, IsInfo}
+use Rattle.scan_docs.specs.TargetChecks.{name_checks}
+use Rattle.scan_docs.specs.InfoChecks.{head_checks, modules_check, entry_shape_checks, requires_check, visibility_check, named_file_checks, requirement_checks, all_requirement_checks, module_checks, all_module_checks, info_checks}
+use Rattle.scan_docs.specs.InfoText.{requirement_tree, requirements_tree, visibility_text, module_tree, info_tree, IsModuleText, IsInfoText, ReadsBack, IsSound, IsSoundModule, IsSoundInfo}
+use Rattle.scan_docs.proofs.Each.{refusal_after}
+use Rattle.scan_docs.proofs.Elements.{elements_items_of}
+
+-- ---- no floats, and few levels
+
+requirements_plain : (ps : List (List ℕ × List ℕ)) → items_have_float (items_of (map requirement_tree ps)) ≡ false
+unfolding requirement_tree
+requirements_plain [] = refl
+requirements_plain (p ∷ ps) = requirements_plain ps
+
+modules_plain : (vs : List ModuleValue) → items_have_float (items_of (map module_tree vs)) ≡ false
+unfolding module_tree requirements_tree
+modules_plain [] = refl
+modules_plain (v ∷ vs) = rw requirements_plain (modules_plain vs)
+
+pub info_plain : (info : InfoValue) → has_float (info_tree info) ≡ false
+unfolding info_tree
+info_plain info = rw modules_plain refl
+
+requirements_flat : (ps : List (List ℕ × List ℕ)) → items_depth (items_of (map requirement_tree ps)) ≤ 1
+unfolding requirement_tree
+requirements_flat [] = omega arith
+requirements_flat (p ∷ ps) = omega (arith, requirements_flat ps)
+
+modules_flat : (vs : List ModuleValue) → items_depth (items_of (map module_tree vs)) ≤ 3
+unfolding module_tree requirements_tree
+modules_flat [] = omega arith
+modules_flat (v ∷ vs) = omega (arith, requirements_flat v.required, modules_flat vs)
+
+pub info_flat : (info : InfoValue) → depth (info_tree info) ≤ max_depth
+unfolding info_tree
+info_flat info = omega (arith, modules_flat info.modules)
+
+-- ---- all checks hold, and the meaning is the info
+
+requirement_passes : (p : List ℕ × List ℕ) (at : Place) → IsSound p.0 p.1 → first_refusal (requirement_checks at (requirement_tree p)) ≡ None
+unfolding requirement_checks entry_shape_checks named_file_checks requirement_tree key
+requirement_passes p at h = rw (h.accepted, h.canonical) refl
+
+requirement_means : (p : List ℕ × List ℕ) → IsSound p.0 p.1 → IsText p.1 → IsRequirement (requirement_tree p) p
+unfolding requirement_tree key
+requirement_means p h w = record { name = refl; file = h.canonical; is_text = w }
+
+requirements_pass : (ps : List (List ℕ × List ℕ)) (j k : ℕ) → AllByRecursion (λ p. IsSound p.0 p.1) ps → first_refusal (each_from (λ k d. requirement_checks (place.ModuleRequires j k) d) k (map requirement_tree ps)) ≡ None
+requirements_pass [] j k h = refl
+requirements_pass (p ∷ ps) j k h = refusal_after (requirement_checks (place.ModuleRequires j k) (requirement_tree p)) (each_from (λ k d. requirement_checks (place.ModuleRequires j k) d) (k + 1) (map requirement_tree ps)) (requirement_passes p (place.ModuleRequires j k) h.0) ∙ requirements_pass ps j (k + 1) h.1
+
+requirements_mean : (ps : List (List ℕ × List ℕ)) → AllByRecursion (λ p. IsSound p.0 p.1) ps → AllByRecursion (λ p. IsText p.1) ps → AllZip IsRequirement (map requirement_tree ps) ps
+requirements_mean [] h w = tt
+requirements_mean (p ∷ ps) h w = (requirement_means p h.0 w.0, requirements_mean ps h.1 w.1)
+
+visibility_reads : (b : Bool) → visibility_meaning (visibility_text b) ≡ Some b
+visibility_reads true = refl
+visibility_reads false = refl
+
+module_passes : (v : ModuleValue) (j : ℕ) → IsSoundModule v → first_refusal (module_checks true j (module_tree v)) ≡ None
+unfolding module_checks entry_shape_checks requires_check visibility_check named_file_checks all_requirement_checks module_tree requirements_tree key
+module_passes v j h =
+    rw (visibility_reads v.is_private, h.own.accepted, h.own.canonical, elements_items_of (map requirement_tree v.required))
+    (requirements_pass v.required j 0 (recursion_from_All (λ p. IsSound p.0 p.1) v.required h.required))
+
+module_means : (v : ModuleValue) → IsSoundModule v → IsModuleText v → IsModule true (module_tree v) v
+unfolding module_tree requirements_tree key
+module_means v h w = record {
+  name = refl;
+  file = h.own.canonical;
+  is_text = w.file;
+  required = rw (elements_items_of (map requirement_tree v.required)) (requirements_mean v.required (recursion_from_All (λ p. IsSound p.0 p.1) v.required h.required) (recursion_from_All (λ p. IsText p.1) v.required w.required));
+  visibility = visibility_reads v.is_private;
+}
+
+modules_pass : (vs : List ModuleValue) (j : ℕ) → AllByRecursion IsSoundModule vs → first_refusal (each_from (module_checks true) j (map module_tree vs)) ≡ None
+modules_pass [] j h = refl
+modules_pass (v ∷ vs) j h = refusal_after (module_checks true j (module_tree v)) (each_from (module_checks true) (j + 1) (map module_tree vs)) (module_passes v j h.0) ∙ modules_pass vs (j + 1) h.1
+
+modules_mean : (vs : List ModuleValue) → AllByRecursion IsSoundModule vs → AllByRecursion IsModuleText vs → AllZip (IsModule true) (map module_tree vs) vs
+modules_mean [] h w = tt
+modules_mean (v ∷ vs) h w = (module_means v h.0 w.0, modules_mean vs h.1 w.1)
+
+info_passes : (info : InfoValue) → IsSoundInfo info → first_refusal (info_checks (info_tree info)) ≡ None
+unfolding info_checks head_checks name_checks modules_check all_module_checks info_tree key
+info_passes info h = rw (h.target, elements_items_of (map module_tree info.modules)) (modules_pass info.modules 0 (recursion_from_All IsSoundModule info.modules h.modules))
+
+info_means : (info : InfoValue) → IsSoundInfo info → IsInfoText info → IsInfo (info_tree info) info
+unfolding info_tree key
+info_means info h w = record {
+  target = refl;
+  modules = rw (elements_items_of (map module_tree info.modules)) (modules_mean info.modules (recursion_from_All IsSoundModule info.modules h.modules) (recursion_from_All IsModuleText info.modules w));
+}
+
+-- what is written is read as the same info
+pub info_again : (info : InfoValue) (bytes : List ℕ) → IsSoundInfo info → IsInfoText info → IsUtf8 bytes → read bytes ≡ Some (info_tree info) → ReadsBack info bytes
+info_again info bytes h w utf8 is = record {
+  same = λ small. record { small = small; tree = info_tree info; reads = (utf8, is); passes = info_passes info h; meaning = info_means info h w };
+  too_large = λ long. large long refl;
+}

@@ -1,0 +1,11 @@
+pub mod Elements
+pub mod Parts
+pub mod Texts
+pub mod Dashed
+pub mod Each
+pub mod Exact
+pub mod InfoTrees
+pub mod Outcome
+pub mod AllNames
+pub mod PathTexts
+pub mod Examples

@@ -1,0 +1,29 @@
+use Rattle.std.specs.List.{All}
+use Rattle.serde_json.specs.View.{view}
+use Rattle.scan_docs.specs.Scan.{AreRules, IsRuleText}
+use Rattle.scan_docs.specs.ScanChecks.{scan_checks}
+use Rattle.scan_docs.proofs.Exact.{scan_one_answer}
+use Rattle.scan_docs.proofs.Outcome.{accepted, refused, holds}
+use Rattle.scan_docs.proofs.PathTexts.{rules_text}
+use Rattle.scan_docs.proofs.scan_document.scan.Goals as goal
+
+pub returns-in_err-tree-clause-one_answer : goal.returns-in_err-tree-clause-one_answer
+returns-in_err-tree-clause-one_answer c = scan_one_answer c.args.setting.now c.args.bytes.now
+
+pub returns-clause-accepted : goal.returns-clause-accepted
+returns-clause-accepted c =
+    let read = c.in_ok-tree.ensures.read in
+    accepted (λ rules. rules.items) (scan_checks c.args.setting.now) (AreRules c.args.setting.now) c.args.bytes.now (view c.in_ok-tree.tree) read.0 read.1 c.read_rules.result c.read_rules.ensures
+
+pub returns-clause-refused : goal.returns-clause-refused
+returns-clause-refused c =
+    let read = c.in_ok-tree.ensures.read in
+    refused (λ rules. rules.items) (scan_checks c.args.setting.now) (AreRules c.args.setting.now) c.args.bytes.now (view c.in_ok-tree.tree) read.0 read.1 c.read_rules.result c.read_rules.ensures
+
+pub returns-clause-one_answer : goal.returns-clause-one_answer
+returns-clause-one_answer c = scan_one_answer c.args.setting.now c.args.bytes.now
+
+pub returns-clause-text : goal.returns-clause-text
+returns-clause-text c =
+    let read = c.in_ok-tree.ensures.read in
+    holds (λ rules. rules.items) (scan_checks c.args.setting.now) (AreRules c.args.setting.now) c.args.bytes.now (view c.in_ok-tree.tree) read.0 read.1 (All IsRuleText) (rules_text c.args.setting.now (view c.in_ok-tree.tree)) c.read_rules.result c.read_rules.ensures

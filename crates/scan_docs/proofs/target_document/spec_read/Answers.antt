@@ -1,0 +1,22 @@
+use Rattle.serde_json.specs.View.{view}
+use Rattle.scan_docs.specs.Target.{IsTarget}
+use Rattle.scan_docs.specs.TargetChecks.{target_checks}
+use Rattle.scan_docs.proofs.Exact.{target_one_answer}
+use Rattle.scan_docs.proofs.Outcome.{accepted, refused}
+use Rattle.scan_docs.proofs.target_document.spec_read.Goals as goal
+
+pub returns-in_err-tree-clause-one_answer : goal.returns-in_err-tree-clause-one_answer
+returns-in_err-tree-clause-one_answer c = target_one_answer c.args.bytes.now
+
+pub returns-clause-accepted : goal.returns-clause-accepted
+returns-clause-accepted c =
+    let read = c.in_ok-tree.ensures.read in
+    accepted (λ x. x) target_checks IsTarget c.args.bytes.now (view c.in_ok-tree.tree) read.0 read.1 c.read_spec.result c.read_spec.ensures
+
+pub returns-clause-refused : goal.returns-clause-refused
+returns-clause-refused c =
+    let read = c.in_ok-tree.ensures.read in
+    refused (λ x. x) target_checks IsTarget c.args.bytes.now (view c.in_ok-tree.tree) read.0 read.1 c.read_spec.result c.read_spec.ensures
+
+pub returns-clause-one_answer : goal.returns-clause-one_answer
+returns-clause-one_answer c = target_one_answer c.args.bytes.now

@@ -1,0 +1,36 @@
+-- The checks of a document: a list in their order, and the refusal that it leads to.
+use Rattle.std.specs.Prelude.{ℕ, List, [], ◌∷◌, Bool, false, if◌then◌else◌, Option, Some, None, Result, Ok, Err}
+use Rattle.std.specs.List.{flat_map, enumerate_from}
+use Rattle.serde_json.specs.Data.{Data}
+use Rattle.ninja_text.specs.declared.paths.PathFault.{PathFault}
+use Rattle.scan_docs.specs.declared.fault.DocFault.{DocFault}
+use Rattle.scan_docs.specs.declared.fault.DocFault.TheVariants.{BadShape, BadPath}
+use Rattle.scan_docs.specs.declared.fault.Place.{Place}
+use Rattle.scan_docs.specs.declared.member.Member.{Member}
+
+-- a condition, and the refusal where it is false
+pub record Check : Type 0 where
+  pub holds : Bool
+  pub refusal : DocFault
+
+infix 5 ◌otherwise◌
+abbrev pub ◌otherwise◌ : Bool → DocFault → Check
+holds otherwise refusal = record { holds = holds; refusal = refusal }
+
+-- the refusal of the first condition that is false, or none where all hold
+abbrev pub first_refusal : List Check → Option DocFault
+first_refusal [] = None
+first_refusal (c ∷ cs) = if c.holds then first_refusal cs else Some c.refusal
+
+-- the check of a member's shape
+abbrev pub shape_check : Place → Member → Bool → Check
+shape_check place member holds = holds otherwise BadShape place member
+
+-- the check of a path: none is left where it is accepted, and one that is false where it is refused
+abbrev pub path_checks : Place → Result (List ℕ) PathFault → List Check
+path_checks place (Ok path) = []
+path_checks place (Err fault) = (false otherwise BadPath place fault) ∷ []
+
+-- the checks of each entry of a list, by its number
+abbrev pub each_from : (ℕ → Data → List Check) → ℕ → List Data → List Check
+each_from checks number ds = flat_map (λ e. checks e.0 e.1) (enumerate_from number ds)

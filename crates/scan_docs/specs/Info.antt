@@ -1,0 +1,56 @@
+-- What an info document means.
+use Rattle.std.specs.Prelude.{◌≡◌, ℕ, List, Bool, true, false, ◌==◌, if◌then◌else◌, Option, Some, None, option_and_then, Ok, codes, bytes_eq}
+use Rattle.std.specs.List.{AllZip}
+use Rattle.std.specs.Option.{option_map_or}
+use Rattle.ninja_text.specs.Paths.{path_of}
+use Rattle.serde_json.specs.Data.{Data}
+use Rattle.scan_docs.specs.declared.member.Member.TheVariants as m
+use Rattle.scan_docs.specs.Shape.{text, text_of, entries_of, whole_number}
+use Rattle.scan_docs.specs.Scan.{IsText}
+
+-- a module, its file, the modules that it requires, each with the file that it was found in, and whether others may import it
+pub record ModuleValue : Type 0 where
+  pub name : List ℕ
+  pub file : List ℕ
+  pub required : List (List ℕ × List ℕ)
+  pub is_private : Bool
+
+-- a target, and its modules in order
+pub record InfoValue : Type 0 where
+  pub target : List ℕ
+  pub modules : List ModuleValue
+
+-- ---- what the members stand for
+
+-- version 1 knows no private modules, and does not look at `visibility`
+abbrev pub has_visibility : Data → Bool
+has_visibility d = option_map_or (λ version. version == 2) (whole_number m.Version d) false
+
+-- whether this word means private
+abbrev pub visibility_meaning : List ℕ → Option Bool
+visibility_meaning text = if bytes_eq text (codes "private") then Some true else (if bytes_eq text (codes "public") then Some false else None)
+
+-- whether a module is private, where the document says so as it should
+abbrev pub privacy : Bool → Data → Option Bool
+privacy with_visibility d = if with_visibility then option_and_then visibility_meaning (text m.Visibility d) else Some false
+
+-- ---- the meaning
+
+-- a module that a module requires: its name, and its file
+pub record IsRequirement (d : Data) (pair : List ℕ × List ℕ) : Type 0 where
+  pub name : text m.Name d ≡ Some pair.0
+  pub file : path_of (text_of m.Bmi d) ≡ Ok pair.1
+  pub is_text : IsText pair.1
+
+-- a module
+pub record IsModule (with_visibility : Bool) (d : Data) (entry : ModuleValue) : Type 0 where
+  pub name : text m.Name d ≡ Some entry.name
+  pub file : path_of (text_of m.Bmi d) ≡ Ok entry.file
+  pub is_text : IsText entry.file
+  pub required : AllZip IsRequirement (entries_of m.Requires d) entry.required
+  pub visibility : privacy with_visibility d ≡ Some entry.is_private
+
+-- the info of a document that passes its checks
+pub record IsInfo (d : Data) (info : InfoValue) : Type 0 where
+  pub target : text m.Target d ≡ Some info.target
+  pub modules : AllZip (IsModule (has_visibility d)) (entries_of m.Modules d) info.modules

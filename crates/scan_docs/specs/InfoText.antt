@@ -1,0 +1,82 @@
+-- The one text of an info: version 2, compact, keys in byte order.
+use Rattle.std.specs.Prelude.{◌≡◌, ℕ, ◌≤◌, ◌<◌, List, length, map, Bool, true, false, Ok, codes}
+use Rattle.std.specs.List.{All}
+use Rattle.ninja_text.specs.Paths.{path_of}
+use Rattle.serde_json.specs.Data.{Data, string, number, unsigned, array, object, member, no_members}
+use Rattle.serde_json.specs.View.{items_of}
+use Rattle.serde_json.specs.Written.{compact_text}
+use Rattle.scan_docs.specs.declared.fault.DocFault.TheVariants.{TooLarge}
+use Rattle.scan_docs.specs.declared.fault.Place.TheVariants as place
+use Rattle.scan_docs.specs.Document.{document_limit, IsAccepted, IsRefused}
+use Rattle.scan_docs.specs.Name.{is_name, is_target_name}
+use Rattle.scan_docs.specs.Scan.{IsText}
+use Rattle.scan_docs.specs.Info.{ModuleValue, InfoValue, IsInfo}
+use Rattle.scan_docs.specs.InfoChecks.{info_checks}
+
+-- a required module, with its file
+unfoldable pub requirement_tree : List ℕ × List ℕ → Data
+requirement_tree pair =
+    object (member (codes "bmi") (string pair.1)
+    (member (codes "name") (string pair.0)
+    no_members))
+
+-- the required modules, in order
+unfoldable pub requirements_tree : List (List ℕ × List ℕ) → Data
+requirements_tree pairs = array (items_of (map requirement_tree pairs))
+
+-- the word for a private module, and for a public one
+abbrev pub visibility_text : Bool → List ℕ
+visibility_text true = codes "private"
+visibility_text false = codes "public"
+
+-- a module
+unfoldable pub module_tree : ModuleValue → Data
+module_tree entry =
+    object (member (codes "bmi") (string entry.file)
+    (member (codes "name") (string entry.name)
+    (member (codes "requires") (requirements_tree entry.required)
+    (member (codes "visibility") (string (visibility_text entry.is_private))
+    no_members))))
+
+-- the whole document
+unfoldable pub info_tree : InfoValue → Data
+info_tree info =
+    object (member (codes "modules") (array (items_of (map module_tree info.modules)))
+    (member (codes "target") (string info.target)
+    (member (codes "version") (number (unsigned 2))
+    no_members)))
+
+-- the document's bytes
+unfoldable pub info_text : InfoValue → List ℕ
+info_text info = compact_text (info_tree info)
+
+-- the module's paths are text, as those of all documents are
+pub record IsModuleText (entry : ModuleValue) : Type 0 where
+  pub file : IsText entry.file
+  pub required : All (λ pair. IsText pair.1) entry.required
+
+-- all paths are text
+abbrev pub IsInfoText : InfoValue → Type 0
+IsInfoText info = All IsModuleText info.modules
+
+-- The text is read as this info, and is refused exactly where it is longer than a document may be.
+pub record ReadsBack (info : InfoValue) (text : List ℕ) : Type 0 where
+  pub same : length text ≤ document_limit → IsAccepted info_checks IsInfo text info
+  pub too_large : document_limit < length text → IsRefused info_checks text (TooLarge place.Document)
+
+-- ---- what the types of names and paths promise, for private clauses
+
+-- a name that is accepted, and a canonical path
+pub record IsSound (name : List ℕ) (path : List ℕ) : Type 0 where
+  pub accepted : is_name name ≡ true
+  pub canonical : path_of path ≡ Ok path
+
+-- so are those of a module
+pub record IsSoundModule (entry : ModuleValue) : Type 0 where
+  pub own : IsSound entry.name entry.file
+  pub required : All (λ pair. IsSound pair.0 pair.1) entry.required
+
+-- so are those of an info, and the target's name
+pub record IsSoundInfo (info : InfoValue) : Type 0 where
+  pub target : is_target_name info.target ≡ true
+  pub modules : All IsSoundModule info.modules

@@ -1,0 +1,14 @@
+pub mod Member
+pub mod Place
+pub mod Shape
+pub mod Name
+pub mod Check
+pub mod Reading
+pub mod Document
+pub mod Scan
+pub mod ScanChecks
+pub mod Target
+pub mod TargetChecks
+pub mod Info
+pub mod InfoChecks
+pub mod InfoText

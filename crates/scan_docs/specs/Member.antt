@@ -1,0 +1,36 @@
+-- The members of the documents.
+use Rattle.std.specs.Prelude.{ℕ, List, codes}
+use Rattle.scan_docs.specs.declared.member.Member.{Member}
+use Rattle.scan_docs.specs.declared.member.Member.TheVariants as m
+
+-- The key of a member, and a word for a value that is no member: the document, a rule, an entry of a list.
+unfoldable pub key : Member → List ℕ
+key m.Document = codes "document"
+key m.Rule = codes "rule"
+key m.Entry = codes "entry"
+key m.Version = codes "version"
+key m.Rules = codes "rules"
+key m.PrimaryOutput = codes "primary-output"
+key m.WorkDirectory = codes "work-directory"
+key m.Provides = codes "provides"
+key m.Requires = codes "requires"
+key m.LogicalName = codes "logical-name"
+key m.CompiledModulePath = codes "compiled-module-path"
+key m.UniqueOnSourcePath = codes "unique-on-source-path"
+key m.IsInterface = codes "is-interface"
+key m.LookupMethod = codes "lookup-method"
+key m.Target = codes "target"
+key m.Modules = codes "modules"
+key m.Bmi = codes "bmi"
+key m.Name = codes "name"
+key m.Visibility = codes "visibility"
+key m.ModuleDir = codes "module-dir"
+key m.ModuleExt = codes "module-ext"
+key m.BuildDir = codes "build-dir"
+key m.Scans = codes "scans"
+key m.Linked = codes "linked"
+key m.Private = codes "private"
+key m.Dyndep = codes "dyndep"
+key m.Info = codes "info"
+key m.Map = codes "map"
+key m.Edges = codes "edges"

@@ -1,0 +1,37 @@
+-- Which texts are names of modules and of targets.
+use Rattle.std.specs.Prelude.{ℕ, List, [], ◌∷◌, length, count_by, Bool, not, ◌&&◌, ◌||◌, ◌==◌, nat_le, nat_lt}
+use Rattle.std.specs.List.{list_all, list_any, slice_split}
+
+-- the longest name, in bytes
+abbrev pub name_limit : ℕ
+name_limit = 1024
+
+-- `.` and `:`
+abbrev pub is_separator : ℕ → Bool
+is_separator b = (b == 46) || (b == 58)
+
+-- `/`, `\`, `"`, `'`, `=`, `|` and `$`
+abbrev pub reserved_bytes : List ℕ
+reserved_bytes = 47 ∷ 92 ∷ 34 ∷ 39 ∷ 61 ∷ 124 ∷ 36 ∷ []
+
+-- no control byte, no space, no 127 and none that is reserved; bytes from 128 on are accepted
+abbrev pub is_name_byte : ℕ → Bool
+is_name_byte b = nat_le 33 b && not (b == 127) && not (list_any (λ r. b == r) reserved_bytes)
+
+-- a part has a byte
+abbrev pub is_not_empty : List ℕ → Bool
+is_not_empty part = nat_lt 0 (length part)
+
+-- A module's name: one colon at most, before a partition, and no part between separators is empty.
+unfoldable pub is_name : List ℕ → Bool
+is_name text =
+    nat_le 1 (length text) && nat_le (length text) name_limit
+    && nat_le (count_by (λ b. b == 58) text) 1
+    && list_all is_not_empty (slice_split is_separator text)
+    && list_all is_name_byte text
+
+-- A target's name: no control byte and no 127.
+unfoldable pub is_target_name : List ℕ → Bool
+is_target_name text =
+    nat_le 1 (length text) && nat_le (length text) name_limit
+    && list_all (λ b. nat_le 32 b && not (b == 127)) text

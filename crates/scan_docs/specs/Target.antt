@@ -1,0 +1,61 @@
+-- What a target document means.
+use Rattle.std.specs.Prelude.{◌≡◌, ℕ, List, if◌then◌else◌, Option, Some, None, option_and_then, codes, bytes_eq}
+use Rattle.std.specs.Result.{result_ok}
+use Rattle.ninja_text.specs.Paths.{path_of, is_rooted}
+use Rattle.serde_json.specs.Data.{Data}
+use Rattle.scan_docs.specs.declared.member.Member.TheVariants as m
+use Rattle.scan_docs.specs.declared.map_form.MapForm.{MapForm}
+use Rattle.scan_docs.specs.declared.map_form.MapForm.TheVariants.{Gcc, Clang}
+use Rattle.scan_docs.specs.Shape.{text, texts_of}
+
+-- the members of a target document, texts as they stand
+pub record TargetValue : Type 0 where
+  pub target : List ℕ
+  pub module_dir : List ℕ
+  pub module_ext : List ℕ
+  pub build_dir : Option (List ℕ)
+  pub scans : List (List ℕ)
+  pub linked : List (List ℕ)
+  pub kept : List (List ℕ)
+  pub dyndep : List ℕ
+  pub info : List ℕ
+  pub map_form : Option MapForm
+  pub edges : Option (List ℕ)
+
+-- ---- what the members stand for
+
+-- the path, where it is absolute
+abbrev only_rooted : List ℕ → Option (List ℕ)
+only_rooted path = if is_rooted path then Some path else None
+
+-- the path of a text, where it has one that is absolute
+abbrev pub absolute_path : List ℕ → Option (List ℕ)
+absolute_path text = option_and_then only_rooted (result_ok (path_of text))
+
+-- the directory that Ninja runs in
+abbrev pub build_dir : Data → Option (List ℕ)
+build_dir d = option_and_then absolute_path (text m.BuildDir d)
+
+-- the form of this name
+abbrev pub map_form_of : List ℕ → Option MapForm
+map_form_of text = if bytes_eq text (codes "gcc") then Some Gcc else (if bytes_eq text (codes "clang") then Some Clang else None)
+
+-- the form of the module maps
+abbrev pub map_form : Data → Option MapForm
+map_form d = option_and_then map_form_of (text m.Map d)
+
+-- ---- the meaning
+
+-- the members as they stand in the document
+pub record IsTarget (d : Data) (t : TargetValue) : Type 0 where
+  pub target : text m.Target d ≡ Some t.target
+  pub module_dir : text m.ModuleDir d ≡ Some t.module_dir
+  pub module_ext : text m.ModuleExt d ≡ Some t.module_ext
+  pub directory : build_dir d ≡ t.build_dir
+  pub scans : texts_of m.Scans d ≡ t.scans
+  pub linked : texts_of m.Linked d ≡ t.linked
+  pub kept : texts_of m.Private d ≡ t.kept
+  pub dyndep : text m.Dyndep d ≡ Some t.dyndep
+  pub info : text m.Info d ≡ Some t.info
+  pub form : map_form d ≡ t.map_form
+  pub edges : text m.Edges d ≡ t.edges

@@ -1,0 +1,92 @@
+//! Why a document is refused.
+
+ghost use Rattle.std.specs.Prelude.{◌≡◌};
+ghost use Rattle.ninja_text.specs.Failure.{Turns};
+
+use crate::member::Member;
+use ninja_text::{Failure, PathFault};
+use std::fmt;
+use thiserror::Error;
+
+/// Where in a document a fault is. Rules, modules and entries are numbered from 0.
+#[derive(Clone, Copy, Debug, PartialEq, Eq)]
+pub enum Place {
+    /// The document itself.
+    Document,
+    /// A rule of a scan document.
+    Rule { rule: usize },
+    /// An entry of a rule's `provides`.
+    Provides { rule: usize, entry: usize },
+    /// An entry of a rule's `requires`.
+    Requires { rule: usize, entry: usize },
+    /// A module of an info document.
+    Module { number: usize },
+    /// An entry of a module's `requires`.
+    ModuleRequires { number: usize, entry: usize },
+}
+
+impl fmt::Display for Place {
+    ghost use Rattle.std.specs.Prelude.{Some};
+    ghost use Rattle.scan_docs.specs.Place.{place_text};
+
+    ghost output = { λ place. Some (place_text place) };
+
+    fn fmt<W: fmt::Write>(&self, f: &mut fmt::Formatter<W>) -> fmt::Result {
+        match self {
+            Place::Document => f.write_str("document"),
+            Place::Rule { rule } => write!(f, "rule {rule}"),
+            Place::Provides { rule, entry } => write!(f, "rule {rule} provides {entry}"),
+            Place::Requires { rule, entry } => write!(f, "rule {rule} requires {entry}"),
+            Place::Module { number } => write!(f, "module {number}"),
+            Place::ModuleRequires { number, entry } => write!(
+                f,
+                "module {number} requires {entry}"
+            ),
+        }
+    }
+}
+
+/// Why a document is refused: the first check of the document that fails. The checks are those of the document's kind, in
+/// the order of its list, and their order has nothing to do with that of the codes.
+#[derive(Clone, Copy, Debug, PartialEq, Eq, Error)]
+pub enum DocFault {
+    /// The bytes are not the UTF-8 text of a JSON value (RFC 8259), or of one that `serde_json` reads: it refuses nesting
+    /// deeper than 127 levels and numbers that no float can hold.
+    #[error("S1 NotJson document")]
+    NotJson,
+    /// The member `version` is not a whole number that this kind of document may have.
+    #[error("S2 BadVersion document")]
+    BadVersion,
+    /// The value at the place, or a member of it, has the wrong type or is missing.
+    #[error("S3 BadShape {place} member {member}")]
+    BadShape { place: Place, member: Member },
+    /// A rule has no `primary-output`.
+    #[error("S4 NoPrimaryOutput {place}")]
+    NoPrimaryOutput { place: Place },
+    /// An entry speaks of a header unit, for which there is no file by name.
+    #[error("S5 HeaderUnit {place}")]
+    HeaderUnit { place: Place },
+    /// A name is not accepted.
+    #[error("S6 BadName {place}")]
+    BadName { place: Place },
+    /// A path is not accepted.
+    #[error("S7 BadPath {place} {fault}")]
+    BadPath { place: Place, fault: PathFault },
+    /// The document has more bytes or rules, or a rule more entries in one list, than are read.
+    #[error("S8 TooLarge {place}")]
+    TooLarge { place: Place },
+}
+
+/// The refusal of a value that has the wrong type or is missing.
+pub(crate) fn bad_shape(place: Place, member: Member) -> Failure<DocFault>
+    ensures { result ≡ Failure.Fault (DocFault.BadShape place member) }
+{
+    Failure::Fault(DocFault::BadShape { place, member })
+}
+
+/// The refusal of a path, or want of memory.
+pub(crate) fn bad_path(place: Place, failure: Failure<PathFault>) -> Failure<DocFault>
+    ensures { Turns (λ fault other. other ≡ DocFault.BadPath place fault) failure result }
+{
+    failure.map(|fault| DocFault::BadPath { place, fault })
+}

@@ -1,0 +1,254 @@
+//! Info documents: what a target tells the targets that link it.
+
+ghost use Rattle.std.specs.Prelude.{◌≡◌, map, Some, Ok, IfOk, IfErr, is_some};
+ghost use Rattle.std.specs.List.{AllZip};
+ghost use Rattle.ninja_text.specs.Failure.{ForFault};
+ghost use Rattle.ninja_text.specs.Paths.{path_of};
+ghost use Rattle.serde_json.specs.View.{view};
+ghost use Rattle.scan_docs.specs.Check.{◌otherwise◌, shape_check, path_checks};
+ghost use Rattle.scan_docs.specs.Reading.{Answers, Tests};
+ghost use Rattle.scan_docs.specs.Document.{IsAccepted, IsRefused, HasOneAnswer};
+ghost use Rattle.scan_docs.specs.Shape.{text, entries, whole_number};
+ghost use Rattle.scan_docs.specs.Scan.{IsText};
+ghost use Rattle.scan_docs.specs.Info.{has_visibility, privacy, IsRequirement, IsModule, IsInfo};
+ghost use Rattle.scan_docs.specs.InfoChecks.{is_info_version, head_checks, modules_check, entry_shape_checks, requires_check, visibility_check, named_file_checks, requirement_checks, all_requirement_checks, module_checks, all_module_checks, info_checks};
+ghost use Rattle.scan_docs.specs.InfoText.{IsInfoText};
+ghost use Rattle.scan_docs.specs.declared.member.Member.TheVariants as m;
+
+use crate::document::read_tree;
+use crate::fault::{DocFault, Place, bad_path, bad_shape};
+use crate::member::Member;
+use crate::name::Name;
+use crate::rule::read_name;
+use crate::shape;
+use crate::target_document::read_target_name;
+use crate::target_name::TargetName;
+use ninja_text::{Failure, Path};
+use serde_json::Value;
+use std::alloc::Global;
+use std::marker::Model;
+
+/// A module that a target provides: its file, the modules that it requires, each with the file that it was found in, and
+/// whether the target keeps it to itself.
+#[derive(Drop)]
+pub struct InfoModule {
+    pub name: Name,
+    pub file: Path,
+    pub required: Vec<(Name, Path)>,
+    pub is_private: bool,
+}
+
+impl Model for InfoModule {
+    ghost use Rattle.scan_docs.specs.Info.{ModuleValue};
+
+    ghost Value = { ModuleValue };
+
+    ghost view = { λ v. record { name = v.name; file = v.file; required = v.required.items; is_private = v.is_private } };
+}
+
+/// What a target tells the targets that link it.
+#[derive(Drop)]
+pub struct Info {
+    pub target: TargetName,
+    pub modules: Vec<InfoModule>,
+}
+
+impl Model for Info {
+    ghost use Rattle.scan_docs.specs.Info.{InfoValue};
+
+    ghost Value = { InfoValue };
+
+    ghost view = { λ i. record { target = i.target; modules = i.modules.items } };
+}
+
+/// The info of an info document, or the refusal of the first check that fails.
+///
+/// Versions 1 and 2 are read. In version 1 every module is public, and `visibility` is not looked at. One name may stand
+/// for several modules here.
+pub fn info_read(alloc: Global, bytes: &[u8]) -> Result<Info, Failure<DocFault>>
+    ensures accepted { IfOk result (λ info. IsAccepted info_checks IsInfo bytes.now info) }
+    ensures refused { IfErr result (ForFault (IsRefused info_checks bytes.now)) }
+    ensures text { IfOk result IsInfoText }
+    ensures one_answer { HasOneAnswer info_checks IsInfo bytes.now }
+{
+    let tree = read_tree(alloc, bytes)?;
+    read_info(alloc, &tree)
+}
+
+#[tactic(auto, unfolding(crate::specs::InfoChecks::info_checks), using(crate::proofs::Each::failure_of_both))]
+fn read_info(alloc: Global, tree: &Value) -> Result<Info, Failure<DocFault>>
+    ensures { Answers (info_checks (view tree.now)) (λ info. IsInfo (view tree.now) info) result }
+{
+    let with_visibility = read_head(tree)?;
+    let target = read_target_name(alloc, tree)?;
+    let values = read_modules(tree)?;
+    let modules = read_all_modules(alloc, with_visibility, values)?;
+    Ok(Info { target, modules })
+}
+
+/// Whether the modules of the document tell their visibility.
+#[tactic(auto, unfolding(crate::specs::InfoChecks::head_checks))]
+fn read_head(tree: &Value) -> Result<bool, Failure<DocFault>>
+    ensures { Answers (head_checks (view tree.now))
+        (λ with_visibility. with_visibility ≡ has_visibility (view tree.now)) result }
+{
+    shape::object(tree, Member::Document, Place::Document)?;
+    read_version(tree)
+}
+
+fn read_version(tree: &Value) -> Result<bool, Failure<DocFault>>
+    ensures { Tests (is_info_version (whole_number m.Version (view tree.now)) otherwise DocFault.BadVersion)
+        (λ with_visibility. with_visibility ≡ has_visibility (view tree.now)) result }
+{
+    match tree.get(Member::Version.key()).and_then(Value::as_u64) {
+        Some(1) => Ok(false),
+        Some(2) => Ok(true),
+        _ => Err(Failure::Fault(DocFault::BadVersion)),
+    }
+}
+
+#[tactic(auto, unfolding(crate::specs::InfoChecks::modules_check))]
+fn read_modules(tree: &Value) -> Result<&[Value], Failure<DocFault>>
+    ensures { Answers (modules_check (view tree.now))
+        (λ values. entries m.Modules (view tree.now) ≡ Some (map view values.now)) result }
+{
+    shape::required_entries(tree, Member::Modules, Place::Document)
+}
+
+#[tactic(auto, unfolding(crate::specs::InfoChecks::all_module_checks))]
+fn read_all_modules(
+    alloc: Global,
+    with_visibility: bool,
+    values: &[Value],
+) -> Result<Vec<InfoModule>, Failure<DocFault>>
+    ensures { Answers (all_module_checks with_visibility (map view values.now))
+        (λ found. AllZip (IsModule with_visibility) (map view values.now) found.items) result }
+{
+    let mut found = Vec::new(alloc);
+    for (number, value) in values.iter().enumerate() {
+        let entry = read_module(alloc, with_visibility, number, value)?;
+        found.push(entry)?;
+    }
+    Ok(found)
+}
+
+#[tactic(auto, unfolding(crate::specs::InfoChecks::module_checks), using(crate::proofs::Each::failure_of_both))]
+fn read_module(
+    alloc: Global,
+    with_visibility: bool,
+    number: usize,
+    value: &Value,
+) -> Result<InfoModule, Failure<DocFault>>
+    ensures { Answers (module_checks with_visibility number (view value.now))
+        (λ found. IsModule with_visibility (view value.now) found) result }
+{
+    let place = Place::Module { number };
+    let (name, path) = read_entry_shape(place, value)?;
+    let requirements = read_requires(place, value)?;
+    let is_private = read_visibility(with_visibility, place, value)?;
+    let (name, file) = read_named_file(alloc, place, name, path)?;
+    let required = read_all_requirements(alloc, number, requirements)?;
+    Ok(InfoModule {
+        name,
+        file,
+        required,
+        is_private,
+    })
+}
+
+/// The texts of a name and a file.
+#[tactic(auto, unfolding(crate::specs::InfoChecks::entry_shape_checks))]
+fn read_entry_shape(place: Place, value: &Value) -> Result<(&str, &str), Failure<DocFault>>
+    ensures { Answers (entry_shape_checks place (view value.now))
+        (λ found. (text m.Name (view value.now) ≡ Some found.0.now)
+        × (text m.Bmi (view value.now) ≡ Some found.1.now)) result }
+{
+    shape::object(value, Member::Entry, place)?;
+    let path = shape::required_text(value, Member::Bmi, place)?;
+    let name = shape::required_text(value, Member::Name, place)?;
+    Ok((name, path))
+}
+
+#[tactic(auto, unfolding(crate::specs::InfoChecks::requires_check))]
+fn read_requires(place: Place, value: &Value) -> Result<&[Value], Failure<DocFault>>
+    ensures { Answers (requires_check place (view value.now))
+        (λ values. entries m.Requires (view value.now) ≡ Some (map view values.now)) result }
+{
+    shape::required_entries(value, Member::Requires, place)
+}
+
+/// Whether the module is private.
+#[tactic(auto, unfolding(crate::specs::InfoChecks::visibility_check))]
+fn read_visibility(
+    with_visibility: bool,
+    place: Place,
+    value: &Value,
+) -> Result<bool, Failure<DocFault>>
+    ensures { Answers (visibility_check with_visibility place (view value.now))
+        (λ is_private. privacy with_visibility (view value.now) ≡ Some is_private) result }
+{
+    if !with_visibility {
+        return Ok(false);
+    }
+    match shape::given(value, Member::Visibility).and_then(Value::as_str) {
+        Some("private") => Ok(true),
+        Some("public") => Ok(false),
+        _ => Err(bad_shape(place, Member::Visibility)),
+    }
+}
+
+#[tactic(auto, unfolding(crate::specs::InfoChecks::named_file_checks))]
+fn read_named_file(
+    alloc: Global,
+    place: Place,
+    name: &str,
+    path: &str,
+) -> Result<(Name, Path), Failure<DocFault>>
+    ensures { Answers (named_file_checks place name.now path.now)
+        (λ found. (found.0 ≡ name.now) × (path_of path.now ≡ Ok found.1) × IsText found.1) result }
+{
+    let name = read_name(alloc, name, place)?;
+    let file = read_path(alloc, place, path)?;
+    Ok((name, file))
+}
+
+fn read_path(alloc: Global, place: Place, path: &str) -> Result<Path, Failure<DocFault>>
+    ensures { Answers (path_checks place (path_of path.now))
+        (λ found. (path_of path.now ≡ Ok found) × IsText found) result }
+{
+    Path::of(alloc, path.as_bytes()).map_err(|failure| bad_path(place, failure))
+}
+
+#[tactic(auto, unfolding(crate::specs::InfoChecks::all_requirement_checks))]
+fn read_all_requirements(
+    alloc: Global,
+    owner: usize,
+    values: &[Value],
+) -> Result<Vec<(Name, Path)>, Failure<DocFault>>
+    ensures { Answers (all_requirement_checks owner (map view values.now))
+        (λ found. AllZip IsRequirement (map view values.now) found.items) result }
+{
+    let mut found = Vec::new(alloc);
+    for (entry, value) in values.iter().enumerate() {
+        let place = Place::ModuleRequires {
+            number: owner,
+            entry,
+        };
+        let pair = read_requirement(alloc, place, value)?;
+        found.push(pair)?;
+    }
+    Ok(found)
+}
+
+#[tactic(auto, unfolding(crate::specs::InfoChecks::requirement_checks), using(crate::proofs::Each::failure_of_both))]
+fn read_requirement(
+    alloc: Global,
+    place: Place,
+    value: &Value,
+) -> Result<(Name, Path), Failure<DocFault>>
+    ensures { Answers (requirement_checks place (view value.now))
+        (IsRequirement (view value.now)) result }
+{
+    let (name, path) = read_entry_shape(place, value)?;
+    read_named_file(alloc, place, name, path)
+}

@@ -1,0 +1,43 @@
+//! The documents of a module collator: scan documents of P1689R5, and the info and target documents of targets.
+//!
+//! - [`scan`] reads the rules of a scan document, [`info_read`] what a target tells the targets that link it, and
+//!   [`spec_read`] what a target is made of. Each answers what the document means exactly where all checks hold, and else
+//!   the refusal of the first check that fails. The checks stand as lists in `specs/ScanChecks.antt`,
+//!   `specs/InfoChecks.antt` and `specs/TargetChecks.antt`, the meanings in `specs/Scan.antt`, `specs/Info.antt` and
+//!   `specs/Target.antt`; `specs/Document.antt` puts them together. That a document has one answer at most is a clause of
+//!   each call.
+//! - [`info_write`] gives the one text of an info (`specs/InfoText.antt`), which is read as the same info.
+//! - [`Name`] and [`TargetName`] hold texts that are names (`specs/Name.antt`).
+//!
+//! It stands on `ninja_text` for paths, on `serde_json` for JSON (RFC 8259), and on `thiserror` for the texts of faults.
+#![tactic(auto)]
+
+mod document;
+mod fault;
+mod info;
+mod info_text;
+mod map_form;
+mod member;
+mod name;
+mod rule;
+mod scan_document;
+mod setting;
+mod shape;
+mod target_document;
+mod target_name;
+
+pub use document::DOCUMENT_LIMIT;
+pub use fault::{DocFault, Place};
+pub use info::{Info, InfoModule, info_read};
+pub use info_text::info_write;
+pub use map_form::MapForm;
+pub use member::Member;
+pub use name::{NAME_LIMIT, Name};
+pub use rule::Rule;
+pub use scan_document::{COUNT_LIMIT, scan};
+pub use setting::Setting;
+pub use target_document::{TargetSpec, spec_read};
+pub use target_name::TargetName;
+
+#[cfg(test)]
+mod tests;

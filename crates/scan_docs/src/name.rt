@@ -1,0 +1,187 @@
+//! Names of modules.
+
+ghost use Rattle.std.specs.Prelude.{◌≡◌, ◌==◌, IfOk, IsTrue, nat_le, count_by};
+ghost use Rattle.std.specs.Option.{SomeIff};
+ghost use Rattle.std.specs.List.{list_all, slice_split};
+ghost use Rattle.scan_docs.specs.Name.{is_name, is_name_byte, is_separator, is_not_empty};
+
+use std::alloc::{AllocError, Global};
+use std::cmp::Ordering;
+use std::hash::{Hash, Hasher};
+use std::marker::Model;
+
+/// The most bytes that a name has.
+pub const NAME_LIMIT: usize = 1024;
+
+/// The name of a module, or of a module's partition: the logical name of P1689R5.
+///
+/// It has 1 to 1,024 bytes and one `:` at most, no part between the separators `.` and `:` is empty, and no byte is a
+/// control byte, a space, 127 or one of `/ \ " ' = | $`. A contract sees a name as its text.
+#[derive(Debug, Drop)]
+pub struct Name {
+    text: String,
+}
+
+impl Model for Name {
+    ghost use Rattle.std.specs.Prelude.{ℕ, List, IsTrue, string_bytes};
+    ghost use Rattle.scan_docs.specs.Name.{is_name};
+
+    ghost Value = { List ℕ };
+
+    ghost view = { λ n. string_bytes n.text };
+
+    ghost invariant = { λ n. IsTrue (is_name (string_bytes n.text)) };
+}
+
+impl Name {
+    /// The text as a name, or None where it is not accepted.
+    pub fn of(alloc: Global, text: &str) -> Result<Option<Name>, AllocError>
+        ensures { IfOk result (λ name. SomeIff name (IsTrue (is_name text.now)) text.now) }
+    {
+        if !is_name(text.as_bytes()) {
+            return Ok(None);
+        }
+        let text = String::from_str(alloc, text)?;
+        Ok(Some(Name { text }))
+    }
+
+    /// The text that the name was made of.
+    pub fn text(&self) -> &str
+        ensures text { result.now ≡ self.now }
+        ensures accepted { IsTrue (is_name self.now) }
+    {
+        self.text.as_str()
+    }
+
+    /// The same name once more.
+    pub fn copy(&self, alloc: Global) -> Result<Name, AllocError>
+        ensures { IfOk result (λ copy. copy ≡ self.now) }
+    {
+        let text = String::from_str(alloc, self.text.as_str())?;
+        Ok(Name { text })
+    }
+}
+
+#[tactic(auto, unfolding(crate::specs::Name::is_name))]
+fn is_name(text: &[u8]) -> bool
+    ensures { result ≡ is_name text.now }
+{
+    !text.is_empty()
+        && text.len() <= NAME_LIMIT
+        && has_few_colons(text)
+        && has_full_parts(text)
+        && has_name_bytes(text)
+}
+
+fn has_few_colons(text: &[u8]) -> bool
+    ensures { result ≡ nat_le (count_by (λ b. b == 58) text.now) 1 }
+{
+    text.iter().filter(|b| **b == b':').count() <= 1
+}
+
+/// Whether no part is empty. `is_empty` is kept of the part that is being read.
+#[tactic(auto, using(crate::proofs::Parts::full_parts))]
+fn has_full_parts(text: &[u8]) -> bool
+    ensures { result ≡ list_all is_not_empty (slice_split is_separator text.now) }
+{
+    let mut is_empty = true;
+    for byte in text {
+        if !is_separator(*byte) {
+            is_empty = false;
+        } else if is_empty {
+            return false;
+        } else {
+            is_empty = true;
+        }
+    }
+    !is_empty
+}
+
+fn has_name_bytes(text: &[u8]) -> bool
+    ensures { result ≡ list_all is_name_byte text.now }
+{
+    text.iter().all(|b| is_name_byte(*b))
+}
+
+fn is_separator(byte: u8) -> bool
+    ensures { result ≡ is_separator byte }
+{
+    byte == b'.' || byte == b':'
+}
+
+fn is_name_byte(byte: u8) -> bool
+    ensures { result ≡ is_name_byte byte }
+{
+    byte >= 33 && byte != 127 && !b"/\\\"'=|$".contains(&byte)
+}
+
+/// Two names are equal where their texts are.
+impl PartialEq for Name {
+    ghost use Rattle.std.specs.Prelude.{bytes_eq};
+    ghost use Rattle.std.specs.Cmp.{partial_equiv_from_equiv};
+    ghost use Rattle.std.proofs.lemmas.Cmp.{nat_list_eq_equiv};
+
+    ghost eq = { bytes_eq };
+
+    ghost laws = { partial_equiv_from_equiv nat_list_eq_equiv };
+
+    fn eq(&self, other: &Name) -> bool {
+        self.text.as_bytes() == other.text.as_bytes()
+    }
+}
+
+impl Eq for Name {
+    ghost use Rattle.std.proofs.lemmas.Cmp.{nat_list_eq_equiv};
+
+    ghost laws = { nat_list_eq_equiv };
+}
+
+/// Names are in the byte order of their texts.
+impl Ord for Name {
+    ghost use Rattle.std.proofs.Common.{rules};
+    ghost use Rattle.std.specs.Cmp.Rules.{comparing};
+    ghost use Rattle.std.specs.Ordering.{nat_cmp};
+    ghost use Rattle.std.specs.Cmp.Lexicographic.{slice_cmp};
+
+    ghost cmp = { slice_cmp nat_cmp };
+
+    ghost total = { Prim.search (comparing, rules) };
+
+    ghost matches_partial_cmp = { Prim.search (comparing, rules) };
+
+    ghost matches_eq = { Prim.search (comparing, rules) };
+
+    fn cmp(&self, other: &Name) -> Ordering {
+        self.text.as_bytes().cmp(other.text.as_bytes())
+    }
+}
+
+impl PartialOrd for Name {
+    ghost use Rattle.std.proofs.Common.{rules};
+    ghost use Rattle.std.specs.Cmp.{partial_order_from_own_ties};
+    ghost use Rattle.std.specs.Cmp.Rules.{comparing};
+    ghost use Rattle.std.specs.Ordering.{nat_cmp, as_partial_cmp};
+    ghost use Rattle.std.specs.Cmp.Lexicographic.{slice_cmp};
+
+    ghost partial_cmp = { as_partial_cmp (slice_cmp nat_cmp) };
+
+    ghost laws = { partial_order_from_own_ties (Prim.search (comparing, rules)) (Prim.search (comparing, rules)) };
+
+    fn partial_cmp(&self, other: &Name) -> Option<Ordering> {
+        Some(self.cmp(other))
+    }
+}
+
+impl Hash for Name {
+    ghost use Rattle.std.proofs.Common.{rules};
+    ghost use Rattle.std.specs.Cmp.Rules.{hashing};
+    ghost use Rattle.std.specs.Hash as fed;
+
+    ghost hash_input = { λ n. fed.slice fed.u8 n };
+
+    ghost respects_eq = { Prim.search (hashing, rules) };
+
+    fn hash<H: Hasher>(&self, state: &mut H) {
+        self.text.as_bytes().hash(state);
+    }
+}

@@ -1,0 +1,295 @@
+//! Rules of a scan document.
+
+ghost use Rattle.std.specs.Prelude.{◌≡◌, [], ◌∷◌, ◌++◌, map, Some, Ok, IfOk, OnOk, IsUtf8, option_copied, is_none, ◌||◌};
+ghost use Rattle.std.specs.List.{AllZip};
+ghost use Rattle.ninja_text.specs.Paths.{placed};
+ghost use Rattle.serde_json.specs.Data.{Data};
+ghost use Rattle.serde_json.specs.View.{view};
+ghost use Rattle.scan_docs.specs.Check.{◌otherwise◌, shape_check, path_checks};
+ghost use Rattle.scan_docs.specs.Reading.{Answers, Tests};
+ghost use Rattle.scan_docs.specs.Shape.{text, entries_of, given};
+ghost use Rattle.scan_docs.specs.Name.{is_name};
+ghost use Rattle.scan_docs.specs.Scan.{object_of, is_method, names_header, made_file, joined_file, dashed, IsText, IsProvided, IsRequired, IsRule};
+ghost use Rattle.scan_docs.specs.ScanChecks.{rule_shape_checks, provided_checks, all_provided_checks, required_checks, all_required_checks, object_checks, count_checks, rule_checks};
+ghost use Rattle.scan_docs.specs.declared.member.Member.TheVariants as m;
+
+use crate::fault::{DocFault, Place, bad_path, bad_shape};
+use crate::member::Member;
+use crate::name::Name;
+use crate::scan_document::COUNT_LIMIT;
+use crate::setting::Setting;
+use crate::shape;
+use ninja_text::{Failure, Path, place};
+use serde_json::Value;
+use std::alloc::{AllocError, Global};
+use std::marker::Model;
+
+/// A rule of a scan document: an object file, the modules that its source provides, each with its file, and the names
+/// of the modules that it requires, both in the order of the document.
+#[derive(Drop)]
+pub struct Rule {
+    pub object: Path,
+    pub provided: Vec<(Name, Path)>,
+    pub required: Vec<Name>,
+}
+
+impl Model for Rule {
+    ghost use Rattle.scan_docs.specs.Scan.{RuleValue};
+
+    ghost Value = { RuleValue };
+
+    ghost view = { λ r. record { object = r.object; provided = r.provided.items; required = r.required.items } };
+}
+
+/// The members of a rule, by their shapes.
+#[derive(Clone, Copy)]
+struct RuleMembers<'v> {
+    primary_output: Option<&'v str>,
+    work_directory: Option<&'v str>,
+    provided: &'v [Value],
+    required: &'v [Value],
+}
+
+#[tactic(auto, unfolding(crate::specs::ScanChecks::rule_checks), using(crate::proofs::Each::failure_of_both))]
+pub(crate) fn read_rule(
+    alloc: Global,
+    setting: &Setting,
+    rule: usize,
+    value: &Value,
+) -> Result<Rule, Failure<DocFault>>
+    ensures { Answers (rule_checks setting.now rule (view value.now))
+        (IsRule setting.now (view value.now)) result }
+{
+    let place = Place::Rule { rule };
+    let members = read_members(place, value)?;
+    let work = members.work_directory;
+    let object = read_object(alloc, setting, place, members.primary_output, work)?;
+    check_counts(place, members.provided, members.required)?;
+    let provided = read_all_provided(alloc, setting, work, rule, members.provided)?;
+    let required = read_all_required(alloc, rule, members.required)?;
+    Ok(Rule {
+        object,
+        provided,
+        required,
+    })
+}
+
+#[tactic(auto, unfolding(crate::specs::ScanChecks::rule_shape_checks))]
+fn read_members<'v>(place: Place, rule: &'v Value) -> Result<RuleMembers<'v>, Failure<DocFault>>
+    ensures { Answers (rule_shape_checks place (view rule.now))
+        (λ found. (option_copied found.primary_output ≡ text m.PrimaryOutput (view rule.now))
+        × (option_copied found.work_directory ≡ text m.WorkDirectory (view rule.now))
+        × (map view found.provided.now ≡ entries_of m.Provides (view rule.now))
+        × (map view found.required.now ≡ entries_of m.Requires (view rule.now))) result }
+{
+    shape::object(rule, Member::Rule, place)?;
+    let primary_output = shape::text(rule, Member::PrimaryOutput, place)?;
+    let work_directory = shape::text(rule, Member::WorkDirectory, place)?;
+    let provided = shape::entries(rule, Member::Provides, place)?;
+    let required = shape::entries(rule, Member::Requires, place)?;
+    Ok(RuleMembers {
+        primary_output,
+        work_directory,
+        provided,
+        required,
+    })
+}
+
+/// Where the rule's object file lies.
+#[tactic(auto, unfolding(crate::specs::ScanChecks::object_checks))]
+fn read_object(
+    alloc: Global,
+    setting: &Setting,
+    place: Place,
+    output: Option<&str>,
+    work: Option<&str>,
+) -> Result<Path, Failure<DocFault>>
+    ensures { (d : Data) → option_copied output.entry ≡ text m.PrimaryOutput d
+        → option_copied work.entry ≡ text m.WorkDirectory d
+        → Answers (object_checks setting.now place d)
+        (λ object. (object_of setting.now d ≡ Ok object) × IsText object) result }
+{
+    match output {
+        Some(output) => read_path(alloc, setting, work, output.as_bytes(), place),
+        None => Err(Failure::Fault(DocFault::NoPrimaryOutput { place })),
+    }
+}
+
+#[tactic(auto, unfolding(crate::specs::ScanChecks::count_checks))]
+fn check_counts(
+    place: Place,
+    provided: &[Value],
+    required: &[Value],
+) -> Result<(), Failure<DocFault>>
+    ensures { Answers (count_checks place (map view provided.now) (map view required.now))
+        (λ _. Unit {0}) result }
+{
+    if provided.len() > COUNT_LIMIT || required.len() > COUNT_LIMIT {
+        return Err(Failure::Fault(DocFault::TooLarge { place }));
+    }
+    Ok(())
+}
+
+#[tactic(auto, unfolding(crate::specs::ScanChecks::all_provided_checks))]
+fn read_all_provided(
+    alloc: Global,
+    setting: &Setting,
+    work: Option<&str>,
+    rule: usize,
+    entries: &[Value],
+) -> Result<Vec<(Name, Path)>, Failure<DocFault>>
+    ensures { Answers (all_provided_checks setting.now (option_copied work.entry) rule (map view entries.now))
+        (λ found. AllZip (IsProvided setting.now (option_copied work.entry)) (map view entries.now) found.items) result }
+{
+    let mut found = Vec::new(alloc);
+    for (entry, value) in entries.iter().enumerate() {
+        let place = Place::Provides { rule, entry };
+        let pair = read_provided(alloc, setting, work, place, value)?;
+        found.push(pair)?;
+    }
+    Ok(found)
+}
+
+#[tactic(auto, unfolding(crate::specs::ScanChecks::provided_checks))]
+fn read_provided(
+    alloc: Global,
+    setting: &Setting,
+    work: Option<&str>,
+    place: Place,
+    entry: &Value,
+) -> Result<(Name, Path), Failure<DocFault>>
+    ensures { Answers (provided_checks setting.now (option_copied work.entry) place (view entry.now))
+        (IsProvided setting.now (option_copied work.entry) (view entry.now)) result }
+{
+    shape::object(entry, Member::Entry, place)?;
+    let name = shape::required_text(entry, Member::LogicalName, place)?;
+    let file = shape::text(entry, Member::CompiledModulePath, place)?;
+    let unique = shape::flag(entry, Member::UniqueOnSourcePath, place)?;
+    let _ = shape::flag(entry, Member::IsInterface, place)?;
+    if unique == Some(true) {
+        return Err(Failure::Fault(DocFault::HeaderUnit { place }));
+    }
+    let name = read_name(alloc, name, place)?;
+    let file = match file {
+        Some(path) => read_path(alloc, setting, work, path.as_bytes(), place)?,
+        None => {
+            let path = made_file(alloc, setting, &name)?;
+            read_path(alloc, setting, None, &path, place)?
+        }
+    };
+    Ok((name, file))
+}
+
+#[tactic(auto, unfolding(crate::specs::ScanChecks::all_required_checks))]
+fn read_all_required(
+    alloc: Global,
+    rule: usize,
+    entries: &[Value],
+) -> Result<Vec<Name>, Failure<DocFault>>
+    ensures { Answers (all_required_checks rule (map view entries.now))
+        (λ found. AllZip IsRequired (map view entries.now) found.items) result }
+{
+    let mut found = Vec::new(alloc);
+    for (entry, value) in entries.iter().enumerate() {
+        let place = Place::Requires { rule, entry };
+        let name = read_required(alloc, place, value)?;
+        found.push(name)?;
+    }
+    Ok(found)
+}
+
+#[tactic(auto, unfolding(crate::specs::ScanChecks::required_checks))]
+fn read_required(alloc: Global, place: Place, entry: &Value) -> Result<Name, Failure<DocFault>>
+    ensures { Answers (required_checks place (view entry.now))
+        (IsRequired (view entry.now)) result }
+{
+    shape::object(entry, Member::Entry, place)?;
+    let name = shape::required_text(entry, Member::LogicalName, place)?;
+    let unique = shape::flag(entry, Member::UniqueOnSourcePath, place)?;
+    let header = names_header(entry, place)?;
+    if unique == Some(true) || header {
+        return Err(Failure::Fault(DocFault::HeaderUnit { place }));
+    }
+    read_name(alloc, name, place)
+}
+
+/// Whether a requirement is looked up as a header.
+fn names_header(entry: &Value, place: Place) -> Result<bool, Failure<DocFault>>
+    ensures { Tests (shape_check place m.LookupMethod
+        (is_none (given m.LookupMethod (view entry.now)) || is_method (text m.LookupMethod (view entry.now))))
+        (λ header. header ≡ names_header (text m.LookupMethod (view entry.now))) result }
+{
+    match shape::given(entry, Member::LookupMethod) {
+        None => Ok(false),
+        Some(method) => match method.as_str() {
+            Some("by-name") => Ok(false),
+            Some("include-angle" | "include-quote") => Ok(true),
+            _ => Err(bad_shape(place, Member::LookupMethod)),
+        },
+    }
+}
+
+/// The name of a module, which has to be accepted.
+pub(crate) fn read_name(alloc: Global, text: &str, place: Place) -> Result<Name, Failure<DocFault>>
+    ensures { Tests (is_name text.now otherwise DocFault.BadName place)
+        (λ name. name ≡ text.now) result }
+{
+    Name::of(alloc, text)?.ok_or(Failure::Fault(DocFault::BadName { place }))
+}
+
+/// Where a path of the document lies.
+fn read_path(
+    alloc: Global,
+    setting: &Setting,
+    work: Option<&str>,
+    path: &[u8],
+    at: Place,
+) -> Result<Path, Failure<DocFault>>
+    requires { IsUtf8 path.now }
+    ensures { Answers (path_checks at (placed (option_copied work.entry) setting.now.build_dir path.now))
+        (λ found. (placed (option_copied work.entry) setting.now.build_dir path.now ≡ Ok found) × IsText found) result }
+{
+    let work = work.map(|work| work.as_bytes());
+    place(alloc, work, setting.build_dir.as_ref(), path).map_err(|failure| bad_path(at, failure))
+}
+
+/// The name of a module's file where the document names none.
+fn made_file(alloc: Global, setting: &Setting, name: &Name) -> Result<Vec<u8>, AllocError>
+    ensures path { IfOk result (λ path. path.items ≡ made_file setting.now name.now) }
+    ensures text { IfOk result (λ path. IsUtf8 path.items) }
+{
+    let module_dir = setting.module_dir.as_str();
+    let module_ext = setting.module_ext.as_str();
+    let text = name.text();
+    let path = joined_file(alloc, module_dir, text, module_ext)?;
+    Ok(path)
+}
+
+fn joined_file(
+    alloc: Global,
+    module_dir: &str,
+    name: &str,
+    module_ext: &str,
+) -> Result<Vec<u8>, AllocError>
+    ensures { IfOk result
+        (λ path. path.items ≡ joined_file module_dir.now name.now module_ext.now) }
+{
+    let mut path = Vec::new(alloc);
+    if !module_dir.is_empty() {
+        path.extend_from_slice(module_dir.as_bytes())?;
+        path.push(b'/')?;
+    }
+    push_dashed(&mut path, name.as_bytes())?;
+    path.extend_from_slice(module_ext.as_bytes())?;
+    Ok(path)
+}
+
+/// Appends the bytes of a name, a dash for each colon.
+fn push_dashed(path: &mut Vec<u8>, name: &[u8]) -> Result<(), AllocError>
+    ensures { OnOk result (path.new.items ≡ path.old.items ++ map dashed name.now) }
+{
+    for byte in name {
+        path.push(if *byte == b':' { b'-' } else { *byte })?;
+    }
+    Ok(())
+}

@@ -1,0 +1,97 @@
+//! Scan documents (P1689R5).
+
+ghost use Rattle.std.specs.Prelude.{◌≡◌, map, IfOk, IfErr};
+ghost use Rattle.std.specs.List.{AllZip, All};
+ghost use Rattle.ninja_text.specs.Failure.{ForFault};
+ghost use Rattle.serde_json.specs.View.{view};
+ghost use Rattle.scan_docs.specs.Check.{◌otherwise◌};
+ghost use Rattle.scan_docs.specs.Reading.{Answers, Tests};
+ghost use Rattle.scan_docs.specs.Document.{IsAccepted, IsRefused, HasOneAnswer};
+ghost use Rattle.scan_docs.specs.Shape.{entries_of, whole_number};
+ghost use Rattle.scan_docs.specs.Scan.{IsRule, AreRules, IsRuleText};
+ghost use Rattle.scan_docs.specs.ScanChecks.{is_scan_version, head_checks, all_rule_checks, scan_checks};
+ghost use Rattle.scan_docs.specs.declared.member.Member.TheVariants as m;
+
+use crate::document::read_tree;
+use crate::fault::{DocFault, Place};
+use crate::member::Member;
+use crate::rule::{Rule, read_rule};
+use crate::setting::Setting;
+use crate::shape;
+use ninja_text::Failure;
+use serde_json::Value;
+use std::alloc::Global;
+
+/// The most rules of a document, and entries of one of a rule's lists.
+pub const COUNT_LIMIT: usize = 65536;
+
+/// The rules of a scan document (P1689R5), in its order, or the refusal of the first check that fails.
+///
+/// `version` has to be 0, which some producers write, or 1. A rule's object file and the named files of its modules are
+/// placed with the rule's work directory; a module's file that is not named is made of the setting and the name. Members
+/// that are not asked for may hold anything, among them `revision`, `outputs` and every `source-path`.
+pub fn scan(alloc: Global, bytes: &[u8], setting: &Setting) -> Result<Vec<Rule>, Failure<DocFault>>
+    ensures accepted { IfOk result
+        (λ rules. IsAccepted (scan_checks setting.now) (AreRules setting.now) bytes.now rules.items) }
+    ensures refused { IfErr result (ForFault (IsRefused (scan_checks setting.now) bytes.now)) }
+    ensures text { IfOk result (λ rules. All IsRuleText rules.items) }
+    ensures one_answer { HasOneAnswer (scan_checks setting.now) (AreRules setting.now) bytes.now }
+{
+    let tree = read_tree(alloc, bytes)?;
+    read_rules(alloc, setting, &tree)
+}
+
+#[tactic(auto, unfolding(crate::specs::ScanChecks::scan_checks), using(crate::proofs::Each::failure_of_both))]
+fn read_rules(
+    alloc: Global,
+    setting: &Setting,
+    tree: &Value,
+) -> Result<Vec<Rule>, Failure<DocFault>>
+    ensures { Answers (scan_checks setting.now (view tree.now))
+        (λ rules. AreRules setting.now (view tree.now) rules.items) result }
+{
+    let rules = read_head(tree)?;
+    read_all_rules(alloc, setting, rules)
+}
+
+#[tactic(auto, unfolding(crate::specs::ScanChecks::head_checks))]
+fn read_head(tree: &Value) -> Result<&[Value], Failure<DocFault>>
+    ensures { Answers (head_checks (view tree.now))
+        (λ rules. map view rules.now ≡ entries_of m.Rules (view tree.now)) result }
+{
+    let place = Place::Document;
+    shape::object(tree, Member::Document, place)?;
+    check_version(tree)?;
+    let rules = shape::required_entries(tree, Member::Rules, place)?;
+    if rules.len() > COUNT_LIMIT {
+        return Err(Failure::Fault(DocFault::TooLarge { place }));
+    }
+    Ok(rules)
+}
+
+fn check_version(tree: &Value) -> Result<(), Failure<DocFault>>
+    ensures { Tests (is_scan_version (whole_number m.Version (view tree.now)) otherwise DocFault.BadVersion)
+        (λ _. Unit {0}) result }
+{
+    match tree.get(Member::Version.key()).and_then(Value::as_u64) {
+        Some(0 | 1) => Ok(()),
+        _ => Err(Failure::Fault(DocFault::BadVersion)),
+    }
+}
+
+#[tactic(auto, unfolding(crate::specs::ScanChecks::all_rule_checks))]
+fn read_all_rules(
+    alloc: Global,
+    setting: &Setting,
+    rules: &[Value],
+) -> Result<Vec<Rule>, Failure<DocFault>>
+    ensures { Answers (all_rule_checks setting.now (map view rules.now))
+        (λ found. AllZip (IsRule setting.now) (map view rules.now) found.items) result }
+{
+    let mut found = Vec::new(alloc);
+    for (number, value) in rules.iter().enumerate() {
+        let rule = read_rule(alloc, setting, number, value)?;
+        found.push(rule)?;
+    }
+    Ok(found)
+}

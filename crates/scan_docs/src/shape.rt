@@ -1,0 +1,157 @@
+//! Members of an object, by the shape that they should have.
+
+ghost use Rattle.std.specs.Prelude.{◌≡◌, ◌||◌, Some, map, option_map, option_copied, is_some, IfOk, string_bytes};
+ghost use Rattle.serde_json.specs.View.{view};
+ghost use Rattle.scan_docs.specs.Check.{shape_check};
+ghost use Rattle.scan_docs.specs.Reading.{Tests};
+ghost use Rattle.scan_docs.specs.Shape.{given, text, entries, entries_of, flag, fits, is_object, texts, texts_of, all_texts};
+
+use crate::fault::{DocFault, Place, bad_shape};
+use crate::member::Member;
+use ninja_text::Failure;
+use serde_json::Value;
+use std::alloc::{AllocError, Global};
+
+/// Whether the value is an object.
+pub(crate) fn object(value: &Value, what: Member, place: Place) -> Result<(), Failure<DocFault>>
+    ensures { Tests (shape_check place what (is_object (view value.now))) (λ _. Unit {0}) result }
+{
+    if value.is_object() {
+        Ok(())
+    } else {
+        Err(bad_shape(place, what))
+    }
+}
+
+/// The member's value, unless it is absent or null.
+pub(crate) fn given<'v>(object: &'v Value, member: Member) -> Option<&'v Value>
+    ensures { option_map (λ v. view v.now) result ≡ given member (view object.now) }
+{
+    match object.get(member.key()) {
+        Some(value) if !value.is_null() => Some(value),
+        _ => None,
+    }
+}
+
+/// The member's text, or nothing where it is absent or null.
+pub(crate) fn text<'v>(
+    object: &'v Value,
+    member: Member,
+    place: Place,
+) -> Result<Option<&'v str>, Failure<DocFault>>
+    ensures { Tests (shape_check place member (fits text member (view object.now)))
+        (λ t. option_copied t ≡ text member (view object.now)) result }
+{
+    match given(object, member) {
+        None => Ok(None),
+        Some(value) => match value.as_str() {
+            Some(text) => Ok(Some(text)),
+            None => Err(bad_shape(place, member)),
+        },
+    }
+}
+
+/// The member's text, which has to be there.
+pub(crate) fn required_text<'v>(
+    object: &'v Value,
+    member: Member,
+    place: Place,
+) -> Result<&'v str, Failure<DocFault>>
+    ensures { Tests (shape_check place member (is_some (text member (view object.now))))
+        (λ t. text member (view object.now) ≡ Some t.now) result }
+{
+    match given(object, member).and_then(Value::as_str) {
+        Some(text) => Ok(text),
+        None => Err(bad_shape(place, member)),
+    }
+}
+
+/// The member's truth value, or nothing where it is absent or null.
+pub(crate) fn flag(
+    object: &Value,
+    member: Member,
+    place: Place,
+) -> Result<Option<bool>, Failure<DocFault>>
+    ensures { Tests (shape_check place member (fits flag member (view object.now)))
+        (λ b. b ≡ flag member (view object.now)) result }
+{
+    match given(object, member) {
+        None => Ok(None),
+        Some(value) => match value.as_bool() {
+            Some(flag) => Ok(Some(flag)),
+            None => Err(bad_shape(place, member)),
+        },
+    }
+}
+
+/// The member's entries, or none where it is absent or null.
+#[tactic(auto, using(crate::proofs::Elements::elements_items_of))]
+pub(crate) fn entries<'v>(
+    object: &'v Value,
+    member: Member,
+    place: Place,
+) -> Result<&'v [Value], Failure<DocFault>>
+    ensures { Tests (shape_check place member (fits entries member (view object.now)))
+        (λ vs. map view vs.now ≡ entries_of member (view object.now)) result }
+{
+    match given(object, member) {
+        None => Ok(&[]),
+        Some(value) => match value.as_array() {
+            Some(list) => Ok(list.as_slice()),
+            None => Err(bad_shape(place, member)),
+        },
+    }
+}
+
+/// The member's entries, which have to be there.
+#[tactic(auto, using(crate::proofs::Elements::elements_items_of))]
+pub(crate) fn required_entries<'v>(
+    object: &'v Value,
+    member: Member,
+    place: Place,
+) -> Result<&'v [Value], Failure<DocFault>>
+    ensures { Tests (shape_check place member (is_some (entries member (view object.now))))
+        (λ vs. entries member (view object.now) ≡ Some (map view vs.now)) result }
+{
+    match given(object, member).and_then(Value::as_array) {
+        Some(list) => Ok(list.as_slice()),
+        None => Err(bad_shape(place, member)),
+    }
+}
+
+/// The member's texts, or none where it is absent or null.
+#[tactic(auto, using(crate::proofs::Elements::elements_items_of))]
+pub(crate) fn texts(
+    alloc: Global,
+    object: &Value,
+    member: Member,
+    place: Place,
+) -> Result<Vec<String>, Failure<DocFault>>
+    ensures { Tests (shape_check place member (fits texts member (view object.now)))
+        (λ v. map string_bytes v.items ≡ texts_of member (view object.now)) result }
+{
+    let values = match given(object, member) {
+        None => return Ok(Vec::new(alloc)),
+        Some(value) => match value.as_array() {
+            Some(list) => list.as_slice(),
+            None => return Err(bad_shape(place, member)),
+        },
+    };
+    copy_texts(alloc, values)?.ok_or(bad_shape(place, member))
+}
+
+/// The values as texts, or None where one is no text.
+fn copy_texts(alloc: Global, values: &[Value]) -> Result<Option<Vec<String>>, AllocError>
+    ensures { IfOk result
+        (λ found. option_map (λ v. map string_bytes v.items) found ≡ all_texts (map view values.now)) }
+{
+    let mut found = Vec::new(alloc);
+    for value in values {
+        let Some(text) = value.as_str() else {
+            return Ok(None);
+        };
+        let copy = String::from_str(alloc, text)?;
+        found.push(copy)?;
+    }
+    Ok(Some(found))
+}

@@ -1,0 +1,299 @@
+//! Target documents.
+
+ghost use Rattle.std.specs.Prelude.{◌≡◌, [], Some, Ok, true, IfOk, IfErr, is_none, is_some, ◌||◌, map, string_bytes, option_map, option_copied, nat_lt, length};
+ghost use Rattle.std.specs.List.{list_all};
+ghost use Rattle.std.specs.Option.{ForSome};
+ghost use Rattle.ninja_text.specs.Failure.{ForFault};
+ghost use Rattle.ninja_text.specs.Paths.{placed, is_rooted};
+ghost use Rattle.serde_json.specs.View.{view};
+ghost use Rattle.scan_docs.specs.Check.{◌otherwise◌, shape_check, path_checks};
+ghost use Rattle.scan_docs.specs.Reading.{Answers, Tests};
+ghost use Rattle.scan_docs.specs.Document.{IsAccepted, IsRefused, HasOneAnswer};
+ghost use Rattle.scan_docs.specs.Shape.{text, text_of, texts_of, given, whole_number};
+ghost use Rattle.scan_docs.specs.Name.{is_name};
+ghost use Rattle.scan_docs.specs.Target.{IsTarget, build_dir, map_form};
+ghost use Rattle.scan_docs.specs.TargetChecks.{is_target_version, head_checks, name_checks, directory_checks, list_checks, kept_checks, dyndep_checks, file_checks, target_checks};
+ghost use Rattle.scan_docs.specs.declared.member.Member.TheVariants as m;
+
+use crate::document::read_tree;
+use crate::fault::{DocFault, Place, bad_path, bad_shape};
+use crate::map_form::MapForm;
+use crate::member::Member;
+use crate::name::Name;
+use crate::rule::read_name;
+use crate::shape;
+use crate::target_name::TargetName;
+use ninja_text::{Failure, Path, place};
+use serde_json::Value;
+use std::alloc::{AllocError, Global};
+use std::marker::Model;
+
+/// The members of a target document. Texts stand as they are in the document; only the build directory, which is
+/// absolute, is made canonical.
+#[derive(Drop)]
+pub struct TargetSpec {
+    pub target: TargetName,
+    /// The directory that modules are compiled to, or an empty text.
+    pub module_dir: String,
+    /// What the name of a compiled module ends in.
+    pub module_ext: String,
+    /// The directory that Ninja runs in.
+    pub build_dir: Option<Path>,
+    /// The scan documents.
+    pub scans: Vec<String>,
+    /// The info documents of the targets that this one links.
+    pub linked: Vec<String>,
+    /// The modules that the target keeps to itself: the member `private`.
+    pub kept: Vec<Name>,
+    /// The dyndep file to be written, which is a path as Ninja sees it.
+    pub dyndep: String,
+    /// The info document to be written.
+    pub info: String,
+    /// The form of the module maps, where maps are wanted.
+    pub map: Option<MapForm>,
+    /// The listing of edges to be checked against, if there is one.
+    pub edges: Option<String>,
+}
+
+impl Model for TargetSpec {
+    ghost use Rattle.std.specs.Prelude.{◌≡◌, true, map, option_map, string_bytes};
+    ghost use Rattle.std.specs.Option.{ForSome};
+    ghost use Rattle.ninja_text.specs.Paths.{is_rooted};
+    ghost use Rattle.scan_docs.specs.Target.{TargetValue};
+
+    ghost Value = { TargetValue };
+
+    ghost view = { λ t. record {
+      target = t.target;
+      module_dir = string_bytes t.module_dir;
+      module_ext = string_bytes t.module_ext;
+      build_dir = t.build_dir;
+      scans = Rattle.std.specs.Prelude.map string_bytes t.scans.items;
+      linked = Rattle.std.specs.Prelude.map string_bytes t.linked.items;
+      kept = t.kept.items;
+      dyndep = string_bytes t.dyndep;
+      info = string_bytes t.info;
+      map_form = t.map;
+      edges = option_map string_bytes t.edges;
+    } };
+
+    ghost invariant = { λ t. ForSome t.build_dir (λ path. is_rooted path ≡ true) };
+}
+
+/// The members of a target document, or the refusal of the first check that fails.
+pub fn spec_read(alloc: Global, bytes: &[u8]) -> Result<TargetSpec, Failure<DocFault>>
+    ensures accepted { IfOk result (λ spec. IsAccepted target_checks IsTarget bytes.now spec) }
+    ensures refused { IfErr result (ForFault (IsRefused target_checks bytes.now)) }
+    ensures one_answer { HasOneAnswer target_checks IsTarget bytes.now }
+{
+    let tree = read_tree(alloc, bytes)?;
+    read_spec(alloc, &tree)
+}
+
+#[tactic(auto, unfolding(crate::specs::TargetChecks::target_checks), using(crate::proofs::Each::failure_of_both))]
+fn read_spec(alloc: Global, tree: &Value) -> Result<TargetSpec, Failure<DocFault>>
+    ensures { Answers (target_checks (view tree.now))
+        (λ spec. IsTarget (view tree.now) spec) result }
+{
+    read_head(tree)?;
+    let target = read_target_name(alloc, tree)?;
+    let (module_dir, module_ext, build_dir) = read_directories(alloc, tree)?;
+    let (scans, linked) = read_lists(alloc, tree)?;
+    let kept = read_kept(alloc, tree)?;
+    let dyndep = read_dyndep(alloc, tree, build_dir.as_ref())?;
+    let (info, map, edges) = read_files(alloc, tree)?;
+    Ok(TargetSpec {
+        target,
+        module_dir,
+        module_ext,
+        build_dir,
+        scans,
+        linked,
+        kept,
+        dyndep,
+        info,
+        map,
+        edges,
+    })
+}
+
+#[tactic(auto, unfolding(crate::specs::TargetChecks::head_checks))]
+fn read_head(tree: &Value) -> Result<(), Failure<DocFault>>
+    ensures { Answers (head_checks (view tree.now)) (λ _. Unit {0}) result }
+{
+    shape::object(tree, Member::Document, Place::Document)?;
+    check_version(tree)
+}
+
+fn check_version(tree: &Value) -> Result<(), Failure<DocFault>>
+    ensures { Tests (is_target_version (whole_number m.Version (view tree.now)) otherwise DocFault.BadVersion)
+        (λ _. Unit {0}) result }
+{
+    match tree.get(Member::Version.key()).and_then(Value::as_u64) {
+        Some(1) => Ok(()),
+        _ => Err(Failure::Fault(DocFault::BadVersion)),
+    }
+}
+
+/// The target's name, in a target document or an info document.
+#[tactic(auto, unfolding(crate::specs::TargetChecks::name_checks))]
+pub(crate) fn read_target_name(alloc: Global, tree: &Value) -> Result<TargetName, Failure<DocFault>>
+    ensures { Answers (name_checks (view tree.now))
+        (λ name. text m.Target (view tree.now) ≡ Some name) result }
+{
+    let place = Place::Document;
+    let text = shape::required_text(tree, Member::Target, place)?;
+    TargetName::of(alloc, text)?.ok_or(Failure::Fault(DocFault::BadName { place }))
+}
+
+#[tactic(auto, unfolding(crate::specs::TargetChecks::directory_checks))]
+fn read_directories(
+    alloc: Global,
+    tree: &Value,
+) -> Result<(String, String, Option<Path>), Failure<DocFault>>
+    ensures read { Answers (directory_checks (view tree.now))
+        (λ found. (text m.ModuleDir (view tree.now) ≡ Some (string_bytes found.0))
+        × (text m.ModuleExt (view tree.now) ≡ Some (string_bytes found.1))
+        × (build_dir (view tree.now) ≡ found.2)) result }
+    ensures absolute { IfOk result (λ found. ForSome found.2 (λ path. is_rooted path ≡ true)) }
+{
+    let module_dir = shape::required_text(tree, Member::ModuleDir, Place::Document)?;
+    let module_ext = shape::required_text(tree, Member::ModuleExt, Place::Document)?;
+    let build_dir = read_build_dir(alloc, tree)?;
+    let module_dir = String::from_str(alloc, module_dir)?;
+    let module_ext = String::from_str(alloc, module_ext)?;
+    Ok((module_dir, module_ext, build_dir))
+}
+
+fn read_build_dir(alloc: Global, tree: &Value) -> Result<Option<Path>, Failure<DocFault>>
+    ensures read { Tests (shape_check Place.Document m.BuildDir
+        (is_none (given m.BuildDir (view tree.now)) || is_some (build_dir (view tree.now))))
+        (λ path. build_dir (view tree.now) ≡ path) result }
+    ensures absolute { IfOk result (λ found. ForSome found (λ path. is_rooted path ≡ true)) }
+{
+    let refusal = bad_shape(Place::Document, Member::BuildDir);
+    let text = match shape::given(tree, Member::BuildDir) {
+        None => return Ok(None),
+        Some(value) => match value.as_str() {
+            Some(text) => text,
+            None => return Err(refusal),
+        },
+    };
+    match Path::of(alloc, text.as_bytes()) {
+        Ok(path) if path.is_rooted() => Ok(Some(path)),
+        Err(Failure::Memory) => Err(Failure::Memory),
+        _ => Err(refusal),
+    }
+}
+
+#[tactic(auto, unfolding(crate::specs::TargetChecks::list_checks))]
+fn read_lists(alloc: Global, tree: &Value) -> Result<(Vec<String>, Vec<String>), Failure<DocFault>>
+    ensures { Answers (list_checks (view tree.now))
+        (λ found. (texts_of m.Scans (view tree.now) ≡ map string_bytes found.0.items)
+        × (texts_of m.Linked (view tree.now) ≡ map string_bytes found.1.items)) result }
+{
+    let scans = shape::texts(alloc, tree, Member::Scans, Place::Document)?;
+    let linked = shape::texts(alloc, tree, Member::Linked, Place::Document)?;
+    Ok((scans, linked))
+}
+
+#[tactic(auto, unfolding(crate::specs::TargetChecks::kept_checks))]
+fn read_kept(alloc: Global, tree: &Value) -> Result<Vec<Name>, Failure<DocFault>>
+    ensures { Answers (kept_checks (view tree.now))
+        (λ found. texts_of m.Private (view tree.now) ≡ found.items) result }
+{
+    let texts = shape::texts(alloc, tree, Member::Private, Place::Document)?;
+    read_names(alloc, &texts)
+}
+
+/// The texts as names, all of which have to be accepted.
+fn read_names(alloc: Global, texts: &[String]) -> Result<Vec<Name>, Failure<DocFault>>
+    ensures { Tests (list_all is_name (map string_bytes texts.now) otherwise DocFault.BadName Place.Document)
+        (λ found. map string_bytes texts.now ≡ found.items) result }
+{
+    let mut names = Vec::new(alloc);
+    for text in texts {
+        let name = read_name(alloc, text.as_str(), Place::Document)?;
+        names.push(name)?;
+    }
+    Ok(names)
+}
+
+#[tactic(auto, unfolding(crate::specs::TargetChecks::dyndep_checks))]
+fn read_dyndep(
+    alloc: Global,
+    tree: &Value,
+    build: Option<&Path>,
+) -> Result<String, Failure<DocFault>>
+    requires { ForSome (option_copied build) (λ path. is_rooted path ≡ true) }
+    ensures { build_dir (view tree.now) ≡ option_copied build.entry
+        → Answers (dyndep_checks (view tree.now)) (λ t. text m.Dyndep (view tree.now) ≡ Some (string_bytes t)) result }
+{
+    let text = shape::required_text(tree, Member::Dyndep, Place::Document)?;
+    check_placed(alloc, build, text)?;
+    Ok(String::from_str(alloc, text)?)
+}
+
+/// Whether a text is a path as Ninja sees it.
+fn check_placed(alloc: Global, build: Option<&Path>, text: &str) -> Result<(), Failure<DocFault>>
+    requires { ForSome (option_copied build) (λ path. is_rooted path ≡ true) }
+    ensures { Answers (path_checks Place.Document (placed None (option_copied build.entry) text.now))
+        (λ _. Unit {0}) result }
+{
+    match place(alloc, None, build, text.as_bytes()) {
+        Ok(_) => Ok(()),
+        Err(failure) => Err(bad_path(Place::Document, failure)),
+    }
+}
+
+#[tactic(auto, unfolding(crate::specs::TargetChecks::file_checks))]
+fn read_files(
+    alloc: Global,
+    tree: &Value,
+) -> Result<(String, Option<MapForm>, Option<String>), Failure<DocFault>>
+    ensures { Answers (file_checks (view tree.now))
+        (λ found. (text m.Info (view tree.now) ≡ Some (string_bytes found.0))
+        × (map_form (view tree.now) ≡ found.1)
+        × (text m.Edges (view tree.now) ≡ option_map string_bytes found.2)) result }
+{
+    let info = read_info_file(tree)?;
+    let map = read_map_form(tree)?;
+    let edges = shape::text(tree, Member::Edges, Place::Document)?;
+    let info = String::from_str(alloc, info)?;
+    let edges = copy_text(alloc, edges)?;
+    Ok((info, map, edges))
+}
+
+fn copy_text(alloc: Global, text: Option<&str>) -> Result<Option<String>, AllocError>
+    ensures { IfOk result (λ copy. option_map string_bytes copy ≡ option_copied text.entry) }
+{
+    match text {
+        Some(text) => Ok(Some(String::from_str(alloc, text)?)),
+        None => Ok(None),
+    }
+}
+
+fn read_info_file(tree: &Value) -> Result<&str, Failure<DocFault>>
+    ensures { Tests (shape_check Place.Document m.Info (nat_lt 0 (length (text_of m.Info (view tree.now)))))
+        (λ t. text m.Info (view tree.now) ≡ Some t.now) result }
+{
+    match shape::given(tree, Member::Info).and_then(Value::as_str) {
+        Some(text) if !text.is_empty() => Ok(text),
+        _ => Err(bad_shape(Place::Document, Member::Info)),
+    }
+}
+
+fn read_map_form(tree: &Value) -> Result<Option<MapForm>, Failure<DocFault>>
+    ensures { Tests (shape_check Place.Document m.Map
+        (is_none (given m.Map (view tree.now)) || is_some (map_form (view tree.now))))
+        (λ form. map_form (view tree.now) ≡ form) result }
+{
+    match shape::given(tree, Member::Map) {
+        None => Ok(None),
+        Some(value) => match value.as_str() {
+            Some("gcc") => Ok(Some(MapForm::Gcc)),
+            Some("clang") => Ok(Some(MapForm::Clang)),
+            _ => Err(bad_shape(Place::Document, Member::Map)),
+        },
+    }
+}

@@ -1,0 +1,142 @@
+//! Names of targets.
+
+ghost use Rattle.std.specs.Prelude.{◌≡◌, ◌==◌, ◌&&◌, IfOk, IsTrue, nat_le, not};
+ghost use Rattle.std.specs.Option.{SomeIff};
+ghost use Rattle.std.specs.List.{list_all};
+ghost use Rattle.scan_docs.specs.Name.{is_target_name};
+
+use crate::name::NAME_LIMIT;
+use std::alloc::{AllocError, Global};
+use std::cmp::Ordering;
+use std::hash::{Hash, Hasher};
+use std::marker::Model;
+
+/// The name of a target: 1 to 1,024 bytes, none of them a control byte or 127. A contract sees it as its text.
+#[derive(Debug, Drop)]
+pub struct TargetName {
+    text: String,
+}
+
+impl Model for TargetName {
+    ghost use Rattle.std.specs.Prelude.{ℕ, List, IsTrue, string_bytes};
+    ghost use Rattle.scan_docs.specs.Name.{is_target_name};
+
+    ghost Value = { List ℕ };
+
+    ghost view = { λ n. string_bytes n.text };
+
+    ghost invariant = { λ n. IsTrue (is_target_name (string_bytes n.text)) };
+}
+
+impl TargetName {
+    /// The text as a name, or None where it is not accepted.
+    pub fn of(alloc: Global, text: &str) -> Result<Option<TargetName>, AllocError>
+        ensures { IfOk result (λ name. SomeIff name (IsTrue (is_target_name text.now)) text.now) }
+    {
+        if !is_target_name(text.as_bytes()) {
+            return Ok(None);
+        }
+        let text = String::from_str(alloc, text)?;
+        Ok(Some(TargetName { text }))
+    }
+
+    /// The text that the name was made of.
+    pub fn text(&self) -> &str
+        ensures text { result.now ≡ self.now }
+        ensures accepted { IsTrue (is_target_name self.now) }
+    {
+        self.text.as_str()
+    }
+
+    /// The same name once more.
+    pub fn copy(&self, alloc: Global) -> Result<TargetName, AllocError>
+        ensures { IfOk result (λ copy. copy ≡ self.now) }
+    {
+        let text = String::from_str(alloc, self.text.as_str())?;
+        Ok(TargetName { text })
+    }
+}
+
+#[tactic(auto, unfolding(crate::specs::Name::is_target_name))]
+fn is_target_name(text: &[u8]) -> bool
+    ensures { result ≡ is_target_name text.now }
+{
+    !text.is_empty() && text.len() <= NAME_LIMIT && has_printed_bytes(text)
+}
+
+fn has_printed_bytes(text: &[u8]) -> bool
+    ensures { result ≡ list_all (λ b. nat_le 32 b && not (b == 127)) text.now }
+{
+    text.iter().all(|b| *b >= 32 && *b != 127)
+}
+
+/// Two names are equal where their texts are.
+impl PartialEq for TargetName {
+    ghost use Rattle.std.specs.Prelude.{bytes_eq};
+    ghost use Rattle.std.specs.Cmp.{partial_equiv_from_equiv};
+    ghost use Rattle.std.proofs.lemmas.Cmp.{nat_list_eq_equiv};
+
+    ghost eq = { bytes_eq };
+
+    ghost laws = { partial_equiv_from_equiv nat_list_eq_equiv };
+
+    fn eq(&self, other: &TargetName) -> bool {
+        self.text.as_bytes() == other.text.as_bytes()
+    }
+}
+
+impl Eq for TargetName {
+    ghost use Rattle.std.proofs.lemmas.Cmp.{nat_list_eq_equiv};
+
+    ghost laws = { nat_list_eq_equiv };
+}
+
+/// Names are in the byte order of their texts.
+impl Ord for TargetName {
+    ghost use Rattle.std.proofs.Common.{rules};
+    ghost use Rattle.std.specs.Cmp.Rules.{comparing};
+    ghost use Rattle.std.specs.Ordering.{nat_cmp};
+    ghost use Rattle.std.specs.Cmp.Lexicographic.{slice_cmp};
+
+    ghost cmp = { slice_cmp nat_cmp };
+
+    ghost total = { Prim.search (comparing, rules) };
+
+    ghost matches_partial_cmp = { Prim.search (comparing, rules) };
+
+    ghost matches_eq = { Prim.search (comparing, rules) };
+
+    fn cmp(&self, other: &TargetName) -> Ordering {
+        self.text.as_bytes().cmp(other.text.as_bytes())
+    }
+}
+
+impl PartialOrd for TargetName {
+    ghost use Rattle.std.proofs.Common.{rules};
+    ghost use Rattle.std.specs.Cmp.{partial_order_from_own_ties};
+    ghost use Rattle.std.specs.Cmp.Rules.{comparing};
+    ghost use Rattle.std.specs.Ordering.{nat_cmp, as_partial_cmp};
+    ghost use Rattle.std.specs.Cmp.Lexicographic.{slice_cmp};
+
+    ghost partial_cmp = { as_partial_cmp (slice_cmp nat_cmp) };
+
+    ghost laws = { partial_order_from_own_ties (Prim.search (comparing, rules)) (Prim.search (comparing, rules)) };
+
+    fn partial_cmp(&self, other: &TargetName) -> Option<Ordering> {
+        Some(self.cmp(other))
+    }
+}
+
+impl Hash for TargetName {
+    ghost use Rattle.std.proofs.Common.{rules};
+    ghost use Rattle.std.specs.Cmp.Rules.{hashing};
+    ghost use Rattle.std.specs.Hash as fed;
+
+    ghost hash_input = { λ n. fed.slice fed.u8 n };
+
+    ghost respects_eq = { Prim.search (hashing, rules) };
+
+    fn hash<H: Hasher>(&self, state: &mut H) {
+        self.text.as_bytes().hash(state);
+    }
+}
