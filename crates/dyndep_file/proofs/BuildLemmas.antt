@@ -13,12 +13,13 @@ use Rattle.dyndep_file.specs.Classes.{Symbol, WordSymbol, SignSymbol, IsPart}
 use Rattle.dyndep_file.specs.Faults.{same_bytes, implicit_inputs_fault, after_rule_fault, rule_fault, implicit_outputs_fault, after_output_fault, output_fault}
 use Rattle.dyndep_file.specs.BuildTokens.{symbol_of, symbols_left, words_before_colon, after_colon, Names, IsNamed}
 use Rattle.dyndep_file.specs.declared.faults.LineFault.{LineFault}
-use Rattle.dyndep_file.proofs.TableLemmas.{same_bytes-true, symbol_said}
+use Rattle.dyndep_file.proofs.TableLemmas.{same_bytes-true, symbol_is_word}
 
 -- a fault is there, and is not
 faulty : {fault : LineFault} {A : Type 0} → ◌≡◌ {A = Option LineFault} (Some fault) None → A
 faulty h = absurd (cc)
 
+-- implicit inputs without fault are words alone
 inputs_are : (symbols : List Symbol) → implicit_inputs_fault symbols ≡ None → symbols ≡ map WordSymbol (words_before_colon symbols)
 inputs_are [] h = refl
 inputs_are (WordSymbol word ∷ more) h = ap (λ s. WordSymbol word ∷ s) (inputs_are more h)
@@ -26,6 +27,7 @@ inputs_are (SignSymbol DoubleBar ∷ more) h = faulty h
 inputs_are (SignSymbol BarAt ∷ more) h = faulty h
 inputs_are (SignSymbol other ∷ more) h = faulty h
 
+-- what comes after the rule without fault is a part of implicit inputs
 inputs_part : (symbols : List Symbol) → after_rule_fault symbols ≡ None → IsPart symbols (words_before_colon symbols)
 inputs_part [] h = inl (refl, refl)
 inputs_part (WordSymbol word ∷ more) h = faulty h
@@ -40,6 +42,7 @@ record Ruled (symbols : List Symbol) : Type 0 where
   pub are : symbols ≡ WordSymbol (codes "dyndep") ∷ after
   pub is_after : IsPart after (words_before_colon after)
 
+-- what comes after `:` without fault is the rule and a part of implicit inputs
 ruled : (symbols : List Symbol) → rule_fault symbols ≡ None → Ruled symbols
 ruled [] h = faulty h
 ruled (WordSymbol word ∷ more) h = elim (cases_Bool (same_bytes word (codes "dyndep"))) [
@@ -55,7 +58,9 @@ record Divided (symbols : List Symbol) : Type 0 where
   pub is_before : IsPart before (words_before_colon symbols)
   pub rule : rule_fault (after_colon symbols) ≡ None
 
-outputs_are : (symbols : List Symbol) → implicit_outputs_fault symbols ≡ None → (symbols ≡ map WordSymbol (words_before_colon symbols) ++ SignSymbol Colon ∷ after_colon symbols) × (rule_fault (after_colon symbols) ≡ None)
+-- implicit outputs without fault are words, and behind them `:` and the rest
+outputs_are : (symbols : List Symbol) → implicit_outputs_fault symbols ≡ None
+    → (symbols ≡ map WordSymbol (words_before_colon symbols) ++ SignSymbol Colon ∷ after_colon symbols) × (rule_fault (after_colon symbols) ≡ None)
 outputs_are [] h = faulty h
 outputs_are (WordSymbol word ∷ more) h = let later = outputs_are more h in (ap (λ s. WordSymbol word ∷ s) later.0, later.1)
 outputs_are (SignSymbol Colon ∷ more) h = (refl, h)
@@ -63,6 +68,7 @@ outputs_are (SignSymbol DoubleBar ∷ more) h = faulty h
 outputs_are (SignSymbol BarAt ∷ more) h = faulty h
 outputs_are (SignSymbol other ∷ more) h = faulty h
 
+-- what comes after the output without fault is a part of implicit outputs, `:` and the rest
 divided : (symbols : List Symbol) → after_output_fault symbols ≡ None → Divided symbols
 divided [] h = faulty h
 divided (WordSymbol word ∷ more) h = faulty h
@@ -82,6 +88,7 @@ pub record Parts (symbols : List Symbol) : Type 0 where
   pub rule : after_colon more ≡ WordSymbol (codes "dyndep") ∷ after
   pub names : Names symbols output (words_before_colon more) (words_before_colon after)
 
+-- tokens without fault are the parts of a build line
 pub parts : (symbols : List Symbol) → output_fault symbols ≡ None → Parts symbols
 parts [] h = faulty h
 parts (WordSymbol output ∷ more) h =
@@ -104,10 +111,12 @@ parts (WordSymbol output ∷ more) h =
 parts (SignSymbol other ∷ more) h = faulty h
 
 -- a call of `next` passes over one token
-pub passed_over : (r : Option Token) (old new : Words) → YieldsFirstBy seen_token tokens_left old r new → (head : Symbol) (more : List Symbol) → symbols_left old ≡ head ∷ more → symbols_left new ≡ more
+pub passed_over : (r : Option Token) (old new : Words) → YieldsFirstBy seen_token tokens_left old r new → (head : Symbol) (more : List Symbol) → symbols_left old ≡ head ∷ more
+    → symbols_left new ≡ more
 passed_over None old new gives head more h = absurd (let x : [] ≡ head ∷ more = sym (ap (map symbol_of) gives.0) ∙ h in cc)
 passed_over (Some token) old new gives head more h = let x : symbol_of (seen_token token) ∷ symbols_left new ≡ head ∷ more = sym (ap (map symbol_of) gives) ∙ h in cc
 
+-- tokens without fault are at least one
 pub begins_somehow : (symbols : List Symbol) → symbols ≡ [] → output_fault symbols ≡ None → ⊥
 begins_somehow symbols h none = faulty (subst (λ s. output_fault s ≡ None) h none)
 
@@ -122,7 +131,7 @@ named symbols more rule after head output outputs inputs first none is_output ar
     let p = parts symbols none in
     let same : symbol_of head ∷ more ≡ WordSymbol p.output ∷ p.more = sym first ∙ p.is_first in
     let rest : more ≡ p.more = cc in
-    let raw : head.raw ≡ p.output = symbol_said head.kind head.raw p.output (cc) in
+    let raw : head.raw ≡ p.output = symbol_is_word head.kind head.raw p.output (cc) in
     let past : after ≡ p.after = passed (WordSymbol (codes "dyndep")) p.after (is_rule ∙ ap after_colon rest ∙ p.rule) in (
       p.output,
       words_before_colon p.more,
@@ -131,5 +140,6 @@ named symbols more rule after head output outputs inputs first none is_output ar
       parts_same (is_output ∙ ap value_of raw) (are_outputs ∙ ap (λ s. map value_of (words_before_colon s)) rest) (are_inputs ∙ ap (λ s. map value_of (words_before_colon s)) past),
     ) where
       parts_same : {o p : List ℕ} {os ps is qs : List (List ℕ)} → o ≡ p → os ≡ ps → is ≡ qs
-          → ◌≡◌ {A = StatementValue} (record { output = o; implicit_outputs = os; implicit_inputs = is; restat = false }) (record { output = p; implicit_outputs = ps; implicit_inputs = qs; restat = false })
+          → ◌≡◌ {A = StatementValue} (record { output = o; implicit_outputs = os; implicit_inputs = is; restat = false })
+          (record { output = p; implicit_outputs = ps; implicit_inputs = qs; restat = false })
       parts_same a b c = rw (a, b, c) refl

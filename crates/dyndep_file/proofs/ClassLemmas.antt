@@ -9,8 +9,10 @@ use Rattle.ninja_text.specs.Assignments.{SeenAssignment, assignment_of}
 use Rattle.ninja_text.specs.declared.faults.LexFault.{LexFault}
 use Rattle.ninja_text.proofs.AssignmentLemmas.{assignment_has_token}
 use Rattle.dyndep_file.specs.StatementValue.{StatementValue}
-use Rattle.dyndep_file.specs.Classes.{Class, Comment, Blank, Version, Build, Binding, Symbol, WordSymbol, SignSymbol, symbol, symbols, begins_at_start, begins_with_space, IsPart, IsBuild, Assigns, TextIsOfClass, is_version_one}
-use Rattle.dyndep_file.specs.Faults.{same_bytes, is_empty, after_build, value_assigned, output_fault, indented_fault, version_fault, build_or_other, at_margin_fault, text_fault, text_line_fault, sound_or}
+use Rattle.dyndep_file.specs.Classes.{Class, Comment, Blank, Version, Build, Binding, Symbol, WordSymbol, SignSymbol, symbol, symbols, begins_at_start, begins_with_space, IsPart}
+use Rattle.dyndep_file.specs.Classes.{IsBuild, Assigns, TextIsOfClass, is_version_one}
+use Rattle.dyndep_file.specs.Faults.{same_bytes, is_empty, after_build, value_assigned, output_fault, indented_fault, version_fault, build_or_other_fault, unindented_fault}
+use Rattle.dyndep_file.specs.Faults.{text_fault, text_line_fault, lexical_fault_or}
 use Rattle.dyndep_file.specs.Steps.{ProgressValue, step}
 use Rattle.dyndep_file.specs.Reading.{AreOfClasses}
 use Rattle.dyndep_file.specs.BuildTokens.{words_before_colon, after_colon}
@@ -18,7 +20,7 @@ use Rattle.dyndep_file.specs.declared.faults.LineFault.{LineFault}
 use Rattle.dyndep_file.specs.declared.progress.Stage.{Stage}
 use Rattle.dyndep_file.specs.declared.progress.Stage.TheVariants.{BeforeVersion, NoneOpen, Open}
 use Rattle.ninja_text.specs.declared.token.TokenKind.TheVariants.{Colon}
-use Rattle.dyndep_file.proofs.TableLemmas.{same_bytes-true, symbol_said, no_indent_at_token, no_indent_at_name, names_apart}
+use Rattle.dyndep_file.proofs.TableLemmas.{same_bytes-true, symbol_is_word, no_indent_at_token, no_indent_at_name, names_apart}
 use Rattle.dyndep_file.proofs.BuildLemmas.{parts}
 
 -- the class's place in this list: comment, blank, build line, binding, version line
@@ -29,6 +31,7 @@ number (Build output outputs inputs) = 2
 number (Binding flag) = 3
 number Version = 4
 
+-- whether the text begins with the keyword `build` at its first byte
 abbrev is_keyword_line : List ℕ → Bool
 is_keyword_line text = is_some (after_build (begins_at_start (tokens text)) (symbols text))
 
@@ -41,6 +44,7 @@ kind text comment =
     else if is_keyword_line text then 2
     else 4
 
+-- a text with an assignment has a token
 not_empty : (text : List ℕ) (a : SeenAssignment) → assignment_of text ≡ Some a → is_empty (tokens text) ≡ false
 not_empty text a h = elim (cases_Bool (is_empty (tokens text))) [
   | inr f ↦ f
@@ -56,6 +60,7 @@ record Keyword (text : List ℕ) : Type 0 where
   start : token.start ≡ 0
   bytes : raw text token ≡ codes "build"
 
+-- a text that begins with the keyword has it as its first token
 keyword_token : (text : List ℕ) → is_keyword_line text ≡ true → Keyword text
 keyword_token text h = go (tokens text) h where
   found : (t : TokenAt) (more : List Symbol) (s : Symbol) → symbol t.kind (raw text t) ≡ s → is_some (after_build (t.start == 0) (s ∷ more)) ≡ true → Keyword text
@@ -64,19 +69,21 @@ keyword_token text h = go (tokens text) h where
     | inr f ↦ absurd (let x : false ≡ true = rw f at h in cc)
     | inl b ↦
         let both = and_parts (t.start == 0) (same_bytes word (codes "build")) b in
-        record { token = t; start = eqb-true t.start 0 both.0; bytes = symbol_said t.kind (raw text t) word e ∙ same_bytes-true word (codes "build") both.1 }
+        record { token = t; start = eqb-true t.start 0 both.0; bytes = symbol_is_word t.kind (raw text t) word e ∙ same_bytes-true word (codes "build") both.1 }
   ]
 
   go : (ts : List TokenAt) → is_some (after_build (begins_at_start ts) (map (λ t. symbol t.kind (raw text t)) ts)) ≡ true → Keyword text
   go [] h = absurd (let x : false ≡ true = h in cc)
   go (t ∷ ts) h = found t (map (λ t. symbol t.kind (raw text t)) ts) (symbol t.kind (raw text t)) refl h
 
+-- a version line does not begin with the keyword
 no_keyword : (text : List ℕ) (a : SeenAssignment) → assignment_of text ≡ Some a → a.name_start ≡ 0 → a.name ≡ codes "ninja_dyndep_version" → is_keyword_line text ≡ false
 no_keyword text a h start name = elim (cases_Bool (is_keyword_line text)) [
   | inr f ↦ f
   | inl t ↦ let k = keyword_token text t in absurd (names_apart text k.token a h start name k.start k.bytes)
 ]
 
+-- the tests tell the class of each text
 kind_of : (text : List ℕ) (comment : Bool) (c : Class) → TextIsOfClass text comment c → kind text comment ≡ number c
 kind_of text comment Comment is = rw is refl
 kind_of text comment Blank is = rw is.0 (rw (ap is_empty is.2) refl)
@@ -97,43 +104,51 @@ kind_of text comment (Binding flag) is =
     rw (is.0, not_empty text (is.5).0 (is.5).1, indent) refl
 
 -- the parts of a build line are told by its symbols
-said_before : (words : List (List ℕ)) (more : List Symbol) → words_before_colon (map WordSymbol words ++ SignSymbol Colon ∷ more) ≡ words
-said_before [] more = refl
-said_before (w ∷ words) more = ap (λ l. w ∷ l) (said_before words more)
+words_before : (words : List (List ℕ)) (more : List Symbol) → words_before_colon (map WordSymbol words ++ SignSymbol Colon ∷ more) ≡ words
+words_before [] more = refl
+words_before (w ∷ words) more = ap (λ l. w ∷ l) (words_before words more)
 
-said_after : (words : List (List ℕ)) (more : List Symbol) → after_colon (map WordSymbol words ++ SignSymbol Colon ∷ more) ≡ more
-said_after [] more = refl
-said_after (w ∷ words) more = said_after words more
+-- and behind the `:` comes the rest
+rest_after : (words : List (List ℕ)) (more : List Symbol) → after_colon (map WordSymbol words ++ SignSymbol Colon ∷ more) ≡ more
+rest_after [] more = refl
+rest_after (w ∷ words) more = rest_after words more
 
-said_all : (words : List (List ℕ)) → words_before_colon (map WordSymbol words) ≡ words
-said_all [] = refl
-said_all (w ∷ words) = ap (λ l. w ∷ l) (said_all words)
+-- where there is no `:`, all words are before it
+words_in_all : (words : List (List ℕ)) → words_before_colon (map WordSymbol words) ≡ words
+words_in_all [] = refl
+words_in_all (w ∷ words) = ap (λ l. w ∷ l) (words_in_all words)
 
+-- the words of a part before a `:`
 part_before : (part : List Symbol) (words : List (List ℕ)) (more : List Symbol) → IsPart part words → words_before_colon (part ++ SignSymbol Colon ∷ more) ≡ words
 part_before part words more (inl h) = ap (λ p. words_before_colon (p ++ SignSymbol Colon ∷ more)) h.0 ∙ sym h.1
-part_before part words more (inr h) = ap (λ p. words_before_colon (p ++ SignSymbol Colon ∷ more)) h ∙ said_before words more
+part_before part words more (inr h) = ap (λ p. words_before_colon (p ++ SignSymbol Colon ∷ more)) h ∙ words_before words more
 
+-- what comes behind the `:` after a part
 part_after : (part : List Symbol) (words : List (List ℕ)) (more : List Symbol) → IsPart part words → after_colon (part ++ SignSymbol Colon ∷ more) ≡ more
 part_after part words more (inl h) = ap (λ p. after_colon (p ++ SignSymbol Colon ∷ more)) h.0
-part_after part words more (inr h) = ap (λ p. after_colon (p ++ SignSymbol Colon ∷ more)) h ∙ said_after words more
+part_after part words more (inr h) = ap (λ p. after_colon (p ++ SignSymbol Colon ∷ more)) h ∙ rest_after words more
 
+-- the words of a part at the end
 part_all : (part : List Symbol) (words : List (List ℕ)) → IsPart part words → words_before_colon part ≡ words
 part_all part words (inl h) = ap words_before_colon h.0 ∙ sym h.1
-part_all part words (inr h) = ap words_before_colon h ∙ said_all words
+part_all part words (inr h) = ap words_before_colon h ∙ words_in_all words
 
+-- a text is a build line with one output, one list of implicit outputs and one of implicit inputs
 same_build : (text : List ℕ) (o p : List ℕ) (os ps ins qs : List (List ℕ)) → IsBuild text o os ins → IsBuild text p ps qs → (o ≡ p) × (os ≡ ps) × (ins ≡ qs)
 same_build text o p os ps ins qs a b =
     let more = a.0 ++ SignSymbol Colon ∷ WordSymbol (codes "dyndep") ∷ a.1 in
     let other = b.0 ++ SignSymbol Colon ∷ WordSymbol (codes "dyndep") ∷ b.1 in
     let same : WordSymbol (codes "build") ∷ WordSymbol o ∷ more ≡ WordSymbol (codes "build") ∷ WordSymbol p ∷ other = sym a.5 ∙ b.5 in
     let rest : more ≡ other = cc in
-    let afters : WordSymbol (codes "dyndep") ∷ a.1 ≡ WordSymbol (codes "dyndep") ∷ b.1 = sym (part_after a.0 os (WordSymbol (codes "dyndep") ∷ a.1) a.2) ∙ ap after_colon rest ∙ part_after b.0 ps (WordSymbol (codes "dyndep") ∷ b.1) b.2 in
+    let afters : WordSymbol (codes "dyndep") ∷ a.1 ≡ WordSymbol (codes "dyndep") ∷ b.1 =
+    sym (part_after a.0 os (WordSymbol (codes "dyndep") ∷ a.1) a.2) ∙ ap after_colon rest ∙ part_after b.0 ps (WordSymbol (codes "dyndep") ∷ b.1) b.2 in
     let after : a.1 ≡ b.1 = cc in (
       cc,
       sym (part_before a.0 os (WordSymbol (codes "dyndep") ∷ a.1) a.2) ∙ ap words_before_colon rest ∙ part_before b.0 ps (WordSymbol (codes "dyndep") ∷ b.1) b.2,
       sym (part_all a.1 ins a.3) ∙ ap words_before_colon after ∙ part_all b.1 qs b.3,
     )
 
+-- build lines of the same paths are of the same class
 build_same : {o p : List ℕ} {os ps ins qs : List (List ℕ)} → o ≡ p → os ≡ ps → ins ≡ qs → Build o os ins ≡ Build p ps qs
 build_same a b c = rw (a, b, c) refl
 
@@ -154,6 +169,7 @@ class_one text comment (Binding flag) (Binding other) p q =
     ap Binding (p.6 ∙ ap (λ (v : List ℕ). nat_lt 0 (length v)) value ∙ sym q.6)
 class_one text comment c d p q = absurd (let e : number c ≡ number d = sym (kind_of text comment c p) ∙ kind_of text comment d q in omega arith)
 
+-- lines are of one list of classes
 pub classes_one : (lines : List (List ℕ)) (cs ds : List Class) → AreOfClasses lines cs → AreOfClasses lines ds → cs ≡ ds
 classes_one [] [] [] p q = refl
 classes_one [] [] (d ∷ ds) p q = absurd q
@@ -163,36 +179,43 @@ classes_one (l ∷ lines) (c ∷ cs) [] p q = absurd q
 classes_one (l ∷ lines) (c ∷ cs) (d ∷ ds) p q =
     rw (class_one (text_of l) (is_comment l) c d p.0.1 q.0.1, classes_one lines cs ds p.1 q.1) refl
 
--- a line's text without fault in the table is of a class that may stand there
+-- a fault is there, and is not
 none_else : {fault : LineFault} {A : Type 0} → ◌≡◌ {A = Option LineFault} (Some fault) None → A
 none_else h = absurd (cc)
 
-pub record Standable (stage : Stage) (ss : List StatementValue) (text : List ℕ) (comment : Bool) : Type 0 where
+-- a class that a text is of, and that may stand at a stage
+pub record CanStand (stage : Stage) (ss : List StatementValue) (text : List ℕ) (comment : Bool) : Type 0 where
   pub class : Class
   pub is : TextIsOfClass text comment class
   pub next : ProgressValue
   pub steps : step stage ss class ≡ Some next
 
-passes : (stage : Stage) (ss : List StatementValue) (text : List ℕ) (comment : Bool) (c : Class) → TextIsOfClass text comment c → ((next : ProgressValue) × (step stage ss c ≡ Some next)) → Standable stage ss text comment
+-- the same, by its parts
+passes : (stage : Stage) (ss : List StatementValue) (text : List ℕ) (comment : Bool) (c : Class) → TextIsOfClass text comment c
+    → ((next : ProgressValue) × (step stage ss c ≡ Some next)) → CanStand stage ss text comment
 passes stage ss text comment c is s = record { class = c; is = is; next = s.0; steps = s.1 }
 
+-- a comment may stand at each stage
 comment_steps : (stage : Stage) (ss : List StatementValue) → (next : ProgressValue) × (step stage ss Comment ≡ Some next)
 comment_steps BeforeVersion ss = (_, refl)
 comment_steps NoneOpen ss = (_, refl)
 comment_steps Open ss = (_, refl)
 
+-- a blank line may stand at each stage
 blank_steps : (stage : Stage) (ss : List StatementValue) → (next : ProgressValue) × (step stage ss Blank ≡ Some next)
 blank_steps BeforeVersion ss = (_, refl)
 blank_steps NoneOpen ss = (_, refl)
 blank_steps Open ss = (_, refl)
 
 module _ (ss : List StatementValue) (text : List ℕ) (sound : lexical_fault text ≡ None) where
+  -- a list without elements is the empty one
   no_tokens : (ts : List TokenAt) → is_empty ts ≡ true → ts ≡ []
   no_tokens [] h = refl
   no_tokens (t ∷ ts) h = absurd (let x : false ≡ true = h in cc)
 
-  -- an indented text that passes
-  named_so : (name : List ℕ) (o : Option SeenAssignment) (n : ℕ) (v : List ℕ) → value_assigned name o ≡ Some (n, v) → (a : SeenAssignment) × (o ≡ Some a) × (a.name_start ≡ n) × (a.name ≡ name) × (value_of a.raw_value ≡ v)
+  -- where a value is assigned to a name, there is such an assignment
+  named_so : (name : List ℕ) (o : Option SeenAssignment) (n : ℕ) (v : List ℕ) → value_assigned name o ≡ Some (n, v)
+      → (a : SeenAssignment) × (o ≡ Some a) × (a.name_start ≡ n) × (a.name ≡ name) × (value_of a.raw_value ≡ v)
   named_so name None n v h = absurd (let x : ◌≡◌ {A = Option (ℕ × List ℕ)} None (Some (n, v)) = h in cc)
   named_so name (Some a) n v h = elim (cases_Bool (same_bytes a.name name)) [
     | inr f ↦ absurd (let x : ◌≡◌ {A = Option (ℕ × List ℕ)} None (Some (n, v)) = rw f at h in cc)
@@ -202,7 +225,9 @@ module _ (ss : List StatementValue) (text : List ℕ) (sound : lexical_fault tex
         (a, refl, ap (λ p. p.0) same, same_bytes-true a.name name t, ap (λ p. p.1) same)
   ]
 
-  indented : (stage : Stage) (v : Option (ℕ × List ℕ)) → value_assigned (codes "restat") (assignment_of text) ≡ v → begins_with_space text ≡ true → indented_fault stage (is_some v) ≡ None → Standable stage ss text false
+  -- an indented text without fault is a binding under an open statement
+  indented : (stage : Stage) (v : Option (ℕ × List ℕ)) → value_assigned (codes "restat") (assignment_of text) ≡ v → begins_with_space text ≡ true
+      → indented_fault stage (is_some v) ≡ None → CanStand stage ss text false
   indented BeforeVersion v e indent h = none_else h
   indented NoneOpen v e indent h = none_else h
   indented Open None e indent h = none_else h
@@ -210,7 +235,8 @@ module _ (ss : List StatementValue) (text : List ℕ) (sound : lexical_fault tex
       let a = named_so (codes "restat") (assignment_of text) p.0 p.1 e in
       passes Open ss text false (Binding (nat_lt 0 (length p.1))) (refl, sound, indent, p.0, p.1, a, refl) (_, refl)
 
-  version : (stage : Stage) (v : List ℕ) → Assigns text (codes "ninja_dyndep_version") 0 v → version_fault stage v ≡ None → Standable stage ss text false
+  -- a version line without fault is one before all others
+  version : (stage : Stage) (v : List ℕ) → Assigns text (codes "ninja_dyndep_version") 0 v → version_fault stage v ≡ None → CanStand stage ss text false
   version BeforeVersion v assigns h = elim (cases_Bool (is_version_one v)) [
     | inl t ↦ passes BeforeVersion ss text false Version (refl, sound, v, assigns, t) (_, refl)
     | inr f ↦ none_else (rw f at h)
@@ -218,6 +244,7 @@ module _ (ss : List StatementValue) (text : List ℕ) (sound : lexical_fault tex
   version NoneOpen v assigns h = none_else h
   version Open v assigns h = none_else h
 
+  -- a text with tokens after the keyword begins with the keyword
   keyword_first : (at : Bool) (all more : List Symbol) → after_build at all ≡ Some more → (at ≡ true) × (all ≡ WordSymbol (codes "build") ∷ more)
   keyword_first at [] more h = absurd (let x : ◌≡◌ {A = Option (List Symbol)} None (Some more) = h in cc)
   keyword_first at (SignSymbol k ∷ all) more h = absurd (let x : ◌≡◌ {A = Option (List Symbol)} None (Some more) = h in cc)
@@ -230,8 +257,10 @@ module _ (ss : List StatementValue) (text : List ℕ) (sound : lexical_fault tex
         (both.0, rw (same_bytes-true word (codes "build") both.1, rest) refl)
   ]
 
-  built : (stage : Stage) (more : List Symbol) → after_build (begins_at_start (tokens text)) (symbols text) ≡ Some more → ((o : List ℕ) (os ins : List (List ℕ)) → (next : ProgressValue) × (step stage ss (Build o os ins) ≡ Some next))
-      → output_fault more ≡ None → Standable stage ss text false
+  -- a build line without fault is of the grammar
+  built : (stage : Stage) (more : List Symbol) → after_build (begins_at_start (tokens text)) (symbols text) ≡ Some more
+      → ((o : List ℕ) (os ins : List (List ℕ)) → (next : ProgressValue) × (step stage ss (Build o os ins) ≡ Some next))
+      → output_fault more ≡ None → CanStand stage ss text false
   built stage more e steps h =
       let k = keyword_first (begins_at_start (tokens text)) (symbols text) more e in
       let p = parts more h in
@@ -249,34 +278,39 @@ module _ (ss : List StatementValue) (text : List ℕ) (sound : lexical_fault tex
       )
       (steps (value_of p.output) (map value_of (words_before_colon p.more)) (map value_of (words_before_colon p.after)))
 
-  build_or_not : (stage : Stage) (build : Option (List Symbol)) → after_build (begins_at_start (tokens text)) (symbols text) ≡ build → build_or_other stage build ≡ None → Standable stage ss text false
+  -- a text that is neither indented nor a version line, and has no fault, is a build line that may stand
+  build_or_not : (stage : Stage) (build : Option (List Symbol)) → after_build (begins_at_start (tokens text)) (symbols text) ≡ build → build_or_other_fault stage build ≡ None
+      → CanStand stage ss text false
   build_or_not stage None e h = none_else h
   build_or_not BeforeVersion (Some more) e h = none_else h
   build_or_not NoneOpen (Some more) e h = built NoneOpen more e (λ o os ins. (_, refl)) h
   build_or_not Open (Some more) e h = built Open more e (λ o os ins. (_, refl)) h
 
-  at_margin : (stage : Stage) (v : Option (ℕ × List ℕ)) → value_assigned (codes "ninja_dyndep_version") (assignment_of text) ≡ v
-      → at_margin_fault stage v (after_build (begins_at_start (tokens text)) (symbols text)) ≡ None → Standable stage ss text false
-  at_margin stage None e h = build_or_not stage _ refl h
-  at_margin stage (Some p) e h = elim (cases_Bool (p.0 == 0)) [
+  -- a text that is not indented, and has no fault, is a version line or a build line that may stand
+  unindented : (stage : Stage) (v : Option (ℕ × List ℕ)) → value_assigned (codes "ninja_dyndep_version") (assignment_of text) ≡ v
+      → unindented_fault stage v (after_build (begins_at_start (tokens text)) (symbols text)) ≡ None → CanStand stage ss text false
+  unindented stage None e h = build_or_not stage _ refl h
+  unindented stage (Some p) e h = elim (cases_Bool (p.0 == 0)) [
     | inr f ↦ build_or_not stage _ refl (rw f at h)
     | inl t ↦
         let a = named_so (codes "ninja_dyndep_version") (assignment_of text) p.0 p.1 e in
         version stage p.1 (a.0, a.1, a.2 ∙ eqb-true p.0 0 t, a.3, a.4) (rw t at h)
   ]
 
-  sound_text : (stage : Stage) → text_fault stage text ≡ None → Standable stage ss text false
+  -- a text without any fault is blank, a binding, a version line or a build line that may stand
+  sound_text : (stage : Stage) → text_fault stage text ≡ None → CanStand stage ss text false
   sound_text stage h = elim (cases_Bool (is_empty (tokens text))) [
     | inl t ↦ passes stage ss text false Blank (refl, sound, no_tokens (tokens text) t) (blank_steps stage ss)
     | inr f ↦ elim (cases_Bool (begins_with_space text)) [
       | inl i ↦ indented stage _ refl i (rw (f, i) at h)
-      | inr i ↦ at_margin stage _ refl (rw (f, i) at h)
+      | inr i ↦ unindented stage _ refl (rw (f, i) at h)
     ]
   ]
 
-pub standable : (stage : Stage) (ss : List StatementValue) (text : List ℕ) (comment : Bool) → text_line_fault stage text comment ≡ None → Standable stage ss text comment
-standable stage ss text true h = passes stage ss text true Comment refl (comment_steps stage ss)
-standable stage ss text false h = lexed (lexical_fault text) refl h where
-  lexed : (o : Option LexFault) → lexical_fault text ≡ o → sound_or o (text_fault stage text) ≡ None → Standable stage ss text false
+-- a line's text without fault is of a class that may stand there
+pub can_stand : (stage : Stage) (ss : List StatementValue) (text : List ℕ) (comment : Bool) → text_line_fault stage text comment ≡ None → CanStand stage ss text comment
+can_stand stage ss text true h = passes stage ss text true Comment refl (comment_steps stage ss)
+can_stand stage ss text false h = lexed (lexical_fault text) refl h where
+  lexed : (o : Option LexFault) → lexical_fault text ≡ o → lexical_fault_or o (text_fault stage text) ≡ None → CanStand stage ss text false
   lexed None e h = sound_text ss text e stage h
   lexed (Some fault) e h = none_else h

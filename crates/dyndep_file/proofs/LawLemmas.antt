@@ -11,7 +11,7 @@ use Rattle.ninja_text.proofs.CutLemmas.{AllByRecursion-append, divides_one, divi
 use Rattle.dyndep_file.specs.StatementValue.{StatementValue}
 use Rattle.dyndep_file.specs.Classes.{Class, IsOfClass}
 use Rattle.ninja_text.specs.Lines.{line_limit}
-use Rattle.dyndep_file.specs.Grammar.{TextSays, Begins, comment_first, blank_first, version_line}
+use Rattle.dyndep_file.specs.Grammar.{IsDyndepFile, Begins, comment_first, blank_first, version_line}
 use Rattle.dyndep_file.specs.Faults.{is_version, stage_after, line_fault, text_line_fault}
 use Rattle.dyndep_file.specs.Steps.{ProgressValue, step, run}
 use Rattle.dyndep_file.specs.Reading.{StandsFor, AreOfClasses, FaultAt, IsFaultyAfter, FaultyLine, IsEndFault, FaultyEnd, IsRefused}
@@ -19,25 +19,27 @@ use Rattle.dyndep_file.specs.declared.faults.LineFault.{LineFault}
 use Rattle.dyndep_file.specs.declared.faults.LineFault.TheVariants.{LineTooLong, Truncated, NoVersion}
 use Rattle.dyndep_file.specs.declared.progress.Stage.{Stage}
 use Rattle.dyndep_file.specs.declared.progress.Stage.TheVariants.{BeforeVersion, NoneOpen, Open}
-use Rattle.dyndep_file.proofs.Runs.{is_past, says_one, runs_say, runs_begin, stage_runs, run_more}
+use Rattle.dyndep_file.proofs.Runs.{is_past, one_list_of_statements, run_is_file, runs_begin, stage_runs, run_more}
 use Rattle.dyndep_file.proofs.EndLemmas.{no_version}
 use Rattle.dyndep_file.proofs.FaultLemmas.{faulty_after}
-use Rattle.dyndep_file.proofs.ClassLemmas.{class_one, classes_one, standable}
+use Rattle.dyndep_file.proofs.ClassLemmas.{class_one, classes_one, can_stand}
 
+-- a text stands for one list of statements at most
 pub one_list : (bytes : List ℕ) (ss ts : List StatementValue) → StandsFor bytes ss → StandsFor bytes ts → ss ≡ ts
 one_list bytes ss ts a b =
     let lines = (divides_one bytes a.lines b.lines [] [] a.divided b.divided).0 in
     let classes = classes_one b.lines a.classes b.classes (subst (λ ls. AreOfClasses ls a.classes) lines a.classed) b.classed in
-    says_one (subst (λ cs. TextSays cs ss) classes a.said) b.said
+    one_list_of_statements (subst (λ cs. IsDyndepFile cs ss) classes a.grammar) b.grammar
 
 -- ---- not both
 
--- a text that says statements has a version line
-says_version : {classes : List Class} {ss : List StatementValue} → TextSays classes ss → list_any is_version classes ≡ true
-says_version (comment_first b) = says_version b
-says_version (blank_first b) = says_version b
-says_version (version_line b) = refl
+-- a dyndep file has a version line
+file_has_version : {classes : List Class} {ss : List StatementValue} → IsDyndepFile classes ss → list_any is_version classes ≡ true
+file_has_version (comment_first b) = file_has_version b
+file_has_version (blank_first b) = file_has_version b
+file_has_version (version_line b) = refl
 
+-- a text with a version line and no bytes left over has no fault at its end
 no_end_fault : (classes : List Class) (fault : LineFault) → list_any is_version classes ≡ true → IsEndFault [] classes fault → ⊥
 no_end_fault classes LineTooLong has h = omega arith
 no_end_fault classes Truncated has h = omega arith
@@ -51,9 +53,11 @@ record Split (line : List ℕ) (cs ds : List Class) : Type 0 where
   is : IsOfClass line class
   are : cs ≡ (ds ++ class ∷ []) ++ more
 
+-- equal lists with equal first elements
 cons_same : {c d : Class} {cs ds : List Class} → c ≡ d → cs ≡ ds → c ∷ cs ≡ d ∷ ds
 cons_same e f = rw (e, f) refl
 
+-- the classes of all lines are those before a line, that of the line, and those after it
 split_classes : (before : List (List ℕ)) (line : List ℕ) (after : List (List ℕ)) (cs ds : List Class) → AreOfClasses ((before ++ line ∷ []) ++ after) cs → AreOfClasses before ds → Split line cs ds
 split_classes [] line after [] ds p q = absurd p
 split_classes [] line after (c ∷ cs) [] p q = record { class = c; more = cs; is = p.0; are = refl }
@@ -64,6 +68,7 @@ split_classes (l ∷ before) line after (c ∷ cs) (d ∷ ds) p q =
     let later = split_classes before line after cs ds p.1 q.1 in
     record { class = later.class; more = later.more; is = later.is; are = cons_same (class_one (text_of l) (is_comment l) c d p.0.1 q.0.1) later.are }
 
+-- the bytes of lines behind one another
 joined-two : (xs ys : List (List ℕ)) → flat_map (λ l. l) (xs ++ ys) ≡ flat_map (λ l. l) xs ++ flat_map (λ l. l) ys
 joined-two xs ys = flat_map-append (λ l. l) xs ys
 
@@ -80,17 +85,20 @@ line_not_begun bytes lines rest classes found divided classed begun f =
     let same = (divides_one bytes lines (front ++ d.0) rest d.1 divided all).0 in
     let s = split_classes f.before f.line d.0 classes f.classes (subst (λ ls. AreOfClasses ls classes) same classed) f.classed in
     let longer : classes ++ begun.0 ≡ (f.classes ++ s.class ∷ []) ++ (s.more ++ begun.0) = ap (λ cs. cs ++ begun.0) s.are ∙ append_assoc (f.classes ++ s.class ∷ []) s.more begun.0 in
-    f.faulty s.class s.is (s.more ++ begun.0, begun.1, subst (λ cs. TextSays cs begun.1) longer begun.2)
+    f.faulty s.class s.is (s.more ++ begun.0, begun.1, subst (λ cs. IsDyndepFile cs begun.1) longer begun.2)
 
+-- a text that stands for statements has no faulty line
 line_not_both : (bytes : List ℕ) (ss : List StatementValue) (found : FaultAt) → StandsFor bytes ss → FaultyLine bytes found → ⊥
-line_not_both bytes ss found a f = line_not_begun bytes a.lines [] a.classes found a.divided a.classed ([], ss, subst (λ cs. TextSays cs ss) (sym (append-nil a.classes)) a.said) f
+line_not_both bytes ss found a f = line_not_begun bytes a.lines [] a.classes found a.divided a.classed ([], ss, subst (λ cs. IsDyndepFile cs ss) (sym (append-nil a.classes)) a.grammar) f
 
+-- nor is its end faulty
 end_not_both : (bytes : List ℕ) (ss : List StatementValue) (found : FaultAt) → StandsFor bytes ss → FaultyEnd bytes found → ⊥
 end_not_both bytes ss found a f =
     let same = divides_one bytes a.lines f.lines [] f.rest a.divided f.divided in
     let classes = classes_one f.lines a.classes f.classes (subst (λ ls. AreOfClasses ls a.classes) same.0 a.classed) f.classed in
-    no_end_fault f.classes found.fault (says_version (subst (λ cs. TextSays cs ss) classes a.said)) (subst (λ r. IsEndFault r f.classes found.fault) (sym same.1) f.reason)
+    no_end_fault f.classes found.fault (file_has_version (subst (λ cs. IsDyndepFile cs ss) classes a.grammar)) (subst (λ r. IsEndFault r f.classes found.fault) (sym same.1) f.reason)
 
+-- so it has no fault
 pub not_both : (bytes : List ℕ) (ss : List StatementValue) (found : FaultAt) → StandsFor bytes ss → IsRefused bytes found → ⊥
 not_both bytes ss found a (inl f) = line_not_both bytes ss found a f
 not_both bytes ss found a (inr f) = end_not_both bytes ss found a f
@@ -100,7 +108,8 @@ abbrev Outcome : List ℕ → Type 0
 Outcome bytes = ((statements : List StatementValue) × StandsFor bytes statements) ⊎ ((found : FaultAt) × IsRefused bytes found)
 
 -- all lines are of classes that may stand so
-module _ (bytes : List ℕ) (lines : List (List ℕ)) (classes : List Class) (standing : ProgressValue) (classed : AreOfClasses lines classes) (ran : run BeforeVersion [] classes ≡ Some standing) where
+module _ (bytes : List ℕ) (lines : List (List ℕ)) (classes : List Class) (progress : ProgressValue) (classed : AreOfClasses lines classes) (ran : run BeforeVersion [] classes ≡ Some progress) where
+  -- a fault at the end is a fault of the text
   ended : (fault : LineFault) (rest : List ℕ) → Divides bytes lines rest → IsEndFault rest classes fault → Outcome bytes
   ended fault rest divided reason = inr (
     record { line = number_after (flat_map (λ l. l) lines); fault = fault },
@@ -110,19 +119,21 @@ module _ (bytes : List ℕ) (lines : List (List ℕ)) (classes : List Class) (st
       classes = classes;
       divided = divided;
       classed = classed;
-      begun = runs_begin classes standing ran;
+      begun = runs_begin classes progress ran;
       number = refl;
       reason = reason;
     }),
   )
 
-  listed : Divides bytes lines [] → (stage : Stage) → standing.stage ≡ stage → Outcome bytes
-  listed divided BeforeVersion at = ended NoVersion [] divided (refl, no_version classes (sym (stage_runs classes standing ran) ∙ at))
-  listed divided NoneOpen at = inl (standing.statements, record { lines = lines; classes = classes; divided = divided; classed = classed; said = runs_say classes standing ran (ap is_past at) })
-  listed divided Open at = inl (standing.statements, record { lines = lines; classes = classes; divided = divided; classed = classed; said = runs_say classes standing ran (ap is_past at) })
+  -- with no bytes left over, the stage tells whether there is a list of statements or no version
+  listed : Divides bytes lines [] → (stage : Stage) → progress.stage ≡ stage → Outcome bytes
+  listed divided BeforeVersion at = ended NoVersion [] divided (refl, no_version classes (sym (stage_runs classes progress ran) ∙ at))
+  listed divided NoneOpen at = inl (progress.statements, record { lines = lines; classes = classes; divided = divided; classed = classed; grammar = run_is_file classes progress ran (ap is_past at) })
+  listed divided Open at = inl (progress.statements, record { lines = lines; classes = classes; divided = divided; classed = classed; grammar = run_is_file classes progress ran (ap is_past at) })
 
+  -- the bytes left over tell the fault of the end, if there are any
   at_end : (rest : List ℕ) → Divides bytes lines rest → Outcome bytes
-  at_end [] divided = listed divided standing.stage refl
+  at_end [] divided = listed divided progress.stage refl
   at_end (b ∷ rest) divided = elim (cases_lt (length (b ∷ rest)) line_limit) [
     | inl lt ↦ ended Truncated (b ∷ rest) divided (omega arith, lt)
     | inr le ↦ ended LineTooLong (b ∷ rest) divided le
@@ -141,7 +152,7 @@ module _ (bytes : List ℕ) (lines : List (List ℕ)) (classes : List Class) (st
         whole = whole;
         each = each;
         classed = classed;
-        begun = runs_begin classes standing ran;
+        begun = runs_begin classes progress ran;
         faulty = faulty;
         number = refl;
         reason = reason;
@@ -153,46 +164,49 @@ module _ (bytes : List ℕ) (lines : List (List ℕ)) (classes : List Class) (st
       short : (c : Class) → IsOfClass line c → length line ≤ line_limit
       short c is = is.0
 
-    at_fault : (fault : LineFault) → length line ≤ line_limit → text_line_fault standing.stage (text_of line) (is_comment line) ≡ Some fault → Outcome bytes
-    at_fault fault short h = refused fault (faulty_after classes line standing fault ran h)
-        (rw (le-ltb line_limit (length line) short) (subst (λ s. text_line_fault s (text_of line) (is_comment line) ≡ Some fault) (stage_runs classes standing ran) h))
+    at_fault : (fault : LineFault) → length line ≤ line_limit → text_line_fault progress.stage (text_of line) (is_comment line) ≡ Some fault → Outcome bytes
+    at_fault fault short h = refused fault (faulty_after classes line progress fault ran h)
+        (rw (le-ltb line_limit (length line) short) (subst (λ s. text_line_fault s (text_of line) (is_comment line) ≡ Some fault) (stage_runs classes progress ran) h))
 
+-- one more line of one more class
 classes-push : (lines : List (List ℕ)) (classes : List Class) (line : List ℕ) (c : Class) → AreOfClasses lines classes → IsOfClass line c → AreOfClasses (lines ++ line ∷ []) (classes ++ c ∷ [])
 classes-push [] [] line c p is = (is, tt)
 classes-push [] (d ∷ classes) line c p is = absurd p
 classes-push (l ∷ lines) [] line c p is = absurd p
 classes-push (l ∷ lines) (d ∷ classes) line c p is = (p.0, classes-push lines classes line c p.1 is)
 
+-- there is a fault, or there is none
 fault_cases : (o : Option LineFault) → (o ≡ None) ⊎ ((fault : LineFault) × (o ≡ Some fault))
 fault_cases None = inl refl
 fault_cases (Some fault) = inr (fault, refl)
 
 -- from lines that may stand so, over those to come
-walk : (bytes : List ℕ) (lines : List (List ℕ)) (rest : List ℕ) (before : List (List ℕ)) (classes : List Class) (standing : ProgressValue)
+walk : (bytes : List ℕ) (lines : List (List ℕ)) (rest : List ℕ) (before : List (List ℕ)) (classes : List Class) (progress : ProgressValue)
     → bytes ≡ flat_map (λ l. l) before ++ (flat_map (λ l. l) lines ++ rest) → AllByRecursion IsLine before → AllByRecursion IsLine lines → line_end rest ≡ None
-    → AreOfClasses before classes → run BeforeVersion [] classes ≡ Some standing → Outcome bytes
-walk bytes [] rest before classes standing whole each later partial classed ran =
-    at_end bytes before classes standing classed ran rest (record { whole = whole; each = each; partial = partial })
-walk bytes (line ∷ lines) rest before classes standing whole each later partial classed ran =
+    → AreOfClasses before classes → run BeforeVersion [] classes ≡ Some progress → Outcome bytes
+walk bytes [] rest before classes progress whole each later partial classed ran =
+    at_end bytes before classes progress classed ran rest (record { whole = whole; each = each; partial = partial })
+walk bytes (line ∷ lines) rest before classes progress whole each later partial classed ran =
     let after = flat_map (λ l. l) lines ++ rest in
     let pushed : flat_map (λ l. l) (before ++ line ∷ []) ≡ flat_map (λ l. l) before ++ line = joined-two before (line ∷ []) ∙ ap (λ x. flat_map (λ l. l) before ++ x) (append-nil line) in
     let so_far : bytes ≡ flat_map (λ l. l) (before ++ line ∷ []) ++ after =
     whole ∙ ap (λ x. flat_map (λ l. l) before ++ x) (append_assoc line (flat_map (λ l. l) lines) rest) ∙ sym (append_assoc (flat_map (λ l. l) before) line after) ∙ ap (λ x. x ++ after) (sym pushed) in
     let all = AllByRecursion-append IsLine before (line ∷ []) each (later.0, tt) in
     elim (cases_lt line_limit (length line)) [
-      | inl long ↦ too_long bytes before classes standing classed ran line after so_far all long
-      | inr short ↦ elim (fault_cases (text_line_fault standing.stage (text_of line) (is_comment line))) [
-        | inr f ↦ at_fault bytes before classes standing classed ran line after so_far all f.0 short f.1
+      | inl long ↦ too_long bytes before classes progress classed ran line after so_far all long
+      | inr short ↦ elim (fault_cases (text_line_fault progress.stage (text_of line) (is_comment line))) [
+        | inr f ↦ at_fault bytes before classes progress classed ran line after so_far all f.0 short f.1
         | inl none ↦
-            let s = standable standing.stage standing.statements (text_of line) (is_comment line) none in
+            let s = can_stand progress.stage progress.statements (text_of line) (is_comment line) none in
             walk bytes lines rest (before ++ line ∷ []) (classes ++ s.class ∷ []) s.next so_far all later.1 partial
             (classes-push before classes line s.class classed (short, s.is))
-            (run_more classes (s.class ∷ []) BeforeVersion [] standing ran ∙ once (step standing.stage standing.statements s.class) s.next s.steps)
+            (run_more classes (s.class ∷ []) BeforeVersion [] progress ran ∙ once (step progress.stage progress.statements s.class) s.next s.steps)
       ]
     ] where
       once : (o : Option ProgressValue) (next : ProgressValue) → o ≡ Some next → option_and_then (λ (s : ProgressValue). run s.stage s.statements []) o ≡ Some next
       once o next e = rw e refl
 
+-- a text stands for a list of statements, or has a fault
 pub one_of_both : (bytes : List ℕ) → Outcome bytes
 one_of_both bytes =
     let d = divides_some bytes in
@@ -200,9 +214,11 @@ one_of_both bytes =
 
 -- ---- one fault
 
+-- faults with the same number and the same reason are the same
 found_same : {l m : ℕ} {f g : LineFault} → l ≡ m → f ≡ g → ◌≡◌ {A = FaultAt} (record { line = l; fault = f }) (record { line = m; fault = g })
 found_same a b = rw (a, b) refl
 
+-- equal answers are of equal faults
 fault_same : {f g : LineFault} → ◌≡◌ {A = Option LineFault} (Some f) (Some g) → f ≡ g
 fault_same h = cc
 
@@ -210,6 +226,7 @@ fault_same h = cc
 abbrev Beyond : List (List ℕ) → List ℕ → List (List ℕ) → Type 0
 Beyond before line others = (more : List (List ℕ)) × (others ≡ (before ++ line ∷ []) ++ more)
 
+-- of two places in the same lines, either both are the same or one is beyond the other
 meet : (xs ys : List (List ℕ)) (a b : List ℕ) (ms ns : List (List ℕ)) → (xs ++ a ∷ []) ++ ms ≡ (ys ++ b ∷ []) ++ ns → ((xs ≡ ys) × (a ≡ b)) ⊎ (Beyond xs a ys ⊎ Beyond ys b xs)
 meet [] [] a b ms ns h =
     let k : a ∷ ms ≡ b ∷ ns = h in
@@ -257,8 +274,9 @@ not_within bytes a b f g beyond =
     let s = split_classes f.before f.line beyond.0 g.classes f.classes (subst (λ ls. AreOfClasses ls g.classes) beyond.1 g.classed) f.classed in
     let begun = g.begun in
     let longer : g.classes ++ begun.0 ≡ (f.classes ++ s.class ∷ []) ++ (s.more ++ begun.0) = ap (λ cs. cs ++ begun.0) s.are ∙ append_assoc (f.classes ++ s.class ∷ []) s.more begun.0 in
-    f.faulty s.class s.is (s.more ++ begun.0, begun.1, subst (λ cs. TextSays cs begun.1) longer begun.2)
+    f.faulty s.class s.is (s.more ++ begun.0, begun.1, subst (λ cs. IsDyndepFile cs begun.1) longer begun.2)
 
+-- a text has one first faulty line at most
 one_line : (bytes : List ℕ) (a b : FaultAt) → FaultyLine bytes a → FaultyLine bytes b → a ≡ b
 one_line bytes a b f g =
     let u = whole_lines bytes a f in
@@ -276,18 +294,21 @@ one_line bytes a b f g =
 abbrev fault_of_end : List ℕ → LineFault
 fault_of_end rest = if nat_le line_limit (length rest) then LineTooLong else if nat_lt 0 (length rest) then Truncated else NoVersion
 
+-- the fault of the end is told by the bytes left over
 end_fault_is : (rest : List ℕ) (classes : List Class) (fault : LineFault) → IsEndFault rest classes fault → fault ≡ fault_of_end rest
 end_fault_is rest classes LineTooLong h = rw (le-leb line_limit (length rest) h) refl
 end_fault_is rest classes Truncated h = rw (lt-leb line_limit (length rest) h.1, lt-ltb 0 (length rest) h.0) refl
 end_fault_is rest classes NoVersion h = sym (ap fault_of_end h.0)
 end_fault_is rest classes other h = absurd h
 
+-- a text has one fault at its end at most
 one_end : (bytes : List ℕ) (a b : FaultAt) → FaultyEnd bytes a → FaultyEnd bytes b → a ≡ b
 one_end bytes a b f g =
     let same = divides_one bytes f.lines g.lines f.rest g.rest f.divided g.divided in
     found_same (f.number ∙ ap (λ ls. number_after (flat_map (λ l. l) ls)) same.0 ∙ sym g.number)
     (end_fault_is f.rest f.classes a.fault f.reason ∙ ap fault_of_end same.1 ∙ sym (end_fault_is g.rest g.classes b.fault g.reason))
 
+-- a text has one fault at most
 pub one_fault : (bytes : List ℕ) (a b : FaultAt) → IsRefused bytes a → IsRefused bytes b → a ≡ b
 one_fault bytes a b (inl f) (inl g) = one_line bytes a b f g
 one_fault bytes a b (inl f) (inr g) = absurd (line_not_begun bytes g.lines g.rest g.classes a g.divided g.classed g.begun f)

@@ -1,4 +1,4 @@
--- The text of a list of statements, line by line, and what it says.
+-- The text of a list of statements, line by line: it is a dyndep file with them.
 use Rattle.std.proofs.Common.{◌≡◌, ℕ, Bool, true, false, List, [], ◌∷◌, ◌++◌, refl, sym, ap, ◌∙◌, arith}
 use Rattle.std.specs.Prelude.{codes, if◌then◌else◌, All}
 use Rattle.std.specs.List.{flat_map, AllByRecursion}
@@ -10,7 +10,7 @@ use Rattle.ninja_text.specs.Assignments.{SeenAssignment}
 use Rattle.ninja_text.proofs.CutLemmas.{AllByRecursion-append, joined}
 use Rattle.dyndep_file.specs.StatementValue.{StatementValue}
 use Rattle.dyndep_file.specs.Classes.{Class, Version, Build, Binding, Assigns, IsOfClass}
-use Rattle.dyndep_file.specs.Grammar.{BodySays, TextSays, binding_here, no_more, build_alone, build_bound, version_line}
+use Rattle.dyndep_file.specs.Grammar.{IsDyndepBody, IsDyndepFile, binding_here, body_end, body_build, body_build_binding, version_line}
 use Rattle.dyndep_file.specs.Reading.{AreOfClasses, StandsFor}
 use Rattle.dyndep_file.specs.Writing.{build_line, statement_text, dyndep_text}
 use Rattle.dyndep_file.specs.WriteFaults.{CanBeWritten}
@@ -76,15 +76,15 @@ are_classed : (ss : List StatementValue) → AllByRecursion CanBeWritten ss → 
 are_classed [] can = tt
 are_classed (s ∷ ss) can = AreOfClasses-append (lines_of s) (flat_map lines_of ss) (classes_of s) (flat_map classes_of ss) (build_classed s can.0, flag_classed s.restat) (are_classed ss can.1)
 
--- the grammar says the statements of these classes
-flag_says : (output : List ℕ) (outputs inputs : List (List ℕ)) (flag : Bool) (classes : List Class) (ss : List StatementValue) → BodySays classes ss
-    → BodySays (Build output outputs inputs ∷ (flag_classes flag ++ classes)) (record { output = output; implicit_outputs = outputs; implicit_inputs = inputs; restat = flag } ∷ ss)
-flag_says output outputs inputs true classes ss body = build_bound binding_here body
-flag_says output outputs inputs false classes ss body = build_alone body
+-- the lines of one statement and its flag, in front of a body
+build_with_flag : (output : List ℕ) (outputs inputs : List (List ℕ)) (flag : Bool) (classes : List Class) (ss : List StatementValue) → IsDyndepBody classes ss
+    → IsDyndepBody (Build output outputs inputs ∷ (flag_classes flag ++ classes)) (record { output = output; implicit_outputs = outputs; implicit_inputs = inputs; restat = flag } ∷ ss)
+build_with_flag output outputs inputs true classes ss body = body_build_binding binding_here body
+build_with_flag output outputs inputs false classes ss body = body_build body
 
-says : (ss : List StatementValue) → BodySays (flat_map classes_of ss) ss
-says [] = no_more
-says (s ∷ ss) = flag_says s.output s.implicit_outputs s.implicit_inputs s.restat (flat_map classes_of ss) ss (says ss)
+written_body : (ss : List StatementValue) → IsDyndepBody (flat_map classes_of ss) ss
+written_body [] = body_end
+written_body (s ∷ ss) = build_with_flag s.output s.implicit_outputs s.implicit_inputs s.restat (flat_map classes_of ss) ss (written_body ss)
 
 -- the lines, one after another, are the text
 flag_text : (flag : Bool) → joined (flag_lines flag) ≡ (if flag then codes "  restat = 1" ++ 10 ∷ [] else [])
@@ -111,10 +111,10 @@ divided_for ss can = record {
   partial = refl;
 }
 
-pub says_for : (ss : List StatementValue) → TextSays (classes_for ss) ss
-says_for ss = version_line (says ss)
+pub written_file : (ss : List StatementValue) → IsDyndepFile (classes_for ss) ss
+written_file ss = version_line (written_body ss)
 
 pub stands_for : (ss : List StatementValue) → All CanBeWritten ss → StandsFor (dyndep_text ss) ss
 stands_for ss all =
     let can = recursion_from_All CanBeWritten ss all in
-    record { lines = lines_for ss; classes = classes_for ss; divided = divided_for ss can; classed = (first_classed, are_classed ss can); said = says_for ss }
+    record { lines = lines_for ss; classes = classes_for ss; divided = divided_for ss can; classed = (first_classed, are_classed ss can); grammar = written_file ss }

@@ -1,4 +1,4 @@
--- A build line's tokens after its keyword: what a position says of those to come, and what they name.
+-- A build line's tokens after its keyword: the fault of those to come at a position, and the paths that they name.
 use Rattle.std.specs.Prelude.{◌≡◌, ℕ, Bool, false, List, [], ◌∷◌, ◌++◌, map, codes, Option, Some, Result, Ok, Err}
 use Rattle.ninja_text.specs.Tokens.{SeenToken, value_of}
 use Rattle.ninja_text.specs.TokenViews.{tokens_left}
@@ -20,9 +20,9 @@ abbrev pub symbols_left : Words → List Symbol
 symbols_left words = map symbol_of (tokens_left words)
 
 -- whether it is the word of just these bytes
-abbrev pub is_said : List ℕ → Symbol → Bool
-is_said bytes (WordSymbol word) = same_bytes word bytes
-is_said bytes (SignSymbol kind) = false
+abbrev pub is_word : List ℕ → Symbol → Bool
+is_word bytes (WordSymbol word) = same_bytes word bytes
+is_word bytes (SignSymbol kind) = false
 
 -- the fault of the tokens to come, at a position
 abbrev pub position_fault : Position → List Symbol → Option LineFault

@@ -1,4 +1,4 @@
--- The classes of lines of a dyndep text.
+-- The lines of a dyndep file, by what they are (Ninja 1.11 manual, "Dyndep file reference" and "Lexical syntax").
 use Rattle.std.specs.Prelude.{◌≡◌, ℕ, ◌≤◌, Bool, true, false, ◌==◌, ◌&&◌, ◌||◌, not, nat_lt, IsTrue, List, [], ◌∷◌, ◌++◌, length, map, codes, ◌⊎◌, Some, None}
 use Rattle.ninja_text.specs.Units.{is_digit}
 use Rattle.ninja_text.specs.Bytes.{space}
@@ -9,6 +9,8 @@ use Rattle.ninja_text.specs.declared.token.TokenKind.{TokenKind}
 use Rattle.ninja_text.specs.declared.token.TokenKind.TheVariants.{Word, Bar, DoubleBar, BarAt, Colon}
 use Rattle.ninja_text.specs.Assignments.{SeenAssignment, assignment_of}
 
+-- What a line is: a comment, a blank line, the version line, a build line with its explicit output, its implicit outputs and its
+-- implicit inputs, or a binding of `restat`, which sets the flag or does not.
 pub data Class : Type 0 where
   Comment : Class
   Blank : Class
@@ -16,11 +18,12 @@ pub data Class : Type 0 where
   Build : List ℕ → List (List ℕ) → List (List ℕ) → Class
   Binding : Bool → Class
 
--- a token as grammar sees it: a word by its raw bytes, or a sign
+-- a token of a build line: a word with its bytes as they are spelled, or one of the signs `|`, `||`, `|@` and `:`
 pub data Symbol : Type 0 where
   WordSymbol : List ℕ → Symbol
   SignSymbol : TokenKind → Symbol
 
+-- the symbol of a token of this kind and with these bytes
 abbrev pub symbol : TokenKind → List ℕ → Symbol
 symbol Word bytes = WordSymbol bytes
 symbol Bar bytes = SignSymbol Bar
@@ -28,39 +31,41 @@ symbol DoubleBar bytes = SignSymbol DoubleBar
 symbol BarAt bytes = SignSymbol BarAt
 symbol Colon bytes = SignSymbol Colon
 
+-- the symbols of a line's tokens
 abbrev pub symbols : List ℕ → List Symbol
 symbols text = map (λ t. symbol t.kind (raw text t)) (tokens text)
 
--- the first token begins at the first byte
+-- whether there is a token, and the first one begins at the line's first byte
 abbrev pub begins_at_start : List TokenAt → Bool
 begins_at_start [] = false
 begins_at_start (t ∷ ts) = t.start == 0
 
--- The part is absent, or `|` and these words.
+-- Implicit outputs or implicit inputs: nothing at all, or `|` and these words, of which there may be none.
 abbrev pub IsPart : List Symbol → List (List ℕ) → Type 0
 IsPart part words = ((part ≡ []) × (words ≡ [])) ⊎ (part ≡ SignSymbol Bar ∷ map WordSymbol words)
 
--- The text is `build output | outputs : dyndep | inputs`, by the raw bytes of its words.
+-- The line is `build output | outputs : dyndep | inputs`, and begins at its first byte; the words are given as they are spelled.
 abbrev pub IsBuild : List ℕ → List ℕ → List (List ℕ) → List (List ℕ) → Type 0
 IsBuild text output outputs inputs =
     (before after : List Symbol) × IsPart before outputs × IsPart after inputs × IsTrue (begins_at_start (tokens text))
     × (symbols text ≡ WordSymbol (codes "build") ∷ WordSymbol output ∷ before ++ SignSymbol Colon ∷ WordSymbol (codes "dyndep") ∷ after)
 
--- The text assigns a value to the name.
+-- The line is an assignment to this name, which begins at this byte, of this value, without escapes.
 abbrev pub Assigns : List ℕ → List ℕ → ℕ → List ℕ → Type 0
 Assigns text name start value =
     (a : SeenAssignment) × (assignment_of text ≡ Some a) × (a.name_start ≡ start) × (a.name ≡ name) × (value_of a.raw_value ≡ value)
 
+-- whether the line is indented: its first byte is a space
 abbrev pub begins_with_space : List ℕ → Bool
 begins_with_space [] = false
 begins_with_space (b ∷ bytes) = b == space
 
--- nothing, or a byte that is no digit and, where dots are refused, no `.`
+-- whether a number ends before these bytes: no digit comes next and, where dots are refused, no `.`
 abbrev pub ends_number : Bool → List ℕ → Bool
 ends_number dots [] = true
 ends_number dots (b ∷ bytes) = not (is_digit b) && (dots || not (b == 46))
 
--- `1` or `1.0`, and then no more of a number
+-- whether a version is one that Ninja 1.11 reads: `1` and then neither a digit nor `.`, or `1.0` and then no digit
 abbrev pub is_version_one : List ℕ → Bool
 is_version_one [] = false
 is_version_one (a ∷ rest) = (a == 49) && (ends_number false rest || dot_zero rest) where
@@ -69,7 +74,10 @@ is_version_one (a ∷ rest) = (a == 49) && (ends_number false rest || dot_zero r
   dot_zero (a ∷ []) = false
   dot_zero (a ∷ b ∷ rest) = (a == 46) && (b == 48) && ends_number true rest
 
--- A line's text is of the class; comment says whether the line is one.
+-- A line is of this class, told by its text without the end, and by whether it is a comment: one holds any bytes, every other
+-- line has no lexical fault. A blank line has no token. A version line assigns a version that is read, and its name stands at the
+-- first byte. The paths of a build line are the values of its words, without escapes. A binding is an indented assignment to
+-- `restat`, and sets the flag where the value is not empty.
 abbrev pub TextIsOfClass : List ℕ → Bool → Class → Type 0
 TextIsOfClass text comment Comment = comment ≡ true
 TextIsOfClass text comment Blank = (comment ≡ false) × (lexical_fault text ≡ None) × (tokens text ≡ [])
@@ -81,6 +89,6 @@ TextIsOfClass text comment (Build output outputs inputs) = (comment ≡ false) �
 TextIsOfClass text comment (Binding flag) = (comment ≡ false) × (lexical_fault text ≡ None) × IsTrue (begins_with_space text)
     × (start : ℕ) × (value : List ℕ) × Assigns text (codes "restat") start value × (flag ≡ nat_lt 0 (length value))
 
--- The line, its end included, is of the class.
+-- The line, its end included, keeps the limit and is of this class.
 abbrev pub IsOfClass : List ℕ → Class → Type 0
 IsOfClass line c = (length line ≤ line_limit) × TextIsOfClass (text_of line) (is_comment line) c

@@ -1,51 +1,64 @@
--- What is wrong with a line, by the lines before it.
+-- The fault of a line of a dyndep file, by the lines before it: a table of lines, and one of the tokens of a build line. Both
+-- follow the Ninja 1.11 manual, "Dyndep file reference".
 use Rattle.std.specs.Prelude.{ℕ, Bool, true, false, ◌==◌, ◌&&◌, ◌||◌, not, nat_lt, if◌then◌else◌, is_some, List, [], ◌∷◌, length, codes, Option, Some, None}
 use Rattle.std.specs.List.{list_any, list_all}
-use Rattle.ninja_text.specs.Lines.{is_comment, text_of}
+use Rattle.ninja_text.specs.Lines.{line_limit, is_comment, text_of}
 use Rattle.ninja_text.specs.Lexical.{lexical_fault}
 use Rattle.ninja_text.specs.Tokens.{tokens, value_of}
 use Rattle.ninja_text.specs.declared.token.TokenKind.TheVariants.{Word, Bar, DoubleBar, BarAt, Colon}
 use Rattle.ninja_text.specs.Assignments.{SeenAssignment, assignment_of}
 use Rattle.ninja_text.specs.declared.faults.LexFault.{LexFault}
 use Rattle.dyndep_file.specs.Classes.{Class, Comment, Version, Build, Symbol, WordSymbol, SignSymbol, symbols, begins_at_start, begins_with_space, is_version_one}
-use Rattle.ninja_text.specs.Lines.{line_limit}
 use Rattle.dyndep_file.specs.declared.faults.LineFault.{LineFault}
-use Rattle.dyndep_file.specs.declared.faults.LineFault.TheVariants.{LineTooLong, Lexical, NoVersion, BadVersion, SecondVersion, Indent, BadLine, NoOutput, SecondOutput, BadRule, ExplicitInput, OrderOnly, Validation, BadBinding}
+use Rattle.dyndep_file.specs.declared.faults.LineFault.TheVariants.{LineTooLong, Lexical, NoVersion, BadVersion, SecondVersion, Indent, BadLine}
+use Rattle.dyndep_file.specs.declared.faults.LineFault.TheVariants.{NoOutput, SecondOutput, BadRule, ExplicitInput, OrderOnly, Validation, BadBinding}
 use Rattle.dyndep_file.specs.declared.progress.Stage.{Stage}
 use Rattle.dyndep_file.specs.declared.progress.Stage.TheVariants.{BeforeVersion, NoneOpen, Open}
 
--- whether two byte lists are equal
+-- whether two lists of bytes are equal
 abbrev pub same_bytes : List ℕ → List ℕ → Bool
 same_bytes [] [] = true
 same_bytes (x ∷ xs) (y ∷ ys) = (x == y) && same_bytes xs ys
 same_bytes [] (y ∷ ys) = false
 same_bytes (x ∷ xs) [] = false
 
+-- whether a list has no element
+abbrev pub is_empty : {A : Type 0} → List A → Bool
+is_empty [] = true
+is_empty (x ∷ xs) = false
+
+-- ---- the columns of the table of lines: what stands before a line
+
+-- whether it is the class of a version line
 abbrev pub is_version : Class → Bool
 is_version Version = true
 is_version other = false
 
+-- whether it is the class of a build line
 abbrev pub is_build : Class → Bool
 is_build (Build output outputs inputs) = true
 is_build other = false
 
+-- whether it is the class of a comment
 abbrev pub is_comment_class : Class → Bool
 is_comment_class Comment = true
 is_comment_class other = false
 
--- somewhere stands a build line with nothing but comments after it
+-- whether a statement is open: after some build line there are only comments
 abbrev pub is_open : List Class → Bool
 is_open [] = false
 is_open (c ∷ classes) = (is_build c && list_all is_comment_class classes) || is_open classes
 
--- where a text stands after lines of these classes
+-- the column for a line after lines of these classes: before the version, no statement open, or a statement open
 abbrev pub stage_after : List Class → Stage
 stage_after classes =
     if not (list_any is_version classes) then BeforeVersion
     else if is_open classes then Open
     else NoneOpen
 
--- the tokens of a build line, position by position: the first that does not go on
+-- ---- the table of build lines: the tokens after the keyword `build`, told by the first that may not stand where it does
+
+-- the fault of what comes among the implicit inputs
 abbrev pub implicit_inputs_fault : List Symbol → Option LineFault
 implicit_inputs_fault [] = None
 implicit_inputs_fault (WordSymbol word ∷ more) = implicit_inputs_fault more
@@ -53,6 +66,7 @@ implicit_inputs_fault (SignSymbol DoubleBar ∷ more) = Some OrderOnly
 implicit_inputs_fault (SignSymbol BarAt ∷ more) = Some Validation
 implicit_inputs_fault (SignSymbol other ∷ more) = Some BadLine
 
+-- the fault of what comes after the rule: `|` begins the implicit inputs
 abbrev pub after_rule_fault : List Symbol → Option LineFault
 after_rule_fault [] = None
 after_rule_fault (WordSymbol word ∷ more) = Some ExplicitInput
@@ -61,11 +75,13 @@ after_rule_fault (SignSymbol DoubleBar ∷ more) = Some OrderOnly
 after_rule_fault (SignSymbol BarAt ∷ more) = Some Validation
 after_rule_fault (SignSymbol other ∷ more) = Some BadLine
 
+-- the fault of what comes after `:`, where the rule stands, which is `dyndep`, spelled so
 abbrev pub rule_fault : List Symbol → Option LineFault
 rule_fault [] = Some BadRule
 rule_fault (WordSymbol word ∷ more) = if same_bytes word (codes "dyndep") then after_rule_fault more else Some BadRule
 rule_fault (SignSymbol other ∷ more) = Some BadRule
 
+-- the fault of what comes among the implicit outputs: `:` ends them
 abbrev pub implicit_outputs_fault : List Symbol → Option LineFault
 implicit_outputs_fault [] = Some BadLine
 implicit_outputs_fault (WordSymbol word ∷ more) = implicit_outputs_fault more
@@ -74,6 +90,7 @@ implicit_outputs_fault (SignSymbol DoubleBar ∷ more) = Some OrderOnly
 implicit_outputs_fault (SignSymbol BarAt ∷ more) = Some Validation
 implicit_outputs_fault (SignSymbol other ∷ more) = Some BadLine
 
+-- the fault of what comes after the explicit output: `|` begins the implicit outputs, and `:` stands before the rule
 abbrev pub after_output_fault : List Symbol → Option LineFault
 after_output_fault [] = Some BadLine
 after_output_fault (WordSymbol word ∷ more) = Some SecondOutput
@@ -83,39 +100,27 @@ after_output_fault (SignSymbol DoubleBar ∷ more) = Some OrderOnly
 after_output_fault (SignSymbol BarAt ∷ more) = Some Validation
 after_output_fault (SignSymbol Word ∷ more) = Some BadLine
 
+-- the fault of all tokens after the keyword, the first of which is the explicit output
 abbrev pub output_fault : List Symbol → Option LineFault
 output_fault [] = Some NoOutput
 output_fault (WordSymbol word ∷ more) = after_output_fault more
 output_fault (SignSymbol other ∷ more) = Some NoOutput
 
--- what follows the keyword `build` at place 0; None where the line is no build line
-abbrev pub after_build : Bool → List Symbol → Option (List Symbol)
-after_build at_start [] = None
-after_build at_start (WordSymbol word ∷ more) = if at_start && same_bytes word (codes "build") then Some more else None
-after_build at_start (SignSymbol other ∷ more) = None
+-- ---- the rows of the table of lines: the fault of such a line, by its column
 
--- the value of an assignment to this name; None where there is no such assignment
-abbrev pub value_assigned : List ℕ → Option SeenAssignment → Option (ℕ × List ℕ)
-value_assigned name None = None
-value_assigned name (Some a) = if same_bytes a.name name then Some (a.name_start, value_of a.raw_value) else None
-
-abbrev pub is_empty : {A : Type 0} → List A → Bool
-is_empty [] = true
-is_empty (x ∷ xs) = false
-
--- an indented line
+-- an indented line, told by whether it is an assignment to `restat`
 abbrev pub indented_fault : Stage → Bool → Option LineFault
 indented_fault BeforeVersion restat = Some NoVersion
 indented_fault NoneOpen restat = Some Indent
 indented_fault Open restat = if restat then None else Some BadBinding
 
--- a version line, by its value
+-- a version line, told by its value
 abbrev pub version_fault : Stage → List ℕ → Option LineFault
 version_fault BeforeVersion value = if is_version_one value then None else Some BadVersion
 version_fault NoneOpen value = Some SecondVersion
 version_fault Open value = Some SecondVersion
 
--- a build line, by the tokens after its keyword
+-- a build line, told by the tokens after its keyword
 abbrev pub build_fault : Stage → List Symbol → Option LineFault
 build_fault BeforeVersion more = Some NoVersion
 build_fault NoneOpen more = output_fault more
@@ -127,32 +132,47 @@ other_fault BeforeVersion = NoVersion
 other_fault NoneOpen = BadLine
 other_fault Open = BadLine
 
--- a line that does not begin with a space: a build line, where tokens after the keyword are given, or another
-abbrev pub build_or_other : Stage → Option (List Symbol) → Option LineFault
-build_or_other stage (Some more) = build_fault stage more
-build_or_other stage None = Some (other_fault stage)
+-- ---- the row of a line, and its fault
 
-abbrev pub at_margin_fault : Stage → Option (ℕ × List ℕ) → Option (List Symbol) → Option LineFault
-at_margin_fault stage (Some version) build = if version.0 == 0 then version_fault stage version.1 else build_or_other stage build
-at_margin_fault stage None build = build_or_other stage build
+-- the tokens after the keyword `build`, where the line begins with it at its first byte; None for any other line
+abbrev pub after_build : Bool → List Symbol → Option (List Symbol)
+after_build at_start [] = None
+after_build at_start (WordSymbol word ∷ more) = if at_start && same_bytes word (codes "build") then Some more else None
+after_build at_start (SignSymbol other ∷ more) = None
 
--- a text without lexical fault that is no comment
+-- where the name begins and what is assigned, where a line is an assignment to this name; None for any other line
+abbrev pub value_assigned : List ℕ → Option SeenAssignment → Option (ℕ × List ℕ)
+value_assigned name None = None
+value_assigned name (Some a) = if same_bytes a.name name then Some (a.name_start, value_of a.raw_value) else None
+
+-- a line that is neither indented nor a version line, told by its tokens after `build`, if it is a build line
+abbrev pub build_or_other_fault : Stage → Option (List Symbol) → Option LineFault
+build_or_other_fault stage (Some more) = build_fault stage more
+build_or_other_fault stage None = Some (other_fault stage)
+
+-- a line that is not indented, told by what it assigns to the version, if that, and by its tokens after `build`, if it is a build line
+abbrev pub unindented_fault : Stage → Option (ℕ × List ℕ) → Option (List Symbol) → Option LineFault
+unindented_fault stage (Some version) build = if version.0 == 0 then version_fault stage version.1 else build_or_other_fault stage build
+unindented_fault stage None build = build_or_other_fault stage build
+
+-- a line's text without lexical fault that is no comment; a blank line, which has no token, has no fault
 abbrev pub text_fault : Stage → List ℕ → Option LineFault
 text_fault stage text =
     if is_empty (tokens text) then None
     else if begins_with_space text then indented_fault stage (is_some (value_assigned (codes "restat") (assignment_of text)))
-    else at_margin_fault stage (value_assigned (codes "ninja_dyndep_version") (assignment_of text))
+    else unindented_fault stage (value_assigned (codes "ninja_dyndep_version") (assignment_of text))
     (after_build (begins_at_start (tokens text)) (symbols text))
 
-abbrev pub sound_or : Option LexFault → Option LineFault → Option LineFault
-sound_or (Some fault) otherwise = Some (Lexical fault)
-sound_or None otherwise = otherwise
+-- the lexical fault, and the other one only where there is none
+abbrev pub lexical_fault_or : Option LexFault → Option LineFault → Option LineFault
+lexical_fault_or (Some fault) otherwise = Some (Lexical fault)
+lexical_fault_or None otherwise = otherwise
 
--- the fault of a line's text, where a reader stands at this stage; comment says whether the line is one
+-- the fault of a line's text without its end, told by whether the line is a comment, which has none
 abbrev pub text_line_fault : Stage → List ℕ → Bool → Option LineFault
-text_line_fault stage text comment = if comment then None else sound_or (lexical_fault text) (text_fault stage text)
+text_line_fault stage text comment = if comment then None else lexical_fault_or (lexical_fault text) (text_fault stage text)
 
--- the fault of a line, its end included, where a text stands at this stage; None where it has none
+-- the fault of a line, its end included; None where it has none
 abbrev pub line_fault : Stage → List ℕ → Option LineFault
 line_fault stage line =
     if nat_lt line_limit (length line) then Some LineTooLong

@@ -13,7 +13,7 @@ use Rattle.dyndep_file.specs.declared.faults.LineFault.{LineFault}
 use Rattle.dyndep_file.specs.declared.faults.ReadFault.{ReadFault}
 use Rattle.dyndep_file.specs.declared.faults.ReadFault.TheVariants.{AtLine, Io}
 
--- Either the line is of a class that may stand here, which leads on, or it has this fault.
+-- Either the line is of a class that may stand here, and the statements are those after it, or it has this fault, or memory was refused.
 abbrev pub PassesOr : Option LineFault → (Class → Type 0) → ProgressValue → Result Unit (Failure LineFault) → ProgressValue → Type 0
 PassesOr fault is old (Ok u) new = (c : Class) × is c × (step old.stage old.statements c ≡ Some new)
 PassesOr fault is old (Err (Fault found)) new = fault ≡ Some found
@@ -41,7 +41,7 @@ IsVersionOf value c = (c ≡ Version) × IsTrue (is_version_one value)
 abbrev pub IsVersionLineOf : Option SeenAssignment → Class → Type 0
 IsVersionLineOf found c = (a : SeenAssignment) × (found ≡ Some a) × (a.name_start ≡ 0) × (a.name ≡ codes "ninja_dyndep_version") × IsVersionOf (value_of a.raw_value) c
 
--- What a line of the text does to the statements so far.
+-- What reading a line answers, and what it does to the statements so far.
 abbrev pub ReadsLine : ProgressValue → LogicalLine → Result Unit (Failure ReadFault) → ProgressValue → Type 0
 ReadsLine old line (Ok u) new = (c : Class) × TextIsOfClass line.text line.comment c × (step old.stage old.statements c ≡ Some new)
 ReadsLine old line (Err (Fault (AtLine number fault))) new = (number ≡ line.number) × (text_line_fault old.stage line.text line.comment ≡ Some fault)

@@ -1,7 +1,8 @@
--- What a reader's fields hold.
+-- What the fields of a `DyndepReader` stand for.
 use Rattle.dyndep_file.specs.ProgressViews.{progress_value}
 use Rattle.dyndep_file.specs.Reader.{Reader}
 use Rattle.dyndep_file.specs.declared.reader.DyndepReader.TheInside.{Inside}
 
+-- the reader that the fields are
 abbrev pub reader_value : Inside → Reader
-reader_value r = record { cut = r.cutter; standing = progress_value r.progress; failed = r.failed }
+reader_value r = record { cutter = r.cutter; progress = progress_value r.progress; failed = r.failed }

@@ -1,4 +1,4 @@
--- What a statement of a dyndep file says.
+-- A statement of a dyndep file: its paths, without escapes, and its flag.
 use Rattle.std.specs.Prelude.{ℕ, Bool, List}
 
 -- Its paths are the bytes that their spellings stand for.

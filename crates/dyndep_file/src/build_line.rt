@@ -4,7 +4,7 @@ ghost use Rattle.ninja_text.specs.Tokens.{value_of};
 ghost use Rattle.ninja_text.specs.TokenViews.{seen_token};
 ghost use Rattle.dyndep_file.specs.Classes.{Symbol, symbol};
 ghost use Rattle.dyndep_file.specs.Faults.{same_bytes, output_fault, after_output_fault, implicit_outputs_fault, rule_fault, after_rule_fault, implicit_inputs_fault};
-ghost use Rattle.dyndep_file.specs.BuildTokens.{is_said, symbol_of, symbols_left, position_fault, fault_from, words_before_colon, after_colon, IsNamed};
+ghost use Rattle.dyndep_file.specs.BuildTokens.{is_word, symbol_of, symbols_left, position_fault, fault_from, words_before_colon, after_colon, IsNamed};
 
 use crate::faults::LineFault;
 use crate::statement::Statement;
@@ -138,7 +138,7 @@ fn fault_at_end(position: Position) -> Option<LineFault>
 
 /// Whether a token is the word of just these bytes.
 pub(crate) fn is_keyword(token: Token<'_>, keyword: &[u8]) -> bool
-    ensures { result ≡ is_said keyword.now (symbol_of (seen_token token.entry)) }
+    ensures { result ≡ is_word keyword.now (symbol_of (seen_token token.entry)) }
 {
     token.kind() == TokenKind::Word && is_same(token.raw(), keyword)
 }

@@ -6,13 +6,13 @@ ghost use Rattle.ninja_text.specs.Tokens.{seen_tokens};
 ghost use Rattle.ninja_text.specs.TokenViews.{seen_token, tokens_left};
 ghost use Rattle.dyndep_file.specs.Classes.{TextIsOfClass, begins_with_space};
 ghost use Rattle.dyndep_file.specs.Faults.{text_line_fault};
-ghost use Rattle.dyndep_file.specs.BuildTokens.{symbol_of, is_said};
+ghost use Rattle.dyndep_file.specs.BuildTokens.{symbol_of, is_word};
 ghost use Rattle.dyndep_file.specs.LineReading.{PassesOr, ReadsLine};
 ghost use Rattle.dyndep_file.specs.ProgressViews.{progress_value};
 
 use crate::build_line::is_keyword;
 use crate::faults::{LineFault, ReadFault};
-use crate::progress::{Progress, blank_line, build_line, indented_line, margin_line};
+use crate::progress::{Progress, blank_line, build_line, indented_line, version_or_other_line};
 use ninja_text::{Failure, Line, Token, Words, assignment, words};
 use std::alloc::Global;
 
@@ -79,7 +79,7 @@ fn read_tokens(
             if begins_with_space(line.text()) {
                 indented_line(alloc, progress, found)
             } else {
-                margin_line(alloc, progress, found)
+                version_or_other_line(alloc, progress, found)
             }
         }
     }
@@ -87,7 +87,7 @@ fn read_tokens(
 
 /// Whether a line whose first token this is is a build line.
 fn begins_build_line(first: Token<'_>) -> bool
-    ensures { result ≡ ((seen_token first.entry).start == 0) && is_said (codes "build") (symbol_of (seen_token first.entry)) }
+    ensures { result ≡ ((seen_token first.entry).start == 0) && is_word (codes "build") (symbol_of (seen_token first.entry)) }
 {
     first.start() == 0 && is_keyword(first, b"build")
 }

@@ -1,10 +1,10 @@
-//! What a reader knows of the lines so far, and what a line of each kind does to it.
+//! The statements of the lines so far, and what a line of each kind does to them: the table of lines, row by row.
 ghost use Rattle.std.specs.Prelude.{◌≡◌, codes, is_some, option_map, IfOk, Some};
 ghost use Rattle.ninja_text.specs.Tokens.{value_of};
 ghost use Rattle.ninja_text.specs.AssignmentViews.{seen_assignment};
 ghost use Rattle.dyndep_file.specs.Classes.{Blank, is_version_one, ends_number};
-ghost use Rattle.dyndep_file.specs.Faults.{value_assigned, indented_fault, version_fault, build_fault, other_fault, at_margin_fault};
-ghost use Rattle.dyndep_file.specs.Steps.{step, with_last_flag};
+ghost use Rattle.dyndep_file.specs.Faults.{value_assigned, indented_fault, version_fault, build_fault, other_fault, unindented_fault};
+ghost use Rattle.dyndep_file.specs.Steps.{step, with_last_restat};
 ghost use Rattle.dyndep_file.specs.BuildTokens.{symbols_left};
 ghost use Rattle.dyndep_file.specs.LineReading.{PassesOr, IsBuildOf, IsBindingOf, IsVersionOf, IsVersionLineOf, with_name};
 ghost use Rattle.dyndep_file.specs.ProgressViews.{progress_value};
@@ -15,10 +15,10 @@ use crate::statement::Statement;
 use ninja_text::{Assignment, Failure, Words};
 use std::alloc::{AllocError, Global};
 
-/// Which lines may come next.
+/// What stands before a line, and so which lines may come next.
 #[derive(Clone, Copy, Debug, PartialEq, Eq)]
 pub(crate) enum Stage {
-    /// No version has come.
+    /// No version line has come.
     BeforeVersion,
     /// A binding would belong to no statement.
     NoneOpen,
@@ -26,14 +26,14 @@ pub(crate) enum Stage {
     Open,
 }
 
-/// The statements so far.
+/// The statements so far, and the stage of the file.
 #[derive(Drop)]
 pub(crate) struct Progress {
     pub(crate) stage: Stage,
     pub(crate) statements: Vec<Statement>,
 }
 
-/// A blank line closes the open statement.
+/// A blank line: it closes the open statement.
 pub(crate) fn blank_line(progress: &mut Progress)
     ensures { step progress.old.stage (progress_value progress.old).statements Blank ≡ Some (progress_value progress.new) }
 {
@@ -61,12 +61,12 @@ pub(crate) fn indented_line(
         return Err(Failure::Fault(LineFault::BadBinding));
     };
     let value = value(alloc, binding)?;
-    set_last(&mut progress.statements, !value.is_empty());
+    set_last_restat(&mut progress.statements, !value.is_empty());
     progress.stage = Stage::NoneOpen;
     Ok(())
 }
 
-/// A build line opens a statement, by the tokens after its keyword.
+/// A build line, told by the tokens after its keyword: it opens a statement.
 pub(crate) fn build_line(
     alloc: Global,
     progress: &mut Progress,
@@ -88,12 +88,12 @@ pub(crate) fn build_line(
 }
 
 /// A line that is neither indented nor a build line: a version line, or one that may stand nowhere.
-pub(crate) fn margin_line(
+pub(crate) fn version_or_other_line(
     alloc: Global,
     progress: &mut Progress,
     assignment: Option<Assignment<'_>>,
 ) -> Result<(), Failure<LineFault>>
-    ensures { PassesOr (at_margin_fault progress.old.stage (value_assigned (codes "ninja_dyndep_version") (option_map seen_assignment assignment.entry)) None)
+    ensures { PassesOr (unindented_fault progress.old.stage (value_assigned (codes "ninja_dyndep_version") (option_map seen_assignment assignment.entry)) None)
         (IsVersionLineOf (option_map seen_assignment assignment.entry)) (progress_value progress.old) result (progress_value progress.new) }
 {
     let Some(version) = named(assignment, b"ninja_dyndep_version") else {
@@ -155,9 +155,9 @@ fn value(alloc: Global, assignment: Assignment<'_>) -> Result<Vec<u8>, AllocErro
     Ok(value)
 }
 
-/// Sets the flag of the last statement.
-fn set_last(statements: &mut Vec<Statement>, flag: bool)
-    ensures { statements.new.items ≡ with_last_flag flag statements.old.items }
+/// Sets the flag `restat` of the last statement.
+fn set_last_restat(statements: &mut Vec<Statement>, flag: bool)
+    ensures { statements.new.items ≡ with_last_restat flag statements.old.items }
 {
     if let Some(statement) = statements.last_mut() {
         statement.restat = flag;

@@ -1,6 +1,6 @@
-//! The reader of dyndep files that come in pieces.
+//! The reader of dyndep files that come in pieces: it cuts lines, reads each, and keeps the statements so far.
 ghost use Rattle.std.specs.Prelude.{◌≡◌, ℕ, ◌++◌, List, [], Some, false};
-ghost use Rattle.dyndep_file.specs.Reader.{HasTaken, TakesOn, Ends, failure_of_cutter, fault_of_cutter};
+ghost use Rattle.dyndep_file.specs.Reader.{IsStateAfter, TakesAll, Ends, failure_of_cutter, fault_of_cutter};
 ghost use Rattle.dyndep_file.specs.ProgressViews.{progress_value};
 
 use crate::faults::{LineFault, ReadFault};
@@ -57,11 +57,11 @@ impl DyndepReader {
 
     /// Takes the next piece of the text, all of it.
     ///
-    /// A fault of a line is answered as soon as the line's end is there, and `LineTooLong` as soon as 1,048,576 bytes hold no
-    /// end. A reader that refused, for want of memory too, answers the same from then on.
+    /// The first faulty line is answered as soon as its end is there, and `LineTooLong` as soon as 1,048,576 bytes hold no end;
+    /// `Io` never. A reader that refused, for want of memory too, answers the same from then on.
     pub fn feed(&mut self, piece: &[u8]) -> Result<(), Failure<ReadFault>>
         ensures failed { (failure : Failure ReadFault) → self.old.failed ≡ Some failure → (result ≡ Err failure) × (self.new ≡ self.old) }
-        // Whatever bytes it was fed before.
+        // Whatever bytes it was fed before this piece.
         ensures all { (bytes : List ℕ) → HasRead bytes self.old → Reads (bytes ++ piece.now) result self.new }
     {
         if let Some(failure) = self.failed {
@@ -78,7 +78,8 @@ impl DyndepReader {
 
     /// The statements of the text, once all of it was fed.
     ///
-    /// `Truncated` where the last line has no end, and `NoVersion` where no version line came.
+    /// `Truncated` where the last line has no end, and `NoVersion` where no version line came. A reader that refused answers the
+    /// same once more.
     pub fn finish(self) -> Result<Dyndep, Failure<ReadFault>>
         ensures failed { (failure : Failure ReadFault) → self.failed ≡ Some failure → result ≡ Err failure }
         ensures all { (bytes : List ℕ) → HasRead bytes self → Ends bytes result }
@@ -96,10 +97,10 @@ impl DyndepReader {
     }
 }
 
-/// What the text says, all of whose lines were read.
+/// The statements of a text whose whole lines were all read, or the fault of its end.
 fn end_of(cutter: &LineCutter, progress: Progress) -> Result<Dyndep, Failure<ReadFault>>
     requires { cutter.now.waits ≡ false }
-    ensures { (bytes : List ℕ) → HasTaken bytes cutter.now (progress_value progress) → Ends bytes result }
+    ensures { (bytes : List ℕ) → IsStateAfter bytes cutter.now (progress_value progress) → Ends bytes result }
 {
     if let Err(fault) = cutter.finish() {
         return Err(Failure::Fault(cut_fault(fault)));
@@ -114,7 +115,7 @@ fn end_of(cutter: &LineCutter, progress: Progress) -> Result<Dyndep, Failure<Rea
     }
 }
 
-/// Feeds the cutter the whole piece, and reads each line that it lends.
+/// Feeds the cutter the whole piece, and reads each line that the cutter lends.
 fn take_all(
     alloc: Global,
     cutter: &mut LineCutter,
@@ -123,7 +124,7 @@ fn take_all(
 ) -> Result<(), Failure<ReadFault>>
     requires { cutter.old.waits ≡ false }
     ensures waits_not { cutter.new.waits ≡ false }
-    ensures all { (bytes : List ℕ) → HasTaken bytes cutter.old (progress_value progress.old) → TakesOn (bytes ++ piece.now) result cutter.new (progress_value progress.new) }
+    ensures all { (bytes : List ℕ) → IsStateAfter bytes cutter.old (progress_value progress.old) → TakesAll (bytes ++ piece.now) result cutter.new (progress_value progress.new) }
 {
     let mut rest = piece;
     while !rest.is_empty() {

@@ -88,7 +88,11 @@ fn first_unit(bytes: &[u8]) -> LineUnit
     ensures first { units bytes.now ≡ result ∷ units (drop (unit_len result) bytes.now) }
 {
     let first = bytes[0];
-    if first != b'$' || bytes.len() == 1 {
+    // Two tests, since nearly every byte ends at the first one.
+    if first != b'$' {
+        return LineUnit::Byte(first);
+    }
+    if bytes.len() == 1 {
         return LineUnit::Byte(first);
     }
     let second = bytes[1];

@@ -10,5 +10,6 @@ pub returns-in-Ok : goal.returns-in-Ok
 returns-in-Ok c =
     let line = seen_line c.args.line in
     let no_comment : line.comment ≡ false = sym c.is_comment.ensures ∙ c.if-is_comment.false in
-    subst (λ (b : Bool). PassesOr (text_line_fault c.args.progress.now.stage line.text b) (TextIsOfClass line.text b) (progress_value c.args.progress.now) c.read_tokens.result (progress_value c.read_tokens.new.progress))
+    subst (λ (b : Bool). PassesOr (text_line_fault c.args.progress.now.stage line.text b) (TextIsOfClass line.text b) (progress_value c.args.progress.now)
+    c.read_tokens.result (progress_value c.read_tokens.new.progress))
     (sym no_comment) c.read_tokens.ensures

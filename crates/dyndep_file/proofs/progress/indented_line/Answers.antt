@@ -15,6 +15,6 @@ returns c =
     let value = c.in_ok-value.value in (
       Binding (nat_lt 0 (length bytes)),
       (a, named.0, named.1, refl),
-      binds c.args.progress.now.stage c.args.progress.now.statements.items c.set_last.new.statements.items (nat_lt 0 (length bytes)) (not c.is_empty.result)
-          c.in-Open.is (not_empty bytes (vec_len value) c.is_empty.result c.is_empty.ensures (value.ok.0 ∙ ap length c.in_ok-value.ensures)) c.set_last.ensures,
+      binds c.args.progress.now.stage c.args.progress.now.statements.items c.set_last_restat.new.statements.items (nat_lt 0 (length bytes)) (not c.is_empty.result)
+          c.in-Open.is (not_empty bytes (vec_len value) c.is_empty.result c.is_empty.ensures (value.ok.0 ∙ ap length c.in_ok-value.ensures)) c.set_last_restat.ensures,
     )

@@ -1,4 +1,4 @@
-use Rattle.std.proofs.Common.{◌<◌, true, false, not, [], ap, sym, ◌∙◌, subst, length, below_more, arith}
+use Rattle.std.proofs.Common.{◌<◌, not, [], ap, sym, ◌∙◌, subst, length, below_more, arith}
 use Rattle.ninja_text.specs.Escapes.{is_writable}
 use Rattle.dyndep_file.proofs.Positions.{position_is, position_none}
 use Rattle.dyndep_file.proofs.Parts.{texts, text_at, same_length}

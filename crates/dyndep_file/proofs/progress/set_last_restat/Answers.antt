@@ -3,7 +3,7 @@ use Rattle.dyndep_file.specs.StatementValue.{StatementValue}
 use Rattle.dyndep_file.specs.contracts.statement.Statement.{the_view}
 use Rattle.std.specs.Vec.{vec_len}
 use Rattle.dyndep_file.proofs.LineLemmas.{last_set}
-use Rattle.dyndep_file.proofs.progress.set_last.Goals as goal
+use Rattle.dyndep_file.proofs.progress.set_last_restat.Goals as goal
 
 pub returns-in-Some : goal.returns-in-Some
 returns-in-Some c =
