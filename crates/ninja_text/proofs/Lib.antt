@@ -6,6 +6,7 @@ pub mod Canonical
 pub mod Components
 pub mod ListText
 pub mod KnownBytes
+pub mod Turns
 pub mod Writable
 pub mod ForCallers
 mod LineRows

@@ -24,6 +24,7 @@ mod assigning;
 #[cfg(test)]
 mod assigning_tests;
 mod assignments;
+mod calls;
 mod checking;
 mod counting;
 mod cutter;
@@ -48,6 +49,7 @@ mod unit;
 
 pub use assigning::assignment;
 pub use assignments::Assignment;
+pub use calls::{ReadCall, WriteCall};
 pub use counting::{Counted, Stopped};
 pub use cutter::LineCutter;
 pub use escapes::{escape_into, is_writable, one_meaning};

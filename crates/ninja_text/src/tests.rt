@@ -1,7 +1,11 @@
 //! What no clause says: worked examples, that each call succeeds where memory is left, and calls that fail.
 //!
 //! Where a growth is refused, a test ends with an error and no assertion fails.
-use crate::{Counted, Failure, Path, PathFault, Stopped, escape_into, is_writable, place};
+ghost use Rattle.std.specs.Prelude.{◌≡◌};
+
+use crate::{
+    Counted, Failure, Path, PathFault, ReadCall, Stopped, escape_into, is_writable, place,
+};
 use std::alloc::{AllocError, Global};
 use std::io;
 use std::io::{ErrorKind, Read, Write};
@@ -406,5 +410,40 @@ fn each_read_is_one_call_and_counted_where_it_fails(rt: HostRuntime) -> Result<(
     assert_eq!(rt; input.failures(), 1);
     let reader = input.into_inner();
     assert_eq!(rt; reader.calls, 3);
+    Ok(())
+}
+
+/// A source that counts its calls, and says so.
+#[derive(Drop)]
+struct Tally {
+    calls: u64,
+}
+
+impl ReadCall for Tally {
+    ghost use Rattle.std.specs.Prelude.{◌≡◌, ◌+◌, ◌-◌, ◌^◌, min, None};
+
+    ghost remaining = { λ _. None };
+
+    ghost reads = { λ old new _ _. new.calls ≡ min (old.calls + 1) (2 ^ 64 - 1) };
+
+    fn read_call(&mut self, _buf: &mut [u8]) -> io::Result<usize> {
+        self.calls = self.calls.saturating_add(1);
+        Err(ErrorKind::Interrupted.into())
+    }
+}
+
+/// How many calls of a source two reads make. That the answer is 2 is proved of what the source says of its calls.
+fn calls_of_two_reads() -> u64
+    ensures { result ≡ 2 }
+{
+    let mut input = Counted::new(Tally { calls: 0 });
+    let _ = input.read(&mut []);
+    let _ = input.read(&mut []);
+    input.into_inner().calls
+}
+
+#[test]
+fn two_reads_are_two_calls(rt: HostRuntime) -> Result<(), Fail> {
+    assert_eq!(rt; calls_of_two_reads(), 2);
     Ok(())
 }

@@ -15,7 +15,7 @@ pub returns-in-Ok-write_text-clause-text : goal.returns-in-Ok-write_text-clause-
 returns-in-Ok-write_text-clause-text g c =
     subst (λ text. IsWritten g.W.Write.contents c.args.out.now c.write_text.new.self text)
     (c.deref.ensures.value ∙ (made c.args.dyndep.now c.in-Ok.text c.in-Ok.ensures.text).1)
-    c.in-Ok-write_text.ensures
+    c.in-Ok-write_text.ensures.bytes
 
 pub returns-in-Ok-write_text-clause-meaning : goal.returns-in-Ok-write_text-clause-meaning
 returns-in-Ok-write_text-clause-meaning g c =
