@@ -178,3 +178,22 @@ is_reach count Needs from steps reached s h = record {
     (λ r. (h.exactly node).1 (reach_steps count Needs from steps s node r)),
   );
 }
+
+-- no cycle begins with what needs nothing
+pub none_without_needs : (graph : List (List ℕ)) (node : ℕ) → needs_of graph node ≡ [] → (cycle : List ℕ) → IsCycle (NodeNeeds graph) cycle → first_of cycle ≡ node → ⊥
+none_without_needs graph node e [] h begins = h
+none_without_needs graph node e (first ∷ others) h begins =
+    let next = next_on_cycle (NodeNeeds graph) first others h in
+    has_none next.0 (subst (λ xs. Contains xs next.0) (ap (needs_of graph) begins ∙ e) next.1)
+
+-- the last thing of a chain needs its end
+last_of_chain : (Needs : ℕ → ℕ → Type 0) (x : ℕ) (xs : List ℕ) (end : ℕ) → IsChain Needs (x ∷ xs) end → (last : ℕ) × Needs last end
+last_of_chain Needs x [] end h = (x, h)
+last_of_chain Needs x (next ∷ xs) end h = last_of_chain Needs next xs end h.1
+
+-- no cycle begins with what nothing needs
+pub none_without_users : (needs users : List (List ℕ)) (node : ℕ) → AreUsers needs users → needs_of users node ≡ [] → (cycle : List ℕ) → IsCycle (NodeNeeds needs) cycle → first_of cycle ≡ node → ⊥
+none_without_users needs users node u e [] h begins = h
+none_without_users needs users node u e (first ∷ others) h begins =
+    let last = last_of_chain (NodeNeeds needs) first others first h in
+    has_none last.0 (subst (λ xs. Contains xs last.0) (ap (needs_of users) begins ∙ e) (used needs users u first last.0 last.1))

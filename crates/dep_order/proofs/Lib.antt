@@ -5,6 +5,7 @@ pub mod Stuck
 pub mod Unique
 pub mod Transfers
 pub mod UserCounts
+pub mod Spans
 pub mod Releases
 pub mod Placings
 pub mod Searches

@@ -4,6 +4,7 @@ pub mod Cycles
 pub mod Rows
 pub mod Sortings
 pub mod Users
+pub mod Spans
 pub mod Placing
 pub mod Marks
 pub mod Steps

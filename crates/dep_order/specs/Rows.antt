@@ -1,7 +1,12 @@
--- Lists of vectors as lists of lists.
+-- Lists of vectors and of slices as lists of lists.
 use Rattle.std.specs.Prelude.{ℕ, List, map, Vec}
+use Rattle.std.specs.Borrow.{Bor}
 use Rattle.std.specs.declared.alloc.Global.{Global}
 
 -- the lists that these vectors hold
 abbrev pub rows : List (Vec ℕ Global) → List (List ℕ)
 rows vectors = map (λ row. row.items) vectors
+
+-- the lists that these slices are
+abbrev pub lists : List (Bor (List ℕ)) → List (List ℕ)
+lists slices = map (λ slice. slice.now) slices

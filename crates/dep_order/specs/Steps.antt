@@ -1,5 +1,6 @@
 -- The fewest steps from a node to each other one, and the least cycle that is read from them.
-use Rattle.std.specs.Prelude.{◌≡◌, ◌≢◌, ℕ, ◌+◌, ◌≤◌, List, length, Contains, Option, Some, None, ◌↔◌, IsSome, MatchOption, ◌⊎◌}
+use Rattle.std.specs.Prelude.{◌≡◌, ◌≢◌, ℕ, ◌+◌, ◌≤◌, List, length, Contains, Option, Some, None, ◌↔◌, IsSome, MatchOption, ◌⊎◌, Vec}
+use Rattle.std.specs.declared.alloc.Global.{Global}
 use Rattle.std.specs.List.Sorted.{IsStrictlyIncreasing}
 use Rattle.std.specs.Ordering.{nat_cmp}
 use Rattle.std.specs.declared.cmp.Ordering.TheVariants.{Greater}
@@ -48,6 +49,13 @@ pub record IsLeastFrom (Needs : ℕ → ℕ → Type 0) (first : ℕ) (list : Li
   pub begins_with : first_of list ≡ first
   pub shortest : (other : List ℕ) → IsCycle Needs other → first_of other ≡ first → length list ≤ length other
   pub least_list : (other : List ℕ) → IsCycle Needs other → first_of other ≡ first → length other ≡ length list → slice_cmp nat_cmp list other ≢ Greater
+
+-- the least cycle that begins with the first thing, or none where no cycle begins with it
+abbrev pub IsLeastFromIfAny : (ℕ → ℕ → Type 0) → ℕ → Option (Vec ℕ Global) → Type 0
+IsLeastFromIfAny Needs first found =
+    MatchOption found
+    ((cycle : List ℕ) → IsCycle Needs cycle → first_of cycle ≡ first → ⊥)
+    (λ cycle. IsLeastFrom Needs first cycle.items)
 
 -- the nodes that steps lead to, rising
 pub record AreReached (steps : List (Option ℕ)) (reached : List ℕ) : Type 0 where

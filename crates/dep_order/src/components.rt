@@ -5,7 +5,7 @@ ghost use Rattle.std.specs.Prelude.{◌≡◌, ◌<◌, ◌+◌, ◌↔◌, All,
 ghost use Rattle.dep_order.specs.Needs.{NeedsAreNodes};
 ghost use Rattle.dep_order.specs.Users.{AreUsers};
 ghost use Rattle.dep_order.specs.Components.{AreComponents, AreNumbersFrom, IsNumberAdded, SharesComponent};
-ghost use Rattle.dep_order.specs.Rows.{rows};
+ghost use Rattle.dep_order.specs.Rows.{lists};
 
 use crate::depth_first::postorder_of;
 use crate::marking::mark_row;
@@ -15,12 +15,12 @@ use std::alloc::{AllocError, Global};
 /// A number for each node: nodes have the same where each leads to the other.
 pub fn components_of(
     alloc: Global,
-    needs: &[Vec<usize>],
-    users: &[Vec<usize>],
+    needs: &[&[usize]],
+    users: &[&[usize]],
 ) -> Result<Vec<Option<usize>>, AllocError>
-    requires nodes { NeedsAreNodes (rows needs.now) }
-    requires users { AreUsers (rows needs.now) (rows users.now) }
-    ensures { IfOk result (λ components. AreComponents (rows needs.now) components.items) }
+    requires nodes { NeedsAreNodes (lists needs.now) }
+    requires users { AreUsers (lists needs.now) (lists users.now) }
+    ensures { IfOk result (λ components. AreComponents (lists needs.now) components.items) }
 {
     let mut postorder = postorder_of(alloc, needs)?;
     let mut components: Vec<Option<usize>> = vec![in alloc; None; users.len()]?;
@@ -33,17 +33,17 @@ pub fn components_of(
 /// Gives the number to the root and to all that users lead to from it, but for the nodes that have one.
 fn add_component(
     alloc: Global,
-    users: &[Vec<usize>],
+    users: &[&[usize]],
     root: usize,
     number: usize,
     numbers: &mut Vec<Option<usize>>,
 ) -> Result<(), AllocError>
-    requires nodes { NeedsAreNodes (rows users.now) }
+    requires nodes { NeedsAreNodes (lists users.now) }
     requires root { root < length users.now }
-    requires numbers { AreNumbersFrom (rows users.now) (number + 1) numbers.old.items }
-    ensures numbers { OnOk result (AreNumbersFrom (rows users.now) number numbers.new.items) }
+    requires numbers { AreNumbersFrom (lists users.now) (number + 1) numbers.old.items }
+    ensures numbers { OnOk result (AreNumbersFrom (lists users.now) number numbers.new.items) }
     ensures added { OnOk result
-        (IsNumberAdded (rows users.now) root number numbers.old.items numbers.new.items) }
+        (IsNumberAdded (lists users.now) root number numbers.old.items numbers.new.items) }
 {
     let mut waiting = Vec::new(alloc);
     mark_row(&[root], number, numbers, &mut waiting)?;

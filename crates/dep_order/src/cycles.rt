@@ -1,10 +1,11 @@
-//! The least cycle: its first node by components, its length by levels, and its nodes one by one.
-ghost use Rattle.std.specs.Prelude.{◌≡◌, ◌<◌, ◌≤◌, ℕ, All, IfOk, length, slice_index, Contains, List, ◌∷◌, Some};
+//! The least cycle: its first node by a search or by components, its length by levels, and its nodes
+//! one by one.
+ghost use Rattle.std.specs.Prelude.{◌≡◌, ◌<◌, ◌≤◌, ℕ, All, IfOk, length, slice_index, Contains, List, Some};
 ghost use Rattle.dep_order.specs.Needs.{NodeNeeds, NeedsAreNodes, needs_of};
 ghost use Rattle.dep_order.specs.Cycles.{IsCycle, IsLeastCycle, first_of};
 ghost use Rattle.dep_order.specs.Users.{AreUsers};
-ghost use Rattle.dep_order.specs.Rows.{rows};
-ghost use Rattle.dep_order.specs.Steps.{AreSteps, IsFewest, IsLeastAt, IsLeastFrom, LeadsBack};
+ghost use Rattle.dep_order.specs.Rows.{lists};
+ghost use Rattle.dep_order.specs.Steps.{AreSteps, IsFewest, IsLeastAt, IsLeastFrom, IsLeastFromIfAny, LeadsBack};
 ghost use Rattle.dep_order.specs.Marks.{mark_of};
 
 use crate::components::{components_of, shares_component};
@@ -15,40 +16,82 @@ use std::alloc::{AllocError, Global};
 /// The least cycle of a digraph that has one.
 pub fn least_cycle(
     alloc: Global,
-    needs: &[Vec<usize>],
-    users: &[Vec<usize>],
+    needs: &[&[usize]],
+    users: &[&[usize]],
 ) -> Result<Vec<usize>, AllocError>
-    requires nodes { NeedsAreNodes (rows needs.now) }
-    requires users { AreUsers (rows needs.now) (rows users.now) }
-    requires cycle { (cycle : List ℕ) × IsCycle (NodeNeeds (rows needs.now)) cycle }
-    ensures { IfOk result (λ cycle. IsLeastCycle (NodeNeeds (rows needs.now)) cycle.items) }
+    requires nodes { NeedsAreNodes (lists needs.now) }
+    requires users { AreUsers (lists needs.now) (lists users.now) }
+    requires cycle { (cycle : List ℕ) × IsCycle (NodeNeeds (lists needs.now)) cycle }
+    ensures { IfOk result (λ cycle. IsLeastCycle (NodeNeeds (lists needs.now)) cycle.items) }
 {
-    let components = components_of(alloc, needs, users)?;
-    for first in 0..needs.len() {
-        if shares_component(row_of(needs, first), components.as_slice(), first) {
-            return cycle_through(alloc, needs, users, first);
+    // where many nodes lie on cycles the first suspect mostly does, and one search saves the components
+    let suspect = first_suspect(needs, users);
+    match cycle_through(alloc, needs, users, suspect)? {
+        Some(cycle) => Ok(cycle),
+        None => cycle_by_components(alloc, needs, users),
+    }
+}
+
+/// The first node that needs a node and that a node needs: no cycle has a lower one.
+fn first_suspect(needs: &[&[usize]], users: &[&[usize]]) -> usize
+    requires nodes { NeedsAreNodes (lists needs.now) }
+    requires users { AreUsers (lists needs.now) (lists users.now) }
+    requires cycle { (cycle : List ℕ) × IsCycle (NodeNeeds (lists needs.now)) cycle }
+    ensures node { result < length needs.now }
+    ensures none_lower { (cycle : List ℕ)
+        → IsCycle (NodeNeeds (lists needs.now)) cycle
+        → result ≤ first_of cycle }
+{
+    for node in 0..needs.len() {
+        if !row_of(needs, node).is_empty() && !row_of(users, node).is_empty() {
+            return node;
         }
     }
     unreachable!()
 }
 
-/// The least cycle that begins with the first node, which lies on one.
+/// The least cycle of a digraph that has one, from the first node that needs one of its component.
+fn cycle_by_components(
+    alloc: Global,
+    needs: &[&[usize]],
+    users: &[&[usize]],
+) -> Result<Vec<usize>, AllocError>
+    requires nodes { NeedsAreNodes (lists needs.now) }
+    requires users { AreUsers (lists needs.now) (lists users.now) }
+    requires cycle { (cycle : List ℕ) × IsCycle (NodeNeeds (lists needs.now)) cycle }
+    ensures { IfOk result (λ cycle. IsLeastCycle (NodeNeeds (lists needs.now)) cycle.items) }
+{
+    let components = components_of(alloc, needs, users)?;
+    for first in 0..needs.len() {
+        if shares_component(row_of(needs, first), components.as_slice(), first) {
+            return match cycle_through(alloc, needs, users, first)? {
+                Some(cycle) => Ok(cycle),
+                None => unreachable!(),
+            };
+        }
+    }
+    unreachable!()
+}
+
+/// The least cycle that begins with the first node, if any does.
 fn cycle_through(
     alloc: Global,
-    needs: &[Vec<usize>],
-    users: &[Vec<usize>],
+    needs: &[&[usize]],
+    users: &[&[usize]],
     first: usize,
-) -> Result<Vec<usize>, AllocError>
-    requires nodes { NeedsAreNodes (rows needs.now) }
-    requires users { AreUsers (rows needs.now) (rows users.now) }
+) -> Result<Option<Vec<usize>>, AllocError>
+    requires nodes { NeedsAreNodes (lists needs.now) }
+    requires users { AreUsers (lists needs.now) (lists users.now) }
     requires first { first < length needs.now }
-    requires cycle { (others : List ℕ) × IsCycle (NodeNeeds (rows needs.now)) (first ∷ others) }
-    ensures { IfOk result (λ cycle. IsLeastFrom (NodeNeeds (rows needs.now)) first cycle.items) }
+    ensures { IfOk result (IsLeastFromIfAny (NodeNeeds (lists needs.now)) first) }
 {
     let steps = steps_from(alloc, users, first)?;
     match fewest(row_of(needs, first), steps.as_slice()) {
-        None => unreachable!(),
-        Some(count) => cycle_from(alloc, needs, steps.as_slice(), first, count),
+        None => Ok(None),
+        Some(count) => {
+            let cycle = cycle_from(alloc, needs, steps.as_slice(), first, count)?;
+            Ok(Some(cycle))
+        }
     }
 }
 
@@ -72,16 +115,16 @@ fn fewest(row: &[usize], steps: &[Option<usize>]) -> Option<usize>
 /// The least cycle from the first node on whose second node is so many steps away from it.
 fn cycle_from(
     alloc: Global,
-    needs: &[Vec<usize>],
+    needs: &[&[usize]],
     steps: &[Option<usize>],
     first: usize,
     count: usize,
 ) -> Result<Vec<usize>, AllocError>
-    requires nodes { NeedsAreNodes (rows needs.now) }
+    requires nodes { NeedsAreNodes (lists needs.now) }
     requires first { first < length needs.now }
-    requires steps { AreSteps (length needs.now) (LeadsBack (NodeNeeds (rows needs.now))) first steps.now }
-    requires fewest { IsFewest (needs_of (rows needs.now) first) steps.now (Some count) }
-    ensures { IfOk result (λ cycle. IsLeastFrom (NodeNeeds (rows needs.now)) first cycle.items) }
+    requires steps { AreSteps (length needs.now) (LeadsBack (NodeNeeds (lists needs.now))) first steps.now }
+    requires fewest { IsFewest (needs_of (lists needs.now) first) steps.now (Some count) }
+    ensures { IfOk result (λ cycle. IsLeastFrom (NodeNeeds (lists needs.now)) first cycle.items) }
 {
     let mut cycle = vec![in alloc; first]?;
     let mut node = first;

@@ -2,15 +2,15 @@
 ghost use Rattle.std.specs.Prelude.{◌≡◌, ◌<◌, All, IfOk, OnOk, length, true, []};
 ghost use Rattle.dep_order.specs.Needs.{NeedsAreNodes};
 ghost use Rattle.dep_order.specs.Postorders.{IsPostorder, IsInDepth, IsFirstUnseen, SeesMore, is_seen};
-ghost use Rattle.dep_order.specs.Rows.{rows};
+ghost use Rattle.dep_order.specs.Rows.{lists};
 
 use crate::rows::row_of;
 use std::alloc::{AllocError, Global};
 
 /// The nodes in postorder, as a search in depth along needs leaves them.
-pub fn postorder_of(alloc: Global, needs: &[Vec<usize>]) -> Result<Vec<usize>, AllocError>
-    requires { NeedsAreNodes (rows needs.now) }
-    ensures { IfOk result (λ postorder. IsPostorder (rows needs.now) postorder.items) }
+pub fn postorder_of(alloc: Global, needs: &[&[usize]]) -> Result<Vec<usize>, AllocError>
+    requires { NeedsAreNodes (lists needs.now) }
+    ensures { IfOk result (λ postorder. IsPostorder (lists needs.now) postorder.items) }
 {
     let mut seen = vec![in alloc; false; needs.len()]?;
     let mut places = vec![in alloc; 0; needs.len()]?;
@@ -24,17 +24,17 @@ pub fn postorder_of(alloc: Global, needs: &[Vec<usize>]) -> Result<Vec<usize>, A
 /// Searches in depth from the root, where it isn't seen yet, and adds each node as it is left.
 fn search_from(
     alloc: Global,
-    needs: &[Vec<usize>],
+    needs: &[&[usize]],
     root: usize,
     seen: &mut Vec<bool>,
     places: &mut Vec<usize>,
     left: &mut Vec<usize>,
 ) -> Result<(), AllocError>
-    requires nodes { NeedsAreNodes (rows needs.now) }
+    requires nodes { NeedsAreNodes (lists needs.now) }
     requires root { root < length needs.now }
-    requires so_far { IsInDepth (rows needs.now) seen.old.items places.old.items [] left.old.items }
+    requires so_far { IsInDepth (lists needs.now) seen.old.items places.old.items [] left.old.items }
     ensures searched { OnOk result
-        (IsInDepth (rows needs.now) seen.new.items places.new.items [] left.new.items) }
+        (IsInDepth (lists needs.now) seen.new.items places.new.items [] left.new.items) }
     ensures root { OnOk result (is_seen seen.new.items root ≡ true) }
     ensures kept { OnOk result (SeesMore seen.old.items seen.new.items) }
 {

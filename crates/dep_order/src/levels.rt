@@ -1,7 +1,7 @@
 //! How many steps lead from a node to each other, found by levels.
 ghost use Rattle.std.specs.Prelude.{◌≡◌, ◌<◌, All, IfOk, OnOk, length};
 ghost use Rattle.dep_order.specs.Needs.{NodeNeeds, NeedsAreNodes};
-ghost use Rattle.dep_order.specs.Rows.{rows};
+ghost use Rattle.dep_order.specs.Rows.{lists};
 ghost use Rattle.dep_order.specs.Steps.{AreSteps, AreAdvanced, AreReached};
 
 use crate::marking::mark_row;
@@ -11,21 +11,21 @@ use std::alloc::{AllocError, Global};
 /// The fewest steps from the start to each node; each node leads to those of its list.
 pub fn steps_from(
     alloc: Global,
-    lists: &[Vec<usize>],
+    slices: &[&[usize]],
     start: usize,
 ) -> Result<Vec<Option<usize>>, AllocError>
-    requires nodes { NeedsAreNodes (rows lists.now) }
-    requires start { start < length lists.now }
+    requires nodes { NeedsAreNodes (lists slices.now) }
+    requires start { start < length slices.now }
     ensures { IfOk result
-        (λ steps. AreSteps (length lists.now) (NodeNeeds (rows lists.now)) start steps.items) }
+        (λ steps. AreSteps (length slices.now) (NodeNeeds (lists slices.now)) start steps.items) }
 {
-    let mut steps: Vec<Option<usize>> = vec![in alloc; None; lists.len()]?;
+    let mut steps: Vec<Option<usize>> = vec![in alloc; None; slices.len()]?;
     steps[start] = Some(0);
     let mut frontier = vec![in alloc; start]?;
     let mut count = 0;
     'levels: while !frontier.is_empty() {
         count += 1;
-        frontier = advance(alloc, lists, frontier.as_slice(), count, &mut steps)?;
+        frontier = advance(alloc, slices, frontier.as_slice(), count, &mut steps)?;
     }
     Ok(steps)
 }
@@ -33,21 +33,21 @@ pub fn steps_from(
 /// The nodes that the frontier leads to and that no steps led to: they are now so many steps away.
 fn advance(
     alloc: Global,
-    lists: &[Vec<usize>],
+    slices: &[&[usize]],
     frontier: &[usize],
     count: usize,
     steps: &mut Vec<Option<usize>>,
 ) -> Result<Vec<usize>, AllocError>
-    requires nodes { NeedsAreNodes (rows lists.now) }
-    requires frontier { All (λ node. node < length lists.now) frontier.now }
-    requires as_many { length steps.old.items ≡ length lists.now }
+    requires nodes { NeedsAreNodes (lists slices.now) }
+    requires frontier { All (λ node. node < length slices.now) frontier.now }
+    requires as_many { length steps.old.items ≡ length slices.now }
     ensures { IfOk result
         (λ next.
-        AreAdvanced (rows lists.now) frontier.now count steps.old.items steps.new.items next.items) }
+        AreAdvanced (lists slices.now) frontier.now count steps.old.items steps.new.items next.items) }
 {
     let mut next = Vec::new(alloc);
     for node in frontier {
-        mark_row(row_of(lists, *node), count, steps, &mut next)?;
+        mark_row(row_of(slices, *node), count, steps, &mut next)?;
     }
     Ok(next)
 }

@@ -30,12 +30,13 @@ mod users;
 
 ghost use Rattle.std.specs.Prelude.{◌≡◌, ◌<◌, length, IfOk};
 ghost use Rattle.dep_order.specs.Needs.{NodeNeeds, NeedsAreNodes, IsReach};
-ghost use Rattle.dep_order.specs.Rows.{rows};
+ghost use Rattle.dep_order.specs.Rows.{rows, lists};
 ghost use Rattle.dep_order.specs.Sortings.{IsSortingOf};
 
 use cycles::least_cycle;
 use levels::{reached_nodes, steps_from};
 use placing::place_all;
+use rows::{lend_parts, lend_rows};
 use std::alloc::{AllocError, Global};
 use std::marker::Model;
 use users::users_of;
@@ -86,7 +87,8 @@ pub enum Sorting {
 pub fn order(alloc: Global, graph: &Digraph) -> Result<Sorting, AllocError>
     ensures { IfOk result (IsSortingOf (length graph.now) (NodeNeeds graph.now)) }
 {
-    sort_nodes(alloc, graph.needs.as_slice())
+    let needs = lend_rows(alloc, graph.needs.as_slice())?;
+    sort_nodes(alloc, needs.as_slice())
 }
 
 /// The node itself and all that chains of needs lead to from it, in rising order. The error is want
@@ -95,15 +97,17 @@ pub fn reach(alloc: Global, graph: &Digraph, from: usize) -> Result<Vec<usize>, 
     requires { from < length graph.now }
     ensures { IfOk result (λ reached. IsReach (NodeNeeds graph.now) from reached.items) }
 {
-    nodes_reached(alloc, graph.needs.as_slice(), from)
+    let needs = lend_rows(alloc, graph.needs.as_slice())?;
+    nodes_reached(alloc, needs.as_slice(), from)
 }
 
 /// The order by smallest numbers, or the least cycle; each node needs those of its list.
-fn sort_nodes(alloc: Global, needs: &[Vec<usize>]) -> Result<Sorting, AllocError>
-    requires { NeedsAreNodes (rows needs.now) }
-    ensures { IfOk result (IsSortingOf (length (rows needs.now)) (NodeNeeds (rows needs.now))) }
+fn sort_nodes(alloc: Global, needs: &[&[usize]]) -> Result<Sorting, AllocError>
+    requires { NeedsAreNodes (lists needs.now) }
+    ensures { IfOk result (IsSortingOf (length (lists needs.now)) (NodeNeeds (lists needs.now))) }
 {
-    let users = users_of(alloc, needs)?;
+    let user_parts = users_of(alloc, needs)?;
+    let users = lend_parts(alloc, &user_parts)?;
     let placed = place_all(alloc, needs, users.as_slice())?;
     if placed.len() == needs.len() {
         Ok(Sorting::Order(placed))
@@ -114,10 +118,10 @@ fn sort_nodes(alloc: Global, needs: &[Vec<usize>]) -> Result<Sorting, AllocError
 }
 
 /// The node and all that chains of needs lead to from it; each node needs those of its list.
-fn nodes_reached(alloc: Global, needs: &[Vec<usize>], from: usize) -> Result<Vec<usize>, AllocError>
-    requires nodes { NeedsAreNodes (rows needs.now) }
+fn nodes_reached(alloc: Global, needs: &[&[usize]], from: usize) -> Result<Vec<usize>, AllocError>
+    requires nodes { NeedsAreNodes (lists needs.now) }
     requires from { from < length needs.now }
-    ensures { IfOk result (λ reached. IsReach (NodeNeeds (rows needs.now)) from reached.items) }
+    ensures { IfOk result (λ reached. IsReach (NodeNeeds (lists needs.now)) from reached.items) }
 {
     let steps = steps_from(alloc, needs, from)?;
     reached_nodes(alloc, steps.as_slice())

@@ -1,5 +1,5 @@
 use Rattle.std.proofs.Common.{◌+◌, length}
-use Rattle.dep_order.specs.Rows.{rows}
+use Rattle.dep_order.specs.Rows.{lists}
 use Rattle.dep_order.specs.Marks.{unmarked}
 use Rattle.dep_order.specs.Components.{IsNumberAdded}
 use Rattle.dep_order.proofs.Connected.{AreNumbersSoFar}
@@ -7,8 +7,8 @@ use Rattle.dep_order.proofs.components.add_component.Given as goal
 
 abbrev pub invariant-loop-node : goal.invariant-loop-node
 invariant-loop-node l = record {
-  so_far : AreNumbersSoFar (rows l.users) l.number l.numbers.items l.waiting.items;
-  added : IsNumberAdded (rows l.users) l.root l.number l.fn.numbers.items l.numbers.items;
+  so_far : AreNumbersSoFar (lists l.users) l.number l.numbers.items l.waiting.items;
+  added : IsNumberAdded (lists l.users) l.root l.number l.fn.numbers.items l.numbers.items;
 }
 
 -- each turn numbers a node or takes one that waited

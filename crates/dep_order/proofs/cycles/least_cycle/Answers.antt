@@ -1,38 +1,9 @@
-use Rattle.std.proofs.Common.{arith, sym, subst}
-use Rattle.std.proofs.lemmas.Bool.{false≢true}
-use Rattle.std.proofs.lemmas.Result.{IfOk-weaker}
-use Rattle.dep_order.specs.Rows.{rows}
-use Rattle.dep_order.specs.Needs.{NodeNeeds, needs_of}
-use Rattle.dep_order.specs.Components.{SharesComponent}
-use Rattle.dep_order.specs.Steps.{IsLeastFrom}
-use Rattle.dep_order.proofs.UserCounts.{length_rows}
-use Rattle.dep_order.proofs.Answered.{least_of_all, none_from, first_in_range}
-use Rattle.dep_order.proofs.Connected.{shared_from, cycle_from_shared}
+use Rattle.std.proofs.Common.{subst}
+use Rattle.dep_order.specs.Rows.{lists}
+use Rattle.dep_order.specs.Needs.{NodeNeeds}
+use Rattle.dep_order.specs.Steps.{IsLeastFromIfAny}
+use Rattle.dep_order.proofs.Answered.{least_of_all}
 use Rattle.dep_order.proofs.cycles.least_cycle.Goals as goal
 
-pub cycle_through-requires-clause-cycle : goal.cycle_through-requires-clause-cycle
-cycle_through-requires-clause-cycle c =
-    let own : SharesComponent (needs_of (rows c.args.needs.now) c.loop-first.first) c.in_ok-components.components.items c.loop-first.first =
-    subst (λ row. SharesComponent row c.in_ok-components.components.items c.loop-first.first) c.row_of.ensures (subst (λ xs. SharesComponent c.row_of.result.now xs c.loop-first.first) c.as_slice.ensures.value (c.shares_component.ensures.0 c.if-shares_component.true)) in
-    cycle_from_shared (rows c.args.needs.now) c.in_ok-components.components.items c.loop-first.first c.requires.nodes c.in_ok-components.ensures own
-
-pub returns-then-shares_component : goal.returns-then-shares_component
-returns-then-shares_component c =
-    IfOk-weaker c.cycle_through.result (λ cycle. IsLeastFrom (NodeNeeds (rows c.args.needs.now)) c.loop-first.first cycle.items) _
-    (λ cycle h. least_of_all (NodeNeeds (rows c.args.needs.now)) c.loop-first.first cycle.items c.loop-first.invariant h) c.cycle_through.ensures
-
-pub loop-first-preserved : goal.loop-first-preserved
-loop-first-preserved c =
-    none_from (NodeNeeds (rows c.args.needs.now)) c.loop-first.first
-    (λ cycle h begins.
-    let own : SharesComponent (needs_of (rows c.args.needs.now) c.loop-first.first) c.in_ok-components.components.items c.loop-first.first =
-    shared_from (rows c.args.needs.now) c.in_ok-components.components.items c.loop-first.first cycle c.requires.nodes c.in_ok-components.ensures h begins in
-    let seen : SharesComponent c.row_of.result.now c.as_slice.result.now c.loop-first.first =
-    subst (λ row. SharesComponent row c.as_slice.result.now c.loop-first.first) (sym c.row_of.ensures) (subst (λ xs. SharesComponent (needs_of (rows c.args.needs.now) c.loop-first.first) xs c.loop-first.first) (sym c.as_slice.ensures.value) own) in
-    false≢true (c.if-shares_component.ensures.1 seen))
-    c.loop-first.invariant
-
-pub unreachable-requires : goal.unreachable-requires
-unreachable-requires c =
-    let cycle = c.requires.cycle in
-    absurd (omega (arith, c.loop-first.invariant cycle.0 cycle.1, first_in_range (rows c.args.needs.now) cycle.0 c.requires.nodes cycle.1, length_rows c.args.needs.now))
+pub returns-in-Some : goal.returns-in-Some
+returns-in-Some c = least_of_all (NodeNeeds (lists c.args.needs.now)) c.first_suspect-suspect.result c.in-Some.cycle.items c.first_suspect-suspect.ensures.none_lower (subst (IsLeastFromIfAny (NodeNeeds (lists c.args.needs.now)) c.first_suspect-suspect.result) c.in-Some.is c.in_ok-cycle.ensures)

@@ -1,8 +1,8 @@
 use Rattle.std.proofs.Common.{arith}
-use Rattle.dep_order.specs.Rows.{rows}
-use Rattle.dep_order.proofs.UserCounts.{length_rows}
+use Rattle.dep_order.specs.Rows.{lists}
+use Rattle.dep_order.proofs.UserCounts.{length_lists}
 use Rattle.dep_order.proofs.Postorders.{all_left}
 use Rattle.dep_order.proofs.depth_first.postorder_of.Goals as goal
 
 pub returns : goal.returns
-returns c = all_left (rows c.args.needs.now) c.loop-root.seen.items c.loop-root.places.items c.loop-root.left.items (λ node lt. c.loop-root.invariant.1 node (omega (arith, lt, length_rows c.args.needs.now))) c.loop-root.invariant.0
+returns c = all_left (lists c.args.needs.now) c.loop-root.seen.items c.loop-root.places.items c.loop-root.left.items (λ node lt. c.loop-root.invariant.1 node (omega (arith, lt, length_lists c.args.needs.now))) c.loop-root.invariant.0
