@@ -1,3 +1,5 @@
 pub mod Answers
 pub mod One
 pub mod Show
+pub mod Statements
+pub mod TableFaults

@@ -6,6 +6,7 @@
 //!
 //! - `words` tells what the words ask for.
 //! - `one` and `show` are the commands of these names. Their promises are the contracts of `one_run` and `show_run`.
+//! - `statements` makes the statements of a module table, and `table_fault` tells why there is no table.
 //! - `answer` is what a command answers, and the line that it fails with.
 //!
 //! It stands on the library crates of this repository, and on `clap` for the words.
@@ -24,6 +25,8 @@ use words::{Task, task_of};
 mod answer;
 mod one;
 mod show;
+mod statements;
+mod table_fault;
 mod words;
 
 fn main(rt: HostRuntime) -> ExitCode {

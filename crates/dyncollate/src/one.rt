@@ -1,26 +1,34 @@
 //! The command `one`: the dyndep text of one scan document.
 
-ghost use Rattle.std.specs.Prelude.{◌≡◌, List, map, not, IfOk, None};
-ghost use Rattle.std.specs.List.{list_any};
+ghost use Rattle.std.specs.Prelude.{◌≡◌, List, [], IfOk, IfErr, None};
+ghost use Rattle.ninja_text.specs.Failure.{ForFault};
 ghost use Rattle.scan_docs.specs.Scan.{RuleValue, AreRules};
 ghost use Rattle.scan_docs.specs.ScanChecks.{scan_checks};
 ghost use Rattle.scan_docs.specs.Document.{IsAccepted, IsRefused};
 ghost use Rattle.scan_docs.specs.declared.fault.DocFault.{DocFault};
-ghost use Rattle.dyncollate.specs.One.{setting_of, statement_of, requires_some, text_of_rules};
-ghost use Rattle.dyncollate.specs.Answers.{AnswersText};
+ghost use Rattle.module_table.specs.Faults.{IsTold};
+ghost use Rattle.module_table.specs.declared.fault.TableFault.{TableFault};
+ghost use Rattle.dyncollate.specs.One.{setting_of, table_of, HasFault, HasNoFault, text_of_rules, TellsFault};
+ghost use Rattle.dyncollate.specs.TableFaults.{fault_text};
+ghost use Rattle.dyncollate.specs.Answers.{line, Refuses, AnswersText};
 
 use crate::answer::Answer;
-use dyndep_file::{Dyndep, Statement};
-use ninja_text::{Failure, Path};
-use scan_docs::{Name, Rule, Setting, scan};
+use crate::statements::statements_of;
+use crate::table_fault::fault_text;
+use module_table::{Table, TableFault};
+use ninja_text::Failure;
+use scan_docs::{DocFault, Rule, Setting, scan};
 use std::alloc::{AllocError, Global};
 
 /// Runs `one SCAN DIR EXT` on the bytes of the scan document, the folder that modules are compiled to and the ending of
-/// their files.
+/// their files. A module that a rule requires is looked up among those that the document's own rules provide.
 pub fn one_run(alloc: Global, document: &[u8], dir: &str, ext: &str) -> Result<Answer, AllocError>
     ensures accepted { IfOk result (λ answer. (rules : List RuleValue)
         → IsAccepted (scan_checks (setting_of dir.now ext.now)) (AreRules (setting_of dir.now ext.now)) document.now rules
-        → AnswersText (text_of_rules rules) answer) }
+        → HasNoFault rules → AnswersText (text_of_rules rules) answer) }
+    ensures faulty { IfOk result (λ answer. (rules : List RuleValue) (fault : TableFault)
+        → IsAccepted (scan_checks (setting_of dir.now ext.now)) (AreRules (setting_of dir.now ext.now)) document.now rules
+        → HasFault rules fault → TellsFault rules answer) }
     ensures refused { IfOk result (λ answer. (fault : DocFault)
         → IsRefused (scan_checks (setting_of dir.now ext.now)) document.now fault
         → AnswersText None answer) }
@@ -44,77 +52,68 @@ fn setting_of(alloc: Global, dir: &str, ext: &str) -> Result<Setting, AllocError
 fn document_run(alloc: Global, document: &[u8], setting: &Setting) -> Result<Answer, AllocError>
     ensures accepted { IfOk result (λ answer. (rules : List RuleValue)
         → IsAccepted (scan_checks setting.now) (AreRules setting.now) document.now rules
-        → AnswersText (text_of_rules rules) answer) }
+        → HasNoFault rules → AnswersText (text_of_rules rules) answer) }
+    ensures faulty { IfOk result (λ answer. (rules : List RuleValue) (fault : TableFault)
+        → IsAccepted (scan_checks setting.now) (AreRules setting.now) document.now rules
+        → HasFault rules fault → TellsFault rules answer) }
     ensures refused { IfOk result (λ answer. (fault : DocFault)
         → IsRefused (scan_checks setting.now) document.now fault
         → AnswersText None answer) }
 {
     match scan(alloc, document, setting) {
-        Ok(rules) => rules_run(alloc, &rules),
+        Ok(rules) => match rules_run(alloc, rules) {
+            Ok(answer) => Ok(answer),
+            Err(Failure::Memory) => Err(AllocError),
+            Err(Failure::Fault(fault)) => table_refused(alloc, document, setting, &fault),
+        },
         Err(Failure::Memory) => Err(AllocError),
-        Err(Failure::Fault(fault)) => {
-            let message = format!(in alloc; "scan 0: {fault}")?;
-            Answer::failed(alloc, 1, message.as_bytes())
+        Err(Failure::Fault(fault)) => document_refused(alloc, &fault),
+    }
+}
+
+/// The answer to a document with these rules, or the fault of their table.
+fn rules_run(alloc: Global, rules: Vec<Rule>) -> Result<Answer, Failure<TableFault>>
+    ensures text { IfOk result (AnswersText (text_of_rules rules.items)) }
+    ensures no_fault { IfOk result (λ _. HasNoFault rules.items) }
+    ensures fault { IfErr result (ForFault (IsTold (table_of rules.items) [])) }
+{
+    let table = Table::build(alloc, rules, Vec::new(alloc), &[])?;
+    let dyndep = statements_of(alloc, &table)?;
+    let answer = Answer::of_dyndep(alloc, &dyndep)?;
+    Ok(answer)
+}
+
+/// The answer to a document whose rules' table has this fault.
+///
+/// The table took the rules, and the line tells objects by their paths. So the document is read once more, which only a run
+/// that is refused pays for.
+fn table_refused(
+    alloc: Global,
+    document: &[u8],
+    setting: &Setting,
+    fault: &TableFault,
+) -> Result<Answer, AllocError>
+    ensures refused { IfOk result Refuses }
+    ensures message { IfOk result (λ answer. (rules : List RuleValue)
+        → IsAccepted (scan_checks setting.now) (AreRules setting.now) document.now rules
+        → answer.err.items ≡ line (fault_text rules [] fault.now)) }
+{
+    match scan(alloc, document, setting) {
+        Ok(rules) => {
+            let message = fault_text(alloc, fault, &rules, &[])?;
+            Answer::failed(alloc, 1, &message)
         }
+        Err(Failure::Memory) => Err(AllocError),
+        Err(Failure::Fault(fault)) => document_refused(alloc, &fault),
     }
 }
 
-/// The answer to a document with these rules.
-fn rules_run(alloc: Global, rules: &[Rule]) -> Result<Answer, AllocError>
-    ensures { IfOk result (AnswersText (text_of_rules rules.now)) }
+/// The answer to a document that is refused.
+fn document_refused(alloc: Global, fault: &DocFault) -> Result<Answer, AllocError>
+    ensures { IfOk result Refuses }
 {
-    if is_any_required(rules) {
-        return Answer::failed(alloc, 1, b"scan 0: not read yet");
-    }
-    let dyndep = dyndep_of(alloc, rules)?;
-    Answer::of_dyndep(alloc, &dyndep)
-}
-
-/// Whether a rule requires a module.
-fn is_any_required(rules: &[Rule]) -> bool
-    ensures { result ≡ list_any requires_some rules.now }
-{
-    for rule in rules {
-        if !rule.required.is_empty() {
-            return true;
-        }
-    }
-    false
-}
-
-/// One statement a rule, in the order of the rules.
-fn dyndep_of(alloc: Global, rules: &[Rule]) -> Result<Dyndep, AllocError>
-    ensures { IfOk result (λ dyndep. dyndep ≡ map statement_of rules.now) }
-{
-    let mut statements = Vec::with_capacity(alloc, rules.len())?;
-    for rule in rules {
-        statements.push(statement_of(alloc, rule)?)?;
-    }
-    Ok(Dyndep { statements })
-}
-
-/// The statement of a rule: its object, with the files of the modules that it provides as implicit outputs.
-fn statement_of(alloc: Global, rule: &Rule) -> Result<Statement, AllocError>
-    ensures { IfOk result (λ statement. statement ≡ statement_of rule.now) }
-{
-    let implicit_outputs = files_of(alloc, &rule.provided)?;
-    Ok(Statement {
-        output: Vec::from_slice(alloc, rule.object.bytes())?,
-        implicit_outputs,
-        implicit_inputs: Vec::new(alloc),
-        restat: !rule.provided.is_empty(),
-    })
-}
-
-/// The files of modules.
-fn files_of(alloc: Global, modules: &[(Name, Path)]) -> Result<Vec<Vec<u8>>, AllocError>
-    ensures { IfOk result (λ files. map (λ file. file.items) files.items ≡ map (λ provided. provided.1) modules.now) }
-{
-    let mut files = Vec::with_capacity(alloc, modules.len())?;
-    for module in modules {
-        files.push(Vec::from_slice(alloc, module.1.bytes())?)?;
-    }
-    Ok(files)
+    let message = format!(in alloc; "scan 0: {fault}")?;
+    Answer::failed(alloc, 1, message.as_bytes())
 }
 
 #[cfg(test)]

@@ -1,3 +1,5 @@
+mod collation;
+
 use super::one_run;
 use std::process::Abort;
 use std::test::Fail;
@@ -177,15 +179,6 @@ fn refusals_of_a_rule_have_their_places(rt: HostRuntime) -> Result<(), Fail> {
         &rt,
         "{\"primary-output\":\"a.o\",\"provides\":[{\"logical-name\":\"A\",\"is-interface\":1}]}",
         "dyncollate: scan 0: S3 BadShape rule 0 provides 0 member is-interface\n",
-    )
-}
-
-#[test]
-fn a_rule_that_requires_a_module_is_not_read_yet(rt: HostRuntime) -> Result<(), Fail> {
-    refuses_rule(
-        &rt,
-        "{\"primary-output\":\"a.o\",\"requires\":[{\"logical-name\":\"B\"}]}",
-        "dyncollate: scan 0: not read yet\n",
     )
 }
 

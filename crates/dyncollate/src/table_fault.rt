@@ -1,0 +1,186 @@
+//! How the faults of a module table are told.
+
+ghost use Rattle.std.specs.Prelude.{◌≡◌, ◌++◌, IfOk, codes};
+ghost use Rattle.std.specs.List.{flat_map};
+ghost use Rattle.dyncollate.specs.TableFaults.{object_path, target_name, maker_text, made_twice_text, requirement_text, private_text, ring_text, fault_name, fault_subject, fault_text};
+
+use module_table::{Maker, TableFault};
+use scan_docs::{Info, Name, Rule, TargetName};
+use std::alloc::{AllocError, Global};
+
+/// What is told of a fault of the table of these objects and infos: its code, its name and what it is about. Objects are
+/// told by their paths, and infos by the names of their targets.
+pub fn fault_text(
+    alloc: Global,
+    fault: &TableFault,
+    objects: &[Rule],
+    infos: &[Info],
+) -> Result<Vec<u8>, AllocError>
+    ensures { IfOk result (λ text. text.items ≡ fault_text objects.now infos.now fault.now) }
+{
+    let subject = fault_subject(alloc, fault, Makers { objects, infos })?;
+    joined(alloc, &[fault_name(fault), b" ", &subject])
+}
+
+/// The objects and the infos that a fault tells by number.
+#[derive(Clone, Copy)]
+struct Makers<'t> {
+    objects: &'t [Rule],
+    infos: &'t [Info],
+}
+
+/// The code and the name of a fault.
+fn fault_name(fault: &TableFault) -> &'static [u8]
+    ensures { result.now ≡ fault_name fault.now }
+{
+    match fault {
+        TableFault::ObjectTwice { .. } => b"M1 ObjectTwice",
+        TableFault::InfoTwice { .. } => b"M2 InfoTwice",
+        TableFault::ProvidedTwice { .. } => b"M3 ProvidedTwice",
+        TableFault::BmiTwice { .. } => b"M4 BmiTwice",
+        TableFault::ModuleUnknown { .. } => b"M5 ModuleUnknown",
+        TableFault::InfoUnknown { .. } => b"M6 InfoUnknown",
+        TableFault::InfoDisagrees { .. } => b"M7 InfoDisagrees",
+        TableFault::ImportCycle { .. } => b"M8 ImportCycle",
+        TableFault::ModulePrivate { .. } => b"M9 ModulePrivate",
+        TableFault::PrivateUnknown { .. } => b"M10 PrivateUnknown",
+    }
+}
+
+/// What a fault is about.
+fn fault_subject(alloc: Global, fault: &TableFault, makers: Makers) -> Result<Vec<u8>, AllocError>
+    ensures { IfOk result (λ text. text.items ≡ fault_subject makers.entry.objects.now makers.entry.infos.now fault.now) }
+{
+    match fault {
+        TableFault::ObjectTwice { path, .. } => Vec::from_slice(alloc, path.bytes()),
+        TableFault::InfoTwice { target } => Vec::from_slice(alloc, target.text().as_bytes()),
+        TableFault::ProvidedTwice {
+            name,
+            first,
+            second,
+        } => made_twice_text(alloc, name.text().as_bytes(), *first, *second, makers),
+        TableFault::BmiTwice {
+            path,
+            first,
+            second,
+        } => made_twice_text(alloc, path.bytes(), *first, *second, makers),
+        TableFault::ModuleUnknown { name, object } => {
+            let path = object_path(makers.objects, *object);
+            joined(alloc, &[name.text().as_bytes(), b" in ", path])
+        }
+        TableFault::InfoUnknown {
+            target,
+            module_name,
+            name,
+        }
+        | TableFault::InfoDisagrees {
+            target,
+            module_name,
+            name,
+        } => requirement_text(alloc, target, module_name, name),
+        TableFault::ImportCycle { objects } => ring_text(alloc, objects, makers.objects),
+        TableFault::ModulePrivate { name, info, user } => {
+            private_text(alloc, name, *info, *user, makers)
+        }
+        TableFault::PrivateUnknown { name } => Vec::from_slice(alloc, name.text().as_bytes()),
+    }
+}
+
+/// What two make.
+fn made_twice_text(
+    alloc: Global,
+    made: &[u8],
+    first: Maker,
+    second: Maker,
+    makers: Makers,
+) -> Result<Vec<u8>, AllocError>
+    ensures { IfOk result (λ text. text.items ≡ made_twice_text makers.entry.objects.now makers.entry.infos.now made.now first second) }
+{
+    let first = maker_text(alloc, first, makers)?;
+    let second = maker_text(alloc, second, makers)?;
+    joined(alloc, &[made, b" by ", &first, b" and ", &second])
+}
+
+/// A module of a target, and a name that it requires.
+fn requirement_text(
+    alloc: Global,
+    target: &TargetName,
+    module_name: &Name,
+    name: &Name,
+) -> Result<Vec<u8>, AllocError>
+    ensures { IfOk result (λ text. text.items ≡ requirement_text target.now module_name.now name.now) }
+{
+    let target = target.text().as_bytes();
+    let module_name = module_name.text().as_bytes();
+    let name = name.text().as_bytes();
+    joined(alloc, &[target, b" ", module_name, b" ", name])
+}
+
+/// A module that its target keeps to itself, and who requires it.
+fn private_text(
+    alloc: Global,
+    name: &Name,
+    info: usize,
+    user: Maker,
+    makers: Makers,
+) -> Result<Vec<u8>, AllocError>
+    ensures { IfOk result (λ text. text.items ≡ private_text makers.entry.objects.now makers.entry.infos.now name.now info user) }
+{
+    let name = name.text().as_bytes();
+    let target = target_name(makers.infos, info);
+    let user = maker_text(alloc, user, makers)?;
+    joined(alloc, &[name, b" of ", target, b" in ", &user])
+}
+
+/// Who makes a file.
+fn maker_text(alloc: Global, maker: Maker, makers: Makers) -> Result<Vec<u8>, AllocError>
+    ensures { IfOk result (λ text. text.items ≡ maker_text makers.entry.objects.now makers.entry.infos.now maker) }
+{
+    match maker {
+        Maker::Object(number) => joined(alloc, &[b"object ", object_path(makers.objects, number)]),
+        Maker::Info(number) => joined(alloc, &[b"info ", target_name(makers.infos, number)]),
+    }
+}
+
+/// The objects of a ring, in its order.
+fn ring_text(alloc: Global, ring: &[usize], objects: &[Rule]) -> Result<Vec<u8>, AllocError>
+    ensures { IfOk result (λ text. text.items ≡ ring_text objects.now ring.now) }
+{
+    let mut text = Vec::new(alloc);
+    let [first, others @ ..] = ring else {
+        return Ok(text);
+    };
+    text.extend_from_slice(object_path(objects, *first))?;
+    for next in others {
+        text.extend_from_slice(b" -> ")?;
+        text.extend_from_slice(object_path(objects, *next))?;
+    }
+    Ok(text)
+}
+
+/// The path of the object of that number.
+fn object_path(objects: &[Rule], number: usize) -> &[u8]
+    ensures { result.now ≡ object_path objects.now number }
+{
+    match objects.get(number) {
+        Some(rule) => rule.object.bytes(),
+        None => b"",
+    }
+}
+
+/// The name of the target of the info of that number.
+fn target_name(infos: &[Info], number: usize) -> &[u8]
+    ensures { result.now ≡ target_name infos.now number }
+{
+    match infos.get(number) {
+        Some(info) => info.target.text().as_bytes(),
+        None => b"",
+    }
+}
+
+/// The parts, one behind the other.
+fn joined(alloc: Global, parts: &[&[u8]]) -> Result<Vec<u8>, AllocError>
+    ensures { IfOk result (λ text. text.items ≡ flat_map (λ part. part.now) parts.now) }
+{
+    parts.concat(alloc)
+}

@@ -1,0 +1,113 @@
+-- What the checks of infos and of kept names tell.
+use Rattle.std.proofs.Common.{◌≡◌, ℕ, List, Some, refl, ap, subst, sym, ◌∙◌, slice_get}
+use Rattle.module_table.specs.TableValue.{TableValue}
+use Rattle.module_table.specs.Modules.{Provides, IsProvidedBy, IsInfoProvided, Provision, provisions, InfoRequirement, info_requirements}
+use Rattle.module_table.specs.Faults.{IsInfoUnknown, Disagrees, IsForeign}
+use Rattle.module_table.specs.Repetition.{AllDiffer}
+use Rattle.module_table.specs.Shown.{names_of}
+use Rattle.module_table.specs.Finds.{IsNamed, IsByInfo, IsNotByInfo, Agrees, Differs, IsOwn, IsNotOwn, RefusesAt, AcceptsAll}
+use Rattle.module_table.specs.Told.{Tells}
+use Rattle.module_table.specs.declared.fault.Maker.TheVariants.{Object, Info}
+use Rattle.module_table.specs.declared.fault.TableFault.{TableFault}
+use Rattle.module_table.specs.declared.fault.TableFault.TheVariants.{InfoUnknown, InfoDisagrees, PrivateUnknown}
+use Rattle.module_table.proofs.Places.{same_some, object_provision, info_provision}
+use Rattle.module_table.proofs.Required.{from_provisions}
+use Rattle.module_table.proofs.Checks.{tells_same}
+use Rattle.module_table.proofs.Refusals.{one_module}
+
+module _ (t : TableValue) where
+  -- where the module stands that an info provides
+  pub by_info : (name file : List ℕ) → IsInfoProvided t name file → (k : ℕ) × (p : Provision) × IsNamed (provisions t) name k p × (p.file ≡ file) × ((i : ℕ) × (p.maker ≡ Info i))
+  by_info name file (i, h) = (_, _, (info_provision t i h.0 h.1 h.2, h.3), h.4, (i, refl))
+
+  pub from_info : (name : List ℕ) (k i : ℕ) (p : Provision) → IsNamed (provisions t) name k p → p.maker ≡ Info i → IsInfoProvided t name p.file
+  from_info name k i p named is = (i, subst (λ n. IsProvidedBy t (Info i) n p.file) named.1 (subst (λ m. IsProvidedBy t m p.name p.file) is (from_provisions t k p named.0)))
+
+  pub unknown_by : (r : InfoRequirement) → IsNotByInfo (provisions t) r → IsInfoUnknown t r
+  unknown_by r none file h = let b = by_info r.name file h in none (b.0, b.1, b.4.0, b.2, b.4.1)
+
+  pub known_by : (r : InfoRequirement) → IsByInfo (provisions t) r → (file : List ℕ) × IsInfoProvided t r.name file
+  known_by r h = (h.1.file, from_info r.name h.0 h.2 h.1 h.3 h.4)
+
+  module _ (differ : AllDiffer (names_of (provisions t))) where
+    pub differs_by : (r : InfoRequirement) → IsByInfo (provisions t) r → Differs (provisions t) r → Disagrees t r
+    differs_by r by (k, p, named, other) =
+        let same = one_module (provisions t) differ r.name by.0 k by.1 p by.3 named in
+        (p.file, from_info r.name k by.2 p named (ap (λ (x : Provision). x.maker) (sym same) ∙ by.4), other)
+
+  pub agrees_not : (r : InfoRequirement) → Agrees (provisions t) r → Disagrees t r → ⊥
+  agrees_not r agrees (file, provided, other) = let b = by_info r.name file provided in other (sym b.3 ∙ agrees b.0 b.1 b.2)
+
+  pub foreign_by : (name : List ℕ) → IsNotOwn (provisions t) name → IsForeign t name
+  foreign_by name none object position file h = none (_, _, object, (object_provision t object position name file h, refl), refl)
+
+  pub own_by : (name : List ℕ) → IsOwn (provisions t) name → (object : ℕ) × (position : ℕ) × (file : List ℕ) × Provides t object position name file
+  own_by name (k, p, object, named, is) =
+      let by = subst (λ n. IsProvidedBy t (Object object) n p.file) named.1 (subst (λ m. IsProvidedBy t m p.name p.file) is (from_provisions t k p named.0)) in
+      (object, by.0, p.file, by.1)
+
+abbrev pub IsOf : InfoRequirement → (List ℕ → List ℕ → List ℕ → TableFault) → TableFault → Type 0
+IsOf r make fault = fault ≡ make r.target r.module_name r.name
+
+pub tells_info_unknown : (ps : List Provision) (wanted : List InfoRequirement) (place : ℕ) (r : InfoRequirement) (fault : TableFault) → RefusesAt (IsByInfo ps) (IsNotByInfo ps) wanted place → slice_get wanted place ≡ Some r → IsOf r InfoUnknown fault → (t : TableValue) (kept : List (List ℕ)) → ps ≡ provisions t → wanted ≡ info_requirements t → Tells 6 t kept fault
+tells_info_unknown ps wanted place r fault refused at is t kept ep ew =
+    let refused' = subst (λ ws. RefusesAt (IsByInfo (provisions t)) (IsNotByInfo (provisions t)) ws place) ew (subst (λ xs. RefusesAt (IsByInfo xs) (IsNotByInfo xs) wanted place) ep refused) in
+    let at' = ap (λ ws. slice_get ws place) (sym ew) ∙ at in
+    let x : refused'.x ≡ r = same_some _ _ (sym refused'.here ∙ at') in
+    tells_same 6 t kept fault (InfoUnknown r.target r.module_name r.name) is
+    (record {
+      present = (
+        place,
+        r,
+        record {
+          here = at';
+          holds = unknown_by t r (subst (IsNotByInfo (provisions t)) x refused'.refused);
+          before = λ k y lt at_k unknown. let h = known_by t y (refused'.accepted k y lt at_k) in unknown h.0 h.1;
+        },
+        refl,
+        refl,
+        refl,
+      );
+      coded = refl;
+    })
+
+pub tells_info_disagrees : (ps : List Provision) (wanted : List InfoRequirement) (place : ℕ) (r : InfoRequirement) (fault : TableFault) → AllDiffer (names_of ps) → AcceptsAll (IsByInfo ps) wanted → RefusesAt (Agrees ps) (Differs ps) wanted place → slice_get wanted place ≡ Some r → IsOf r InfoDisagrees fault → (t : TableValue) (kept : List (List ℕ)) → ps ≡ provisions t → wanted ≡ info_requirements t → Tells 7 t kept fault
+tells_info_disagrees ps wanted place r fault differ known refused at is t kept ep ew =
+    let refused' = subst (λ ws. RefusesAt (Agrees (provisions t)) (Differs (provisions t)) ws place) ew (subst (λ xs. RefusesAt (Agrees xs) (Differs xs) wanted place) ep refused) in
+    let known' = subst (λ ws. AcceptsAll (IsByInfo (provisions t)) ws) ew (subst (λ xs. AcceptsAll (IsByInfo xs) wanted) ep known) in
+    let differ' = subst (λ xs. AllDiffer (names_of xs)) ep differ in
+    let at' = ap (λ ws. slice_get ws place) (sym ew) ∙ at in
+    let x : refused'.x ≡ r = same_some _ _ (sym refused'.here ∙ at') in
+    tells_same 7 t kept fault (InfoDisagrees r.target r.module_name r.name) is
+    (record {
+      present = (
+        place,
+        r,
+        record {
+          here = at';
+          holds = differs_by t differ' r (known'.each place r at') (subst (Differs (provisions t)) x refused'.refused);
+          before = λ k y lt at_k. agrees_not t y (refused'.accepted k y lt at_k);
+        },
+        refl,
+        refl,
+        refl,
+      );
+      coded = refl;
+    })
+
+pub tells_private_unknown : (ps : List Provision) (kept : List (List ℕ)) (place : ℕ) (name : List ℕ) (fault : TableFault) → RefusesAt (IsOwn ps) (IsNotOwn ps) kept place → slice_get kept place ≡ Some name → fault ≡ PrivateUnknown name → (t : TableValue) → ps ≡ provisions t → Tells 10 t kept fault
+tells_private_unknown ps kept place name fault refused at is t ep =
+    let refused' = subst (λ xs. RefusesAt (IsOwn xs) (IsNotOwn xs) kept place) ep refused in
+    let x : refused'.x ≡ name = same_some _ _ (sym refused'.here ∙ at) in
+    tells_same 10 t kept fault (PrivateUnknown name) is
+    (record {
+      present = (
+        place,
+        record {
+          here = at;
+          holds = foreign_by t name (subst (IsNotOwn (provisions t)) x refused'.refused);
+          before = λ k y lt at_k foreign. let h = own_by t y (refused'.accepted k y lt at_k) in foreign h.0 h.1 h.2 h.3;
+        },
+      );
+      coded = refl;
+    })

@@ -1,0 +1,158 @@
+-- Where modules stand in the lists of all modules and all files.
+use Rattle.std.proofs.Common.{◌≡◌, ℕ, zero, suc, ◌+◌, ◌<◌, ◌⊎◌, Bool, true, false, List, [], ◌∷◌, ◌++◌, length, map, Some, ◌||◌, IsTrue, refl, ap, subst, sym, ◌∙◌, inl, inr, arith, slice_get}
+use Rattle.std.specs.List.{flat_map, enumerate_from}
+use Rattle.scan_docs.specs.Scan.{RuleValue}
+use Rattle.scan_docs.specs.Info.{InfoValue, ModuleValue}
+use Rattle.dep_order.specs.Needs.{IsOrderable}
+use Rattle.dep_order.proofs.ForCallers.{orderable_same}
+use Rattle.module_table.specs.TableValue.{TableValue}
+use Rattle.module_table.specs.Modules.{Provides, Requires, InfoProvides, IsProvidedBy, DependsOn, Provision, provisions, object_provisions, info_provisions}
+use Rattle.module_table.specs.Faults.{Claim, claims, own_claims}
+use Rattle.module_table.specs.Sound.{IsSound}
+use Rattle.module_table.specs.Added.{AddedNeeds, AddedOrderable, FilesOnce, FilesApart}
+use Rattle.module_table.specs.declared.fault.Maker.{Maker}
+use Rattle.module_table.specs.declared.fault.Maker.TheVariants.{Object, Info}
+
+pub same_some : {X : Type 0} (x y : X) → Some x ≡ Some y → x ≡ y
+same_some x y e = cc
+
+pub to_map : {A B : Type 0} (f : A → B) (xs : List A) (k : ℕ) (x : A) → slice_get xs k ≡ Some x → slice_get (map f xs) k ≡ Some (f x)
+to_map f [] k x e = cc
+to_map f (y ∷ xs) zero x e = ap (λ z. Some (f z)) (same_some _ _ e)
+to_map f (y ∷ xs) (suc k) x e = to_map f xs k x e
+
+pub in_first : {X : Type 0} (xs ys : List X) (k : ℕ) (x : X) → slice_get xs k ≡ Some x → slice_get (xs ++ ys) k ≡ Some x
+in_first [] ys k x e = cc
+in_first (y ∷ xs) ys zero x e = e
+in_first (y ∷ xs) ys (suc k) x e = in_first xs ys k x e
+
+pub in_second : {X : Type 0} (xs ys : List X) (k : ℕ) (x : X) → slice_get ys k ≡ Some x → slice_get (xs ++ ys) (length xs + k) ≡ Some x
+in_second [] ys k x e = let at : 0 + k ≡ k = omega arith in rw at e
+in_second (y ∷ xs) ys k x e = let at : suc (length xs) + k ≡ suc (length xs + k) = omega arith in rw at (in_second xs ys k x e)
+
+pub numbered : {X : Type 0} (n : ℕ) (xs : List X) (k : ℕ) (x : X) → slice_get xs k ≡ Some x → slice_get (enumerate_from n xs) k ≡ Some (n + k, x)
+numbered n [] k x e = cc
+numbered n (y ∷ xs) zero x e = let at : n + 0 ≡ n = omega arith in rw at (ap (λ z. Some (n, z)) (same_some _ _ e))
+numbered n (y ∷ xs) (suc k) x e = let at : n + suc k ≡ (n + 1) + k = omega arith in rw at (numbered (n + 1) xs k x e)
+
+-- how many elements stand before those of element i
+pub offset : {A B : Type 0} → (A → List B) → List A → ℕ → ℕ
+offset f [] i = 0
+offset f (x ∷ xs) zero = 0
+offset f (x ∷ xs) (suc i) = length (f x) + offset f xs i
+
+pub in_flat_map : {A B : Type 0} (f : A → List B) (xs : List A) (i : ℕ) (x : A) (j : ℕ) (y : B) → slice_get xs i ≡ Some x → slice_get (f x) j ≡ Some y → slice_get (flat_map f xs) (offset f xs i + j) ≡ Some y
+unfolding offset
+in_flat_map f [] i x j y e h = cc
+in_flat_map f (z ∷ xs) zero x j y e h =
+    let at : 0 + j ≡ j = omega arith in
+    let same : z ≡ x = same_some _ _ e in
+    rw at (in_first (f z) (flat_map f xs) j y (subst (λ w. slice_get (f w) j ≡ Some y) (sym same) h))
+in_flat_map f (z ∷ xs) (suc i) x j y e h =
+    let at : (length (f z) + offset f xs i) + j ≡ length (f z) + (offset f xs i + j) = omega arith in
+    rw at (in_second (f z) (flat_map f xs) (offset f xs i + j) y (in_flat_map f xs i x j y e h))
+
+abbrev as_claim : Provision → Claim
+as_claim p = record { maker = p.maker; file = p.file; is_module = true }
+
+-- where module j of object o stands among all claims
+object_place : TableValue → ℕ → ℕ → ℕ
+object_place t o j = length (own_claims t.objects) + (offset object_provisions (enumerate_from 0 t.objects) o + j)
+
+info_place : TableValue → ℕ → ℕ → ℕ
+info_place t i j = length (own_claims t.objects) + (length (flat_map object_provisions (enumerate_from 0 t.objects)) + (offset info_provisions (enumerate_from 0 t.infos) i + j))
+
+zero_plus : (n : ℕ) → 0 + n ≡ n
+zero_plus n = omega arith
+
+pub three_ways : (a b : ℕ) → (a < b) ⊎ ((a ≡ b) ⊎ (b < a))
+three_ways zero zero = inr (inl refl)
+three_ways zero (suc b) = inl (omega arith)
+three_ways (suc a) zero = inr (inr (omega arith))
+three_ways (suc a) (suc b) = elim (three_ways a b) [ inl h ↦ inl (omega arith) | inr h ↦ inr (elim h [ inl e ↦ inl (ap suc e) | inr m ↦ inr (omega arith) ]) ]
+
+pub either : (x y : Bool) → y ≡ true → IsTrue (x || y)
+either true y e = refl
+either false y e = e
+
+module _ (t : TableValue) where
+  row_of : (o : ℕ) (rule : RuleValue) → slice_get t.objects o ≡ Some rule → slice_get (enumerate_from 0 t.objects) o ≡ Some (o, rule)
+  row_of o rule e = numbered 0 t.objects o rule e ∙ ap (λ n. Some (n, rule)) (zero_plus o)
+
+  pub info_row_of : (i : ℕ) (info : InfoValue) → slice_get t.infos i ≡ Some info → slice_get (enumerate_from 0 t.infos) i ≡ Some (i, info)
+  info_row_of i info e = numbered 0 t.infos i info e ∙ ap (λ n. Some (n, info)) (zero_plus i)
+
+  pub object_provision : (o j : ℕ) (name : List ℕ) (file : List ℕ) → Provides t o j name file → slice_get (provisions t) (offset object_provisions (enumerate_from 0 t.objects) o + j) ≡ Some (record { maker = Object o; name = name; file = file; is_private = false })
+  object_provision o j name file h =
+      in_first (flat_map object_provisions (enumerate_from 0 t.objects)) (flat_map info_provisions (enumerate_from 0 t.infos)) (offset object_provisions (enumerate_from 0 t.objects) o + j) _ (in_flat_map object_provisions (enumerate_from 0 t.objects) o (o, h.0) j _ (row_of o h.0 h.1) (to_map (λ (p : List ℕ × List ℕ). let x : Provision = record { maker = Object o; name = p.0; file = p.1; is_private = false } in x) h.0.provided j (name, file) h.2))
+
+  pub info_provision : (i j : ℕ) (m : ModuleValue) → InfoProvides t i j m → slice_get (provisions t) (length (flat_map object_provisions (enumerate_from 0 t.objects)) + (offset info_provisions (enumerate_from 0 t.infos) i + j)) ≡ Some (record { maker = Info i; name = m.name; file = m.file; is_private = m.is_private })
+  info_provision i j m h =
+      in_second (flat_map object_provisions (enumerate_from 0 t.objects)) (flat_map info_provisions (enumerate_from 0 t.infos)) (offset info_provisions (enumerate_from 0 t.infos) i + j) _ (in_flat_map info_provisions (enumerate_from 0 t.infos) i (i, h.0) j _ (info_row_of i h.0 h.1) (to_map (λ (m : ModuleValue). let x : Provision = record { maker = Info i; name = m.name; file = m.file; is_private = m.is_private } in x) h.0.modules j m h.2))
+
+  object_claim : (o j : ℕ) (name : List ℕ) (file : List ℕ) → Provides t o j name file → slice_get (claims t) (object_place t o j) ≡ Some (record { maker = Object o; file = file; is_module = true })
+  unfolding object_place
+  object_claim o j name file h = in_second (own_claims t.objects) (map as_claim (provisions t)) (offset object_provisions (enumerate_from 0 t.objects) o + j) _ (to_map as_claim (provisions t) (offset object_provisions (enumerate_from 0 t.objects) o + j) _ (object_provision o j name file h))
+
+  info_claim : (i j : ℕ) (m : ModuleValue) → InfoProvides t i j m → slice_get (claims t) (info_place t i j) ≡ Some (record { maker = Info i; file = m.file; is_module = true })
+  unfolding info_place
+  info_claim i j m h = in_second (own_claims t.objects) (map as_claim (provisions t)) (length (flat_map object_provisions (enumerate_from 0 t.objects)) + (offset info_provisions (enumerate_from 0 t.infos) i + j)) _ (to_map as_claim (provisions t) (length (flat_map object_provisions (enumerate_from 0 t.objects)) + (offset info_provisions (enumerate_from 0 t.infos) i + j)) _ (info_provision i j m h))
+
+  own_claim : (o : ℕ) (rule : RuleValue) → slice_get t.objects o ≡ Some rule → slice_get (claims t) o ≡ Some (record { maker = Object o; file = rule.object; is_module = false })
+  own_claim o rule e = in_first (own_claims t.objects) (map as_claim (provisions t)) o _ (to_map (λ (x : ℕ × RuleValue). let c : Claim = record { maker = Object x.0; file = x.1.object; is_module = false } in c) (enumerate_from 0 t.objects) o (o, rule) (row_of o rule e))
+
+  module _ (sound : IsSound t) where
+    -- a module's file is claimed at one place
+    one_place : (a b : ℕ) (x y : Claim) → slice_get (claims t) a ≡ Some x → slice_get (claims t) b ≡ Some y → x.file ≡ y.file → x.is_module ≡ true → a ≡ b
+    one_place a b x y ax by file m =
+        elim (three_ways a b) [
+          | inl less ↦ absurd (sound.files_differ a b x y less ax by (file, rw m refl))
+          | inr rest ↦ elim rest [
+            | inl same ↦ same
+            | inr more ↦ absurd (sound.files_differ b a y x more by ax (sym file, either y.is_module x.is_module m))
+          ]
+        ]
+
+    files_once : (o p j k : ℕ) (name other : List ℕ) (file : List ℕ) → Provides t o j name file → Provides t p k other file → (o ≡ p) × (j ≡ k)
+    unfolding object_place
+    files_once o p j k name other file a b =
+        let place : object_place t o j ≡ object_place t p k = one_place _ _ _ _ (object_claim o j name file a) (object_claim p k other file b) refl refl in
+        let claim = ap (slice_get (claims t)) (sym place) ∙ object_claim o j name file a in
+        let maker : Object o ≡ Object p = ap (λ (c : Claim). c.maker) (same_some _ _ (sym claim ∙ object_claim p k other file b)) in
+        let object : o ≡ p = cc in
+        let moved : object_place t o j ≡ object_place t o k = place ∙ ap (λ n. object_place t n k) (sym object) in
+        (object, omega (arith, moved))
+
+    depends_on : (o p : ℕ) (file : List ℕ) (name : List ℕ) → Requires t o name → (maker : Maker) → IsProvidedBy t maker name file → (j : ℕ) (other : List ℕ) → Provides t p j other file → DependsOn t o p
+    depends_on o p file name needs (Object q) by j other adds =
+        let same = files_once q p by.0 j name other file by.1 adds in
+        (name, file, by.0, needs, subst (λ n. Provides t n by.0 name file) same.0 by.1)
+    depends_on o p file name needs (Info i) by j other adds =
+        let here = info_claim i by.0 by.1 by.2 in
+        let there = object_claim p j other file adds in
+        let place = one_place _ _ _ _ there here (sym by.4) refl in
+        let maker : Object p ≡ Info i = ap (λ (c : Claim). c.maker) (same_some _ _ (sym there ∙ ap (slice_get (claims t)) place ∙ here)) in
+        absurd (cc)
+
+    depends : (o p : ℕ) → AddedNeeds t o p → DependsOn t o p
+    depends o p h = depends_on o p h.0 h.1.0 h.1.1 h.1.2.0 h.1.2.1 h.2.0 h.2.1 h.2.2
+
+    orderable : IsOrderable (length t.objects) (AddedNeeds t)
+    orderable = orderable_same (length t.objects) (DependsOn t) (AddedNeeds t) depends sound.orderable
+
+    apart : (o p j : ℕ) (rule : RuleValue) (name : List ℕ) → slice_get t.objects o ≡ Some rule → Provides t p j name rule.object → ⊥
+    apart o p j rule name at provides =
+        let here = own_claim o rule at in
+        let there = object_claim p j name rule.object provides in
+        let place = one_place _ _ _ _ there here refl refl in
+        let kind : true ≡ false = ap (λ (c : Claim). c.is_module) (same_some _ _ (sym there ∙ ap (slice_get (claims t)) place ∙ here)) in
+        cc
+
+pub added_orderable : AddedOrderable
+added_orderable t sound = orderable t sound
+
+pub added_once : FilesOnce
+added_once t sound = files_once t sound
+
+pub added_apart : FilesApart
+added_apart t sound = apart t sound

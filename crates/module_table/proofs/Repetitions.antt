@@ -1,0 +1,192 @@
+-- Lists in which all differ, and the first repetition in a list.
+use Rattle.std.proofs.Common.{◌≡◌, ℕ, zero, suc, ◌+◌, ◌<◌, ◌⊎◌, Bool, true, false, List, [], ◌∷◌, ◌++◌, length, map, take, get_or, Option, Some, refl, ap, subst, sym, ◌∙◌, inl, inr, ⊎_elim, arith, slice_get, true≢false, bytes_eq, append_assoc, append-nil, not, cond, None, IfSome, IfNone, is_some, position}
+use Rattle.std.specs.List.{list_any, flat_map, enumerate_from}
+use Rattle.std.proofs.lemmas.Grind.{flat_map-append}
+use Rattle.std.specs.Cmp.Lexicographic.{bytes_decides}
+use Rattle.std.proofs.lemmas.List.{take_more, map-append}
+use Rattle.std.proofs.lemmas.List.Folds.{list_any_at}
+use Rattle.std.proofs.lemmas.Option.{slice_get_within, get_or_from_slice_get, slice_get-get_or}
+use Rattle.std.proofs.lemmas.List.Quantifiers.{position-Some}
+use Rattle.module_table.specs.Repetition.{AllDiffer, RepeatsFirst}
+use Rattle.module_table.specs.Firsts.{IsFirstRepetition}
+use Rattle.module_table.proofs.Places.{same_some, to_map}
+use Rattle.module_table.proofs.Required.{from_map}
+
+-- an element of a longer list stands in the list, or is the last one
+pub from_push : {X : Type 0} (xs : List X) (y : X) (k : ℕ) (x : X) → slice_get (xs ++ y ∷ []) k ≡ Some x → (slice_get xs k ≡ Some x) ⊎ ((k ≡ length xs) × (y ≡ x))
+from_push [] y zero x e = inr (refl, same_some _ _ e)
+from_push [] y (suc k) x e = cc
+from_push (z ∷ xs) y zero x e = inl e
+from_push (z ∷ xs) y (suc k) x e = ⊎_elim (λ h. inl h) (λ h. inr (ap suc h.0, h.1)) (from_push xs y k x e)
+
+-- what stands among the first few stands in the list
+pub from_take : {X : Type 0} (n : ℕ) (xs : List X) (k : ℕ) (x : X) → slice_get (take n xs) k ≡ Some x → (k < n) × (slice_get xs k ≡ Some x)
+from_take zero xs k x e = cc
+from_take (suc n) [] k x e = cc
+from_take (suc n) (y ∷ xs) zero x e = (omega arith, e)
+from_take (suc n) (y ∷ xs) (suc k) x e = let r = from_take n xs k x e in (omega (arith, r.0), r.1)
+
+pub in_take : {X : Type 0} (n : ℕ) (xs : List X) (k : ℕ) (x : X) → k < n → slice_get xs k ≡ Some x → slice_get (take n xs) k ≡ Some x
+in_take zero xs k x lt e = absurd (omega arith)
+in_take (suc n) [] k x lt e = cc
+in_take (suc n) (y ∷ xs) zero x lt e = e
+in_take (suc n) (y ∷ xs) (suc k) x lt e = in_take n xs k x (omega arith) e
+
+pub map_take : {X Y : Type 0} (f : X → Y) (n : ℕ) (xs : List X) → map f (take n xs) ≡ take n (map f xs)
+map_take f zero xs = refl
+map_take f (suc n) [] = refl
+map_take f (suc n) (x ∷ xs) = ap (λ ys. f x ∷ ys) (map_take f n xs)
+
+-- one more of the list
+pub take_next : {X : Type 0} (xs : List X) (i : ℕ) (x : X) → slice_get xs i ≡ Some x → take (i + 1) xs ≡ take i xs ++ x ∷ []
+take_next xs i x at = take_more xs i x (slice_get_within xs i x at) ∙ ap (λ y. take i xs ++ y ∷ []) (get_or_from_slice_get xs i x x at)
+
+-- all differ in a list that is one longer by something new
+pub differ_push : {X : Type 0} (xs : List X) (y : X) → AllDiffer xs → ((k : ℕ) → slice_get xs k ≡ Some y → ⊥) → AllDiffer (xs ++ y ∷ [])
+differ_push xs y all new = record { differ = differ }
+  where
+    differ : (i j : ℕ) (x : _) → i < j → slice_get (xs ++ y ∷ []) i ≡ Some x → slice_get (xs ++ y ∷ []) j ≡ Some x → ⊥
+    differ i j x lt at_i at_j =
+        ⊎_elim
+        (λ in_j. ⊎_elim (λ in_i. all.differ i j x lt in_i in_j) (λ last_i. let within : j < length xs = slice_get_within xs j x in_j in absurd (omega (arith, within, last_i.0, lt))) (from_push xs y i x at_i))
+        (λ last_j.
+        ⊎_elim
+        (λ in_i. new i (in_i ∙ ap (λ z. Some z) (sym last_j.1)))
+        (λ last_i. absurd (omega (arith, last_i.0, last_j.0, lt)))
+        (from_push xs y i x at_i))
+        (from_push xs y j x at_j)
+
+module _ {X : Type 0} (f : X → List ℕ) where
+  -- what a search does not find is not there
+  pub not_among : (ks : List X) (x : X) → list_any (λ k. bytes_eq (f x) (f k)) ks ≡ false → (k : ℕ) → slice_get (map f ks) k ≡ Some (f x) → ⊥
+  not_among ks x none k at =
+      let from = from_map f ks k (f x) at in
+      let within : k < length ks = slice_get_within ks k from.0 from.1 in
+      let read : get_or ks k from.0 ≡ from.0 = get_or_from_slice_get ks k from.0 from.0 from.1 in
+      let same : bytes_eq (f x) (f (get_or ks k from.0)) ≡ true = (bytes_decides (f x) (f (get_or ks k from.0))).1 (sym from.2 ∙ ap f (sym read)) in
+      true≢false (sym (list_any_at (λ z. bytes_eq (f x) (f z)) ks k from.0 within same) ∙ none)
+
+  -- one more text that is new
+  pub differ_next : (xs : List X) (i : ℕ) (x : X) → slice_get xs i ≡ Some x → AllDiffer (map f (take i xs)) → list_any (λ k. bytes_eq (f x) (f k)) (take i xs) ≡ false → AllDiffer (map f (take (i + 1) xs))
+  differ_next xs i x at all none =
+      subst AllDiffer (sym (ap (map f) (take_next xs i x at) ∙ map-append f (take i xs) (x ∷ [])))
+      (differ_push (map f (take i xs)) (f x) all (not_among (take i xs) x none))
+
+  -- one more text that was there
+  pub repeats : (xs : List X) (i j : ℕ) (x y : X) → slice_get xs j ≡ Some x → AllDiffer (map f (take j xs)) → slice_get (take j xs) i ≡ Some y → bytes_eq (f x) (f y) ≡ true → RepeatsFirst (map f xs) i j
+  repeats xs i j x y at all at_y same =
+      let from = from_take j xs i y at_y in
+      record {
+        repeated = f x;
+        earlier = from.0;
+        here = to_map f xs i y from.1 ∙ ap (λ z. Some z) (sym ((bytes_decides (f x) (f y)).0 same));
+        again = to_map f xs j x at;
+        before = subst AllDiffer (map_take f j xs) all;
+      }
+
+pub length_before : {X : Type 0} (xs : List X) (i : ℕ) (x : X) → slice_get xs i ≡ Some x → length (take i xs) ≡ i
+length_before [] i x e = cc
+length_before (y ∷ xs) zero x e = refl
+length_before (y ∷ xs) (suc i) x e = ap suc (length_before xs i x e)
+
+numbered_push : {X : Type 0} (n : ℕ) (xs : List X) (x : X) → enumerate_from n (xs ++ x ∷ []) ≡ enumerate_from n xs ++ (n + length xs, x) ∷ []
+numbered_push n [] x = let e : n + 0 ≡ n = omega arith in rw e refl
+numbered_push n (y ∷ xs) x = let e : n + suc (length xs) ≡ (n + 1) + length xs = omega arith in rw e (ap (λ ys. (n, y) ∷ ys) (numbered_push (n + 1) xs x))
+
+-- one more element, by its number
+pub numbered_next : {X : Type 0} (xs : List X) (i : ℕ) (x : X) → slice_get xs i ≡ Some x → enumerate_from 0 (take (i + 1) xs) ≡ enumerate_from 0 (take i xs) ++ (i, x) ∷ []
+numbered_next xs i x at =
+    let e : 0 + length (take i xs) ≡ i = omega (arith, length_before xs i x at) in
+    ap (enumerate_from 0) (take_next xs i x at) ∙ numbered_push 0 (take i xs) x ∙ ap (λ n. enumerate_from 0 (take i xs) ++ (n, x) ∷ []) e
+
+-- the parts of one more element
+pub parts_next : {X A : Type 0} (f : ℕ × X → List A) (xs : List X) (i : ℕ) (x : X) → slice_get xs i ≡ Some x → flat_map f (enumerate_from 0 (take (i + 1) xs)) ≡ flat_map f (enumerate_from 0 (take i xs)) ++ f (i, x)
+parts_next f xs i x at =
+    ap (flat_map f) (numbered_next xs i x at) ∙ flat_map-append f (enumerate_from 0 (take i xs)) ((i, x) ∷ []) ∙ ap (λ ys. flat_map f (enumerate_from 0 (take i xs)) ++ ys) (append-nil (f (i, x)))
+
+-- a loop that gathers the parts of each element
+pub gathers_next : {X A : Type 0} (f : ℕ × X → List A) (xs : List X) (i : ℕ) (x : X) (old now new : List A) → slice_get xs i ≡ Some x → now ≡ old ++ flat_map f (enumerate_from 0 (take i xs)) → new ≡ now ++ f (i, x) → new ≡ old ++ flat_map f (enumerate_from 0 (take (i + 1) xs))
+gathers_next f xs i x old now new at before more =
+    more ∙ ap (λ ys. ys ++ f (i, x)) before ∙ append_assoc old (flat_map f (enumerate_from 0 (take i xs))) (f (i, x)) ∙ ap (λ ys. old ++ ys) (sym (parts_next f xs i x at))
+
+pub found_if : (b : Bool) → false ≡ not b → b ≡ true
+found_if true e = refl
+found_if false e = e
+
+pub new_if : (b : Bool) → true ≡ not b → b ≡ false
+new_if true e = e
+new_if false e = refl
+
+-- a text is put into a table of the texts before it
+module _ {X : Type 0} (f : X → List ℕ) (xs : List X) (j : ℕ) (x : X) (keys new : List X) (at : slice_get xs j ≡ Some x)
+    (same : keys ≡ take j xs) (all : AllDiffer (map f (take j xs)))
+    (put : new ≡ cond (list_any (λ k. bytes_eq (f x) (f k)) keys) keys (keys ++ x ∷ [])) where
+  -- it was there
+  pub repeats_if_found : (i : ℕ) → false ≡ not (list_any (λ k. bytes_eq (f x) (f k)) keys) → (y : X) → slice_get new i ≡ Some y → bytes_eq (f x) (f y) ≡ true → RepeatsFirst (map f xs) i j
+  repeats_if_found i old y stored alike =
+      let found = found_if _ old in
+      let kept : new ≡ take j xs = put ∙ ap (λ b. cond b keys (keys ++ x ∷ [])) found ∙ same in
+      repeats f xs i j x y at all (ap (λ ks. slice_get ks i) (sym kept) ∙ stored) alike
+
+  -- it was not
+  pub keys_if_new : true ≡ not (list_any (λ k. bytes_eq (f x) (f k)) keys) → new ≡ take (j + 1) xs
+  keys_if_new fresh = put ∙ ap (λ b. cond b keys (keys ++ x ∷ [])) (new_if _ fresh) ∙ ap (λ ks. ks ++ x ∷ []) same ∙ sym (take_next xs j x at)
+
+  pub differ_if_new : true ≡ not (list_any (λ k. bytes_eq (f x) (f k)) keys) → AllDiffer (map f (take (j + 1) xs))
+  differ_if_new fresh = differ_next f xs j x at all (subst (λ ks. list_any (λ k. bytes_eq (f x) (f k)) ks ≡ false) same (new_if _ fresh))
+
+-- the first repetition of what is seen of elements
+pub repetition_of : {X : Type 0} (g : X → List ℕ) (xs : List X) (i j : ℕ) → RepeatsFirst (map g xs) i j → (x : X) × (y : X) × IsFirstRepetition (λ a b. g a ≡ g b) xs i j x y
+repetition_of {X} g xs i j r =
+    let at_i = from_map g xs i r.repeated r.here in
+    let at_j = from_map g xs j r.repeated r.again in (
+      at_i.0,
+      at_j.0,
+      record {
+        earlier = r.earlier;
+        x_here = at_i.1;
+        y_here = at_j.1;
+        alike = at_i.2 ∙ sym at_j.2;
+        y_first = λ k l v w kl lj at_k at_l same.
+            r.before.differ k l (g v) kl (in_take j (map g xs) k (g v) (omega (arith, kl, lj)) (to_map g xs k v at_k)) (in_take j (map g xs) l (g v) lj (to_map g xs l w at_l ∙ ap (λ z. Some z) (sym same)));
+        x_first = λ k v ki at_k same.
+            r.before.differ k i (g v) ki (in_take j (map g xs) k (g v) (let e = r.earlier in omega (arith, ki, e)) (to_map g xs k v at_k)) (in_take j (map g xs) i (g v) r.earlier (r.here ∙ ap (λ z. Some z) (sym at_j.2 ∙ sym same)));
+      },
+    )
+
+-- rows that are made of elements
+pub row_is : {X R Y : Type 0} (f : X → Y) (g : R → Y) (xs : List X) (rows : List R) (k : ℕ) (x : X) (row : R) → map g rows ≡ map f xs → slice_get xs k ≡ Some x → row ≡ get_or rows k row → g row ≡ f x
+row_is f g [] rows k x row same at here = cc
+row_is f g (y ∷ xs) [] k x row same at here = cc
+row_is f g (y ∷ xs) (r ∷ rows) zero x row same at here = cc
+row_is f g (y ∷ xs) (r ∷ rows) (suc k) x row same at here = let rest : map g rows ≡ map f xs = cc in row_is f g xs rows k x row rest at here
+
+-- the first repetition in a list of texts
+pub text_repetition : (xs : List (List ℕ)) (i j : ℕ) (x : List ℕ) → RepeatsFirst xs i j → slice_get xs j ≡ Some x → IsFirstRepetition (λ a b. a ≡ b) xs i j x x
+text_repetition xs i j x r at =
+    let same : r.repeated ≡ x = same_some _ _ (sym r.again ∙ at) in
+    record {
+      earlier = r.earlier;
+      x_here = r.here ∙ ap (λ z. Some z) same;
+      y_here = at;
+      alike = refl;
+      y_first = λ k l v w kl lj at_k at_l e.
+          r.before.differ k l v kl (in_take j xs k v (omega (arith, kl, lj)) at_k) (in_take j xs l v lj (at_l ∙ ap (λ z. Some z) (sym e)));
+      x_first = λ k v ki at_k e.
+          r.before.differ k i v ki (in_take j xs k v (let lt = r.earlier in omega (arith, ki, lt)) at_k) (in_take j xs i v r.earlier (r.here ∙ ap (λ z. Some z) (same ∙ sym e)));
+    }
+
+-- what a look-up finds, and what it means that it finds none
+pub finds : (keys : List (List ℕ)) (name : List ℕ) (r : Option ℕ) → r ≡ position (λ k. bytes_eq name k) keys → IfSome r (λ k. slice_get keys k ≡ Some name)
+finds keys name None e = tt
+finds keys name (Some k) e =
+    let p = position-Some (λ key. bytes_eq name key) keys k [] (sym e) in
+    slice_get-get_or keys k [] p.0 ∙ ap (λ z. Some z) (sym ((bytes_decides name (get_or keys k [])).0 p.1))
+
+pub misses : (keys : List (List ℕ)) (name : List ℕ) (r : Option ℕ) → is_some r ≡ list_any (λ k. bytes_eq name k) keys → IfNone r ((k : ℕ) → slice_get keys k ≡ Some name → ⊥)
+misses keys name None e = λ k at. not_among (λ n. n) keys name (sym e) k (to_map (λ n. n) keys k name at)
+misses keys name (Some k) e = tt
+
+pub map_same : {X : Type 0} (xs : List X) → map (λ x. x) xs ≡ xs
+map_same [] = refl
+map_same (x ∷ xs) = ap (λ ys. x ∷ ys) (map_same xs)

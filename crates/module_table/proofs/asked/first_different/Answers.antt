@@ -1,0 +1,27 @@
+use Rattle.std.proofs.Common.{map, refl}
+use Rattle.std.proofs.lemmas.Option.{slice_get_read}
+use Rattle.module_table.specs.Shown.{shown}
+use Rattle.module_table.specs.Finds.{shown_requirement, Agrees, Differs}
+use Rattle.module_table.proofs.Places.{to_map}
+use Rattle.module_table.proofs.Repetitions.{in_take}
+use Rattle.module_table.proofs.Refusals.{accepts_next, refuses_at, at_true, at_false}
+use Rattle.module_table.proofs.asked.first_different.Goals as goal
+
+pub returns-then-not-agrees : goal.returns-then-not-agrees
+returns-then-not-agrees c =
+    let ps = map shown c.args.provided.now in
+    let i = c.loop-place.place in
+    let x = c.index-all-place.result in
+    let at = to_map shown_requirement c.args.all.now i x (slice_get_read c.args.all.now _ i x refl c.loop-place-test.true c.index-all-place.is) in
+    refuses_at (Agrees ps) (Differs ps) (map shown_requirement c.args.all.now) i (shown_requirement x) at c.loop-place.invariant
+    (at_false c.agrees.result (Agrees ps (shown_requirement x)) (Differs ps (shown_requirement x)) c.if-not-agrees.true c.agrees.ensures)
+    (λ k y lt at_k. in_take i (map shown_requirement c.args.all.now) k y lt at_k)
+
+pub loop-place-preserved : goal.loop-place-preserved
+loop-place-preserved c =
+    let ps = map shown c.args.provided.now in
+    let i = c.loop-place.place in
+    let x = c.index-all-place.result in
+    let at = to_map shown_requirement c.args.all.now i x (slice_get_read c.args.all.now _ i x refl c.loop-place-test.true c.index-all-place.is) in
+    accepts_next (Agrees ps) (Differs ps) (map shown_requirement c.args.all.now) i (shown_requirement x) at c.loop-place.invariant
+    (at_true c.agrees.result (Agrees ps (shown_requirement x)) (Differs ps (shown_requirement x)) c.if-not-agrees.false c.agrees.ensures)

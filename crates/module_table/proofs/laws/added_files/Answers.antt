@@ -1,0 +1,15 @@
+use Rattle.module_table.proofs.Places as lemmas
+use Rattle.module_table.proofs.Required as required
+use Rattle.module_table.proofs.laws.added_files.Goals as goal
+
+pub returns-clause-orderable : goal.returns-clause-orderable
+returns-clause-orderable c = lemmas.added_orderable
+
+pub returns-clause-once : goal.returns-clause-once
+returns-clause-once c = lemmas.added_once
+
+pub returns-clause-apart : goal.returns-clause-apart
+returns-clause-apart c = lemmas.added_apart
+
+pub returns-clause-required : goal.returns-clause-required
+returns-clause-required c = required.required_files

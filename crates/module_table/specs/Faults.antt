@@ -1,0 +1,131 @@
+-- The faults of a table, and which one is told.
+use Rattle.std.specs.Prelude.{◌≡◌, ◌≢◌, ℕ, ◌≤◌, Bool, true, false, ◌||◌, List, ◌++◌, map, slice_get, Some, IsTrue}
+use Rattle.std.specs.List.{enumerate_from}
+use Rattle.scan_docs.specs.Scan.{RuleValue}
+use Rattle.scan_docs.specs.Info.{ModuleValue}
+use Rattle.dep_order.specs.Cycles.{IsLeastCycle}
+use Rattle.module_table.specs.TableValue.{TableValue}
+use Rattle.module_table.specs.Modules.{Provides, Requires, InfoProvides, IsProvided, IsInfoProvided, DependsOn, Provision, provisions, InfoRequirement, info_requirements}
+use Rattle.module_table.specs.Firsts.{IsFirst, IsFirstRepetition}
+use Rattle.module_table.specs.declared.fault.Maker.{Maker}
+use Rattle.module_table.specs.declared.fault.Maker.TheVariants.{Object, Info}
+use Rattle.module_table.specs.declared.fault.TableFault.{TableFault}
+use Rattle.module_table.specs.declared.fault.TableFault.TheVariants.{ObjectTwice, InfoTwice, ProvidedTwice, BmiTwice, ModuleUnknown, InfoUnknown, InfoDisagrees, ImportCycle, ModulePrivate, PrivateUnknown}
+
+-- a file that somebody makes, and whether it is a module's
+pub record Claim : Type 0 where
+  pub maker : Maker
+  pub file : List ℕ
+  pub is_module : Bool
+
+abbrev pub own_claims : List RuleValue → List Claim
+own_claims objects = map (λ o. record { maker = Object o.0; file = o.1.object; is_module = false }) (enumerate_from 0 objects)
+
+abbrev pub module_claims : List Provision → List Claim
+module_claims provided = map (λ p. record { maker = p.maker; file = p.file; is_module = true }) provided
+
+abbrev pub claims_of : List RuleValue → List Provision → List Claim
+claims_of objects provided = own_claims objects ++ module_claims provided
+
+-- objects' own paths, then the files of all provided modules
+abbrev pub claims : TableValue → List Claim
+claims t = claims_of t.objects (provisions t)
+
+-- one file is made twice, at least once as a module's
+abbrev pub Collides : Claim → Claim → Type 0
+Collides a b = (a.file ≡ b.file) × IsTrue (a.is_module || b.is_module)
+
+-- nobody provides the name
+abbrev pub IsUnknown : TableValue → List ℕ → Type 0
+IsUnknown t name = (file : List ℕ) → IsProvided t name file → ⊥
+
+-- no info provides the name
+abbrev pub IsInfoUnknown : TableValue → InfoRequirement → Type 0
+IsInfoUnknown t r = (file : List ℕ) → IsInfoProvided t r.name file → ⊥
+
+-- an info provides the name with another file
+abbrev pub Disagrees : TableValue → InfoRequirement → Type 0
+Disagrees t r = (file : List ℕ) × IsInfoProvided t r.name file × (file ≢ r.file)
+
+-- the info provides the name, and keeps the module to itself
+abbrev pub Keeps : TableValue → ℕ → List ℕ → Type 0
+Keeps t info name = (position : ℕ) × (entry : ModuleValue) × InfoProvides t info position entry × (entry.name ≡ name) × (entry.is_private ≡ true)
+
+-- some info keeps the module of that name to itself
+abbrev pub IsKept : TableValue → List ℕ → Type 0
+IsKept t name = (info : ℕ) × Keeps t info name
+
+-- another info than the one whose module requires the name keeps the module of that name to itself
+abbrev pub IsKeptElsewhere : TableValue → InfoRequirement → Type 0
+IsKeptElsewhere t r = (info : ℕ) × Keeps t info r.name × (info ≢ r.info)
+
+-- some name of the list is one of which P holds
+abbrev pub Requiring : (List ℕ → Type 0) → RuleValue → Type 0
+Requiring P rule = (place : ℕ) × (name : List ℕ) × (slice_get rule.required place ≡ Some name) × P name
+
+-- the first object that requires a name of which P holds, and the first such name of it
+pub record IsFirstRequired (P : List ℕ → Type 0) (objects : List RuleValue) (object : ℕ) (name : List ℕ) : Type 0 where
+  pub rule : RuleValue
+  pub place : ℕ
+  pub first_object : IsFirst (Requiring P) objects object rule
+  pub first_name : IsFirst P rule.required place name
+
+-- no object provides the name
+abbrev pub IsForeign : TableValue → List ℕ → Type 0
+IsForeign t name = (object : ℕ) (position : ℕ) (file : List ℕ) → Provides t object position name file → ⊥
+
+-- the fault is present in the table, with these names kept, and this is its data
+abbrev pub IsFault : TableValue → List (List ℕ) → TableFault → Type 0
+-- M1: two objects have one path
+IsFault t kept (ObjectTwice path first second) =
+    (i : ℕ) × (j : ℕ) × IsFirstRepetition (λ a b. a ≡ b) (map (λ rule. rule.object) t.objects) i j path path × (first ≡ Object i) × (second ≡ Object j)
+-- M2: two infos have one target name
+IsFault t kept (InfoTwice target) =
+    (i : ℕ) × (j : ℕ) × IsFirstRepetition (λ a b. a ≡ b) (map (λ info. info.target) t.infos) i j target target
+-- M3: a name is provided twice
+IsFault t kept (ProvidedTwice name first second) =
+    (i : ℕ) × (j : ℕ) × (a : Provision) × (b : Provision) × IsFirstRepetition (λ x y. x.name ≡ y.name) (provisions t) i j a b
+    × (b.name ≡ name) × (a.maker ≡ first) × (b.maker ≡ second)
+-- M4: a file is made twice, at least once as a module's
+IsFault t kept (BmiTwice path first second) =
+    (i : ℕ) × (j : ℕ) × (a : Claim) × (b : Claim) × IsFirstRepetition Collides (claims t) i j a b
+    × (b.file ≡ path) × (a.maker ≡ first) × (b.maker ≡ second)
+-- M5: an object requires a name that nobody provides
+IsFault t kept (ModuleUnknown name object) = IsFirstRequired (IsUnknown t) t.objects object name
+-- M6: an info's module requires a name that no info provides
+IsFault t kept (InfoUnknown target module_name name) =
+    (place : ℕ) × (r : InfoRequirement) × IsFirst (IsInfoUnknown t) (info_requirements t) place r
+    × (r.target ≡ target) × (r.module_name ≡ module_name) × (r.name ≡ name)
+-- M7: an info's module requires a name with another file than that of the info that provides it
+IsFault t kept (InfoDisagrees target module_name name) =
+    (place : ℕ) × (r : InfoRequirement) × IsFirst (Disagrees t) (info_requirements t) place r
+    × (r.target ≡ target) × (r.module_name ≡ module_name) × (r.name ≡ name)
+-- M8: objects need each other's modules in a ring
+IsFault t kept (ImportCycle objects) = IsLeastCycle (DependsOn t) objects.items
+-- M9: an object requires a module that an info keeps to itself
+IsFault t kept (ModulePrivate name info (Object object)) = IsFirstRequired (IsKept t) t.objects object name × Keeps t info name
+-- M9: or no object does, and a module of another info
+IsFault t kept (ModulePrivate name info (Info user)) =
+    ((object : ℕ) (other : List ℕ) → Requires t object other → IsKept t other → ⊥)
+    × ((place : ℕ) × (r : InfoRequirement) × IsFirst (IsKeptElsewhere t) (info_requirements t) place r
+    × (r.name ≡ name) × (r.info ≡ user) × Keeps t info name × (info ≢ user))
+-- M10: a name is to be kept, and no object provides it
+IsFault t kept (PrivateUnknown name) = (place : ℕ) × IsFirst (IsForeign t) kept place name
+
+-- the number of the fault's code
+abbrev pub code_number : TableFault → ℕ
+code_number (ObjectTwice path first second) = 1
+code_number (InfoTwice target) = 2
+code_number (ProvidedTwice name first second) = 3
+code_number (BmiTwice path first second) = 4
+code_number (ModuleUnknown name object) = 5
+code_number (InfoUnknown target module_name name) = 6
+code_number (InfoDisagrees target module_name name) = 7
+code_number (ImportCycle objects) = 8
+code_number (ModulePrivate name info user) = 9
+code_number (PrivateUnknown name) = 10
+
+-- The fault that is told: it is present, and none with a lower code is.
+pub record IsTold (t : TableValue) (kept : List (List ℕ)) (fault : TableFault) : Type 0 where
+  pub present : IsFault t kept fault
+  pub lowest : (other : TableFault) → IsFault t kept other → code_number fault ≤ code_number other

@@ -1,0 +1,40 @@
+-- What modules and objects need of one another, by number.
+use Rattle.std.specs.Prelude.{◌≡◌, ℕ, ◌+◌, List, [], ◌∷◌, ◌++◌, length, map, slice_get, Option, Some, position, bytes_eq}
+use Rattle.std.specs.List.{filter_map, AllZip}
+use Rattle.scan_docs.specs.Info.{InfoValue, ModuleValue}
+use Rattle.module_table.specs.TableValue.{TableValue}
+use Rattle.module_table.specs.Modules.{provisions}
+use Rattle.module_table.specs.Numbered.{IsNumbered}
+use Rattle.module_table.specs.Shown.{names_of}
+use Rattle.module_table.specs.Located.{places_of}
+use Rattle.module_table.specs.Places.{IsInfosModule}
+use Rattle.module_table.specs.declared.fault.Maker.{Maker}
+use Rattle.module_table.specs.declared.fault.Maker.TheVariants.{Object, Info}
+
+-- the place of a name
+abbrev pub number_in : List (List ℕ) → List ℕ → Option ℕ
+number_in names name = position (λ other. bytes_eq name other) names
+
+-- the places of the names of these pairs
+abbrev pub numbers_in : List (List ℕ) → List (List ℕ × List ℕ) → List ℕ
+numbers_in names pairs = filter_map (λ pair. number_in names pair.0) pairs
+
+-- a module of an object needs the object, whose number comes behind those of all modules, and a module of an info what it requires
+abbrev pub IsModuleRow : List (List ℕ) → List InfoValue → Maker × ℕ → List ℕ → Type 0
+IsModuleRow names infos (Object object, place) row = row ≡ (length names + object) ∷ []
+IsModuleRow names infos (Info info, place) row = (entry : ModuleValue) × IsInfosModule infos info place entry × (row ≡ numbers_in names entry.required)
+
+-- What each module needs, by number, and behind all modules what each object needs.
+pub record IsModuleGraph (t : TableValue) (graph : List (List ℕ)) : Type 0 where
+  pub modules : List (List ℕ)
+  pub objects : List (List ℕ)
+  pub all : graph ≡ modules ++ objects
+  pub of_modules : AllZip (IsModuleRow (names_of (provisions t)) t.infos) (places_of t) modules
+  pub of_objects : map (λ row. map (slice_get (names_of (provisions t))) row) objects ≡ map (λ rule. map (λ name. Some name) rule.required) t.objects
+
+-- the names and places of all modules, the infos, and the rows of numbers of what objects require
+pub record AreGraphParts (t : TableValue) (names : List (List ℕ)) (places : List (Maker × ℕ)) (infos : List InfoValue) (rows : List (List ℕ)) : Type 0 where
+  pub same_names : names ≡ names_of (provisions t)
+  pub same_places : places ≡ places_of t
+  pub same_infos : infos ≡ t.infos
+  pub numbered : IsNumbered t (provisions t) rows

@@ -1,0 +1,16 @@
+pub mod TableValue
+pub mod Modules
+pub mod Firsts
+pub mod Faults
+pub mod Sound
+pub mod Needed
+pub mod Added
+pub mod Repetition
+pub mod Shown
+pub mod Told
+pub mod Finds
+pub mod Numbered
+pub mod Passed
+pub mod Located
+pub mod Places
+pub mod Graph

@@ -1,0 +1,33 @@
+-- Where each provided module stands.
+use Rattle.std.specs.Prelude.{◌≡◌, ℕ, List, ◌++◌, map}
+use Rattle.std.specs.List.{flat_map, enumerate_from}
+use Rattle.scan_docs.specs.Scan.{RuleValue}
+use Rattle.scan_docs.specs.Info.{InfoValue, ModuleValue}
+use Rattle.module_table.specs.TableValue.{TableValue}
+use Rattle.module_table.specs.Modules.{Provides, InfoProvides, Provision}
+use Rattle.module_table.specs.declared.fault.Maker.{Maker}
+use Rattle.module_table.specs.declared.fault.Maker.TheVariants.{Object, Info}
+use Rattle.module_table.specs.declared.provided.Provided.{Provided}
+
+-- who provides a module, and at which position
+abbrev pub Place : Type 0
+Place = Maker × ℕ
+
+abbrev pub object_places : ℕ × RuleValue → List Place
+object_places object = map (λ p. (Object object.0, p.0)) (enumerate_from 0 object.1.provided)
+
+abbrev pub info_places : ℕ × InfoValue → List Place
+info_places info = map (λ m. (Info info.0, m.0)) (enumerate_from 0 info.1.modules)
+
+-- the places of all provided modules, in their order: by object and position, then by info and position
+abbrev pub places_of : TableValue → List Place
+places_of t = flat_map object_places (enumerate_from 0 t.objects) ++ flat_map info_places (enumerate_from 0 t.infos)
+
+-- the place of a borrowed module
+abbrev pub place_of : Provided → Place
+place_of p = (p.maker, p.position)
+
+-- the module stands at the place
+abbrev pub IsAt : TableValue → Place → Provision → Type 0
+IsAt t (Object object, position) p = (p.maker ≡ Object object) × Provides t object position p.name p.file
+IsAt t (Info info, position) p = (p.maker ≡ Info info) × ((entry : ModuleValue) × InfoProvides t info position entry × (entry.name ≡ p.name) × (entry.file ≡ p.file))

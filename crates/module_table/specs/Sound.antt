@@ -1,0 +1,35 @@
+-- A table without a fault.
+use Rattle.std.specs.Prelude.{◌≡◌, ℕ, ◌<◌, List, length, slice_get, Some, Contains}
+use Rattle.scan_docs.specs.Scan.{RuleValue}
+use Rattle.scan_docs.specs.Info.{InfoValue, ModuleValue}
+use Rattle.dep_order.specs.Needs.{IsOrderable}
+use Rattle.dep_order.specs.Cycles.{IsCycle}
+use Rattle.module_table.specs.TableValue.{TableValue}
+use Rattle.module_table.specs.Modules.{Provides, Requires, InfoRequires, IsProvided, IsInfoProvided, DependsOn, Provision, provisions}
+use Rattle.module_table.specs.Faults.{Claim, claims, Collides, Keeps}
+
+-- No fault from M1 to M9 is present.
+pub record IsSound (t : TableValue) : Type 0 where
+  -- no two objects have one path
+  pub objects_differ : (o p : ℕ) (a b : RuleValue) → slice_get t.objects o ≡ Some a → slice_get t.objects p ≡ Some b → a.object ≡ b.object → o ≡ p
+  -- no two infos have one target name
+  pub infos_differ : (i j : ℕ) (a b : InfoValue) → slice_get t.infos i ≡ Some a → slice_get t.infos j ≡ Some b → a.target ≡ b.target → i ≡ j
+  -- no name is provided twice
+  pub names_differ : (i j : ℕ) (a b : Provision) → slice_get (provisions t) i ≡ Some a → slice_get (provisions t) j ≡ Some b → a.name ≡ b.name → i ≡ j
+  -- no file is that of two modules, or of a module and an object
+  pub files_differ : (i j : ℕ) (a b : Claim) → i < j → slice_get (claims t) i ≡ Some a → slice_get (claims t) j ≡ Some b → Collides a b → ⊥
+  -- what an object requires is provided
+  pub known : (o : ℕ) (name : List ℕ) → Requires t o name → (file : List ℕ) × IsProvided t name file
+  -- what an info's module requires is provided by an info, with the file that it says
+  pub infos_known : (i j : ℕ) (m : ModuleValue) (name file : List ℕ) → InfoRequires t i j m name file → IsInfoProvided t name file
+  -- no objects need each other's modules in a ring
+  pub acyclic : (cycle : List ℕ) → IsCycle (DependsOn t) cycle → ⊥
+  pub orderable : IsOrderable (length t.objects) (DependsOn t)
+  -- no object requires a module that an info keeps to itself
+  pub objects_allowed : (o info : ℕ) (name : List ℕ) → Requires t o name → Keeps t info name → ⊥
+  -- and no info's module requires one that another info keeps to itself
+  pub infos_allowed : (i j info : ℕ) (m : ModuleValue) (name file : List ℕ) → InfoRequires t i j m name file → Keeps t info name → info ≡ i
+
+-- every name that is to be kept is one that an object provides
+abbrev pub KeepsOwn : TableValue → List (List ℕ) → Type 0
+KeepsOwn t kept = (name : List ℕ) → Contains kept name → (object : ℕ) × (position : ℕ) × (file : List ℕ) × Provides t object position name file

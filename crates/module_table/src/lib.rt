@@ -1,0 +1,40 @@
+//! The modules of one target and of the targets that it links, by name.
+//!
+//! [`Table::build`] makes a table of a target's rules and of the infos of the targets that it links. It succeeds exactly
+//! where none of the faults M1 to M10 is present (`specs/Faults.antt`, `IsFault`), and else tells one that is present,
+//! with its data, and of the lowest code (`IsTold`). What holds where none is present is stated in `specs/Sound.antt`.
+//!
+//! [`Table::lookup`] answers who provides a name, [`Table::provided`] and [`Table::required`] what an object provides and
+//! requires, and [`Table::needed`] the modules at the ends of chains of requirements (`specs/Needed.antt`). The law
+//! [`added_files`] says what a table without a fault means for the files that are added to a build
+//! (`specs/Added.antt`). The definitions are relations over rules and infos; that code works with numbers of names does
+//! not show in them.
+//!
+//! It stands on `scan_docs` for rules, infos and names, on `ninja_text` for paths, on `dep_order` for rings and for what
+//! a module leads to, on `indexmap` for look-ups, and on `thiserror` for the texts of faults.
+#![tactic(auto)]
+
+mod all_checks;
+mod asked;
+mod fault;
+mod files;
+mod graph;
+mod info_checks;
+mod info_required;
+mod keepers;
+mod laws;
+mod names;
+mod needed;
+mod needs;
+mod numbers;
+mod pairs;
+mod paths;
+mod provided;
+mod repetition;
+mod table;
+#[cfg(test)]
+mod tests;
+
+pub use fault::{Maker, TableFault};
+pub use laws::added_files;
+pub use table::Table;

@@ -1,0 +1,156 @@
+//! The table of the modules of one target, and its look-ups.
+ghost use Rattle.std.specs.Prelude.{◌≡◌, ◌<◌, IfOk, IfErr, IfSome, IfNone, length, slice_get, Some};
+ghost use Rattle.ninja_text.specs.Failure.{ForFault};
+ghost use Rattle.scan_docs.specs.Scan.{RuleValue};
+ghost use Rattle.module_table.specs.Modules.{Provision, IsProvidedBy};
+ghost use Rattle.module_table.specs.Faults.{IsTold, IsFault, IsUnknown};
+ghost use Rattle.module_table.specs.Sound.{IsSound, KeepsOwn};
+ghost use Rattle.module_table.specs.Needed.{ArePairs, IsNeeded};
+ghost use Rattle.module_table.specs.Added.{required_of};
+ghost use Rattle.module_table.specs.Located.{IsAt};
+ghost use Rattle.module_table.specs.declared.fault.TableFault.{TableFault};
+
+use crate::all_checks::check_all;
+use crate::fault::{Maker, TableFault};
+use crate::names::number_of;
+use crate::needed::needed_modules;
+use dep_order::Digraph;
+use indexmap::IndexSet;
+use ninja_text::{Failure, Path};
+use scan_docs::{Info, Name, Rule};
+use std::alloc::{AllocError, Global};
+use std::marker::Model;
+
+/// The modules of one target and of the targets that it links, without a fault.
+#[derive(Drop)]
+pub struct Table {
+    objects: Vec<Rule>,
+    infos: Vec<Info>,
+    /// The names of all provided modules. A name's number is its module's place among them.
+    names: IndexSet<Name>,
+    /// Who provides each module, and at which position.
+    places: Vec<(Maker, usize)>,
+    /// What the modules and the objects need of one another, by number.
+    graph: Digraph,
+    /// What each object requires, with the modules' files.
+    required: Vec<Vec<(Name, Path)>>,
+}
+
+impl Model for Table {
+    ghost use Rattle.std.specs.Prelude.{◌≡◌, map};
+    ghost use Rattle.module_table.specs.TableValue.{TableValue};
+    ghost use Rattle.module_table.specs.Sound.{IsSound};
+    ghost use Rattle.module_table.specs.Modules.{provisions};
+    ghost use Rattle.module_table.specs.Added.{required_of};
+    ghost use Rattle.module_table.specs.Shown.{names_of};
+    ghost use Rattle.module_table.specs.Located.{places_of};
+    ghost use Rattle.module_table.specs.Graph.{IsModuleGraph};
+
+    ghost Value = { TableValue };
+
+    ghost view = { λ t. record { objects = t.objects.items; infos = t.infos.items } };
+
+    ghost invariant = { λ t. IsSound (record { objects = t.objects.items; infos = t.infos.items })
+        × (map (λ row. row.items) t.required.items ≡ map (required_of (record { objects = t.objects.items; infos = t.infos.items })) t.objects.items)
+        × (t.names.keys ≡ names_of (provisions (record { objects = t.objects.items; infos = t.infos.items })))
+        × (t.places.items ≡ places_of (record { objects = t.objects.items; infos = t.infos.items }))
+        × IsModuleGraph (record { objects = t.objects.items; infos = t.infos.items }) t.graph };
+}
+
+impl Table {
+    /// The table of a target's objects and of the infos of the targets that it links, or the fault with the lowest
+    /// number. `kept` are the names of the modules that the target keeps to itself.
+    pub fn build(
+        alloc: Global,
+        objects: Vec<Rule>,
+        infos: Vec<Info>,
+        kept: &[Name],
+    ) -> Result<Table, Failure<TableFault>>
+        ensures table { IfOk result (λ table. table ≡ record { objects = objects.items; infos = infos.items }) }
+        ensures sound { IfOk result IsSound }
+        ensures kept { IfOk result (λ table. KeepsOwn table kept.now) }
+        ensures no_fault { IfOk result (λ table. (fault : TableFault) → IsFault table kept.now fault → ⊥) }
+        ensures fault { IfErr result (ForFault (IsTold (record { objects = objects.items; infos = infos.items }) kept.now)) }
+    {
+        let index = check_all(alloc, objects.as_slice(), infos.as_slice(), kept)?;
+        Ok(Table {
+            objects,
+            infos,
+            names: index.names,
+            places: index.places,
+            graph: index.graph,
+            required: index.required,
+        })
+    }
+
+    /// The objects, by number.
+    pub fn objects(&self) -> &[Rule]
+        ensures objects { result.now ≡ self.now.objects }
+        ensures sound { IsSound self.now }
+    {
+        self.objects.as_slice()
+    }
+
+    /// The modules that an object provides, by position.
+    pub fn provided(&self, object: usize) -> &[(Name, Path)]
+        requires { object < length self.now.objects }
+        ensures { (rule : RuleValue) → slice_get self.now.objects object ≡ Some rule → result.now ≡ rule.provided }
+    {
+        &self.objects[object].provided
+    }
+
+    /// The modules that an object requires, in order of first mention, each once.
+    pub fn required(&self, object: usize) -> &[(Name, Path)]
+        requires { object < length self.now.objects }
+        ensures { (rule : RuleValue) → slice_get self.now.objects object ≡ Some rule → result.now ≡ required_of self.now rule }
+    {
+        &self.required[object]
+    }
+
+    /// The file of the module of that name, and who provides it; `None` where nobody does.
+    pub fn lookup(&self, name: &Name) -> Option<(&Path, Maker)>
+        ensures found { IfSome result (λ found. IsProvidedBy self.now found.1 name.now found.0.now) }
+        ensures none { IfNone result (IsUnknown self.now name.now) }
+    {
+        match number_of(&self.names, name) {
+            Some(number) => {
+                let (maker, position) = self.places[number];
+                let file = file_at(&self.objects, &self.infos, maker, position);
+                Some((file, maker))
+            }
+            None => None,
+        }
+    }
+
+    /// All modules that chains of requirements lead to from the object, in byte order of names.
+    pub fn needed(&self, alloc: Global, object: usize) -> Result<Vec<(Name, Path)>, AllocError>
+        requires { object < length self.now.objects }
+        ensures { IfOk result (λ pairs. ArePairs (IsNeeded self.now object) pairs.items) }
+    {
+        needed_modules(
+            alloc,
+            &self.graph,
+            &self.objects,
+            &self.infos,
+            &self.places,
+            object,
+        )
+    }
+}
+
+/// The file of the module that stands there.
+fn file_at<'t>(objects: &'t [Rule], infos: &'t [Info], maker: Maker, position: usize) -> &'t Path
+    requires { (p : Provision) × IsAt (record { objects = objects.now; infos = infos.now }) (maker, position) p }
+    ensures { (p : Provision) → IsAt (record { objects = objects.now; infos = infos.now }) (maker, position) p → result.now ≡ p.file }
+{
+    match maker {
+        Maker::Object(object) => {
+            let rule = &objects[object];
+            &rule.provided[position].1
+        }
+        Maker::Info(number) => {
+            let info = &infos[number];
+            &info.modules[position].file
+        }
+    }
+}

@@ -1,0 +1,3 @@
+export module greet;
+import words;
+export const char *greeting() { return hello(); }

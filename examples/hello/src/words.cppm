@@ -1,0 +1,2 @@
+export module words;
+export const char *hello() { return "hello"; }
