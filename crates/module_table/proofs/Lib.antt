@@ -12,7 +12,7 @@ pub mod Soundness
 pub mod Facts
 pub mod Steps
 pub mod Requirements
-pub mod Locating
+pub mod Pushes
 pub mod Zips
 pub mod ModulePlaces
 pub mod Numbering

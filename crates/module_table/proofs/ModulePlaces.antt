@@ -1,18 +1,19 @@
 -- Each place is that of the module of its number.
-use Rattle.std.proofs.Common.{◌≡◌, ℕ, ◌+◌, ◌≤◌, false, None, List, length, Some, refl, ap, sym, ◌∙◌, arith, slice_get}
+use Rattle.std.proofs.Common.{◌≡◌, ℕ, ◌+◌, ◌<◌, ◌≤◌, false, None, List, length, Some, refl, ap, subst, sym, ◌∙◌, arith, slice_get}
 use Rattle.std.specs.Option.{option_map}
-use Rattle.std.proofs.lemmas.Option.{slice_get_past}
+use Rattle.std.proofs.lemmas.Option.{slice_get_past, slice_get_within}
 use Rattle.std.specs.List.{flat_map, enumerate_from, AllZip}
 use Rattle.scan_docs.specs.Scan.{RuleValue}
 use Rattle.scan_docs.specs.Info.{InfoValue, ModuleValue}
 use Rattle.module_table.specs.TableValue.{TableValue}
-use Rattle.module_table.specs.Modules.{Provision, provisions, object_provisions, info_provisions}
+use Rattle.module_table.specs.Modules.{IsProvidedBy, Provision, provisions, object_provisions, info_provisions}
 use Rattle.module_table.specs.Located.{places_of, object_places, info_places}
+use Rattle.module_table.specs.Shown.{names_of}
 use Rattle.module_table.specs.Places.{IsInfosModule, IsNamedAt, pair_at}
 use Rattle.module_table.specs.declared.fault.Maker.{Maker}
 use Rattle.module_table.specs.declared.fault.Maker.TheVariants.{Object, Info}
 use Rattle.module_table.proofs.Places.{same_some}
-use Rattle.module_table.proofs.Required.{from_numbered}
+use Rattle.module_table.proofs.Required.{from_map, from_numbered}
 use Rattle.module_table.proofs.Zips.{zip_append, zip_flat_map, zip_numbered, zip_back, zip_length}
 
 -- what stands at one place of a list is one
@@ -76,3 +77,35 @@ module _ (t : TableValue) where
     pair_past past =
         let long = zip_length (IsPlaceOf t) (provisions t) (places_of t) module_places ∙ ap length (sym same) in
         ap (option_map (λ (q : Provision). (q.name, q.file))) (slice_get_past (provisions t) k (omega (arith, long, past)))
+
+-- the same place among the same objects and infos
+pub same_place : (objects others : List RuleValue) (infos rest : List InfoValue) (place : Maker × ℕ) (pair : List ℕ × List ℕ) → objects ≡ others → infos ≡ rest → IsNamedAt objects infos place pair → IsNamedAt others rest place pair
+same_place objects others infos rest place pair same_objects same_infos h =
+    subst (λ (os : List RuleValue). IsNamedAt os rest place pair) same_objects (subst (λ (is : List InfoValue). IsNamedAt objects is place pair) same_infos h)
+
+-- who provides the module that has this name and this file at the place
+provided_at : (t : TableValue) (place : Maker × ℕ) (pair : List ℕ × List ℕ) → IsNamedAt t.objects t.infos place pair → IsProvidedBy t place.0 pair.0 pair.1
+provided_at t (Object object, position) pair h = (position, h)
+provided_at t (Info info, position) pair h = (position, h.0, h.1, h.2, h.3)
+
+-- what is found at the number of a name
+module _ (t : TableValue) (names : List (List ℕ)) (places : List (Maker × ℕ)) (are_names : names ≡ names_of (provisions t)) (are_places : places ≡ places_of t) (number : ℕ) (name : List ℕ) (at : slice_get names number ≡ Some name) where
+  named : (p : Provision) × (slice_get (provisions t) number ≡ Some p) × (p.name ≡ name)
+  named = from_map (λ (p : Provision). p.name) (provisions t) number name (ap (λ ns. slice_get ns number) (sym are_names) ∙ at)
+
+  pub within_places : number < length places
+  within_places =
+      let long = zip_length (IsPlaceOf t) (provisions t) (places_of t) (module_places t) in
+      omega (arith, slice_get_within (provisions t) number named.0 named.1, long, ap length are_places)
+
+  module _ (place : Maker × ℕ) (here : slice_get places number ≡ Some place) where
+    pub found_there : (file : List ℕ) × IsNamedAt t.objects t.infos place (name, file)
+    found_there =
+        let p = there t places are_places number place here in
+        let same = one_at (provisions t) number p.0 named.0 p.1 named.1 in
+        (p.0.file, subst (λ n. IsNamedAt t.objects t.infos place (n, p.0.file)) (ap (λ (q : Provision). q.name) same ∙ named.2) p.2.1)
+
+    pub provided_there : (pair : List ℕ × List ℕ) → IsNamedAt t.objects t.infos place pair → IsProvidedBy t place.0 name pair.1
+    provided_there pair h =
+        let same = one_pair t.objects t.infos place pair (name, found_there.0) h found_there.1 in
+        subst (λ n. IsProvidedBy t place.0 n pair.1) (ap (λ (x : List ℕ × List ℕ). x.0) same) (provided_at t place pair h)

@@ -1,10 +1,9 @@
 -- Where each provided module stands.
-use Rattle.std.specs.Prelude.{◌≡◌, ℕ, List, ◌++◌, map}
+use Rattle.std.specs.Prelude.{ℕ, List, ◌++◌, map}
 use Rattle.std.specs.List.{flat_map, enumerate_from}
 use Rattle.scan_docs.specs.Scan.{RuleValue}
-use Rattle.scan_docs.specs.Info.{InfoValue, ModuleValue}
+use Rattle.scan_docs.specs.Info.{InfoValue}
 use Rattle.module_table.specs.TableValue.{TableValue}
-use Rattle.module_table.specs.Modules.{Provides, InfoProvides, Provision}
 use Rattle.module_table.specs.declared.fault.Maker.{Maker}
 use Rattle.module_table.specs.declared.fault.Maker.TheVariants.{Object, Info}
 use Rattle.module_table.specs.declared.provided.Provided.{Provided}
@@ -26,8 +25,3 @@ places_of t = flat_map object_places (enumerate_from 0 t.objects) ++ flat_map in
 -- the place of a borrowed module
 abbrev pub place_of : Provided → Place
 place_of p = (p.maker, p.position)
-
--- the module stands at the place
-abbrev pub IsAt : TableValue → Place → Provision → Type 0
-IsAt t (Object object, position) p = (p.maker ≡ Object object) × Provides t object position p.name p.file
-IsAt t (Info info, position) p = (p.maker ≡ Info info) × ((entry : ModuleValue) × InfoProvides t info position entry × (entry.name ≡ p.name) × (entry.file ≡ p.file))

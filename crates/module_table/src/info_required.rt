@@ -39,8 +39,8 @@ fn add_info<'t>(
 ) -> Result<(), AllocError>
     ensures { OnOk result (map shown_requirement all.new.items ≡ map shown_requirement all.old.items ++ requirements_of_info (number, info.now)) }
 {
-    for module in &info.modules {
-        add_module(number, &info.target, module, all)?;
+    for entry in &info.modules {
+        add_module(number, &info.target, entry, all)?;
     }
     Ok(())
 }
@@ -48,16 +48,16 @@ fn add_info<'t>(
 fn add_module<'t>(
     number: usize,
     target: &'t TargetName,
-    module: &'t InfoModule,
+    entry: &'t InfoModule,
     all: &mut Vec<InfoRequired<'t>>,
 ) -> Result<(), AllocError>
-    ensures { OnOk result (map shown_requirement all.new.items ≡ map shown_requirement all.old.items ++ module_requirements number target.now module.now) }
+    ensures { OnOk result (map shown_requirement all.new.items ≡ map shown_requirement all.old.items ++ module_requirements number target.now entry.now) }
 {
-    for pair in &module.required {
+    for pair in &entry.required {
         all.push(InfoRequired {
             info: number,
             target,
-            module_name: &module.name,
+            module_name: &entry.name,
             name: &pair.0,
             file: &pair.1,
         })?;

@@ -81,7 +81,7 @@ fn module_pair(
 }
 
 /// The name and the file of the module at the place.
-fn named_at<'t>(
+pub(crate) fn named_at<'t>(
     objects: &'t [Rule],
     infos: &'t [Info],
     place: (Maker, usize),

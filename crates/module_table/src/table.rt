@@ -2,18 +2,17 @@
 ghost use Rattle.std.specs.Prelude.{◌≡◌, ◌<◌, IfOk, IfErr, IfSome, IfNone, length, slice_get, Some};
 ghost use Rattle.ninja_text.specs.Failure.{ForFault};
 ghost use Rattle.scan_docs.specs.Scan.{RuleValue};
-ghost use Rattle.module_table.specs.Modules.{Provision, IsProvidedBy};
+ghost use Rattle.module_table.specs.Modules.{IsProvidedBy};
 ghost use Rattle.module_table.specs.Faults.{IsTold, IsFault, IsUnknown};
 ghost use Rattle.module_table.specs.Sound.{IsSound, KeepsOwn};
 ghost use Rattle.module_table.specs.Needed.{ArePairs, IsNeeded};
 ghost use Rattle.module_table.specs.Added.{required_of};
-ghost use Rattle.module_table.specs.Located.{IsAt};
 ghost use Rattle.module_table.specs.declared.fault.TableFault.{TableFault};
 
 use crate::all_checks::check_all;
 use crate::fault::{Maker, TableFault};
 use crate::names::number_of;
-use crate::needed::needed_modules;
+use crate::needed::{named_at, needed_modules};
 use dep_order::Digraph;
 use indexmap::IndexSet;
 use ninja_text::{Failure, Path};
@@ -114,9 +113,9 @@ impl Table {
     {
         match number_of(&self.names, name) {
             Some(number) => {
-                let (maker, position) = self.places[number];
-                let file = file_at(&self.objects, &self.infos, maker, position);
-                Some((file, maker))
+                let place = self.places[number];
+                let (_, file) = named_at(&self.objects, &self.infos, place);
+                Some((file, place.0))
             }
             None => None,
         }
@@ -135,22 +134,5 @@ impl Table {
             &self.places,
             object,
         )
-    }
-}
-
-/// The file of the module that stands there.
-fn file_at<'t>(objects: &'t [Rule], infos: &'t [Info], maker: Maker, position: usize) -> &'t Path
-    requires { (p : Provision) × IsAt (record { objects = objects.now; infos = infos.now }) (maker, position) p }
-    ensures { (p : Provision) → IsAt (record { objects = objects.now; infos = infos.now }) (maker, position) p → result.now ≡ p.file }
-{
-    match maker {
-        Maker::Object(object) => {
-            let rule = &objects[object];
-            &rule.provided[position].1
-        }
-        Maker::Info(number) => {
-            let info = &infos[number];
-            &info.modules[position].file
-        }
     }
 }

@@ -7,7 +7,7 @@ use Rattle.module_table.specs.Shown.{shown}
 use Rattle.module_table.specs.Located.{Place, place_of}
 use Rattle.module_table.specs.declared.fault.Maker.TheVariants.{Info}
 use Rattle.module_table.proofs.Repetitions.{take_next, numbered_next}
-use Rattle.module_table.proofs.Locating.{pushes_next}
+use Rattle.module_table.proofs.Pushes.{pushes_next}
 use Rattle.module_table.proofs.provided.add_info.Goals as goal
 
 pub loop-position-preserved : goal.loop-position-preserved
