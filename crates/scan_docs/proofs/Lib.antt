@@ -1,3 +1,5 @@
+pub mod Trees
+pub mod Numbers
 pub mod Elements
 pub mod Parts
 pub mod Texts

@@ -1,8 +1,8 @@
 -- Texts that are copied one after another.
-use Rattle.std.proofs.Common.{◌≡◌, ℕ, ◌+◌, ◌<◌, List, [], ◌∷◌, ◌++◌, map, length, drop, get_or, Option, Some, None, option_map, option_and_then, append_assoc, refl, sym, ap, ◌∙◌}
+use Rattle.std.proofs.Common.{◌≡◌, ℕ, Global, ◌+◌, ◌<◌, List, [], ◌∷◌, ◌++◌, map, length, drop, get_or, Option, Some, None, option_map, option_and_then, append_assoc, refl, sym, ap, ◌∙◌}
 use Rattle.serde_json.specs.Find.{as_str}
-use Rattle.serde_json.specs.View.{view}
-use Rattle.serde_json.specs.declared.value.Value.{Value}
+use Rattle.scan_docs.specs.Tree.{view}
+use Rattle.json.specs.declared.value.Value.{Value}
 use Rattle.scan_docs.specs.Shape.{all_texts}
 use Rattle.scan_docs.proofs.Each.{front}
 
@@ -14,7 +14,7 @@ onto_cons : (found : List (List ℕ)) (t : List ℕ) (o : Option (List (List ℕ
 onto_cons found t None = refl
 onto_cons found t (Some ts) = ap Some (sym (append_assoc found (t ∷ []) ts))
 
-module _ (found : List (List ℕ)) (vs : List Value) (i : ℕ) (v : Value) where
+module _ (found : List (List ℕ)) (vs : List (Value Global)) (i : ℕ) (v : Value Global) where
   opened : i < length vs → v ≡ get_or vs i v → onto found (all_texts (drop i (map view vs))) ≡ all_texts (map view vs)
       → onto found (option_and_then (λ t. option_map (λ ts. t ∷ ts) (all_texts (drop (i + 1) (map view vs)))) (as_str (view v))) ≡ all_texts (map view vs)
   opened lt is h = sym (ap (λ ds. onto found (all_texts ds)) (front view vs i v lt is)) ∙ h

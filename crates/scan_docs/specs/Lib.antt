@@ -1,3 +1,4 @@
+pub mod Tree
 pub mod Member
 pub mod Place
 pub mod Shape

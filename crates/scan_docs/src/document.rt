@@ -1,21 +1,31 @@
 //! The tree of a document's bytes.
 
-ghost use Rattle.std.specs.Prelude.{◌≡◌, ◌≢◌, ◌≤◌, ◌<◌, ◌⊎◌, IfOk, IfErr, length};
+ghost use Rattle.std.specs.Prelude.{◌≡◌, ◌≢◌, ◌≤◌, ◌<◌, ◌⊎◌, Some, None, IfOk, IfErr, length};
+ghost use Rattle.json.specs.Value.{value_view};
 ghost use Rattle.ninja_text.specs.declared.failure.Failure.TheVariants.{Memory, Fault};
 ghost use Rattle.serde_json.specs.Data.{Data};
-ghost use Rattle.serde_json.specs.View.{view};
 ghost use Rattle.scan_docs.specs.Document.{IsTree, document_limit};
+ghost use Rattle.scan_docs.specs.Tree.{view, value_of};
 
 use crate::fault::{DocFault, Place};
+use crate::tree::numbers_fit;
+use json::{Error, Reader, Scratch, Value};
 use ninja_text::Failure;
-use serde_json::Value;
 use std::alloc::Global;
+use std::str;
 
 /// The most bytes that a document has.
 pub const DOCUMENT_LIMIT: usize = 16_777_216;
 
-/// The tree that the bytes are read as.
-pub(crate) fn read_tree(alloc: Global, bytes: &[u8]) -> Result<Value, Failure<DocFault>>
+/// How deep arrays and objects may nest.
+const DEPTH_LIMIT: usize = 127;
+
+/// The tree that the bytes are read as. It borrows its texts from the bytes, and those with escapes from the scratch.
+pub(crate) fn read_tree<'a>(
+    alloc: Global,
+    bytes: &'a [u8],
+    scratch: &'a mut Scratch,
+) -> Result<Value<'a>, Failure<DocFault>>
     ensures read { IfOk result
         (λ tree. (length bytes.now ≤ document_limit) × IsTree bytes.now (view tree)) }
     ensures refused { IfErr result (λ e. e ≢ Memory
@@ -28,9 +38,35 @@ pub(crate) fn read_tree(alloc: Global, bytes: &[u8]) -> Result<Value, Failure<Do
             place: Place::Document,
         }));
     }
-    match Value::from_slice(alloc, bytes) {
-        Ok(tree) => Ok(tree),
-        Err(error) if error.is_memory() => Err(Failure::Memory),
-        Err(_) => Err(Failure::Fault(DocFault::NotJson)),
+    let text = match str::from_utf8(bytes) {
+        Ok(text) => text,
+        Err(_) => return Err(Failure::Fault(DocFault::NotJson)),
+    };
+    let tree = read_value(alloc, text, scratch)?;
+    if !numbers_fit(&tree) {
+        return Err(Failure::Fault(DocFault::NotJson));
     }
+    Ok(tree)
+}
+
+/// The value of a text, in which a number may be larger than a float can hold.
+fn read_value<'a>(
+    alloc: Global,
+    text: &'a str,
+    scratch: &'a mut Scratch,
+) -> Result<Value<'a>, Failure<DocFault>>
+    ensures read { IfOk result (λ v. value_of text.now ≡ Some (value_view v)) }
+    ensures refused { IfErr result
+        (λ e. e ≢ Memory → (value_of text.now ≡ None) × (e ≡ Fault DocFault.NotJson)) }
+{
+    let mut reader = Reader::new(text, scratch)?;
+    let value = match Value::read(alloc, &mut reader, DEPTH_LIMIT) {
+        Ok(value) => value,
+        Err(Error::OutOfMemory) => return Err(Failure::Memory),
+        Err(_) => return Err(Failure::Fault(DocFault::NotJson)),
+    };
+    if reader.next().is_some() {
+        return Err(Failure::Fault(DocFault::NotJson));
+    }
+    Ok(value)
 }

@@ -9,7 +9,8 @@
 //! - [`info_write`] gives the one text of an info (`specs/InfoText.antt`), which is read as the same info.
 //! - [`Name`] and [`TargetName`] hold texts that are names (`specs/Name.antt`).
 //!
-//! It stands on `ninja_text` for paths, on `serde_json` for JSON (RFC 8259), and on `thiserror` for the texts of faults.
+//! It stands on `ninja_text` for paths, on `json` for reading JSON (RFC 8259), on `serde_json` for what a JSON text means
+//! and for writing one, on `fast_float` for numbers, and on `thiserror` for the texts of faults.
 #![tactic(auto)]
 
 mod document;
@@ -19,12 +20,14 @@ mod info_text;
 mod map_form;
 mod member;
 mod name;
+mod number;
 mod rule;
 mod scan_document;
 mod setting;
 mod shape;
 mod target_document;
 mod target_name;
+mod tree;
 
 pub use document::DOCUMENT_LIMIT;
 pub use fault::{DocFault, Place};

@@ -4,7 +4,7 @@ ghost use Rattle.std.specs.Prelude.{◌≡◌, [], ◌∷◌, ◌++◌, map, Som
 ghost use Rattle.std.specs.List.{AllZip};
 ghost use Rattle.ninja_text.specs.Paths.{placed};
 ghost use Rattle.serde_json.specs.Data.{Data};
-ghost use Rattle.serde_json.specs.View.{view};
+ghost use Rattle.scan_docs.specs.Tree.{view};
 ghost use Rattle.scan_docs.specs.Check.{◌otherwise◌, shape_check, path_checks};
 ghost use Rattle.scan_docs.specs.Reading.{Answers, Tests};
 ghost use Rattle.scan_docs.specs.Shape.{text, entries_of, given};
@@ -18,9 +18,9 @@ use crate::member::Member;
 use crate::name::Name;
 use crate::scan_document::COUNT_LIMIT;
 use crate::setting::Setting;
-use crate::shape;
+use crate::{shape, tree};
+use json::Value;
 use ninja_text::{Failure, Path, place};
-use serde_json::Value;
 use std::alloc::{AllocError, Global};
 use std::marker::Model;
 
@@ -43,11 +43,11 @@ impl Model for Rule {
 
 /// The members of a rule, by their shapes.
 #[derive(Clone, Copy)]
-struct RuleMembers<'v> {
-    primary_output: Option<&'v str>,
-    work_directory: Option<&'v str>,
-    provided: &'v [Value],
-    required: &'v [Value],
+struct RuleMembers<'v, 'a> {
+    primary_output: Option<&'a str>,
+    work_directory: Option<&'a str>,
+    provided: &'v [Value<'a>],
+    required: &'v [Value<'a>],
 }
 
 #[tactic(auto, unfolding(crate::specs::ScanChecks::rule_checks), using(crate::proofs::Each::failure_of_both))]
@@ -55,7 +55,7 @@ pub(crate) fn read_rule(
     alloc: Global,
     setting: &Setting,
     rule: usize,
-    value: &Value,
+    value: &Value<'_>,
 ) -> Result<Rule, Failure<DocFault>>
     ensures { Answers (rule_checks setting.now rule (view value.now))
         (IsRule setting.now (view value.now)) result }
@@ -75,7 +75,10 @@ pub(crate) fn read_rule(
 }
 
 #[tactic(auto, unfolding(crate::specs::ScanChecks::rule_shape_checks))]
-fn read_members<'v>(place: Place, rule: &'v Value) -> Result<RuleMembers<'v>, Failure<DocFault>>
+fn read_members<'v, 'a>(
+    place: Place,
+    rule: &'v Value<'a>,
+) -> Result<RuleMembers<'v, 'a>, Failure<DocFault>>
     ensures { Answers (rule_shape_checks place (view rule.now))
         (λ found. (option_copied found.primary_output ≡ text m.PrimaryOutput (view rule.now))
         × (option_copied found.work_directory ≡ text m.WorkDirectory (view rule.now))
@@ -118,8 +121,8 @@ fn read_object(
 #[tactic(auto, unfolding(crate::specs::ScanChecks::count_checks))]
 fn check_counts(
     place: Place,
-    provided: &[Value],
-    required: &[Value],
+    provided: &[Value<'_>],
+    required: &[Value<'_>],
 ) -> Result<(), Failure<DocFault>>
     ensures { Answers (count_checks place (map view provided.now) (map view required.now))
         (λ _. Unit {0}) result }
@@ -136,7 +139,7 @@ fn read_all_provided(
     setting: &Setting,
     work: Option<&str>,
     rule: usize,
-    entries: &[Value],
+    entries: &[Value<'_>],
 ) -> Result<Vec<(Name, Path)>, Failure<DocFault>>
     ensures { Answers (all_provided_checks setting.now (option_copied work.entry) rule (map view entries.now))
         (λ found. AllZip (IsProvided setting.now (option_copied work.entry)) (map view entries.now) found.items) result }
@@ -156,7 +159,7 @@ fn read_provided(
     setting: &Setting,
     work: Option<&str>,
     place: Place,
-    entry: &Value,
+    entry: &Value<'_>,
 ) -> Result<(Name, Path), Failure<DocFault>>
     ensures { Answers (provided_checks setting.now (option_copied work.entry) place (view entry.now))
         (IsProvided setting.now (option_copied work.entry) (view entry.now)) result }
@@ -184,7 +187,7 @@ fn read_provided(
 fn read_all_required(
     alloc: Global,
     rule: usize,
-    entries: &[Value],
+    entries: &[Value<'_>],
 ) -> Result<Vec<Name>, Failure<DocFault>>
     ensures { Answers (all_required_checks rule (map view entries.now))
         (λ found. AllZip IsRequired (map view entries.now) found.items) result }
@@ -199,7 +202,7 @@ fn read_all_required(
 }
 
 #[tactic(auto, unfolding(crate::specs::ScanChecks::required_checks))]
-fn read_required(alloc: Global, place: Place, entry: &Value) -> Result<Name, Failure<DocFault>>
+fn read_required(alloc: Global, place: Place, entry: &Value<'_>) -> Result<Name, Failure<DocFault>>
     ensures { Answers (required_checks place (view entry.now))
         (IsRequired (view entry.now)) result }
 {
@@ -214,14 +217,14 @@ fn read_required(alloc: Global, place: Place, entry: &Value) -> Result<Name, Fai
 }
 
 /// Whether a requirement is looked up as a header.
-fn names_header(entry: &Value, place: Place) -> Result<bool, Failure<DocFault>>
+fn names_header(entry: &Value<'_>, place: Place) -> Result<bool, Failure<DocFault>>
     ensures { Tests (shape_check place m.LookupMethod
         (is_none (given m.LookupMethod (view entry.now)) || is_method (text m.LookupMethod (view entry.now))))
         (λ header. header ≡ names_header (text m.LookupMethod (view entry.now))) result }
 {
     match shape::given(entry, Member::LookupMethod) {
         None => Ok(false),
-        Some(method) => match method.as_str() {
+        Some(method) => match tree::as_str(method) {
             Some("by-name") => Ok(false),
             Some("include-angle" | "include-quote") => Ok(true),
             _ => Err(bad_shape(place, Member::LookupMethod)),

@@ -3,7 +3,7 @@
 ghost use Rattle.std.specs.Prelude.{◌≡◌, map, IfOk, IfErr};
 ghost use Rattle.std.specs.List.{AllZip, All};
 ghost use Rattle.ninja_text.specs.Failure.{ForFault};
-ghost use Rattle.serde_json.specs.View.{view};
+ghost use Rattle.scan_docs.specs.Tree.{view};
 ghost use Rattle.scan_docs.specs.Check.{◌otherwise◌};
 ghost use Rattle.scan_docs.specs.Reading.{Answers, Tests};
 ghost use Rattle.scan_docs.specs.Document.{IsAccepted, IsRefused, HasOneAnswer};
@@ -17,9 +17,9 @@ use crate::fault::{DocFault, Place};
 use crate::member::Member;
 use crate::rule::{Rule, read_rule};
 use crate::setting::Setting;
-use crate::shape;
+use crate::{shape, tree};
+use json::{Scratch, Value};
 use ninja_text::Failure;
-use serde_json::Value;
 use std::alloc::Global;
 
 /// The most rules of a document, and entries of one of a rule's lists.
@@ -37,7 +37,8 @@ pub fn scan(alloc: Global, bytes: &[u8], setting: &Setting) -> Result<Vec<Rule>,
     ensures text { IfOk result (λ rules. All IsRuleText rules.items) }
     ensures one_answer { HasOneAnswer (scan_checks setting.now) (AreRules setting.now) bytes.now }
 {
-    let tree = read_tree(alloc, bytes)?;
+    let mut scratch = Scratch::new(alloc);
+    let tree = read_tree(alloc, bytes, &mut scratch)?;
     read_rules(alloc, setting, &tree)
 }
 
@@ -45,7 +46,7 @@ pub fn scan(alloc: Global, bytes: &[u8], setting: &Setting) -> Result<Vec<Rule>,
 fn read_rules(
     alloc: Global,
     setting: &Setting,
-    tree: &Value,
+    tree: &Value<'_>,
 ) -> Result<Vec<Rule>, Failure<DocFault>>
     ensures { Answers (scan_checks setting.now (view tree.now))
         (λ rules. AreRules setting.now (view tree.now) rules.items) result }
@@ -55,7 +56,7 @@ fn read_rules(
 }
 
 #[tactic(auto, unfolding(crate::specs::ScanChecks::head_checks))]
-fn read_head(tree: &Value) -> Result<&[Value], Failure<DocFault>>
+fn read_head<'v, 'a>(tree: &'v Value<'a>) -> Result<&'v [Value<'a>], Failure<DocFault>>
     ensures { Answers (head_checks (view tree.now))
         (λ rules. map view rules.now ≡ entries_of m.Rules (view tree.now)) result }
 {
@@ -69,11 +70,11 @@ fn read_head(tree: &Value) -> Result<&[Value], Failure<DocFault>>
     Ok(rules)
 }
 
-fn check_version(tree: &Value) -> Result<(), Failure<DocFault>>
+fn check_version(tree: &Value<'_>) -> Result<(), Failure<DocFault>>
     ensures { Tests (is_scan_version (whole_number m.Version (view tree.now)) otherwise DocFault.BadVersion)
         (λ _. Unit {0}) result }
 {
-    match tree.get(Member::Version.key()).and_then(Value::as_u64) {
+    match tree::get(tree, Member::Version.key()).and_then(tree::as_u64) {
         Some(0 | 1) => Ok(()),
         _ => Err(Failure::Fault(DocFault::BadVersion)),
     }
@@ -83,7 +84,7 @@ fn check_version(tree: &Value) -> Result<(), Failure<DocFault>>
 fn read_all_rules(
     alloc: Global,
     setting: &Setting,
-    rules: &[Value],
+    rules: &[Value<'_>],
 ) -> Result<Vec<Rule>, Failure<DocFault>>
     ensures { Answers (all_rule_checks setting.now (map view rules.now))
         (λ found. AllZip (IsRule setting.now) (map view rules.now) found.items) result }

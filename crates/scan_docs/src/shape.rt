@@ -1,22 +1,23 @@
 //! Members of an object, by the shape that they should have.
 
-ghost use Rattle.std.specs.Prelude.{◌≡◌, ◌||◌, Some, map, option_map, option_copied, is_some, IfOk, string_bytes};
-ghost use Rattle.serde_json.specs.View.{view};
+ghost use Rattle.std.specs.Prelude.{◌≡◌, [], ◌||◌, Some, map, option_map, option_copied, is_some, IfOk, string_bytes};
+ghost use Rattle.scan_docs.specs.Tree.{view};
 ghost use Rattle.scan_docs.specs.Check.{shape_check};
 ghost use Rattle.scan_docs.specs.Reading.{Tests};
 ghost use Rattle.scan_docs.specs.Shape.{given, text, entries, entries_of, flag, fits, is_object, texts, texts_of, all_texts};
 
 use crate::fault::{DocFault, Place, bad_shape};
 use crate::member::Member;
+use crate::tree;
+use json::Value;
 use ninja_text::Failure;
-use serde_json::Value;
 use std::alloc::{AllocError, Global};
 
 /// Whether the value is an object.
-pub(crate) fn object(value: &Value, what: Member, place: Place) -> Result<(), Failure<DocFault>>
+pub(crate) fn object(value: &Value<'_>, what: Member, place: Place) -> Result<(), Failure<DocFault>>
     ensures { Tests (shape_check place what (is_object (view value.now))) (λ _. Unit {0}) result }
 {
-    if value.is_object() {
+    if tree::is_object(value) {
         Ok(())
     } else {
         Err(bad_shape(place, what))
@@ -24,27 +25,27 @@ pub(crate) fn object(value: &Value, what: Member, place: Place) -> Result<(), Fa
 }
 
 /// The member's value, unless it is absent or null.
-pub(crate) fn given<'v>(object: &'v Value, member: Member) -> Option<&'v Value>
+pub(crate) fn given<'v, 'a>(object: &'v Value<'a>, member: Member) -> Option<&'v Value<'a>>
     ensures { option_map (λ v. view v.now) result ≡ given member (view object.now) }
 {
-    match object.get(member.key()) {
-        Some(value) if !value.is_null() => Some(value),
+    match tree::get(object, member.key()) {
+        Some(value) if !tree::is_null(value) => Some(value),
         _ => None,
     }
 }
 
 /// The member's text, or nothing where it is absent or null.
-pub(crate) fn text<'v>(
-    object: &'v Value,
+pub(crate) fn text<'a>(
+    object: &Value<'a>,
     member: Member,
     place: Place,
-) -> Result<Option<&'v str>, Failure<DocFault>>
+) -> Result<Option<&'a str>, Failure<DocFault>>
     ensures { Tests (shape_check place member (fits text member (view object.now)))
         (λ t. option_copied t ≡ text member (view object.now)) result }
 {
     match given(object, member) {
         None => Ok(None),
-        Some(value) => match value.as_str() {
+        Some(value) => match tree::as_str(value) {
             Some(text) => Ok(Some(text)),
             None => Err(bad_shape(place, member)),
         },
@@ -52,15 +53,15 @@ pub(crate) fn text<'v>(
 }
 
 /// The member's text, which has to be there.
-pub(crate) fn required_text<'v>(
-    object: &'v Value,
+pub(crate) fn required_text<'a>(
+    object: &Value<'a>,
     member: Member,
     place: Place,
-) -> Result<&'v str, Failure<DocFault>>
+) -> Result<&'a str, Failure<DocFault>>
     ensures { Tests (shape_check place member (is_some (text member (view object.now))))
         (λ t. text member (view object.now) ≡ Some t.now) result }
 {
-    match given(object, member).and_then(Value::as_str) {
+    match given(object, member).and_then(tree::as_str) {
         Some(text) => Ok(text),
         None => Err(bad_shape(place, member)),
     }
@@ -68,7 +69,7 @@ pub(crate) fn required_text<'v>(
 
 /// The member's truth value, or nothing where it is absent or null.
 pub(crate) fn flag(
-    object: &Value,
+    object: &Value<'_>,
     member: Member,
     place: Place,
 ) -> Result<Option<bool>, Failure<DocFault>>
@@ -77,7 +78,7 @@ pub(crate) fn flag(
 {
     match given(object, member) {
         None => Ok(None),
-        Some(value) => match value.as_bool() {
+        Some(value) => match tree::as_bool(value) {
             Some(flag) => Ok(Some(flag)),
             None => Err(bad_shape(place, member)),
         },
@@ -85,45 +86,49 @@ pub(crate) fn flag(
 }
 
 /// The member's entries, or none where it is absent or null.
-#[tactic(auto, using(crate::proofs::Elements::elements_items_of))]
-pub(crate) fn entries<'v>(
-    object: &'v Value,
+pub(crate) fn entries<'v, 'a>(
+    object: &'v Value<'a>,
     member: Member,
     place: Place,
-) -> Result<&'v [Value], Failure<DocFault>>
+) -> Result<&'v [Value<'a>], Failure<DocFault>>
     ensures { Tests (shape_check place member (fits entries member (view object.now)))
         (λ vs. map view vs.now ≡ entries_of member (view object.now)) result }
 {
     match given(object, member) {
-        None => Ok(&[]),
-        Some(value) => match value.as_array() {
-            Some(list) => Ok(list.as_slice()),
+        None => Ok(no_values(object)),
+        Some(value) => match tree::elements(value) {
+            Some(list) => Ok(list),
             None => Err(bad_shape(place, member)),
         },
     }
 }
 
+/// No values, at the object's lifetimes.
+fn no_values<'v, 'a>(_object: &'v Value<'a>) -> &'v [Value<'a>]
+    ensures { result.now ≡ [] }
+{
+    &[]
+}
+
 /// The member's entries, which have to be there.
-#[tactic(auto, using(crate::proofs::Elements::elements_items_of))]
-pub(crate) fn required_entries<'v>(
-    object: &'v Value,
+pub(crate) fn required_entries<'v, 'a>(
+    object: &'v Value<'a>,
     member: Member,
     place: Place,
-) -> Result<&'v [Value], Failure<DocFault>>
+) -> Result<&'v [Value<'a>], Failure<DocFault>>
     ensures { Tests (shape_check place member (is_some (entries member (view object.now))))
         (λ vs. entries member (view object.now) ≡ Some (map view vs.now)) result }
 {
-    match given(object, member).and_then(Value::as_array) {
-        Some(list) => Ok(list.as_slice()),
+    match given(object, member).and_then(tree::elements) {
+        Some(list) => Ok(list),
         None => Err(bad_shape(place, member)),
     }
 }
 
 /// The member's texts, or none where it is absent or null.
-#[tactic(auto, using(crate::proofs::Elements::elements_items_of))]
 pub(crate) fn texts(
     alloc: Global,
-    object: &Value,
+    object: &Value<'_>,
     member: Member,
     place: Place,
 ) -> Result<Vec<String>, Failure<DocFault>>
@@ -132,8 +137,8 @@ pub(crate) fn texts(
 {
     let values = match given(object, member) {
         None => return Ok(Vec::new(alloc)),
-        Some(value) => match value.as_array() {
-            Some(list) => list.as_slice(),
+        Some(value) => match tree::elements(value) {
+            Some(list) => list,
             None => return Err(bad_shape(place, member)),
         },
     };
@@ -141,13 +146,13 @@ pub(crate) fn texts(
 }
 
 /// The values as texts, or None where one is no text.
-fn copy_texts(alloc: Global, values: &[Value]) -> Result<Option<Vec<String>>, AllocError>
+fn copy_texts(alloc: Global, values: &[Value<'_>]) -> Result<Option<Vec<String>>, AllocError>
     ensures { IfOk result
         (λ found. option_map (λ v. map string_bytes v.items) found ≡ all_texts (map view values.now)) }
 {
     let mut found = Vec::new(alloc);
     for value in values {
-        let Some(text) = value.as_str() else {
+        let Some(text) = tree::as_str(value) else {
             return Ok(None);
         };
         let copy = String::from_str(alloc, text)?;

@@ -159,6 +159,38 @@ fn members_that_are_not_asked_for_may_hold_anything(rt: HostRuntime) -> Result<(
 }
 
 #[test]
+fn escapes_are_read_and_the_last_of_repeated_members_counts(rt: HostRuntime) -> Result<(), Fail> {
+    let alloc = rt.alloc();
+    let setting = setting(alloc, "")?;
+    let rule =
+        br#"{"primary-output":"x.o","requires":[{"logical-name":"\u0041"}],"primary-\u006futput":"a\u002eo"}"#;
+    let found = rule_answer(alloc, rule, &setting)?;
+    assert_eq!(rt; found.as_slice(), b"object a.o requires A".as_slice());
+    Ok(())
+}
+
+#[test]
+fn a_number_out_of_range_is_refused_wherever_it_stands(rt: HostRuntime) -> Result<(), Fail> {
+    let alloc = rt.alloc();
+    let setting = setting(alloc, "")?;
+    for (number, wanted) in [
+        ("18446744073709551616", ""),
+        ("-1e308", ""),
+        ("-1e309", "S1 NotJson document"),
+    ] {
+        let document = joined(
+            alloc,
+            b"{\"version\":1,\"rules\":[],\"x\":[{\"y\":[0,",
+            number.as_bytes(),
+            b"]}]}",
+        )?;
+        let found = answer(alloc, &document, &setting)?;
+        assert_eq!(rt; found.as_slice(), wanted.as_bytes(), "{number}");
+    }
+    Ok(())
+}
+
+#[test]
 fn versions_zero_and_one_are_accepted(rt: HostRuntime) -> Result<(), Fail> {
     let alloc = rt.alloc();
     let setting = setting(alloc, "")?;
@@ -238,10 +270,10 @@ fn each_proper_beginning_of_a_document_is_refused(rt: HostRuntime) -> Result<(),
 }
 
 #[test]
-fn a_member_may_nest_100_arrays_and_not_200(rt: HostRuntime) -> Result<(), Fail> {
+fn a_document_may_nest_127_levels_and_not_128(rt: HostRuntime) -> Result<(), Fail> {
     let alloc = rt.alloc();
     let setting = setting(alloc, "")?;
-    for (depth, wanted) in [(100, ""), (200, "S1 NotJson document")] {
+    for (depth, wanted) in [(126, ""), (127, "S1 NotJson document")] {
         let opened = repeated(alloc, b"[", depth)?;
         let closed = repeated(alloc, b"]", depth)?;
         let arrays = joined(alloc, b"", &opened, &closed)?;

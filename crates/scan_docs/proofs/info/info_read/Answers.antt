@@ -1,4 +1,4 @@
-use Rattle.serde_json.specs.View.{view}
+use Rattle.scan_docs.specs.Tree.{view}
 use Rattle.scan_docs.specs.Info.{IsInfo}
 use Rattle.scan_docs.specs.InfoChecks.{info_checks}
 use Rattle.scan_docs.specs.InfoText.{IsInfoText}

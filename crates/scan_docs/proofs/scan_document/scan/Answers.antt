@@ -1,5 +1,5 @@
 use Rattle.std.specs.List.{All}
-use Rattle.serde_json.specs.View.{view}
+use Rattle.scan_docs.specs.Tree.{view}
 use Rattle.scan_docs.specs.Scan.{AreRules, IsRuleText}
 use Rattle.scan_docs.specs.ScanChecks.{scan_checks}
 use Rattle.scan_docs.proofs.Exact.{scan_one_answer}

@@ -1,4 +1,4 @@
-use Rattle.serde_json.specs.View.{view}
+use Rattle.scan_docs.specs.Tree.{view}
 use Rattle.scan_docs.specs.Target.{IsTarget}
 use Rattle.scan_docs.specs.TargetChecks.{target_checks}
 use Rattle.scan_docs.proofs.Exact.{target_one_answer}
