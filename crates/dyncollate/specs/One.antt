@@ -1,5 +1,5 @@
 -- What the command `one` answers.
-use Rattle.std.specs.Prelude.{◌≡◌, ℕ, List, [], Option, None}
+use Rattle.std.specs.Prelude.{◌≡◌, ℕ, List, [], ◌++◌, Option, None, codes}
 use Rattle.std.specs.Result.{result_ok}
 use Rattle.scan_docs.specs.Scan.{SettingValue, RuleValue}
 use Rattle.dyndep_file.specs.WriteFaults.{text_or_fault}
@@ -37,3 +37,9 @@ pub record TellsFault (rules : List RuleValue) (answer : Answer) : Type 0 where
   pub fault : TableFault
   pub told : IsTold (table_of rules) [] fault
   pub message : answer.err.items ≡ line (fault_text rules [] fault)
+
+-- The run is refused, and its line names the scan document by its number and gives a reason.
+pub record RefusesDocument (answer : Answer) : Type 0 where
+  pub refused : Refuses answer
+  pub reason : List ℕ
+  pub message : answer.err.items ≡ line (codes "scan 0: " ++ reason)

@@ -1,6 +1,6 @@
 //! The command `one`: the dyndep text of one scan document.
 
-ghost use Rattle.std.specs.Prelude.{◌≡◌, List, [], IfOk, IfErr, None};
+ghost use Rattle.std.specs.Prelude.{◌≡◌, List, [], IfOk, IfErr};
 ghost use Rattle.ninja_text.specs.Failure.{ForFault};
 ghost use Rattle.scan_docs.specs.Scan.{RuleValue, AreRules};
 ghost use Rattle.scan_docs.specs.ScanChecks.{scan_checks};
@@ -8,13 +8,13 @@ ghost use Rattle.scan_docs.specs.Document.{IsAccepted, IsRefused};
 ghost use Rattle.scan_docs.specs.declared.fault.DocFault.{DocFault};
 ghost use Rattle.module_table.specs.Faults.{IsTold};
 ghost use Rattle.module_table.specs.declared.fault.TableFault.{TableFault};
-ghost use Rattle.dyncollate.specs.One.{setting_of, table_of, HasFault, HasNoFault, text_of_rules, TellsFault};
+ghost use Rattle.dyncollate.specs.One.{setting_of, table_of, HasFault, HasNoFault, text_of_rules, TellsFault, RefusesDocument};
 ghost use Rattle.dyncollate.specs.TableFaults.{fault_text};
 ghost use Rattle.dyncollate.specs.Answers.{line, Refuses, AnswersText};
 
 use crate::answer::Answer;
 use crate::statements::statements_of;
-use crate::table_fault::fault_text;
+use crate::table_fault::{fault_text, joined};
 use module_table::{Table, TableFault};
 use ninja_text::Failure;
 use scan_docs::{DocFault, Rule, Setting, scan};
@@ -31,7 +31,7 @@ pub fn one_run(alloc: Global, document: &[u8], dir: &str, ext: &str) -> Result<A
         → HasFault rules fault → TellsFault rules answer) }
     ensures refused { IfOk result (λ answer. (fault : DocFault)
         → IsRefused (scan_checks (setting_of dir.now ext.now)) document.now fault
-        → AnswersText None answer) }
+        → RefusesDocument answer) }
 {
     let setting = setting_of(alloc, dir, ext)?;
     document_run(alloc, document, &setting)
@@ -58,7 +58,7 @@ fn document_run(alloc: Global, document: &[u8], setting: &Setting) -> Result<Ans
         → HasFault rules fault → TellsFault rules answer) }
     ensures refused { IfOk result (λ answer. (fault : DocFault)
         → IsRefused (scan_checks setting.now) document.now fault
-        → AnswersText None answer) }
+        → RefusesDocument answer) }
 {
     match scan(alloc, document, setting) {
         Ok(rules) => match rules_run(alloc, rules) {
@@ -110,10 +110,11 @@ fn table_refused(
 
 /// The answer to a document that is refused.
 fn document_refused(alloc: Global, fault: &DocFault) -> Result<Answer, AllocError>
-    ensures { IfOk result Refuses }
+    ensures { IfOk result RefusesDocument }
 {
-    let message = format!(in alloc; "scan 0: {fault}")?;
-    Answer::failed(alloc, 1, message.as_bytes())
+    let reason = format!(in alloc; "{fault}")?;
+    let message = joined(alloc, &[b"scan 0: ", reason.as_bytes()])?;
+    Answer::failed(alloc, 1, message.as_slice())
 }
 
 #[cfg(test)]
