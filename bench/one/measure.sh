@@ -8,7 +8,7 @@
 set -euo pipefail
 here=$(cd "$(dirname "$0")" && pwd)
 top=$(cd "$here/../.." && pwd)
-work=$top/out/bench/one
+work=${TMPDIR:-/tmp}/dyncollate-bench/one
 required=${1:-4}
 mkdir -p "$work"
 for source in plain rounds; do

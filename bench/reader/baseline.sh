@@ -4,8 +4,7 @@
 # the two did not read the same bytes or found other paths.
 set -euo pipefail
 here=$(cd "$(dirname "$0")" && pwd)
-work=$here/../../out/bench/reader
-mkdir -p "$work"
+work=$(cd "$(dirname "$1")" && pwd)
 g++ -O2 -std=c++20 -o "$work/split" "$here/split.cpp"
 "$work/split" | tee "$work/split.out"
 echo
