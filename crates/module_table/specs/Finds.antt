@@ -1,4 +1,4 @@
--- What look-ups find, and which element of a list is the first that is refused.
+-- For private clauses: what look-ups find, and which element of a list is the first that is refused.
 use Rattle.std.specs.Prelude.{◌≡◌, ◌≢◌, ℕ, ◌<◌, true, false, List, slice_get, Option, Some, None}
 use Rattle.scan_docs.specs.Scan.{RuleValue}
 use Rattle.module_table.specs.Modules.{Provision, InfoRequirement}

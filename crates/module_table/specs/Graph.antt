@@ -1,4 +1,4 @@
--- What modules and objects need of one another, by number.
+-- For private clauses: what modules and objects need of one another, by number.
 use Rattle.std.specs.Prelude.{◌≡◌, ℕ, ◌+◌, List, [], ◌∷◌, ◌++◌, length, map, slice_get, Option, Some, position, bytes_eq}
 use Rattle.std.specs.List.{filter_map, AllZip}
 use Rattle.scan_docs.specs.Info.{InfoValue, ModuleValue}

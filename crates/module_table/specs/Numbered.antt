@@ -1,4 +1,4 @@
--- Requirements by the numbers of names.
+-- For private clauses: requirements by the numbers of names.
 use Rattle.std.specs.Prelude.{◌≡◌, ℕ, List, map, slice_get, Option, Some, None, option_and_then}
 use Rattle.module_table.specs.TableValue.{TableValue}
 use Rattle.module_table.specs.Modules.{Provision, provisions}

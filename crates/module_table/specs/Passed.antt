@@ -1,4 +1,4 @@
--- What holds once the checks of the lower codes have passed.
+-- For private clauses: what holds once the checks of the lower codes have passed.
 use Rattle.std.specs.Prelude.{◌≡◌, ℕ, ◌<◌, List, map, length, ◌++◌, slice_get, Some}
 use Rattle.scan_docs.specs.Scan.{RuleValue}
 use Rattle.scan_docs.specs.Info.{InfoValue}

@@ -1,4 +1,4 @@
--- What is found at the place of a module.
+-- For private clauses: what is found at the place of a module.
 use Rattle.std.specs.Prelude.{◌≡◌, ℕ, ◌<◌, List, slice_get, Option, Some}
 use Rattle.std.specs.Option.{option_map}
 use Rattle.scan_docs.specs.Scan.{RuleValue}

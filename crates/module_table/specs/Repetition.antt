@@ -1,4 +1,4 @@
--- Whether a text stands in a list twice.
+-- For private clauses: whether a text stands in a list twice.
 use Rattle.std.specs.Prelude.{◌≡◌, ℕ, ◌<◌, List, take, slice_get, Option, Some, None}
 
 -- nothing stands at two places of the list

@@ -1,4 +1,4 @@
--- What the values that the code borrows stand for.
+-- For private clauses: what the values that the code borrows stand for.
 use Rattle.std.specs.Prelude.{◌≡◌, ℕ, List, map, slice_get, Some}
 use Rattle.scan_docs.specs.Scan.{RuleValue}
 use Rattle.module_table.specs.Modules.{Provision}

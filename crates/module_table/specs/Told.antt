@@ -1,4 +1,4 @@
--- What a check of one code answers.
+-- For private clauses: what a check of one code answers.
 use Rattle.std.specs.Prelude.{◌≡◌, ℕ, List}
 use Rattle.module_table.specs.TableValue.{TableValue}
 use Rattle.module_table.specs.Faults.{IsFault, code_number}

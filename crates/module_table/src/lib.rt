@@ -7,8 +7,8 @@
 //! [`Table::lookup`] answers who provides a name, [`Table::provided`] and [`Table::required`] what an object provides and
 //! requires, and [`Table::needed`] the modules at the ends of chains of requirements (`specs/Needed.antt`). The law
 //! [`added_files`] says what a table without a fault means for the files that are added to a build
-//! (`specs/Added.antt`). The definitions are relations over rules and infos; that code works with numbers of names does
-//! not show in them.
+//! (`specs/Added.antt`). These definitions are relations over rules and infos (`specs/Modules.antt`); that the code works
+//! with numbers of names does not show in them. The other files of `specs/` are for private clauses, and say so.
 //!
 //! It stands on `scan_docs` for rules, infos and names, on `ninja_text` for paths, on `dep_order` for rings and for what
 //! a module leads to, on `indexmap` for look-ups, and on `thiserror` for the texts of faults.
