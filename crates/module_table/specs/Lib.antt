@@ -2,6 +2,7 @@ pub mod TableValue
 pub mod Modules
 pub mod Firsts
 pub mod Faults
+pub mod FaultNames
 pub mod Sound
 pub mod Needed
 pub mod Added

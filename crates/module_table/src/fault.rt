@@ -2,8 +2,8 @@
 
 use ninja_text::Path;
 use scan_docs::{Name, TargetName};
+use std::error::Error;
 use std::fmt;
-use thiserror::Error;
 
 /// Who makes a file: an object of the target, or the target of an info, by number.
 #[derive(Clone, Copy, Debug, PartialEq, Eq)]
@@ -17,49 +17,42 @@ pub enum Maker {
 /// Of M1 to M4 it is the repetition whose later member comes first, with its earliest partner, in the order: objects'
 /// own paths, provided modules by object, modules by info. Of M5 to M7, M9 and M10 it is the first requirement, by
 /// object or by info and module, or the first name.
-#[derive(Drop, Error)]
+#[derive(Drop)]
 pub enum TableFault {
     /// Two objects have one path.
-    #[error("M1 ObjectTwice")]
     ObjectTwice {
         path: Path,
         first: Maker,
         second: Maker,
     },
     /// Two infos have one target name.
-    #[error("M2 InfoTwice")]
     InfoTwice {
         target: TargetName,
     },
     /// A name is provided twice.
-    #[error("M3 ProvidedTwice")]
     ProvidedTwice {
         name: Name,
         first: Maker,
         second: Maker,
     },
     /// A file is that of two provided modules, or of a module and an object.
-    #[error("M4 BmiTwice")]
     BmiTwice {
         path: Path,
         first: Maker,
         second: Maker,
     },
     /// An object requires a name that neither the target nor an info provides.
-    #[error("M5 ModuleUnknown")]
     ModuleUnknown {
         name: Name,
         object: usize,
     },
     /// A module of an info requires a name that no info provides.
-    #[error("M6 InfoUnknown")]
     InfoUnknown {
         target: TargetName,
         module_name: Name,
         name: Name,
     },
     /// A module of an info requires a name with another file than that of the info that provides it.
-    #[error("M7 InfoDisagrees")]
     InfoDisagrees {
         target: TargetName,
         module_name: Name,
@@ -67,26 +60,64 @@ pub enum TableFault {
     },
     /// Objects need each other's modules in a ring: each needs the next, and the last needs the first. The first is the
     /// least number on any ring, no ring through it is shorter, and of those that are as short this list is least.
-    #[error("M8 ImportCycle")]
     ImportCycle {
         objects: Vec<usize>,
     },
     /// An object, or a module of another info, requires a module that the target of an info keeps to itself.
-    #[error("M9 ModulePrivate")]
     ModulePrivate {
         name: Name,
         info: usize,
         user: Maker,
     },
     /// A name is to be kept to the target itself, and no object provides it.
-    #[error("M10 PrivateUnknown")]
     PrivateUnknown {
         name: Name,
     },
 }
 
-impl fmt::Debug for TableFault {
+impl TableFault {
+    ghost use Rattle.std.specs.Prelude.{◌≡◌};
+    ghost use Rattle.module_table.specs.FaultNames.{fault_name};
+
+    /// The code and the name of the fault, as it is printed.
+    pub fn name(&self) -> &'static str
+        ensures { result.now ≡ fault_name self.now }
+    {
+        match self {
+            TableFault::ObjectTwice { .. } => "M1 ObjectTwice",
+            TableFault::InfoTwice { .. } => "M2 InfoTwice",
+            TableFault::ProvidedTwice { .. } => "M3 ProvidedTwice",
+            TableFault::BmiTwice { .. } => "M4 BmiTwice",
+            TableFault::ModuleUnknown { .. } => "M5 ModuleUnknown",
+            TableFault::InfoUnknown { .. } => "M6 InfoUnknown",
+            TableFault::InfoDisagrees { .. } => "M7 InfoDisagrees",
+            TableFault::ImportCycle { .. } => "M8 ImportCycle",
+            TableFault::ModulePrivate { .. } => "M9 ModulePrivate",
+            TableFault::PrivateUnknown { .. } => "M10 PrivateUnknown",
+        }
+    }
+}
+
+impl fmt::Display for TableFault {
+    ghost use Rattle.std.specs.Prelude.{Some};
+    ghost use Rattle.module_table.specs.FaultNames.{fault_name};
+
+    ghost output = { λ fault. Some (fault_name fault) };
+
     fn fmt<W: fmt::Write>(&self, f: &mut fmt::Formatter<W>) -> fmt::Result {
-        write!(f, "{self}")
+        f.write_str(self.name())
+    }
+}
+
+impl Error for TableFault {}
+
+impl fmt::Debug for TableFault {
+    ghost use Rattle.std.specs.Prelude.{Some};
+    ghost use Rattle.module_table.specs.FaultNames.{fault_name};
+
+    ghost debug_output = { λ fault. Some (fault_name fault) };
+
+    fn fmt<W: fmt::Write>(&self, f: &mut fmt::Formatter<W>) -> fmt::Result {
+        f.write_str(self.name())
     }
 }

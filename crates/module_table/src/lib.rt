@@ -10,8 +10,10 @@
 //! (`specs/Added.antt`). These definitions are relations over rules and infos (`specs/Modules.antt`); that the code works
 //! with numbers of names does not show in them. The other files of `specs/` are for private clauses, and say so.
 //!
+//! [`TableFault::name`] answers the code and the name of a fault, and a fault is printed so (`specs/FaultNames.antt`).
+//!
 //! It stands on `scan_docs` for rules, infos and names, on `ninja_text` for paths, on `dep_order` for rings and for what
-//! a module leads to, on `indexmap` for look-ups, and on `thiserror` for the texts of faults.
+//! a module leads to, and on `indexmap` for look-ups.
 #![tactic(auto)]
 
 mod all_checks;

@@ -1,5 +1,5 @@
-//! What no clause says: the printed texts of faults, that calls succeed where memory is ample, and small targets whose
-//! answers are known. Targets are told by the rules of their scan documents and by info documents, answers in words.
+//! What no clause says: that calls succeed where memory is ample, and small targets whose answers are known. Targets are
+//! told by the rules of their scan documents and by info documents, answers in words.
 
 mod needed;
 
