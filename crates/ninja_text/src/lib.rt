@@ -16,8 +16,9 @@
 //! - [`Counted`] counts the failed calls of a reader or a writer, and writes a text up to the first one
 //!   (`specs/Counting.antt`).
 //! - [`Failure`] is what a call answers that may want memory (`specs/Failure.antt`).
+//! - How [`PathFault`], [`CutFault`] and [`LexFault`] are printed is proved too (`specs/FaultTexts.antt`).
 //!
-//! It stands on `std`, and on `thiserror` for the texts of faults.
+//! It stands on `std` alone.
 #![tactic(auto)]
 
 mod assigning;

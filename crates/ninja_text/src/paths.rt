@@ -13,30 +13,45 @@ use crate::failure::Failure;
 use crate::reduction;
 use std::alloc::{AllocError, Global};
 use std::cmp::Ordering;
+use std::error::Error;
+use std::fmt;
 use std::hash::{Hash, Hasher};
 use std::marker::Model;
-use thiserror::Error;
 
 /// The most bytes that a canonical path has.
 pub const PATH_LIMIT: usize = 4096;
 
 /// Why a text is no path. Of several faults the first in this order is answered.
-#[derive(Clone, Copy, Debug, PartialEq, Eq, Error)]
+#[derive(Clone, Copy, Debug, PartialEq, Eq)]
 pub enum PathFault {
     /// No component is left.
-    #[error("N1 Empty")]
     Empty,
     /// The path is absolute, and a `..` is left.
-    #[error("N2 AboveRoot")]
     AboveRoot,
     /// The text that was read has a byte that no spelling in a Ninja file stands for: `|`, NUL, CR or LF.
     /// The place is that of the first one, from 0, before anything is deleted.
-    #[error("N3 Unwritable")]
     Unwritable { place: usize },
     /// The canonical path has more than 4,096 bytes.
-    #[error("N4 TooLong")]
     TooLong,
 }
+
+impl fmt::Display for PathFault {
+    ghost use Rattle.std.specs.Prelude.{Some};
+    ghost use Rattle.ninja_text.specs.FaultTexts.{path_fault_text};
+
+    ghost output = { λ fault. Some (path_fault_text fault) };
+
+    fn fmt<W: fmt::Write>(&self, f: &mut fmt::Formatter<W>) -> fmt::Result {
+        match self {
+            PathFault::Empty => f.write_str("N1 Empty"),
+            PathFault::AboveRoot => f.write_str("N2 AboveRoot"),
+            PathFault::Unwritable { place: _ } => f.write_str("N3 Unwritable"),
+            PathFault::TooLong => f.write_str("N4 TooLong"),
+        }
+    }
+}
+
+impl Error for PathFault {}
 
 /// A canonical path: the text that is left when empty components and `.` are deleted, and a name together with a `..`
 /// behind it, until neither can be done. An absolute path keeps the slash that it begins with, and a relative one the `..`

@@ -1,0 +1,28 @@
+-- How faults are printed: a code and a name, and for a fault within a line its place in the text.
+use Rattle.std.specs.Prelude.{ℕ, List, ◌++◌, codes}
+use Rattle.std.specs.Fmt.{decimal}
+use Rattle.ninja_text.specs.declared.paths.PathFault.{PathFault}
+use Rattle.ninja_text.specs.declared.paths.PathFault.TheVariants.{Empty, AboveRoot, Unwritable, TooLong}
+use Rattle.ninja_text.specs.declared.faults.CutFault.{CutFault}
+use Rattle.ninja_text.specs.declared.faults.CutFault.TheVariants.{LineTooLong, Truncated}
+use Rattle.ninja_text.specs.declared.faults.LexFault.{LexFault}
+use Rattle.ninja_text.specs.declared.faults.LexFault.TheVariants.{Nul, LoneCr, Variable, BadEscape}
+
+-- why a text is no path
+abbrev pub path_fault_text : PathFault → List ℕ
+path_fault_text Empty = codes "N1 Empty"
+path_fault_text AboveRoot = codes "N2 AboveRoot"
+path_fault_text (Unwritable place) = codes "N3 Unwritable"
+path_fault_text TooLong = codes "N4 TooLong"
+
+-- why a cutter gives no further line
+abbrev pub cut_fault_text : CutFault → List ℕ
+cut_fault_text (LineTooLong line) = codes "N5 LineTooLong"
+cut_fault_text (Truncated line) = codes "N6 Truncated"
+
+-- what no token and no value can hold
+abbrev pub lex_fault_text : LexFault → List ℕ
+lex_fault_text (Nul place) = codes "N7 Nul at " ++ decimal place
+lex_fault_text (LoneCr place) = codes "N8 LoneCr at " ++ decimal place
+lex_fault_text (Variable place) = codes "N9 Variable at " ++ decimal place
+lex_fault_text (BadEscape place) = codes "N10 BadEscape at " ++ decimal place
