@@ -5,6 +5,7 @@ pub mod Parts
 pub mod Texts
 pub mod Dashed
 pub mod Each
+pub mod Values
 pub mod Exact
 pub mod InfoTrees
 pub mod Outcome

@@ -13,3 +13,4 @@ pub mod TargetChecks
 pub mod Info
 pub mod InfoChecks
 pub mod InfoText
+pub mod Values

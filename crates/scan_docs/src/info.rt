@@ -13,6 +13,7 @@ ghost use Rattle.scan_docs.specs.Scan.{IsText};
 ghost use Rattle.scan_docs.specs.Info.{has_visibility, privacy, IsRequirement, IsModule, IsInfo};
 ghost use Rattle.scan_docs.specs.InfoChecks.{is_info_version, head_checks, modules_check, entry_shape_checks, requires_check, visibility_check, named_file_checks, requirement_checks, all_requirement_checks, module_checks, all_module_checks, info_checks};
 ghost use Rattle.scan_docs.specs.InfoText.{IsInfoText};
+ghost use Rattle.scan_docs.specs.Values.{info_of};
 ghost use Rattle.scan_docs.specs.declared.member.Member.TheVariants as m;
 
 use crate::document::read_tree;
@@ -68,6 +69,7 @@ impl Model for Info {
 pub fn info_read(alloc: Global, bytes: &[u8]) -> Result<Info, Failure<DocFault>>
     ensures accepted { IfOk result (λ info. IsAccepted info_checks IsInfo bytes.now info) }
     ensures refused { IfErr result (ForFault (IsRefused info_checks bytes.now)) }
+    ensures value { IfOk result (λ info. info ≡ info_of bytes.now) }
     ensures text { IfOk result IsInfoText }
     ensures one_answer { HasOneAnswer info_checks IsInfo bytes.now }
 {

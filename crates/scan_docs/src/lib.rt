@@ -4,8 +4,10 @@
 //!   [`spec_read`] what a target is made of. Each answers what the document means exactly where all checks hold, and else
 //!   the refusal of the first check that fails. The checks stand as lists in `specs/ScanChecks.antt`,
 //!   `specs/InfoChecks.antt` and `specs/TargetChecks.antt`, the meanings in `specs/Scan.antt`, `specs/Info.antt` and
-//!   `specs/Target.antt`; `specs/Document.antt` puts them together. That a document has one answer at most is a clause of
-//!   each call.
+//!   `specs/Target.antt`; `specs/Document.antt` puts them together. `specs/Values.antt` gives the meaning as a function of
+//!   the bytes.
+//! - [`laws`] proves of all bytes that they have one answer at most, and that the value of an accepted document is that of
+//!   the function.
 //! - [`info_write`] gives the one text of an info (`specs/InfoText.antt`), which is read as the same info.
 //! - [`Name`] and [`TargetName`] hold texts that are names (`specs/Name.antt`).
 //!
@@ -17,6 +19,7 @@ mod document;
 mod fault;
 mod info;
 mod info_text;
+pub mod laws;
 mod map_form;
 mod member;
 mod name;

@@ -10,6 +10,7 @@ ghost use Rattle.scan_docs.specs.Document.{IsAccepted, IsRefused, HasOneAnswer};
 ghost use Rattle.scan_docs.specs.Shape.{entries_of, whole_number};
 ghost use Rattle.scan_docs.specs.Scan.{IsRule, AreRules, IsRuleText};
 ghost use Rattle.scan_docs.specs.ScanChecks.{is_scan_version, head_checks, all_rule_checks, scan_checks};
+ghost use Rattle.scan_docs.specs.Values.{rules_of};
 ghost use Rattle.scan_docs.specs.declared.member.Member.TheVariants as m;
 
 use crate::document::read_tree;
@@ -34,6 +35,7 @@ pub fn scan(alloc: Global, bytes: &[u8], setting: &Setting) -> Result<Vec<Rule>,
     ensures accepted { IfOk result
         (λ rules. IsAccepted (scan_checks setting.now) (AreRules setting.now) bytes.now rules.items) }
     ensures refused { IfErr result (ForFault (IsRefused (scan_checks setting.now) bytes.now)) }
+    ensures value { IfOk result (λ rules. rules.items ≡ rules_of setting.now bytes.now) }
     ensures text { IfOk result (λ rules. All IsRuleText rules.items) }
     ensures one_answer { HasOneAnswer (scan_checks setting.now) (AreRules setting.now) bytes.now }
 {

@@ -13,6 +13,7 @@ ghost use Rattle.scan_docs.specs.Shape.{text, text_of, texts_of, given, whole_nu
 ghost use Rattle.scan_docs.specs.Name.{is_name};
 ghost use Rattle.scan_docs.specs.Target.{IsTarget, build_dir, map_form};
 ghost use Rattle.scan_docs.specs.TargetChecks.{is_target_version, head_checks, name_checks, directory_checks, list_checks, kept_checks, dyndep_checks, file_checks, target_checks};
+ghost use Rattle.scan_docs.specs.Values.{spec_of};
 ghost use Rattle.scan_docs.specs.declared.member.Member.TheVariants as m;
 
 use crate::document::read_tree;
@@ -84,6 +85,7 @@ impl Model for TargetSpec {
 pub fn spec_read(alloc: Global, bytes: &[u8]) -> Result<TargetSpec, Failure<DocFault>>
     ensures accepted { IfOk result (λ spec. IsAccepted target_checks IsTarget bytes.now spec) }
     ensures refused { IfErr result (ForFault (IsRefused target_checks bytes.now)) }
+    ensures value { IfOk result (λ spec. spec ≡ spec_of bytes.now) }
     ensures one_answer { HasOneAnswer target_checks IsTarget bytes.now }
 {
     let mut scratch = Scratch::new(alloc);

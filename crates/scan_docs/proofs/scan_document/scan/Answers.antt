@@ -1,8 +1,10 @@
+use Rattle.std.proofs.Common.{◌≡◌}
 use Rattle.std.specs.List.{All}
 use Rattle.scan_docs.specs.Tree.{view}
 use Rattle.scan_docs.specs.Scan.{AreRules, IsRuleText}
 use Rattle.scan_docs.specs.ScanChecks.{scan_checks}
-use Rattle.scan_docs.proofs.Exact.{scan_one_answer}
+use Rattle.scan_docs.specs.Values.{rules_of}
+use Rattle.scan_docs.proofs.Exact.{scan_value, scan_one_answer}
 use Rattle.scan_docs.proofs.Outcome.{accepted, refused, holds}
 use Rattle.scan_docs.proofs.PathTexts.{rules_text}
 use Rattle.scan_docs.proofs.scan_document.scan.Goals as goal
@@ -26,4 +28,10 @@ returns-clause-one_answer c = scan_one_answer c.args.setting.now c.args.bytes.no
 pub returns-clause-text : goal.returns-clause-text
 returns-clause-text c =
     let read = c.in_ok-tree.ensures.read in
-    holds (λ rules. rules.items) (scan_checks c.args.setting.now) (AreRules c.args.setting.now) c.args.bytes.now (view c.in_ok-tree.tree) read.0 read.1 (All IsRuleText) (rules_text c.args.setting.now (view c.in_ok-tree.tree)) c.read_rules.result c.read_rules.ensures
+    holds (λ rules. rules.items) (scan_checks c.args.setting.now) (AreRules c.args.setting.now) c.args.bytes.now (view c.in_ok-tree.tree) read.0 read.1 (All IsRuleText) (λ rules h. rules_text c.args.setting.now h.tree rules h.meaning) c.read_rules.result c.read_rules.ensures
+
+pub returns-clause-value : goal.returns-clause-value
+returns-clause-value c =
+    let read = c.in_ok-tree.ensures.read in
+    let s = c.args.setting.now in
+    holds (λ rules. rules.items) (scan_checks s) (AreRules s) c.args.bytes.now (view c.in_ok-tree.tree) read.0 read.1 (λ rules. rules ≡ rules_of s c.args.bytes.now) (scan_value s c.args.bytes.now) c.read_rules.result c.read_rules.ensures

@@ -1,0 +1,86 @@
+-- What a document means is the value of the functions.
+use Rattle.std.proofs.Common.{◌≡◌, ℕ, List, [], ◌∷◌, map, Bool, false, Option, Some, Result, Ok, refl, sym, ap, ap₂, unwrap_or}
+use Rattle.std.specs.List.{AllZip}
+use Rattle.serde_json.specs.Data.{Data, null}
+use Rattle.ninja_text.specs.Paths.{path_of}
+use Rattle.ninja_text.specs.declared.paths.PathFault.{PathFault}
+use Rattle.scan_docs.specs.declared.member.Member.TheVariants as m
+use Rattle.scan_docs.specs.declared.map_form.MapForm.{MapForm}
+use Rattle.scan_docs.specs.Shape.{text, text_of, entries_of}
+use Rattle.scan_docs.specs.Document.{IsTree}
+use Rattle.scan_docs.specs.Scan.{SettingValue, RuleValue, object_of, file_of, IsProvided, IsRequired, IsRule, AreRules}
+use Rattle.scan_docs.specs.Info.{ModuleValue, InfoValue, has_visibility, privacy, IsRequirement, IsModule, IsInfo}
+use Rattle.scan_docs.specs.Target.{TargetValue, IsTarget}
+use Rattle.scan_docs.specs.Values.{tree_of, path_in, provided_in, rule_in, rules_in, requirement_in, module_in, info_in, target_in}
+
+pub tree_is : (bytes : List ℕ) (d : Data) → IsTree bytes d → d ≡ tree_of bytes
+tree_is bytes d h = sym (ap (λ (o : Option Data). unwrap_or o null) h.1)
+
+path_is : (r : Result (List ℕ) PathFault) (p : List ℕ) → r ≡ Ok p → p ≡ path_in r
+path_is r p e = rw e refl
+
+some_is : {A : Type 0} (o : Option A) (x other : A) → o ≡ Some x → x ≡ unwrap_or o other
+some_is o x other e = rw e refl
+
+all_are : {A B : Type 0} (R : A → B → Type 0) (f : A → B) → ((a : A) (b : B) → R a b → b ≡ f a) → (xs : List A) (ys : List B) → AllZip R xs ys → ys ≡ map f xs
+all_are R f is [] [] h = refl
+all_are R f is [] (y ∷ ys) h = absurd h
+all_are R f is (x ∷ xs) [] h = absurd h
+all_are R f is (x ∷ xs) (y ∷ ys) h = ap₂ (λ a b. a ∷ b) (is x y h.0) (all_are R f is xs ys h.1)
+
+-- ---- scan documents
+
+module _ (s : SettingValue) where
+  provided_is : (work : Option (List ℕ)) (d : Data) (pair : List ℕ × List ℕ) → IsProvided s work d pair → pair ≡ provided_in s work d
+  provided_is work d pair h = ap₂ (λ a b. (a, b)) (some_is (text m.LogicalName d) pair.0 [] h.name) (path_is (file_of s work d) pair.1 h.file)
+
+  required_is : (d : Data) (name : List ℕ) → IsRequired d name → name ≡ text_of m.LogicalName d
+  required_is d name h = some_is (text m.LogicalName d) name [] h
+
+  rule_is : (d : Data) (rule : RuleValue) → IsRule s d rule → rule ≡ rule_in s d
+  rule_is d rule h =
+      let object = path_is (object_of s d) rule.object h.object in
+      let provided = all_are (IsProvided s (text m.WorkDirectory d)) (provided_in s (text m.WorkDirectory d)) (provided_is (text m.WorkDirectory d)) (entries_of m.Provides d) rule.provided h.provided in
+      let required = all_are IsRequired (text_of m.LogicalName) required_is (entries_of m.Requires d) rule.required h.required in
+      ap₂ (λ a (r : List (List ℕ × List ℕ) × List (List ℕ)). record { object = a; provided = r.0; required = r.1 }) object (ap₂ (λ b c. (b, c)) provided required)
+
+  pub rules_are : (d : Data) (rules : List RuleValue) → AreRules s d rules → rules ≡ rules_in s d
+  rules_are d rules h = all_are (IsRule s) (rule_in s) rule_is (entries_of m.Rules d) rules h
+
+-- ---- info documents
+
+requirement_is : (d : Data) (pair : List ℕ × List ℕ) → IsRequirement d pair → pair ≡ requirement_in d
+requirement_is d pair h = ap₂ (λ a b. (a, b)) (some_is (text m.Name d) pair.0 [] h.name) (path_is (path_of (text_of m.Bmi d)) pair.1 h.file)
+
+module_is : (with_visibility : Bool) (d : Data) (entry : ModuleValue) → IsModule with_visibility d entry → entry ≡ module_in with_visibility d
+module_is with_visibility d entry h =
+    let name = some_is (text m.Name d) entry.name [] h.name in
+    let file = path_is (path_of (text_of m.Bmi d)) entry.file h.file in
+    let required = all_are IsRequirement requirement_in requirement_is (entries_of m.Requires d) entry.required h.required in
+    let visibility = some_is (privacy with_visibility d) entry.is_private false h.visibility in
+    ap₂ (λ (p : List ℕ × List ℕ) (r : List (List ℕ × List ℕ) × Bool). record { name = p.0; file = p.1; required = r.0; is_private = r.1 }) (ap₂ (λ a b. (a, b)) name file) (ap₂ (λ a b. (a, b)) required visibility)
+
+pub info_is : (d : Data) (info : InfoValue) → IsInfo d info → info ≡ info_in d
+info_is d info h =
+    ap₂ (λ a b. record { target = a; modules = b }) (some_is (text m.Target d) info.target [] h.target)
+    (all_are (IsModule (has_visibility d)) (module_in (has_visibility d)) (module_is (has_visibility d)) (entries_of m.Modules d) info.modules h.modules)
+
+-- ---- target documents
+
+together : (f : List ℕ → List ℕ → List ℕ → Option (List ℕ) → List (List ℕ) → List (List ℕ) → List (List ℕ) → List ℕ → List ℕ → Option MapForm → Option (List ℕ) → TargetValue) (x y : TargetValue)
+    → x.target ≡ y.target → x.module_dir ≡ y.module_dir → x.module_ext ≡ y.module_ext → x.build_dir ≡ y.build_dir → x.scans ≡ y.scans → x.linked ≡ y.linked
+    → x.kept ≡ y.kept → x.dyndep ≡ y.dyndep → x.info ≡ y.info → x.map_form ≡ y.map_form → x.edges ≡ y.edges
+    → f x.target x.module_dir x.module_ext x.build_dir x.scans x.linked x.kept x.dyndep x.info x.map_form x.edges
+    ≡ f y.target y.module_dir y.module_ext y.build_dir y.scans y.linked y.kept y.dyndep y.info y.map_form y.edges
+together f x y target module_dir module_ext build_dir scans linked kept dyndep info map_form edges = cc
+
+pub target_is : (d : Data) (t : TargetValue) → IsTarget d t → t ≡ target_in d
+target_is d t h =
+    together (λ a b c d e f g h i j k. record { target = a; module_dir = b; module_ext = c; build_dir = d; scans = e; linked = f; kept = g; dyndep = h; info = i; map_form = j; edges = k }) t (target_in d)
+    (some_is (text m.Target d) t.target [] h.target)
+    (some_is (text m.ModuleDir d) t.module_dir [] h.module_dir)
+    (some_is (text m.ModuleExt d) t.module_ext [] h.module_ext)
+    (sym h.directory) (sym h.scans) (sym h.linked) (sym h.kept)
+    (some_is (text m.Dyndep d) t.dyndep [] h.dyndep)
+    (some_is (text m.Info d) t.info [] h.info)
+    (sym h.form) (sym h.edges)

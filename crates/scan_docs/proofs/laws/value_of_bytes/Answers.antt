@@ -1,0 +1,11 @@
+use Rattle.scan_docs.proofs.Exact.{scan_value, info_value, target_value}
+use Rattle.scan_docs.proofs.laws.value_of_bytes.Goals as goal
+
+pub returns-clause-scan : goal.returns-clause-scan
+returns-clause-scan c = scan_value
+
+pub returns-clause-info : goal.returns-clause-info
+returns-clause-info c = info_value
+
+pub returns-clause-target : goal.returns-clause-target
+returns-clause-target c = target_value

@@ -1,0 +1,87 @@
+-- What accepted documents mean, as functions of their bytes. Of bytes that are refused they say nothing.
+use Rattle.std.specs.Prelude.{ℕ, List, [], map, Bool, false, Option, unwrap_or, Result}
+use Rattle.std.specs.Result.{result_ok}
+use Rattle.serde_json.specs.Data.{Data, null}
+use Rattle.serde_json.specs.Read.{read}
+use Rattle.ninja_text.specs.Paths.{path_of}
+use Rattle.ninja_text.specs.declared.paths.PathFault.{PathFault}
+use Rattle.scan_docs.specs.declared.member.Member.TheVariants as m
+use Rattle.scan_docs.specs.Shape.{text, text_of, texts_of, entries_of}
+use Rattle.scan_docs.specs.Scan.{SettingValue, RuleValue, object_of, file_of}
+use Rattle.scan_docs.specs.Info.{ModuleValue, InfoValue, has_visibility, privacy}
+use Rattle.scan_docs.specs.Target.{TargetValue, build_dir, map_form}
+
+-- the tree of the bytes; where they have none that of `null`, which has no members
+abbrev pub tree_of : List ℕ → Data
+tree_of bytes = unwrap_or (read bytes) null
+
+-- the path, where it is accepted
+abbrev pub path_in : Result (List ℕ) PathFault → List ℕ
+path_in path = unwrap_or (result_ok path) []
+
+-- ---- scan documents
+
+-- a provided module: its name, and its file
+abbrev pub provided_in : SettingValue → Option (List ℕ) → Data → List ℕ × List ℕ
+provided_in s work d = (text_of m.LogicalName d, path_in (file_of s work d))
+
+-- a rule, placed and named as the setting says
+abbrev pub rule_in : SettingValue → Data → RuleValue
+rule_in s d = record {
+  object = path_in (object_of s d);
+  provided = map (provided_in s (text m.WorkDirectory d)) (entries_of m.Provides d);
+  required = map (text_of m.LogicalName) (entries_of m.Requires d);
+}
+
+-- the rules, in order
+abbrev pub rules_in : SettingValue → Data → List RuleValue
+rules_in s d = map (rule_in s) (entries_of m.Rules d)
+
+-- the rules of a scan document
+unfoldable pub rules_of : SettingValue → List ℕ → List RuleValue
+rules_of s bytes = rules_in s (tree_of bytes)
+
+-- ---- info documents
+
+-- a module that a module requires: its name, and its file
+abbrev pub requirement_in : Data → List ℕ × List ℕ
+requirement_in d = (text_of m.Name d, path_in (path_of (text_of m.Bmi d)))
+
+-- a module
+abbrev pub module_in : Bool → Data → ModuleValue
+module_in with_visibility d = record {
+  name = text_of m.Name d;
+  file = path_in (path_of (text_of m.Bmi d));
+  required = map requirement_in (entries_of m.Requires d);
+  is_private = unwrap_or (privacy with_visibility d) false;
+}
+
+-- an info
+abbrev pub info_in : Data → InfoValue
+info_in d = record { target = text_of m.Target d; modules = map (module_in (has_visibility d)) (entries_of m.Modules d) }
+
+-- the info of an info document
+unfoldable pub info_of : List ℕ → InfoValue
+info_of bytes = info_in (tree_of bytes)
+
+-- ---- target documents
+
+-- the members of a target
+abbrev pub target_in : Data → TargetValue
+target_in d = record {
+  target = text_of m.Target d;
+  module_dir = text_of m.ModuleDir d;
+  module_ext = text_of m.ModuleExt d;
+  build_dir = build_dir d;
+  scans = texts_of m.Scans d;
+  linked = texts_of m.Linked d;
+  kept = texts_of m.Private d;
+  dyndep = text_of m.Dyndep d;
+  info = text_of m.Info d;
+  map_form = map_form d;
+  edges = text m.Edges d;
+}
+
+-- the members of a target document
+unfoldable pub spec_of : List ℕ → TargetValue
+spec_of bytes = target_in (tree_of bytes)
