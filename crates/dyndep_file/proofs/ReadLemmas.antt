@@ -1,5 +1,5 @@
 -- Reading to the end of a reader.
-use Rattle.std.proofs.Common.{inl, inr, ◌≡◌, ℕ, ◌≤◌, List, [], ◌++◌, length, take, refl, sym, ap, ◌∙◌, subst, append_assoc, length-append, ◌+◌, Option, Some, None, Ok, Err, arith}
+use Rattle.std.proofs.Common.{inl, inr, ◌≡◌, ℕ, ◌≤◌, ◌-◌, ◌^◌, false, List, [], ◌∷◌, ◌++◌, length, take, refl, sym, ap, ◌∙◌, subst, append_assoc, length-append, ◌+◌, Option, Some, None, Ok, Err, arith}
 use Rattle.std.specs.Prelude.{Result}
 use Rattle.std.specs.Result.{IsErrAnd}
 use Rattle.std.specs.Io.KnownBytes.{Consumes, Keeps, IsAtEnd}
@@ -11,7 +11,11 @@ use Rattle.dyndep_file.specs.Classes.{Class}
 use Rattle.ninja_text.specs.Lines.{line_limit}
 use Rattle.dyndep_file.specs.Reading.{AreOfClasses}
 use Rattle.dyndep_file.specs.Reader.{Reader, IsStateAfter, HasRead, Ends, IsFaultIn, IsFailureIn}
-use Rattle.dyndep_file.specs.ReadingAll.{IsUnrefused, AnswersAfter}
+use Rattle.std.specs.declared.io.Error.{Error}
+use Rattle.ninja_text.specs.Counting.{held, failures, one_more, Call, Counts}
+use Rattle.ninja_text.specs.declared.counting.Counted.{Counted}
+use Rattle.std.proofs.lemmas.List.{flat_map_more}
+use Rattle.dyndep_file.specs.ReadingAll.{IsUnrefused, buffer_len, ReadTurn, bytes_of, bytes_read, GivesSome, ReadsInTurn, LastCall, AtEnd, Failed, Refused, NotMade, IsReadFrom}
 use Rattle.dyndep_file.specs.declared.faults.LineFault.{LineFault}
 use Rattle.dyndep_file.specs.declared.faults.LineFault.TheVariants.{LineTooLong}
 use Rattle.dyndep_file.specs.declared.faults.ReadFault.{ReadFault}
@@ -24,22 +28,23 @@ use Rattle.ninja_text.proofs.CutLemmas.{divides_one}
 use Rattle.dyndep_file.specs.Reading.{IsEndFault}
 
 -- known bytes that are consumed in several reads
-pub consumes_more : (a b c : Option (List ℕ)) (x y : List ℕ) → Consumes a b x → Consumes b c y → Consumes a c (x ++ y)
+consumes_more : (a b c : Option (List ℕ)) (x y : List ℕ) → Consumes a b x → Consumes b c y → Consumes a c (x ++ y)
 consumes_more None b c x y h k = tt
 consumes_more (Some p) None c x y h k = absurd h
 consumes_more (Some p) (Some q) None x y h k = absurd k
 consumes_more (Some p) (Some q) (Some r) x y h k = h ∙ ap (λ l. x ++ l) k ∙ sym (append_assoc x y r)
 
 -- the same, where the last read took nothing
-pub consumes_kept : (a b c : Option (List ℕ)) (x : List ℕ) → Consumes a b x → Keeps b c → Consumes a c (x ++ [])
+consumes_kept : (a b c : Option (List ℕ)) (x : List ℕ) → Consumes a b x → Keeps b c → Consumes a c (x ++ [])
 consumes_kept None b c x h k = tt
 consumes_kept (Some p) None c x h k = absurd h
 consumes_kept (Some p) (Some q) None x h k = absurd k
 consumes_kept (Some p) (Some q) (Some r) x h k = h ∙ ap (λ l. x ++ l) (sym k) ∙ ap (λ l. l ++ r) (sym (append-nil x))
 
--- the same, where there was no further read
-pub consumes_none : (a b : Option (List ℕ)) (x : List ℕ) → Consumes a b x → Consumes a b (x ++ [])
-consumes_none a b x h = subst (Consumes a b) (sym (append-nil x)) h
+-- known bytes of which none is read
+consumes_nothing : (a : Option (List ℕ)) → Consumes a a []
+consumes_nothing None = tt
+consumes_nothing (Some p) = refl
 
 -- what a reader took has no fault
 pub unrefused : (bytes : List ℕ) (r : Reader) → HasRead bytes r → IsUnrefused bytes
@@ -66,26 +71,133 @@ unrefused bytes r has line fault refused = go refused where
       let full : line_limit ≤ length e.0.rest = too_long fault e.0.rest e.0.classes e.1 e.0.reason in
       omega (arith, ap length same.1, state.short)
 
--- what `finish` answers at the reader's end
-pub ended : (front : List ℕ) (left : Option (List ℕ)) (before now : ℕ) (result : Result (List StatementValue) (Failure ReadFault)) → Ends front result → IsAtEnd left
-    → now ≡ before → AnswersAfter front [] left before now result
-ended front left before now (Ok statements) ends at count = (refl, at, count, ends)
-ended front left before now (Err (Fault (AtLine line fault))) ends at count = (count, inr (refl, at, ends))
-ended front left before now (Err (Fault Io)) ends at count = absurd ends
-ended front left before now (Err Memory) ends at count = count
-
--- what a refused `feed` answers
-pub refused_answer : (front piece : List ℕ) (left : Option (List ℕ)) (before now : ℕ) (failure : Failure ReadFault) → IsFailureIn (front ++ piece) failure → now ≡ before
-    → AnswersAfter front piece left before now (Err failure)
-refused_answer front piece left before now (Fault (AtLine line fault)) h count = (count, inl h)
-refused_answer front piece left before now (Fault Io) h count = absurd h
-refused_answer front piece left before now Memory h count = count
-
 -- what a refused `feed` answers is the answer of the call
-pub err_is : (result : Result (List StatementValue) (Failure ReadFault)) (failure : Failure ReadFault) → IsErrAnd result (λ e. e ≡ failure) → Err failure ≡ result
+err_is : (result : Result (List StatementValue) (Failure ReadFault)) (failure : Failure ReadFault) → IsErrAnd result (λ e. e ≡ failure) → Err failure ≡ result
 err_is (Ok statements) failure h = absurd h
 err_is (Err e) failure h = ap Err (sym h)
 
--- at least one byte a call
-pub one_more_byte : (bytes buf : List ℕ) (n calls : ℕ) → n ≤ length buf → (n ≡ 0 → ⊥) → calls ≤ length bytes → calls + 1 ≤ length (bytes ++ take n buf)
-one_more_byte bytes buf n calls within some so_far = rw length-append (let len : length (take n buf) ≡ n = length-take-le n buf within in omega arith)
+-- ---- the calls of a reader
+
+-- The calls so far each gave some bytes, and the reader of dyndep files was fed all of these.
+pub record ReadSoFar {R : Type 0} (remaining : R → Option (List ℕ)) (reads : Call R) (old now : R) (reader : Reader) (calls : ℕ) : Type 0 where
+  pub turns : List (ReadTurn R)
+  pub in_turn : ReadsInTurn reads old turns now
+  pub consumed : Consumes (remaining old) (remaining now) (bytes_read turns)
+  pub has_read : HasRead (bytes_read turns) reader
+  pub counted : calls ≤ length (bytes_read turns)
+
+-- no call so far
+pub no_call : {R : Type 0} (remaining : R → Option (List ℕ)) (reads : Call R) (old : R) (reader : Reader) → HasRead [] reader → ReadSoFar remaining reads old old reader 0
+no_call remaining reads old reader h = record {
+  turns = [];
+  in_turn = refl;
+  consumed = consumes_nothing (remaining old);
+  has_read = h;
+  counted = omega arith;
+}
+
+-- one more call behind the others
+one_more_turn : {R : Type 0} (reads : Call R) (old now : R) (turns : List (ReadTurn R)) (turn : ReadTurn R) → ReadsInTurn reads old turns now → GivesSome reads now turn
+    → ReadsInTurn reads old (turns ++ turn ∷ []) turn.reader
+one_more_turn reads old now [] turn h gives = (subst (λ r. GivesSome reads r turn) (sym h) gives, refl)
+one_more_turn reads old now (first ∷ turns) turn h gives = (h.0, one_more_turn reads first.reader now turns turn h.1 gives)
+
+-- its bytes are behind the others'
+bytes_more : {R : Type 0} (turns : List (ReadTurn R)) (turn : ReadTurn R) → bytes_read turns ++ bytes_of turn ≡ bytes_read (turns ++ turn ∷ [])
+bytes_more turns turn = flat_map_more bytes_of [] turns turn
+
+-- a call gave one byte at least
+some_bytes : {R : Type 0} (reads : Call R) (now : R) (turn : ReadTurn R) (bytes : List ℕ) (calls : ℕ) → GivesSome reads now turn → calls ≤ length bytes → calls + 1 ≤ length (bytes ++ bytes_of turn)
+some_bytes reads now turn bytes calls gives so_far =
+    rw length-append (let len : length (take turn.count turn.buffer) ≡ turn.count = length-take-le turn.count turn.buffer (omega (arith, gives.within, gives.buffer)) in
+    omega (arith, gives.some))
+
+-- a call that gave bytes which were not refused
+pub one_more_call : {R : Type 0} (remaining : R → Option (List ℕ)) (reads : Call R) (old now : R) (before after : Reader) (calls : ℕ) (turn : ReadTurn R)
+    → (s : ReadSoFar remaining reads old now before calls) → GivesSome reads now turn → Consumes (remaining now) (remaining turn.reader) (bytes_of turn)
+    → HasRead (bytes_read s.turns ++ bytes_of turn) after → ReadSoFar remaining reads old turn.reader after (calls + 1)
+one_more_call remaining reads old now before after calls turn s gives consumed fed =
+    let bytes = bytes_more s.turns turn in
+    record {
+      turns = s.turns ++ turn ∷ [];
+      in_turn = one_more_turn reads old now s.turns turn s.in_turn gives;
+      consumed = subst (Consumes (remaining old) (remaining turn.reader)) bytes (consumes_more (remaining old) (remaining now) (remaining turn.reader) (bytes_read s.turns) (bytes_of turn) s.consumed consumed);
+      has_read = subst (λ x. HasRead x after) bytes fed;
+      counted = subst (λ x. calls + 1 ≤ length x) bytes (some_bytes reads now turn (bytes_read s.turns) calls gives s.counted);
+    }
+
+-- ---- the answers
+
+-- the count of failed calls where none has failed
+kept : {R : Type 0} (old new : Counted R) → failures new ≡ failures old → Counts false (failures old) (failures new)
+kept old new h = h
+
+-- at the reader's end
+pub ended : {R : Type 0} (remaining : R → Option (List ℕ)) (reads : Call R) (old new : Counted R) (now : R) (reader : Reader) (calls : ℕ) (buffer : List ℕ) (result : Result (List StatementValue) (Failure ReadFault))
+    → (s : ReadSoFar remaining reads (held old) now reader calls) → length buffer ≡ buffer_len → reads now (held new) (Ok 0) buffer
+    → Consumes (remaining now) (remaining (held new)) [] → IsAtEnd (remaining (held new)) → failures new ≡ failures old
+    → Ends (bytes_read s.turns) result → IsReadFrom remaining reads old new result
+ended remaining reads old new now reader calls buffer result s room call consumed at_end count ends = record {
+  turns = s.turns;
+  before = now;
+  last = AtEnd;
+  in_turn = s.in_turn;
+  ended = (buffer, room, call);
+  unrefused = unrefused (bytes_read s.turns) reader s.has_read;
+  answer = ends;
+  count = count;
+  consumed = consumes_more (remaining (held old)) (remaining now) (remaining (held new)) (bytes_read s.turns) [] s.consumed consumed;
+  at_end = λ _. at_end;
+}
+
+-- a call failed
+pub failed : {R : Type 0} (remaining : R → Option (List ℕ)) (reads : Call R) (old new : Counted R) (now : R) (reader : Reader) (calls : ℕ) (buffer : List ℕ) (error : Error)
+    → (s : ReadSoFar remaining reads (held old) now reader calls) → length buffer ≡ buffer_len → reads now (held new) (Err error) buffer
+    → Keeps (remaining now) (remaining (held new)) → failures new ≡ one_more (failures old) → IsReadFrom remaining reads old new (Err (Fault Io))
+failed remaining reads old new now reader calls buffer error s room call keeps count = record {
+  turns = s.turns;
+  before = now;
+  last = Failed;
+  in_turn = s.in_turn;
+  ended = (buffer, error, room, call);
+  unrefused = unrefused (bytes_read s.turns) reader s.has_read;
+  answer = refl;
+  count = count;
+  consumed = consumes_kept (remaining (held old)) (remaining now) (remaining (held new)) (bytes_read s.turns) s.consumed keeps;
+  at_end = λ e. absurd (cc);
+}
+
+-- a call gave bytes that were refused
+pub refused : {R : Type 0} (remaining : R → Option (List ℕ)) (reads : Call R) (old new : Counted R) (now : R) (reader : Reader) (calls : ℕ) (buffer : List ℕ) (count : ℕ) (failure : Failure ReadFault)
+    (result : Result (List StatementValue) (Failure ReadFault)) → (s : ReadSoFar remaining reads (held old) now reader calls)
+    → GivesSome reads now (record { reader = held new; buffer = buffer; count = count })
+    → Consumes (remaining now) (remaining (held new)) (take count buffer) → failures new ≡ failures old
+    → IsFailureIn (bytes_read s.turns ++ take count buffer) failure → IsErrAnd result (λ e. e ≡ failure) → IsReadFrom remaining reads old new result
+refused remaining reads old new now reader calls buffer count failure result s gives consumed kept is_in is_err = record {
+  turns = s.turns;
+  before = now;
+  last = Refused (record { reader = held new; buffer = buffer; count = count });
+  in_turn = s.in_turn;
+  ended = (gives, refl);
+  unrefused = unrefused (bytes_read s.turns) reader s.has_read;
+  answer = (failure, is_in, sym (err_is result failure is_err));
+  count = kept;
+  consumed = consumes_more (remaining (held old)) (remaining now) (remaining (held new)) (bytes_read s.turns) (take count buffer) s.consumed consumed;
+  at_end = λ e. absurd (cc);
+}
+
+-- no further call is made
+pub no_more : {R : Type 0} (remaining : R → Option (List ℕ)) (reads : Call R) (old new : Counted R) (reader : Reader) (calls : ℕ)
+    → ReadSoFar remaining reads (held old) (held new) reader calls → failures new ≡ failures old → 2 ^ 64 - 1 ≤ calls → IsReadFrom remaining reads old new (Err (Fault Io))
+no_more remaining reads old new reader calls s count many = record {
+  turns = s.turns;
+  before = held new;
+  last = NotMade;
+  in_turn = s.in_turn;
+  ended = refl;
+  unrefused = unrefused (bytes_read s.turns) reader s.has_read;
+  answer = (omega (arith, many, s.counted), refl);
+  count = count;
+  consumed = subst (Consumes (remaining (held old)) (remaining (held new))) (sym (append-nil (bytes_read s.turns))) s.consumed;
+  at_end = λ e. absurd (cc);
+}

@@ -5,6 +5,7 @@ use Rattle.std.specs.List.{position_from}
 use Rattle.std.specs.Option.{option_or}
 use Rattle.std.proofs.lemmas.List.Elements.{All-nil, All-cons}
 use Rattle.std.proofs.lemmas.Iterator.Adapters.{position_from-zero}
+use Rattle.ninja_text.specs.Counting.{Call}
 use Rattle.ninja_text.specs.declared.counting.Counted.{Counted}
 use Rattle.ninja_text.specs.declared.failure.Failure.{Failure}
 use Rattle.ninja_text.specs.declared.failure.Failure.TheVariants.{Memory, Fault}
@@ -14,7 +15,7 @@ use Rattle.ninja_text.specs.Escapes.{is_writable, IsWritable}
 use Rattle.ninja_text.proofs.ForCallers.{is_writable-meaning}
 use Rattle.dyndep_file.specs.StatementValue.{StatementValue}
 use Rattle.dyndep_file.specs.Writing.{build_line, dyndep_text}
-use Rattle.dyndep_file.specs.WriteFaults.{text_unless, text_or_fault, LeavesWriter, AnswersFault, write_fault, paths_of, statement_fault, fault_from, CanBeWritten}
+use Rattle.dyndep_file.specs.WriteFaults.{text_unless, text_or_fault, LeavesWriter, StopsInTurn, AnswersFault, write_fault, paths_of, statement_fault, fault_from, CanBeWritten}
 use Rattle.dyndep_file.specs.declared.writing.WriteFault.{WriteFault}
 use Rattle.dyndep_file.specs.declared.writing.WriteFault.TheVariants.{Unwritable, StatementTooLong, Io}
 use Rattle.dyndep_file.proofs.Positions.{position_none}
@@ -142,6 +143,14 @@ failed contents out text statements Memory h = (refl, tt)
 failed contents out text statements (Fault (Unwritable statement path)) h = (refl, told (write_fault statements) statements (Unwritable statement path) h)
 failed contents out text statements (Fault (StatementTooLong statement)) h = (refl, told (write_fault statements) statements (StatementTooLong statement) h)
 failed contents out text statements (Fault (Io count)) h = absurd (never_io 0 statements count (told (write_fault statements) statements (Io count) h))
+
+-- No call of the writer was made then.
+pub uncalled : {W : Type 0} (writes : Call W) (out : W) (text : List ℕ) (statements : List StatementValue) (failure : Failure WriteFault)
+    → Gives {T = Vec ℕ Global} (λ made. made.items) (Err failure) (text_or_fault statements) → StopsInTurn writes out out text failure
+uncalled writes out text statements Memory h = refl
+uncalled writes out text statements (Fault (Unwritable statement path)) h = refl
+uncalled writes out text statements (Fault (StatementTooLong statement)) h = refl
+uncalled writes out text statements (Fault (Io count)) h = absurd (never_io 0 statements count (told (write_fault statements) statements (Io count) h))
 
 -- A text that was made is the text of the statements, which have no fault.
 pub made : (statements : List StatementValue) (text : Vec ℕ Global) → Gives {T = Vec ℕ Global} (λ made. made.items) (Ok text) (text_or_fault statements) → (write_fault statements ≡ None) × (text.items ≡ dyndep_text statements)

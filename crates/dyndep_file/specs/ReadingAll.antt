@@ -1,12 +1,14 @@
--- What reading to the end of a reader answers.
-use Rattle.std.specs.Prelude.{◌≡◌, ℕ, ◌-◌, ◌^◌, ◌≤◌, List, [], ◌++◌, length, ◌⊎◌, Option, Result, Ok, Err}
+-- Reading to the end of a reader: which calls of the reader are made, and what is answered.
+use Rattle.std.specs.Prelude.{◌≡◌, ℕ, ◌<◌, ◌≤◌, ◌-◌, ◌^◌, Bool, true, false, List, [], ◌∷◌, ◌++◌, length, take, Option, Result, Ok, Err}
+use Rattle.std.specs.List.{flat_map}
 use Rattle.std.specs.Io.KnownBytes.{Consumes, IsAtEnd}
-use Rattle.ninja_text.specs.Counting.{one_more}
+use Rattle.std.specs.declared.io.Error.{Error}
+use Rattle.ninja_text.specs.Counting.{held, failures, Call, Counts}
+use Rattle.ninja_text.specs.declared.counting.Counted.{Counted}
 use Rattle.ninja_text.specs.declared.failure.Failure.{Failure}
-use Rattle.ninja_text.specs.declared.failure.Failure.TheVariants.{Memory, Fault}
+use Rattle.ninja_text.specs.declared.failure.Failure.TheVariants.{Fault}
 use Rattle.dyndep_file.specs.StatementValue.{StatementValue}
-use Rattle.dyndep_file.specs.Reading.{StandsFor, FaultyEnd}
-use Rattle.dyndep_file.specs.Reader.{IsFaultIn}
+use Rattle.dyndep_file.specs.Reader.{IsFaultIn, IsFailureIn, Ends}
 use Rattle.dyndep_file.specs.declared.faults.LineFault.{LineFault}
 use Rattle.dyndep_file.specs.declared.faults.ReadFault.{ReadFault}
 use Rattle.dyndep_file.specs.declared.faults.ReadFault.TheVariants.{AtLine, Io}
@@ -15,20 +17,86 @@ use Rattle.dyndep_file.specs.declared.faults.ReadFault.TheVariants.{AtLine, Io}
 abbrev pub IsUnrefused : List ℕ → Type 0
 IsUnrefused bytes = (line : ℕ) (fault : LineFault) → IsFaultIn bytes (AtLine line fault) → ⊥
 
--- What is answered after bytes that were not refused, and a last piece; by what the reader still holds, and how many of its calls
--- had failed before and have now.
-abbrev pub AnswersAfter : List ℕ → List ℕ → Option (List ℕ) → ℕ → ℕ → Result (List StatementValue) (Failure ReadFault) → Type 0
-AnswersAfter front piece left before now (Ok statements) = (piece ≡ []) × IsAtEnd left × (now ≡ before) × StandsFor front statements
-AnswersAfter front piece left before now (Err (Fault (AtLine line fault))) =
-    (now ≡ before) × (IsFaultIn (front ++ piece) (AtLine line fault) ⊎ ((piece ≡ []) × IsAtEnd left × FaultyEnd front (record { line = line; fault = fault })))
-AnswersAfter front piece left before now (Err (Fault Io)) = (piece ≡ []) × ((now ≡ one_more before) ⊎ ((now ≡ before) × (2 ^ 64 - 1 ≤ length front)))
-AnswersAfter front piece left before now (Err Memory) = now ≡ before
+-- the length of the buffer that each call is given
+abbrev pub buffer_len : ℕ
+buffer_len = 4096
 
--- The bytes that were read: those that were not refused, and the last call's where it was the last for its bytes.
-pub record IsReadFrom (old left : Option (List ℕ)) (before now : ℕ) (result : Result (List StatementValue) (Failure ReadFault)) : Type 0 where
-  pub front : List ℕ
-  pub piece : List ℕ
-  pub consumed : Consumes old left (front ++ piece)
-  pub within : length piece ≤ 4096
-  pub unrefused : IsUnrefused front
-  pub answer : AnswersAfter front piece left before now result
+-- a call that gave bytes: the reader after it, the buffer, and how many bytes of that it gave
+pub record ReadTurn (R : Type 0) : Type 0 where
+  pub reader : R
+  pub buffer : List ℕ
+  pub count : ℕ
+
+-- the bytes that a call gave
+abbrev pub bytes_of : {R : Type 0} → ReadTurn R → List ℕ
+bytes_of turn = take turn.count turn.buffer
+
+-- the bytes that calls gave, one call after another
+abbrev pub bytes_read : {R : Type 0} → List (ReadTurn R) → List ℕ
+bytes_read turns = flat_map bytes_of turns
+
+-- The reader was called with the buffer, and gave some bytes.
+pub record GivesSome {R : Type 0} (reads : Call R) (reader : R) (turn : ReadTurn R) : Type 0 where
+  pub some : 0 < turn.count
+  pub within : turn.count ≤ buffer_len
+  pub buffer : length turn.buffer ≡ buffer_len
+  pub call : reads reader turn.reader (Ok turn.count) turn.buffer
+
+-- Calls of a reader, one after another, each giving some bytes: from this reader to the last one.
+abbrev pub ReadsInTurn : {R : Type 0} → Call R → R → List (ReadTurn R) → R → Type 0
+ReadsInTurn reads reader [] last = reader ≡ last
+ReadsInTurn reads reader (turn ∷ turns) last = GivesSome reads reader turn × ReadsInTurn reads turn.reader turns last
+
+-- The call after those: the reader's end, an error, bytes that were refused, or none was made.
+pub data LastCall (R : Type 0) : Type 0 where
+  AtEnd : LastCall R
+  Failed : LastCall R
+  Refused : ReadTurn R → LastCall R
+  NotMade : LastCall R
+
+-- the bytes that it gave
+abbrev pub last_bytes : {R : Type 0} → LastCall R → List ℕ
+last_bytes AtEnd = []
+last_bytes Failed = []
+last_bytes (Refused turn) = bytes_of turn
+last_bytes NotMade = []
+
+-- whether it failed
+abbrev pub has_failed : {R : Type 0} → LastCall R → Bool
+has_failed AtEnd = false
+has_failed Failed = true
+has_failed (Refused turn) = false
+has_failed NotMade = false
+
+-- The call that led from one reader to the other was answered so.
+abbrev pub IsLastCall : {R : Type 0} → Call R → R → R → LastCall R → Type 0
+IsLastCall reads before after AtEnd =
+    (buffer : List ℕ) × (length buffer ≡ buffer_len) × reads before after (Ok 0) buffer
+IsLastCall reads before after Failed =
+    (buffer : List ℕ) × (error : Error) × (length buffer ≡ buffer_len) × reads before after (Err error) buffer
+IsLastCall reads before after (Refused turn) = GivesSome reads before turn × (turn.reader ≡ after)
+IsLastCall reads before after NotMade = before ≡ after
+
+-- What is answered, by the bytes of the calls before the last one, and by that: at the reader's end what `finish` answers, `Io`
+-- for an error, for bytes that are refused the fault that is in them or want of memory, and `Io` at 2^64 - 1 bytes.
+abbrev pub AnswersAfter : {R : Type 0} → List ℕ → LastCall R → Result (List StatementValue) (Failure ReadFault) → Type 0
+AnswersAfter front AtEnd result = Ends front result
+AnswersAfter front Failed result = result ≡ Err (Fault Io)
+AnswersAfter front (Refused turn) result =
+    (failure : Failure ReadFault) × IsFailureIn (front ++ bytes_of turn) failure × (result ≡ Err failure)
+AnswersAfter front NotMade result = (2 ^ 64 - 1 ≤ length front) × (result ≡ Err (Fault Io))
+
+-- Calls gave bytes that were not refused, there was one last call, or none, and no other; and the answer is of these bytes.
+pub record IsReadFrom {R : Type 0} (remaining : R → Option (List ℕ)) (reads : Call R) (old new : Counted R)
+    (result : Result (List StatementValue) (Failure ReadFault)) : Type 0 where
+  pub turns : List (ReadTurn R)
+  pub before : R
+  pub last : LastCall R
+  pub in_turn : ReadsInTurn reads (held old) turns before
+  pub ended : IsLastCall reads before (held new) last
+  pub unrefused : IsUnrefused (bytes_read turns)
+  pub answer : AnswersAfter (bytes_read turns) last result
+  pub count : Counts (has_failed last) (failures old) (failures new)
+  -- where the bytes that the reader still has are known
+  pub consumed : Consumes (remaining (held old)) (remaining (held new)) (bytes_read turns ++ last_bytes last)
+  pub at_end : last ≡ AtEnd → IsAtEnd (remaining (held new))
