@@ -1,5 +1,5 @@
 -- The order in which a search in depth leaves the nodes.
-use Rattle.std.specs.Prelude.{◌≡◌, ℕ, ◌+◌, ◌<◌, ◌≤◌, Bool, true, false, List, [], ◌∷◌, length, slice_index, slice_index_or, Contains, All, ◌⊎◌, Option, MatchOption}
+use Rattle.std.specs.Prelude.{◌≡◌, ℕ, ◌+◌, ◌<◌, ◌≤◌, Bool, true, false, List, [], ◌∷◌, length, slice_index, slice_index_or, Contains, All, ◌⊎◌, Option, Some, None}
 use Rattle.dep_order.specs.Needs.{needs_of, NodeNeeds, Reaches}
 use Rattle.dep_order.specs.Users.{one_if, count_of}
 
@@ -38,9 +38,17 @@ pub record IsInDepth (needs : List (List ℕ)) (seen : List Bool) (places path l
 abbrev pub SeesMore : List Bool → List Bool → Type 0
 SeesMore seen new_seen = (node : ℕ) → is_seen seen node ≡ true → is_seen new_seen node ≡ true
 
--- the first place from there on whose node isn't seen
+-- the nodes of the row from the one place up to the other are seen
+abbrev pub AreSeen : List ℕ → List Bool → ℕ → ℕ → Type 0
+AreSeen row seen from end =
+    (k : ℕ) → from ≤ k → k < end → is_seen seen (slice_index row k) ≡ true
+
+-- the first place from there on whose node isn't seen, none exactly where all from there on are;
+-- nothing is said of the places before
 abbrev pub IsFirstUnseen : List ℕ → List Bool → ℕ → Option ℕ → Type 0
-IsFirstUnseen row seen from found =
-    MatchOption found
-    ((k : ℕ) → from ≤ k → k < length row → is_seen seen (slice_index row k) ≡ true)
-    (λ place. (place < length row) × (is_seen seen (slice_index row place) ≡ false) × ((k : ℕ) → from ≤ k → k < place → is_seen seen (slice_index row k) ≡ true))
+IsFirstUnseen row seen from None = AreSeen row seen from (length row)
+IsFirstUnseen row seen from (Some place) =
+    (from ≤ place)
+    × (place < length row)
+    × (is_seen seen (slice_index row place) ≡ false)
+    × AreSeen row seen from place

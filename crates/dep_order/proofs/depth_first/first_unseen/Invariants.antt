@@ -1,6 +1,5 @@
-use Rattle.std.proofs.Common.{◌≡◌, ℕ, ◌<◌, ◌≤◌, slice_index, true}
-use Rattle.dep_order.specs.Postorders.{is_seen}
+use Rattle.dep_order.specs.Postorders.{AreSeen}
 use Rattle.dep_order.proofs.depth_first.first_unseen.Given as goal
 
 abbrev pub invariant-loop-place : goal.invariant-loop-place
-invariant-loop-place l = (k : ℕ) → l.from ≤ k → k < l.place → is_seen l.seen (slice_index l.row k) ≡ true
+invariant-loop-place l = AreSeen l.row l.seen l.from l.place

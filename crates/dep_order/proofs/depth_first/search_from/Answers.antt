@@ -44,15 +44,15 @@ loop-node-preserved-in-Continue-branch-3 c =
     first_unseen_at c.row_of-row.result.now (needs_of (lists c.args.needs.now) c.in-Some.node) c.as_slice.result.now c.loop-node.seen.items c.index-in-Some.result.now (slice_index c.loop-node.places.items c.in-Some.node) (Some c.in-Some-first_unseen.place) c.row_of-row.ensures c.as_slice.ensures.value from_is c.in-Some-first_unseen.ensures in
     let at : slice_index (needs_of (lists c.args.needs.now) c.in-Some.node) c.in-Some-first_unseen.place ≡ slice_index c.row_of-row.result.now c.in-Some-first_unseen.place = ap (λ row. slice_index row c.in-Some-first_unseen.place) (sym c.row_of-row.ensures) in
     let next_lt : slice_index c.row_of-row.result.now c.in-Some-first_unseen.place < length (lists c.args.needs.now) =
-    omega (arith, row_nodes (lists c.args.needs.now) c.in-Some.node (length (lists c.args.needs.now)) (omega arith) node_lt c.requires.nodes c.in-Some-first_unseen.place 0 found.0, at) in
-    let unseen : is_seen c.loop-node.seen.items (slice_index c.row_of-row.result.now c.in-Some-first_unseen.place) ≡ false = subst (λ x. is_seen c.loop-node.seen.items x ≡ false) at found.1 in
+    omega (arith, row_nodes (lists c.args.needs.now) c.in-Some.node (length (lists c.args.needs.now)) (omega arith) node_lt c.requires.nodes c.in-Some-first_unseen.place 0 found.1, at) in
+    let unseen : is_seen c.loop-node.seen.items (slice_index c.row_of-row.result.now c.in-Some-first_unseen.place) ≡ false = subst (λ x. is_seen c.loop-node.seen.items x ≡ false) at found.2 in
     let kept = sees_more c.loop-node.seen.items (slice_index c.row_of-row.result.now c.in-Some-first_unseen.place) (omega (arith, next_lt, c.loop-node.invariant.in_depth.seen_each)) in
     record {
       in_depth =
           subst (λ xs. IsInDepth (lists c.args.needs.now) (set c.loop-node.seen.items (slice_index c.row_of-row.result.now c.in-Some-first_unseen.place) true) (set c.loop-node.places.items c.in-Some.node (c.in-Some-first_unseen.place + 1)) xs c.loop-node.left.items)
           (sym (c.in_ok-push-in-Some-first_unseen-2.ensures.items ∙ ap (λ xs. xs ++ slice_index c.row_of-row.result.now c.in-Some-first_unseen.place ∷ []) c.in_ok-push-in-Some-first_unseen.ensures.items))
           (entered (lists c.args.needs.now) c.loop-node.seen.items c.loop-node.places.items c.pop.new.self.items c.loop-node.path.items c.loop-node.left.items c.in-Some.node c.in-Some-first_unseen.place (slice_index c.row_of-row.result.now c.in-Some-first_unseen.place)
-          c.in-Some.ensures.items node_lt next_lt found.0 at unseen found.2 c.loop-node.invariant.in_depth);
+          c.in-Some.ensures.items node_lt next_lt found.1 at unseen found.3 c.loop-node.invariant.in_depth);
       root_seen = kept c.args.root c.loop-node.invariant.root_seen;
       kept = λ node e. kept node (c.loop-node.invariant.kept node e);
     }
