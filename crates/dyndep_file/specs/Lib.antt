@@ -1,6 +1,7 @@
 pub mod StatementValue
 pub mod Writing
 pub mod WriteFaults
+pub mod FaultTexts
 pub mod Classes
 pub mod Grammar
 pub mod Faults

@@ -8,10 +8,10 @@
 //!   it, or the first fault of `specs/WriteFaults.antt` is told before the first byte. The grammar relates the text to the
 //!   statements, and to no other list. [`writable_statements`] proves that there is no such fault exactly where each path has a
 //!   spelling and each build line keeps the limit.
+//! - How [`LineFault`], [`ReadFault`] and [`WriteFault`] are printed is proved too (`specs/FaultTexts.antt`).
 //! - [`laws`] proves of those definitions that a text has one list of statements or a fault, and not both.
 //!
-//! It stands on `ninja_text`, which cuts the lines, tells their tokens, spells paths and counts failed calls, and on
-//! `thiserror` for the texts of faults.
+//! It stands on `ninja_text`, which cuts the lines, tells their tokens, spells paths and counts failed calls.
 #![tactic(auto)]
 
 mod build_line;

@@ -11,26 +11,47 @@ ghost use Rattle.dyndep_file.specs.WriteFaults.{text_or_fault, capped, paths_of,
 use crate::statement::{Dyndep, Statement};
 use ninja_text::{Counted, Failure, LINE_LIMIT, WriteCall, escape_into, is_writable};
 use std::alloc::{AllocError, Global};
-use thiserror::Error;
+use std::error::Error;
+use std::fmt;
 
 const VERSION_LINE: &[u8] = b"ninja_dyndep_version = 1\n";
 
 const BINDING_LINE: &[u8] = b"  restat = 1\n";
 
 /// Why a list of statements was not written. The first statement with a fault counts, and in it a path before the line.
-#[derive(Clone, Copy, Debug, PartialEq, Eq, Error)]
+#[derive(Clone, Copy, Debug, PartialEq, Eq)]
 pub enum WriteFault {
     /// A path is empty or holds `|`, NUL, CR or LF, which no spelling stands for. Paths are counted from 0: the output,
     /// the implicit outputs, the implicit inputs.
-    #[error("Y1 Unwritable statement {statement} path {path}")]
     Unwritable { statement: usize, path: usize },
     /// The build line has more than 1,048,576 bytes, its end included.
-    #[error("Y2 StatementTooLong statement {statement}")]
     StatementTooLong { statement: usize },
     /// A call of the writer answered an error or took no byte. This many bytes went out before, from the text's beginning.
-    #[error("Y3 Io written {written}")]
     Io { written: u128 },
 }
+
+impl fmt::Display for WriteFault {
+    ghost use Rattle.std.specs.Prelude.{Some};
+    ghost use Rattle.dyndep_file.specs.FaultTexts.{write_fault_text};
+
+    ghost output = { λ fault. Some (write_fault_text fault) };
+
+    fn fmt<W: fmt::Write>(&self, f: &mut fmt::Formatter<W>) -> fmt::Result {
+        match self {
+            WriteFault::Unwritable { statement, path } => write!(
+                f,
+                "Y1 Unwritable statement {statement} path {path}"
+            ),
+            WriteFault::StatementTooLong { statement } => write!(
+                f,
+                "Y2 StatementTooLong statement {statement}"
+            ),
+            WriteFault::Io { written } => write!(f, "Y3 Io written {written}"),
+        }
+    }
+}
+
+impl Error for WriteFault {}
 
 impl Dyndep {
     /// The text of the statements: the version line, and for each statement its build line and, where its flag is set, a

@@ -1,0 +1,42 @@
+-- How the faults of a dyndep file are printed: the code, the name, and where the fault is.
+use Rattle.std.specs.Prelude.{ℕ, List, ◌++◌, codes}
+use Rattle.std.specs.Fmt.{decimal}
+use Rattle.ninja_text.specs.FaultTexts.{lex_fault_text}
+use Rattle.dyndep_file.specs.declared.faults.LineFault.{LineFault}
+use Rattle.dyndep_file.specs.declared.faults.LineFault.TheVariants.{LineTooLong, Truncated, Lexical, NoVersion, BadVersion, SecondVersion, Indent, BadLine}
+use Rattle.dyndep_file.specs.declared.faults.LineFault.TheVariants.{NoOutput, SecondOutput, BadRule, ExplicitInput, OrderOnly, Validation, BadBinding}
+use Rattle.dyndep_file.specs.declared.faults.ReadFault.{ReadFault}
+use Rattle.dyndep_file.specs.declared.faults.ReadFault.TheVariants.{AtLine, Io}
+use Rattle.dyndep_file.specs.declared.writing.WriteFault.{WriteFault}
+use Rattle.dyndep_file.specs.declared.writing.WriteFault.TheVariants as write
+
+-- what is wrong with a line
+abbrev pub line_fault_text : LineFault → List ℕ
+line_fault_text LineTooLong = codes "N5 LineTooLong"
+line_fault_text Truncated = codes "N6 Truncated"
+line_fault_text (Lexical fault) = lex_fault_text fault
+line_fault_text NoVersion = codes "Y4 NoVersion"
+line_fault_text BadVersion = codes "Y5 BadVersion"
+line_fault_text SecondVersion = codes "Y6 SecondVersion"
+line_fault_text Indent = codes "Y7 Indent"
+line_fault_text BadLine = codes "Y8 BadLine"
+line_fault_text NoOutput = codes "Y9 NoOutput"
+line_fault_text SecondOutput = codes "Y10 SecondOutput"
+line_fault_text BadRule = codes "Y11 BadRule"
+line_fault_text ExplicitInput = codes "Y12 ExplicitInput"
+line_fault_text OrderOnly = codes "Y13 OrderOnly"
+line_fault_text Validation = codes "Y14 Validation"
+line_fault_text BadBinding = codes "Y15 BadBinding"
+
+-- why a dyndep file was not read
+abbrev pub read_fault_text : ReadFault → List ℕ
+read_fault_text (AtLine line fault) = codes "line " ++ decimal line ++ codes ": " ++ line_fault_text fault
+read_fault_text Io = codes "Y16 Io"
+
+-- why a list of statements was not written
+abbrev pub write_fault_text : WriteFault → List ℕ
+write_fault_text (write.Unwritable statement path) =
+    codes "Y1 Unwritable statement " ++ decimal statement ++ codes " path " ++ decimal path
+write_fault_text (write.StatementTooLong statement) =
+    codes "Y2 StatementTooLong statement " ++ decimal statement
+write_fault_text (write.Io written) = codes "Y3 Io written " ++ decimal written
