@@ -1,6 +1,7 @@
 pub mod Tree
 pub mod Member
 pub mod Place
+pub mod FaultTexts
 pub mod Shape
 pub mod Name
 pub mod Check

@@ -5,8 +5,8 @@ ghost use Rattle.ninja_text.specs.Failure.{Turns};
 
 use crate::member::Member;
 use ninja_text::{Failure, PathFault};
+use std::error::Error;
 use std::fmt;
-use thiserror::Error;
 
 /// Where in a document a fault is. Rules, modules and entries are numbered from 0.
 #[derive(Clone, Copy, Debug, PartialEq, Eq)]
@@ -48,34 +48,51 @@ impl fmt::Display for Place {
 
 /// Why a document is refused: the first check of the document that fails. The checks are those of the document's kind, in
 /// the order of its list, and their order has nothing to do with that of the codes.
-#[derive(Clone, Copy, Debug, PartialEq, Eq, Error)]
+#[derive(Clone, Copy, Debug, PartialEq, Eq)]
 pub enum DocFault {
     /// The bytes are not the UTF-8 text of a JSON value (RFC 8259), or of one that `serde_json` reads: it refuses nesting
     /// deeper than 127 levels and numbers that no float can hold.
-    #[error("S1 NotJson document")]
     NotJson,
     /// The member `version` is not a whole number that this kind of document may have.
-    #[error("S2 BadVersion document")]
     BadVersion,
     /// The value at the place, or a member of it, has the wrong type or is missing.
-    #[error("S3 BadShape {place} member {member}")]
     BadShape { place: Place, member: Member },
     /// A rule has no `primary-output`.
-    #[error("S4 NoPrimaryOutput {place}")]
     NoPrimaryOutput { place: Place },
     /// An entry speaks of a header unit, for which there is no file by name.
-    #[error("S5 HeaderUnit {place}")]
     HeaderUnit { place: Place },
     /// A name is not accepted.
-    #[error("S6 BadName {place}")]
     BadName { place: Place },
     /// A path is not accepted.
-    #[error("S7 BadPath {place} {fault}")]
     BadPath { place: Place, fault: PathFault },
     /// The document has more bytes or rules, or a rule more entries in one list, than are read.
-    #[error("S8 TooLarge {place}")]
     TooLarge { place: Place },
 }
+
+impl fmt::Display for DocFault {
+    ghost use Rattle.std.specs.Prelude.{Some};
+    ghost use Rattle.scan_docs.specs.FaultTexts.{doc_fault_text};
+
+    ghost output = { λ fault. Some (doc_fault_text fault) };
+
+    fn fmt<W: fmt::Write>(&self, f: &mut fmt::Formatter<W>) -> fmt::Result {
+        match self {
+            DocFault::NotJson => f.write_str("S1 NotJson document"),
+            DocFault::BadVersion => f.write_str("S2 BadVersion document"),
+            DocFault::BadShape { place, member } => write!(
+                f,
+                "S3 BadShape {place} member {member}"
+            ),
+            DocFault::NoPrimaryOutput { place } => write!(f, "S4 NoPrimaryOutput {place}"),
+            DocFault::HeaderUnit { place } => write!(f, "S5 HeaderUnit {place}"),
+            DocFault::BadName { place } => write!(f, "S6 BadName {place}"),
+            DocFault::BadPath { place, fault } => write!(f, "S7 BadPath {place} {fault}"),
+            DocFault::TooLarge { place } => write!(f, "S8 TooLarge {place}"),
+        }
+    }
+}
+
+impl Error for DocFault {}
 
 /// The refusal of a value that has the wrong type or is missing.
 pub(crate) fn bad_shape(place: Place, member: Member) -> Failure<DocFault>

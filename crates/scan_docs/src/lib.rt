@@ -10,9 +10,11 @@
 //!   the function.
 //! - [`info_write`] gives the one text of an info (`specs/InfoText.antt`), which is read as the same info.
 //! - [`Name`] and [`TargetName`] hold texts that are names (`specs/Name.antt`).
+//! - [`DocFault`], [`Place`] and [`Member`] print themselves (`specs/FaultTexts.antt`, `specs/Place.antt`,
+//!   `specs/Member.antt`).
 //!
 //! It stands on `ninja_text` for paths, on `json` for reading JSON (RFC 8259), on `serde_json` for what a JSON text means
-//! and for writing one, on `fast_float` for numbers, and on `thiserror` for the texts of faults.
+//! and for writing one, and on `fast_float` for numbers.
 #![tactic(auto)]
 
 mod document;

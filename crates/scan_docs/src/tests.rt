@@ -1,5 +1,4 @@
-//! What no clause says: the printed texts of faults, that calls succeed where memory is ample, and answers of documents
-//! that were made elsewhere. An answer is told in words, so that it can stand beside its document in a table.
+//! What no clause says: that calls succeed where memory is ample, and answers of documents that were made elsewhere. An answer is told in words, so that it can stand beside its document in a table.
 
 mod documents;
 mod info_documents;
