@@ -10,8 +10,7 @@ use Rattle.ninja_text.specs.Lines.{LineEnd, line_end, IsLine, Divides, LogicalLi
 use Rattle.ninja_text.specs.Cutting.{CutterState, Cuts, feed_outcome, feed_outcome_at, Feeds, waiting_line}
 use Rattle.ninja_text.specs.declared.faults.CutFault.{CutFault}
 use Rattle.ninja_text.specs.declared.faults.CutFault.TheVariants.{LineTooLong, Truncated}
-use Rattle.ninja_text.proofs.CutLemmas.{end_fits, line_end-append, line_end-take, front_is_line, AllByRecursion-append}
-use Rattle.ninja_text.proofs.ReachLemmas.{take_shorter}
+use Rattle.ninja_text.proofs.LinesForCallers.{end_fits, line_end-append, line_end-take, front_is_line, AllByRecursion-append, take_shorter}
 use Rattle.dyndep_file.specs.Classes.{Class, IsOfClass}
 use Rattle.ninja_text.specs.Lines.{line_limit}
 use Rattle.dyndep_file.specs.Faults.{line_fault, text_line_fault, stage_after}

@@ -12,6 +12,7 @@ pub mod BuildLemmas
 pub mod LineLemmas
 pub mod ClassLemmas
 pub mod LawLemmas
+pub mod StayLemmas
 pub mod ReadLemmas
 pub mod WrittenLine
 pub mod WrittenText

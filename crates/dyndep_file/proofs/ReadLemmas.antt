@@ -6,7 +6,7 @@ use Rattle.std.specs.Io.KnownBytes.{Consumes, Keeps, IsAtEnd}
 use Rattle.std.proofs.lemmas.List.{append-nil, length-take-le}
 use Rattle.ninja_text.specs.Lines.{Divides}
 use Rattle.ninja_text.specs.declared.failure.Failure.{Failure}
-use Rattle.ninja_text.specs.declared.failure.Failure.TheVariants.{Memory, Fault}
+use Rattle.ninja_text.specs.declared.failure.Failure.TheVariants.{Fault}
 use Rattle.dyndep_file.specs.Classes.{Class}
 use Rattle.ninja_text.specs.Lines.{line_limit}
 use Rattle.dyndep_file.specs.Reading.{AreOfClasses}
@@ -15,7 +15,7 @@ use Rattle.std.specs.declared.io.Error.{Error}
 use Rattle.ninja_text.specs.Counting.{held, failures, one_more, Call, Counts}
 use Rattle.ninja_text.specs.declared.counting.Counted.{Counted}
 use Rattle.std.proofs.lemmas.List.{flat_map_more}
-use Rattle.dyndep_file.specs.ReadingAll.{IsUnrefused, buffer_len, ReadTurn, bytes_of, bytes_read, GivesSome, ReadsInTurn, LastCall, AtEnd, Failed, Refused, NotMade, IsReadFrom}
+use Rattle.dyndep_file.specs.ReadingAll.{IsUnrefused, buffer_len, ReadTurn, bytes_of, bytes_read, GivesSome, ReadsInTurn, AtEnd, Failed, Refused, NotMade, IsReadFrom}
 use Rattle.dyndep_file.specs.declared.faults.LineFault.{LineFault}
 use Rattle.dyndep_file.specs.declared.faults.LineFault.TheVariants.{LineTooLong}
 use Rattle.dyndep_file.specs.declared.faults.ReadFault.{ReadFault}
@@ -24,7 +24,7 @@ use Rattle.dyndep_file.specs.StatementValue.{StatementValue}
 use Rattle.dyndep_file.proofs.Runs.{runs_begin}
 use Rattle.dyndep_file.proofs.EndLemmas.{working, working_state, classed_lines, divided_lines}
 use Rattle.dyndep_file.proofs.LawLemmas.{line_not_begun}
-use Rattle.ninja_text.proofs.CutLemmas.{divides_one}
+use Rattle.ninja_text.proofs.LinesForCallers.{divides_one}
 use Rattle.dyndep_file.specs.Reading.{IsEndFault}
 
 -- known bytes that are consumed in several reads

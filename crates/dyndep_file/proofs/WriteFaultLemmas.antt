@@ -1,9 +1,9 @@
 -- Statements without a fault can be written, and statements that can be written have no fault.
 use Rattle.std.proofs.Common.{◌≡◌, ℕ, suc, ◌+◌, ◌≤◌, Bool, true, false, not, cond, IsTrue, List, [], ◌∷◌, length, get_or, Option, Some, None, option_map, Ok, Err, Vec, Global, ◌⊎◌, inl, inr, refl, ap, sym, ◌∙◌, arith}
 use Rattle.std.specs.Prelude.{position, nat_lt, All}
-use Rattle.std.specs.List.{position_from}
+use Rattle.std.specs.List.{position_from, AllByRecursion}
 use Rattle.std.specs.Option.{option_or}
-use Rattle.std.proofs.lemmas.List.Elements.{All-nil, All-cons}
+use Rattle.std.proofs.lemmas.List.Elements.{All-nil, All-cons, recursion_from_All}
 use Rattle.std.proofs.lemmas.Iterator.Adapters.{position_from-zero}
 use Rattle.ninja_text.specs.Counting.{Call}
 use Rattle.ninja_text.specs.declared.counting.Counted.{Counted}
@@ -86,11 +86,16 @@ test_of false h = cc
 no_longer : (n : ℕ) → n ≤ line_limit → nat_lt line_limit n ≡ false
 no_longer n h = grind (arith, h)
 
+-- among paths that have spellings none is found without
+all_found : (paths : List (List ℕ)) → All IsWritable paths → position (λ path. not (is_writable path)) paths ≡ None
+all_found paths w =
+    position_none (λ path. not (is_writable path)) paths [] (λ k lt. test_of (is_writable (get_or paths k [])) ((is_writable-meaning (get_or paths k [])).1 (w k [] lt)))
+
 -- a statement that can be written has no fault
 statement_unfaulty : (number : ℕ) (s : StatementValue) → CanBeWritten s → statement_fault number s ≡ None
 statement_unfaulty number s w =
     ap (λ o. option_or (option_map (λ path. Unwritable number path) o) (cond (nat_lt line_limit (length (build_line s))) (Some (StatementTooLong number)) None))
-    (position_none (λ path. not (is_writable path)) (paths_of s) [] (λ k lt. test_of (is_writable (get_or (paths_of s) k [])) ((is_writable-meaning (get_or (paths_of s) k [])).1 (w.paths k [] lt))))
+    (all_found (paths_of s) w.paths)
     ∙ ap (λ b. cond b (Some (StatementTooLong number)) None) (no_longer (length (build_line s)) w.line)
 
 -- what can be written of a list can be written of its rest
@@ -104,6 +109,37 @@ none_faulty number (s ∷ ss) a =
     ap (λ o. option_or o (fault_from (number + 1) ss)) (statement_unfaulty number s (a 0 s (omega arith)))
     ∙ none_faulty (number + 1) ss (tail_of s ss a)
 
+-- the first of two answers, or else the second
+or_some : {X : Type 0} (a b : Option X) (x : X) → option_or a b ≡ Some x → (a ≡ Some x) ⊎ (b ≡ Some x)
+or_some None b x h = inr h
+or_some (Some a) b x h = inl h
+
+-- ---- statements whose paths have spellings
+
+-- a choice between some value and none that gave this one
+cond_some : {X : Type 0} (b : Bool) (x y : X) → cond b (Some x) None ≡ Some y → y ≡ x
+cond_some true x y h = cc
+cond_some false x y h = absurd (cc)
+
+-- the fault of such a statement is a build line that is too long
+one_too_long : (number : ℕ) (s : StatementValue) (fault : WriteFault) → All IsWritable (paths_of s) → statement_fault number s ≡ Some fault → fault ≡ StatementTooLong number
+one_too_long number s fault w h =
+    let long = cond (nat_lt line_limit (length (build_line s))) (Some (StatementTooLong number)) None in
+    cond_some (nat_lt line_limit (length (build_line s))) (StatementTooLong number) fault
+    (ap (λ (found : Option ℕ). option_or (option_map (λ path. Unwritable number path) found) long) (sym (all_found (paths_of s) w)) ∙ h)
+
+too_long_from : (number : ℕ) (ss : List StatementValue) (fault : WriteFault) → AllByRecursion (λ s. All IsWritable (paths_of s)) ss → fault_from number ss ≡ Some fault
+    → (k : ℕ) × (fault ≡ StatementTooLong k)
+too_long_from number [] fault w h = absurd (cc)
+too_long_from number (s ∷ ss) fault w h = elim (or_some (statement_fault number s) (fault_from (number + 1) ss) fault h) [
+  | inl here ↦ (number, one_too_long number s fault w.0 here)
+  | inr later ↦ too_long_from (number + 1) ss fault w.1 later
+]
+
+-- so is the fault of a list of them
+pub only_too_long : (ss : List StatementValue) (fault : WriteFault) → All (λ s. All IsWritable (paths_of s)) ss → write_fault ss ≡ Some fault → (k : ℕ) × (fault ≡ StatementTooLong k)
+only_too_long ss fault w h = too_long_from 0 ss fault (recursion_from_All (λ s. All IsWritable (paths_of s)) ss w) h
+
 -- ---- the fault of the statements is never one of the writer
 
 -- the fault of one statement is never one of the writer
@@ -111,11 +147,6 @@ one_io : (number : ℕ) (place : Option ℕ) (long : Bool) (count : ℕ) → opt
 one_io number (Some place) long count h = cc
 one_io number None true count h = cc
 one_io number None false count h = cc
-
--- the first of two answers, or else the second
-or_some : {X : Type 0} (a b : Option X) (x : X) → option_or a b ≡ Some x → (a ≡ Some x) ⊎ (b ≡ Some x)
-or_some None b x h = inr h
-or_some (Some a) b x h = inl h
 
 -- nor is the fault of a list
 never_io : (number : ℕ) (statements : List StatementValue) (count : ℕ) → fault_from number statements ≡ Some (Io count) → ⊥

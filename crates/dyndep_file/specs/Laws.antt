@@ -1,9 +1,15 @@
 -- What holds of the definitions themselves.
-use Rattle.std.specs.Prelude.{◌≡◌, ℕ, List, ◌⊎◌}
+use Rattle.std.specs.Prelude.{◌≡◌, ℕ, List, ◌++◌, All, Some, ◌⊎◌}
+use Rattle.ninja_text.specs.Escapes.{IsWritable}
 use Rattle.dyndep_file.specs.StatementValue.{StatementValue}
+use Rattle.dyndep_file.specs.WriteFaults.{paths_of, write_fault}
 use Rattle.dyndep_file.specs.Reading.{StandsFor, FaultAt, IsRefused}
-use Rattle.dyndep_file.specs.Reader.{Reader, HasRead}
+use Rattle.dyndep_file.specs.Reader.{Reader, HasRead, IsFaultIn}
 use Rattle.dyndep_file.specs.ReadingAll.{IsUnrefused}
+use Rattle.dyndep_file.specs.declared.faults.LineFault.{LineFault}
+use Rattle.dyndep_file.specs.declared.faults.ReadFault.TheVariants.{AtLine}
+use Rattle.dyndep_file.specs.declared.writing.WriteFault.{WriteFault}
+use Rattle.dyndep_file.specs.declared.writing.WriteFault.TheVariants.{StatementTooLong}
 
 -- A text stands for one list of statements at most.
 abbrev pub OneList : Type 0
@@ -24,3 +30,13 @@ OneFault = (bytes : List ℕ) (found other : FaultAt) → IsRefused bytes found 
 -- What was fed to a reader that goes on has no fault but what its end may bring.
 abbrev pub GoesOnUnrefused : Type 0
 GoesOnUnrefused = (bytes : List ℕ) (reader : Reader) → HasRead bytes reader → IsUnrefused bytes
+
+-- A fault in the bytes so far is the fault of every text that begins with them.
+abbrev pub FaultStays : Type 0
+FaultStays = (bytes more : List ℕ) (line : ℕ) (fault : LineFault) → IsFaultIn bytes (AtLine line fault)
+    → IsRefused (bytes ++ more) (record { line = line; fault = fault })
+
+-- Statements whose paths all have spellings have no fault but a build line that is too long.
+abbrev pub OnlyTooLong : Type 0
+OnlyTooLong = (statements : List StatementValue) (fault : WriteFault) → All (λ s. All IsWritable (paths_of s)) statements
+    → write_fault statements ≡ Some fault → (number : ℕ) × (fault ≡ StatementTooLong number)

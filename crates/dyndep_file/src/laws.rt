@@ -4,7 +4,7 @@ ghost use Rattle.dyndep_file.specs.StatementValue.{StatementValue};
 ghost use Rattle.dyndep_file.specs.Writing.{dyndep_text};
 ghost use Rattle.dyndep_file.specs.WriteFaults.{CanBeWritten};
 ghost use Rattle.dyndep_file.specs.Reading.{StandsForOnly};
-ghost use Rattle.dyndep_file.specs.Laws.{OneList, NotBoth, OneOfBoth, OneFault, GoesOnUnrefused};
+ghost use Rattle.dyndep_file.specs.Laws.{OneList, NotBoth, OneOfBoth, OneFault, GoesOnUnrefused, FaultStays, OnlyTooLong};
 
 /// The grammar relates a text to at most one list of statements.
 pub fn one_list()
@@ -25,6 +25,16 @@ pub fn one_fault()
 /// A reader that goes on was fed no faulty line, and no line that is too long.
 pub fn unrefused()
     ensures { GoesOnUnrefused }
+{}
+
+/// A fault in the bytes so far, as `feed` answers it, is the fault of every text that begins with them.
+pub fn fault_stays()
+    ensures { FaultStays }
+{}
+
+/// Statements whose paths all have spellings have no fault but a build line that is too long.
+pub fn long_lines()
+    ensures { OnlyTooLong }
 {}
 
 /// The grammar relates the text of statements that can be written to them, and to no other list.

@@ -60,6 +60,7 @@ impl Dyndep {
     /// A path without a spelling and too long a build line are told before memory is asked for.
     pub fn to_text(&self, alloc: Global) -> Result<Vec<u8>, Failure<WriteFault>>
         ensures text { Gives (λ text. text.items) result (text_or_fault self.now) }
+        ensures unfaulted { IfOk result (λ _. write_fault self.now ≡ None) }
         // The grammar relates the text to these statements, and to no others.
         ensures meaning { IfOk result (λ text. StandsForOnly text.items self.now) }
     {

@@ -1,0 +1,5 @@
+use Rattle.dyndep_file.proofs.StayLemmas.{fault_stays}
+use Rattle.dyndep_file.proofs.laws.fault_stays.Goals as goal
+
+pub returns : goal.returns
+returns c = fault_stays
