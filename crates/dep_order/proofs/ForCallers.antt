@@ -4,8 +4,11 @@
 pub use Rattle.dep_order.proofs.Transfers.{Implies, sorting_same, orderable_same, order_same, least_cycle_same, cycle_same, chain_same, reaches_same}
 -- Numbers that put needed things lower or level, and inner numbers for those that are level, make needs orderable.
 pub use Rattle.dep_order.proofs.Transfers.{layered}
--- What is orderable has no cycle.
+-- What is orderable has no cycle, and a digraph is orderable or has one.
 pub use Rattle.dep_order.proofs.Chains.{no_cycle}
+pub use Rattle.dep_order.proofs.Finite.{orderable_or_cycle}
+-- The least cycle has no more things than there are, and where there is no least cycle there is none.
+pub use Rattle.dep_order.proofs.Least.{least_is_short, no_cycle_without_least}
 -- What has an order by smallest numbers is orderable, where the needs are among the things, as a digraph's are.
 pub use Rattle.dep_order.proofs.Orders.{AreWithin, orderable}
 pub use Rattle.dep_order.proofs.Answered.{within}

@@ -15,4 +15,5 @@ pub mod Answered
 pub mod Postorders
 pub mod Connected
 pub mod Finite
+pub mod Least
 pub mod ForCallers
