@@ -165,7 +165,7 @@ module _ (taken : List ℕ) (lent : List LogicalLine) where
 
   pub feeds_all : (h : CutterState) (piece : List ℕ) (r : Result ℕ (Failure CutFault)) (new : CutterState) → Cuts taken lent h → Feeds h piece r new → FeedsAll taken lent piece r new
   feeds_all h piece (Ok n) new cuts is = subst (λ x. TakesAll piece x.0 x.1) is (fed_keeps h.number h.bytes piece h.waits h.failed cuts)
-  feeds_all h piece (Err Memory) new cuts is = subst (Cuts taken lent) (sym is) cuts
+  feeds_all h piece (Err Memory) new cuts is = subst (Cuts taken lent) (sym is.2) cuts
   feeds_all h piece (Err (Fault fault)) new cuts is = subst (λ x. TakesAll piece x.0 x.1) is (fed_keeps h.number h.bytes piece h.waits h.failed cuts)
 
   lending_keeps : (number : ℕ) (bytes : List ℕ) (waits failed : Bool) → Cuts taken lent (record { number = number; bytes = bytes; waits = waits; failed = failed })

@@ -35,10 +35,11 @@ feed_outcome h piece =
     else if h.waits then (Ok 0, h)
     else feed_outcome_at h piece (line_end (take line_limit (h.bytes ++ piece)))
 
--- `feed` answers and leaves just that; where memory was refused, it took nothing.
+-- `feed` answers and leaves just that, unless memory was refused: then it took nothing. It asks for memory only where it may take
+-- bytes, that is where the cutter has not failed and no line waits.
 abbrev pub Feeds : CutterState → List ℕ → Result ℕ (Failure CutFault) → CutterState → Type 0
 Feeds old piece (Ok n) new = feed_outcome old piece ≡ (Ok n, new)
-Feeds old piece (Err Memory) new = new ≡ old
+Feeds old piece (Err Memory) new = (old.failed ≡ false) × (old.waits ≡ false) × (new ≡ old)
 Feeds old piece (Err (Fault fault)) new = feed_outcome old piece ≡ (Err fault, new)
 
 -- what is left once the line that waits, if any, was lent
