@@ -118,5 +118,5 @@ err_fed h piece e new waits is =
 
 -- a refused feed leaves no line waiting, want of memory included
 pub err_waits : (h : CutterState) (piece : List ℕ) (e : Failure CutFault) (new : CutterState) → h.waits ≡ false → Feeds h piece (Err e) new → new.waits ≡ false
-err_waits h piece Memory new waits is = ap (λ k. k.waits) is ∙ waits
+err_waits h piece Memory new waits is = ap (λ k. k.waits) is.2 ∙ waits
 err_waits h piece (Fault fault) new waits is = err_fed h piece fault new waits is
