@@ -26,3 +26,7 @@ pub mod SpelledPaths
 pub mod SpelledTokens
 pub mod SpelledLines
 pub mod SpelledTexts
+pub mod UnitTexts
+pub mod FaultlessLines
+pub mod ReadAsSpelled
+pub mod SpelledValues

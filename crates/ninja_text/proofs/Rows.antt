@@ -1,8 +1,9 @@
 -- The definitions, computed at examples.
-use Rattle.std.proofs.Common.{◌≡◌, [], refl, Some, None, Ok, Err, replicate}
+use Rattle.std.proofs.Common.{◌≡◌, ℕ, List, [], refl, Some, None, Ok, Err, replicate}
 use Rattle.std.proofs.Common.{inl, ◌∷◌}
 use lib.Chars.{codes}
 use Rattle.ninja_text.specs.Escapes.{escaped, Spells}
+use Rattle.ninja_text.specs.Meanings.{SpellsValue}
 use Rattle.ninja_text.specs.Paths.{canonical_of, placed, path_of}
 use Rattle.ninja_text.specs.declared.paths.PathFault.TheVariants.{Empty, AboveRoot, Unwritable, TooLong}
 
@@ -72,3 +73,27 @@ three_bytes_escaped = refl
 -- `a$`, a line's end, two spaces and `b` are the one word `ab`
 pub continuation_in_a_word : Spells (97 ∷ 36 ∷ 10 ∷ 32 ∷ 32 ∷ 98 ∷ []) (97 ∷ 98 ∷ [])
 continuation_in_a_word = (97 ∷ [], 36 ∷ 10 ∷ 32 ∷ 32 ∷ [], 98 ∷ [], (refl, refl), ((36 ∷ 10 ∷ 32 ∷ 32 ∷ []) ∷ [], ((2, inl refl), tt), refl), (refl, refl), refl)
+
+-- `a$`, a line's end, two spaces and `b|` are the value `ab|`
+pub continuation_in_a_value : SpellsValue (97 ∷ 36 ∷ 10 ∷ 32 ∷ 32 ∷ 98 ∷ 124 ∷ []) (97 ∷ 98 ∷ 124 ∷ [])
+continuation_in_a_value = (
+  [],
+  97 ∷ [],
+  36 ∷ 10 ∷ 32 ∷ 32 ∷ 98 ∷ 124 ∷ [],
+  ([], tt, refl),
+  (refl, refl),
+  (λ e. refl),
+  (
+    36 ∷ 10 ∷ 32 ∷ 32 ∷ [],
+    98 ∷ [],
+    124 ∷ [],
+    ((36 ∷ 10 ∷ 32 ∷ 32 ∷ []) ∷ [], ((2, inl refl), tt), refl),
+    (refl, refl),
+    (λ e. absurd (no_space e)),
+    ([], 124 ∷ [], [], ([], tt, refl), (refl, refl), (λ e. refl), ([], tt, refl), refl),
+    refl,
+  ),
+  refl,
+) where
+  no_space : ◌≡◌ {A = List ℕ} (98 ∷ []) (32 ∷ []) → ⊥
+  no_space e = cc

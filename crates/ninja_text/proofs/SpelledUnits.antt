@@ -31,13 +31,13 @@ unit_text (Byte b) = b ∷ []
 abbrev pub text_of_units : List LineUnit → List ℕ
 text_of_units us = flat_map unit_text us
 
-record Plain (b : ℕ) : Type 0 where
-  no_dollar : (b == 36) ≡ false
-  no_nul : (b == 0) ≡ false
-  no_return : (b == 13) ≡ false
-  no_feed : (b == 10) ≡ false
+pub record Plain (b : ℕ) : Type 0 where
+  pub no_dollar : (b == 36) ≡ false
+  pub no_nul : (b == 0) ≡ false
+  pub no_return : (b == 13) ≡ false
+  pub no_feed : (b == 10) ≡ false
 
-plain : (b : ℕ) → is_plain b ≡ true → Plain b
+pub plain : (b : ℕ) → is_plain b ≡ true → Plain b
 plain b h =
     let p = and_parts (not (b == 36)) _ h in
     let q = and_parts (not (b == 0)) _ p.1 in
@@ -45,7 +45,7 @@ plain b h =
     record { no_dollar = not-true _ p.0; no_nul = not-true _ q.0; no_return = not-true _ r.0; no_feed = not-true _ r.1 }
 
 -- what holds of `$`, space and `:` holds of each byte that is escaped
-escaped_only : (P : ℕ → Type 0) → P 36 → P 32 → P 58 → (b : ℕ) → is_escaped b ≡ true → P b
+pub escaped_only : (P : ℕ → Type 0) → P 36 → P 32 → P 58 → (b : ℕ) → is_escaped b ≡ true → P b
 escaped_only P dollar space colon b h = elim (or_cases (b == 36) _ h) [
   | inl d ↦ subst P (sym (eqb-true b 36 d)) dollar
   | inr n ↦ elim (or_cases (b == 32) _ n) [

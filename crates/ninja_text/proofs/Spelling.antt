@@ -6,11 +6,11 @@ use Rattle.ninja_text.specs.Escapes.{is_unwritable, IsWritable, is_escaped, esca
 use Rattle.ninja_text.proofs.ReducedList.{either_way, is_true, true_is}
 
 -- equal lists have equal tails
-tail-of : (b c : ℕ) (x y : List ℕ) → b ∷ x ≡ c ∷ y → x ≡ y
+pub tail-of : (b c : ℕ) (x y : List ℕ) → b ∷ x ≡ c ∷ y → x ≡ y
 tail-of b c x y e = cc
 
 -- and equal heads
-head-of : (b c : ℕ) (x y : List ℕ) → b ∷ x ≡ c ∷ y → b ≡ c
+pub head-of : (b c : ℕ) (x y : List ℕ) → b ∷ x ≡ c ∷ y → b ≡ c
 head-of b c x y e = cc
 
 -- an ordinary byte is none that is escaped
@@ -30,7 +30,7 @@ plain-space : (b : ℕ) → b ≡ 32 → is_escaped b ≡ false → ⊥
 plain-space b e h = let k : is_escaped 32 ≡ false = ap is_escaped (sym e) ∙ h in cc
 
 -- what is not escaped does not stand behind a `$`
-escaped-not : (b n : ℕ) → b ≡ n → is_escaped n ≡ false → IsTrue (is_escaped b) → ⊥
+pub escaped-not : (b n : ℕ) → b ≡ n → is_escaped n ≡ false → IsTrue (is_escaped b) → ⊥
 escaped-not b n e h t = let k : is_escaped n ≡ true = ap is_escaped (sym e) ∙ true_is _ t in let j : false ≡ true = sym h ∙ k in cc
 
 -- what begins with a piece
@@ -55,7 +55,7 @@ piece-same (d ∷ b ∷ []) (g ∷ c ∷ f ∷ more) v w x y h k e = absurd k
 piece-same (d ∷ b ∷ f ∷ more) q v w x y h k e = absurd h
 
 -- a piece is no space, and no continuation
-dollar-space : (d : ℕ) → d ≡ 36 → d ≡ 32 → ⊥
+pub dollar-space : (d : ℕ) → d ≡ 36 → d ≡ 32 → ⊥
 dollar-space d h k = omega arith
 
 -- a piece does not begin with a space
@@ -97,7 +97,7 @@ spaces-same (suc m) zero x y h k e = absurd (k (replicate m 32 ++ x) (sym e))
 spaces-same (suc m) (suc n) x y h k e = spaces-same m n x y h k (tail-of 32 32 (replicate m 32 ++ x) (replicate n 32 ++ y) e)
 
 -- a continuation, and what follows it
-part-of : (p : List ℕ) (c : IsContinuation p) (more : List ℕ) → ((p ++ more) ≡ 36 ∷ 10 ∷ (replicate c.0 32 ++ more)) ⊎ ((p ++ more) ≡ 36 ∷ 13 ∷ 10 ∷ (replicate c.0 32 ++ more))
+pub part-of : (p : List ℕ) (c : IsContinuation p) (more : List ℕ) → ((p ++ more) ≡ 36 ∷ 10 ∷ (replicate c.0 32 ++ more)) ⊎ ((p ++ more) ≡ 36 ∷ 13 ∷ 10 ∷ (replicate c.0 32 ++ more))
 part-of p c more = elim c.1 [ inl h ↦ inl (ap (λ l. l ++ more) h) | inr h ↦ inr (ap (λ l. l ++ more) h) ]
 
 -- LF is not CR
@@ -109,7 +109,7 @@ line-ends : (x y : List ℕ) → 36 ∷ 10 ∷ x ≡ 36 ∷ 13 ∷ y → ⊥
 line-ends x y e = feed-carriage 10 refl (head-of 10 13 x y (tail-of 36 36 (10 ∷ x) (13 ∷ y) e))
 
 -- continuations in front of what begins with no space leave one rest
-part-same : (p q : List ℕ) (c : IsContinuation p) (d : IsContinuation q) (x y : List ℕ) → ((rest : List ℕ) → x ≡ 32 ∷ rest → ⊥) → ((rest : List ℕ) → y ≡ 32 ∷ rest → ⊥) → p ++ x ≡ q ++ y → x ≡ y
+pub part-same : (p q : List ℕ) (c : IsContinuation p) (d : IsContinuation q) (x y : List ℕ) → ((rest : List ℕ) → x ≡ 32 ∷ rest → ⊥) → ((rest : List ℕ) → y ≡ 32 ∷ rest → ⊥) → p ++ x ≡ q ++ y → x ≡ y
 part-same p q c d x y h k e = elim (part-of p c x) [
   | inl s ↦ elim (part-of q d y) [
     | inl t ↦ spaces-same c.0 d.0 x y h k (tail-of 10 10 _ _ (tail-of 36 36 _ _ (sym s ∙ e ∙ t)))

@@ -14,6 +14,7 @@ pub mod TokenLists
 pub mod TokenViews
 pub mod Assignments
 pub mod AssignmentViews
+pub mod Meanings
 pub mod Scanning
 pub mod Cutting
 pub mod LineViews

@@ -1,8 +1,11 @@
 //! Laws of lines and tokens, for callers' proofs: each is the contract of a call that does nothing.
-ghost use Rattle.std.specs.Prelude.{◌≡◌, ℕ, List};
-ghost use Rattle.ninja_text.specs.Lines.{Divides};
-ghost use Rattle.ninja_text.specs.Tokens.{TokenAt, tokens};
+ghost use Rattle.std.specs.Prelude.{◌≡◌, ℕ, List, All};
+ghost use Rattle.std.specs.Option.{ForSome};
+ghost use Rattle.ninja_text.specs.Lines.{Divides, text_of};
+ghost use Rattle.ninja_text.specs.Tokens.{TokenAt, tokens, seen_tokens};
 ghost use Rattle.ninja_text.specs.TokenLists.{AreTokens};
+ghost use Rattle.ninja_text.specs.Assignments.{assignment_of};
+ghost use Rattle.ninja_text.specs.Meanings.{IsFaultless, IsReadAsSpelled, SpellsValue, IsValueAsSpelled};
 
 /// A text is divided into lines and a rest, and in one way only.
 pub fn one_division()
@@ -15,4 +18,15 @@ pub fn one_division()
 pub fn one_list_of_tokens()
     ensures some { (text : List ℕ) → AreTokens text (tokens text) }
     ensures one { (text : List ℕ) (ts : List TokenAt) → AreTokens text ts → ts ≡ tokens text }
+{}
+
+/// What is read of a word is what its bytes spell, so that a reader and a writer mean the same by it; and so is what is read
+/// of an assignment's value. Both are said of each line that a cutter can lend, that is no comment and has no lexical fault.
+/// The bytes of a value spell one value only; of a word [`one_meaning`](crate::one_meaning) says that.
+pub fn read_as_spelled()
+    ensures words { (line : List ℕ) → IsFaultless line
+        → All IsReadAsSpelled (seen_tokens (text_of line)) }
+    ensures values { (line : List ℕ) → IsFaultless line
+        → ForSome (assignment_of (text_of line)) IsValueAsSpelled }
+    ensures one_value { (raw a b : List ℕ) → SpellsValue raw a → SpellsValue raw b → a ≡ b }
 {}

@@ -11,8 +11,9 @@
 //!   [`LINE_LIMIT`] bytes.
 //! - [`words`] gives all tokens of a line in order (`specs/Tokens.antt`), and [`assignment`] its name and value
 //!   (`specs/Assignments.antt`), or the line's first lexical fault (`specs/Lexical.antt`). The rules are those of the Ninja 1.11
-//!   manual, "Lexical syntax"; the definitions state them on whole texts, and know nothing of pieces.
-//! - [`laws`] proves that there is one division of a text into lines, and one list of tokens, and no other.
+//!   manual, "Lexical syntax"; these definitions state them on whole texts, and know nothing of the pieces in which a text came.
+//! - [`laws`] proves that there is one division of a text into lines, and one list of tokens, and no other; and that what is
+//!   read of a word or a value is what its bytes spell (`specs/Meanings.antt`), so that reader and writer mean the same.
 //! - [`Counted`] counts the failed calls of a reader or a writer, and writes a text up to the first one
 //!   (`specs/Counting.antt`).
 //! - [`Failure`] is what a call answers that may want memory (`specs/Failure.antt`).

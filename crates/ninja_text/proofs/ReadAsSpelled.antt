@@ -1,0 +1,226 @@
+-- What is read of words and values is what they spell.
+use Rattle.std.proofs.Common.{inl, inr, ◌⊎◌, ◌≡◌, ℕ, ◌+◌, Bool, true, false, List, [], ◌∷◌, ◌++◌, map, refl, sym, ap, ◌∙◌, subst, arith, ◌==◌, ◌&&◌, ◌||◌, not, IsTrue, Some, None, append_assoc}
+use Rattle.std.specs.Prelude.{Option, nat_lt, All, slice_range, drop}
+use Rattle.std.specs.Option.{ForSome}
+use Rattle.std.specs.List.{flat_map, list_all, concat, AllByRecursion}
+use Rattle.std.proofs.lemmas.List.{append-nil}
+use Rattle.std.proofs.lemmas.List.Elements.{All-from_recursion}
+use Rattle.std.proofs.lemmas.Bool.{cases_Bool, and_parts, or_parts, not-true, eqb-true}
+use Rattle.ninja_text.specs.Units.{units, unit_len, is_byte, is_continuation}
+use Rattle.ninja_text.specs.declared.unit.LineUnit.{LineUnit}
+use Rattle.ninja_text.specs.declared.unit.LineUnit.TheVariants.{Continuation, Escape, Byte}
+use Rattle.ninja_text.specs.declared.token.TokenKind.{TokenKind}
+use Rattle.ninja_text.specs.declared.token.TokenKind.TheVariants.{Word}
+use Rattle.ninja_text.specs.Lines.{text_of}
+use Rattle.ninja_text.specs.Tokens.{TokenAt, SeenToken, is_blank, is_piece, unit_value, value_of, with_raw, tokens, seen_tokens}
+use Rattle.ninja_text.specs.TokenLists.{total_len, begins_with, may_follow, is_word, IsToken, LexesAs}
+use Rattle.ninja_text.specs.Escapes.{is_escaped, is_unwritable, IsPiece, IsContinuation, IsGap, Spells}
+use Rattle.ninja_text.specs.Assignments.{after_run, is_name_unit, begins_with_equals, tail_units, SeenAssignment, with_bytes, assignment_of}
+use Rattle.ninja_text.specs.declared.assigning.AssignmentPlaces.{AssignmentPlaces}
+use Rattle.ninja_text.specs.Meanings.{IsFaultless, IsReadAsSpelled, is_value_byte, IsValuePiece, SpellsValue, IsValueAsSpelled}
+use Rattle.ninja_text.proofs.ReducedList.{is_true}
+use Rattle.ninja_text.proofs.Spelling.{head-of, dollar-space}
+use Rattle.ninja_text.proofs.ListLemmas.{tokens_are}
+use Rattle.ninja_text.proofs.TokenLemmas.{byte_len}
+use Rattle.ninja_text.proofs.SpelledUnits.{is_plain, plain}
+use Rattle.ninja_text.proofs.UnitTexts.{IsUnitText, AreUnitTexts, is_proper, read_back, Remains, remains_all, past_unit, past_units, Part, first_part, rest_is}
+use Rattle.ninja_text.proofs.FaultlessLines.{faultless_units}
+
+-- ---- words
+
+-- the byte that a piece stands for, and that its bytes spell it
+record Spelled (u : LineUnit) (own : List ℕ) : Type 0 where
+  byte : ℕ
+  value : unit_value u ≡ byte ∷ []
+  piece : IsPiece own byte
+
+byte_piece : (b : ℕ) → is_piece (Byte b) ≡ true → is_plain b ≡ true → IsTrue (not (is_escaped b || is_unwritable b))
+byte_piece b p s =
+    let n = or_parts ((b == 32) || (b == 58)) (b == 124) (not-true _ p) in
+    let m = or_parts (b == 32) (b == 58) n.0 in
+    let k = plain b s in
+    is_true _ (rw (k.no_dollar, m.0, m.1, n.1, k.no_nul, k.no_return, k.no_feed) refl)
+
+spelled : (u : LineUnit) (own : List ℕ) → is_piece u ≡ true → is_proper u ≡ true → IsUnitText u own → Spelled u own
+spelled (Continuation len) own p s h = absurd (let x : false ≡ true = p in cc)
+spelled (Escape b) own p s h = record { byte = b; value = refl; piece = subst (λ xs. IsPiece xs b) (sym h) (refl, refl, is_true _ s) }
+spelled (Byte b) own p s h = record { byte = b; value = refl; piece = subst (λ xs. IsPiece xs b) (sym h) (refl, byte_piece b p s) }
+
+-- what follows a piece in a word: nothing, or a gap and pieces
+record Pieces (us : List LineUnit) (bytes : List ℕ) : Type 0 where
+  gap : List ℕ
+  rest : List ℕ
+  first : ℕ
+  more : List ℕ
+  is_gap : IsGap gap
+  value : flat_map unit_value us ≡ first ∷ more
+  spells : Spells rest (first ∷ more)
+  whole : bytes ≡ gap ++ rest
+
+abbrev Follows : List LineUnit → List ℕ → Type 0
+Follows us bytes = ((us ≡ []) × (bytes ≡ [])) ⊎ Pieces us bytes
+
+-- a piece, and what follows it
+spelled_on : (u : LineUnit) (us : List LineUnit) (own rest : List ℕ) → Spelled u own → Follows us rest → Spells (own ++ rest) (flat_map unit_value (u ∷ us))
+spelled_on u us own rest s (inl none) =
+    subst (Spells (own ++ rest)) (sym (ap (λ vs. flat_map unit_value (u ∷ vs)) none.0 ∙ append-nil (unit_value u) ∙ s.value))
+    (subst (λ xs. IsPiece xs s.byte) (sym (ap (λ xs. own ++ xs) none.1 ∙ append-nil own)) s.piece)
+spelled_on u us own rest s (inr p) =
+    subst (Spells (own ++ rest)) (sym (ap (λ vs. vs ++ flat_map unit_value us) s.value ∙ ap (λ vs. s.byte ∷ vs) p.value))
+    (own, p.gap, p.rest, s.piece, p.is_gap, p.spells, ap (λ xs. own ++ xs) p.whole)
+
+-- with no gap before it
+at_once : (u : LineUnit) (us : List LineUnit) (own rest bytes : List ℕ) → bytes ≡ own ++ rest → Spelled u own → Follows us rest → Follows (u ∷ us) bytes
+at_once u us own rest bytes whole s f = inr (record {
+  gap = [];
+  rest = bytes;
+  first = s.byte;
+  more = flat_map unit_value us;
+  is_gap = ([], tt, refl);
+  value = ap (λ vs. vs ++ flat_map unit_value us) s.value;
+  spells = subst (Spells bytes) (ap (λ vs. vs ++ flat_map unit_value us) s.value) (subst (λ xs. Spells xs (flat_map unit_value (u ∷ us))) (sym whole) (spelled_on u us own rest s f));
+  whole = refl;
+})
+
+-- a continuation in front of a gap
+longer_gap : (own gap : List ℕ) → IsContinuation own → IsGap gap → IsGap (own ++ gap)
+longer_gap own gap c g = (own ∷ g.0, (c, g.1), ap (λ xs. own ++ xs) g.2)
+
+-- with a continuation before it
+after_gap : (len : ℕ) (us : List LineUnit) (own rest bytes : List ℕ) → bytes ≡ own ++ rest → IsContinuation own → may_follow false us ≡ true → Follows us rest → Follows (Continuation len ∷ us) bytes
+after_gap len us own rest bytes whole c m (inl none) = absurd (let x : false ≡ true = ap (may_follow false) (sym none.0) ∙ m in cc)
+after_gap len us own rest bytes whole c m (inr p) = inr (record {
+  gap = own ++ p.gap;
+  rest = p.rest;
+  first = p.first;
+  more = p.more;
+  is_gap = longer_gap own p.gap c p.is_gap;
+  value = p.value;
+  spells = p.spells;
+  whole = whole ∙ ap (λ xs. own ++ xs) p.whole ∙ sym (append_assoc own p.gap p.rest);
+})
+
+follows : (us : List LineUnit) (may_end : Bool) (bytes : List ℕ) → may_follow may_end us ≡ true → list_all is_proper us ≡ true → AreUnitTexts us bytes → Follows us bytes
+follows [] may_end bytes m p h = inl (refl, h)
+follows (Continuation len ∷ us) may_end bytes m p h = after_gap len us h.0 h.1 bytes h.5 h.2.0 m (follows us false h.1 m p h.4)
+follows (Escape b ∷ us) may_end bytes m p h =
+    let q = and_parts (is_escaped b) (list_all is_proper us) p in
+    at_once (Escape b) us h.0 h.1 bytes h.5 (spelled (Escape b) h.0 refl q.0 h.2) (follows us true h.1 m q.1 h.4)
+follows (Byte b ∷ us) may_end bytes m p h = elim (cases_Bool (is_piece (Byte b))) [
+  | inl piece ↦
+      let q = and_parts (is_plain b) (list_all is_proper us) p in
+      at_once (Byte b) us h.0 h.1 bytes h.5 (spelled (Byte b) h.0 piece q.0 h.2) (follows us true h.1 (rw piece at m) q.1 h.4)
+  | inr none ↦ absurd (let x : false ≡ true = rw none at m in cc)
+]
+
+-- the bytes of a word spell its units' values
+word_spells : (us : List LineUnit) (bytes : List ℕ) → is_word us ≡ true → list_all is_proper us ≡ true → AreUnitTexts us bytes → Spells bytes (flat_map unit_value us)
+word_spells [] bytes w p h = absurd (let x : false ≡ true = w in cc)
+word_spells (u ∷ us) bytes w p h =
+    let m = and_parts (is_piece u) (may_follow true us) w in
+    let q = and_parts (is_proper u) (list_all is_proper us) p in
+    subst (λ xs. Spells xs (flat_map unit_value (u ∷ us))) (sym h.5)
+    (spelled_on u us h.0 h.1 (spelled u h.0 m.0 q.0 h.2) (follows us true h.1 m.1 q.1 h.4))
+
+part_spells : (text : List ℕ) (start : ℕ) (us : List LineUnit) → is_word us ≡ true → Part text start us → (raw : List ℕ) → raw ≡ slice_range text start (start + total_len us) → Spells raw (value_of raw)
+part_spells text start us w part raw is =
+    subst (λ xs. Spells xs (value_of xs)) (sym (is ∙ part.slice))
+    (subst (Spells part.bytes) (sym (ap (flat_map unit_value) (read_back us part.bytes part.proper part.texts))) (word_spells us part.bytes w part.proper part.texts))
+
+is_word_of : (kind : TokenKind) (own after : List LineUnit) → kind ≡ Word → IsToken kind own after → is_word own ≡ true
+is_word_of kind own after e h = (subst (λ k. IsToken k own after) e h).0
+
+tokens_read : (text : List ℕ) (ts : List TokenAt) (place : ℕ) (us : List LineUnit) → Remains text place us → LexesAs place us ts → AllByRecursion IsReadAsSpelled (map (with_raw text) ts)
+tokens_read text [] place us r h = tt
+tokens_read text (t ∷ ts) place us r h =
+    let leads = h.1 in
+    let own : Remains text t.start (leads.own ++ h.0) =
+    subst (λ n. Remains text n (leads.own ++ h.0)) (sym leads.start) (past_units text place leads.gap (leads.own ++ h.0) (subst (Remains text place) leads.whole r)) in
+    let after : Remains text t.end h.0 = subst (λ n. Remains text n h.0) (sym leads.end) (past_units text t.start leads.own h.0 own) in (
+      λ word. part_spells text t.start leads.own (is_word_of t.kind leads.own h.0 word leads.token) (first_part text t.start leads.own h.0 own) _ (ap (slice_range text t.start) leads.end),
+      tokens_read text ts t.end h.0 after h.2,
+    )
+
+-- of each word of a line without fault
+pub words_read : (line : List ℕ) → IsFaultless line → All IsReadAsSpelled (seen_tokens (text_of line))
+words_read line r =
+    let text = text_of line in
+    All-from_recursion IsReadAsSpelled (seen_tokens text) (tokens_read text (tokens text) 0 (units text) (remains_all text (faultless_units line r)) (tokens_are text))
+
+-- ---- values
+
+no_space_first : (us : List LineUnit) (bytes rest : List ℕ) → AreUnitTexts us bytes → begins_with 32 us ≡ false → bytes ≡ 32 ∷ rest → ⊥
+no_space_first [] bytes rest h none e = let x : [] ≡ 32 ∷ rest = sym h ∙ e in cc
+no_space_first (Continuation len ∷ us) bytes rest h none e = elim h.2.0.1 [
+  | inl f ↦ dollar-space 36 refl (head-of 36 32 _ rest (ap (λ xs. xs ++ h.1) (sym f) ∙ sym h.5 ∙ e))
+  | inr f ↦ dollar-space 36 refl (head-of 36 32 _ rest (ap (λ xs. xs ++ h.1) (sym f) ∙ sym h.5 ∙ e))
+]
+no_space_first (Escape b ∷ us) bytes rest h none e = dollar-space 36 refl (head-of 36 32 (b ∷ h.1) rest (ap (λ xs. xs ++ h.1) (sym h.2) ∙ sym h.5 ∙ e))
+no_space_first (Byte b ∷ us) bytes rest h none e =
+    let same : b ≡ 32 = head-of b 32 h.1 rest (ap (λ xs. xs ++ h.1) (sym h.2) ∙ sym h.5 ∙ e) in
+    let clash : false ≡ true = sym none ∙ ap (λ n. n == 32) same in cc
+
+-- a continuation in front of a value
+gap_first : (own rest value : List ℕ) → IsContinuation own → ((more : List ℕ) → rest ≡ 32 ∷ more → ⊥) → SpellsValue rest value → SpellsValue (own ++ rest) value
+gap_first own rest [] c none h = longer_gap own rest c h
+gap_first own rest (b ∷ bs) c none h = (
+  own ++ h.0,
+  h.1,
+  h.2,
+  longer_gap own h.0 c h.3,
+  h.4,
+  λ space. absurd (none h.2 (h.7 ∙ ap (λ xs. xs ++ (h.1 ++ h.2)) (h.5 space) ∙ ap (λ xs. xs ++ h.2) space)),
+  h.6,
+  ap (λ xs. own ++ xs) h.7 ∙ sym (append_assoc own h.0 (h.1 ++ h.2)),
+)
+
+value_byte : (b : ℕ) → is_plain b ≡ true → IsTrue (is_value_byte b)
+value_byte b s = let k = plain b s in is_true _ (rw (k.no_dollar, k.no_nul, k.no_return, k.no_feed) refl)
+
+value_spells : (us : List LineUnit) (bytes : List ℕ) → list_all is_proper us ≡ true → AreUnitTexts us bytes → SpellsValue bytes (flat_map unit_value us)
+value_spells [] bytes p h = ([], tt, h)
+value_spells (Continuation len ∷ us) bytes p h =
+    subst (λ xs. SpellsValue xs (flat_map unit_value us)) (sym h.5)
+    (gap_first h.0 h.1 (flat_map unit_value us) h.2.0 (λ more e. no_space_first us h.1 more h.4 (h.3 refl) e) (value_spells us h.1 p h.4))
+value_spells (Escape b ∷ us) bytes p h =
+    let q = and_parts (is_escaped b) (list_all is_proper us) p in
+    ([], h.0, h.1, ([], tt, refl), subst (λ xs. IsValuePiece xs b) (sym h.2) (refl, refl, is_true _ q.0), (λ e. refl), value_spells us h.1 q.1 h.4, h.5)
+value_spells (Byte b ∷ us) bytes p h =
+    let q = and_parts (is_plain b) (list_all is_proper us) p in
+    ([], h.0, h.1, ([], tt, refl), subst (λ xs. IsValuePiece xs b) (sym h.2) (refl, value_byte b q.0), (λ e. refl), value_spells us h.1 q.1 h.4, h.5)
+
+-- what remains of a text after a run of units, and after `=`
+past_run : (text : List ℕ) (test : LineUnit → Bool) (us : List LineUnit) (place : ℕ) → Remains text place us → Remains text (after_run test place us).place (after_run test place us).units
+past_run text test [] place r = r
+past_run text test (u ∷ us) place r = elim (cases_Bool (test u)) [
+  | inl t ↦ rw t (past_run text test us (place + unit_len u) (past_unit text place u us r))
+  | inr f ↦ rw f r
+]
+
+past_equals : (text : List ℕ) (us : List LineUnit) (place : ℕ) → begins_with_equals us ≡ true → Remains text place us → Remains text (place + 1) (tail_units us)
+past_equals text [] place e r = absurd (let x : false ≡ true = e in cc)
+past_equals text (u ∷ us) place e r = subst (λ n. Remains text (place + n) us) (byte_len 61 u e) (past_unit text place u us r)
+
+rest_read : (text : List ℕ) (place : ℕ) (us : List LineUnit) → Remains text place us → SpellsValue (drop place text) (value_of (drop place text))
+rest_read text place us r =
+    subst (λ xs. SpellsValue xs (value_of xs)) (sym (rest_is text place us r))
+    (subst (SpellsValue r.bytes) (sym (ap (flat_map unit_value) (read_back us r.bytes r.proper r.texts))) (value_spells us r.bytes r.proper r.texts))
+
+value_is : (text : List ℕ) (p : AssignmentPlaces) (a : SeenAssignment) → SpellsValue (drop p.value_start text) (value_of (drop p.value_start text)) → ◌≡◌ {A = Option SeenAssignment} (Some (with_bytes text p)) (Some a) → IsValueAsSpelled a
+value_is text p a h e = let same : with_bytes text p ≡ a = cc in subst IsValueAsSpelled same h
+
+-- of the value of a line without fault that is an assignment
+pub values_read : (line : List ℕ) → IsFaultless line → ForSome (assignment_of (text_of line)) IsValueAsSpelled
+values_read line r a h =
+    let text = text_of line in
+    let name = after_run is_blank 0 (units text) in
+    let past_name = after_run is_name_unit name.place name.units in
+    let sign = after_run is_blank past_name.place past_name.units in
+    let at_sign = past_run text is_blank past_name.units past_name.place (past_run text is_name_unit name.units name.place (past_run text is_blank (units text) 0 (remains_all text (faultless_units line r)))) in
+    elim (cases_Bool (nat_lt name.place past_name.place && begins_with_equals sign.units)) [
+      | inl t ↦
+          let equals = (and_parts (nat_lt name.place past_name.place) (begins_with_equals sign.units) t).1 in
+          let value = past_run text is_blank (tail_units sign.units) (sign.place + 1) (past_equals text sign.units sign.place equals at_sign) in
+          value_is text _ a (rest_read text _ _ value) (rw t at h)
+      | inr f ↦ absurd (let x : ◌≡◌ {A = Option SeenAssignment} None (Some a) = rw f at h in cc)
+    ]
