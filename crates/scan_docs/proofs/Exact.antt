@@ -10,8 +10,10 @@ use Rattle.scan_docs.specs.Info.{InfoValue, IsInfo}
 use Rattle.scan_docs.specs.InfoChecks.{info_checks}
 use Rattle.scan_docs.specs.Target.{TargetValue, IsTarget}
 use Rattle.scan_docs.specs.TargetChecks.{target_checks}
-use Rattle.scan_docs.specs.Values.{tree_of, rules_in, rules_of, info_in, info_of, target_in, spec_of}
-use Rattle.scan_docs.proofs.Values.{tree_is, rules_are, info_is, target_is}
+use Rattle.scan_docs.specs.Project.{ProjectValue, IsProject}
+use Rattle.scan_docs.specs.ProjectChecks.{project_checks}
+use Rattle.scan_docs.specs.Values.{tree_of, rules_in, rules_of, info_in, info_of, target_in, spec_of, project_in, project_of}
+use Rattle.scan_docs.proofs.Values.{tree_is, rules_are, info_is, target_is, project_is}
 
 module _ {V : Type 0} (checks : Data → List Check) (means : Data → V → Type 0) (value : Data → V) (is : (d : Data) (v : V) → means d v → v ≡ value d) (bytes : List ℕ) where
   value_is : (v : V) → IsAccepted checks means bytes v → v ≡ value (tree_of bytes)
@@ -64,3 +66,10 @@ module _ (bytes : List ℕ) where
 
   pub target_one_answer : HasOneAnswer target_checks IsTarget bytes
   target_one_answer = one_answer target_checks IsTarget target_in target_is bytes
+
+  pub project_value : (project : ProjectValue) → IsAccepted project_checks IsProject bytes project → project ≡ project_of bytes
+  unfolding project_of
+  project_value project h = value_is project_checks IsProject project_in project_is bytes project h
+
+  pub project_one_answer : HasOneAnswer project_checks IsProject bytes
+  project_one_answer = one_answer project_checks IsProject project_in project_is bytes

@@ -17,7 +17,10 @@ use Rattle.scan_docs.specs.Name.{is_name, is_target_name}
 use Rattle.scan_docs.specs.Check.{first_refusal}
 use Rattle.scan_docs.specs.Scan.{SettingValue, object_of, file_of}
 use Rattle.scan_docs.specs.ScanChecks.{scan_checks, head_checks, all_rule_checks, rule_checks, rule_shape_checks, object_checks, count_checks, all_provided_checks, provided_checks, all_required_checks, required_checks}
+use Rattle.scan_docs.specs.TargetChecks as target_document
 use Rattle.scan_docs.specs.TargetChecks.{name_checks}
+use Rattle.scan_docs.specs.ProjectChecks.{targets_check, project_checks}
+use Rattle.scan_docs.specs.Values.{rules_of, info_of, project_of}
 use Rattle.scan_docs.specs.InfoChecks as info
 use Rattle.scan_docs.specs.InfoChecks.{info_checks, modules_check, all_module_checks, module_checks, entry_shape_checks, requires_check, visibility_check, named_file_checks, all_requirement_checks, requirement_checks}
 use Rattle.scan_docs.specs.InfoText.{info_text, info_tree, module_tree, requirements_tree, requirement_tree}
@@ -37,6 +40,9 @@ rule_refusal rules = scan_refusal (codes "{\"version\":1,\"rules\":[" ++ rules +
 
 abbrev info_refusal : List ℕ → Option (Option DocFault)
 info_refusal bytes = option_map (λ d. first_refusal (info_checks d)) (read bytes)
+
+abbrev project_refusal : List ℕ → Option (Option DocFault)
+project_refusal bytes = option_map (λ d. first_refusal (project_checks d)) (read bytes)
 
 abbrev objects : SettingValue → List ℕ → Option (List (Result (List ℕ) PathFault))
 objects s bytes = option_map (λ d. map (object_of s) (entries_of m.Rules d)) (read bytes)
@@ -122,6 +128,46 @@ info_documents : map (info_refusal)
     ∷ []
 unfolding serde_json_on_literals info_checks info.head_checks name_checks modules_check all_module_checks module_checks entry_shape_checks requires_check visibility_check named_file_checks all_requirement_checks requirement_checks is_name is_target_name key canonical_of
 info_documents = refl
+
+-- project documents
+project_documents : map project_refusal
+    (codes "{\"targets\":[\"a.json\"],\"version\":1}"
+    ∷ codes "{\"targets\":[],\"other\":7,\"version\":1}"
+    ∷ codes "{\"targets\":7,\"version\":2}"
+    ∷ codes "{\"version\":1}"
+    ∷ codes "{\"targets\":null,\"version\":1}"
+    ∷ codes "{\"targets\":\"a\",\"version\":1}"
+    ∷ codes "{\"targets\":[\"a\",7],\"version\":1}"
+    ∷ codes "[]"
+    ∷ codes "{"
+    ∷ [])
+    ≡ Some None
+    ∷ Some None
+    ∷ Some (Some BadVersion)
+    ∷ Some (Some (BadShape place.Document m.Targets))
+    ∷ Some (Some (BadShape place.Document m.Targets))
+    ∷ Some (Some (BadShape place.Document m.Targets))
+    ∷ Some (Some (BadShape place.Document m.Targets))
+    ∷ Some (Some (BadShape place.Document m.Document))
+    ∷ None
+    ∷ []
+unfolding serde_json_on_literals project_checks target_document.head_checks targets_check key
+project_documents = refl
+
+-- what documents mean, from their bytes
+rules_of_a_document : rules_of setting (codes "{\"version\":1,\"rules\":[{\"primary-output\":\"./a.o\",\"provides\":[{\"logical-name\":\"M:P\"}],\"requires\":[{\"logical-name\":\"A\"}]}]}")
+    ≡ record { object = codes "a.o"; provided = (codes "M:P", codes "mod/M-P.bmi") ∷ []; required = codes "A" ∷ [] } ∷ []
+unfolding serde_json_on_literals rules_of placed canonical_of key
+rules_of_a_document = refl
+
+info_of_a_document : info_of (codes "{\"modules\":[{\"bmi\":\"./lib//B.bmi\",\"name\":\"B\",\"requires\":[],\"visibility\":\"private\"}],\"target\":\"l\",\"version\":2}")
+    ≡ record { target = codes "l"; modules = record { name = codes "B"; file = codes "lib/B.bmi"; required = []; is_private = true } ∷ [] }
+unfolding serde_json_on_literals info_of canonical_of key
+info_of_a_document = refl
+
+project_of_a_document : project_of (codes "{\"targets\":[\"b.json\",\"./a.json\"],\"version\":1}") ≡ record { targets = codes "b.json" ∷ codes "./a.json" ∷ [] }
+unfolding serde_json_on_literals project_of key
+project_of_a_document = refl
 
 -- an object file in a work directory, without a build directory and with one
 objects_in_a_work_directory : map (λ s. objects s (codes "{\"version\":1,\"rules\":[{\"primary-output\":\"../o/a.o\",\"work-directory\":\"/w/b\"}]}")) (setting ∷ setting_in_w ∷ [])

@@ -6,12 +6,13 @@ use Rattle.ninja_text.specs.Paths.{path_of}
 use Rattle.ninja_text.specs.declared.paths.PathFault.{PathFault}
 use Rattle.scan_docs.specs.declared.member.Member.TheVariants as m
 use Rattle.scan_docs.specs.declared.map_form.MapForm.{MapForm}
-use Rattle.scan_docs.specs.Shape.{text, text_of, entries_of}
+use Rattle.scan_docs.specs.Shape.{text, text_of, texts, entries_of}
 use Rattle.scan_docs.specs.Document.{IsTree}
 use Rattle.scan_docs.specs.Scan.{SettingValue, RuleValue, object_of, file_of, IsProvided, IsRequired, IsRule, AreRules}
 use Rattle.scan_docs.specs.Info.{ModuleValue, InfoValue, has_visibility, privacy, IsRequirement, IsModule, IsInfo}
 use Rattle.scan_docs.specs.Target.{TargetValue, IsTarget}
-use Rattle.scan_docs.specs.Values.{tree_of, path_in, provided_in, rule_in, rules_in, requirement_in, module_in, info_in, target_in}
+use Rattle.scan_docs.specs.Project.{ProjectValue, IsProject}
+use Rattle.scan_docs.specs.Values.{tree_of, path_in, provided_in, rule_in, rules_in, requirement_in, module_in, info_in, target_in, project_in}
 
 pub tree_is : (bytes : List ℕ) (d : Data) → IsTree bytes d → d ≡ tree_of bytes
 tree_is bytes d h = sym (ap (λ (o : Option Data). unwrap_or o null) h.1)
@@ -84,3 +85,8 @@ target_is d t h =
     (some_is (text m.Dyndep d) t.dyndep [] h.dyndep)
     (some_is (text m.Info d) t.info [] h.info)
     (sym h.form) (sym h.edges)
+
+-- ---- project documents
+
+pub project_is : (d : Data) (p : ProjectValue) → IsProject d p → p ≡ project_in d
+project_is d p h = ap (λ a. record { targets = a }) (some_is (texts m.Targets d) p.targets [] h.targets)

@@ -1,4 +1,4 @@
--- How the faults of documents are printed: a code, a name and a place, and behind it what else is known.
+-- How the faults of documents are printed: a code, a name and a place, and what else is known.
 use Rattle.std.specs.Prelude.{ℕ, List, ◌++◌, codes}
 use Rattle.ninja_text.specs.FaultTexts.{path_fault_text}
 use Rattle.scan_docs.specs.declared.fault.DocFault.{DocFault}
@@ -10,9 +10,11 @@ use Rattle.scan_docs.specs.Place.{place_text}
 abbrev pub doc_fault_text : DocFault → List ℕ
 doc_fault_text NotJson = codes "S1 NotJson document"
 doc_fault_text BadVersion = codes "S2 BadVersion document"
-doc_fault_text (BadShape place member) = codes "S3 BadShape " ++ place_text place ++ codes " member " ++ key member
+doc_fault_text (BadShape place member) =
+    codes "S3 BadShape " ++ place_text place ++ codes " member " ++ key member
 doc_fault_text (NoPrimaryOutput place) = codes "S4 NoPrimaryOutput " ++ place_text place
 doc_fault_text (HeaderUnit place) = codes "S5 HeaderUnit " ++ place_text place
 doc_fault_text (BadName place) = codes "S6 BadName " ++ place_text place
-doc_fault_text (BadPath place fault) = codes "S7 BadPath " ++ place_text place ++ codes " " ++ path_fault_text fault
+doc_fault_text (BadPath place fault) =
+    codes "S7 BadPath " ++ place_text place ++ codes " " ++ path_fault_text fault
 doc_fault_text (TooLarge place) = codes "S8 TooLarge " ++ place_text place

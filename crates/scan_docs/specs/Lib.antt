@@ -11,6 +11,8 @@ pub mod Scan
 pub mod ScanChecks
 pub mod Target
 pub mod TargetChecks
+pub mod Project
+pub mod ProjectChecks
 pub mod Info
 pub mod InfoChecks
 pub mod InfoText

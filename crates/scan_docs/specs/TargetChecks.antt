@@ -16,7 +16,7 @@ abbrev pub is_target_version : Option ℕ → Bool
 is_target_version None = false
 is_target_version (Some version) = version == 1
 
--- the document itself
+-- the document itself, here and in a project document
 unfoldable pub head_checks : Data → List Check
 head_checks d =
     shape_check place.Document m.Document (is_object d)

@@ -1,4 +1,5 @@
--- What accepted documents mean, as functions of their bytes. Of bytes that are refused they say nothing.
+-- What accepted documents mean, as functions of their bytes. Of bytes that are refused they say
+-- nothing.
 use Rattle.std.specs.Prelude.{ℕ, List, [], map, Bool, false, Option, unwrap_or, Result}
 use Rattle.std.specs.Result.{result_ok}
 use Rattle.serde_json.specs.Data.{Data, null}
@@ -10,6 +11,7 @@ use Rattle.scan_docs.specs.Shape.{text, text_of, texts_of, entries_of}
 use Rattle.scan_docs.specs.Scan.{SettingValue, RuleValue, object_of, file_of}
 use Rattle.scan_docs.specs.Info.{ModuleValue, InfoValue, has_visibility, privacy}
 use Rattle.scan_docs.specs.Target.{TargetValue, build_dir, map_form}
+use Rattle.scan_docs.specs.Project.{ProjectValue}
 
 -- the tree of the bytes; where they have none that of `null`, which has no members
 abbrev pub tree_of : List ℕ → Data
@@ -58,7 +60,10 @@ module_in with_visibility d = record {
 
 -- an info
 abbrev pub info_in : Data → InfoValue
-info_in d = record { target = text_of m.Target d; modules = map (module_in (has_visibility d)) (entries_of m.Modules d) }
+info_in d = record {
+  target = text_of m.Target d;
+  modules = map (module_in (has_visibility d)) (entries_of m.Modules d);
+}
 
 -- the info of an info document
 unfoldable pub info_of : List ℕ → InfoValue
@@ -85,3 +90,13 @@ target_in d = record {
 -- the members of a target document
 unfoldable pub spec_of : List ℕ → TargetValue
 spec_of bytes = target_in (tree_of bytes)
+
+-- ---- project documents
+
+-- the target documents of a project
+abbrev pub project_in : Data → ProjectValue
+project_in d = record { targets = texts_of m.Targets d }
+
+-- the target documents of a project document
+unfoldable pub project_of : List ℕ → ProjectValue
+project_of bytes = project_in (tree_of bytes)

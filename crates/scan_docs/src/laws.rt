@@ -7,7 +7,9 @@ ghost use Rattle.scan_docs.specs.Info.{InfoValue, IsInfo};
 ghost use Rattle.scan_docs.specs.InfoChecks.{info_checks};
 ghost use Rattle.scan_docs.specs.Target.{TargetValue, IsTarget};
 ghost use Rattle.scan_docs.specs.TargetChecks.{target_checks};
-ghost use Rattle.scan_docs.specs.Values.{rules_of, info_of, spec_of};
+ghost use Rattle.scan_docs.specs.Project.{ProjectValue, IsProject};
+ghost use Rattle.scan_docs.specs.ProjectChecks.{project_checks};
+ghost use Rattle.scan_docs.specs.Values.{rules_of, info_of, spec_of, project_of};
 
 /// Whatever the bytes are, as a document of each kind they have one answer at most: one value, or one fault, and never
 /// both.
@@ -16,6 +18,7 @@ pub fn one_answer()
         → HasOneAnswer (scan_checks setting) (AreRules setting) bytes }
     ensures info { (bytes : List ℕ) → HasOneAnswer info_checks IsInfo bytes }
     ensures target { (bytes : List ℕ) → HasOneAnswer target_checks IsTarget bytes }
+    ensures project { (bytes : List ℕ) → HasOneAnswer project_checks IsProject bytes }
 {}
 
 /// The value of a document that is accepted is that of the function of its bytes.
@@ -29,4 +32,7 @@ pub fn value_of_bytes()
     ensures target { (bytes : List ℕ) (spec : TargetValue)
         → IsAccepted target_checks IsTarget bytes spec
         → spec ≡ spec_of bytes }
+    ensures project { (bytes : List ℕ) (project : ProjectValue)
+        → IsAccepted project_checks IsProject bytes project
+        → project ≡ project_of bytes }
 {}

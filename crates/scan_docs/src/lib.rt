@@ -1,11 +1,13 @@
-//! The documents of a module collator: scan documents of P1689R5, and the info and target documents of targets.
+//! The documents of a module collator: scan documents of P1689R5, the info and target documents of targets, and the
+//! documents of projects.
 //!
-//! - [`scan`] reads the rules of a scan document, [`info_read`] what a target tells the targets that link it, and
-//!   [`spec_read`] what a target is made of. Each answers what the document means exactly where all checks hold, and else
-//!   the refusal of the first check that fails. The checks stand as lists in `specs/ScanChecks.antt`,
-//!   `specs/InfoChecks.antt` and `specs/TargetChecks.antt`, the meanings in `specs/Scan.antt`, `specs/Info.antt` and
-//!   `specs/Target.antt`; `specs/Document.antt` puts them together. `specs/Values.antt` gives the meaning as a function of
-//!   the bytes.
+//! - [`scan`] reads the rules of a scan document, [`info_read`] what a target tells the targets that link it,
+//!   [`spec_read`] what a target is made of, and [`project_read`] which target documents a project has. Each answers what
+//!   the document means exactly where all checks hold, and else the refusal of the first check that fails. The checks
+//!   stand as lists in `specs/ScanChecks.antt`, `specs/InfoChecks.antt`, `specs/TargetChecks.antt` and
+//!   `specs/ProjectChecks.antt`, the meanings in `specs/Scan.antt`, `specs/Info.antt`, `specs/Target.antt` and
+//!   `specs/Project.antt`; `specs/Document.antt` puts them together. `specs/Values.antt` gives the meaning as a function
+//!   of the bytes.
 //! - [`laws`] proves of all bytes that they have one answer at most, and that the value of an accepted document is that of
 //!   the function.
 //! - [`info_write`] gives the one text of an info (`specs/InfoText.antt`), which is read as the same info.
@@ -26,6 +28,7 @@ mod map_form;
 mod member;
 mod name;
 mod number;
+mod project_document;
 mod rule;
 mod scan_document;
 mod setting;
@@ -41,6 +44,7 @@ pub use info_text::info_write;
 pub use map_form::MapForm;
 pub use member::Member;
 pub use name::{NAME_LIMIT, Name};
+pub use project_document::{ProjectSpec, project_read};
 pub use rule::Rule;
 pub use scan_document::{COUNT_LIMIT, scan};
 pub use setting::Setting;

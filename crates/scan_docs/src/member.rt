@@ -36,6 +36,7 @@ pub enum Member {
     Info,
     Map,
     Edges,
+    Targets,
 }
 
 impl Member {
@@ -76,6 +77,7 @@ impl Member {
             Member::Info => "info",
             Member::Map => "map",
             Member::Edges => "edges",
+            Member::Targets => "targets",
         }
     }
 }

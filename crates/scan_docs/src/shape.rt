@@ -145,6 +145,22 @@ pub(crate) fn texts(
     copy_texts(alloc, values)?.ok_or(bad_shape(place, member))
 }
 
+/// The member's texts, which have to be there.
+pub(crate) fn required_texts(
+    alloc: Global,
+    object: &Value<'_>,
+    member: Member,
+    place: Place,
+) -> Result<Vec<String>, Failure<DocFault>>
+    ensures { Tests (shape_check place member (is_some (texts member (view object.now))))
+        (λ v. texts member (view object.now) ≡ Some (map string_bytes v.items)) result }
+{
+    match given(object, member).and_then(tree::elements) {
+        Some(values) => copy_texts(alloc, values)?.ok_or(bad_shape(place, member)),
+        None => Err(bad_shape(place, member)),
+    }
+}
+
 /// The values as texts, or None where one is no text.
 fn copy_texts(alloc: Global, values: &[Value<'_>]) -> Result<Option<Vec<String>>, AllocError>
     ensures { IfOk result

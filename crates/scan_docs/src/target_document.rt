@@ -120,8 +120,9 @@ fn read_spec(alloc: Global, tree: &Value<'_>) -> Result<TargetSpec, Failure<DocF
     })
 }
 
+/// The document itself, in a target document or a project document.
 #[tactic(auto, unfolding(crate::specs::TargetChecks::head_checks))]
-fn read_head(tree: &Value<'_>) -> Result<(), Failure<DocFault>>
+pub(crate) fn read_head(tree: &Value<'_>) -> Result<(), Failure<DocFault>>
     ensures { Answers (head_checks (view tree.now)) (λ _. Unit {0}) result }
 {
     shape::object(tree, Member::Document, Place::Document)?;

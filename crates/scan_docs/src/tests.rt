@@ -1,8 +1,10 @@
-//! What no clause says: that calls succeed where memory is ample, and answers of documents that were made elsewhere. An answer is told in words, so that it can stand beside its document in a table.
+//! What no clause says: that calls succeed where memory is ample, and answers of documents that were made elsewhere. An
+//! answer is told in words, so that it can stand beside its document in a table.
 
 mod documents;
 mod info_documents;
 mod names;
+mod project_documents;
 mod scan_documents;
 mod target_documents;
 

@@ -1,5 +1,5 @@
 //! Real documents: scan documents that clang-scan-deps 19 (`-format=p1689`) wrote for two small projects, target documents
-//! for them, and the info documents that an independent implementation made of them.
+//! for them, a project document, and the info documents that an independent implementation made of them.
 
 pub(super) const SINGLE_APP_DETAIL_CPP: &str = r#"{
   "revision": 0,
@@ -587,6 +587,19 @@ pub(super) const LIBS_MATH_TARGET: &str = r#"{
  "dyndep": "dd/math.dd",
  "info": "dd/math.info.json",
  "map": "clang"
+}
+"#;
+
+pub(super) const LIBS_PROJECT: &str = r#"{
+ "targets": [
+  "base.target.json",
+  "math.target.json",
+  "io.target.json",
+  "legacy.target.json",
+  "engine.target.json",
+  "app.target.json"
+ ],
+ "version": 1
 }
 "#;
 

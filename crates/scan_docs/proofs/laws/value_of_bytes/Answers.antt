@@ -1,4 +1,4 @@
-use Rattle.scan_docs.proofs.Exact.{scan_value, info_value, target_value}
+use Rattle.scan_docs.proofs.Exact.{scan_value, info_value, target_value, project_value}
 use Rattle.scan_docs.proofs.laws.value_of_bytes.Goals as goal
 
 pub returns-clause-scan : goal.returns-clause-scan
@@ -9,3 +9,6 @@ returns-clause-info c = info_value
 
 pub returns-clause-target : goal.returns-clause-target
 returns-clause-target c = target_value
+
+pub returns-clause-project : goal.returns-clause-project
+returns-clause-project c = project_value

@@ -1,0 +1,13 @@
+-- What a project document means.
+use Rattle.std.specs.Prelude.{◌≡◌, ℕ, List, Some}
+use Rattle.serde_json.specs.Data.{Data}
+use Rattle.scan_docs.specs.declared.member.Member.TheVariants as m
+use Rattle.scan_docs.specs.Shape.{texts}
+
+-- the member of a project document, texts as they stand
+pub record ProjectValue : Type 0 where
+  pub targets : List (List ℕ)
+
+-- the member as it stands in the document
+pub record IsProject (d : Data) (p : ProjectValue) : Type 0 where
+  pub targets : texts m.Targets d ≡ Some p.targets

@@ -1,0 +1,16 @@
+-- What is checked of a project document, from the first check to the last.
+use Rattle.std.specs.Prelude.{List, [], ◌∷◌, ◌++◌, is_some}
+use Rattle.serde_json.specs.Data.{Data}
+use Rattle.scan_docs.specs.declared.fault.Place.TheVariants as place
+use Rattle.scan_docs.specs.declared.member.Member.TheVariants as m
+use Rattle.scan_docs.specs.Check.{Check, shape_check}
+use Rattle.scan_docs.specs.Shape.{texts}
+use Rattle.scan_docs.specs.TargetChecks.{head_checks}
+
+-- the list of target documents, all of whose elements are texts
+unfoldable pub targets_check : Data → List Check
+targets_check d = shape_check place.Document m.Targets (is_some (texts m.Targets d)) ∷ []
+
+-- all checks of a project document's tree
+unfoldable pub project_checks : Data → List Check
+project_checks d = head_checks d ++ targets_check d

@@ -1,0 +1,72 @@
+//! Project documents.
+
+ghost use Rattle.std.specs.Prelude.{◌≡◌, Some, map, IfOk, IfErr, string_bytes};
+ghost use Rattle.ninja_text.specs.Failure.{ForFault};
+ghost use Rattle.scan_docs.specs.Tree.{view};
+ghost use Rattle.scan_docs.specs.Reading.{Answers};
+ghost use Rattle.scan_docs.specs.Document.{IsAccepted, IsRefused, HasOneAnswer};
+ghost use Rattle.scan_docs.specs.Shape.{texts};
+ghost use Rattle.scan_docs.specs.Project.{IsProject};
+ghost use Rattle.scan_docs.specs.ProjectChecks.{targets_check, project_checks};
+ghost use Rattle.scan_docs.specs.Values.{project_of};
+ghost use Rattle.scan_docs.specs.declared.member.Member.TheVariants as m;
+
+use crate::document::read_tree;
+use crate::fault::{DocFault, Place};
+use crate::member::Member;
+use crate::shape;
+use crate::target_document::read_head;
+use json::{Scratch, Value};
+use ninja_text::Failure;
+use std::alloc::Global;
+use std::marker::Model;
+
+/// The member of a project document. Texts stand as they are in the document.
+#[derive(Drop)]
+pub struct ProjectSpec {
+    /// The target documents, in the order of the project.
+    pub targets: Vec<String>,
+}
+
+impl Model for ProjectSpec {
+    ghost use Rattle.std.specs.Prelude.{map, string_bytes};
+    ghost use Rattle.scan_docs.specs.Project.{ProjectValue};
+
+    ghost Value = { ProjectValue };
+
+    ghost view = { λ p. record { targets = map string_bytes p.targets.items } };
+}
+
+/// The target documents of a project, in its order, or the refusal of the first check that fails.
+///
+/// `version` has to be 1, and `targets` a list of texts, which may be empty. Whether these are files, and which targets
+/// they link, is not looked at.
+pub fn project_read(alloc: Global, bytes: &[u8]) -> Result<ProjectSpec, Failure<DocFault>>
+    ensures accepted { IfOk result
+        (λ project. IsAccepted project_checks IsProject bytes.now project) }
+    ensures refused { IfErr result (ForFault (IsRefused project_checks bytes.now)) }
+    ensures value { IfOk result (λ project. project ≡ project_of bytes.now) }
+    ensures one_answer { HasOneAnswer project_checks IsProject bytes.now }
+{
+    let mut scratch = Scratch::new(alloc);
+    let tree = read_tree(alloc, bytes, &mut scratch)?;
+    read_project(alloc, &tree)
+}
+
+#[tactic(auto, unfolding(crate::specs::ProjectChecks::project_checks), using(crate::proofs::Each::failure_of_both))]
+fn read_project(alloc: Global, tree: &Value<'_>) -> Result<ProjectSpec, Failure<DocFault>>
+    ensures { Answers (project_checks (view tree.now))
+        (λ project. IsProject (view tree.now) project) result }
+{
+    read_head(tree)?;
+    let targets = read_targets(alloc, tree)?;
+    Ok(ProjectSpec { targets })
+}
+
+#[tactic(auto, unfolding(crate::specs::ProjectChecks::targets_check))]
+fn read_targets(alloc: Global, tree: &Value<'_>) -> Result<Vec<String>, Failure<DocFault>>
+    ensures { Answers (targets_check (view tree.now))
+        (λ found. texts m.Targets (view tree.now) ≡ Some (map string_bytes found.items)) result }
+{
+    shape::required_texts(alloc, tree, Member::Targets, Place::Document)
+}
