@@ -67,8 +67,9 @@ impl LineCutter {
     /// Takes a beginning of the piece, up to and with the end of the next line, else the whole piece, and answers how many
     /// bytes it took. While a line waits it takes none.
     ///
-    /// `LineTooLong` as soon as the line's first [`LINE_LIMIT`] bytes are there and hold no end; every later call answers
-    /// the same. `Memory` where the line's bytes found no room: then nothing was taken, and the same piece can be fed again.
+    /// `LineTooLong` as soon as the line's first [`LINE_LIMIT`] bytes are there and hold no end; every later `feed`,
+    /// `next_line` and `finish` answers the same. `Memory` where the line's bytes found no room, and never while a line
+    /// waits: then nothing was taken, and the same piece can be fed again.
     pub fn feed(&mut self, piece: &[u8]) -> Result<usize, Failure<CutFault>>
         ensures exact { Feeds self.old piece.now result self.new }
         ensures within { IfOk result (λ n. n ≤ length piece.now) }
