@@ -1,0 +1,114 @@
+-- Edges need each other as their rows of makers say.
+use Rattle.std.proofs.Common.{◌≡◌, ℕ, zero, suc, ◌+◌, ◌<◌, List, [], ◌∷◌, ◌++◌, length, map, take, get_or, Option, Some, None, Contains, refl, ap, subst, sym, ◌∙◌, arith, slice_get, append_assoc}
+use Rattle.std.specs.List.{filter_map, cons_option}
+use Rattle.std.proofs.lemmas.List.{length-map, append-nil}
+use Rattle.std.proofs.lemmas.Option.{slice_get_within, slice_get-get_or, get_or_from_slice_get}
+use Rattle.dep_order.specs.Needs.{NodeNeeds, NeedsAreNodes}
+use Rattle.dep_order.specs.Sortings.{IsSortingOf}
+use Rattle.dep_order.specs.declared.Sorting.{Sorting}
+use Rattle.dep_order.proofs.ForCallers.{sorting_same}
+use Rattle.build_effect.specs.EdgeValue.{EdgeValue}
+use Rattle.build_effect.specs.Graphs.{inputs_of, MadeOnce, EdgeNeeds}
+use Rattle.build_effect.specs.inner.Makers.{AreMakers}
+use Rattle.build_effect.specs.inner.Inputs.{Has}
+use Rattle.build_effect.proofs.Lists.{same_some, from_map, to_map}
+use Rattle.build_effect.proofs.Repetitions.{take_next}
+
+cons_append : {Y : Type 0} (o : Option Y) (xs ys : List Y) → cons_option o (xs ++ ys) ≡ cons_option o xs ++ ys
+cons_append None xs ys = refl
+cons_append (Some y) xs ys = refl
+
+pub filter_map_append : {X Y : Type 0} (h : X → Option Y) (xs ys : List X) → filter_map h (xs ++ ys) ≡ filter_map h xs ++ filter_map h ys
+filter_map_append h [] ys = refl
+filter_map_append h (x ∷ xs) ys = ap (cons_option (h x)) (filter_map_append h xs ys) ∙ cons_append (h x) (filter_map h xs) (filter_map h ys)
+
+-- one more element in a loop, where something is made of it
+pub takes_some : {X Y : Type 0} (h : X → Option Y) (xs : List X) (i : ℕ) (x : X) (y : Y) (start now new : List Y) → slice_get xs i ≡ Some x → now ≡ start ++ filter_map h (take i xs) → h x ≡ Some y → new ≡ now ++ y ∷ [] → new ≡ start ++ filter_map h (take (i + 1) xs)
+takes_some h xs i x y start now new at before is more =
+    more ∙ ap (λ ys. ys ++ y ∷ []) before ∙ append_assoc start (filter_map h (take i xs)) (y ∷ [])
+    ∙ ap (λ ys. start ++ ys) (ap (λ o. filter_map h (take i xs) ++ cons_option o []) (sym is) ∙ sym (ap (filter_map h) (take_next xs i x at) ∙ filter_map_append h (take i xs) (x ∷ [])))
+
+-- and where nothing is
+pub takes_none : {X Y : Type 0} (h : X → Option Y) (xs : List X) (i : ℕ) (x : X) (start now : List Y) → slice_get xs i ≡ Some x → now ≡ start ++ filter_map h (take i xs) → h x ≡ None → now ≡ start ++ filter_map h (take (i + 1) xs)
+takes_none h xs i x start now at before is =
+    before ∙ ap (λ ys. start ++ ys) (sym (append-nil (filter_map h (take i xs))) ∙ ap (λ o. filter_map h (take i xs) ++ cons_option o []) (sym is) ∙ sym (ap (filter_map h) (take_next xs i x at) ∙ filter_map_append h (take i xs) (x ∷ [])))
+
+-- three lists, one after another
+pub three_lists : {X Y : Type 0} (h : X → Option Y) (xs ys zs : List X) (a b d : List Y) → a ≡ [] ++ filter_map h xs → b ≡ a ++ filter_map h ys → d ≡ b ++ filter_map h zs → d ≡ filter_map h (xs ++ (ys ++ zs))
+three_lists h xs ys zs a b d p q r =
+    r ∙ ap (λ l. l ++ filter_map h zs) (q ∙ ap (λ l. l ++ filter_map h ys) p) ∙ append_assoc (filter_map h xs) (filter_map h ys) (filter_map h zs)
+    ∙ ap (λ l. filter_map h xs ++ l) (sym (filter_map_append h ys zs)) ∙ sym (filter_map_append h xs (ys ++ zs))
+
+put_in : {Y : Type 0} (o : Option Y) (ys : List Y) (y : Y) → Has ys y → Has (cons_option o ys) y
+put_in None ys y h = h
+put_in (Some z) ys y h = (suc h.0, h.1)
+
+in_filter_map : {X Y : Type 0} (h : X → Option Y) (xs : List X) (k : ℕ) (x : X) (y : Y) → slice_get xs k ≡ Some x → h x ≡ Some y → Has (filter_map h xs) y
+in_filter_map h [] k x y at is = cc
+in_filter_map h (z ∷ xs) zero x y at is = let made : h z ≡ Some y = ap h (same_some _ _ at) ∙ is in subst (λ o. Has (cons_option o (filter_map h xs)) y) (sym made) (0, refl)
+in_filter_map h (z ∷ xs) (suc k) x y at is = put_in (h z) (filter_map h xs) y (in_filter_map h xs k x y at is)
+
+-- an element of the list comes from one that something is made of
+abbrev Comes : {X Y : Type 0} → (X → Option Y) → List X → Y → Type 0
+Comes {X} h xs y = (j : ℕ) × (x : X) × (slice_get xs j ≡ Some x) × (h x ≡ Some y)
+
+later : {X Y : Type 0} (h : X → Option Y) (z : X) (xs : List X) (y : Y) → Comes h xs y → Comes h (z ∷ xs) y
+later h z xs y c = (suc c.0, c.1, c.2, c.3)
+
+from_cons : {X Y : Type 0} (h : X → Option Y) (z : X) (xs : List X) (o : Option Y) (k : ℕ) (y : Y) → h z ≡ o → slice_get (cons_option o (filter_map h xs)) k ≡ Some y → ((l : ℕ) → slice_get (filter_map h xs) l ≡ Some y → Comes h xs y) → Comes h (z ∷ xs) y
+from_cons h z xs None k y is at rest = later h z xs y (rest k at)
+from_cons h z xs (Some w) zero y is at rest = (0, z, refl, is ∙ at)
+from_cons h z xs (Some w) (suc k) y is at rest = later h z xs y (rest k at)
+
+from_filter_map : {X Y : Type 0} (h : X → Option Y) (xs : List X) (k : ℕ) (y : Y) → slice_get (filter_map h xs) k ≡ Some y → Comes h xs y
+from_filter_map h [] k y at = cc
+from_filter_map h (z ∷ xs) k y at = from_cons h z xs (h z) k y refl at (λ l. from_filter_map h xs l y)
+
+row_there : {X : Type 0} (graph : List (List X)) (o k : ℕ) → k < length (get_or graph o []) → slice_get graph o ≡ Some (get_or graph o [])
+row_there [] o k lt = absurd (omega (arith, lt))
+row_there (row ∷ graph) zero k lt = refl
+row_there (row ∷ graph) (suc o) k lt = row_there graph o k lt
+
+contained : {X : Type 0} (xs : List X) (x : X) → Has xs x → Contains xs x
+contained xs x h = (h.0, slice_get_within xs h.0 x h.1, get_or_from_slice_get xs h.0 x x h.1)
+
+module _ (g : List EdgeValue) (maker : List ℕ → Option ℕ) (once : MadeOnce g) (are : AreMakers g maker) where
+  abbrev row : EdgeValue → List ℕ
+  row e = filter_map maker (inputs_of e)
+
+  abbrev graph : List (List ℕ)
+  graph = map row g
+
+  pub as_many : length graph ≡ length g
+  as_many = length-map g row
+
+  pub to_needs : (a b : ℕ) → NodeNeeds graph a b → EdgeNeeds g a b
+  to_needs a b need =
+      let there = row_there graph a need.0 need.1 in
+      let e = from_map row g a (get_or graph a []) there in
+      let at_b : slice_get (row e.0) need.0 ≡ Some b = ap (λ xs. slice_get xs need.0) e.2 ∙ slice_get-get_or (get_or graph a []) need.0 b need.1 ∙ ap (λ x. Some x) need.2 in
+      let file = from_filter_map maker (inputs_of e.0) need.0 b at_b in
+      let made = are.found file.1 b file.3 in
+      (e.0, file.1, made.0, e.1, (file.0, file.2), made.1)
+
+  pub from_needs : (a b : ℕ) → EdgeNeeds g a b → NodeNeeds graph a b
+  from_needs a b (e, file, j, at, reads, makes) =
+      let k = are.made b j file makes in
+      let made = are.found file k.0 k.1 in
+      let same : k.0 ≡ b = (once k.0 made.0 b j file made.1 makes).0 in
+      let has = in_filter_map maker (inputs_of e) reads.0 file b reads.1 (k.1 ∙ ap (λ x. Some x) same) in
+      subst (λ xs. Contains xs b) (sym (get_or_from_slice_get graph a (row e) [] (to_map row g a e at))) (contained (row e) b has)
+
+  pub are_nodes : NeedsAreNodes graph
+  are_nodes k d lt k' d' lt' =
+      let there = slice_get-get_or graph k d lt in
+      let same : get_or graph k [] ≡ get_or graph k d = get_or_from_slice_get graph k (get_or graph k d) [] there in
+      let needed = get_or (get_or graph k d) k' d' in
+      let inside = subst (λ xs. Contains xs needed) (sym same) (contained (get_or graph k d) needed (k', slice_get-get_or (get_or graph k d) k' d' lt')) in
+      let need = to_needs k needed inside in
+      omega (arith, slice_get_within g needed need.5.0 need.5.1, as_many)
+
+  pub sorting_of : (rows : List (List ℕ)) (sorting : Sorting) → rows ≡ graph → IsSortingOf (length rows) (NodeNeeds rows) sorting → IsSortingOf (length g) (EdgeNeeds g) sorting
+  sorting_of rows sorting same sorted =
+      subst (λ n. IsSortingOf n (EdgeNeeds g) sorting) as_many
+      (sorting_same (length graph) (NodeNeeds graph) (EdgeNeeds g) sorting to_needs from_needs (subst (λ xs. IsSortingOf (length xs) (NodeNeeds xs) sorting) same sorted))

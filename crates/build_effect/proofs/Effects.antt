@@ -1,0 +1,155 @@
+-- Under the premises there is exactly one effect.
+use Rattle.std.proofs.Common.{◌≡◌, ◌≢◌, ℕ, ◌+◌, ◌<◌, ◌⊎◌, Bool, List, ◌++◌, length, Some, Result, Ok, refl, ap, subst, sym, ◌∙◌, inl, inr, arith, append_assoc}
+use Rattle.std.specs.Prelude.{slice_get}
+use Rattle.std.proofs.lemmas.Option.{slice_get_within}
+use Rattle.build_effect.proofs.Decides.{path_option_decides}
+use Rattle.ninja_text.specs.declared.paths.PathFault.{PathFault}
+use Rattle.dyndep_file.specs.StatementValue.{StatementValue}
+use Rattle.build_effect.specs.EdgeValue.{EdgeValue}
+use Rattle.build_effect.specs.Graphs.{made_by, MakesAt, Names}
+use Rattle.build_effect.specs.Effect.{ArePaths, IsCanonical, AreCanonical, IsOn, IsTheOneOn, extended, Gives, Effect, EffectGives}
+use Rattle.build_effect.specs.Premises.{AddedOnce, Meets, OneEffect}
+use Rattle.build_effect.proofs.Lists.{same_lists, element_at, choose, in_append, same_some, from_map, to_map, same_map, same_ok}
+
+abbrev addition_with : List ℕ → List (List ℕ) → List (List ℕ) → Bool → StatementValue
+addition_with p outs ins r = record { output = p; implicit_outputs = outs; implicit_inputs = ins; restat = r }
+
+same_parts : (a b : StatementValue) → a.output ≡ b.output → a.implicit_outputs ≡ b.implicit_outputs → a.implicit_inputs ≡ b.implicit_inputs → a.restat ≡ b.restat → a ≡ b
+same_parts a b p q r s =
+    let step : addition_with a.output a.implicit_outputs a.implicit_inputs a.restat ≡ addition_with b.output b.implicit_outputs b.implicit_inputs b.restat = rw (p, q, r, s) refl in step
+
+same_paths : (texts : List (List ℕ)) (ps qs : List (List ℕ)) → ArePaths texts ps → ArePaths texts qs → ps ≡ qs
+same_paths texts ps qs e f = same_map {B = Result (List ℕ) PathFault} (λ p. Ok p) (λ x y h. same_ok x y h) ps qs (sym e ∙ f)
+
+same_addition : (s : StatementValue) (a b : StatementValue) → IsCanonical s a → IsCanonical s b → a ≡ b
+same_addition s a b c d =
+    same_parts a b (same_ok _ _ (sym c.output ∙ d.output)) (same_paths _ _ _ c.outputs d.outputs) (same_paths _ _ _ c.inputs d.inputs) (sym c.restat ∙ d.restat)
+
+-- a list of statements has one canonical form
+pub same_additions : (ss : List StatementValue) (xs ys : List StatementValue) → AreCanonical ss xs → AreCanonical ss ys → xs ≡ ys
+same_additions ss xs ys c d =
+    same_lists xs ys (sym c.count ∙ d.count) (λ k x y ex ey.
+    let within : k < length xs = slice_get_within _ _ _ ex in
+    let at : (s : StatementValue) × (slice_get ss k ≡ Some s) = element_at ss k (omega (arith, c.count)) in
+    same_addition at.0 x y (c.each k at.0 x at.1 ex) (d.each k at.0 y at.1 ey))
+
+-- an effect is what the statements give, once their paths are canonical
+pub effect_gives : EffectGives
+effect_gives g new name ss additions canonical effect =
+    subst (λ xs. Gives g name xs new) (same_additions ss effect.additions additions effect.canonical canonical) effect.gives
+
+-- statements give one graph at most
+pub same_gives : (g : List EdgeValue) (name : List ℕ) (xs : List StatementValue) (new other : List EdgeValue) → Gives g name xs new → Gives g name xs other → new ≡ other
+same_gives g name xs new other c d =
+    same_lists new other (c.same_edges ∙ sym d.same_edges) (λ i x y ex ey.
+    let within : i < length new = slice_get_within _ _ _ ex in
+    let at : (e : EdgeValue) × (slice_get g i ≡ Some e) = element_at g i (omega (arith, c.same_edges)) in
+    elim (path_option_decides at.0.dyndep (Some name)) [
+      | inl names ↦
+          let u = c.named i at.0 at.1 names in
+          let v = d.named i at.0 at.1 names in
+          let same_place : v.0 ≡ u.0 = u.2.only v.0 v.1 v.2.is v.2.on in
+          let same : u.1 ≡ v.1 = same_some _ _ (sym u.2.is ∙ ap (slice_get xs) (sym same_place) ∙ v.2.is) in
+          same_some _ _ (sym ex ∙ u.3 ∙ ap (λ a. Some (extended at.0 a)) same ∙ sym v.3 ∙ ey)
+      | inr others ↦ same_some _ _ (sym ex ∙ c.others i at.0 at.1 others ∙ sym (d.others i at.0 at.1 others) ∙ ey)
+    ])
+
+pub same_effect : (g : List EdgeValue) (name : List ℕ) (ss : List StatementValue) (new other : List EdgeValue) → Effect g name ss new → Effect g name ss other → new ≡ other
+same_effect g name ss new other c d =
+    let same : d.additions ≡ c.additions = same_additions ss _ _ d.canonical c.canonical in
+    same_gives g name c.additions new other c.gives (subst (λ xs. Gives g name xs other) same d.gives)
+
+-- what an edge becomes: itself, or what the one statement on it makes of it
+abbrev pub Becomes : List ℕ → List StatementValue → EdgeValue → EdgeValue → Type 0
+Becomes name additions e x = ((e.dyndep ≢ Some name) × (x ≡ e)) ⊎ (Names name e × (k : ℕ) × (a : StatementValue) × IsTheOneOn additions e k a × (x ≡ extended e a))
+
+-- edge i becomes x
+abbrev pub ComesTo : List EdgeValue → List ℕ → List StatementValue → ℕ → EdgeValue → Type 0
+ComesTo g name additions i x = (e : EdgeValue) × (slice_get g i ≡ Some e) × Becomes name additions e x
+
+-- where a file that an edge makes afterwards comes from: it was made before, or addition k adds it, as the one with index m
+abbrev pub Origin : List EdgeValue → List StatementValue → ℕ → ℕ → List ℕ → Type 0
+Origin g additions i j file =
+    MakesAt g i j file
+    ⊎ ((e : EdgeValue) × (k : ℕ) × (a : StatementValue) × (m : ℕ) × (slice_get g i ≡ Some e) × (slice_get additions k ≡ Some a) × IsOn a e × (slice_get a.implicit_outputs m ≡ Some file) × (j ≡ length (made_by e) + m))
+
+pub origin_in : (g : List EdgeValue) (name : List ℕ) (additions : List StatementValue) (i j : ℕ) (file : List ℕ) (e x : EdgeValue) → slice_get g i ≡ Some e → slice_get (made_by x) j ≡ Some file → Becomes name additions e x → Origin g additions i j file
+origin_in g name additions i j file e x here makes (inl b) = inl (e, here, ap (λ d. slice_get (made_by d) j) (sym b.1) ∙ makes)
+origin_in g name additions i j file e x here makes (inr b) =
+    let joined : slice_get (made_by e ++ b.2.implicit_outputs) j ≡ Some file =
+    ap (λ xs. slice_get xs j) (append_assoc e.outputs e.implicit_outputs b.2.implicit_outputs) ∙ ap (λ d. slice_get (made_by d) j) (sym b.4) ∙ makes in
+    elim (in_append (made_by e) b.2.implicit_outputs j file joined) [
+      | inl h ↦ inl (e, here, h)
+      | inr h ↦ inr (e, b.1, b.2, h.0, here, b.3.is, b.3.on, h.2, h.1)
+    ]
+
+module _ (g : List EdgeValue) (name : List ℕ) (additions : List StatementValue) (once : AddedOnce additions) (meets : Meets g name additions) where
+  the_one : (i : ℕ) (e : EdgeValue) → slice_get g i ≡ Some e → Names name e → (k : ℕ) × (a : StatementValue) × IsTheOneOn additions e k a
+  the_one i e here names =
+      let o = meets.names.one_object i e here names in
+      let f = from_map (λ (a : StatementValue). a.output) additions o.0 o.1 o.2 in
+      (o.0, f.0, record { is = f.1; on = (o.3.0, o.3.1 ∙ ap Some (sym f.2)); only = λ l b at on. o.4 l b.output (to_map (λ (a : StatementValue). a.output) additions l b at) on })
+
+  becomes : (i : ℕ) → i < length g → (x : EdgeValue) × ComesTo g name additions i x
+  becomes i h =
+      let at : (e : EdgeValue) × (slice_get g i ≡ Some e) = element_at g i h in
+      elim (path_option_decides at.0.dyndep (Some name)) [
+        | inl names ↦ let t = the_one i at.0 at.1 names in (extended at.0 t.1, (at.0, at.1, inr (names, t.0, t.1, t.2, refl)))
+        | inr others ↦ (at.0, (at.0, at.1, inl (others, refl)))
+      ]
+
+  after : (new : List EdgeValue) × (length new ≡ length g) × ((i : ℕ) (x : EdgeValue) → slice_get new i ≡ Some x → ComesTo g name additions i x)
+  after = choose (ComesTo g name additions) (length g) becomes
+
+  module _ (new : List EdgeValue) (same_length : length new ≡ length g) (each : (i : ℕ) (x : EdgeValue) → slice_get new i ≡ Some x → ComesTo g name additions i x) where
+    at_edge : (i : ℕ) (e : EdgeValue) → slice_get g i ≡ Some e → (x : EdgeValue) × (slice_get new i ≡ Some x) × Becomes name additions e x
+    at_edge i e here =
+        let within : i < length g = slice_get_within _ _ _ here in
+        let at : (x : EdgeValue) × (slice_get new i ≡ Some x) = element_at new i (omega arith) in
+        let b = each i at.0 at.1 in
+        let same : b.0 ≡ e = same_some _ _ (sym b.1 ∙ here) in
+        (at.0, at.1, subst (λ d. Becomes name additions d at.0) same b.2)
+
+    others : (i : ℕ) (e : EdgeValue) → slice_get g i ≡ Some e → e.dyndep ≢ Some name → slice_get new i ≡ Some e
+    others i e here not =
+        let x = at_edge i e here in
+        elim x.2 [ inl b ↦ x.1 ∙ ap Some b.1 | inr b ↦ absurd (not b.0) ]
+
+    named : (i : ℕ) (e : EdgeValue) → slice_get g i ≡ Some e → Names name e → (k : ℕ) × (a : StatementValue) × IsTheOneOn additions e k a × (slice_get new i ≡ Some (extended e a))
+    named i e here names =
+        let x = at_edge i e here in
+        elim x.2 [ inl b ↦ absurd (b.0 names) | inr b ↦ (b.1, b.2, b.3, x.1 ∙ ap Some b.4) ]
+
+    origin : (i j : ℕ) (file : List ℕ) → MakesAt new i j file → Origin g additions i j file
+    origin i j file m =
+        let within : i < length new = slice_get_within _ _ _ m.1 in
+        let b = each i m.0 m.1 in
+        origin_in g name additions i j file b.0 m.0 b.1 m.2 b.2
+
+    one_place : (i j k l : ℕ) (file : List ℕ) → Origin g additions i j file → Origin g additions k l file → (i ≡ k) × (j ≡ l)
+    one_place i j k l file (inl p) (inl q) = meets.made_once i j k l file p q
+    one_place i j k l file (inl p) (inr q) = absurd (meets.fresh q.1 q.3 file (q.2, q.5, q.7) (i, j, p))
+    one_place i j k l file (inr p) (inl q) = absurd (meets.fresh p.1 p.3 file (p.2, p.5, p.7) (k, l, q))
+    one_place i j k l file (inr p) (inr q) =
+        let same = once p.1 p.3 q.1 q.3 file (p.2, p.5, p.7) (q.2, q.5, q.7) in
+        let addition : p.2 ≡ q.2 = same_some _ _ (sym p.5 ∙ ap (slice_get additions) same.0 ∙ q.5) in
+        let edges = meets.made_once i p.6.0 k q.6.0 q.2.output (p.0, p.4, p.6.1 ∙ ap (λ a. Some a.output) addition) (q.0, q.4, q.6.1) in
+        let edge : p.0 ≡ q.0 = same_some _ _ (sym p.4 ∙ ap (slice_get g) edges.0 ∙ q.4) in
+        (edges.0, p.8 ∙ ap (λ e. length (made_by e) + p.3) edge ∙ ap (λ m. length (made_by q.0) + m) same.1 ∙ sym q.8)
+
+    gives : Gives g name additions new
+    gives =
+        record {
+          same_edges = same_length;
+          others = others;
+          named = named;
+          bound = λ k a at. meets.names.bound k a.output (to_map (λ (b : StatementValue). b.output) additions k a at);
+          made_once = λ i j k l file p q. one_place i j k l file (origin i j file p) (origin k l file q);
+        }
+
+pub one_effect : OneEffect
+one_effect g name statements additions canonical once meets =
+    let new = after g name additions once meets in
+    let given : Gives g name additions new.0 = gives g name additions once meets new.0 new.1 new.2 in
+    let effect : Effect g name statements new.0 = record { additions = additions; canonical = canonical; gives = given } in
+    (new.0, given, record { effect = effect; only = λ other e. same_effect g name statements other new.0 e effect })

@@ -1,0 +1,130 @@
+-- The edges with what statements add are the effect.
+use Rattle.std.proofs.Common.{◌≡◌, ◌≢◌, ◌⊎◌, ℕ, ◌+◌, List, [], ◌∷◌, ◌++◌, length, take, Option, Some, None, refl, ap, sym, subst, ◌∙◌, inl, inr, arith, slice_get, length-append}
+use Rattle.std.proofs.lemmas.Option.{slice_get_within}
+use Rattle.dyndep_file.specs.StatementValue.{StatementValue}
+use Rattle.build_effect.specs.EdgeValue.{EdgeValue}
+use Rattle.build_effect.specs.Graphs.{Names, Reads, IsGraph}
+use Rattle.build_effect.specs.Effect.{IsOn, Gives, OnlyEffect, extended}
+use Rattle.build_effect.specs.Checks.{ChecksSuffice}
+use Rattle.build_effect.specs.inner.StatementEdges.{statement_on}
+use Rattle.build_effect.specs.inner.Checked.{AreChecked}
+use Rattle.build_effect.specs.inner.Extended.{AreExtended, IsEdgeAfter}
+use Rattle.build_effect.proofs.Lists.{same_some, same_lists, element_at, in_append, in_first}
+use Rattle.build_effect.proofs.InputSearch.{has_first, has_second}
+use Rattle.build_effect.proofs.Repetitions.{from_push, from_take, in_take, take_next}
+
+plain_of : (additions : List StatementValue) (statement : Option ℕ) (e x : EdgeValue) → statement ≡ None → IsEdgeAfter e additions statement x → x ≡ e
+plain_of additions None e x is h = h
+plain_of additions (Some k) e x is h = cc
+
+more_of : (additions : List StatementValue) (statement : Option ℕ) (k : ℕ) (a : StatementValue) (e x : EdgeValue) → statement ≡ Some k → slice_get additions k ≡ Some a → IsEdgeAfter e additions statement x → x ≡ extended e a
+more_of additions None k a e x is at h = cc
+more_of additions (Some l) k a e x is at h = h a (ap (slice_get additions) (same_some _ _ is) ∙ at)
+
+last_at : {X : Type 0} (xs : List X) (y : X) → slice_get (xs ++ y ∷ []) (length xs) ≡ Some y
+last_at [] y = refl
+last_at (x ∷ xs) y = last_at xs y
+
+-- one more edge
+pub more_extended : (g : List EdgeValue) (additions : List StatementValue) (statement_of : List (Option ℕ)) (new : List EdgeValue) (i : ℕ) (e x : EdgeValue) → slice_get g i ≡ Some e → AreExtended (take i g) additions statement_of new → IsEdgeAfter e additions (statement_on statement_of i) x → AreExtended (take (i + 1) g) additions statement_of (new ++ x ∷ [])
+more_extended g additions statement_of new i e x at are comes =
+    subst (λ xs. AreExtended xs additions statement_of (new ++ x ∷ [])) (sym (take_next g i e at)) (record { as_many = count; plain = plain; more = more })
+  where
+    count : length (new ++ x ∷ []) ≡ length (take i g ++ e ∷ [])
+    count = omega (arith, length-append new (x ∷ []), length-append (take i g) (e ∷ []), are.as_many)
+
+    number : (j : ℕ) → j ≡ length (take i g) → j ≡ i
+    number j same =
+        let here = last_at (take i g) e in
+        let within = slice_get_within g i e at in
+        let low = from_take (i + 1) g (length (take i g)) e (ap (λ xs. slice_get xs (length (take i g))) (take_next g i e at) ∙ here) in
+        let high = slice_get_within (take (i + 1) g) i e (in_take (i + 1) g i e (omega arith) at) in
+        omega (arith, same, low.0, high, ap length (take_next g i e at), length-append (take i g) (e ∷ []))
+
+    plain : (j : ℕ) (d : EdgeValue) → slice_get (take i g ++ e ∷ []) j ≡ Some d → statement_on statement_of j ≡ None → slice_get (new ++ x ∷ []) j ≡ Some d
+    plain j d at_j none =
+        elim (from_push (take i g) e j d at_j) [
+          | inl p ↦ in_first new (x ∷ []) j d (are.plain j d p none)
+          | inr p ↦
+              let same : x ≡ d = plain_of additions (statement_on statement_of i) e x (ap (statement_on statement_of) (sym (number j p.0)) ∙ none) comes ∙ p.1 in
+              ap (slice_get (new ++ x ∷ [])) (p.0 ∙ sym are.as_many) ∙ last_at new x ∙ ap (λ z. Some z) same
+        ]
+
+    more : (j k : ℕ) (d : EdgeValue) (a : StatementValue) → slice_get (take i g ++ e ∷ []) j ≡ Some d → statement_on statement_of j ≡ Some k → slice_get additions k ≡ Some a → slice_get (new ++ x ∷ []) j ≡ Some (extended d a)
+    more j k d a at_j some at_k =
+        elim (from_push (take i g) e j d at_j) [
+          | inl p ↦ in_first new (x ∷ []) j (extended d a) (are.more j k d a p some at_k)
+          | inr p ↦
+              let same : x ≡ extended d a = more_of additions (statement_on statement_of i) k a e x (ap (statement_on statement_of) (sym (number j p.0)) ∙ some) at_k comes ∙ ap (λ z. extended z a) p.1 in
+              ap (slice_get (new ++ x ∷ [])) (p.0 ∙ sym are.as_many) ∙ last_at new x ∙ ap (λ z. Some z) same
+        ]
+
+-- a statement is on the edge, or none is
+pub on_or_not : (o : Option ℕ) → (o ≡ None) ⊎ ((k : ℕ) × (o ≡ Some k))
+on_or_not None = inl refl
+on_or_not (Some k) = inr (k, refl)
+
+module _ (g : List EdgeValue) (name : List ℕ) (ss additions : List StatementValue) (statement_of : List (Option ℕ)) (new : List EdgeValue) (checked : AreChecked g name ss additions statement_of) (are : AreExtended g additions statement_of new) where
+  -- they are what the statements give
+  given_are : (given : List EdgeValue) → Gives g name additions given → given ≡ new
+  given_are given gives =
+      same_lists given new (gives.same_edges ∙ sym are.as_many) (λ i x y at_x at_y.
+      let within = slice_get_within given i x at_x in
+      let at : (e : EdgeValue) × (slice_get g i ≡ Some e) = element_at g i (omega (arith, within, gives.same_edges)) in
+      elim (on_or_not (statement_on statement_of i)) [
+        | inl none ↦
+            let unnamed : at.0.dyndep ≢ Some name = λ names. (let k = checked.have i at.0 at.1 names in let both : None ≡ Some k.0 = sym none ∙ k.1 in cc) in
+            same_some _ _ (sym at_x ∙ gives.others i at.0 at.1 unnamed ∙ sym (are.plain i at.0 at.1 none) ∙ at_y)
+        | inr some ↦
+            let p = checked.on i some.0 some.1 in
+            let edge : p.2.0 ≡ at.0 = same_some _ _ (sym p.2.1 ∙ at.1) in
+            let names : Names name at.0 = subst (λ (z : EdgeValue). Names name z) edge p.2.2 in
+            let q = gives.named i at.0 at.1 names in
+            let number : some.0 ≡ q.0 = q.2.only some.0 p.0 p.1 (subst (IsOn p.0) edge p.2.3) in
+            let same : p.0 ≡ q.1 = same_some _ _ (sym p.1 ∙ ap (slice_get additions) number ∙ q.2.is) in
+            same_some _ _ (sym at_x ∙ q.3 ∙ ap (λ a. Some (extended at.0 a)) (sym same) ∙ sym (are.more i some.0 at.0 p.0 at.1 some.1 p.1) ∙ at_y)
+      ])
+
+  pub is_effect : IsGraph g → ChecksSuffice → Gives g name additions new × OnlyEffect g name ss new
+  is_effect graph suffice =
+      let r = suffice g name ss additions graph.made_once checked.canonical checked.bound checked.single checked.mentioned checked.fresh in
+      let same = given_are r.0 r.1 in
+      (subst (Gives g name additions) same r.1, subst (OnlyEffect g name ss) same r.2)
+
+  -- where each edge of the new graph comes from
+  from_old : (i : ℕ) (x : EdgeValue) → slice_get new i ≡ Some x → (e : EdgeValue) × (slice_get g i ≡ Some e) × ((x ≡ e) ⊎ ((a : StatementValue) × (x ≡ extended e a)))
+  from_old i x at_x =
+      let within = slice_get_within new i x at_x in
+      let at : (e : EdgeValue) × (slice_get g i ≡ Some e) = element_at g i (omega (arith, within, are.as_many)) in
+      elim (on_or_not (statement_on statement_of i)) [
+        | inl none ↦ (at.0, at.1, inl (same_some _ _ (sym at_x ∙ are.plain i at.0 at.1 none)))
+        | inr some ↦ let p = checked.on i some.0 some.1 in (at.0, at.1, inr (p.0, same_some _ _ (sym at_x ∙ are.more i some.0 at.0 p.0 at.1 some.1 p.1)))
+      ]
+
+  still_reads : (e : EdgeValue) (a : StatementValue) (file : List ℕ) → Reads e file → Reads (extended e a) file
+  still_reads e a file h =
+      elim (in_append e.inputs (e.implicit_inputs ++ e.order_only) h.0 file h.1) [
+        | inl p ↦ has_first e.inputs ((e.implicit_inputs ++ a.implicit_inputs) ++ e.order_only) file (h.0, p)
+        | inr p ↦ has_second e.inputs ((e.implicit_inputs ++ a.implicit_inputs) ++ e.order_only) file (elim (in_append e.implicit_inputs e.order_only p.0 file p.2) [
+          | inl q ↦ has_first (e.implicit_inputs ++ a.implicit_inputs) e.order_only file (has_first e.implicit_inputs a.implicit_inputs file (p.0, q))
+          | inr q ↦ has_second (e.implicit_inputs ++ a.implicit_inputs) e.order_only file (q.0, q.2)
+        ])
+      ]
+
+  pub is_graph : IsGraph g → ChecksSuffice → IsGraph new
+  is_graph graph suffice =
+      record {
+        outputs = λ i x at.
+            let b = from_old i x at in
+            elim b.2 [
+              | inl same ↦ subst (λ (z : EdgeValue). z.outputs ≢ []) (sym same) (graph.outputs i b.0 b.1)
+              | inr more ↦ subst (λ (z : EdgeValue). z.outputs ≢ []) (sym more.1) (graph.outputs i b.0 b.1)
+            ];
+        made_once = (is_effect graph suffice).0.made_once;
+        dyndep_is_input = λ i x file at names.
+            let b = from_old i x at in
+            elim b.2 [
+              | inl same ↦ subst (λ (z : EdgeValue). Reads z file) (sym same) (graph.dyndep_is_input i b.0 file b.1 (subst (λ (z : EdgeValue). Names file z) same names))
+              | inr more ↦ subst (λ (z : EdgeValue). Reads z file) (sym more.1) (still_reads b.0 more.0 file (graph.dyndep_is_input i b.0 file b.1 (subst (λ (z : EdgeValue). Names file z) more.1 names)))
+            ];
+      }

@@ -1,0 +1,168 @@
+-- Files that do not touch one another may be applied in any order.
+use Rattle.std.proofs.Common.{◌≡◌, ◌≢◌, ℕ, zero, suc, ◌<◌, ◌⊎◌, List, [], ◌∷◌, length, Some, refl, ap, subst, sym, ◌∙◌, inl, inr, arith}
+use Rattle.std.specs.Prelude.{slice_get}
+use Rattle.std.proofs.lemmas.Option.{slice_get_within}
+use Rattle.build_effect.proofs.Decides.{path_option_decides}
+use Rattle.build_effect.specs.EdgeValue.{EdgeValue}
+use Rattle.build_effect.specs.Graphs.{Names}
+use Rattle.build_effect.specs.Effect.{IsTheOneOn, Gives, OnlyEffect, extended}
+use Rattle.build_effect.specs.Premises.{AddsAt, Meets}
+use Rattle.build_effect.specs.Files.{NamedFile, AreFiles, FilesMeet, Applies, GainsExactly, AreFileIndices, AnyOrder, SameFiles, OrdersEndAlike}
+use Rattle.build_effect.proofs.Lists.{same_lists, element_at, same_some}
+use Rattle.build_effect.proofs.Effects.{ComesTo, origin_in, one_effect}
+use Rattle.dyndep_file.specs.StatementValue.{StatementValue}
+
+-- what an edge of the graph after an effect comes from
+pub comes_to : (g : List EdgeValue) (name : List ℕ) (additions : List StatementValue) (new : List EdgeValue) → Gives g name additions new → (i : ℕ) (x : EdgeValue) → slice_get new i ≡ Some x → ComesTo g name additions i x
+comes_to g name additions new gives i x here =
+    let within : i < length new = slice_get_within _ _ _ here in
+    let at : (e : EdgeValue) × (slice_get g i ≡ Some e) = element_at g i (omega (arith, gives.same_edges)) in
+    elim (path_option_decides at.0.dyndep (Some name)) [
+      | inl names ↦ let n = gives.named i at.0 at.1 names in (at.0, at.1, inr (names, n.0, n.1, n.2, same_some _ _ (sym here ∙ n.3)))
+      | inr others ↦ (at.0, at.1, inl (others, same_some _ _ (sym here ∙ gives.others i at.0 at.1 others)))
+    ]
+
+-- an edge that names another file is untouched
+module _ (g : List EdgeValue) (name : List ℕ) (additions : List StatementValue) (new : List EdgeValue) (gives : Gives g name additions new) (other : List ℕ) (differ : name ≢ other) where
+  not_both : (e : EdgeValue) → Names other e → e.dyndep ≢ Some name
+  not_both e names same = differ (same_some _ _ (sym same ∙ names))
+
+  untouched : (i : ℕ) (x : EdgeValue) → slice_get new i ≡ Some x → Names other x → slice_get g i ≡ Some x
+  untouched i x here names =
+      let from = comes_to g name additions new gives i x here in
+      elim from.2 [
+        | inl b ↦ from.1 ∙ ap Some (sym b.1)
+        | inr b ↦ absurd (not_both x names (ap (λ (d : EdgeValue). d.dyndep) b.4 ∙ b.0))
+      ]
+
+  kept : (i : ℕ) (e : EdgeValue) → slice_get g i ≡ Some e → Names other e → slice_get new i ≡ Some e
+  kept i e here names = gives.others i e here (not_both e names)
+
+  -- the premises of another file still hold
+  still_meets : (more : List StatementValue) → Meets g other more → ((k l i j : ℕ) (file : List ℕ) → AddsAt additions k i file → AddsAt more l j file → ⊥) → Meets new other more
+  still_meets more meets apart =
+      record {
+        made_once = gives.made_once;
+        names = record {
+          one_object = λ i x here names. meets.names.one_object i x (untouched i x here names) names;
+          bound = λ o object at. let b = meets.names.bound o object at in (b.0, b.1, kept b.0 b.1 b.2 b.3, b.3, b.4);
+        };
+        fresh = λ k m file adds made.
+            let from = comes_to g name additions new gives made.0 made.2.0 made.2.1 in
+            elim (origin_in g name additions made.0 made.1 file from.0 made.2.0 from.1 made.2.2 from.2) [
+              | inl p ↦ meets.fresh k m file adds (made.0, made.1, p)
+              | inr p ↦ apart p.1 k p.3 m file (p.2, p.5, p.7) adds
+            ];
+      }
+
+-- what stays of the premises for the files that are left
+record RestMeets (files : List NamedFile) (g : List EdgeValue) (order : List ℕ) : Type 0 where
+  each : (p n : ℕ) (f : NamedFile) → slice_get order p ≡ Some n → slice_get files n ≡ Some f → Meets g f.name f.additions
+
+tail_numbers : (files : List NamedFile) (n : ℕ) (order : List ℕ) → AreFileIndices files (n ∷ order) → AreFileIndices files order
+tail_numbers files n order numbers =
+    record { within = λ p m e. numbers.within (suc p) m e; differ = λ p q m e f. let same : suc p ≡ suc q = numbers.differ (suc p) (suc q) m e f in omega (arith, same) }
+
+-- an index of the rest is not the first
+not_first : (files : List NamedFile) (n : ℕ) (order : List ℕ) → AreFileIndices files (n ∷ order) → (p m : ℕ) → slice_get order p ≡ Some m → n ≡ m → ⊥
+not_first files n order numbers p m e same = let place : 0 ≡ suc p = numbers.differ 0 (suc p) m (ap Some same) e in omega (arith, place)
+
+module _ (files : List NamedFile) (start : List EdgeValue) (are : AreFiles files) (all : FilesMeet start files) where
+  gains_named : (n : ℕ) (order : List ℕ) (g : List EdgeValue) → AreFileIndices files (n ∷ order) → (f : NamedFile) → slice_get files n ≡ Some f →
+      (mid : List EdgeValue) → Gives g f.name f.additions mid → (new : List EdgeValue) → GainsExactly files mid order new →
+      (p m : ℕ) (h : NamedFile) (i : ℕ) (e : EdgeValue) → slice_get (n ∷ order) p ≡ Some m → slice_get files m ≡ Some h → slice_get g i ≡ Some e → Names h.name e →
+      (k : ℕ) × (a : StatementValue) × IsTheOneOn h.additions e k a × (slice_get new i ≡ Some (extended e a))
+  gains_named n order g numbers f at mid first new more zero m h i e number there here names =
+      let same : f ≡ h = same_some _ _ (sym at ∙ ap (slice_get files) (same_some _ _ number) ∙ there) in
+      let gained = first.named i e here (names ∙ ap (λ (x : NamedFile). Some x.name) (sym same)) in
+      let last = more.others i (extended e gained.1) gained.3 (λ q l x place at_l again.
+      not_first files n order numbers q l place (all.names_differ n l f x at at_l (same_some _ _ (sym (names ∙ ap (λ (x : NamedFile). Some x.name) (sym same)) ∙ again)))) in
+      (gained.0, gained.1, subst (λ (x : NamedFile). IsTheOneOn x.additions e gained.0 gained.1) same gained.2, last)
+  gains_named n order g numbers f at mid first new more (suc p) m h i e number there here names =
+      let unnamed : e.dyndep ≢ Some f.name = λ same. not_first files n order numbers p m number (all.names_differ n m f h at there (same_some _ _ (sym same ∙ names))) in
+      more.named p m h i e number there (first.others i e here unnamed) names
+
+  gains_others : (n : ℕ) (order : List ℕ) (g : List EdgeValue) → AreFileIndices files (n ∷ order) → (f : NamedFile) → slice_get files n ≡ Some f →
+      (mid : List EdgeValue) → Gives g f.name f.additions mid → (new : List EdgeValue) → GainsExactly files mid order new →
+      (i : ℕ) (e : EdgeValue) → slice_get g i ≡ Some e → ((p m : ℕ) (h : NamedFile) → slice_get (n ∷ order) p ≡ Some m → slice_get files m ≡ Some h → e.dyndep ≢ Some h.name) → slice_get new i ≡ Some e
+  gains_others n order g numbers f at mid first new more i e here none =
+      more.others i e (first.others i e here (none 0 n f refl at)) (λ p m h number there. none (suc p) m h number there)
+
+  -- the gains of the first file and those of the rest
+  gains : (n : ℕ) (order : List ℕ) (g : List EdgeValue) → AreFileIndices files (n ∷ order) → (f : NamedFile) → slice_get files n ≡ Some f →
+      (mid : List EdgeValue) → Gives g f.name f.additions mid → (new : List EdgeValue) → GainsExactly files mid order new → GainsExactly files g (n ∷ order) new
+  gains n order g numbers f at mid first new more =
+      record { same_edges = more.same_edges ∙ first.same_edges; named = gains_named n order g numbers f at mid first new more; others = gains_others n order g numbers f at mid first new more }
+
+  run : (order : List ℕ) (g : List EdgeValue) → AreFileIndices files order → RestMeets files g order → (new : List EdgeValue) × Applies files g order new × GainsExactly files g order new
+  run [] g numbers rest = (g, refl, record { same_edges = refl; named = λ p n f i e none. cc; others = λ i e here none. here })
+  run (n ∷ order) g numbers rest =
+      let at : (f : NamedFile) × (slice_get files n ≡ Some f) = element_at files n (numbers.within 0 n refl) in
+      let first = one_effect g at.0.name at.0.statements at.0.additions (are.canonical n at.0 at.1) (are.added_once n at.0 at.1) (rest.each 0 n at.0 refl at.1) in
+      let left : RestMeets files first.0 order = record {
+        each = λ p m h e there. still_meets g at.0.name at.0.additions first.0 first.1 h.name
+            (λ same. not_first files n order numbers p m e (all.names_differ n m at.0 h at.1 there same)) h.additions (rest.each (suc p) m h e there)
+            (λ k l i j file a b. not_first files n order numbers p m e (all.added_apart n m k l i j at.0 h file at.1 there a b));
+      } in
+      let more = run order first.0 (tail_numbers files n order numbers) left in
+      (more.0, (at.0, first.0, at.1, first.2, more.1), gains n order g numbers at.0 at.1 first.0 first.1 more.0 more.2)
+
+pub any_order : AnyOrder
+any_order files g order are all numbers = run files g are all order g numbers (record { each = λ p n f e there. all.each n f there })
+
+-- files applied in one order lead to one graph
+same_end : (files : List NamedFile) (order : List ℕ) (g a b : List EdgeValue) → Applies files g order a → Applies files g order b → a ≡ b
+same_end files [] g a b p q = p ∙ sym q
+same_end files (n ∷ order) g a b p q =
+    let file : p.0 ≡ q.0 = same_some _ _ (sym p.2 ∙ q.2) in
+    let again : OnlyEffect g p.0.name p.0.statements q.1 = subst (λ (f : NamedFile). OnlyEffect g f.name f.statements q.1) (sym file) q.3 in
+    let mid : q.1 ≡ p.1 = p.3.only q.1 again.effect in
+    same_end files order p.1 a b p.4 (subst (λ x. Applies files x order b) mid q.4)
+
+-- the edge names one of the files of these indices
+abbrev NamesOne : List NamedFile → List ℕ → EdgeValue → Type 0
+NamesOne files order e = (p : ℕ) × (n : ℕ) × (f : NamedFile) × (slice_get order p ≡ Some n) × (slice_get files n ≡ Some f) × Names f.name e
+
+abbrev NamesNone : List NamedFile → List ℕ → EdgeValue → Type 0
+NamesNone files order e = (p n : ℕ) (f : NamedFile) → slice_get order p ≡ Some n → slice_get files n ≡ Some f → e.dyndep ≢ Some f.name
+
+names_none_more : (files : List NamedFile) (n : ℕ) (order : List ℕ) (e : EdgeValue) (f : NamedFile) → slice_get files n ≡ Some f → e.dyndep ≢ Some f.name → NamesNone files order e → NamesNone files (n ∷ order) e
+names_none_more files n order e f at not none zero m h number there = subst (λ (x : NamedFile). e.dyndep ≢ Some x.name) (same_some _ _ (sym at ∙ ap (slice_get files) (same_some _ _ number) ∙ there)) not
+names_none_more files n order e f at not none (suc p) m h number there = none p m h number there
+
+names_one : (files : List NamedFile) (order : List ℕ) → AreFileIndices files order → (e : EdgeValue) → NamesOne files order e ⊎ NamesNone files order e
+names_one files [] numbers e = inr (λ p n f none. cc)
+names_one files (n ∷ order) numbers e =
+    let at : (f : NamedFile) × (slice_get files n ≡ Some f) = element_at files n (numbers.within 0 n refl) in
+    elim (path_option_decides e.dyndep (Some at.0.name)) [
+      | inl names ↦ inl (0, n, at.0, refl, at.1, names)
+      | inr not ↦ elim (names_one files order (tail_numbers files n order numbers) e) [
+        | inl h ↦ inl (suc h.0, h.1, h.2, h.3, h.4, h.5)
+        | inr none ↦ inr (names_none_more files n order e at.0 at.1 not none)
+      ]
+    ]
+
+-- what each edge gains does not depend on the order
+same_gains : (files : List NamedFile) (g : List EdgeValue) (order other : List ℕ) (a b : List EdgeValue) → AreFileIndices files order → SameFiles order other →
+    GainsExactly files g order a → GainsExactly files g other b → a ≡ b
+same_gains files g order other a b numbers same p q =
+    same_lists a b (p.same_edges ∙ sym q.same_edges) (λ i x y ex ey.
+    let within : i < length a = slice_get_within _ _ _ ex in
+    let at : (e : EdgeValue) × (slice_get g i ≡ Some e) = element_at g i (omega (arith, p.same_edges)) in
+    elim (names_one files order numbers at.0) [
+      | inl h ↦
+          let there = same.0 h.0 h.1 h.3 in
+          let u = p.named h.0 h.1 h.2 i at.0 h.3 h.4 at.1 h.5 in
+          let v = q.named there.0 h.1 h.2 i at.0 there.1 h.4 at.1 h.5 in
+          let place : v.0 ≡ u.0 = u.2.only v.0 v.1 v.2.is v.2.on in
+          let addition : u.1 ≡ v.1 = same_some _ _ (sym u.2.is ∙ ap (slice_get h.2.additions) (sym place) ∙ v.2.is) in
+          same_some _ _ (sym ex ∙ u.3 ∙ ap (λ z. Some (extended at.0 z)) addition ∙ sym v.3 ∙ ey)
+      | inr none ↦ same_some _ _ (sym ex ∙ p.others i at.0 at.1 none ∙ sym (q.others i at.0 at.1 (λ r n f number there.
+          let back = same.1 r n number in none back.0 n f back.1 there)) ∙ ey)
+    ])
+
+pub orders_end_alike : OrdersEndAlike
+orders_end_alike files g order other new last are all numbers more same p q =
+    let a = any_order files g order are all numbers in
+    let b = any_order files g other are all more in
+    same_end files order g new a.0 p a.1 ∙ same_gains files g order other a.0 b.0 numbers same a.2 b.2 ∙ same_end files other g b.0 last b.1 q

@@ -1,0 +1,119 @@
+-- Texts that are paths, and the first that is none.
+use Rattle.std.proofs.Common.{◌≡◌, ℕ, zero, suc, ◌+◌, ◌<◌, List, [], ◌∷◌, ◌++◌, length, map, take, Some, Result, Ok, Err, refl, ap, sym, subst, ◌∙◌, inl, inr, arith, slice_get, length-append}
+use Rattle.std.proofs.lemmas.List.{map-append}
+use Rattle.std.proofs.lemmas.Option.{slice_get_within}
+use Rattle.ninja_text.specs.Paths.{path_of}
+use Rattle.ninja_text.specs.declared.paths.PathFault.{PathFault}
+use Rattle.dyndep_file.specs.StatementValue.{StatementValue}
+use Rattle.build_effect.specs.Effect.{ArePaths, IsCanonical, AreCanonical}
+use Rattle.build_effect.specs.Faults.{IsRefused, HasRefused}
+use Rattle.build_effect.specs.inner.BadPaths.{IsBadText, IsBadTextFrom, IsBadTextOf, IsBadStatement}
+use Rattle.build_effect.specs.declared.fault.EffectFault.{EffectFault}
+use Rattle.build_effect.proofs.Lists.{same_some, in_append, in_first, in_second}
+use Rattle.build_effect.proofs.Repetitions.{from_push, in_take, take_next}
+use Rattle.build_effect.proofs.Exclusion.{path_at, all_paths}
+
+not_both : (text path : List ℕ) → path_of text ≡ Ok path → IsRefused text → ⊥
+not_both text path ok refused = let both : Ok path ≡ Err refused.0 = sym ok ∙ refused.1 in cc
+
+abbrev pub NoneRefused : List (List ℕ) → Type 0
+NoneRefused texts = (j : ℕ) (text : List ℕ) → slice_get texts j ≡ Some text → IsRefused text → ⊥
+
+pub none_refused : (texts paths : List (List ℕ)) → ArePaths texts paths → NoneRefused texts
+none_refused texts paths are j text at refused = let p = path_at texts paths j text are at in not_both text p.0 p.1 refused
+
+-- one more path in a loop
+pub more_paths : (texts paths : List (List ℕ)) (i : ℕ) (text path : List ℕ) → slice_get texts i ≡ Some text → ArePaths (take i texts) paths → path_of text ≡ Ok path → ArePaths (take (i + 1) texts) (paths ++ path ∷ [])
+more_paths texts paths i text path at are ok =
+    ap (map path_of) (take_next texts i text at) ∙ map-append path_of (take i texts) (text ∷ []) ∙ ap (λ xs. xs ++ path_of text ∷ []) are ∙ ap (λ x. map (λ p. Ok p) paths ++ x ∷ []) ok
+    ∙ sym (map-append {B = Result (List ℕ) PathFault} (λ p. Ok p) paths (path ∷ []))
+
+-- the first text that is none
+pub first_bad : (texts paths : List (List ℕ)) (i number from : ℕ) (text : List ℕ) (fault : EffectFault) → slice_get texts i ≡ Some text → ArePaths (take i texts) paths → IsBadText text number (from + i) fault → IsBadTextFrom texts number from fault
+first_bad texts paths i number from text fault at are bad =
+    (i, text, record { here = at; holds = (bad.0, bad.1); before = λ j y less at_y refused. none_refused (take i texts) paths are j y (in_take i texts j y less at_y) refused }, bad)
+
+pub bad_before : (xs ys : List (List ℕ)) (number from : ℕ) (fault : EffectFault) → IsBadTextFrom xs number from fault → IsBadTextFrom (xs ++ ys) number from fault
+bad_before xs ys number from fault (j, text, first, bad) =
+    (j, text, record { here = in_first xs ys j text first.here; holds = first.holds; before = before }, bad)
+  where
+    before : (k : ℕ) (y : List ℕ) → k < j → slice_get (xs ++ ys) k ≡ Some y → IsRefused y → ⊥
+    before k y less at refused =
+        elim (in_append xs ys k y at) [
+          | inl h ↦ first.before k y less h refused
+          | inr h ↦ let within = slice_get_within xs j text first.here in absurd (omega (arith, within, h.1, less))
+        ]
+
+pub bad_after : (xs ys : List (List ℕ)) (number from : ℕ) (fault : EffectFault) → from ≡ length xs → NoneRefused xs → IsBadTextFrom ys number from fault → IsBadTextFrom (xs ++ ys) number 0 fault
+bad_after xs ys number from fault same none (j, text, first, bad) =
+    let place : from + j ≡ 0 + (length xs + j) = omega (arith, same) in
+    (length xs + j, text, record { here = in_second xs ys j text first.here; holds = first.holds; before = before }, subst (λ n. IsBadText text number n fault) place bad)
+  where
+    before : (k : ℕ) (y : List ℕ) → k < length xs + j → slice_get (xs ++ ys) k ≡ Some y → IsRefused y → ⊥
+    before k y less at refused =
+        elim (in_append xs ys k y at) [
+          | inl h ↦ none k y h refused
+          | inr h ↦ first.before h.0 y (omega (arith, h.1, less)) h.2 refused
+        ]
+
+one_refused : (text path : List ℕ) → path_of text ≡ Ok path → NoneRefused (text ∷ [])
+one_refused text path ok zero y at refused = not_both y path (ap path_of (sym (same_some _ _ at)) ∙ ok) refused
+one_refused text path ok (suc j) y at refused = cc
+
+more_refused : (xs ys : List (List ℕ)) → NoneRefused xs → NoneRefused ys → NoneRefused (xs ++ ys)
+more_refused xs ys p q j y at refused = elim (in_append xs ys j y at) [ inl h ↦ p j y h refused | inr h ↦ q h.0 y h.2 refused ]
+
+-- which text of a statement is reported
+pub bad_output : (s : StatementValue) (number : ℕ) (fault : EffectFault) → IsBadText s.output number 0 fault → IsBadTextOf s number fault
+bad_output s number fault bad =
+    (0, s.output, record { here = refl; holds = (bad.0, bad.1); before = λ j y less at refused. omega (arith, less) }, bad)
+
+pub bad_outputs : (s : StatementValue) (number : ℕ) (fault : EffectFault) (path : List ℕ) → path_of s.output ≡ Ok path → IsBadTextFrom s.implicit_outputs number 1 fault → IsBadTextOf s number fault
+bad_outputs s number fault path ok bad =
+    bad_before (s.output ∷ s.implicit_outputs) s.implicit_inputs number 0 fault (bad_after (s.output ∷ []) s.implicit_outputs number 1 fault refl (one_refused s.output path ok) bad)
+
+pub bad_inputs : (s : StatementValue) (number from : ℕ) (fault : EffectFault) (path : List ℕ) (paths : List (List ℕ)) → path_of s.output ≡ Ok path → ArePaths s.implicit_outputs paths → from ≡ 1 + length s.implicit_outputs → IsBadTextFrom s.implicit_inputs number from fault → IsBadTextOf s number fault
+bad_inputs s number from fault path paths ok are same bad =
+    let place : from ≡ length (s.output ∷ s.implicit_outputs) = omega (arith, same) in
+    bad_after (s.output ∷ s.implicit_outputs) s.implicit_inputs number from fault place
+    (more_refused (s.output ∷ []) s.implicit_outputs (one_refused s.output path ok) (none_refused s.implicit_outputs paths are)) bad
+
+-- one more statement in a loop
+pub more_statements : (ss additions : List StatementValue) (i : ℕ) (s a : StatementValue) → slice_get ss i ≡ Some s → AreCanonical (take i ss) additions → IsCanonical s a → AreCanonical (take (i + 1) ss) (additions ++ a ∷ [])
+more_statements ss additions i s a at are one =
+    subst (λ xs. AreCanonical xs (additions ++ a ∷ [])) (sym (take_next ss i s at)) (record { count = count; each = each })
+  where
+    count : length (take i ss ++ s ∷ []) ≡ length (additions ++ a ∷ [])
+    count = omega (arith, length-append (take i ss) (s ∷ []), length-append additions (a ∷ []), are.count)
+
+    each : (k : ℕ) (x y : StatementValue) → slice_get (take i ss ++ s ∷ []) k ≡ Some x → slice_get (additions ++ a ∷ []) k ≡ Some y → IsCanonical x y
+    each k x y at_x at_y =
+        elim (from_push (take i ss) s k x at_x) [
+          | inl p ↦ elim (from_push additions a k y at_y) [
+            | inl q ↦ are.each k x y p q
+            | inr q ↦ let within = slice_get_within (take i ss) k x p in absurd (omega (arith, within, q.0, are.count))
+          ]
+          | inr p ↦ elim (from_push additions a k y at_y) [
+            | inl q ↦ let within = slice_get_within additions k y q in absurd (omega (arith, within, p.0, are.count))
+            | inr q ↦ subst (λ z. IsCanonical x z) q.1 (subst (λ z. IsCanonical z a) p.1 one)
+          ]
+        ]
+
+-- an element of one of two lists as long stands beside one of the other
+beside : {X Y : Type 0} (xs : List X) (ys : List Y) (k : ℕ) (x : X) → length xs ≡ length ys → slice_get xs k ≡ Some x → (y : Y) × (slice_get ys k ≡ Some y)
+beside [] ys k x e at = cc
+beside (z ∷ xs) [] k x e at = absurd (omega arith)
+beside (z ∷ xs) (w ∷ ys) zero x e at = (w, refl)
+beside (z ∷ xs) (w ∷ ys) (suc k) x e at = beside xs ys k x (omega arith) at
+
+-- the first statement with a text that is no path
+pub first_bad_statement : (ss additions : List StatementValue) (i : ℕ) (s : StatementValue) (fault : EffectFault) → slice_get ss i ≡ Some s → AreCanonical (take i ss) additions → IsBadTextOf s i fault → IsBadStatement ss fault
+first_bad_statement ss additions i s fault at are bad =
+    (i, s, record { here = at; holds = (bad.0, bad.1, bad.2.here, bad.2.holds); before = before }, bad)
+  where
+    before : (j : ℕ) (y : StatementValue) → j < i → slice_get ss j ≡ Some y → HasRefused y → ⊥
+    before j y less at_y (m, text, there, refused) =
+        let here = in_take i ss j y less at_y in
+        let a = beside (take i ss) additions j y are.count here in
+        let p = all_paths y a.0 m text (are.each j y a.0 here a.1) there in
+        not_both text p.0 p.1 refused

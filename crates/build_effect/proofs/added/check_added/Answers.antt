@@ -1,0 +1,32 @@
+use Rattle.std.proofs.Common.{◌≡◌, ℕ, ◌<◌, List, Bor, length, map, Some, None, IfSome, refl, ap, sym, subst, ◌∙◌, arith, slice_get}
+use Rattle.std.proofs.lemmas.Option.{slice_get_read}
+use Rattle.build_effect.specs.Faults.{added_outputs}
+use Rattle.build_effect.specs.inner.Added.{FindsMade}
+use Rattle.build_effect.specs.declared.fault.EffectFault.TheVariants.{AddedTwice}
+use Rattle.build_effect.proofs.Lists.{same_some, to_map}
+use Rattle.build_effect.proofs.added.check_added.Goals as goal
+
+abbrev text_of : Bor (List ℕ) → List ℕ
+text_of text = text.now
+
+pub index-requires : goal.index-requires
+index-requires c =
+    let within = subst (λ o. IfSome o (λ k. k < length c.as_slice.result.now)) c.in-Some.is c.in_ok-first_made.ensures.within in
+    omega (arith, within, c.as_slice.ensures.len)
+
+pub returns-in-None-clause-ok : goal.returns-in-None-clause-ok
+returns-in-None-clause-ok c = λ g are.
+    let texts : map text_of c.as_slice.result.now ≡ added_outputs c.args.additions.now = ap (map text_of) c.as_slice.ensures.value ∙ c.in_ok-files.ensures in
+    subst (λ xs. FindsMade g xs None) texts (subst (FindsMade g (map text_of c.as_slice.result.now)) c.in-None.is (c.in_ok-first_made.ensures.made g are))
+
+pub returns-clause-fault : goal.returns-clause-fault
+returns-clause-fault c = λ g are.
+    let k : ℕ = c.in-Some.file_index in
+    let items = c.in_ok-files.files.items in
+    let texts : map text_of c.as_slice.result.now ≡ added_outputs c.args.additions.now = ap (map text_of) c.as_slice.ensures.value ∙ c.in_ok-files.ensures in
+    let found = subst (λ xs. FindsMade g xs (Some k)) texts (subst (FindsMade g (map text_of c.as_slice.result.now)) c.in-Some.is (c.in_ok-first_made.ensures.made g are)) in
+    let within = subst (λ o. IfSome o (λ k. k < length c.as_slice.result.now)) c.in-Some.is c.in_ok-first_made.ensures.within in
+    let short : k < length items = omega (arith, within, ap length c.as_slice.ensures.value) in
+    let here = to_map text_of items k c.index.result.now (slice_get_read items _ k c.index.result.now refl short c.index.ensures) in
+    let same : c.in_ok-path-in-Some.path ≡ found.0 = c.in_ok-path-in-Some.ensures ∙ same_some _ _ (sym here ∙ ap (λ xs. slice_get xs k) c.in_ok-files.ensures ∙ found.1.here) in
+    (k, found.0, found.1, ap AddedTwice same)

@@ -1,0 +1,24 @@
+use Rattle.std.proofs.Common.{◌≡◌, ℕ, ◌+◌, Some, take, refl, sym, subst, slice_get}
+use Rattle.std.proofs.lemmas.Option.{slice_get_read}
+use Rattle.build_effect.specs.inner.BadPaths.{IsBadTextOf, IsBadStatement}
+use Rattle.build_effect.specs.Effect.{AreCanonical}
+use Rattle.build_effect.proofs.Failures.{for_fault}
+use Rattle.build_effect.proofs.PathTexts.{more_statements, first_bad_statement}
+use Rattle.build_effect.proofs.addition.canonical_statements.Goals as goal
+
+pub returns-in-Err-clause-fault : goal.returns-in-Err-clause-fault
+returns-in-Err-clause-fault c =
+    let ss = c.args.statements.now in
+    let i : ℕ = c.loop-statement_index.statement_index in
+    let s = c.index-statements-statement_index.result in
+    let at : slice_get ss i ≡ Some s = slice_get_read ss _ i s refl c.loop-statement_index-test.true c.index-statements-statement_index.is in
+    for_fault (IsBadTextOf s i) (IsBadStatement ss)
+    (λ fault bad. first_bad_statement ss c.loop-statement_index.additions.items i s fault at c.loop-statement_index.invariant bad) c.in-Err.failure c.in-Err.ensures.fault
+
+pub loop-statement_index-preserved : goal.loop-statement_index-preserved
+loop-statement_index-preserved c =
+    let ss = c.args.statements.now in
+    let i : ℕ = c.loop-statement_index.statement_index in
+    let s = c.index-statements-statement_index.result in
+    let at : slice_get ss i ≡ Some s = slice_get_read ss _ i s refl c.loop-statement_index-test.true c.index-statements-statement_index.is in
+    subst (AreCanonical (take (i + 1) ss)) (sym c.in_ok-push-in-Ok.ensures.items) (more_statements ss c.loop-statement_index.additions.items i s c.in-Ok.addition at c.loop-statement_index.invariant c.in-Ok.ensures.canonical)

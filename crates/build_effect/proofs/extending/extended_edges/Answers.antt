@@ -1,0 +1,14 @@
+use Rattle.std.proofs.Common.{ℕ, ◌+◌, take, refl, sym, subst}
+use Rattle.std.proofs.lemmas.Option.{slice_get_read}
+use Rattle.build_effect.specs.EdgeValue.{EdgeValue}
+use Rattle.build_effect.specs.inner.Extended.{AreExtended}
+use Rattle.build_effect.proofs.Extensions.{more_extended}
+use Rattle.build_effect.proofs.extending.extended_edges.Goals as goal
+
+pub loop-edge_index-preserved : goal.loop-edge_index-preserved
+loop-edge_index-preserved c =
+    let g = c.args.edges.now in
+    let i : ℕ = c.loop-edge_index.edge_index in
+    let e : EdgeValue = c.index-edges-edge_index.result in
+    subst (AreExtended (take (i + 1) g) c.args.additions.now c.args.statement_of.now) (sym c.in_ok-push.ensures.items)
+    (more_extended g c.args.additions.now c.args.statement_of.now c.loop-edge_index.new.items i e c.in_ok-after.after (slice_get_read g _ i e refl c.loop-edge_index-test.true c.index-edges-edge_index.is) c.loop-edge_index.invariant c.in_ok-after.ensures)

@@ -1,0 +1,27 @@
+use Rattle.std.proofs.Common.{◌≡◌, ℕ, ◌<◌, length, arith, List, Some, map, ap, sym, subst, refl, ◌∙◌, Bor}
+use Rattle.std.specs.Prelude.{slice_get}
+use Rattle.std.proofs.lemmas.Option.{slice_get_read, slice_get_within}
+use Rattle.std.proofs.lemmas.List.{length-map}
+use Rattle.build_effect.specs.Faults.{made_files}
+use Rattle.build_effect.specs.inner.Repetitions.{FindsRepetition, RepeatsFirst}
+use Rattle.build_effect.proofs.Lists.{to_map}
+use Rattle.build_effect.proofs.MadeFiles.{made_once, first_of_repetition}
+use Rattle.build_effect.proofs.graph_checks.check_made.Goals as goal
+
+pub returns-in-None-clause-ok : goal.returns-in-None-clause-ok
+returns-in-None-clause-ok c =
+    let files : map (λ (x : Bor (List ℕ)). x.now) c.as_slice.result.now ≡ made_files c.args.edges.now = ap (map (λ x. x.now)) c.as_slice.ensures.value ∙ c.in_ok-files.ensures in
+    let found = subst (λ xs. FindsRepetition xs c.in_ok-first_repetition.field-0) files c.in_ok-first_repetition.ensures in
+    made_once c.args.edges.now (subst (FindsRepetition (made_files c.args.edges.now)) c.in-None.is found)
+
+pub returns-clause-fault : goal.returns-clause-fault
+returns-clause-fault c =
+    let g = c.args.edges.now in
+    let texts : map (λ (x : Bor (List ℕ)). x.now) c.as_slice.result.now ≡ made_files g = ap (map (λ x. x.now)) c.as_slice.ensures.value ∙ c.in_ok-files.ensures in
+    let found = subst (λ xs. FindsRepetition xs c.in_ok-first_repetition.field-0) texts c.in_ok-first_repetition.ensures in
+    let repeated : RepeatsFirst (made_files g) c.in-Some.indices.0 c.in-Some.indices.1 = subst (FindsRepetition (made_files g)) c.in-Some.is found in
+    let within : c.in-Some.indices.1 < length (made_files g) = slice_get_within (made_files g) c.in-Some.indices.1 repeated.repeated repeated.again in
+    let short : c.in-Some.indices.1 < length c.in_ok-files.files.items = omega (arith, within, ap length c.in_ok-files.ensures, length-map c.in_ok-files.files.items (λ (x : Bor (List ℕ)). x.now)) in
+    let here = to_map (λ (x : Bor (List ℕ)). x.now) c.in_ok-files.files.items c.in-Some.indices.1 c.index.result.now (slice_get_read c.in_ok-files.files.items _ c.in-Some.indices.1 c.index.result.now refl short c.index.ensures) in
+    let at : slice_get (made_files g) c.in-Some.indices.1 ≡ Some c.in_ok-path-in-Some.path = ap (λ xs. slice_get xs c.in-Some.indices.1) (sym c.in_ok-files.ensures) ∙ here ∙ ap (λ x. Some x) (sym c.in_ok-path-in-Some.ensures) in
+    (c.in-Some.indices.1, first_of_repetition (made_files g) c.in-Some.indices.0 c.in-Some.indices.1 c.in_ok-path-in-Some.path repeated at)

@@ -1,0 +1,92 @@
+-- The effect of a dyndep file on a graph, as a relation of two graphs (Ninja 1.11 manual, "Dynamic dependencies").
+use Rattle.std.specs.Prelude.{◌≡◌, ◌≢◌, ℕ, ◌||◌, List, ◌++◌, length, map, slice_get, Some, Ok}
+use Rattle.ninja_text.specs.Paths.{path_of}
+use Rattle.dyndep_file.specs.StatementValue.{StatementValue}
+use Rattle.build_effect.specs.EdgeValue.{EdgeValue}
+use Rattle.build_effect.specs.Graphs.{made_by, MadeOnce, Names}
+
+-- these are the canonical paths of the texts
+abbrev pub ArePaths : List (List ℕ) → List (List ℕ) → Type 0
+ArePaths texts paths = map path_of texts ≡ map Ok paths
+
+-- a is the statement s with its paths made canonical
+pub record IsCanonical (s : StatementValue) (a : StatementValue) : Type 0 where
+  pub output : path_of s.output ≡ Ok a.output
+  pub outputs : ArePaths s.implicit_outputs a.implicit_outputs
+  pub inputs : ArePaths s.implicit_inputs a.implicit_inputs
+  pub restat : s.restat ≡ a.restat
+
+-- the additions are the statements with their paths made canonical
+pub record AreCanonical (statements additions : List StatementValue) : Type 0 where
+  pub count : length statements ≡ length additions
+  pub each : (k : ℕ) (s a : StatementValue) → slice_get statements k ≡ Some s →
+      slice_get additions k ≡ Some a → IsCanonical s a
+
+-- the statement is on the edge: its output is one that the edge makes
+abbrev pub IsOn : StatementValue → EdgeValue → Type 0
+IsOn a e = (j : ℕ) × (slice_get (made_by e) j ≡ Some a.output)
+
+-- statement k is on the edge, and no other is
+pub record IsTheOneOn (additions : List StatementValue) (e : EdgeValue) (k : ℕ)
+    (a : StatementValue) : Type 0 where
+  pub is : slice_get additions k ≡ Some a
+  pub on : IsOn a e
+  pub only : (l : ℕ) (b : StatementValue) → slice_get additions l ≡ Some b → IsOn b e → l ≡ k
+
+-- the statement is on an edge that names the file
+abbrev pub IsBound : List EdgeValue → List ℕ → StatementValue → Type 0
+IsBound g name a =
+    (i : ℕ) × (e : EdgeValue) × (slice_get g i ≡ Some e) × Names name e × IsOn a e
+
+-- so is each of the statements
+abbrev pub AllBound : List EdgeValue → List ℕ → List StatementValue → Type 0
+AllBound g name additions =
+    (k : ℕ) (a : StatementValue) → slice_get additions k ≡ Some a → IsBound g name a
+
+-- the edge with what a statement adds
+abbrev pub extended : EdgeValue → StatementValue → EdgeValue
+extended e a = record e {
+  implicit_outputs = e.implicit_outputs ++ a.implicit_outputs;
+  implicit_inputs = e.implicit_inputs ++ a.implicit_inputs;
+  restat = e.restat || a.restat;
+}
+
+-- what the statements, with canonical paths, make of a graph whose edges name the file
+pub record Gives (old : List EdgeValue) (name : List ℕ) (additions : List StatementValue)
+    (new : List EdgeValue) : Type 0 where
+  -- both have the same edges by index
+  pub same_edges : length new ≡ length old
+  -- an edge that does not name the file stays as it is
+  pub others : (i : ℕ) (e : EdgeValue) → slice_get old i ≡ Some e → e.dyndep ≢ Some name →
+      slice_get new i ≡ Some e
+  -- an edge that names it has exactly one statement, and gains what that adds
+  pub named : (i : ℕ) (e : EdgeValue) → slice_get old i ≡ Some e → Names name e →
+      (k : ℕ) × (a : StatementValue) × IsTheOneOn additions e k a
+      × (slice_get new i ≡ Some (extended e a))
+  -- each statement is on such an edge
+  pub bound : AllBound old name additions
+  -- no file is made twice
+  pub made_once : MadeOnce new
+
+-- the effect of the dyndep file `name`, which holds these statements, on a graph
+pub record Effect (old : List EdgeValue) (name : List ℕ) (statements : List StatementValue)
+    (new : List EdgeValue) : Type 0 where
+  pub additions : List StatementValue
+  pub canonical : AreCanonical statements additions
+  pub gives : Gives old name additions new
+
+-- the effect, and no other graph is one
+pub record OnlyEffect (old : List EdgeValue) (name : List ℕ) (statements : List StatementValue)
+    (new : List EdgeValue) : Type 0 where
+  pub effect : Effect old name statements new
+  pub only : (other : List EdgeValue) → Effect old name statements other → other ≡ new
+
+-- no graph is an effect
+abbrev pub HasNoEffect : List EdgeValue → List ℕ → List StatementValue → Type 0
+HasNoEffect old name statements = (new : List EdgeValue) → Effect old name statements new → ⊥
+
+-- an effect of statements is what they give, once their paths are canonical
+abbrev pub EffectGives : Type 0
+EffectGives =
+    (g new : List EdgeValue) (name : List ℕ) (statements additions : List StatementValue) →
+    AreCanonical statements additions → Effect g name statements new → Gives g name additions new

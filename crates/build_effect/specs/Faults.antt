@@ -1,0 +1,112 @@
+-- The faults of a list of edges, and those of statements on a graph.
+use Rattle.std.specs.Prelude.{◌≡◌, ◌⊎◌, ℕ, ◌<◌, List, ◌∷◌, ◌++◌, slice_get, Some, Err}
+use Rattle.std.specs.List.{flat_map}
+use Rattle.ninja_text.specs.Paths.{path_of}
+use Rattle.ninja_text.specs.declared.paths.PathFault.{PathFault}
+use Rattle.dyndep_file.specs.StatementValue.{StatementValue}
+use Rattle.build_effect.specs.EdgeValue.{EdgeValue}
+use Rattle.build_effect.specs.Graphs.{made_by, Reads, Names, IsMade, MadeOnce}
+use Rattle.build_effect.specs.Effect.{AreCanonical, IsOn, IsBound, AllBound}
+use Rattle.build_effect.specs.Firsts.{IsFirst}
+use Rattle.build_effect.specs.declared.fault.GraphFault.{GraphFault}
+use Rattle.build_effect.specs.declared.fault.GraphFault.TheVariants.{ProducedTwice, DyndepNotInput}
+use Rattle.build_effect.specs.declared.fault.EffectFault.{EffectFault}
+use Rattle.build_effect.specs.declared.fault.EffectFault.TheVariants.{BadPath, NotBound, StatementTwice, NotMentioned, AddedTwice}
+
+-- the files that the edges make, edge after edge
+abbrev pub made_files : List EdgeValue → List (List ℕ)
+made_files g = flat_map made_by g
+
+-- an earlier index of the list has the file, too
+abbrev pub StandsBefore : List (List ℕ) → ℕ → List ℕ → Type 0
+StandsBefore files k file = (j : ℕ) × (j < k) × (slice_get files j ≡ Some file)
+
+-- the edge names a dyndep file that is none of its inputs
+abbrev pub NamesUnread : EdgeValue → Type 0
+NamesUnread e = (file : List ℕ) × Names file e × (Reads e file → ⊥)
+
+-- the fault that keeps a list of edges from being a graph; the second is looked for only where the first is not there
+abbrev pub IsGraphFault : List EdgeValue → GraphFault → Type 0
+-- the first file that is made once more
+IsGraphFault g (ProducedTwice file) =
+    (k : ℕ) × IsFirst (StandsBefore (made_files g)) (made_files g) k file
+-- the first edge that names a dyndep file which is none of its inputs, with its first output
+IsGraphFault g (DyndepNotInput i output) =
+    (e : EdgeValue) × MadeOnce g × IsFirst (λ _ e. NamesUnread e) g i e
+    × (slice_get e.outputs 0 ≡ Some output)
+
+-- the texts of a statement that have to be paths: output, implicit outputs, implicit inputs
+abbrev pub path_texts : StatementValue → List (List ℕ)
+path_texts s = s.output ∷ s.implicit_outputs ++ s.implicit_inputs
+
+-- the text is no path
+abbrev pub IsRefused : List ℕ → Type 0
+IsRefused text = (fault : PathFault) × (path_of text ≡ Err fault)
+
+-- one of the statement's texts is no path
+abbrev pub HasRefused : StatementValue → Type 0
+HasRefused s = (j : ℕ) × (text : List ℕ) × (slice_get (path_texts s) j ≡ Some text) × IsRefused text
+
+-- a statement before index k is on the same edge as this one
+abbrev pub IsRepeated : List EdgeValue → List StatementValue → ℕ → StatementValue → Type 0
+IsRepeated g additions k a =
+    (j : ℕ) × (b : StatementValue) × (i : ℕ) × (e : EdgeValue) × (j < k)
+    × (slice_get additions j ≡ Some b) × (slice_get g i ≡ Some e) × IsOn a e × IsOn b e
+
+-- no two statements are on one edge
+abbrev pub NoneRepeated : List EdgeValue → List StatementValue → Type 0
+NoneRepeated g additions =
+    (k : ℕ) (a : StatementValue) → slice_get additions k ≡ Some a → IsRepeated g additions k a → ⊥
+
+-- some statement is on the edge
+abbrev pub IsMentioned : List StatementValue → EdgeValue → Type 0
+IsMentioned additions e =
+    (k : ℕ) × (a : StatementValue) × (slice_get additions k ≡ Some a) × IsOn a e
+
+-- each edge that names the file has a statement
+abbrev pub AllMentioned : List EdgeValue → List ℕ → List StatementValue → Type 0
+AllMentioned g name additions =
+    (i : ℕ) (e : EdgeValue) → slice_get g i ≡ Some e → Names name e → IsMentioned additions e
+
+-- all added outputs, statement after statement
+abbrev pub added_outputs : List StatementValue → List (List ℕ)
+added_outputs additions = flat_map (λ a. a.implicit_outputs) additions
+
+-- an edge makes the file, or an earlier index of the added outputs has it
+abbrev pub IsMadeBefore : List EdgeValue → List (List ℕ) → ℕ → List ℕ → Type 0
+IsMadeBefore g added k file = IsMade g file ⊎ StandsBefore added k file
+
+-- no added output is made by an edge or added twice
+abbrev pub NoneMadeBefore : List EdgeValue → List StatementValue → Type 0
+NoneMadeBefore g additions =
+    (k : ℕ) (file : List ℕ) → slice_get (added_outputs additions) k ≡ Some file →
+    IsMadeBefore g (added_outputs additions) k file → ⊥
+
+-- the fault that is reported: each is looked for only where none of those above it is there
+abbrev pub IsEffectFault : List EdgeValue → List ℕ → List StatementValue → EffectFault → Type 0
+-- the first statement with a text that is no path, and in it the first such text
+IsEffectFault g name statements (BadPath k j fault) =
+    (s : StatementValue) × (text : List ℕ) × IsFirst (λ _ s. HasRefused s) statements k s
+    × IsFirst (λ _ text. IsRefused text) (path_texts s) j text × (path_of text ≡ Err fault)
+-- the first statement that is on no edge that names the file
+IsEffectFault g name statements (NotBound output) =
+    (additions : List StatementValue) × (k : ℕ) × (a : StatementValue)
+    × AreCanonical statements additions × IsFirst (λ _ a. IsBound g name a → ⊥) additions k a
+    × (a.output ≡ output)
+-- the first statement that is on the edge of an earlier one
+IsEffectFault g name statements (StatementTwice output) =
+    (additions : List StatementValue) × (k : ℕ) × (a : StatementValue)
+    × AreCanonical statements additions × AllBound g name additions
+    × IsFirst (IsRepeated g additions) additions k a × (a.output ≡ output)
+-- the first edge that names the file and has no statement, with its first output
+IsEffectFault g name statements (NotMentioned output) =
+    (additions : List StatementValue) × (i : ℕ) × (e : EdgeValue)
+    × AreCanonical statements additions × AllBound g name additions × NoneRepeated g additions
+    × IsFirst (λ _ e. Names name e × (IsMentioned additions e → ⊥)) g i e
+    × (slice_get e.outputs 0 ≡ Some output)
+-- the first added output that is made by an edge or was added before
+IsEffectFault g name statements (AddedTwice file) =
+    (additions : List StatementValue) × (k : ℕ)
+    × AreCanonical statements additions × AllBound g name additions × NoneRepeated g additions
+    × AllMentioned g name additions
+    × IsFirst (IsMadeBefore g (added_outputs additions)) (added_outputs additions) k file

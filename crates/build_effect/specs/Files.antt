@@ -1,0 +1,75 @@
+-- The effects of several dyndep files, one after the other.
+use Rattle.std.specs.Prelude.{◌≡◌, ◌≢◌, ℕ, ◌<◌, List, [], ◌∷◌, length, slice_get, Some}
+use Rattle.dyndep_file.specs.StatementValue.{StatementValue}
+use Rattle.build_effect.specs.EdgeValue.{EdgeValue}
+use Rattle.build_effect.specs.Graphs.{Names}
+use Rattle.build_effect.specs.Effect.{AreCanonical, IsTheOneOn, OnlyEffect, extended}
+use Rattle.build_effect.specs.Premises.{AddsAt, AddedOnce, Meets}
+
+-- a dyndep file: its name, its statements, and these with canonical paths
+pub record NamedFile : Type 0 where
+  pub name : List ℕ
+  pub statements : List StatementValue
+  pub additions : List StatementValue
+
+-- each file's statements have canonical paths, and add no file twice
+pub record AreFiles (files : List NamedFile) : Type 0 where
+  pub canonical : (n : ℕ) (f : NamedFile) → slice_get files n ≡ Some f →
+      AreCanonical f.statements f.additions
+  pub added_once : (n : ℕ) (f : NamedFile) → slice_get files n ≡ Some f → AddedOnce f.additions
+
+-- each file may be applied to the graph, their names differ, and no two add one file
+pub record FilesMeet (g : List EdgeValue) (files : List NamedFile) : Type 0 where
+  pub each : (n : ℕ) (f : NamedFile) → slice_get files n ≡ Some f → Meets g f.name f.additions
+  pub names_differ : (n m : ℕ) (f h : NamedFile) → slice_get files n ≡ Some f →
+      slice_get files m ≡ Some h → f.name ≡ h.name → n ≡ m
+  pub added_apart : (n m k l i j : ℕ) (f h : NamedFile) (file : List ℕ) →
+      slice_get files n ≡ Some f → slice_get files m ≡ Some h →
+      AddsAt f.additions k i file → AddsAt h.additions l j file → n ≡ m
+
+-- the files of these indices, applied one after the other, each with exactly one effect, lead from a graph to another
+abbrev pub Applies : List NamedFile → List EdgeValue → List ℕ → List EdgeValue → Type 0
+Applies files old [] new = new ≡ old
+Applies files old (n ∷ order) new =
+    (f : NamedFile) × (mid : List EdgeValue) × (slice_get files n ≡ Some f)
+    × OnlyEffect old f.name f.statements mid × Applies files mid order new
+
+-- Each edge that names one of these files has gained exactly what the one statement on it adds, and every other edge
+-- stays as it is.
+pub record GainsExactly (files : List NamedFile) (old : List EdgeValue) (order : List ℕ)
+    (new : List EdgeValue) : Type 0 where
+  pub same_edges : length new ≡ length old
+  pub named : (p n : ℕ) (f : NamedFile) (i : ℕ) (e : EdgeValue) → slice_get order p ≡ Some n →
+      slice_get files n ≡ Some f → slice_get old i ≡ Some e → Names f.name e →
+      (k : ℕ) × (a : StatementValue) × IsTheOneOn f.additions e k a
+      × (slice_get new i ≡ Some (extended e a))
+  pub others : (i : ℕ) (e : EdgeValue) → slice_get old i ≡ Some e →
+      ((p n : ℕ) (f : NamedFile) → slice_get order p ≡ Some n → slice_get files n ≡ Some f →
+      e.dyndep ≢ Some f.name) →
+      slice_get new i ≡ Some e
+
+-- these are indices of files, and all different
+pub record AreFileIndices (files : List NamedFile) (order : List ℕ) : Type 0 where
+  pub within : (p n : ℕ) → slice_get order p ≡ Some n → n < length files
+  pub differ : (p q n : ℕ) → slice_get order p ≡ Some n → slice_get order q ≡ Some n → p ≡ q
+
+-- files may be applied in any order, and each edge gains exactly its own
+abbrev pub AnyOrder : Type 0
+AnyOrder =
+    (files : List NamedFile) (g : List EdgeValue) (order : List ℕ) →
+    AreFiles files → FilesMeet g files → AreFileIndices files order →
+    (new : List EdgeValue) × Applies files g order new × GainsExactly files g order new
+
+-- the orders have the same files
+abbrev pub SameFiles : List ℕ → List ℕ → Type 0
+SameFiles order other =
+    ((p n : ℕ) → slice_get order p ≡ Some n → (q : ℕ) × (slice_get other q ≡ Some n))
+    × ((p n : ℕ) → slice_get other p ≡ Some n → (q : ℕ) × (slice_get order q ≡ Some n))
+
+-- all orders of the same files end alike
+abbrev pub OrdersEndAlike : Type 0
+OrdersEndAlike =
+    (files : List NamedFile) (g : List EdgeValue) (order other : List ℕ)
+    (new end : List EdgeValue) →
+    AreFiles files → FilesMeet g files → AreFileIndices files order → AreFileIndices files other →
+    SameFiles order other → Applies files g order new → Applies files g other end → new ≡ end

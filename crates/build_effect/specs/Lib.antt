@@ -1,0 +1,11 @@
+pub mod EdgeValue
+pub mod Graphs
+pub mod Effect
+pub mod Firsts
+pub mod Faults
+pub mod FaultTexts
+pub mod Checks
+pub mod Premises
+pub mod Files
+pub mod Numbering
+pub mod inner

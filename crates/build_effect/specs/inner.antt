@@ -1,0 +1,9 @@
+-- Definitions that private clauses alone speak of.
+pub mod Repetitions
+pub mod Inputs
+pub mod Makers
+pub mod BadPaths
+pub mod StatementEdges
+pub mod Added
+pub mod Checked
+pub mod Extended

@@ -1,0 +1,35 @@
+-- Added outputs that are made already.
+use Rattle.std.specs.Prelude.{◌≡◌, ℕ, List, slice_get, Option, Some, None}
+use Rattle.dyndep_file.specs.StatementValue.{StatementValue}
+use Rattle.build_effect.specs.EdgeValue.{EdgeValue}
+use Rattle.build_effect.specs.Faults.{IsMadeBefore, NoneMadeBefore, added_outputs}
+use Rattle.build_effect.specs.Firsts.{IsFirst}
+use Rattle.build_effect.specs.inner.Makers.{AreMakers}
+use Rattle.build_effect.specs.declared.fault.EffectFault.{EffectFault}
+use Rattle.build_effect.specs.declared.fault.EffectFault.TheVariants.{AddedTwice}
+
+-- the index of the first file that an edge makes or that stands earlier in the list, or none
+abbrev pub FindsMade : List EdgeValue → List (List ℕ) → Option ℕ → Type 0
+FindsMade g files None =
+    (k : ℕ) (file : List ℕ) → slice_get files k ≡ Some file → IsMadeBefore g files k file → ⊥
+FindsMade g files (Some k) = (file : List ℕ) × IsFirst (IsMadeBefore g files) files k file
+
+-- the same in every graph that has these makers
+abbrev pub FindsMadeIn : (List ℕ → Option ℕ) → List (List ℕ) → Option ℕ → Type 0
+FindsMadeIn maker files found = (g : List EdgeValue) → AreMakers g maker → FindsMade g files found
+
+-- in every graph that has these makers, no added output is made by an edge or added twice
+abbrev pub AddsFresh : (List ℕ → Option ℕ) → List StatementValue → Type 0
+AddsFresh maker additions = (g : List EdgeValue) → AreMakers g maker → NoneMadeBefore g additions
+
+-- the fault reports the first added output that is made already
+abbrev pub IsFirstMade : List EdgeValue → List StatementValue → EffectFault → Type 0
+IsFirstMade g additions fault =
+    (k : ℕ) × (file : List ℕ)
+    × IsFirst (IsMadeBefore g (added_outputs additions)) (added_outputs additions) k file
+    × (fault ≡ AddedTwice file)
+
+-- the same in every graph that has these makers
+abbrev pub AddsMade : (List ℕ → Option ℕ) → List StatementValue → EffectFault → Type 0
+AddsMade maker additions fault =
+    (g : List EdgeValue) → AreMakers g maker → IsFirstMade g additions fault

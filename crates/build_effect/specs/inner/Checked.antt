@@ -1,0 +1,20 @@
+-- Statements that passed all checks.
+use Rattle.std.specs.Prelude.{◌≡◌, ℕ, List, length, slice_get, Option, Some}
+use Rattle.dyndep_file.specs.StatementValue.{StatementValue}
+use Rattle.build_effect.specs.EdgeValue.{EdgeValue}
+use Rattle.build_effect.specs.Effect.{AreCanonical, AllBound}
+use Rattle.build_effect.specs.Faults.{NoneRepeated, AllMentioned, NoneMadeBefore}
+use Rattle.build_effect.specs.inner.StatementEdges.{statement_on, IsBoundTo, HaveStatements}
+
+-- the statements have no fault, and these are the statements on the edges
+pub record AreChecked (g : List EdgeValue) (name : List ℕ)
+    (statements additions : List StatementValue) (statement_of : List (Option ℕ)) : Type 0 where
+  pub canonical : AreCanonical statements additions
+  pub bound : AllBound g name additions
+  pub single : NoneRepeated g additions
+  pub mentioned : AllMentioned g name additions
+  pub fresh : NoneMadeBefore g additions
+  pub as_many : length statement_of ≡ length g
+  pub on : (i k : ℕ) → statement_on statement_of i ≡ Some k →
+      (a : StatementValue) × (slice_get additions k ≡ Some a) × IsBoundTo g name a i
+  pub have : HaveStatements g name statement_of

@@ -1,0 +1,19 @@
+-- Whether something stands in a list twice.
+use Rattle.std.specs.Prelude.{◌≡◌, ℕ, ◌<◌, List, take, slice_get, Option, Some, None}
+
+-- nothing has two indices in the list
+pub record AllDiffer {X : Type 0} (xs : List X) : Type 0 where
+  pub differ : (i j : ℕ) (x : X) → i < j → slice_get xs i ≡ Some x → slice_get xs j ≡ Some x → ⊥
+
+-- the same has the indices i and j, and before j all differ
+pub record RepeatsFirst {X : Type 0} (xs : List X) (i j : ℕ) : Type 0 where
+  pub repeated : X
+  pub earlier : i < j
+  pub here : slice_get xs i ≡ Some repeated
+  pub again : slice_get xs j ≡ Some repeated
+  pub before : AllDiffer (take j xs)
+
+-- the indices of the first repetition, or none
+abbrev pub FindsRepetition : {X : Type 0} → List X → Option (ℕ × ℕ) → Type 0
+FindsRepetition xs None = AllDiffer xs
+FindsRepetition xs (Some indices) = RepeatsFirst xs indices.0 indices.1

@@ -1,0 +1,52 @@
+//! The checks of a dyndep file's statements on a graph.
+ghost use Rattle.std.specs.Prelude.{IfOk, IfErr};
+ghost use Rattle.ninja_text.specs.Failure.{ForFault};
+ghost use Rattle.build_effect.specs.Graphs.{IsGraph};
+ghost use Rattle.build_effect.specs.Faults.{IsEffectFault};
+ghost use Rattle.build_effect.specs.inner.Checked.{AreChecked};
+
+use crate::added::check_added;
+use crate::addition::{Addition, canonical_statements};
+use crate::edge::Edge;
+use crate::fault::EffectFault;
+use crate::makers::makers_of;
+use crate::statement_edges::{check_mentioned, edges_of_statements, statements_of_edges};
+use dyndep_file::Statement;
+use ninja_text::{Failure, Path};
+use std::alloc::Global;
+
+/// Statements without a fault, with canonical paths, and the index of the statement on each edge.
+#[derive(Drop)]
+pub(crate) struct Checked {
+    pub additions: Vec<Addition>,
+    pub statement_of: Vec<Option<usize>>,
+}
+
+/// All checks, in the order in which their faults are reported: E8, E5, E4, E6, E7.
+pub(crate) fn checked_statements(
+    alloc: Global,
+    edges: &[Edge],
+    name: &Path,
+    statements: &[Statement],
+) -> Result<Checked, Failure<EffectFault>>
+    requires { IsGraph edges.now }
+    ensures checked { IfOk result (λ checked. AreChecked edges.now name.now statements.now
+        checked.additions.items checked.statement_of.items) }
+    ensures fault { IfErr result (ForFault (IsEffectFault edges.now name.now statements.now)) }
+{
+    let additions = canonical_statements(alloc, statements)?;
+    let makers = makers_of(alloc, edges)?;
+    let edge_of = edges_of_statements(alloc, edges, name, &makers, additions.as_slice())?;
+    let statement_of = statements_of_edges(
+        alloc,
+        edges.len(),
+        edge_of.as_slice(),
+        additions.as_slice(),
+    )?;
+    check_mentioned(alloc, edges, name, statement_of.as_slice())?;
+    check_added(alloc, &makers, additions.as_slice())?;
+    Ok(Checked {
+        additions,
+        statement_of,
+    })
+}

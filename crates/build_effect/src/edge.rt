@@ -1,0 +1,42 @@
+//! Build edges.
+
+use ninja_text::Path;
+use std::marker::Model;
+
+/// A build statement of a manifest (Ninja 1.11 manual, "Build statements"): what it makes, and what it needs.
+#[derive(Drop)]
+pub struct Edge {
+    /// The name of the rule.
+    pub rule: Vec<u8>,
+    /// The explicit outputs.
+    pub outputs: Vec<Path>,
+    /// The implicit outputs, behind `|` on the left of the colon.
+    pub implicit_outputs: Vec<Path>,
+    /// The explicit inputs.
+    pub inputs: Vec<Path>,
+    /// The implicit inputs, behind `|` on the right of the colon.
+    pub implicit_inputs: Vec<Path>,
+    /// The order-only inputs, behind `||`.
+    pub order_only: Vec<Path>,
+    /// The dyndep file that the binding `dyndep` names.
+    pub dyndep: Option<Path>,
+    /// Whether the binding `restat` is on.
+    pub restat: bool,
+}
+
+impl Model for Edge {
+    ghost use Rattle.build_effect.specs.EdgeValue.{EdgeValue};
+
+    ghost Value = { EdgeValue };
+
+    ghost view = { λ e. record {
+      rule = e.rule.items;
+      outputs = e.outputs.items;
+      implicit_outputs = e.implicit_outputs.items;
+      inputs = e.inputs.items;
+      implicit_inputs = e.implicit_inputs.items;
+      order_only = e.order_only.items;
+      dyndep = e.dyndep;
+      restat = e.restat;
+    } };
+}

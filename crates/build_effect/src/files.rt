@@ -1,0 +1,57 @@
+//! Files of edges in one list, lent, and the first that stands there twice.
+ghost use Rattle.std.specs.Prelude.{◌≡◌, ◌++◌, IfOk, OnOk};
+ghost use Rattle.build_effect.specs.Graphs.{made_by};
+ghost use Rattle.build_effect.specs.Faults.{made_files};
+ghost use Rattle.dep_order.specs.Rows.{lists};
+ghost use Rattle.build_effect.specs.inner.Repetitions.{FindsRepetition};
+
+use crate::edge::Edge;
+use indexmap::IndexSet;
+use ninja_text::Path;
+use std::alloc::{AllocError, Global};
+
+/// The files that the edges make: edge after edge, in each its outputs before its implicit ones.
+pub(crate) fn made_files<'t>(alloc: Global, edges: &'t [Edge]) -> Result<Vec<&'t Path>, AllocError>
+    ensures { IfOk result (λ files. lists files.items ≡ made_files edges.now) }
+{
+    let mut files = Vec::new(alloc);
+    for edge in edges {
+        add_made(edge, &mut files)?;
+    }
+    Ok(files)
+}
+
+fn add_made<'t>(edge: &'t Edge, files: &mut Vec<&'t Path>) -> Result<(), AllocError>
+    ensures { OnOk result (lists files.new.items ≡ lists files.old.items ++ made_by edge.now) }
+{
+    add_paths(&edge.outputs, files)?;
+    add_paths(&edge.implicit_outputs, files)?;
+    Ok(())
+}
+
+/// Lends the paths, behind those that are there.
+pub(crate) fn add_paths<'t>(paths: &'t [Path], files: &mut Vec<&'t Path>) -> Result<(), AllocError>
+    ensures { OnOk result (lists files.new.items ≡ lists files.old.items ++ paths.now) }
+{
+    for path in paths {
+        files.push(path)?;
+    }
+    Ok(())
+}
+
+/// The indices of the first file that stands in the list once more: where it stood, and where it stands again.
+pub(crate) fn first_repetition(
+    alloc: Global,
+    files: &[&Path],
+) -> Result<Option<(usize, usize)>, AllocError>
+    ensures { IfOk result (FindsRepetition (lists files.now)) }
+{
+    let mut seen = IndexSet::new(alloc);
+    for (file_index, file) in files.iter().enumerate() {
+        let (first, is_new) = seen.insert_full(*file)?;
+        if !is_new {
+            return Ok(Some((first, file_index)));
+        }
+    }
+    Ok(None)
+}

@@ -1,0 +1,83 @@
+//! What makes a list of edges a graph.
+ghost use Rattle.std.specs.Prelude.{◌≡◌, ◌≢◌, [], slice_get, Some, IfOk, IfErr, OnOk, MatchBool, All};
+ghost use Rattle.ninja_text.specs.Failure.{ForFault};
+ghost use Rattle.build_effect.specs.Graphs.{MadeOnce, Reads, DyndepsAreInputs};
+ghost use Rattle.build_effect.specs.Faults.{IsGraphFault, NamesUnread};
+ghost use Rattle.build_effect.specs.inner.Inputs.{Has, NamesInput};
+
+use crate::edge::Edge;
+use crate::fault::GraphFault;
+use crate::files::{first_repetition, made_files};
+use ninja_text::{Failure, Path};
+use std::alloc::{AllocError, Global};
+
+/// E1: no file is made twice.
+pub(crate) fn check_made(alloc: Global, edges: &[Edge]) -> Result<(), Failure<GraphFault>>
+    ensures ok { OnOk result (MadeOnce edges.now) }
+    ensures fault { IfErr result (ForFault (IsGraphFault edges.now)) }
+{
+    let files = made_files(alloc, edges)?;
+    match first_repetition(alloc, files.as_slice())? {
+        None => Ok(()),
+        Some(indices) => {
+            let path = files[indices.1].copy(alloc)?;
+            Err(Failure::Fault(GraphFault::ProducedTwice { path }))
+        }
+    }
+}
+
+/// E2: each edge that names a dyndep file has it among its inputs.
+pub(crate) fn check_dyndeps(alloc: Global, edges: &[Edge]) -> Result<(), Failure<GraphFault>>
+    requires outputs { All (λ e. e.outputs ≢ []) edges.now }
+    requires made_once { MadeOnce edges.now }
+    ensures ok { OnOk result (DyndepsAreInputs edges.now) }
+    ensures fault { IfErr result (ForFault (IsGraphFault edges.now)) }
+{
+    for (edge_index, edge) in edges.iter().enumerate() {
+        if !reads_dyndep(edge) {
+            let output = first_output(alloc, edge)?;
+            return Err(Failure::Fault(GraphFault::DyndepNotInput {
+                edge: edge_index,
+                output,
+            }));
+        }
+    }
+    Ok(())
+}
+
+/// Whether the edge names no dyndep file, or one that is among its inputs.
+fn reads_dyndep(edge: &Edge) -> bool
+    ensures { MatchBool result (NamesInput edge.now) (NamesUnread edge.now) }
+{
+    match &edge.dyndep {
+        None => true,
+        Some(file) => reads(edge, file),
+    }
+}
+
+/// Whether the file is among the edge's inputs of any kind.
+fn reads(edge: &Edge, file: &Path) -> bool
+    ensures { MatchBool result (Reads edge.now file.now) (Reads edge.now file.now → ⊥) }
+{
+    if has(&edge.inputs, file) {
+        return true;
+    }
+    if has(&edge.implicit_inputs, file) {
+        return true;
+    }
+    has(&edge.order_only, file)
+}
+
+fn has(paths: &[Path], path: &Path) -> bool
+    ensures { MatchBool result (Has paths.now path.now) (Has paths.now path.now → ⊥) }
+{
+    paths.contains(path)
+}
+
+/// The edge's first output, by which faults report it.
+pub(crate) fn first_output(alloc: Global, edge: &Edge) -> Result<Path, AllocError>
+    requires { edge.now.outputs ≢ [] }
+    ensures { IfOk result (λ output. slice_get edge.now.outputs 0 ≡ Some output) }
+{
+    edge.outputs[0].copy(alloc)
+}

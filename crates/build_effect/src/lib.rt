@@ -1,0 +1,45 @@
+//! Build edges, the effect of a dyndep file on them, and the order in which they can run (Ninja 1.11 manual, "Build
+//! statements" and "Dynamic dependencies").
+//!
+//! - A [`Graph`] is a list of [`Edge`]s. [`Graph::new`] takes every list in which no file is made twice and each
+//!   edge that names a dyndep file has it among its inputs, and else answers E1 or E2 (`specs/Faults.antt`,
+//!   `IsGraphFault`).
+//! - [`apply`] answers the graph after the effect of a dyndep file, or the first fault in the order E8, E5, E4, E6, E7.
+//!   The effect is a relation of two graphs (`specs/Effect.antt`, `Effect`): the answer has it, and no other graph does.
+//!   Where a fault is answered, no graph has it (`specs/Faults.antt`, `IsEffectFault`).
+//! - [`edge_order`] answers an order in which each edge stands after the makers of its inputs of all kinds, or the least
+//!   cycle (`specs/Graphs.antt`, `EdgeNeeds`).
+//! - The laws [`one_effect`], [`checks`], [`any_order`], [`level_orders`] and [`files_order`] say of the definitions alone
+//!   when there is an effect, that files may be applied in any order, and when the graph can be ordered afterwards
+//!   (`specs/Premises.antt`, `Checks.antt`, `Files.antt`, `Numbering.antt`).
+//!
+//! What a contract sees of a graph is the list of its edges, and of a path its canonical text. Definitions that only
+//! private clauses speak of stand in `specs/inner/`.
+//!
+//! It stands on `ninja_text` for paths, on `dyndep_file` for statements, on `dep_order` for orders and cycles, and on
+//! `indexmap` for look-ups.
+#![tactic(auto)]
+
+mod added;
+mod addition;
+mod all_checks;
+mod edge;
+mod effect;
+mod extending;
+mod fault;
+mod files;
+mod graph;
+mod graph_checks;
+mod laws;
+mod makers;
+mod needs;
+mod statement_edges;
+#[cfg(test)]
+mod tests;
+
+pub use edge::Edge;
+pub use effect::apply;
+pub use fault::{EffectFault, GraphFault};
+pub use graph::Graph;
+pub use laws::{any_order, checks, files_order, level_orders, one_effect};
+pub use needs::edge_order;

@@ -1,0 +1,79 @@
+//! Which edges need which, and the order of edges.
+ghost use Rattle.std.specs.Prelude.{◌≡◌, ◌++◌, map, length, IfOk, OnOk};
+ghost use Rattle.std.specs.List.{filter_map};
+ghost use Rattle.dep_order.specs.Rows.{rows};
+ghost use Rattle.dep_order.specs.Sortings.{IsSortingOf};
+ghost use Rattle.build_effect.specs.Graphs.{EdgeNeeds, inputs_of};
+ghost use Rattle.build_effect.specs.inner.Makers.{maker_in, makers_row};
+
+use crate::edge::Edge;
+use crate::graph::Graph;
+use crate::makers::{maker_of, makers_of};
+use dep_order::{Digraph, Sorting, order};
+use indexmap::IndexMap;
+use ninja_text::Path;
+use std::alloc::{AllocError, Global};
+
+/// The edges, by index, in an order in which they can run: each stands after the makers of its inputs of all kinds, and of
+/// the edges that may come next the one with the smallest index does. Where there is no such order, the least cycle: each
+/// edge in it needs the next, and the last needs the first.
+pub fn edge_order(alloc: Global, graph: &Graph) -> Result<Sorting, AllocError>
+    ensures { IfOk result (IsSortingOf (length graph.now) (EdgeNeeds graph.now)) }
+{
+    let edges = graph.edges();
+    let makers = makers_of(alloc, edges)?;
+    let needs = all_needs(alloc, edges, &makers)?;
+    let digraph = Digraph::new(needs);
+    let sorting = order(alloc, &digraph)?;
+    Ok(sorting)
+}
+
+/// The makers of each edge's inputs.
+fn all_needs(
+    alloc: Global,
+    edges: &[Edge],
+    makers: &IndexMap<&Path, usize>,
+) -> Result<Vec<Vec<usize>>, AllocError>
+    ensures { IfOk result (λ needs.
+        rows needs.items ≡ map (makers_row (maker_in makers.now)) edges.now) }
+{
+    let mut needs = Vec::with_capacity(alloc, edges.len())?;
+    for edge in edges {
+        let row = edge_needs(alloc, edge, makers)?;
+        needs.push(row)?;
+    }
+    Ok(needs)
+}
+
+/// The makers of the edge's inputs.
+fn edge_needs(
+    alloc: Global,
+    edge: &Edge,
+    makers: &IndexMap<&Path, usize>,
+) -> Result<Vec<usize>, AllocError>
+    ensures { IfOk result (λ row. row.items ≡ makers_row (maker_in makers.now) edge.now) }
+{
+    let mut row = Vec::new(alloc);
+    add_makers(&edge.inputs, makers, &mut row)?;
+    add_makers(&edge.implicit_inputs, makers, &mut row)?;
+    add_makers(&edge.order_only, makers, &mut row)?;
+    Ok(row)
+}
+
+/// Appends the makers of those files that an edge makes.
+fn add_makers(
+    files: &[Path],
+    makers: &IndexMap<&Path, usize>,
+    row: &mut Vec<usize>,
+) -> Result<(), AllocError>
+    ensures { OnOk result
+        (row.new.items ≡ row.old.items ++ filter_map (maker_in makers.now) files.now) }
+{
+    for file in files {
+        match maker_of(makers, file) {
+            Some(edge) => row.push(edge)?,
+            None => {}
+        }
+    }
+    Ok(())
+}

@@ -1,0 +1,136 @@
+//! Which statement is on which edge.
+ghost use Rattle.std.specs.Prelude.{◌≡◌, ◌≢◌, ◌<◌, ℕ, [], Some, None, length, IfOk, IfErr, OnOk, All, MatchBool, MatchOption};
+ghost use Rattle.ninja_text.specs.Failure.{ForFault};
+ghost use Rattle.build_effect.specs.Graphs.{MadeOnce, Names};
+ghost use Rattle.build_effect.specs.inner.Makers.{maker_in, AreMakers};
+ghost use Rattle.build_effect.specs.inner.StatementEdges.{IsBoundOutput, IsUnboundOutput, AreEdgesOf, IsFirstUnbound, AreInverse, IsFirstRepeated, HaveStatements, IsFirstUnmentioned};
+
+use crate::addition::Addition;
+use crate::edge::Edge;
+use crate::fault::EffectFault;
+use crate::graph_checks::first_output;
+use crate::makers::maker_of;
+use indexmap::IndexMap;
+use ninja_text::{Failure, Path};
+use std::alloc::Global;
+
+/// E5: the edge of each statement, which makes its output and names the file.
+///
+/// Only the maker of the output has to be looked at, since no file is made twice.
+pub(crate) fn edges_of_statements(
+    alloc: Global,
+    edges: &[Edge],
+    name: &Path,
+    makers: &IndexMap<&Path, usize>,
+    additions: &[Addition],
+) -> Result<Vec<usize>, Failure<EffectFault>>
+    requires makers { AreMakers edges.now (maker_in makers.now) }
+    requires made_once { MadeOnce edges.now }
+    ensures edges { IfOk result (λ edge_of.
+        AreEdgesOf edges.now name.now additions.now edge_of.items) }
+    ensures fault { IfErr result (ForFault (IsFirstUnbound edges.now name.now additions.now)) }
+{
+    let mut edge_of = Vec::with_capacity(alloc, additions.len())?;
+    for addition in additions {
+        match bound_edge(edges, name, makers, &addition.output) {
+            Some(edge) => edge_of.push(edge)?,
+            None => {
+                let output = addition.output.copy(alloc)?;
+                return Err(Failure::Fault(EffectFault::NotBound { output }));
+            }
+        }
+    }
+    Ok(edge_of)
+}
+
+/// The edge that makes the output and names the file, if one does.
+fn bound_edge(
+    edges: &[Edge],
+    name: &Path,
+    makers: &IndexMap<&Path, usize>,
+    output: &Path,
+) -> Option<usize>
+    requires makers { AreMakers edges.now (maker_in makers.now) }
+    requires made_once { MadeOnce edges.now }
+    ensures { MatchOption result (IsUnboundOutput edges.now name.now output.now)
+        (IsBoundOutput edges.now name.now output.now) }
+{
+    match maker_of(makers, output) {
+        Some(edge) => {
+            if names(&edges[edge], name) {
+                Some(edge)
+            } else {
+                None
+            }
+        }
+        None => None,
+    }
+}
+
+/// Whether the edge's dyndep binding names the file.
+fn names(edge: &Edge, name: &Path) -> bool
+    ensures { MatchBool result (Names name.now edge.now) (Names name.now edge.now → ⊥) }
+{
+    match &edge.dyndep {
+        Some(file) => *file == *name,
+        None => false,
+    }
+}
+
+/// E4: the statement on each edge, given the edge of each statement. No two statements have the same edge.
+pub(crate) fn statements_of_edges(
+    alloc: Global,
+    count: usize,
+    edge_of: &[usize],
+    additions: &[Addition],
+) -> Result<Vec<Option<usize>>, Failure<EffectFault>>
+    requires edges { All (λ edge. edge < count) edge_of.now }
+    requires each { length edge_of.now ≡ length additions.now }
+    ensures statements { IfOk result (λ statement_of.
+        AreInverse count edge_of.now statement_of.items) }
+    ensures fault { IfErr result (ForFault (IsFirstRepeated edge_of.now additions.now)) }
+{
+    let mut statement_of: Vec<Option<usize>> = vec![in alloc; None; count]?;
+    for (statement_index, edge) in edge_of.iter().enumerate() {
+        if statement_of[*edge].is_some() {
+            let addition = &additions[statement_index];
+            let output = addition.output.copy(alloc)?;
+            return Err(Failure::Fault(EffectFault::StatementTwice { output }));
+        }
+        statement_of[*edge] = Some(statement_index);
+    }
+    Ok(statement_of)
+}
+
+/// E6: each edge that names the file has a statement.
+pub(crate) fn check_mentioned(
+    alloc: Global,
+    edges: &[Edge],
+    name: &Path,
+    statement_of: &[Option<usize>],
+) -> Result<(), Failure<EffectFault>>
+    requires outputs { All (λ e. e.outputs ≢ []) edges.now }
+    requires each { length statement_of.now ≡ length edges.now }
+    ensures ok { OnOk result (HaveStatements edges.now name.now statement_of.now) }
+    ensures fault { IfErr result (ForFault
+        (IsFirstUnmentioned edges.now name.now statement_of.now)) }
+{
+    for (edge_index, edge) in edges.iter().enumerate() {
+        if is_unmentioned(edge, name, statement_of[edge_index]) {
+            let output = first_output(alloc, edge)?;
+            return Err(Failure::Fault(EffectFault::NotMentioned { output }));
+        }
+    }
+    Ok(())
+}
+
+/// Whether the edge names the file, and has no statement.
+fn is_unmentioned(edge: &Edge, name: &Path, statement: Option<usize>) -> bool
+    ensures { MatchBool result (Names name.now edge.now × (statement ≡ None))
+        (Names name.now edge.now → (k : ℕ) × (statement ≡ Some k)) }
+{
+    match statement {
+        Some(_) => false,
+        None => names(edge, name),
+    }
+}
