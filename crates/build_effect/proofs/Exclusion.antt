@@ -8,7 +8,7 @@ use Rattle.ninja_text.specs.declared.paths.PathFault.{PathFault}
 use Rattle.dyndep_file.specs.StatementValue.{StatementValue}
 use Rattle.build_effect.specs.EdgeValue.{EdgeValue}
 use Rattle.build_effect.specs.Graphs.{made_by, MakesAt, MadeOnce, Names, IsMade}
-use Rattle.build_effect.specs.Effect.{ArePaths, IsCanonical, AreCanonical, IsOn, AllBound, Gives, Effect, extended}
+use Rattle.build_effect.specs.Effect.{ArePaths, IsCanonical, IsOn, AllBound, Gives, extended}
 use Rattle.build_effect.specs.Faults.{path_texts, IsRepeated, NoneRepeated, AllMentioned, NoneMadeBefore, added_outputs}
 use Rattle.build_effect.specs.Premises.{AddsAt, AddedOnce, Meets}
 use Rattle.build_effect.specs.Checks.{ChecksSuffice, FaultsExclude}

@@ -1,6 +1,5 @@
 -- Edges with what the statements on them add.
 use Rattle.std.specs.Prelude.{◌≡◌, ℕ, List, length, slice_get, Option, Some, None}
-use Rattle.std.specs.Option.{MatchOption}
 use Rattle.dyndep_file.specs.StatementValue.{StatementValue}
 use Rattle.build_effect.specs.EdgeValue.{EdgeValue}
 use Rattle.build_effect.specs.Effect.{extended}
