@@ -3,6 +3,7 @@ pub mod Positions
 pub mod Parts
 pub mod WriteFaultLemmas
 mod ReaderRows
+mod CallRows
 pub mod Runs
 pub mod EndLemmas
 pub mod TakeLemmas
