@@ -20,3 +20,9 @@ pub mod Reaching
 pub mod GraphParts
 pub mod SortedPairs
 pub mod NeededPairs
+pub mod Excluded
+pub mod Faultless
+pub mod RequiredPairs
+pub mod PairLists
+pub mod OneTold
+pub mod ForCallers

@@ -6,10 +6,10 @@ use Rattle.scan_docs.specs.Info.{InfoValue, ModuleValue}
 use Rattle.dep_order.specs.Needs.{IsOrderable}
 use Rattle.dep_order.proofs.ForCallers.{orderable_same}
 use Rattle.module_table.specs.TableValue.{TableValue}
-use Rattle.module_table.specs.Modules.{Provides, Requires, InfoProvides, IsProvidedBy, DependsOn, Provision, provisions, object_provisions, info_provisions}
+use Rattle.module_table.specs.Modules.{Provides, Requires, InfoProvides, IsProvided, IsProvidedBy, DependsOn, Provision, provisions, object_provisions, info_provisions}
 use Rattle.module_table.specs.Faults.{Claim, claims, own_claims}
 use Rattle.module_table.specs.Sound.{IsSound}
-use Rattle.module_table.specs.Added.{AddedNeeds, AddedOrderable, FilesOnce, FilesApart}
+use Rattle.module_table.specs.Added.{AddedNeeds, AddedOrderable, FilesOnce, FilesApart, OneFile}
 use Rattle.module_table.specs.declared.fault.Maker.{Maker}
 use Rattle.module_table.specs.declared.fault.Maker.TheVariants.{Object, Info}
 
@@ -101,7 +101,20 @@ module _ (t : TableValue) where
   own_claim : (o : ℕ) (rule : RuleValue) → slice_get t.objects o ≡ Some rule → slice_get (claims t) o ≡ Some (record { maker = Object o; file = rule.object; is_module = false })
   own_claim o rule e = in_first (own_claims t.objects) (map as_claim (provisions t)) o _ (to_map (λ (x : ℕ × RuleValue). let c : Claim = record { maker = Object x.0; file = x.1.object; is_module = false } in c) (enumerate_from 0 t.objects) o (o, rule) (row_of o rule e))
 
+  -- who provides a name stands among all modules
+  pub provision_by : (name file : List ℕ) (maker : Maker) → IsProvidedBy t maker name file → (k : ℕ) × (p : Provision) × (slice_get (provisions t) k ≡ Some p) × (p.name ≡ name) × (p.file ≡ file)
+  provision_by name file (Object o) by = (_, _, object_provision o by.0 name file by.1, refl, refl)
+  provision_by name file (Info i) by = (_, _, info_provision i by.0 by.1 by.2, by.3, by.4)
+
   module _ (sound : IsSound t) where
+    one_name_file : (name file other : List ℕ) → IsProvided t name file → IsProvided t name other → file ≡ other
+    one_name_file name file other a b =
+        let p = provision_by name file a.0 a.1 in
+        let q = provision_by name other b.0 b.1 in
+        let place : p.0 ≡ q.0 = sound.names_differ p.0 q.0 p.1 q.1 p.2 q.2 (p.3 ∙ sym q.3) in
+        let same : p.1 ≡ q.1 = same_some _ _ (sym p.2 ∙ ap (slice_get (provisions t)) place ∙ q.2) in
+        sym p.4 ∙ ap (λ (x : Provision). x.file) same ∙ q.4
+
     -- a module's file is claimed at one place
     one_place : (a b : ℕ) (x y : Claim) → slice_get (claims t) a ≡ Some x → slice_get (claims t) b ≡ Some y → x.file ≡ y.file → x.is_module ≡ true → a ≡ b
     one_place a b x y ax by file m =
@@ -156,3 +169,6 @@ added_once t sound = files_once t sound
 
 pub added_apart : FilesApart
 added_apart t sound = apart t sound
+
+pub one_file : OneFile
+one_file t sound = one_name_file t sound

@@ -15,7 +15,7 @@ use Rattle.module_table.proofs.Places.{same_some}
 abbrev pub Has : {X : Type 0} → List X → X → Type 0
 Has xs x = (k : ℕ) × (slice_get xs k ≡ Some x)
 
-has_more : {X : Type 0} (y : X) (xs : List X) (x : X) → Has xs x → Has (y ∷ xs) x
+pub has_more : {X : Type 0} (y : X) (xs : List X) (x : X) → Has xs x → Has (y ∷ xs) x
 has_more y xs x h = (suc h.0, h.1)
 
 pub from_append : {X : Type 0} (xs ys : List X) (k : ℕ) (x : X) → slice_get (xs ++ ys) k ≡ Some x → Has xs x ⊎ Has ys x

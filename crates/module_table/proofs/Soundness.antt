@@ -12,7 +12,7 @@ use Rattle.ninja_text.specs.declared.failure.Failure.{Failure}
 use Rattle.ninja_text.specs.declared.failure.Failure.TheVariants.{Memory, Fault}
 use Rattle.module_table.specs.TableValue.{TableValue}
 use Rattle.module_table.specs.Modules.{InfoRequires, IsInfoProvided, DependsOn, Provision, provisions, InfoRequirement, info_requirements, requirements_of_info, module_requirements}
-use Rattle.module_table.specs.Faults.{Claim, claims, code_number, IsFault, IsTold}
+use Rattle.module_table.specs.Faults.{Disagrees, Claim, claims, code_number, IsFault, IsTold}
 use Rattle.module_table.specs.Sound.{IsSound}
 use Rattle.module_table.specs.Repetition.{AllDiffer}
 use Rattle.module_table.specs.Told.{Tells}
@@ -39,23 +39,28 @@ one_place_of f xs all i j a b at_i at_j same =
     (λ rest. ⊎_elim (λ e. e) (λ gt. absurd (all.differ j i (f b) gt here there)) rest)
     (three_ways i j)
 
-module _ (t : TableValue) (kept : List (List ℕ)) (p : Passed 11 t kept) where
-  requirement : (i j : ℕ) (m : ModuleValue) (name file : List ℕ) → InfoRequires t i j m name file → (k : ℕ) × (target : List ℕ) × (slice_get (info_requirements t) k ≡ Some (record { info = i; target = target; module_name = m.name; name = name; file = file }))
+-- what a module of the info of that target requires
+abbrev pub requirement_of : ℕ → List ℕ → ModuleValue → List ℕ → List ℕ → InfoRequirement
+requirement_of info target entry name file = record { info = info; target = target; module_name = entry.name; name = name; file = file }
+
+module _ (t : TableValue) where
+  -- what an info's module requires stands among the requirements of all infos
+  pub requirement : (i j : ℕ) (m : ModuleValue) (name file : List ℕ) → InfoRequires t i j m name file → (k : ℕ) × (target : List ℕ) × (slice_get (info_requirements t) k ≡ Some (requirement_of i target m name file))
   requirement i j m name file ((info, at, at_m), has) =
       let pair = slice_get-get_or m.required has.0 (name, file) has.1 ∙ ap (λ x. Some x) has.2 in
-      let mine = to_map (λ (r : List ℕ × List ℕ). let x : InfoRequirement = record { info = i; target = info.target; module_name = m.name; name = r.0; file = r.1 } in x) m.required has.0 (name, file) pair in
+      let mine = to_map (λ (r : List ℕ × List ℕ). requirement_of i info.target m r.0 r.1) m.required has.0 (name, file) pair in
       let inner = in_flat_map (module_requirements i info.target) info.modules j m has.0 _ at_m mine in
       (_, info.target, in_flat_map requirements_of_info (enumerate_from 0 t.infos) i (i, info) _ _ (info_row_of t i info at) inner)
 
-  agreed : (r : InfoRequirement) (k : ℕ) → slice_get (info_requirements t) k ≡ Some r → IsInfoProvided t r.name r.file
-  agreed r k at =
-      let found = p.infos_known (omega arith) k r at in
-      by found.0 found.1 (bytes_eq found.0 r.file) refl
+  -- what an info provides, and not with another file, it provides with this one
+  pub agreed : (r : InfoRequirement) (file : List ℕ) → IsInfoProvided t r.name file → (Disagrees t r → ⊥) → IsInfoProvided t r.name r.file
+  agreed r file provided agrees = by (bytes_eq file r.file) refl
     where
-      by : (file : List ℕ) → IsInfoProvided t r.name file → (b : Bool) → bytes_eq file r.file ≡ b → IsInfoProvided t r.name r.file
-      by file h true e = subst (IsInfoProvided t r.name) ((bytes_decides file r.file).0 e) h
-      by file h false e = absurd (p.agreed (omega arith) k r at (file, h, λ same. true≢false (sym ((bytes_decides file r.file).1 same) ∙ e)))
+      by : (b : Bool) → bytes_eq file r.file ≡ b → IsInfoProvided t r.name r.file
+      by true e = subst (IsInfoProvided t r.name) ((bytes_decides file r.file).0 e) provided
+      by false e = absurd (agrees (file, provided, λ same. true≢false (sym ((bytes_decides file r.file).1 same) ∙ e)))
 
+module _ (t : TableValue) (kept : List (List ℕ)) (p : Passed 11 t kept) where
   pub sound : IsSound t
   sound = record {
     objects_differ = λ i j a b at_i at_j same. one_place_of (λ (rule : RuleValue). rule.object) t.objects (p.objects (omega arith)) i j a b at_i at_j same;
@@ -65,12 +70,15 @@ module _ (t : TableValue) (kept : List (List ℕ)) (p : Passed 11 t kept) where
         (subst AllDiffer (sym (claimed_files t.objects (provisions t))) (p.files (omega arith))).differ i j b.file lt
         (to_map (λ (c : Claim). c.file) (claims t) i a at_i ∙ ap (λ x. Some x) h.0) (to_map (λ (c : Claim). c.file) (claims t) j b at_j);
     known = p.known (omega arith);
-    infos_known = λ i j m name file h. let r = requirement i j m name file h in agreed _ r.0 r.2;
+    infos_known = λ i j m name file h.
+        let r = requirement t i j m name file h in
+        let found = p.infos_known (omega arith) r.0 _ r.2 in
+        agreed t (requirement_of i r.1 m name file) found.0 found.1 (p.agreed (omega arith) r.0 _ r.2);
     acyclic = λ cycle h. no_cycle (length t.objects) (DependsOn t) cycle (p.orderable (omega arith)) h;
     orderable = p.orderable (omega arith);
     objects_allowed = λ o info name needs keeps. p.objects_allowed (omega arith) o name needs (info, keeps);
     infos_allowed = λ i j info m name file h keeps.
-        let r = requirement i j m name file h in
+        let r = requirement t i j m name file h in
         ⊎_elim (λ e. e) (λ ne. absurd (p.infos_allowed (omega arith) r.0 _ r.2 (info, keeps, ne))) (cases_eq info i);
   }
 

@@ -63,3 +63,14 @@ FilesOnce = (t : TableValue) → IsSound t → (o p j k : ℕ) (name other file 
 abbrev pub FilesApart : Type 0
 FilesApart = (t : TableValue) → IsSound t → (o p j : ℕ) (rule : RuleValue) (name : List ℕ) →
     slice_get t.objects o ≡ Some rule → Provides t p j name rule.object → ⊥
+
+-- each name that an object of a sound table requires stands in its pairs
+abbrev pub AllRequired : Type 0
+AllRequired = (t : TableValue) → IsSound t → (o : ℕ) (rule : RuleValue) (name : List ℕ) →
+    slice_get t.objects o ≡ Some rule → Contains rule.required name →
+    (file : List ℕ) × Contains (required_of t rule) (name, file)
+
+-- in a sound table a name has one file
+abbrev pub OneFile : Type 0
+OneFile = (t : TableValue) → IsSound t → (name file other : List ℕ) →
+    IsProvided t name file → IsProvided t name other → file ≡ other

@@ -15,3 +15,4 @@ pub mod Passed
 pub mod Located
 pub mod Places
 pub mod Graph
+pub mod Outcomes

@@ -1,13 +1,27 @@
-//! Laws of sound tables.
+//! Laws of tables: functions that do nothing, and whose contracts callers' proofs may cite.
 
-ghost use Rattle.module_table.specs.Added.{AddedOrderable, FilesOnce, FilesApart, RequiredFiles};
+ghost use Rattle.module_table.specs.Added.{AddedOrderable, FilesOnce, FilesApart, RequiredFiles, AllRequired, OneFile};
+ghost use Rattle.module_table.specs.Outcomes.{SoundHasNoFault, FaultlessIsSound, OneFault};
 
-/// A law of every table without a fault: what objects gain as inputs from one another can be ordered, a file is that of
-/// one module of one object at most, no module's file is an object, and the pairs of an object are names that it
-/// requires, with the files of their modules.
+/// A table is sound, and the names to be kept are its own, exactly where none of the faults M1 to M10 is present.
+pub fn sound_tables()
+    ensures no_fault { SoundHasNoFault }
+    ensures sound { FaultlessIsSound }
+{}
+
+/// Of a table that has faults one is told, and no other: the same data, and of a ring the same objects in order.
+pub fn one_fault()
+    ensures { OneFault }
+{}
+
+/// What a sound table means for the files that are added to a build: what objects gain as inputs from one another can be
+/// ordered, a file is that of one module of one object at most, and no module's file is an object. The pairs of an object
+/// are all names that it requires, with the files of their modules, and a name has one file.
 pub fn added_files()
     ensures orderable { AddedOrderable }
     ensures once { FilesOnce }
     ensures apart { FilesApart }
     ensures required { RequiredFiles }
+    ensures all_required { AllRequired }
+    ensures one_file { OneFile }
 {}

@@ -1,5 +1,6 @@
 use Rattle.module_table.proofs.Places as lemmas
 use Rattle.module_table.proofs.Required as required
+use Rattle.module_table.proofs.RequiredPairs as pairs
 use Rattle.module_table.proofs.laws.added_files.Goals as goal
 
 pub returns-clause-orderable : goal.returns-clause-orderable
@@ -13,3 +14,9 @@ returns-clause-apart c = lemmas.added_apart
 
 pub returns-clause-required : goal.returns-clause-required
 returns-clause-required c = required.required_files
+
+pub returns-clause-all_required : goal.returns-clause-all_required
+returns-clause-all_required c = pairs.all_required
+
+pub returns-clause-one_file : goal.returns-clause-one_file
+returns-clause-one_file c = lemmas.one_file

@@ -1,0 +1,163 @@
+-- One fault at most is told of a table.
+use Rattle.std.proofs.Common.{◌≡◌, ℕ, ◌<◌, List, Some, ap, subst, sym, ◌∙◌, ⊎_elim, arith, slice_get}
+use Rattle.scan_docs.specs.Scan.{RuleValue}
+use Rattle.dep_order.proofs.ForCallers.{one_cycle}
+use Rattle.module_table.specs.TableValue.{TableValue}
+use Rattle.module_table.specs.Modules.{DependsOn, provisions, Provision, InfoRequirement}
+use Rattle.module_table.specs.Firsts.{IsFirst, IsFirstRepetition}
+use Rattle.module_table.specs.Faults.{IsTold, IsFirstRequired, Keeps, Claim, code_number}
+use Rattle.module_table.specs.Outcomes.{IsSameFault, same, same_ring, OneFault}
+use Rattle.module_table.specs.Repetition.{AllDiffer}
+use Rattle.module_table.specs.Shown.{names_of}
+use Rattle.module_table.specs.declared.fault.Maker.TheVariants.{Object, Info}
+use Rattle.module_table.specs.declared.fault.TableFault.{TableFault}
+use Rattle.module_table.specs.declared.fault.TableFault.TheVariants.{ObjectTwice, InfoTwice, ProvidedTwice, BmiTwice, ModuleUnknown, InfoUnknown, InfoDisagrees, ImportCycle, ModulePrivate, PrivateUnknown}
+use Rattle.module_table.proofs.Places.{same_some, three_ways}
+use Rattle.module_table.proofs.Required.{contained}
+use Rattle.module_table.proofs.Refusals.{one_module}
+use Rattle.module_table.proofs.Privacy.{keeps_private}
+use Rattle.module_table.proofs.Faultless.{names_differ}
+
+-- ---- there is one first
+
+module _ {X : Type 0} (xs : List X) where
+  same_there : (i j : ℕ) (x y : X) → i ≡ j → slice_get xs i ≡ Some x → slice_get xs j ≡ Some y → x ≡ y
+  same_there i j x y e at_i at_j = same_some _ _ (sym at_i ∙ ap (slice_get xs) e ∙ at_j)
+
+  module _ (P : X → Type 0) (i j : ℕ) (x y : X) (p : IsFirst P xs i x) (q : IsFirst P xs j y) where
+    one_place : i ≡ j
+    one_place =
+        ⊎_elim
+        (λ lt. absurd (q.before i x lt p.here p.holds))
+        (λ rest. ⊎_elim (λ e. e) (λ gt. absurd (p.before j y gt q.here q.holds)) rest)
+        (three_ways i j)
+
+    one_first : x ≡ y
+    one_first = same_there i j x y one_place p.here q.here
+
+  module _ (Alike : X → X → Type 0) (i j k l : ℕ) (x y v w : X) (p : IsFirstRepetition Alike xs i j x y) (q : IsFirstRepetition Alike xs k l v w) where
+    one_later : j ≡ l
+    one_later =
+        ⊎_elim
+        (λ lt. absurd (q.y_first i j x y p.earlier lt p.x_here p.y_here p.alike))
+        (λ rest. ⊎_elim (λ e. e) (λ gt. absurd (p.y_first k l v w q.earlier gt q.x_here q.y_here q.alike)) rest)
+        (three_ways j l)
+
+    one_second : y ≡ w
+    one_second = same_there j l y w one_later p.y_here q.y_here
+
+    one_earlier : i ≡ k
+    one_earlier =
+        ⊎_elim
+        (λ lt. absurd (q.x_first i x lt p.x_here (subst (Alike x) one_second p.alike)))
+        (λ rest. ⊎_elim (λ e. e) (λ gt. absurd (p.x_first k v gt q.x_here (subst (Alike v) (sym one_second) q.alike))) rest)
+        (three_ways i k)
+
+    one_partner : x ≡ v
+    one_partner = same_there i k x v one_earlier p.x_here q.x_here
+
+module _ (P : List ℕ → Type 0) (objects : List RuleValue) (o u : ℕ) (name other : List ℕ) (p : IsFirstRequired P objects o name) (q : IsFirstRequired P objects u other) where
+  one_user : o ≡ u
+  one_user = one_place objects _ o u p.rule q.rule p.first_object q.first_object
+
+  one_required : name ≡ other
+  one_required =
+      let rule : p.rule ≡ q.rule = one_first objects _ o u p.rule q.rule p.first_object q.first_object in
+      one_first q.rule.required P p.place q.place name other (subst (λ (r : RuleValue). IsFirst P r.required p.place name) rule p.first_name) q.first_name
+
+-- one info keeps a module
+one_keeper : (t : TableValue) → AllDiffer (names_of (provisions t)) → (name : List ℕ) (i j : ℕ) → Keeps t i name → Keeps t j name → i ≡ j
+one_keeper t differ name i j p q =
+    let a = keeps_private t i name p in
+    let b = keeps_private t j name q in
+    let makers : Info i ≡ Info j = sym a.4 ∙ ap (λ (x : Provision). x.maker) (one_module (provisions t) differ name a.0 b.0 a.1 b.1 a.2 b.2) ∙ b.4 in
+    cc
+
+by_same : (fault other : TableFault) → fault ≡ other → IsSameFault fault other
+by_same fault other e = subst (IsSameFault fault) e same
+
+-- where a fault of that code is told no name is provided twice
+differ_below : (t : TableValue) (kept : List (List ℕ)) (fault : TableFault) → IsTold t kept fault → 3 < code_number fault → AllDiffer (names_of (provisions t))
+differ_below t kept fault told lt = names_differ t kept (λ name first second h. absurd (omega (arith, lt, told.lowest (ProvidedTwice name first second) h)))
+
+-- ---- of each code one fault is told
+
+one_of_code : (t : TableValue) (kept : List (List ℕ)) (fault other : TableFault) → code_number fault ≡ code_number other → IsTold t kept fault → IsTold t kept other → IsSameFault fault other
+one_of_code t kept (ObjectTwice path first second) (ObjectTwice other third fourth) e a b =
+    let p = a.present in
+    let q = b.present in
+    let i : p.0 ≡ q.0 = one_earlier _ _ p.0 p.1 q.0 q.1 path path other other p.2 q.2 in
+    let j : p.1 ≡ q.1 = one_later _ _ p.0 p.1 q.0 q.1 path path other other p.2 q.2 in
+    let is : path ≡ other = one_second _ _ p.0 p.1 q.0 q.1 path path other other p.2 q.2 in
+    let f : first ≡ third = p.3 ∙ ap Object i ∙ sym q.3 in
+    let s : second ≡ fourth = p.4 ∙ ap Object j ∙ sym q.4 in
+    by_same _ _ (cc)
+one_of_code t kept (InfoTwice target) (InfoTwice other) e a b =
+    let p = a.present in
+    let q = b.present in
+    by_same _ _ (ap InfoTwice (one_second _ _ p.0 p.1 q.0 q.1 target target other other p.2 q.2))
+one_of_code t kept (ProvidedTwice name first second) (ProvidedTwice other third fourth) e a b =
+    let p = a.present in
+    let q = b.present in
+    let x : p.2 ≡ q.2 = one_partner _ _ p.0 p.1 q.0 q.1 p.2 p.3 q.2 q.3 p.4 q.4 in
+    let y : p.3 ≡ q.3 = one_second _ _ p.0 p.1 q.0 q.1 p.2 p.3 q.2 q.3 p.4 q.4 in
+    let n : name ≡ other = sym p.5 ∙ ap (λ (z : Provision). z.name) y ∙ q.5 in
+    let f : first ≡ third = sym p.6 ∙ ap (λ (z : Provision). z.maker) x ∙ q.6 in
+    let s : second ≡ fourth = sym p.7 ∙ ap (λ (z : Provision). z.maker) y ∙ q.7 in
+    by_same _ _ (cc)
+one_of_code t kept (BmiTwice path first second) (BmiTwice other third fourth) e a b =
+    let p = a.present in
+    let q = b.present in
+    let x : p.2 ≡ q.2 = one_partner _ _ p.0 p.1 q.0 q.1 p.2 p.3 q.2 q.3 p.4 q.4 in
+    let y : p.3 ≡ q.3 = one_second _ _ p.0 p.1 q.0 q.1 p.2 p.3 q.2 q.3 p.4 q.4 in
+    let n : path ≡ other = sym p.5 ∙ ap (λ (z : Claim). z.file) y ∙ q.5 in
+    let f : first ≡ third = sym p.6 ∙ ap (λ (z : Claim). z.maker) x ∙ q.6 in
+    let s : second ≡ fourth = sym p.7 ∙ ap (λ (z : Claim). z.maker) y ∙ q.7 in
+    by_same _ _ (cc)
+one_of_code t kept (ModuleUnknown name object) (ModuleUnknown other user) e a b =
+    let n : name ≡ other = one_required _ t.objects object user name other a.present b.present in
+    let o : object ≡ user = one_user _ t.objects object user name other a.present b.present in
+    by_same _ _ (cc)
+one_of_code t kept (InfoUnknown target module_name name) (InfoUnknown other_target other_module other) e a b =
+    let p = a.present in
+    let q = b.present in
+    let r : p.1 ≡ q.1 = one_first _ _ p.0 q.0 p.1 q.1 p.2 q.2 in
+    let x : target ≡ other_target = sym p.3 ∙ ap (λ (z : InfoRequirement). z.target) r ∙ q.3 in
+    let y : module_name ≡ other_module = sym p.4 ∙ ap (λ (z : InfoRequirement). z.module_name) r ∙ q.4 in
+    let n : name ≡ other = sym p.5 ∙ ap (λ (z : InfoRequirement). z.name) r ∙ q.5 in
+    by_same _ _ (cc)
+one_of_code t kept (InfoDisagrees target module_name name) (InfoDisagrees other_target other_module other) e a b =
+    let p = a.present in
+    let q = b.present in
+    let r : p.1 ≡ q.1 = one_first _ _ p.0 q.0 p.1 q.1 p.2 q.2 in
+    let x : target ≡ other_target = sym p.3 ∙ ap (λ (z : InfoRequirement). z.target) r ∙ q.3 in
+    let y : module_name ≡ other_module = sym p.4 ∙ ap (λ (z : InfoRequirement). z.module_name) r ∙ q.4 in
+    let n : name ≡ other = sym p.5 ∙ ap (λ (z : InfoRequirement). z.name) r ∙ q.5 in
+    by_same _ _ (cc)
+one_of_code t kept (ImportCycle ring) (ImportCycle other) e a b = same_ring (one_cycle (DependsOn t) ring.items other.items a.present b.present)
+one_of_code t kept (ModulePrivate name info (Object object)) (ModulePrivate other keeper (Object user)) e a b =
+    let n : name ≡ other = one_required _ t.objects object user name other a.present.0 b.present.0 in
+    let o : object ≡ user = one_user _ t.objects object user name other a.present.0 b.present.0 in
+    let k : info ≡ keeper = one_keeper t (differ_below t kept _ a (omega arith)) other info keeper (subst (Keeps t info) n a.present.1) b.present.1 in
+    by_same _ _ (cc)
+one_of_code t kept (ModulePrivate name info (Object object)) (ModulePrivate other keeper (Info user)) e a b =
+    let p = a.present.0 in
+    absurd (b.present.0 object name (p.rule, p.first_object.here, contained p.rule.required name (p.place, p.first_name.here)) p.first_name.holds)
+one_of_code t kept (ModulePrivate name info (Info user)) (ModulePrivate other keeper (Object object)) e a b =
+    let q = b.present.0 in
+    absurd (a.present.0 object other (q.rule, q.first_object.here, contained q.rule.required other (q.place, q.first_name.here)) q.first_name.holds)
+one_of_code t kept (ModulePrivate name info (Info user)) (ModulePrivate other keeper (Info third)) e a b =
+    let p = a.present.1 in
+    let q = b.present.1 in
+    let r : p.1 ≡ q.1 = one_first _ _ p.0 q.0 p.1 q.1 p.2 q.2 in
+    let n : name ≡ other = sym p.3 ∙ ap (λ (z : InfoRequirement). z.name) r ∙ q.3 in
+    let u : user ≡ third = sym p.4 ∙ ap (λ (z : InfoRequirement). z.info) r ∙ q.4 in
+    let k : info ≡ keeper = one_keeper t (differ_below t kept _ a (omega arith)) other info keeper (subst (Keeps t info) n p.5) q.5 in
+    by_same _ _ (cc)
+one_of_code t kept (PrivateUnknown name) (PrivateUnknown other) e a b =
+    by_same _ _ (ap PrivateUnknown (one_first _ _ a.present.0 b.present.0 name other a.present.1 b.present.1))
+one_of_code t kept fault other e a b = absurd (omega (arith, e))
+
+pub one_told : OneFault
+one_told t kept fault other a b =
+    one_of_code t kept fault other (omega (arith, a.lowest other b.present, b.lowest fault a.present)) a b

@@ -1,0 +1,5 @@
+use Rattle.module_table.proofs.OneTold as lemmas
+use Rattle.module_table.proofs.laws.one_fault.Goals as goal
+
+pub returns : goal.returns
+returns c = lemmas.one_told

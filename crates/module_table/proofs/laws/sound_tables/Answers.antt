@@ -1,0 +1,9 @@
+use Rattle.module_table.proofs.Excluded as excluded
+use Rattle.module_table.proofs.Faultless as faultless
+use Rattle.module_table.proofs.laws.sound_tables.Goals as goal
+
+pub returns-clause-no_fault : goal.returns-clause-no_fault
+returns-clause-no_fault c = excluded.sound_has_no_fault
+
+pub returns-clause-sound : goal.returns-clause-sound
+returns-clause-sound c = faultless.faultless_is_sound
