@@ -1,18 +1,18 @@
 -- What is read of words and values is what they spell.
-use Rattle.std.proofs.Common.{inl, inr, ◌⊎◌, ◌≡◌, ℕ, ◌+◌, Bool, true, false, List, [], ◌∷◌, ◌++◌, map, refl, sym, ap, ◌∙◌, subst, arith, ◌==◌, ◌&&◌, ◌||◌, not, IsTrue, Some, None, append_assoc}
+use Rattle.std.proofs.Common.{inl, inr, ◌⊎◌, ◌≡◌, ℕ, ◌+◌, Bool, true, false, List, [], ◌∷◌, ◌++◌, map, refl, sym, ap, ◌∙◌, subst, ◌==◌, ◌&&◌, ◌||◌, not, IsTrue, Some, None, append_assoc}
 use Rattle.std.specs.Prelude.{Option, nat_lt, All, slice_range, drop}
 use Rattle.std.specs.Option.{ForSome}
-use Rattle.std.specs.List.{flat_map, list_all, concat, AllByRecursion}
+use Rattle.std.specs.List.{flat_map, list_all, AllByRecursion}
 use Rattle.std.proofs.lemmas.List.{append-nil}
 use Rattle.std.proofs.lemmas.List.Elements.{All-from_recursion}
-use Rattle.std.proofs.lemmas.Bool.{cases_Bool, and_parts, or_parts, not-true, eqb-true}
-use Rattle.ninja_text.specs.Units.{units, unit_len, is_byte, is_continuation}
+use Rattle.std.proofs.lemmas.Bool.{cases_Bool, and_parts, or_parts, not-true}
+use Rattle.ninja_text.specs.Units.{units, unit_len}
 use Rattle.ninja_text.specs.declared.unit.LineUnit.{LineUnit}
 use Rattle.ninja_text.specs.declared.unit.LineUnit.TheVariants.{Continuation, Escape, Byte}
 use Rattle.ninja_text.specs.declared.token.TokenKind.{TokenKind}
 use Rattle.ninja_text.specs.declared.token.TokenKind.TheVariants.{Word}
 use Rattle.ninja_text.specs.Lines.{text_of}
-use Rattle.ninja_text.specs.Tokens.{TokenAt, SeenToken, is_blank, is_piece, unit_value, value_of, with_raw, tokens, seen_tokens}
+use Rattle.ninja_text.specs.Tokens.{TokenAt, is_blank, is_piece, unit_value, value_of, with_raw, tokens, seen_tokens}
 use Rattle.ninja_text.specs.TokenLists.{total_len, begins_with, may_follow, is_word, IsToken, LexesAs}
 use Rattle.ninja_text.specs.Escapes.{is_escaped, is_unwritable, IsPiece, IsContinuation, IsGap, Spells}
 use Rattle.ninja_text.specs.Assignments.{after_run, is_name_unit, begins_with_equals, tail_units, SeenAssignment, with_bytes, assignment_of}

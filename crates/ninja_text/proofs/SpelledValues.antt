@@ -1,7 +1,6 @@
 -- The bytes of an assignment's value spell one value.
-use Rattle.std.proofs.Common.{◌≡◌, ℕ, Bool, true, false, not, ◌||◌, IsTrue, inl, inr, List, [], ◌∷◌, ◌++◌, replicate, refl, sym, ◌∙◌, ap, subst, append_assoc, arith}
+use Rattle.std.proofs.Common.{◌≡◌, ℕ, true, false, IsTrue, inl, inr, List, [], ◌∷◌, ◌++◌, refl, sym, ◌∙◌, ap, subst, append_assoc}
 use Rattle.std.specs.List.{concat, AllByRecursion}
-use Rattle.std.proofs.lemmas.Bool.{or_parts, not-true}
 use Rattle.ninja_text.specs.Escapes.{is_escaped, IsContinuation}
 use Rattle.ninja_text.specs.Meanings.{is_value_byte, IsValuePiece, SpellsValue}
 use Rattle.ninja_text.proofs.ReducedList.{true_is}

@@ -1,17 +1,17 @@
 -- The bytes that the units of a text are, one unit after another.
-use Rattle.std.proofs.Common.{inl, inr, ◌≡◌, ℕ, suc, zero, ◌+◌, ◌-◌, Bool, true, false, List, [], ◌∷◌, ◌++◌, length, take, drop, replicate, refl, sym, ap, ◌∙◌, subst, arith, ◌==◌, ◌&&◌, not, length-append, append_assoc}
+use Rattle.std.proofs.Common.{inl, inr, ◌≡◌, ℕ, suc, zero, ◌+◌, ◌-◌, Bool, true, false, List, [], ◌∷◌, ◌++◌, length, take, drop, replicate, refl, sym, ap, ◌∙◌, subst, arith, ◌==◌, ◌&&◌, length-append, append_assoc}
 use Rattle.std.specs.Prelude.{slice_range}
 use Rattle.std.specs.List.{list_all}
-use Rattle.std.proofs.lemmas.List.{append-nil, drop_at, take_at}
+use Rattle.std.proofs.lemmas.List.{drop_at, take_at}
 use Rattle.std.proofs.lemmas.List.Folds.{list_all-append}
 use Rattle.std.proofs.lemmas.Bool.{cases_Bool, eqb-true, and_parts}
-use Rattle.ninja_text.specs.Units.{units, unit_len, is_byte, is_continuation, with_continuation}
+use Rattle.ninja_text.specs.Units.{units, unit_len, is_continuation, with_continuation}
 use Rattle.ninja_text.specs.declared.unit.LineUnit.{LineUnit}
 use Rattle.ninja_text.specs.declared.unit.LineUnit.TheVariants.{Continuation, Escape, Byte}
 use Rattle.ninja_text.specs.Escapes.{is_escaped, IsContinuation}
 use Rattle.ninja_text.specs.TokenLists.{total_len, begins_with}
 use Rattle.ninja_text.proofs.UnitLemmas.{units_byte, units_feed, units_pair}
-use Rattle.ninja_text.proofs.SpelledUnits.{is_plain, Plain, plain, escaped_only}
+use Rattle.ninja_text.proofs.SpelledUnits.{is_plain, plain, escaped_only}
 
 -- bytes that are this unit
 abbrev pub IsUnitText : LineUnit → List ℕ → Type 0
