@@ -30,7 +30,8 @@ line_fault_text BadBinding = codes "Y15 BadBinding"
 
 -- why a dyndep file was not read
 abbrev pub read_fault_text : ReadFault → List ℕ
-read_fault_text (AtLine line fault) = codes "line " ++ decimal line ++ codes ": " ++ line_fault_text fault
+read_fault_text (AtLine line fault) =
+    codes "line " ++ decimal line ++ codes ": " ++ line_fault_text fault
 read_fault_text Io = codes "Y16 Io"
 
 -- why a list of statements was not written

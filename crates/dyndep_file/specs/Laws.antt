@@ -33,10 +33,12 @@ GoesOnUnrefused = (bytes : List ℕ) (reader : Reader) → HasRead bytes reader 
 
 -- A fault in the bytes so far is the fault of every text that begins with them.
 abbrev pub FaultStays : Type 0
-FaultStays = (bytes more : List ℕ) (line : ℕ) (fault : LineFault) → IsFaultIn bytes (AtLine line fault)
+FaultStays = (bytes more : List ℕ) (line : ℕ) (fault : LineFault)
+    → IsFaultIn bytes (AtLine line fault)
     → IsRefused (bytes ++ more) (record { line = line; fault = fault })
 
 -- Statements whose paths all have spellings have no fault but a build line that is too long.
 abbrev pub OnlyTooLong : Type 0
-OnlyTooLong = (statements : List StatementValue) (fault : WriteFault) → All (λ s. All IsWritable (paths_of s)) statements
-    → write_fault statements ≡ Some fault → (number : ℕ) × (fault ≡ StatementTooLong number)
+OnlyTooLong = (statements : List StatementValue) (fault : WriteFault)
+    → All (λ s. All IsWritable (paths_of s)) statements → write_fault statements ≡ Some fault
+    → (number : ℕ) × (fault ≡ StatementTooLong number)

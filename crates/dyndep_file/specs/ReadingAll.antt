@@ -45,7 +45,8 @@ pub record GivesSome {R : Type 0} (reads : Call R) (reader : R) (turn : ReadTurn
 -- Calls of a reader, one after another, each giving some bytes: from this reader to the last one.
 abbrev pub ReadsInTurn : {R : Type 0} → Call R → R → List (ReadTurn R) → R → Type 0
 ReadsInTurn reads reader [] last = reader ≡ last
-ReadsInTurn reads reader (turn ∷ turns) last = GivesSome reads reader turn × ReadsInTurn reads turn.reader turns last
+ReadsInTurn reads reader (turn ∷ turns) last =
+    GivesSome reads reader turn × ReadsInTurn reads turn.reader turns last
 
 -- The call after those: the reader's end, an error, bytes that were refused, or none was made.
 pub data LastCall (R : Type 0) : Type 0 where
@@ -73,22 +74,30 @@ abbrev pub IsLastCall : {R : Type 0} → Call R → R → R → LastCall R → T
 IsLastCall reads before after AtEnd =
     (buffer : List ℕ) × (length buffer ≡ buffer_len) × reads before after (Ok 0) buffer
 IsLastCall reads before after Failed =
-    (buffer : List ℕ) × (error : Error) × (length buffer ≡ buffer_len) × reads before after (Err error) buffer
+    (buffer : List ℕ) × (error : Error) × (length buffer ≡ buffer_len)
+    × reads before after (Err error) buffer
 IsLastCall reads before after (Refused turn) = GivesSome reads before turn × (turn.reader ≡ after)
 IsLastCall reads before after NotMade = before ≡ after
 
--- What is answered, by the bytes of the calls before the last one, and by that: at the reader's end what `finish` answers, `Io`
--- for an error, for bytes that are refused the fault that is in them or want of memory, and `Io` at 2^64 - 1 bytes.
-abbrev pub AnswersAfter : {R : Type 0} → List ℕ → LastCall R → Result (List StatementValue) (Failure ReadFault) → Type 0
+-- what reading a dyndep file answers
+abbrev pub Answer : Type 0
+Answer = Result (List StatementValue) (Failure ReadFault)
+
+-- What is answered, by the bytes of the calls before the last one, and by that: at the reader's end
+-- what `finish` answers, `Io` for an error, for bytes that are refused the fault that is in them or
+-- want of memory, and `Io` at 2^64 - 1 bytes.
+abbrev pub AnswersAfter : {R : Type 0} → List ℕ → LastCall R → Answer → Type 0
 AnswersAfter front AtEnd result = Ends front result
 AnswersAfter front Failed result = result ≡ Err (Fault Io)
 AnswersAfter front (Refused turn) result =
-    (failure : Failure ReadFault) × IsFailureIn (front ++ bytes_of turn) failure × (result ≡ Err failure)
+    (failure : Failure ReadFault) × IsFailureIn (front ++ bytes_of turn) failure
+    × (result ≡ Err failure)
 AnswersAfter front NotMade result = (2 ^ 64 - 1 ≤ length front) × (result ≡ Err (Fault Io))
 
--- Calls gave bytes that were not refused, there was one last call, or none, and no other; and the answer is of these bytes.
-pub record IsReadFrom {R : Type 0} (remaining : R → Option (List ℕ)) (reads : Call R) (old new : Counted R)
-    (result : Result (List StatementValue) (Failure ReadFault)) : Type 0 where
+-- Calls gave bytes that were not refused, there was one last call, or none, and no other; and the
+-- answer is of these bytes.
+pub record IsReadFrom {R : Type 0} (remaining : R → Option (List ℕ)) (reads : Call R)
+    (old new : Counted R) (result : Answer) : Type 0 where
   pub turns : List (ReadTurn R)
   pub before : R
   pub last : LastCall R
@@ -98,5 +107,6 @@ pub record IsReadFrom {R : Type 0} (remaining : R → Option (List ℕ)) (reads 
   pub answer : AnswersAfter (bytes_read turns) last result
   pub count : Counts (has_failed last) (failures old) (failures new)
   -- where the bytes that the reader still has are known
-  pub consumed : Consumes (remaining (held old)) (remaining (held new)) (bytes_read turns ++ last_bytes last)
+  pub consumed : Consumes (remaining (held old)) (remaining (held new))
+      (bytes_read turns ++ last_bytes last)
   pub at_end : last ≡ AtEnd → IsAtEnd (remaining (held new))

@@ -4,7 +4,7 @@ use Rattle.std.specs.Option.{option_or}
 use Rattle.ninja_text.specs.declared.counting.Counted.{Counted}
 use Rattle.ninja_text.specs.declared.failure.Failure.{Failure}
 use Rattle.ninja_text.specs.declared.failure.Failure.TheVariants.{Memory, Fault}
-use Rattle.ninja_text.specs.Counting.{IsCutShort, Call, IsStoppedInTurn}
+use Rattle.ninja_text.specs.Counting.{IsCutShort, Call, IsTakenInTurn, IsStoppedInTurn}
 use Rattle.ninja_text.specs.Lines.{line_limit}
 use Rattle.ninja_text.specs.Escapes.{is_writable, IsWritable}
 use Rattle.dyndep_file.specs.StatementValue.{StatementValue}
@@ -56,13 +56,19 @@ LeavesWriter contents old new text (Fault (Unwritable statement path)) = new ≡
 LeavesWriter contents old new text (Fault (StatementTooLong statement)) = new ≡ old
 LeavesWriter contents old new text (Fault (Io written)) = IsCutShort contents old new text written
 
--- which calls of the writer were made then: before the first byte none, and up to an `Io` those that took some bytes, and the one
--- that failed
+-- which calls of the writer a call has made that failed: before the first byte none, and up to an
+-- `Io` those that took some bytes, and the one that failed
 abbrev pub StopsInTurn : {W : Type 0} → Call W → W → W → List ℕ → Failure WriteFault → Type 0
 StopsInTurn writes old new text Memory = new ≡ old
 StopsInTurn writes old new text (Fault (Unwritable statement path)) = new ≡ old
 StopsInTurn writes old new text (Fault (StatementTooLong statement)) = new ≡ old
 StopsInTurn writes old new text (Fault (Io written)) = IsStoppedInTurn writes old new text written
+
+-- which calls of the writer were made: on success some that took all of the text
+abbrev pub WritesInTurn : {W T : Type 0}
+    → Call W → W → W → List ℕ → Result T (Failure WriteFault) → Type 0
+WritesInTurn writes old new text (Ok done) = IsTakenInTurn writes old new text (length text)
+WritesInTurn writes old new text (Err failure) = StopsInTurn writes old new text failure
 
 -- memory and the writer aside, a call answers the statements' fault, where there is one
 abbrev pub AnswersFault : {T : Type 0} → Option WriteFault → Result T (Failure WriteFault) → Type 0

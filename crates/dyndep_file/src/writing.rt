@@ -1,12 +1,12 @@
 //! The writer of dyndep files.
 ghost use Rattle.std.specs.Prelude.{◌≡◌, ◌↔◌, ◌++◌, List, length, map, not, count_by, All, position, MatchResult, IfOk, OnOk, None};
-ghost use Rattle.ninja_text.specs.Counting.{held, IsWritten, IsTakenInTurn};
+ghost use Rattle.ninja_text.specs.Counting.{held, IsWritten};
 ghost use Rattle.ninja_text.specs.Failure.{Gives};
 ghost use Rattle.ninja_text.specs.Escapes.{escaped, is_escaped, is_writable, IsWritable};
 ghost use Rattle.dyndep_file.specs.StatementValue.{StatementValue};
 ghost use Rattle.dyndep_file.specs.Reading.{StandsForOnly};
 ghost use Rattle.dyndep_file.specs.Writing.{part_text, build_line, statement_text, dyndep_text};
-ghost use Rattle.dyndep_file.specs.WriteFaults.{text_or_fault, capped, paths_of, statement_fault, fault_from, write_fault, CanBeWritten, LeavesWriter, StopsInTurn, AnswersFault};
+ghost use Rattle.dyndep_file.specs.WriteFaults.{text_or_fault, capped, paths_of, statement_fault, fault_from, write_fault, CanBeWritten, LeavesWriter, WritesInTurn, AnswersFault};
 
 use crate::statement::{Dyndep, Statement};
 use ninja_text::{Counted, Failure, LINE_LIMIT, WriteCall, escape_into, is_writable};
@@ -75,8 +75,8 @@ impl Dyndep {
 /// Writes the text of a dyndep file.
 ///
 /// A path without a spelling and too long a build line are told before the first byte, as is want of memory: the writer is
-/// as it was then. After an `Io` exactly so many bytes went out, and they are a beginning of the text. Each call of the writer
-/// is given what is left of the text, and after a call that failed none is made.
+/// as it was then. After an `Io` exactly so many bytes went out, and they are a beginning of the text. Each call of the
+/// writer is given what is left of the text, and after a call that failed none is made.
 pub fn write<W: WriteCall>(
     alloc: Global,
     dyndep: &Dyndep,
@@ -85,9 +85,8 @@ pub fn write<W: WriteCall>(
     ensures text { MatchResult result
         (λ _. IsWritten W.contents out.old out.new (dyndep_text dyndep.now))
         (λ failure. LeavesWriter W.contents out.old out.new (dyndep_text dyndep.now) failure) }
-    ensures calls { MatchResult result
-        (λ _. IsTakenInTurn W.writes (held out.old) (held out.new) (dyndep_text dyndep.now) (length (dyndep_text dyndep.now)))
-        (λ failure. StopsInTurn W.writes (held out.old) (held out.new) (dyndep_text dyndep.now) failure) }
+    ensures calls { WritesInTurn W.writes (held out.old) (held out.new)
+        (dyndep_text dyndep.now) result }
     ensures fault { AnswersFault (write_fault dyndep.now) result }
     // The grammar relates the text to these statements, and to no others.
     ensures meaning { OnOk result (StandsForOnly (dyndep_text dyndep.now) dyndep.now) }
