@@ -1,3 +1,4 @@
+pub mod Arguments
 pub mod Examples
 pub mod Results
 pub mod Tasks

@@ -1,11 +1,14 @@
 -- What a run answers, and the line that it ends with where it fails.
-use Rattle.std.specs.Prelude.{◌≡◌, ℕ, Option, Some, None, ◌||◌, ◌==◌, nat_lt, if◌then◌else◌, List, [], ◌∷◌, ◌++◌, map, codes}
+use Rattle.std.specs.Prelude.{◌≡◌, ℕ, Result, Ok, Err, ◌||◌, ◌==◌, nat_lt, if◌then◌else◌, List, [], ◌∷◌, ◌++◌, map, codes}
+use Rattle.dyndep_file.specs.FaultTexts.{write_fault_text}
+use Rattle.dyndep_file.specs.declared.writing.WriteFault.{WriteFault}
 use Rattle.dyncollate.specs.declared.answer.Answer.{Answer}
 
 -- a byte as it is shown: `?` in place of a control byte
 abbrev pub visible : ℕ → ℕ
 visible b = if nat_lt b 32 || b == 127 then 63 else b
 
+-- the line that tells a message
 abbrev pub line : List ℕ → List ℕ
 line message = codes "dyncollate: " ++ map visible message ++ 10 ∷ []
 
@@ -16,13 +19,18 @@ pub record Prints (text : List ℕ) (answer : Answer) : Type 0 where
   pub err : answer.err.items ≡ []
   pub files : answer.files.items ≡ []
 
--- The run is refused, and prints nothing on standard output.
-pub record Refuses (answer : Answer) : Type 0 where
-  pub status : answer.status ≡ 1
+-- The run ends with this status, prints nothing on standard output, and on standard error the line of this message.
+pub record Fails (number : ℕ) (message : List ℕ) (answer : Answer) : Type 0 where
+  pub status : answer.status ≡ number
   pub out : answer.out.items ≡ []
+  pub err : answer.err.items ≡ line message
   pub files : answer.files.items ≡ []
 
--- the run prints the text, where there is one, and else is refused
-abbrev pub AnswersText : Option (List ℕ) → Answer → Type 0
-AnswersText None answer = Refuses answer
-AnswersText (Some text) answer = Prints text answer
+-- the run is refused with this message
+abbrev pub Refuses : List ℕ → Answer → Type 0
+Refuses message answer = Fails 1 message answer
+
+-- the run prints the text, or is refused with the fault of the statements that can't be written
+abbrev pub AnswersText : Result (List ℕ) WriteFault → Answer → Type 0
+AnswersText (Ok text) answer = Prints text answer
+AnswersText (Err fault) answer = Refuses (write_fault_text fault) answer

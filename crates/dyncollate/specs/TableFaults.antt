@@ -4,6 +4,7 @@ use Rattle.std.specs.List.{flat_map}
 use Rattle.std.specs.Option.{option_map_or}
 use Rattle.scan_docs.specs.Scan.{RuleValue}
 use Rattle.scan_docs.specs.Info.{InfoValue}
+use Rattle.module_table.specs.FaultNames.{fault_name}
 use Rattle.module_table.specs.declared.fault.Maker.{Maker}
 use Rattle.module_table.specs.declared.fault.Maker.TheVariants.{Object, Info}
 use Rattle.module_table.specs.declared.fault.TableFault.{TableFault}
@@ -24,7 +25,9 @@ maker_text objects infos (Info number) = codes "info " ++ target_name infos numb
 
 -- a name or a file, and the two who make it
 abbrev pub made_twice_text : List RuleValue → List InfoValue → List ℕ → Maker → Maker → List ℕ
-made_twice_text objects infos made first second = made ++ codes " by " ++ maker_text objects infos first ++ codes " and " ++ maker_text objects infos second
+made_twice_text objects infos made first second =
+    made ++ codes " by " ++ maker_text objects infos first
+    ++ codes " and " ++ maker_text objects infos second
 
 -- a module of a target, and a name that it requires
 abbrev pub requirement_text : List ℕ → List ℕ → List ℕ → List ℕ
@@ -32,37 +35,32 @@ requirement_text target module_name name = target ++ codes " " ++ module_name ++
 
 -- a module that its target keeps to itself, and who requires it
 abbrev pub private_text : List RuleValue → List InfoValue → List ℕ → ℕ → Maker → List ℕ
-private_text objects infos name info user = name ++ codes " of " ++ target_name infos info ++ codes " in " ++ maker_text objects infos user
+private_text objects infos name info user =
+    name ++ codes " of " ++ target_name infos info ++ codes " in " ++ maker_text objects infos user
 
 -- the objects of a ring, in its order
 abbrev pub ring_text : List RuleValue → List ℕ → List ℕ
 ring_text objects [] = []
-ring_text objects (first ∷ others) = object_path objects first ++ flat_map (λ next. codes " -> " ++ object_path objects next) others
-
--- the code and the name of a fault
-abbrev pub fault_name : TableFault → List ℕ
-fault_name (ObjectTwice path first second) = codes "M1 ObjectTwice"
-fault_name (InfoTwice target) = codes "M2 InfoTwice"
-fault_name (ProvidedTwice name first second) = codes "M3 ProvidedTwice"
-fault_name (BmiTwice path first second) = codes "M4 BmiTwice"
-fault_name (ModuleUnknown name object) = codes "M5 ModuleUnknown"
-fault_name (InfoUnknown target module_name name) = codes "M6 InfoUnknown"
-fault_name (InfoDisagrees target module_name name) = codes "M7 InfoDisagrees"
-fault_name (ImportCycle ring) = codes "M8 ImportCycle"
-fault_name (ModulePrivate name info user) = codes "M9 ModulePrivate"
-fault_name (PrivateUnknown name) = codes "M10 PrivateUnknown"
+ring_text objects (first ∷ others) =
+    object_path objects first ++ flat_map (λ next. codes " -> " ++ object_path objects next) others
 
 -- what a fault is about
 abbrev pub fault_subject : List RuleValue → List InfoValue → TableFault → List ℕ
 fault_subject objects infos (ObjectTwice path first second) = path
 fault_subject objects infos (InfoTwice target) = target
-fault_subject objects infos (ProvidedTwice name first second) = made_twice_text objects infos name first second
-fault_subject objects infos (BmiTwice path first second) = made_twice_text objects infos path first second
-fault_subject objects infos (ModuleUnknown name object) = name ++ codes " in " ++ object_path objects object
-fault_subject objects infos (InfoUnknown target module_name name) = requirement_text target module_name name
-fault_subject objects infos (InfoDisagrees target module_name name) = requirement_text target module_name name
+fault_subject objects infos (ProvidedTwice name first second) =
+    made_twice_text objects infos name first second
+fault_subject objects infos (BmiTwice path first second) =
+    made_twice_text objects infos path first second
+fault_subject objects infos (ModuleUnknown name object) =
+    name ++ codes " in " ++ object_path objects object
+fault_subject objects infos (InfoUnknown target module_name name) =
+    requirement_text target module_name name
+fault_subject objects infos (InfoDisagrees target module_name name) =
+    requirement_text target module_name name
 fault_subject objects infos (ImportCycle ring) = ring_text objects ring.items
-fault_subject objects infos (ModulePrivate name info user) = private_text objects infos name info user
+fault_subject objects infos (ModulePrivate name info user) =
+    private_text objects infos name info user
 fault_subject objects infos (PrivateUnknown name) = name
 
 -- the code and the name of a fault, and what it is about

@@ -1,9 +1,8 @@
 //! What a run of a command answers.
 
-ghost use Rattle.std.specs.Prelude.{◌≡◌, [], IfOk};
-ghost use Rattle.std.specs.Result.{result_ok};
+ghost use Rattle.std.specs.Prelude.{◌≡◌, ◌++◌, [], IfOk, codes};
 ghost use Rattle.dyndep_file.specs.WriteFaults.{text_or_fault};
-ghost use Rattle.dyncollate.specs.Answers.{visible, line, AnswersText};
+ghost use Rattle.dyncollate.specs.Answers.{visible, line, Fails, AnswersText};
 
 use dyndep_file::Dyndep;
 use ninja_text::Failure;
@@ -37,7 +36,7 @@ impl Answer {
 
     /// The run prints the text of a dyndep file, or tells why it cannot be written.
     pub fn of_dyndep(alloc: Global, dyndep: &Dyndep) -> Result<Answer, AllocError>
-        ensures { IfOk result (AnswersText (result_ok (text_or_fault dyndep.now))) }
+        ensures { IfOk result (AnswersText (text_or_fault dyndep.now)) }
     {
         match dyndep.to_text(alloc) {
             Ok(text) => Ok(Answer::done(alloc, text)),
@@ -49,12 +48,24 @@ impl Answer {
         }
     }
 
+    /// The words are no proper call.
+    pub fn usage(alloc: Global) -> Result<Answer, AllocError>
+        ensures { IfOk result (Fails 2 (codes "usage")) }
+    {
+        Answer::failed(alloc, 2, b"usage")
+    }
+
+    /// The file of this name could not be read.
+    pub fn unread(alloc: Global, name: &str) -> Result<Answer, AllocError>
+        ensures { IfOk result (Fails 3 (codes "cannot read " ++ name.now)) }
+    {
+        let message = format!(in alloc; "cannot read {name}")?;
+        Answer::failed(alloc, 3, message.as_bytes())
+    }
+
     /// The run ends with a status that says why, and with one line that tells more.
     pub fn failed(alloc: Global, status: u8, message: &[u8]) -> Result<Answer, AllocError>
-        ensures status { IfOk result (λ answer. answer.status ≡ status) }
-        ensures out { IfOk result (λ answer. answer.out.items ≡ []) }
-        ensures err { IfOk result (λ answer. answer.err.items ≡ line message.now) }
-        ensures files { IfOk result (λ answer. answer.files.items ≡ []) }
+        ensures { IfOk result (Fails status message.now) }
     {
         let err = fault_line(alloc, message)?;
         Ok(Answer {

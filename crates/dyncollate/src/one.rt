@@ -2,19 +2,15 @@
 
 ghost use Rattle.std.specs.Prelude.{◌≡◌, List, [], IfOk, IfErr};
 ghost use Rattle.ninja_text.specs.Failure.{ForFault};
-ghost use Rattle.scan_docs.specs.Scan.{RuleValue, AreRules};
-ghost use Rattle.scan_docs.specs.ScanChecks.{scan_checks};
-ghost use Rattle.scan_docs.specs.Document.{IsAccepted, IsRefused};
-ghost use Rattle.scan_docs.specs.declared.fault.DocFault.{DocFault};
+ghost use Rattle.scan_docs.specs.Scan.{RuleValue};
 ghost use Rattle.module_table.specs.Faults.{IsTold};
-ghost use Rattle.module_table.specs.declared.fault.TableFault.{TableFault};
-ghost use Rattle.dyncollate.specs.One.{setting_of, table_of, HasFault, HasNoFault, text_of_rules, TellsFault, RefusesDocument};
+ghost use Rattle.dyncollate.specs.One.{setting_of, table_of, HasRules, HasNoFault, text_of_rules, document_text, AnswersDocument};
 ghost use Rattle.dyncollate.specs.TableFaults.{fault_text};
-ghost use Rattle.dyncollate.specs.Answers.{line, Refuses, AnswersText};
+ghost use Rattle.dyncollate.specs.Answers.{Refuses, AnswersText};
 
 use crate::answer::Answer;
 use crate::statements::statements_of;
-use crate::table_fault::{fault_text, joined};
+use crate::table_fault::fault_text;
 use module_table::{Table, TableFault};
 use ninja_text::Failure;
 use scan_docs::{DocFault, Rule, Setting, scan};
@@ -23,15 +19,7 @@ use std::alloc::{AllocError, Global};
 /// Runs `one SCAN DIR EXT` on the bytes of the scan document, the folder that modules are compiled to and the ending of
 /// their files. A module that a rule requires is looked up among those that the document's own rules provide.
 pub fn one_run(alloc: Global, document: &[u8], dir: &str, ext: &str) -> Result<Answer, AllocError>
-    ensures accepted { IfOk result (λ answer. (rules : List RuleValue)
-        → IsAccepted (scan_checks (setting_of dir.now ext.now)) (AreRules (setting_of dir.now ext.now)) document.now rules
-        → HasNoFault rules → AnswersText (text_of_rules rules) answer) }
-    ensures faulty { IfOk result (λ answer. (rules : List RuleValue) (fault : TableFault)
-        → IsAccepted (scan_checks (setting_of dir.now ext.now)) (AreRules (setting_of dir.now ext.now)) document.now rules
-        → HasFault rules fault → TellsFault rules answer) }
-    ensures refused { IfOk result (λ answer. (fault : DocFault)
-        → IsRefused (scan_checks (setting_of dir.now ext.now)) document.now fault
-        → RefusesDocument answer) }
+    ensures { IfOk result (AnswersDocument (setting_of dir.now ext.now) document.now) }
 {
     let setting = setting_of(alloc, dir, ext)?;
     document_run(alloc, document, &setting)
@@ -50,15 +38,7 @@ fn setting_of(alloc: Global, dir: &str, ext: &str) -> Result<Setting, AllocError
 
 /// The answer to a document in this setting.
 fn document_run(alloc: Global, document: &[u8], setting: &Setting) -> Result<Answer, AllocError>
-    ensures accepted { IfOk result (λ answer. (rules : List RuleValue)
-        → IsAccepted (scan_checks setting.now) (AreRules setting.now) document.now rules
-        → HasNoFault rules → AnswersText (text_of_rules rules) answer) }
-    ensures faulty { IfOk result (λ answer. (rules : List RuleValue) (fault : TableFault)
-        → IsAccepted (scan_checks setting.now) (AreRules setting.now) document.now rules
-        → HasFault rules fault → TellsFault rules answer) }
-    ensures refused { IfOk result (λ answer. (fault : DocFault)
-        → IsRefused (scan_checks setting.now) document.now fault
-        → RefusesDocument answer) }
+    ensures { IfOk result (AnswersDocument setting.now document.now) }
 {
     match scan(alloc, document, setting) {
         Ok(rules) => match rules_run(alloc, rules) {
@@ -93,10 +73,8 @@ fn table_refused(
     setting: &Setting,
     fault: &TableFault,
 ) -> Result<Answer, AllocError>
-    ensures refused { IfOk result Refuses }
-    ensures message { IfOk result (λ answer. (rules : List RuleValue)
-        → IsAccepted (scan_checks setting.now) (AreRules setting.now) document.now rules
-        → answer.err.items ≡ line (fault_text rules [] fault.now)) }
+    ensures { IfOk result (λ answer. (rules : List RuleValue)
+        → HasRules setting.now document.now rules → Refuses (fault_text rules [] fault.now) answer) }
 {
     match scan(alloc, document, setting) {
         Ok(rules) => {
@@ -108,13 +86,12 @@ fn table_refused(
     }
 }
 
-/// The answer to a document that is refused.
+/// The answer to a document that is refused. It is told as the first of its kind, which it is.
 fn document_refused(alloc: Global, fault: &DocFault) -> Result<Answer, AllocError>
-    ensures { IfOk result RefusesDocument }
+    ensures { IfOk result (Refuses (document_text fault.now)) }
 {
-    let reason = format!(in alloc; "{fault}")?;
-    let message = joined(alloc, &[b"scan 0: ", reason.as_bytes()])?;
-    Answer::failed(alloc, 1, message.as_slice())
+    let message = format!(in alloc; "scan 0: {fault}")?;
+    Answer::failed(alloc, 1, message.as_bytes())
 }
 
 #[cfg(test)]

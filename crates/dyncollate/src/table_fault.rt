@@ -2,7 +2,7 @@
 
 ghost use Rattle.std.specs.Prelude.{◌≡◌, ◌++◌, IfOk, codes};
 ghost use Rattle.std.specs.List.{flat_map};
-ghost use Rattle.dyncollate.specs.TableFaults.{object_path, target_name, maker_text, made_twice_text, requirement_text, private_text, ring_text, fault_name, fault_subject, fault_text};
+ghost use Rattle.dyncollate.specs.TableFaults.{object_path, target_name, maker_text, made_twice_text, requirement_text, private_text, ring_text, fault_subject, fault_text};
 
 use module_table::{Maker, TableFault};
 use scan_docs::{Info, Name, Rule, TargetName};
@@ -19,7 +19,7 @@ pub fn fault_text(
     ensures { IfOk result (λ text. text.items ≡ fault_text objects.now infos.now fault.now) }
 {
     let subject = fault_subject(alloc, fault, Makers { objects, infos })?;
-    joined(alloc, &[fault_name(fault), b" ", &subject])
+    joined(alloc, &[fault.name().as_bytes(), b" ", &subject])
 }
 
 /// The objects and the infos that a fault tells by number.
@@ -29,27 +29,10 @@ struct Makers<'t> {
     infos: &'t [Info],
 }
 
-/// The code and the name of a fault.
-fn fault_name(fault: &TableFault) -> &'static [u8]
-    ensures { result.now ≡ fault_name fault.now }
-{
-    match fault {
-        TableFault::ObjectTwice { .. } => b"M1 ObjectTwice",
-        TableFault::InfoTwice { .. } => b"M2 InfoTwice",
-        TableFault::ProvidedTwice { .. } => b"M3 ProvidedTwice",
-        TableFault::BmiTwice { .. } => b"M4 BmiTwice",
-        TableFault::ModuleUnknown { .. } => b"M5 ModuleUnknown",
-        TableFault::InfoUnknown { .. } => b"M6 InfoUnknown",
-        TableFault::InfoDisagrees { .. } => b"M7 InfoDisagrees",
-        TableFault::ImportCycle { .. } => b"M8 ImportCycle",
-        TableFault::ModulePrivate { .. } => b"M9 ModulePrivate",
-        TableFault::PrivateUnknown { .. } => b"M10 PrivateUnknown",
-    }
-}
-
 /// What a fault is about.
 fn fault_subject(alloc: Global, fault: &TableFault, makers: Makers) -> Result<Vec<u8>, AllocError>
-    ensures { IfOk result (λ text. text.items ≡ fault_subject makers.entry.objects.now makers.entry.infos.now fault.now) }
+    ensures { IfOk result (λ text.
+        text.items ≡ fault_subject makers.entry.objects.now makers.entry.infos.now fault.now) }
 {
     match fault {
         TableFault::ObjectTwice { path, .. } => Vec::from_slice(alloc, path.bytes()),
@@ -94,7 +77,8 @@ fn made_twice_text(
     second: Maker,
     makers: Makers,
 ) -> Result<Vec<u8>, AllocError>
-    ensures { IfOk result (λ text. text.items ≡ made_twice_text makers.entry.objects.now makers.entry.infos.now made.now first second) }
+    ensures { IfOk result (λ text. text.items ≡ made_twice_text
+        makers.entry.objects.now makers.entry.infos.now made.now first second) }
 {
     let first = maker_text(alloc, first, makers)?;
     let second = maker_text(alloc, second, makers)?;
@@ -108,7 +92,8 @@ fn requirement_text(
     module_name: &Name,
     name: &Name,
 ) -> Result<Vec<u8>, AllocError>
-    ensures { IfOk result (λ text. text.items ≡ requirement_text target.now module_name.now name.now) }
+    ensures { IfOk result (λ text.
+        text.items ≡ requirement_text target.now module_name.now name.now) }
 {
     let target = target.text().as_bytes();
     let module_name = module_name.text().as_bytes();
@@ -124,7 +109,8 @@ fn private_text(
     user: Maker,
     makers: Makers,
 ) -> Result<Vec<u8>, AllocError>
-    ensures { IfOk result (λ text. text.items ≡ private_text makers.entry.objects.now makers.entry.infos.now name.now info user) }
+    ensures { IfOk result (λ text. text.items ≡ private_text
+        makers.entry.objects.now makers.entry.infos.now name.now info user) }
 {
     let name = name.text().as_bytes();
     let target = target_name(makers.infos, info);
@@ -134,7 +120,8 @@ fn private_text(
 
 /// Who makes a file.
 fn maker_text(alloc: Global, maker: Maker, makers: Makers) -> Result<Vec<u8>, AllocError>
-    ensures { IfOk result (λ text. text.items ≡ maker_text makers.entry.objects.now makers.entry.infos.now maker) }
+    ensures { IfOk result (λ text.
+        text.items ≡ maker_text makers.entry.objects.now makers.entry.infos.now maker) }
 {
     match maker {
         Maker::Object(number) => joined(alloc, &[b"object ", object_path(makers.objects, number)]),
@@ -179,7 +166,7 @@ fn target_name(infos: &[Info], number: usize) -> &[u8]
 }
 
 /// The parts, one behind the other.
-pub(crate) fn joined(alloc: Global, parts: &[&[u8]]) -> Result<Vec<u8>, AllocError>
+fn joined(alloc: Global, parts: &[&[u8]]) -> Result<Vec<u8>, AllocError>
     ensures { IfOk result (λ text. text.items ≡ flat_map (λ part. part.now) parts.now) }
 {
     parts.concat(alloc)

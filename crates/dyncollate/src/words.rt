@@ -1,6 +1,8 @@
 //! The words that the program is called with.
-use clap::error::ErrorKind;
-use clap::{Arg, ArgAction, ArgMatches, Command};
+
+ghost use Rattle.std.specs.Prelude.{◌≡◌, map, option_map, string_bytes, IfOk};
+ghost use Rattle.dyncollate.specs.Tasks.{AsksFor, task_value, task_from, arguments, is_flag};
+
 use std::alloc::{AllocError, Global};
 
 /// What the program is asked to do.
@@ -18,67 +20,84 @@ pub enum Task<'w> {
     },
 }
 
+impl<'w> Task<'w> {
+    ghost use Rattle.dyncollate.specs.Tasks.{task_value, file_of};
+
+    /// The file that the task reads.
+    pub fn file(&self) -> &'w str
+        ensures { result.now ≡ file_of (task_value self.now) }
+    {
+        match self {
+            Task::One { scan, .. } => *scan,
+            Task::Show { dyndep } => *dyndep,
+        }
+    }
+}
+
 /// What the words ask for, the program's own name being the first of them, or `None` where they are no proper call.
 ///
 /// A call is the name of a command and exactly as many words as it has arguments. The first `--` after the command is
 /// dropped; before it a word of two or more bytes that begins with `-` is no argument. Every other word is one as it
 /// stands, the empty word and `-` too.
-pub fn task_of<'w>(alloc: Global, words: &'w [String]) -> Result<Option<Task<'w>>, AllocError> {
-    let program = program(alloc)?;
-    match program.try_get_matches_from(words) {
-        Ok(matches) => Ok(matched_task(&matches)),
-        Err(error) if error.kind() == ErrorKind::OutOfMemory => Err(AllocError),
-        Err(_) => Ok(None),
+pub fn task_of<'w>(alloc: Global, words: &'w [String]) -> Result<Option<Task<'w>>, AllocError>
+    ensures { IfOk result (AsksFor (map string_bytes words.now)) }
+{
+    let [_, command, words @ ..] = words else {
+        return Ok(None);
+    };
+    match arguments(alloc, words)? {
+        Some(given) => Ok(task_from(command.as_str(), given.as_slice())),
+        None => Ok(None),
     }
 }
 
-/// The program's commands.
-fn program<'w>(alloc: Global) -> Result<Command<'w>, AllocError> {
-    let one = command(alloc, "one", &["SCAN", "DIR", "EXT"])?;
-    let show = command(alloc, "show", &["DYNDEP"])?;
-    bare(Command::new(alloc, "dyncollate"))
-        .subcommand_required(true)
-        .subcommand(one)?
-        .subcommand(show)
-}
-
-/// A command with these arguments, all of them required.
-fn command<'w>(
-    alloc: Global,
-    name: &'w str,
-    arguments: &[&'w str],
-) -> Result<Command<'w>, AllocError> {
-    let mut command = bare(Command::new(alloc, name));
-    for argument in arguments {
-        command = command.arg(
-            Arg::new(alloc, argument)
-                .required(true)
-                .action(ArgAction::Set),
-        )?;
+/// The arguments among the words behind a command, or `None` where one of them is no argument.
+fn arguments<'w>(alloc: Global, words: &'w [String]) -> Result<Option<Vec<&'w str>>, AllocError>
+    ensures { IfOk result (λ given.
+        option_map (λ texts. map (λ text. text.now) texts.items) given
+        ≡ arguments (map string_bytes words.now)) }
+{
+    let mut given = Vec::with_capacity(alloc, words.len())?;
+    let mut is_behind = false;
+    for word in words {
+        let word = word.as_str();
+        if is_behind {
+            given.push(word)?;
+        } else if word == "--" {
+            is_behind = true;
+        } else if is_flag(word) {
+            return Ok(None);
+        } else {
+            given.push(word)?;
+        }
     }
-    Ok(command)
+    Ok(Some(given))
 }
 
-/// The command without the help and version that it would have by itself.
-fn bare<'w>(command: Command<'w>) -> Command<'w> {
-    command
-        .disable_help_flag(true)
-        .disable_help_subcommand(true)
-        .disable_version_flag(true)
+/// Two bytes or more that begin with a hyphen.
+fn is_flag(word: &str) -> bool
+    ensures { result ≡ is_flag word.now }
+{
+    match word.as_bytes() {
+        [first, _, ..] => *first == b'-',
+        _ => false,
+    }
 }
 
-/// The task of words that were matched.
-fn matched_task<'w>(matches: &ArgMatches<'w>) -> Option<Task<'w>> {
-    let (name, arguments) = matches.subcommand()?;
-    match name {
-        "one" => Some(Task::One {
-            scan: arguments.get_str("SCAN")?,
-            dir: arguments.get_str("DIR")?,
-            ext: arguments.get_str("EXT")?,
-        }),
-        "show" => Some(Task::Show {
-            dyndep: arguments.get_str("DYNDEP")?,
-        }),
+/// The task of a command with as many arguments as it has.
+fn task_from<'w>(command: &str, given: &[&'w str]) -> Option<Task<'w>>
+    ensures { option_map task_value result
+        ≡ task_from command.now (map (λ text. text.now) given.now) }
+{
+    match command {
+        "one" => match given {
+            [scan, dir, ext] => Some(Task::One { scan, dir, ext }),
+            _ => None,
+        },
+        "show" => match given {
+            [dyndep] => Some(Task::Show { dyndep }),
+            _ => None,
+        },
         _ => None,
     }
 }

@@ -1,0 +1,58 @@
+-- What the program's words ask for.
+use Rattle.std.specs.Prelude.{◌≡◌, ℕ, ◌==◌, Bool, false, List, [], ◌∷◌, drop}
+use Rattle.std.specs.Prelude.{Option, Some, None, option_map, option_and_then, if◌then◌else◌, codes}
+use Rattle.std.specs.Str.{bytes_eq}
+use Rattle.dyncollate.specs.declared.words.Task.{Task}
+use Rattle.dyncollate.specs.declared.words.Task.TheVariants as task
+
+-- a task, by the texts of its arguments
+pub data TaskValue : Type 0 where
+  one : List ℕ → List ℕ → List ℕ → TaskValue
+  show : List ℕ → TaskValue
+
+abbrev pub task_value : Task → TaskValue
+task_value (task.One scan dir ext) = one scan.now dir.now ext.now
+task_value (task.Show dyndep) = show dyndep.now
+
+-- the file that a task reads
+abbrev pub file_of : TaskValue → List ℕ
+file_of (one scan dir ext) = scan
+file_of (show dyndep) = dyndep
+
+-- two bytes or more that begin with a hyphen
+abbrev pub is_flag : List ℕ → Bool
+is_flag (first ∷ _ ∷ _) = first == 45
+is_flag _ = false
+
+-- The arguments among the words behind a command, unless one of them is a flag. The first `--` is dropped, and every word
+-- behind it is an argument.
+abbrev pub arguments : List (List ℕ) → Option (List (List ℕ))
+arguments [] = Some []
+arguments (word ∷ words) =
+    if bytes_eq word (codes "--") then Some words
+    else (if is_flag word then None else option_map (λ others. word ∷ others) (arguments words))
+
+-- as many arguments as `one` has
+abbrev pub one_of : List (List ℕ) → Option TaskValue
+one_of (scan ∷ dir ∷ ext ∷ []) = Some (one scan dir ext)
+one_of _ = None
+
+-- as many arguments as `show` has
+abbrev pub show_of : List (List ℕ) → Option TaskValue
+show_of (dyndep ∷ []) = Some (show dyndep)
+show_of _ = None
+
+-- the task of a command and its arguments
+abbrev pub task_from : List ℕ → List (List ℕ) → Option TaskValue
+task_from command given =
+    if bytes_eq command (codes "one") then one_of given
+    else (if bytes_eq command (codes "show") then show_of given else None)
+
+-- what the words behind the program's name ask for, where they are a proper call
+abbrev pub task_in : List (List ℕ) → Option TaskValue
+task_in [] = None
+task_in (command ∷ words) = option_and_then (task_from command) (arguments words)
+
+-- the words, the program's own name the first of them, ask for this task
+abbrev pub AsksFor : List (List ℕ) → Option Task → Type 0
+AsksFor words task = option_map task_value task ≡ task_in (drop 1 words)
