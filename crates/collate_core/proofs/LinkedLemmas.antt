@@ -1,0 +1,94 @@
+-- What the infos of a project's tables are.
+use Rattle.std.proofs.Common.{◌≡◌, ℕ, ◌<◌, List, [], length, map, Option, Some, refl, ap, subst, sym, ◌∙◌, arith, slice_get, Contains}
+use Rattle.std.specs.Option.{option_map_or}
+use Rattle.std.proofs.lemmas.Option.{slice_get_within, get_or_from_slice_get, slice_get_read}
+use Rattle.scan_docs.specs.Info.{InfoValue, IsInfo}
+use Rattle.scan_docs.specs.InfoChecks.{info_checks}
+use Rattle.scan_docs.specs.Document.{IsAccepted}
+use Rattle.collate_core.proofs.ByIndex.{element_at, from_map, to_map, same_some}
+use Rattle.module_table.specs.TableValue.{TableValue}
+use Rattle.module_table.specs.Sound.{IsSound}
+use Rattle.scan_docs.specs.Values.{info_of}
+use Rattle.collate_core.specs.Values.{CollatedValue, ProjectTargetValue}
+use Rattle.collate_core.specs.Documents.{table_of, IsInfoAccepted}
+use Rattle.collate_core.specs.Infos.{info_of_table}
+use Rattle.collate_core.specs.Maps.{Written}
+use Rattle.collate_core.specs.Collation.{Collates}
+use Rattle.collate_core.specs.Projects.{target_of, linked_infos, project_tables, IsProject}
+use Rattle.collate_core.proofs.Lists.{all_at}
+
+pub contained : {X : Type 0} (xs : List X) (k : ℕ) (x : X) → slice_get xs k ≡ Some x → Contains xs x
+contained xs k x e = (k, slice_get_within _ _ _ e, get_or_from_slice_get xs k x x e)
+
+pub index_of : {X : Type 0} (xs : List X) (x : X) → Contains xs x → (k : ℕ) × (slice_get xs k ≡ Some x)
+index_of xs x h = (h.0, slice_get_read xs _ h.0 x refl h.1 (sym h.2))
+
+-- an accepted info is that of the function of its bytes
+abbrev pub InfoIs : Type 0
+InfoIs = (bytes : List ℕ) (info : InfoValue) → IsAccepted info_checks IsInfo bytes info → info ≡ info_of bytes
+
+-- the info is that of target k, which is earlier than target n
+abbrev pub IsInfoOf : List TableValue → ℕ → ℕ → InfoValue → Type 0
+IsInfoOf tables n k info = (u : TableValue) × (name : List ℕ) × (kept : List (List ℕ)) × (k < n) × (slice_get tables k ≡ Some u) × (info_of_table name kept u ≡ info)
+
+module _ (style : Option Written) (targets : List ProjectTargetValue) (outs : List CollatedValue) (project : IsProject style targets outs) where
+  abbrev tables : List TableValue
+  tables = project_tables targets outs
+
+  abbrev table_at : ProjectTargetValue → TableValue
+  table_at p = table_of (target_of outs p)
+
+  pub collation_at : (n : ℕ) (t : TableValue) → slice_get tables n ≡ Some t → (p : ProjectTargetValue) × (c : CollatedValue) × (slice_get targets n ≡ Some p) × (slice_get outs n ≡ Some c) × Collates (target_of outs p) style c × (table_of (target_of outs p) ≡ t)
+  collation_at n t at =
+      let p = from_map table_at targets n t at in
+      let within : n < length targets = slice_get_within _ _ _ p.1 in
+      let c : (x : CollatedValue) × (slice_get outs n ≡ Some x) = element_at outs n (omega (arith, project.count, within)) in
+      (p.0, c.0, p.1, c.1, project.each n p.0 c.0 p.1 c.1, p.2)
+
+  pub sound_of : (n : ℕ) (t : TableValue) → slice_get tables n ≡ Some t → IsSound t
+  sound_of n t at = let all = collation_at n t at in subst IsSound all.5 all.4.resolved.sound
+
+  -- the bytes that target k wrote
+  abbrev bytes_of : ℕ → List ℕ
+  bytes_of k = option_map_or (λ (c : CollatedValue). c.info) (slice_get outs k) []
+
+  -- each info of a table is that of the linked target at its index
+  pub info_at : InfoIs → (n : ℕ) (t : TableValue) (i : ℕ) (info : InfoValue) → slice_get tables n ≡ Some t → slice_get t.infos i ≡ Some info →
+      (p : ProjectTargetValue) × (k : ℕ) × (slice_get targets n ≡ Some p) × (slice_get p.linked i ≡ Some k) × IsInfoOf tables n k info
+  info_at info_is n t i info at here =
+      let all = collation_at n t at in
+      let p : ProjectTargetValue = all.0 in
+      let infos : List (List ℕ) = linked_infos outs p.linked in
+      let read : slice_get (map info_of infos) i ≡ Some info = subst (λ (v : TableValue). slice_get v.infos i ≡ Some info) (sym all.5) here in
+      let text = from_map info_of infos i info read in
+      let accepted : IsInfoAccepted text.0 = all_at IsInfoAccepted infos i text.0 all.4.resolved.documents.infos text.1 in
+      let link = from_map bytes_of p.linked i text.0 text.1 in
+      let k : ℕ = link.0 in
+      let inside_link : i < length p.linked = slice_get_within _ _ _ link.1 in
+      let earlier : k < n = subst (λ v. v < n) (get_or_from_slice_get p.linked i k 0 link.1) (project.earlier n p all.2 i 0 inside_link) in
+      let inside_n : n < length targets = slice_get_within _ _ _ all.2 in
+      let q : (v : ProjectTargetValue) × (slice_get targets k ≡ Some v) = element_at targets k (omega (arith, earlier, inside_n)) in
+      let u : TableValue = table_at q.0 in
+      let at_u : slice_get tables k ≡ Some u = to_map table_at targets k q.0 q.1 in
+      let c : (v : CollatedValue) × (slice_get outs k ≡ Some v) = element_at outs k (omega (arith, earlier, inside_n, project.count)) in
+      let low = project.each k q.0 c.0 q.1 c.1 in
+      let same_text : text.0 ≡ c.0.info = sym link.2 ∙ ap (λ (z : Option CollatedValue). option_map_or (λ (x : CollatedValue). x.info) z []) c.1 in
+      let mine : IsInfoAccepted c.0.info = subst IsInfoAccepted same_text accepted in
+      let same_info : info_of_table q.0.name q.0.kept u ≡ info_of c.0.info = info_is c.0.info (info_of_table q.0.name q.0.kept u) (low.info_reads.same mine.small) in
+      (p, k, all.2, link.1, (u, q.0.name, q.0.kept, earlier, at_u, same_info ∙ ap info_of (sym same_text) ∙ text.2))
+
+  -- and each linked target has its info in the table
+  pub info_of_link : InfoIs → (n : ℕ) (t : TableValue) (p : ProjectTargetValue) (i k : ℕ) → slice_get tables n ≡ Some t → slice_get targets n ≡ Some p → slice_get p.linked i ≡ Some k →
+      (info : InfoValue) × (slice_get t.infos i ≡ Some info) × IsInfoOf tables n k info
+  info_of_link info_is n t p i k at target link =
+      let all = collation_at n t at in
+      let is_p : p ≡ all.0 = same_some _ _ (sym target ∙ all.2) in
+      let there : slice_get all.0.linked i ≡ Some k = subst (λ (z : ProjectTargetValue). slice_get z.linked i ≡ Some k) is_p link in
+      let infos : List (List ℕ) = linked_infos outs all.0.linked in
+      let text : slice_get infos i ≡ Some (bytes_of k) = to_map bytes_of all.0.linked i k there in
+      let info : InfoValue = info_of (bytes_of k) in
+      let here : slice_get t.infos i ≡ Some info = subst (λ (v : TableValue). slice_get v.infos i ≡ Some info) all.5 (to_map info_of infos i (bytes_of k) text) in
+      let back = info_at info_is n t i info at here in
+      let is_p2 : back.0 ≡ all.0 = same_some _ _ (sym back.2 ∙ all.2) in
+      let is_k : back.1 ≡ k = same_some _ _ (sym back.3 ∙ subst (λ (z : ProjectTargetValue). slice_get z.linked i ≡ Some k) (sym is_p2) there) in
+      (info, here, subst (λ z. IsInfoOf tables n z info) is_k back.4)

@@ -1,0 +1,49 @@
+-- Lemmas on lists.
+use Rattle.std.proofs.Common.{◌≡◌, ℕ, zero, suc, ◌+◌, ◌<◌, List, [], ◌∷◌, ◌++◌, length, map, take, Some, refl, ap, ap₂, subst, ◌∙◌, arith}
+use Rattle.std.specs.Prelude.{slice_get, All}
+use Rattle.std.specs.List.{flat_map, AllZip, AllByRecursion}
+use Rattle.std.proofs.lemmas.List.{take_more}
+use Rattle.std.proofs.lemmas.List.Elements.{All-get_or, All-nil, All-append}
+use Rattle.std.proofs.lemmas.Grind.{flat_map-append}
+use Rattle.std.proofs.lemmas.Option.{slice_get_within, get_or_from_slice_get}
+
+-- what holds of each element holds of one of them
+pub all_at : {X : Type 0} (P : X → Type 0) (xs : List X) (k : ℕ) (x : X) → All P xs → slice_get xs k ≡ Some x → P x
+all_at P xs k x all here = subst P (get_or_from_slice_get xs k x x here) (All-get_or P xs k x (slice_get_within xs k x here) all)
+
+-- one more element of a list
+pub take_next : {X : Type 0} (xs : List X) (k : ℕ) (x : X) → slice_get xs k ≡ Some x → take (k + 1) xs ≡ take k xs ++ x ∷ []
+take_next xs k x here =
+    let within : k < length xs = slice_get_within _ _ _ here in
+    take_more xs k x within ∙ ap (λ z. take k xs ++ z ∷ []) (get_or_from_slice_get xs k x x here)
+
+nil_right : {X : Type 0} (ys : List X) → ys ++ [] ≡ ys
+nil_right [] = refl
+nil_right (y ∷ ys) = ap (λ zs. y ∷ zs) (nil_right ys)
+
+pub flat_map_last : {A B : Type 0} (f : A → List B) (xs : List A) (x : A) → flat_map f (xs ++ x ∷ []) ≡ flat_map f xs ++ f x
+flat_map_last f xs x = flat_map-append f xs (x ∷ []) ∙ ap (λ ys. flat_map f xs ++ ys) (nil_right (f x))
+
+-- lists whose elements stand in a relation that is a function
+pub zip_map : {A B : Type 0} (R : A → B → Type 0) (f : A → B) → ((a : A) (b : B) → R a b → b ≡ f a) → (xs : List A) (ys : List B) → AllZip R xs ys → ys ≡ map f xs
+zip_map R f same [] [] h = refl
+zip_map R f same [] (y ∷ ys) h = absurd h
+zip_map R f same (x ∷ xs) [] h = absurd h
+zip_map R f same (x ∷ xs) (y ∷ ys) h = ap₂ (λ a b. a ∷ b) (same x y h.0) (zip_map R f same xs ys h.1)
+
+-- each element of each part
+pub all_parts : {A B : Type 0} (P : B → Type 0) (f : A → List B) (Q : A → Type 0) → ((x : A) → Q x → All P (f x)) → (xs : List A) → AllByRecursion Q xs → All P (flat_map f xs)
+all_parts P f Q each [] h = All-nil P
+all_parts P f Q each (x ∷ xs) h = All-append P (f x) (flat_map f xs) (each x h.0) (all_parts P f Q each xs h.1)
+
+-- the same by recursion on a mapped list
+pub map_recursion : {A B : Type 0} (Q : A → Type 0) (P : B → Type 0) (f : A → B) → ((x : A) → Q x → P (f x)) → (xs : List A) → AllByRecursion Q xs → AllByRecursion P (map f xs)
+map_recursion Q P f to [] h = tt
+map_recursion Q P f to (x ∷ xs) h = (to x h.0, map_recursion Q P f to xs h.1)
+
+-- an element before an index
+pub in_take : {X : Type 0} (xs : List X) (n k : ℕ) (x : X) → slice_get xs k ≡ Some x → k < n → slice_get (take n xs) k ≡ Some x
+in_take [] n k x e less = cc
+in_take (y ∷ xs) zero k x e less = absurd (omega arith)
+in_take (y ∷ xs) (suc n) zero x e less = e
+in_take (y ∷ xs) (suc n) (suc k) x e less = in_take xs n k x e (omega arith)

@@ -1,0 +1,117 @@
+-- From the parts of collating to the whole.
+use Rattle.std.proofs.Common.{◌≡◌, ℕ, zero, suc, ◌+◌, ◌<◌, List, [], ◌∷◌, ◌++◌, length, map, Option, Some, None, ap, subst, sym, ◌∙◌, inl, inr, arith}
+use Rattle.std.specs.Prelude.{slice_get, All, Vec}
+use Rattle.std.specs.declared.alloc.Global.{Global}
+use Rattle.std.proofs.lemmas.List.{map_push, length-map}
+use Rattle.ninja_text.specs.Failure.{ForFault}
+use Rattle.ninja_text.specs.declared.failure.Failure.{Failure}
+use Rattle.ninja_text.specs.declared.failure.Failure.TheVariants.{Memory, Fault}
+use Rattle.dyndep_file.specs.StatementValue.{StatementValue}
+use Rattle.dyndep_file.specs.WriteFaults.{write_fault}
+use Rattle.dyndep_file.specs.Reading.{StandsForOnly}
+use Rattle.scan_docs.specs.Scan.{RuleValue}
+use Rattle.scan_docs.specs.InfoText.{info_text, ReadsBack}
+use Rattle.module_table.specs.TableValue.{TableValue}
+use Rattle.module_table.specs.Faults.{IsFault}
+use Rattle.module_table.specs.Sound.{IsSound, KeepsOwn}
+use Rattle.module_table.specs.declared.fault.TableFault.{TableFault}
+use Rattle.collate_core.proofs.ByIndex.{element_at, in_append, same_some}
+use Rattle.collate_core.specs.Values.{TargetValue, CollatedValue}
+use Rattle.collate_core.specs.Documents.{table_of, AreAccepted, IsResolved}
+use Rattle.collate_core.specs.Statements.{statements_of}
+use Rattle.collate_core.specs.Infos.{info_of_table}
+use Rattle.collate_core.specs.Maps.{Written}
+use Rattle.collate_core.specs.Collation.{IsMapText, AreMaps, Collates}
+use Rattle.collate_core.specs.Refusals.{IsRefusal}
+use Rattle.collate_core.specs.inner.Parts.{IsWriteRefusal, IsMapsRefusal, HasSpelled}
+use Rattle.collate_core.specs.declared.fault.Refusal.{Refusal}
+use Rattle.collate_core.specs.declared.fault.Refusal.TheVariants.{Scan, Info, Table, StatementTooLong, Map, LinkedLater}
+use Rattle.collate_core.proofs.Writing.{has_paths}
+
+-- What the parts give, of a table and of statements.
+pub record Given (target : TargetValue) (style : Option Written) (t : TableValue) (ss : List StatementValue) (c : CollatedValue) : Type 0 where
+  pub documents : AreAccepted target
+  pub no_fault : (fault : TableFault) → IsFault t target.kept fault → ⊥
+  pub sound : IsSound t
+  pub kept : KeepsOwn t target.kept
+  pub spelled : All HasSpelled ss
+  pub stands : StandsForOnly c.dyndep ss
+  pub fits : write_fault ss ≡ None
+  pub objects : c.objects ≡ map (λ rule. rule.object) t.objects
+  pub info : c.info ≡ info_text (info_of_table target.name target.kept t)
+  pub reads : ReadsBack (info_of_table target.name target.kept t) c.info
+  pub maps : AreMaps t style c.maps
+
+of_table : (target : TargetValue) (style : Option Written) (c : CollatedValue) → Given target style (table_of target) (statements_of (table_of target)) c → Collates target style c
+of_table target style c h = record {
+  resolved = record { documents = h.documents; no_fault = h.no_fault; sound = h.sound; kept = h.kept };
+  fits = h.fits;
+  dyndep = h.stands;
+  canonical = has_paths (statements_of (table_of target)) h.spelled;
+  objects = h.objects;
+  info = h.info;
+  info_reads = h.reads;
+  maps = h.maps;
+}
+
+pub collates : (target : TargetValue) (style : Option Written) (t : TableValue) (ss : List StatementValue) (c : CollatedValue) → t ≡ table_of target → ss ≡ statements_of t → Given target style t ss c → Collates target style c
+collates target style t ss c table same h =
+    of_table target style c (subst (λ u. Given target style u (statements_of u) c) table (subst (λ xs. Given target style t xs c) same h))
+
+pub resolved : (target : TargetValue) (t : TableValue) → t ≡ table_of target → AreAccepted target → ((fault : TableFault) → IsFault t target.kept fault → ⊥) → IsSound t → KeepsOwn t target.kept → IsResolved target
+resolved target t table documents no_fault sound kept = record { documents = documents; no_fault = subst (λ u. (fault : TableFault) → IsFault u target.kept fault → ⊥) table no_fault; sound = subst IsSound table sound; kept = subst (λ u. KeepsOwn u target.kept) table kept }
+
+write_refusal : (target : TargetValue) (style : Option Written) → IsResolved target → (refusal : Refusal) → IsWriteRefusal (statements_of (table_of target)) refusal → IsRefusal target style refusal
+write_refusal target style resolved (StatementTooLong k) h = (resolved, h)
+write_refusal target style resolved (Scan i fault) h = absurd h
+write_refusal target style resolved (Info i fault) h = absurd h
+write_refusal target style resolved (Table fault) h = absurd h
+write_refusal target style resolved (Map o fault) h = absurd h
+write_refusal target style resolved LinkedLater h = absurd h
+
+pub write_refused : (target : TargetValue) (style : Option Written) (t : TableValue) (ss : List StatementValue) → t ≡ table_of target → ss ≡ statements_of t → IsResolved target →
+    (failure : Failure Refusal) → ForFault (IsWriteRefusal ss) failure → ForFault (IsRefusal target style) failure
+write_refused target style t ss table same resolved Memory h = tt
+write_refused target style t ss table same resolved (Fault refusal) h =
+    write_refusal target style resolved refusal (subst (λ xs. IsWriteRefusal xs refusal) (same ∙ ap statements_of table) h)
+
+maps_refusal : (target : TargetValue) (style : Option Written) → IsResolved target → write_fault (statements_of (table_of target)) ≡ None → (refusal : Refusal) → IsMapsRefusal (table_of target) style refusal → IsRefusal target style refusal
+maps_refusal target None resolved fits refusal h = absurd h
+maps_refusal target (Some written) resolved fits (Map o fault) h = (resolved, fits, h)
+maps_refusal target (Some written) resolved fits (StatementTooLong k) h = absurd h
+maps_refusal target (Some written) resolved fits (Scan i fault) h = absurd h
+maps_refusal target (Some written) resolved fits (Info i fault) h = absurd h
+maps_refusal target (Some written) resolved fits (Table fault) h = absurd h
+maps_refusal target (Some written) resolved fits LinkedLater h = absurd h
+
+pub maps_refused : (target : TargetValue) (style : Option Written) (t : TableValue) (ss : List StatementValue) → t ≡ table_of target → ss ≡ statements_of t → IsResolved target → write_fault ss ≡ None →
+    (failure : Failure Refusal) → ForFault (IsMapsRefusal t style) failure → ForFault (IsRefusal target style) failure
+maps_refused target style t ss table same resolved fits Memory h = tt
+maps_refused target style t ss table same resolved fits (Fault refusal) h =
+    maps_refusal target style resolved (subst (λ xs. write_fault xs ≡ None) (same ∙ ap statements_of table) fits) refusal (subst (λ u. IsMapsRefusal u style refusal) table h)
+
+-- each text is that of its object's map
+abbrev pub EachMap : TableValue → Written → List (List ℕ) → Type 0
+EachMap t written texts = (o : ℕ) (rule : RuleValue) (text : List ℕ) → slice_get t.objects o ≡ Some rule → slice_get texts o ≡ Some text → IsMapText t written o rule text
+
+last_map : (t : TableValue) (written : Written) (object : ℕ) (text : List ℕ) → ((rule : RuleValue) → slice_get t.objects object ≡ Some rule → IsMapText t written object rule text) →
+    (o m : ℕ) (rule : RuleValue) (other : List ℕ) → o ≡ object + m → slice_get (text ∷ []) m ≡ Some other → slice_get t.objects o ≡ Some rule → IsMapText t written o rule other
+last_map t written object text is o zero rule other index at here =
+    let same_index : o ≡ object = omega (arith, index) in
+    let same : text ≡ other = same_some _ _ at in
+    subst (λ x. IsMapText t written o rule x) same (subst (λ n. IsMapText t written n rule text) (sym same_index) (is rule (subst (λ n. slice_get t.objects n ≡ Some rule) same_index here)))
+last_map t written object text is o (suc m) rule other index at here = absurd (cc)
+
+pub more_maps : (t : TableValue) (written : Written) (texts : List (Vec ℕ Global)) (object : ℕ) (text : Vec ℕ Global) → length texts ≡ object → EachMap t written (map (λ m. m.items) texts) →
+    ((rule : RuleValue) → slice_get t.objects object ≡ Some rule → IsMapText t written object rule text.items) → EachMap t written (map (λ m. m.items) (texts ++ text ∷ []))
+more_maps t written texts object text count each is o rule other here at =
+    elim (in_append (map (λ (m : Vec ℕ Global). m.items) texts) (text.items ∷ []) o other (ap (λ xs. slice_get xs o) (sym (map_push (λ (m : Vec ℕ Global). m.items) texts text)) ∙ at)) [
+      | inl before ↦ each o rule other here before
+      | inr last ↦ last_map t written object text.items is o last.0 rule other (omega (arith, last.1, count, length-map texts (λ (m : Vec ℕ Global). m.items))) last.2 here
+    ]
+
+pub map_before : (t : TableValue) (written : Written) (texts : List (Vec ℕ Global)) (object : ℕ) → length texts ≡ object → EachMap t written (map (λ m. m.items) texts) →
+    (p : ℕ) (earlier : RuleValue) → p < object → slice_get t.objects p ≡ Some earlier → (text : List ℕ) × IsMapText t written p earlier text
+map_before t written texts object count each p earlier less here =
+    let x : (text : List ℕ) × (slice_get (map (λ (m : Vec ℕ Global). m.items) texts) p ≡ Some text) = element_at (map (λ (m : Vec ℕ Global). m.items) texts) p (omega (arith, less, count, length-map texts (λ (m : Vec ℕ Global). m.items))) in
+    (x.0, each p earlier x.0 here x.1)

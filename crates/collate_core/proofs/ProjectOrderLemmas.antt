@@ -1,0 +1,114 @@
+-- One numbering of all objects of a project.
+use Rattle.std.proofs.Common.{◌≡◌, ℕ, ◌+◌, ◌*◌, ◌<◌, List, length, Option, Some, refl, ap, subst, sym, ◌∙◌, inl, inr, arith, slice_get}
+use Rattle.std.specs.Prelude.{slice_index}
+use Rattle.std.specs.Option.{option_map_or}
+use Rattle.std.specs.List.{flat_map}
+use Rattle.std.proofs.lemmas.Option.{slice_get_within, get_or_from_slice_get}
+use Rattle.build_effect.specs.Numbering.{rank_at}
+use Rattle.collate_core.proofs.ByIndex.{element_at, same_some, choose, offset, in_flat_map}
+use Rattle.collate_core.proofs.Levels.{above, two_levels}
+use Rattle.module_table.specs.TableValue.{TableValue}
+use Rattle.module_table.specs.Modules.{Provides, Requires, IsProvided, DependsOn}
+use Rattle.module_table.specs.Added.{RequiredFiles, AllRequired, OneFile, FilesOnce}
+use Rattle.collate_core.specs.Values.{CollatedValue, ProjectTargetValue}
+use Rattle.collate_core.specs.Maps.{Written}
+use Rattle.collate_core.specs.Projects.{IsProject, project_tables}
+use Rattle.collate_core.specs.ProjectOrders.{ProjectProvides, IsProjectOrdered}
+use Rattle.collate_core.proofs.LinkedLemmas.{InfoIs, index_of, sound_of}
+use Rattle.collate_core.proofs.NeededLemmas.{provided_from, own_provides}
+
+-- the ranks of a table's objects
+abbrev IsBase : List TableValue → ℕ → List ℕ → Type 0
+IsBase tables n xs = (t : TableValue) → slice_get tables n ≡ Some t → (length xs ≡ length t.objects) × ((o p : ℕ) → DependsOn t o p → slice_index xs p < slice_index xs o)
+
+-- the ranks of a row, each above all of the rows before
+abbrev IsRow : ℕ → List (List ℕ) → ℕ → List ℕ → Type 0
+IsRow bound base n ys = (xs : List ℕ) → slice_get base n ≡ Some xs → (o x : ℕ) → slice_get xs o ≡ Some x → slice_index ys o ≡ n * bound + x
+
+row_of : (bound : ℕ) (xss : List (List ℕ)) (n : ℕ) → n < length xss → (ys : List ℕ) × IsRow bound xss n ys
+row_of bound xss n within =
+    let xs : (x : List ℕ) × (slice_get xss n ≡ Some x) = element_at xss n within in
+    let ys : (zs : List ℕ) × (length zs ≡ length xs.0) × ((o z : ℕ) → slice_get zs o ≡ Some z → z ≡ n * bound + slice_index xs.0 o)
+    = choose (λ o z. z ≡ n * bound + slice_index xs.0 o) (length xs.0) (λ o h. (n * bound + slice_index xs.0 o, refl)) in (
+      ys.0,
+      λ us at o x e.
+          let same : xs.0 ≡ us = same_some _ _ (sym xs.1 ∙ at) in
+          let here : slice_get xs.0 o ≡ Some x = subst (λ vs. slice_get vs o ≡ Some x) (sym same) e in
+          let inside : o < length xs.0 = slice_get_within _ _ _ here in
+          let z : (y : ℕ) × (slice_get ys.0 o ≡ Some y) = element_at ys.0 o (omega (arith, ys.1)) in
+          get_or_from_slice_get ys.0 o z.0 0 z.1 ∙ ys.2 o z.0 z.1 ∙ ap (λ v. n * bound + v) (get_or_from_slice_get xs.0 o x 0 here),
+    )
+
+module _ (required : RequiredFiles) (all_required : AllRequired) (one_file : OneFile) (once : FilesOnce) (info_is : InfoIs) (style : Option Written) (targets : List ProjectTargetValue) (outs : List CollatedValue) (project : IsProject style targets outs) where
+  abbrev tables : List TableValue
+  tables = project_tables targets outs
+
+  base_of : (n : ℕ) → n < length tables → (xs : List ℕ) × IsBase tables n xs
+  base_of n within =
+      let t : (x : TableValue) × (slice_get tables n ≡ Some x) = element_at tables n within in
+      let given = (sound_of style targets outs project n t.0 t.1).orderable in (
+        given.0,
+        λ u at. subst (λ (v : TableValue). (length given.0 ≡ length v.objects) × ((o p : ℕ) → DependsOn v o p → slice_index given.0 p < slice_index given.0 o))
+            (same_some _ _ (sym t.1 ∙ at)) (given.1.one_each, given.1.below),
+      )
+
+  base : (xs : List (List ℕ)) × (length xs ≡ length tables) × ((n : ℕ) (ys : List ℕ) → slice_get xs n ≡ Some ys → IsBase tables n ys)
+  base = choose (IsBase tables) (length tables) base_of
+
+  module _ (bound : ℕ) (bases rows : List (List ℕ)) (bases_count : length bases ≡ length tables) (is_base : (n : ℕ) (xs : List ℕ) → slice_get bases n ≡ Some xs → IsBase tables n xs)
+      (count : length rows ≡ length bases) (is_row : (n : ℕ) (ys : List ℕ) → slice_get rows n ≡ Some ys → IsRow bound bases n ys)
+      (small : (n : ℕ) (xs : List ℕ) (o x : ℕ) → slice_get bases n ≡ Some xs → slice_get xs o ≡ Some x → x < bound) where
+    rank_of : (n o : ℕ) (t : TableValue) (xs : List ℕ) → slice_get tables n ≡ Some t → slice_get bases n ≡ Some xs → o < length t.objects → (rank_at rows n o ≡ n * bound + slice_index xs o) × (slice_index xs o < bound)
+    rank_of n o t xs at base_at within =
+        let long : length xs ≡ length t.objects = (is_base n xs base_at t at).0 in
+        let x : (y : ℕ) × (slice_get xs o ≡ Some y) = element_at xs o (omega (arith, long, within)) in
+        let inside : n < length bases = slice_get_within _ _ _ base_at in
+        let ys : (zs : List ℕ) × (slice_get rows n ≡ Some zs) = element_at rows n (omega (arith, count, inside)) in
+        let value : slice_index xs o ≡ x.0 = get_or_from_slice_get xs o x.0 0 x.1 in (
+          ap (λ (z : Option (List ℕ)). option_map_or (λ row. slice_index row o) z 0) ys.1 ∙ is_row n ys.0 ys.1 xs base_at o x.0 x.1 ∙ ap (λ v. n * bound + v) (sym value),
+          subst (λ v. v < bound) (sym value) (small n xs o x.0 base_at x.1),
+        )
+
+    base_at : (n : ℕ) (t : TableValue) → slice_get tables n ≡ Some t → (xs : List ℕ) × (slice_get bases n ≡ Some xs)
+    base_at n t at = let within : n < length tables = slice_get_within _ _ _ at in element_at bases n (omega (arith, bases_count, within))
+
+    -- who provides a required name, seen from the target of its user, is below the user
+    provider_below : (n o m p : ℕ) (t : TableValue) (name file : List ℕ) → slice_get tables n ≡ Some t → Requires t o name → ProjectProvides targets tables n m p name file → rank_at rows m p < rank_at rows n o
+    provider_below n o m p t name file at needs (u, j, inl same, at_u, provides) =
+        let own : Provides t p j name file = own_provides required all_required one_file once info_is style targets outs project n m p j t u name file at same at_u provides in
+        let xs = base_at n t at in
+        let inside_o : o < length t.objects = slice_get_within _ _ _ needs.1 in
+        let inside_p : p < length t.objects = slice_get_within _ _ _ own.1 in
+        let less = (is_base n xs.0 xs.1 t at).1 o p (name, file, j, needs, own) in
+        let ro = rank_of n o t xs.0 at xs.1 inside_o in
+        let rp = rank_of n p t xs.0 at xs.1 inside_p in
+        subst (λ k. rank_at rows k p < rank_at rows n o) same (omega (arith, ro.0, rp.0, less))
+    provider_below n o m p t name file at needs (u, j, inr link, at_u, provides) =
+        let index = index_of link.0.linked m link.2 in
+        let within : index.0 < length link.0.linked = slice_get_within _ _ _ index.1 in
+        let earlier : m < n = subst (λ v. v < n) (get_or_from_slice_get link.0.linked index.0 m 0 index.1) (project.earlier n link.0 link.1 index.0 0 within) in
+        let xs = base_at n t at in
+        let ys = base_at m u at_u in
+        let ro = rank_of n o t xs.0 at xs.1 (slice_get_within _ _ _ needs.1) in
+        let rp = rank_of m p u ys.0 at_u ys.1 (slice_get_within _ _ _ provides.1) in
+        let fall = two_levels bound m (slice_index ys.0 p) n (slice_index xs.0 o) ro.1 (inl earlier) rp.1 in
+        omega (arith, ro.0, rp.0, fall)
+
+    below : (n o : ℕ) (t : TableValue) (name file : List ℕ) → slice_get tables n ≡ Some t → Requires t o name → IsProvided t name file →
+        (m : ℕ) × (p : ℕ) × ProjectProvides targets tables n m p name file × (rank_at rows m p < rank_at rows n o)
+    below n o t name file at needs provided =
+        let by = provided_from required all_required one_file once info_is style targets outs project n t name file at provided.0 provided.1 in
+        (by.0, by.1, by.2, provider_below n o by.0 by.1 t name file at needs by.2)
+
+  pub ordered : IsProjectOrdered targets (project_tables targets outs)
+  ordered =
+      let b = base in
+      let top = above (flat_map (λ (xs : List ℕ). xs) b.0) in
+      let rows : (yss : List (List ℕ)) × (length yss ≡ length b.0) × ((n : ℕ) (ys : List ℕ) → slice_get yss n ≡ Some ys → IsRow top.0 b.0 n ys) = choose (IsRow top.0 b.0) (length b.0) (row_of top.0 b.0) in
+      let small : (n : ℕ) (xs : List ℕ) (o x : ℕ) → slice_get b.0 n ≡ Some xs → slice_get xs o ≡ Some x → x < top.0
+      = λ n xs o x at e. top.1 (offset (λ (ys : List ℕ). ys) b.0 n + o) x (in_flat_map (λ (ys : List ℕ). ys) b.0 n o x (xs, at, e)) in
+      record {
+        files = λ n o t name at needs. (sound_of style targets outs project n t at).known o name needs;
+        ranks = rows.0;
+        below = λ n o t name file at needs provided. below top.0 b.0 rows.0 b.1 b.2 rows.1 rows.2 small n o t name file at needs provided;
+      }

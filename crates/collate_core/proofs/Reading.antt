@@ -1,0 +1,16 @@
+-- What a reader of dyndep files reports of the bytes so far is what it reports of the whole text.
+use Rattle.std.proofs.Common.{◌≡◌, ℕ, List, ◌++◌, inr, subst, sym}
+use Rattle.ninja_text.specs.declared.failure.Failure.{Failure}
+use Rattle.ninja_text.specs.declared.failure.Failure.TheVariants.{Memory, Fault}
+use Rattle.ninja_text.specs.Failure.{ForFault}
+use Rattle.dyndep_file.specs.Reading.{IsRefused}
+use Rattle.dyndep_file.specs.Reader.{IsFailureIn}
+use Rattle.dyndep_file.specs.Laws.{FaultStays}
+use Rattle.dyndep_file.specs.declared.faults.ReadFault.{ReadFault}
+use Rattle.dyndep_file.specs.declared.faults.ReadFault.TheVariants.{AtLine, Io}
+use Rattle.collate_core.specs.Rehearsal.{IsReported}
+
+pub reported : FaultStays → (bytes more text : List ℕ) (failure : Failure ReadFault) → text ≡ bytes ++ more → IsFailureIn bytes failure → ForFault (IsReported text) failure
+reported stays bytes more text Memory same h = tt
+reported stays bytes more text (Fault (AtLine line fault)) same h = subst (λ x. IsRefused x (record { line = line; fault = fault })) (sym same) (stays bytes more line fault h)
+reported stays bytes more text (Fault Io) same h = h

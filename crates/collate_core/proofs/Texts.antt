@@ -1,0 +1,45 @@
+-- The paths of an info are text, where those of the table are.
+use Rattle.std.proofs.Common.{ℕ, List, get_or, subst}
+use Rattle.std.specs.Prelude.{All}
+use Rattle.std.proofs.lemmas.Option.{slice_get-get_or}
+use Rattle.std.proofs.lemmas.List.Elements.{All-map, All-weaker, recursion_from_All}
+use Rattle.scan_docs.specs.Scan.{RuleValue, IsText, IsRuleText}
+use Rattle.scan_docs.specs.InfoText.{IsModuleText, IsInfoText}
+use Rattle.module_table.specs.TableValue.{TableValue}
+use Rattle.module_table.specs.Modules.{IsProvidedBy}
+use Rattle.module_table.specs.Added.{Task, tasks_of, required_of, RequiredFiles}
+use Rattle.module_table.specs.declared.fault.Maker.{Maker}
+use Rattle.module_table.specs.declared.fault.Maker.TheVariants.{Object, Info}
+use Rattle.collate_core.specs.Infos.{module_of, modules_of, info_of_table}
+use Rattle.collate_core.specs.inner.Parts.{IsTableText}
+use Rattle.collate_core.proofs.Lists.{all_at, all_parts, map_recursion}
+
+module _ (t : TableValue) (text : IsTableText t) (files : RequiredFiles) where
+  provided_by : (maker : Maker) (name file : List ℕ) → IsProvidedBy t maker name file → IsText file
+  provided_by (Object o) name file h =
+      let rule = all_at IsRuleText t.objects o h.1.0 text.objects h.1.1 in
+      all_at (λ (pair : List ℕ × List ℕ). IsText pair.1) h.1.0.provided h.0 (name, file) rule.provided h.1.2
+  provided_by (Info i) name file h =
+      let info = all_at IsInfoText t.infos i h.2.0 text.infos h.2.1 in
+      let entry = all_at IsModuleText h.2.0.modules h.0 h.1 info h.2.2 in
+      subst IsText h.4 entry.file
+
+  required : (rule : RuleValue) → All (λ pair. IsText pair.1) (required_of t rule)
+  required rule k d within =
+      let pair : List ℕ × List ℕ = get_or (required_of t rule) k d in
+      let found = files t rule k pair.0 pair.1 (slice_get-get_or (required_of t rule) k d within) in
+      provided_by found.1.0 pair.0 pair.1 found.1.1
+
+  modules : (kept : List (List ℕ)) (task : Task) → IsRuleText task.0 → All (λ pair. IsText pair.1) task.1 → All IsModuleText (modules_of kept task)
+  modules kept task rule pairs =
+      All-map IsModuleText (module_of kept task.1) task.0.provided
+      (All-weaker (λ pair. IsText pair.1) (λ pair. IsModuleText (module_of kept task.1 pair)) (λ pair file. record { file = file; required = pairs }) task.0.provided rule.provided)
+
+  record IsTaskText (task : Task) : Type 0 where
+    rule : IsRuleText task.0
+    pairs : All (λ pair. IsText pair.1) task.1
+
+  pub info_is_text : (name : List ℕ) (kept : List (List ℕ)) → IsInfoText (info_of_table name kept t)
+  info_is_text name kept =
+      all_parts IsModuleText (modules_of kept) IsTaskText (λ task h. modules kept task h.rule h.pairs) (tasks_of t)
+      (map_recursion IsRuleText IsTaskText (λ rule. (rule, required_of t rule)) (λ rule h. record { rule = h; pairs = required rule }) t.objects (recursion_from_All IsRuleText t.objects text.objects))

@@ -1,0 +1,15 @@
+use Rattle.std.proofs.Common.{◌≡◌, ℕ, Some, refl, ◌∙◌}
+use Rattle.std.specs.Prelude.{slice_get}
+use Rattle.std.proofs.lemmas.Option.{slice_get_read}
+use Rattle.scan_docs.specs.Scan.{RuleValue}
+use Rattle.module_table.specs.TableValue.{TableValue}
+use Rattle.collate_core.proofs.Tasks.{more_modules}
+use Rattle.collate_core.proofs.info.info_of_table.Goals as goal
+
+pub loop-index-preserved : goal.loop-index-preserved
+loop-index-preserved c =
+    let t : TableValue = c.args.table.now in
+    let index : ℕ = c.loop-index.index in
+    let rule : RuleValue = c.index-objects-index.result in
+    let here : slice_get t.objects index ≡ Some rule = rw (← c.objects-objects.ensures.objects) (slice_get_read _ _ _ _ refl c.loop-index-test.true c.index-objects-index.is) in
+    c.in_ok-add_modules.ensures ∙ more_modules c.args.kept.now.keys t index rule c.required-required.result.now c.loop-index.modules.items here (c.required-required.ensures rule here) c.loop-index.invariant

@@ -1,0 +1,19 @@
+use Rattle.collate_core.proofs.Outcomes.{OneAnswer, not_refused}
+use Rattle.collate_core.proofs.OneRefusal.{one_refusal}
+use Rattle.collate_core.proofs.ProjectOutcomes.{project_not_refused}
+use Rattle.collate_core.proofs.laws.one_outcome.Goals as goal
+
+pub returns-clause-collate : goal.returns-clause-collate
+returns-clause-collate c =
+    let answers : OneAnswer = record { scan = c.one_answer.ensures.scan; info = c.one_answer.ensures.info } in
+    not_refused answers
+
+pub returns-clause-one : goal.returns-clause-one
+returns-clause-one c =
+    let answers : OneAnswer = record { scan = c.one_answer.ensures.scan; info = c.one_answer.ensures.info } in
+    one_refusal answers c.one_fault.ensures
+
+pub returns-clause-project : goal.returns-clause-project
+returns-clause-project c =
+    let answers : OneAnswer = record { scan = c.one_answer.ensures.scan; info = c.one_answer.ensures.info } in
+    project_not_refused answers

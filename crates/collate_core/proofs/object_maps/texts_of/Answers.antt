@@ -1,0 +1,36 @@
+use Rattle.std.proofs.Common.{◌≡◌, ℕ, ◌<◌, [], ◌∷◌, length, map, Some, subst, sym, ap, ◌∙◌, arith, slice_get, length-append}
+use Rattle.ninja_text.specs.Failure.{ForFault}
+use Rattle.scan_docs.specs.Scan.{RuleValue}
+use Rattle.module_table.specs.TableValue.{TableValue}
+use Rattle.collate_core.proofs.ByIndex.{element_at}
+use Rattle.collate_core.specs.Maps.{Written}
+use Rattle.collate_core.specs.Refusals.{IsMapFault}
+use Rattle.collate_core.specs.declared.module_map.MapFault.{MapFault}
+use Rattle.collate_core.proofs.Parts.{EachMap, more_maps, map_before}
+use Rattle.collate_core.proofs.object_maps.texts_of.Goals as goal
+
+pub returns-in-Err-Fault-clause-refused : goal.returns-in-Err-Fault-clause-refused
+returns-in-Err-Fault-clause-refused g c =
+    let t : TableValue = c.args.table.now in
+    let written : Written = g.M.MapStyle.written c.args.style.now in
+    let object : ℕ = c.loop-object.object in
+    let within : object < length t.objects = rw (← c.objects-object-end.ensures.objects) (omega arith) in
+    let at : (rule : RuleValue) × (slice_get t.objects object ≡ Some rule) = element_at t.objects object within in
+    let faulty = subst (ForFault (λ (fault : MapFault). (rule : RuleValue) → slice_get t.objects object ≡ Some rule → IsMapFault t written object rule fault)) c.in-Err-Fault.field-0-is c.in-Err-Fault.ensures.fault in
+    record {
+      before = map_before t written c.loop-object.texts.items object c.loop-object.invariant.count c.loop-object.invariant.each;
+      rule = at.0;
+      here = at.1;
+      faulty = subst (IsMapFault t written object at.0) (sym c.in-Err-Fault.fault-is) (faulty at.0 at.1);
+    }
+
+pub loop-object-preserved : goal.loop-object-preserved
+loop-object-preserved g c =
+    let t : TableValue = c.args.table.now in
+    let written : Written = g.M.MapStyle.written c.args.style.now in
+    let items = c.in_ok-push-in-Ok.ensures.items in
+    record {
+      count = ap length items ∙ omega (arith, length-append c.loop-object.texts.items (c.in-Ok.text ∷ []), c.loop-object.invariant.count);
+      each = subst (λ xs. EachMap t written (map (λ m. m.items) xs)) (sym items)
+          (more_maps t written c.loop-object.texts.items c.loop-object.object c.in-Ok.text c.loop-object.invariant.count c.loop-object.invariant.each c.in-Ok.ensures.text);
+    }

@@ -1,0 +1,58 @@
+use Rattle.std.proofs.Common.{◌≡◌, ℕ, ◌+◌, List, [], ◌∷◌, ◌++◌, length, take, Option, Some, refl, subst, sym}
+use Rattle.std.specs.Prelude.{slice_get}
+use Rattle.std.specs.Option.{option_copied, option_map}
+use Rattle.std.proofs.lemmas.List.{take_all}
+use Rattle.std.proofs.lemmas.Option.{slice_get_read}
+use Rattle.ninja_text.specs.Failure.{ForFault}
+use Rattle.collate_core.specs.Values.{CollatedValue, ProjectTargetValue}
+use Rattle.collate_core.specs.Maps.{Written}
+use Rattle.collate_core.specs.Projects.{IsProject, IsLinkedRefusal}
+use Rattle.collate_core.specs.inner.Parts.{CollatesLinked}
+use Rattle.collate_core.proofs.Lists.{take_next}
+use Rattle.collate_core.proofs.LoopLemmas.{project_push, maps_of_style, refused_here}
+use Rattle.collate_core.proofs.projects.project.Goals as goal
+
+pub returns-in-Err-Fault-clause-refused : goal.returns-in-Err-Fault-clause-refused
+returns-in-Err-Fault-clause-refused g c =
+    let style : Option Written = option_map g.M.MapStyle.written (option_copied c.args.style) in
+    let targets : List ProjectTargetValue = c.args.targets.now in
+    let outs : List CollatedValue = c.loop-index.outs.items in
+    let n : ℕ = c.loop-index.index in
+    let p : ProjectTargetValue = c.index-targets-index.result in
+    let here : slice_get targets n ≡ Some p = slice_get_read targets _ n _ refl c.loop-index-test.true c.index-targets-index.is in
+    refused_here style targets n outs p c.loop-index.invariant here _
+    (subst (IsLinkedRefusal style outs (length outs) p) (sym c.in-Err-Fault.refusal-is)
+    (subst (ForFault (IsLinkedRefusal style outs (length outs) p)) c.in-Err-Fault.field-0-is (rw (← c.deref.ensures.value) c.in-Err-Fault.ensures.refused)))
+
+pub loop-index-preserved : goal.loop-index-preserved
+loop-index-preserved g c =
+    let style : Option Written = option_map g.M.MapStyle.written (option_copied c.args.style) in
+    let targets : List ProjectTargetValue = c.args.targets.now in
+    let n : ℕ = c.loop-index.index in
+    let p : ProjectTargetValue = c.index-targets-index.result in
+    let here : slice_get targets n ≡ Some p = slice_get_read targets _ n _ refl c.loop-index-test.true c.index-targets-index.is in
+    let next : take (n + 1) targets ≡ take n targets ++ p ∷ [] = take_next targets n p here in
+    let found : CollatesLinked style c.loop-index.outs.items p c.in-Ok.out = rw c.deref.ensures.value at c.in-Ok.ensures.collated in
+    rw (next, c.in_ok-push-in-Ok.ensures.items) (project_push style (take n targets) c.loop-index.outs.items c.loop-index.invariant p c.in-Ok.out found.0 found.1)
+
+pub returns-clause-collated : goal.returns-clause-collated
+returns-clause-collated g c = subst (λ (ts : List ProjectTargetValue). IsProject (option_map g.M.MapStyle.written (option_copied c.args.style)) ts c.loop-index.outs.items) (take_all c.loop-index.index c.args.targets.now c.loop-index-test.false) c.loop-index.invariant
+
+pub returns-clause-orders : goal.returns-clause-orders
+returns-clause-orders g c = c.project_orders.ensures.orders _ _ _ (returns-clause-collated g c)
+
+pub returns-clause-numbered : goal.returns-clause-numbered
+returns-clause-numbered g c = c.project_orders.ensures.numbered _ _ _ (returns-clause-collated g c)
+
+pub returns-clause-orderable : goal.returns-clause-orderable
+returns-clause-orderable g c = c.project_orders.ensures.orderable _ _ _ (returns-clause-collated g c)
+
+pub returns-clause-maps : goal.returns-clause-maps
+returns-clause-maps g c =
+    maps_of_style (option_copied c.args.style) g.M.MapStyle.written g.M.MapStyle.kept g.M.MapStyle.entries
+    (λ s. record {
+      reads_back = λ m text is e. g.met.M.MapStyle.reads_back s m text is e;
+      reads_only = λ text found e. g.met.M.MapStyle.reads_only s text found e;
+      keeps_pairs = λ m is. g.met.M.MapStyle.keeps_pairs s m is;
+    })
+    c.project_maps.ensures.maps c.args.targets.now c.loop-index.outs.items (returns-clause-collated g c)

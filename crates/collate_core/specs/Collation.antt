@@ -1,0 +1,49 @@
+-- What a target collates to.
+use Rattle.std.specs.Prelude.{◌≡◌, ℕ, List, [], length, map, slice_get, Option, Some, None, Ok, All}
+use Rattle.ninja_text.specs.Paths.{IsPath}
+use Rattle.dyndep_file.specs.StatementValue.{StatementValue}
+use Rattle.dyndep_file.specs.WriteFaults.{write_fault, paths_of}
+use Rattle.dyndep_file.specs.Reading.{StandsForOnly}
+use Rattle.scan_docs.specs.Scan.{RuleValue}
+use Rattle.scan_docs.specs.InfoText.{info_text, ReadsBack}
+use Rattle.module_table.specs.TableValue.{TableValue}
+use Rattle.collate_core.specs.Values.{TargetValue, CollatedValue, ModuleMapValue}
+use Rattle.collate_core.specs.Documents.{table_of, IsResolved}
+use Rattle.collate_core.specs.Statements.{statements_of}
+use Rattle.collate_core.specs.Infos.{info_of_table}
+use Rattle.collate_core.specs.Maps.{IsMapOf, Written}
+
+-- all paths of the statement are canonical
+abbrev pub HasPaths : StatementValue → Type 0
+HasPaths s = All IsPath (paths_of s)
+
+-- the text is what the style writes for the object's map
+abbrev pub IsMapText : TableValue → Written → ℕ → RuleValue → List ℕ → Type 0
+IsMapText t written object rule text =
+    (m : ModuleMapValue) × IsMapOf t object rule m × (written m ≡ Ok text)
+
+-- with a style, one text an object, that of its map; without one, none
+abbrev pub AreMaps : TableValue → Option Written → List (List ℕ) → Type 0
+AreMaps t None texts = texts ≡ []
+AreMaps t (Some written) texts =
+    (length texts ≡ length t.objects)
+    × ((o : ℕ) (rule : RuleValue) (text : List ℕ) →
+    slice_get t.objects o ≡ Some rule → slice_get texts o ≡ Some text →
+    IsMapText t written o rule text)
+
+-- The documents of the target are accepted, their table has no fault, and what is written is the
+-- table's.
+pub record Collates (target : TargetValue) (style : Option Written)
+    (c : CollatedValue) : Type 0 where
+  pub resolved : IsResolved target
+  -- every build line keeps the limit
+  pub fits : write_fault (statements_of (table_of target)) ≡ None
+  -- the dyndep text stands for one statement an object, in order, and for no others
+  pub dyndep : StandsForOnly c.dyndep (statements_of (table_of target))
+  -- whose paths are canonical
+  pub canonical : All HasPaths (statements_of (table_of target))
+  pub objects : c.objects ≡ map (λ rule. rule.object) (table_of target).objects
+  pub info : c.info ≡ info_text (info_of_table target.name target.kept (table_of target))
+  -- which is read as the same info, unless it is too long
+  pub info_reads : ReadsBack (info_of_table target.name target.kept (table_of target)) c.info
+  pub maps : AreMaps (table_of target) style c.maps

@@ -1,0 +1,87 @@
+-- Laws of collated targets and projects.
+use Rattle.std.specs.Prelude.{◌≡◌, ◌↔◌, ℕ, List, slice_get, Option, Some}
+use Rattle.module_table.specs.TableValue.{TableValue}
+use Rattle.module_table.specs.Needed.{IsNeeded}
+use Rattle.module_table.specs.Outcomes.{IsSameFault}
+use Rattle.module_table.specs.declared.fault.TableFault.{TableFault}
+use Rattle.collate_core.specs.Values.{TargetValue, CollatedValue, ModuleMapValue, ProjectTargetValue}
+use Rattle.collate_core.specs.Maps.{Written, Entries, AreStyleLaws}
+use Rattle.collate_core.specs.Collation.{Collates}
+use Rattle.collate_core.specs.Headline.{IsHeadline}
+use Rattle.collate_core.specs.Refusals.{IsRefusal}
+use Rattle.collate_core.specs.Projects.{IsProject, IsProjectRefusal, project_tables}
+use Rattle.collate_core.specs.ProjectOrders.{AllOrders, IsProjectOrdered, EndIsOrderable}
+use Rattle.collate_core.specs.ProjectNeeds.{IsProjectNeeded, AddedApart, MapsReadBack}
+use Rattle.collate_core.specs.declared.fault.Refusal.{Refusal}
+use Rattle.collate_core.specs.declared.fault.Refusal.TheVariants.{Table}
+use Rattle.collate_core.specs.declared.module_map.MapEntry.{MapEntry}
+
+-- whatever a target collates to has the headline
+abbrev pub HeadlineHolds : Type 0
+HeadlineHolds = (target : TargetValue) (style : Option Written) (c : CollatedValue) →
+    Collates target style c → IsHeadline target c
+
+-- a target that collates has no refusal
+abbrev pub CollatedIsNotRefused : Type 0
+CollatedIsNotRefused =
+    (target : TargetValue) (style : Option Written) (c : CollatedValue) (refusal : Refusal) →
+    Collates target style c → IsRefusal target style refusal → ⊥
+
+-- One refusal: the same kind, index and data. Of a ring it is the same list of objects.
+pub data IsSameRefusal : Refusal → Refusal → Type 0 where
+  same_refusal : {refusal : Refusal} → IsSameRefusal refusal refusal
+  same_fault : {fault other : TableFault} →
+      IsSameFault fault other → IsSameRefusal (Table fault) (Table other)
+
+-- a target has one refusal at most
+abbrev pub OneRefusal : Type 0
+OneRefusal = (target : TargetValue) (style : Option Written) (refusal other : Refusal) →
+    IsRefusal target style refusal → IsRefusal target style other → IsSameRefusal refusal other
+
+-- a project whose targets all collate has no refusal
+abbrev pub ProjectIsNotRefused : Type 0
+ProjectIsNotRefused =
+    (style : Option Written) (targets : List ProjectTargetValue) (outs : List CollatedValue)
+    (n : ℕ) (refusal : Refusal) →
+    IsProject style targets outs → IsProjectRefusal style targets n refusal → ⊥
+
+-- of each project, files of its targets may be applied in any order
+abbrev pub ProjectOrders : Type 0
+ProjectOrders =
+    (style : Option Written) (targets : List ProjectTargetValue) (outs : List CollatedValue) →
+    IsProject style targets outs → AllOrders (project_tables targets outs)
+
+-- of each project, one numbering of all objects puts the maker of each required file below its user
+abbrev pub ProjectNumbered : Type 0
+ProjectNumbered =
+    (style : Option Written) (targets : List ProjectTargetValue) (outs : List CollatedValue) →
+    IsProject style targets outs → IsProjectOrdered targets (project_tables targets outs)
+
+-- Of each project, a numbering of the graph with the added outputs alone that has the targets one
+-- above the other is enough for an order after all targets.
+abbrev pub ProjectEndOrderable : Type 0
+ProjectEndOrderable =
+    (style : Option Written) (targets : List ProjectTargetValue) (outs : List CollatedValue) →
+    IsProject style targets outs → EndIsOrderable (project_tables targets outs)
+
+-- what an object needs in the table of its target is what it needs in the project
+abbrev pub SameNeeds : List ProjectTargetValue → List TableValue → Type 0
+SameNeeds targets tables =
+    (n o : ℕ) (t : TableValue) (name file : List ℕ) → slice_get tables n ≡ Some t →
+    IsNeeded t o name file ↔ IsProjectNeeded targets tables n o name file
+
+-- so it is in each project in which no file is added by two targets
+abbrev pub ProjectNeeds : Type 0
+ProjectNeeds =
+    (style : Option Written) (targets : List ProjectTargetValue) (outs : List CollatedValue) →
+    IsProject style targets outs → AddedApart (project_tables targets outs) →
+    SameNeeds targets (project_tables targets outs)
+
+-- of each project, every style reads the objects' maps back
+abbrev pub ProjectMaps : Type 0
+ProjectMaps =
+    (written : Written) (kept : ModuleMapValue → List MapEntry) (entries : Entries) →
+    AreStyleLaws written kept entries →
+    (targets : List ProjectTargetValue) (outs : List CollatedValue) →
+    IsProject (Some written) targets outs →
+    MapsReadBack entries targets (project_tables targets outs) outs

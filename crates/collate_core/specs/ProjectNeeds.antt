@@ -1,0 +1,52 @@
+-- What an object needs in a project, and the maps that tell it.
+use Rattle.std.specs.Prelude.{◌≡◌, ℕ, List, ◌++◌, slice_get, Some, Ok}
+use Rattle.scan_docs.specs.Scan.{RuleValue}
+use Rattle.build_effect.specs.Premises.{AddsAt}
+use Rattle.module_table.specs.TableValue.{TableValue}
+use Rattle.module_table.specs.Modules.{Requires}
+use Rattle.module_table.specs.Needed.{ArePairs}
+use Rattle.collate_core.specs.Values.{CollatedValue, ProjectTargetValue}
+use Rattle.collate_core.specs.Statements.{statements_of}
+use Rattle.collate_core.specs.Maps.{Entries, AreEntriesOf}
+use Rattle.collate_core.specs.ProjectOrders.{ProjectProvides}
+use Rattle.collate_core.specs.declared.module_map.MapEntry.{MapEntry}
+
+-- The name is at the end of a chain of names from object o of target n, each required by the object
+-- that provides the one before it, and looked up from that object's own target.
+pub data IsProjectNeeded (targets : List ProjectTargetValue) (tables : List TableValue) :
+    ℕ → ℕ → List ℕ → List ℕ → Type 0 where
+  direct : {n o m p : ℕ} {t : TableValue} {name file : List ℕ} →
+      slice_get tables n ≡ Some t → Requires t o name →
+      ProjectProvides targets tables n m p name file →
+      IsProjectNeeded targets tables n o name file
+  onward : {n o m p : ℕ} {t : TableValue} {first name between file : List ℕ} →
+      slice_get tables n ≡ Some t → Requires t o first →
+      ProjectProvides targets tables n m p first between →
+      IsProjectNeeded targets tables m p name file → IsProjectNeeded targets tables n o name file
+
+-- no file is added by two targets
+abbrev pub AddedApart : List TableValue → Type 0
+AddedApart tables =
+    (n m k l i j : ℕ) (t u : TableValue) (file : List ℕ) →
+    slice_get tables n ≡ Some t → slice_get tables m ≡ Some u →
+    AddsAt (statements_of t) k i file → AddsAt (statements_of u) l j file → n ≡ m
+
+-- The text is read as entries whose paths are those of the provided pairs and of all that object o
+-- of target n needs, in byte order of names.
+pub record MapReadsBack (entries : Entries) (targets : List ProjectTargetValue)
+    (tables : List TableValue) (n o : ℕ) (rule : RuleValue) (text : List ℕ) : Type 0 where
+  pub needed : List (List ℕ × List ℕ)
+  pub found : List MapEntry
+  pub are_needed : ArePairs (IsProjectNeeded targets tables n o) needed
+  pub reads : entries text ≡ Ok found
+  pub are_entries : AreEntriesOf (rule.provided ++ needed) found
+
+-- where no file is added by two targets, the style reads each object's map back
+abbrev pub MapsReadBack : Entries → List ProjectTargetValue → List TableValue →
+    List CollatedValue → Type 0
+MapsReadBack entries targets tables outs =
+    AddedApart tables →
+    (n o : ℕ) (c : CollatedValue) (t : TableValue) (rule : RuleValue) (text : List ℕ) →
+    slice_get outs n ≡ Some c → slice_get tables n ≡ Some t →
+    slice_get t.objects o ≡ Some rule → slice_get c.maps o ≡ Some text →
+    MapReadsBack entries targets tables n o rule text

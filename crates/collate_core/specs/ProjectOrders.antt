@@ -1,0 +1,84 @@
+-- What the dyndep files of a project do to a build, in any order.
+use Rattle.std.specs.Prelude.{◌≡◌, ◌⊎◌, ℕ, ◌<◌, List, length, map, slice_get, Some, Contains}
+use Rattle.std.specs.List.{zip}
+use Rattle.dyndep_file.specs.StatementValue.{StatementValue}
+use Rattle.dep_order.specs.Needs.{IsOrderable}
+use Rattle.build_effect.specs.EdgeValue.{EdgeValue}
+use Rattle.build_effect.specs.Graphs.{EdgeNeeds}
+use Rattle.build_effect.specs.Files.{NamedFile, FilesMeet, AreFileIndices, Applies, GainsExactly, SameFiles}
+use Rattle.build_effect.specs.Numbering.{HasOutputsOnly, IsRisingNumbering, rank_at}
+use Rattle.module_table.specs.TableValue.{TableValue}
+use Rattle.module_table.specs.Modules.{Provides, Requires, IsProvided}
+use Rattle.collate_core.specs.Values.{ProjectTargetValue}
+use Rattle.collate_core.specs.Statements.{statements_of}
+
+-- a dyndep file of statements whose paths are canonical
+abbrev pub dyndep_file : List ℕ → List StatementValue → NamedFile
+dyndep_file name statements = record {
+  name = name;
+  statements = statements;
+  additions = statements;
+}
+
+-- the dyndep files of the targets under these names
+abbrev pub dyndep_files : List (List ℕ) → List TableValue → List NamedFile
+dyndep_files names tables = map (λ x. dyndep_file x.0 (statements_of x.1)) (zip names tables)
+
+-- On graphs that name each file on exactly its target's objects, any order of any targets' files
+-- ends in the graph in which the edge of each object of those targets has gained exactly its own,
+-- and all orders end alike.
+pub record AllOrders (tables : List TableValue) : Type 0 where
+  pub gains : (g : List EdgeValue) (names : List (List ℕ)) (order : List ℕ) →
+      length names ≡ length tables → FilesMeet g (dyndep_files names tables) →
+      AreFileIndices (dyndep_files names tables) order →
+      (new : List EdgeValue) × Applies (dyndep_files names tables) g order new
+      × GainsExactly (dyndep_files names tables) g order new
+  pub alike : (g : List EdgeValue) (names : List (List ℕ)) (order other : List ℕ)
+      (new last : List EdgeValue) →
+      length names ≡ length tables → FilesMeet g (dyndep_files names tables) →
+      AreFileIndices (dyndep_files names tables) order →
+      AreFileIndices (dyndep_files names tables) other → SameFiles order other →
+      Applies (dyndep_files names tables) g order new →
+      Applies (dyndep_files names tables) g other last → new ≡ last
+
+-- ---- one order of all objects
+
+-- target m is seen from target n: it is the same, or n links it
+abbrev pub Sees : List ProjectTargetValue → ℕ → ℕ → Type 0
+Sees targets n m =
+    (n ≡ m) ⊎ ((p : ProjectTargetValue) × (slice_get targets n ≡ Some p) × Contains p.linked m)
+
+-- object p of target m, which is seen from target n, provides the name with the file
+abbrev pub ProjectProvides : List ProjectTargetValue → List TableValue →
+    ℕ → ℕ → ℕ → List ℕ → List ℕ → Type 0
+ProjectProvides targets tables n m p name file =
+    (t : TableValue) × (j : ℕ) × Sees targets n m × (slice_get tables m ≡ Some t)
+    × Provides t p j name file
+
+-- Every name that an object requires is provided, and one numbering of all objects puts the maker
+-- of its file below its user.
+pub record IsProjectOrdered (targets : List ProjectTargetValue)
+    (tables : List TableValue) : Type 0 where
+  pub files : (n o : ℕ) (t : TableValue) (name : List ℕ) →
+      slice_get tables n ≡ Some t → Requires t o name → (file : List ℕ) × IsProvided t name file
+  pub ranks : List (List ℕ)
+  pub below : (n o : ℕ) (t : TableValue) (name file : List ℕ) →
+      slice_get tables n ≡ Some t → Requires t o name → IsProvided t name file →
+      (m : ℕ) × (p : ℕ) × ProjectProvides targets tables n m p name file
+      × (rank_at ranks m p < rank_at ranks n o)
+
+-- ---- the graph after all targets
+
+-- Where some numbering of the graph with the added outputs alone puts each needed edge below its
+-- user, and gives the edges of each target one number, and those of a later target none that is
+-- smaller, the end of all targets in any order can be ordered.
+abbrev pub EndIsOrderable : List TableValue → Type 0
+EndIsOrderable tables =
+    (g : List EdgeValue) (names : List (List ℕ)) (order : List ℕ)
+    (h : List EdgeValue) (ranks : List ℕ) (new : List EdgeValue) →
+    length names ≡ length tables → FilesMeet g (dyndep_files names tables) →
+    HasOutputsOnly (dyndep_files names tables) g h →
+    IsRisingNumbering (dyndep_files names tables) g h ranks →
+    ((n : ℕ) → n < length tables → Contains order n) →
+    AreFileIndices (dyndep_files names tables) order →
+    Applies (dyndep_files names tables) g order new → IsOrderable (length new) (EdgeNeeds new)

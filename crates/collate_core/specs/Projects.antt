@@ -1,0 +1,60 @@
+-- Projects: targets that link earlier ones.
+use Rattle.std.specs.Prelude.{◌≡◌, ◌⊎◌, ℕ, ◌<◌, List, [], length, map, take, slice_get, Option, Some, All}
+use Rattle.std.specs.Option.{option_map_or}
+use Rattle.module_table.specs.TableValue.{TableValue}
+use Rattle.collate_core.specs.Values.{TargetValue, CollatedValue, ProjectTargetValue}
+use Rattle.collate_core.specs.Documents.{table_of}
+use Rattle.collate_core.specs.Maps.{Written}
+use Rattle.collate_core.specs.Collation.{Collates}
+use Rattle.collate_core.specs.Refusals.{IsRefusal}
+use Rattle.collate_core.specs.declared.fault.Refusal.{Refusal}
+use Rattle.collate_core.specs.declared.fault.Refusal.TheVariants.{LinkedLater}
+
+-- the infos that the targets of these indexes wrote
+abbrev pub linked_infos : List CollatedValue → List ℕ → List (List ℕ)
+linked_infos outs linked = map (λ k. option_map_or (λ c. c.info) (slice_get outs k) []) linked
+
+-- the target with the infos that the linked ones wrote
+abbrev pub target_of : List CollatedValue → ProjectTargetValue → TargetValue
+target_of outs p = record {
+  name = p.name;
+  setting = p.setting;
+  scans = p.scans;
+  infos = linked_infos outs p.linked;
+  kept = p.kept;
+}
+
+-- the tables of the targets
+abbrev pub project_tables : List ProjectTargetValue → List CollatedValue → List TableValue
+project_tables targets outs = map (λ p. table_of (target_of outs p)) targets
+
+-- The targets collate to these, one after another, each with the infos that the linked ones wrote,
+-- all of which are earlier.
+pub record IsProject (style : Option Written) (targets : List ProjectTargetValue)
+    (outs : List CollatedValue) : Type 0 where
+  pub count : length outs ≡ length targets
+  pub earlier : (n : ℕ) (p : ProjectTargetValue) →
+      slice_get targets n ≡ Some p → All (λ k. k < n) p.linked
+  pub each : (n : ℕ) (p : ProjectTargetValue) (c : CollatedValue) →
+      slice_get targets n ≡ Some p → slice_get outs n ≡ Some c →
+      Collates (target_of outs p) style c
+
+-- ---- refusals
+
+-- all targets that this one links are before this index
+abbrev pub LinksEarlier : ℕ → ProjectTargetValue → Type 0
+LinksEarlier n p = All (λ k. k < n) p.linked
+
+-- The refusal of the target of this index, after these: it links one that is not earlier, or else
+-- what collating it answers.
+abbrev pub IsLinkedRefusal : Option Written → List CollatedValue → ℕ → ProjectTargetValue →
+    Refusal → Type 0
+IsLinkedRefusal style outs n p refusal =
+    ((LinksEarlier n p → ⊥) × (refusal ≡ LinkedLater))
+    ⊎ (LinksEarlier n p × IsRefusal (target_of outs p) style refusal)
+
+-- the refusal of the first target that has one: those before it collate
+abbrev pub IsProjectRefusal : Option Written → List ProjectTargetValue → ℕ → Refusal → Type 0
+IsProjectRefusal style targets n refusal =
+    (outs : List CollatedValue) × (p : ProjectTargetValue) × IsProject style (take n targets) outs
+    × (slice_get targets n ≡ Some p) × IsLinkedRefusal style outs n p refusal

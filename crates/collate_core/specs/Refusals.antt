@@ -1,0 +1,89 @@
+-- The refusal that `collate` reports: the first fault in its order.
+use Rattle.std.specs.Prelude.{◌≡◌, ◌⊎◌, ℕ, ◌+◌, ◌<◌, List, length, take, slice_get, Option, Some, None, Err, All}
+use Rattle.dyndep_file.specs.WriteFaults.{write_fault}
+use Rattle.dyndep_file.specs.declared.writing.WriteFault.TheVariants as write
+use Rattle.scan_docs.specs.Document.{IsRefused}
+use Rattle.scan_docs.specs.Scan.{SettingValue, RuleValue}
+use Rattle.scan_docs.specs.ScanChecks.{scan_checks}
+use Rattle.scan_docs.specs.InfoChecks.{info_checks}
+use Rattle.scan_docs.specs.declared.fault.DocFault.{DocFault}
+use Rattle.scan_docs.specs.declared.fault.DocFault.TheVariants.{TooLarge}
+use Rattle.scan_docs.specs.declared.fault.Place.TheVariants.{Document}
+use Rattle.module_table.specs.TableValue.{TableValue}
+use Rattle.module_table.specs.Faults.{IsTold}
+use Rattle.collate_core.specs.Values.{TargetValue, ModuleMapValue}
+use Rattle.collate_core.specs.Documents.{IsScanAccepted, IsInfoAccepted, AreScansAccepted, AreAccepted, IsResolved, all_rules, rule_limit, table_of}
+use Rattle.collate_core.specs.Statements.{statements_of}
+use Rattle.collate_core.specs.Maps.{IsMapOf, Written}
+use Rattle.collate_core.specs.Collation.{IsMapText}
+use Rattle.collate_core.specs.declared.fault.Refusal.{Refusal}
+use Rattle.collate_core.specs.declared.fault.Refusal.TheVariants.{Scan, Info, Table, StatementTooLong, Map, LinkedLater}
+use Rattle.collate_core.specs.declared.module_map.MapFault.{MapFault}
+
+-- the scan document of this index is refused by itself, or takes the rules past the limit
+abbrev pub IsScanFault : SettingValue → List (List ℕ) → ℕ → List ℕ → DocFault → Type 0
+IsScanFault s scans i scan fault =
+    IsRefused (scan_checks s) scan fault
+    ⊎ (IsScanAccepted s scan × (rule_limit < length (all_rules s (take (i + 1) scans)))
+    × (fault ≡ TooLarge Document))
+
+-- The scan document of this index is the first that is faulty, and this is its fault.
+pub record IsScanRefusal (s : SettingValue) (scans : List (List ℕ)) (i : ℕ)
+    (fault : DocFault) : Type 0 where
+  pub before : AreScansAccepted s (take i scans)
+  pub scan : List ℕ
+  pub here : slice_get scans i ≡ Some scan
+  pub faulty : IsScanFault s scans i scan fault
+
+-- The info document of this index is the first that is refused, and this is its fault.
+pub record IsInfoRefusal (infos : List (List ℕ)) (i : ℕ) (fault : DocFault) : Type 0 where
+  pub before : All IsInfoAccepted (take i infos)
+  pub info : List ℕ
+  pub here : slice_get infos i ≡ Some info
+  pub faulty : IsRefused info_checks info fault
+
+-- the object's map is refused with this fault
+abbrev pub IsMapFault : TableValue → Written → ℕ → RuleValue → MapFault → Type 0
+IsMapFault t written o rule fault =
+    (m : ModuleMapValue) × IsMapOf t o rule m × (written m ≡ Err fault)
+
+-- an object's map is written
+abbrev pub IsMapWritten : TableValue → Written → ℕ → RuleValue → Type 0
+IsMapWritten t written o rule = (text : List ℕ) × IsMapText t written o rule text
+
+-- The map of the object of this index is the first that is refused, and this is its fault.
+pub record IsMapRefusal (t : TableValue) (written : Written) (o : ℕ)
+    (fault : MapFault) : Type 0 where
+  pub before : (p : ℕ) (earlier : RuleValue) →
+      p < o → slice_get t.objects p ≡ Some earlier → IsMapWritten t written p earlier
+  pub rule : RuleValue
+  pub here : slice_get t.objects o ≡ Some rule
+  pub faulty : IsMapFault t written o rule fault
+
+-- all build lines of the target's statements keep the limit
+abbrev pub AllFit : TargetValue → Type 0
+AllFit target = write_fault (statements_of (table_of target)) ≡ None
+
+-- the first build line that does not is that of this statement
+abbrev pub IsTooLong : TargetValue → ℕ → Type 0
+IsTooLong target k =
+    write_fault (statements_of (table_of target)) ≡ Some (write.StatementTooLong k)
+
+-- The refusal is the one that is reported: each is looked for only where none of those above it is.
+abbrev pub IsRefusal : TargetValue → Option Written → Refusal → Type 0
+-- the first faulty scan document
+IsRefusal target style (Scan i fault) = IsScanRefusal target.setting target.scans i fault
+-- the first faulty info
+IsRefusal target style (Info i fault) =
+    AreScansAccepted target.setting target.scans × IsInfoRefusal target.infos i fault
+-- the table's fault
+IsRefusal target style (Table fault) =
+    AreAccepted target × IsTold (table_of target) target.kept fault
+-- the first statement with too long a build line
+IsRefusal target style (StatementTooLong k) = IsResolved target × IsTooLong target k
+-- with a style, the first object whose map is refused
+IsRefusal target None (Map o fault) = ⊥
+IsRefusal target (Some written) (Map o fault) =
+    IsResolved target × AllFit target × IsMapRefusal (table_of target) written o fault
+-- of a target by itself there is no other
+IsRefusal target style LinkedLater = ⊥

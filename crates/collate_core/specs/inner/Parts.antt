@@ -1,0 +1,59 @@
+-- What the parts of collating promise one another: definitions for private clauses.
+use Rattle.std.specs.Prelude.{◌≡◌, ℕ, ◌<◌, List, length, Option, Some, All}
+use Rattle.ninja_text.specs.Paths.{IsPath}
+use Rattle.ninja_text.specs.Escapes.{IsWritable}
+use Rattle.dyndep_file.specs.StatementValue.{StatementValue}
+use Rattle.dyndep_file.specs.WriteFaults.{write_fault, paths_of}
+use Rattle.dyndep_file.specs.declared.writing.WriteFault.TheVariants as write
+use Rattle.scan_docs.specs.Scan.{IsRuleText}
+use Rattle.scan_docs.specs.InfoText.{IsInfoText}
+use Rattle.scan_docs.specs.declared.fault.DocFault.{DocFault}
+use Rattle.module_table.specs.TableValue.{TableValue}
+use Rattle.collate_core.specs.Values.{CollatedValue, ProjectTargetValue}
+use Rattle.collate_core.specs.Maps.{Written}
+use Rattle.collate_core.specs.Collation.{Collates}
+use Rattle.collate_core.specs.Refusals.{IsMapRefusal}
+use Rattle.collate_core.specs.Projects.{target_of, LinksEarlier}
+use Rattle.collate_core.specs.declared.fault.Refusal.{Refusal}
+use Rattle.collate_core.specs.declared.fault.Refusal.TheVariants.{Scan, Info, StatementTooLong, Map}
+
+-- All paths of the rules and infos are text.
+pub record IsTableText (t : TableValue) : Type 0 where
+  pub objects : All IsRuleText t.objects
+  pub infos : All IsInfoText t.infos
+
+-- a canonical path, and so one that has a spelling
+pub record IsSpelled (path : List ℕ) : Type 0 where
+  pub canonical : IsPath path
+  pub writable : IsWritable path
+
+-- all paths of the statement are such
+abbrev pub HasSpelled : StatementValue → Type 0
+HasSpelled s = All IsSpelled (paths_of s)
+
+-- the refusal is of a scan document, and this holds of its index and its fault
+abbrev pub ForScan : (ℕ → DocFault → Type 0) → Refusal → Type 0
+ForScan P (Scan index fault) = P index fault
+ForScan P other = ⊥
+
+-- the refusal is of an info document, and this holds of its index and its fault
+abbrev pub ForInfo : (ℕ → DocFault → Type 0) → Refusal → Type 0
+ForInfo P (Info index fault) = P index fault
+ForInfo P other = ⊥
+
+-- the refusal is of the statements' build lines
+abbrev pub IsWriteRefusal : List StatementValue → Refusal → Type 0
+IsWriteRefusal statements (StatementTooLong k) =
+    write_fault statements ≡ Some (write.StatementTooLong k)
+IsWriteRefusal statements refusal = ⊥
+
+-- the refusal is of the objects' maps
+abbrev pub IsMapsRefusal : TableValue → Option Written → Refusal → Type 0
+IsMapsRefusal t (Some written) (Map o fault) = IsMapRefusal t written o fault
+IsMapsRefusal t style refusal = ⊥
+
+-- all targets that this one links are among those that wrote these, and it collates to this
+abbrev pub CollatesLinked : Option Written → List CollatedValue → ProjectTargetValue →
+    CollatedValue → Type 0
+CollatesLinked style outs p c =
+    LinksEarlier (length outs) p × Collates (target_of outs p) style c

@@ -1,0 +1,4 @@
+pub mod LineLemmas
+pub mod GccLemmas
+pub mod ClangLemmas
+pub mod BareLemmas

@@ -1,0 +1,48 @@
+//! The order of a graph after the effect of a collated target.
+ghost use Rattle.std.specs.Prelude.{List, length, IfOk, IfErr};
+ghost use Rattle.ninja_text.specs.Failure.{ForFault};
+ghost use Rattle.dep_order.specs.Sortings.{IsSortingOf};
+ghost use Rattle.build_effect.specs.EdgeValue.{EdgeValue};
+ghost use Rattle.build_effect.specs.Graphs.{EdgeNeeds};
+ghost use Rattle.collate_core.specs.Rehearsal.{HasEffect, LacksEffect, IsOrderedAt};
+
+use crate::collated::Collated;
+use crate::fault::RehearseFault;
+use crate::rehearsal::rehearse;
+use build_effect::{EffectFault, Graph, edge_order, level_orders, one_effect};
+use dep_order::Sorting;
+use ninja_text::{Failure, Path};
+use std::alloc::Global;
+
+/// The order of the edges of the graph after the effect of the collated target's dyndep file, which
+/// has that name, or the least cycle; or why the file has no effect on the graph.
+///
+/// Where the graph meets the headline's premises, and with the added outputs alone it has a
+/// numbering that puts each needed edge below its user, gives the edges of all objects one number,
+/// and each edge that makes a linked file a smaller one, the answer is an order.
+pub fn check_edges(
+    alloc: Global,
+    collated: &Collated,
+    name: &Path,
+    graph: &Graph,
+) -> Result<Sorting, Failure<EffectFault>>
+    ensures sorted { IfOk result (λ sorting.
+        (new : List EdgeValue) × HasEffect collated.now.dyndep name.now graph.now new
+        × IsSortingOf (length new) (EdgeNeeds new) sorting) }
+    ensures ordered { IfOk result (IsOrderedAt collated.now name.now graph.now) }
+    ensures fault { IfErr result (ForFault (LacksEffect collated.now.dyndep name.now graph.now)) }
+{
+    one_effect();
+    level_orders();
+    match rehearse(alloc, collated.dyndep(), name, graph, &[]) {
+        Ok(new) => match edge_order(alloc, &new) {
+            Ok(sorting) => Ok(sorting),
+            Err(_) => Err(Failure::Memory),
+        },
+        Err(Failure::Memory) => Err(Failure::Memory),
+        Err(Failure::Fault(fault)) => match fault {
+            RehearseFault::Effect { fault } => Err(Failure::Fault(fault)),
+            RehearseFault::Read { fault: _ } => unreachable!(),
+        },
+    }
+}

@@ -1,0 +1,125 @@
+//! What a target collates to.
+ghost use Rattle.std.specs.Prelude.{◌≡◌, map};
+ghost use Rattle.collate_core.specs.Headline.{HasStatements};
+
+use ninja_text::Path;
+use std::marker::Model;
+
+/// What a target collates to: the text of its dyndep file, that of its info, its objects, and with
+/// a style the text of a map for each. Only [`collate`](crate::collate) and
+/// [`project`](crate::project) make one.
+#[derive(Drop)]
+pub struct Collated {
+    dyndep: Vec<u8>,
+    info: Vec<u8>,
+    objects: Vec<Path>,
+    maps: Vec<Vec<u8>>,
+}
+
+/// The parts of a collated target, given up.
+#[derive(Drop)]
+pub struct CollatedParts {
+    /// The text of the dyndep file.
+    pub dyndep: Vec<u8>,
+    /// The text of the info.
+    pub info: Vec<u8>,
+    /// The objects, by index.
+    pub objects: Vec<Path>,
+    /// With a style, the text of each object's map; without one, none.
+    pub maps: Vec<Vec<u8>>,
+}
+
+impl Model for Collated {
+    ghost use Rattle.std.specs.Prelude.{map};
+    ghost use Rattle.collate_core.specs.Values.{CollatedValue};
+    ghost use Rattle.collate_core.specs.Headline.{HasStatements};
+
+    ghost Value = { CollatedValue };
+
+    ghost view = { λ c. record {
+      dyndep = c.dyndep.items;
+      info = c.info.items;
+      objects = c.objects.items;
+      maps = map (λ m. m.items) c.maps.items;
+    } };
+
+    ghost invariant = { λ c. HasStatements (record {
+      dyndep = c.dyndep.items;
+      info = c.info.items;
+      objects = c.objects.items;
+      maps = map (λ m. m.items) c.maps.items;
+    }) };
+}
+
+impl Collated {
+    pub(crate) fn new(
+        dyndep: Vec<u8>,
+        info: Vec<u8>,
+        objects: Vec<Path>,
+        maps: Vec<Vec<u8>>,
+    ) -> Self
+        requires { HasStatements (record {
+          dyndep = dyndep.items;
+          info = info.items;
+          objects = objects.items;
+          maps = map (λ m. m.items) maps.items;
+        }) }
+        ensures { result ≡ record {
+          dyndep = dyndep.items;
+          info = info.items;
+          objects = objects.items;
+          maps = map (λ m. m.items) maps.items;
+        } }
+    {
+        Collated {
+            dyndep,
+            info,
+            objects,
+            maps,
+        }
+    }
+
+    /// The text of the dyndep file.
+    pub fn dyndep(&self) -> &[u8]
+        ensures bytes { result.now ≡ self.now.dyndep }
+        ensures statements { HasStatements self.now }
+    {
+        &self.dyndep
+    }
+
+    /// The text of the info.
+    pub fn info(&self) -> &[u8]
+        ensures { result.now ≡ self.now.info }
+    {
+        &self.info
+    }
+
+    /// The objects, by index.
+    pub fn objects(&self) -> &[Path]
+        ensures { result.now ≡ self.now.objects }
+    {
+        &self.objects
+    }
+
+    /// With a style, the text of each object's map; without one, none.
+    pub fn maps(&self) -> &[Vec<u8>]
+        ensures { map (λ m. m.items) result.now ≡ self.now.maps }
+    {
+        &self.maps
+    }
+
+    /// Gives up the parts, so that the texts can be written from where they lie, with no copy.
+    pub fn into_parts(self) -> CollatedParts
+        ensures dyndep { result.dyndep.items ≡ self.dyndep }
+        ensures info { result.info.items ≡ self.info }
+        ensures objects { result.objects.items ≡ self.objects }
+        ensures maps { map (λ m. m.items) result.maps.items ≡ self.maps }
+    {
+        CollatedParts {
+            dyndep: self.dyndep,
+            info: self.info,
+            objects: self.objects,
+            maps: self.maps,
+        }
+    }
+}

@@ -1,0 +1,94 @@
+//! Collating a target.
+ghost use Rattle.std.specs.Prelude.{◌≡◌, map, IfOk, IfErr};
+ghost use Rattle.std.specs.Option.{option_copied, option_map};
+ghost use Rattle.ninja_text.specs.Failure.{ForFault};
+ghost use Rattle.collate_core.specs.Collation.{Collates};
+ghost use Rattle.collate_core.specs.Headline.{IsHeadline};
+ghost use Rattle.collate_core.specs.Refusals.{IsRefusal};
+
+use crate::collated::Collated;
+use crate::fault::Refusal;
+use crate::info::info_text_of;
+use crate::laws::headline;
+use crate::map_style::MapStyle;
+use crate::object_maps::maps_of;
+use crate::statements::{statements_of, text_of};
+use crate::table::table_of;
+use crate::target::{Target, TargetParts};
+use module_table::{Table, added_files};
+use ninja_text::{Failure, Path};
+use std::alloc::{AllocError, Global};
+
+/// Collates a target: its documents make a table, and the objects of the table make the dyndep
+/// file, the info and, with a style, a map for each object (P1689R5 for the scan documents, the
+/// Ninja 1.11 manual, "Dynamic dependencies", for the dyndep file).
+///
+/// It succeeds exactly where the target has no [`Refusal`], want of memory aside, and else reports
+/// the first in the order of that type; [`one_outcome`](crate::one_outcome) says so of both.
+/// What is answered has the headline: whatever build names the dyndep file on exactly the objects,
+/// the file adds to each object's edge exactly what the object provides and requires.
+pub fn collate<M: MapStyle>(
+    alloc: Global,
+    target: &Target,
+    style: Option<&M>,
+) -> Result<Collated, Failure<Refusal>>
+    ensures collated { IfOk result
+        (Collates target.now (option_map M.written (option_copied style.entry))) }
+    ensures headline { IfOk result (IsHeadline target.now) }
+    ensures refused { IfErr result (ForFault (IsRefusal target.now
+        (option_map M.written (option_copied style.entry)))) }
+{
+    headline();
+    let infos = lend_all(alloc, &target.infos)?;
+    let parts = TargetParts {
+        name: &target.name,
+        setting: &target.setting,
+        scans: &target.scans,
+        infos: &infos,
+        kept: &target.kept,
+    };
+    collate_documents(alloc, &parts, style)
+}
+
+/// The documents, lent.
+fn lend_all(alloc: Global, documents: &[Vec<u8>]) -> Result<Vec<&[u8]>, AllocError>
+    ensures { IfOk result (λ lent. map (λ d. d.now) lent.items ≡ map (λ d. d.items) documents.now) }
+{
+    let mut lent = Vec::with_capacity(alloc, documents.len())?;
+    for document in documents {
+        lent.push(document.as_slice())?;
+    }
+    Ok(lent)
+}
+
+/// Collates the target of these parts.
+pub(crate) fn collate_documents<M: MapStyle>(
+    alloc: Global,
+    target: &TargetParts<'_>,
+    style: Option<&M>,
+) -> Result<Collated, Failure<Refusal>>
+    ensures collated { IfOk result
+        (Collates target.now (option_map M.written (option_copied style.entry))) }
+    ensures refused { IfErr result (ForFault (IsRefusal target.now
+        (option_map M.written (option_copied style.entry)))) }
+{
+    let table = table_of(alloc, target)?;
+    let statements = statements_of(alloc, &table)?;
+    let text = text_of(alloc, &statements)?;
+    let maps = maps_of(alloc, &table, style)?;
+    let info = info_text_of(alloc, target.name, target.kept, &table)?;
+    let objects = objects_of(alloc, &table)?;
+    added_files();
+    Ok(Collated::new(text, info, objects, maps))
+}
+
+/// The objects of a table.
+fn objects_of(alloc: Global, table: &Table) -> Result<Vec<Path>, AllocError>
+    ensures { IfOk result (λ objects. objects.items ≡ map (λ rule. rule.object) table.now.objects) }
+{
+    let mut objects = Vec::new(alloc);
+    for rule in table.objects() {
+        objects.push(rule.object.copy(alloc)?)?;
+    }
+    Ok(objects)
+}

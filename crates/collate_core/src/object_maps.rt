@@ -1,0 +1,93 @@
+//! The maps of a table's objects.
+ghost use Rattle.std.specs.Prelude.{◌≡◌, ◌<◌, ℕ, List, length, map, slice_get, Some, IfOk, IfErr};
+ghost use Rattle.std.specs.Option.{option_copied, option_map};
+ghost use Rattle.ninja_text.specs.Failure.{ForFault};
+ghost use Rattle.scan_docs.specs.Scan.{RuleValue};
+ghost use Rattle.collate_core.specs.Maps.{IsMapOf};
+ghost use Rattle.collate_core.specs.Collation.{AreMaps, IsMapText};
+ghost use Rattle.collate_core.specs.Refusals.{IsMapFault};
+ghost use Rattle.collate_core.specs.inner.Parts.{IsMapsRefusal};
+
+use crate::fault::Refusal;
+use crate::map_style::MapStyle;
+use crate::module_map::{MapFault, ModuleMap};
+use crate::pairs::copy_pairs;
+use module_table::Table;
+use ninja_text::Failure;
+use std::alloc::{AllocError, Global};
+
+/// With a style, the text of each object's map, or the first that is refused; without one, none.
+pub(crate) fn maps_of<M: MapStyle>(
+    alloc: Global,
+    table: &Table,
+    style: Option<&M>,
+) -> Result<Vec<Vec<u8>>, Failure<Refusal>>
+    ensures maps { IfOk result (λ maps.
+        AreMaps table.now (option_map M.written (option_copied style.entry))
+        (map (λ m. m.items) maps.items)) }
+    ensures refused { IfErr result (ForFault (IsMapsRefusal table.now
+        (option_map M.written (option_copied style.entry)))) }
+{
+    match style {
+        None => Ok(Vec::new(alloc)),
+        Some(style) => texts_of(alloc, table, style),
+    }
+}
+
+/// The text of each object's map, or the first that is refused.
+fn texts_of<M: MapStyle>(
+    alloc: Global,
+    table: &Table,
+    style: &M,
+) -> Result<Vec<Vec<u8>>, Failure<Refusal>>
+    ensures maps { IfOk result (λ maps.
+        AreMaps table.now (Some (M.written style.now)) (map (λ m. m.items) maps.items)) }
+    ensures refused { IfErr result
+        (ForFault (IsMapsRefusal table.now (Some (M.written style.now)))) }
+{
+    let mut texts = Vec::new(alloc);
+    for object in 0..table.objects().len() {
+        match text_of(alloc, table, object, style) {
+            Ok(text) => texts.push(text)?,
+            Err(Failure::Memory) => return Err(Failure::Memory),
+            Err(Failure::Fault(fault)) => {
+                return Err(Failure::Fault(Refusal::Map { object, fault }));
+            }
+        }
+    }
+    Ok(texts)
+}
+
+/// The text of an object's map.
+fn text_of<M: MapStyle>(
+    alloc: Global,
+    table: &Table,
+    object: usize,
+    style: &M,
+) -> Result<Vec<u8>, Failure<MapFault>>
+    requires { object < length table.now.objects }
+    ensures text { IfOk result
+        (λ text. (rule : RuleValue) → slice_get table.now.objects object ≡ Some rule →
+        IsMapText table.now (M.written style.now) object rule text.items) }
+    ensures fault { IfErr result (ForFault (λ fault.
+        (rule : RuleValue) → slice_get table.now.objects object ≡ Some rule →
+        IsMapFault table.now (M.written style.now) object rule fault)) }
+{
+    let map = map_of(alloc, table, object)?;
+    style.write(alloc, &map)
+}
+
+/// The map of an object.
+fn map_of(alloc: Global, table: &Table, object: usize) -> Result<ModuleMap, AllocError>
+    requires { object < length table.now.objects }
+    ensures { IfOk result
+        (λ map. (rule : RuleValue) → slice_get table.now.objects object ≡ Some rule →
+        IsMapOf table.now object rule map) }
+{
+    let provided = copy_pairs(alloc, table.provided(object))?;
+    let needed = table.needed(alloc, object)?;
+    match ModuleMap::new(provided, needed) {
+        Some(map) => Ok(map),
+        None => unreachable!(),
+    }
+}

@@ -1,0 +1,152 @@
+//! Projects: targets that link earlier ones.
+ghost use Rattle.std.specs.Prelude.{◌≡◌, ◌↔◌, ◌<◌, List, IfOk, IfErr, IfSome, IsTrue, All, map, length};
+ghost use Rattle.std.specs.Option.{option_copied, option_map};
+ghost use Rattle.ninja_text.specs.Failure.{ForFault};
+ghost use Rattle.collate_core.specs.Projects.{IsProject, IsProjectRefusal, IsLinkedRefusal, linked_infos, project_tables};
+ghost use Rattle.collate_core.specs.ProjectOrders.{AllOrders, IsProjectOrdered, EndIsOrderable};
+ghost use Rattle.collate_core.specs.ProjectNeeds.{MapsReadBack};
+ghost use Rattle.collate_core.specs.inner.Parts.{CollatesLinked};
+
+use crate::collated::Collated;
+use crate::collating::collate_documents;
+use crate::fault::Refusal;
+use crate::laws::{project_maps, project_orders};
+use crate::map_style::MapStyle;
+use crate::target::TargetParts;
+use ninja_text::Failure;
+use scan_docs::{Name, Setting, TargetName};
+use std::alloc::{AllocError, Global};
+use std::marker::Model;
+
+/// A target of a project, with its scan documents as bytes, which links earlier ones by index.
+#[derive(Drop)]
+pub struct ProjectTarget {
+    pub name: TargetName,
+    pub setting: Setting,
+    pub scans: Vec<Vec<u8>>,
+    /// The indexes of the targets that it links, all of which are to be earlier.
+    pub linked: Vec<usize>,
+    /// The names of the modules that it keeps to itself. A name may be listed twice.
+    pub kept: Vec<Name>,
+}
+
+impl Model for ProjectTarget {
+    ghost use Rattle.std.specs.Prelude.{map};
+    ghost use Rattle.collate_core.specs.Values.{ProjectTargetValue};
+
+    ghost Value = { ProjectTargetValue };
+
+    ghost view = { λ t. record {
+      name = t.name;
+      setting = t.setting;
+      scans = map (λ s. s.items) t.scans.items;
+      linked = t.linked.items;
+      kept = t.kept.items;
+    } };
+}
+
+/// The collated targets of a project, in order.
+#[derive(Drop)]
+pub struct ProjectOut {
+    pub targets: Vec<Collated>,
+}
+
+/// Collates the targets of a project in order, each with the infos that the targets which it links
+/// wrote, in the order of `linked`.
+///
+/// The refusal is that of the first target that has one, with the target's index:
+/// [`Refusal::LinkedLater`] before that target's others, else the one that
+/// [`collate`](crate::collate) reports.
+pub fn project<M: MapStyle>(
+    alloc: Global,
+    targets: &[ProjectTarget],
+    style: Option<&M>,
+) -> Result<ProjectOut, Failure<(usize, Refusal)>>
+    ensures collated { IfOk result (λ out.
+        IsProject (option_map M.written (option_copied style.entry))
+        targets.now out.targets.items) }
+    // the dyndep files may be applied in any order, and all orders end alike
+    ensures orders { IfOk result (λ out. AllOrders (project_tables targets.now out.targets.items)) }
+    // one numbering of all objects puts the maker of each required file below its user
+    ensures numbered { IfOk result (λ out.
+        IsProjectOrdered targets.now (project_tables targets.now out.targets.items)) }
+    // the style reads in each object's map what the object provides and needs in the project
+    ensures maps { IfOk result (λ out. IfSome (option_copied style.entry) (λ s.
+        MapsReadBack (M.entries s) targets.now
+        (project_tables targets.now out.targets.items) out.targets.items)) }
+    // the graph after all dyndep files can be ordered
+    ensures orderable { IfOk result
+        (λ out. EndIsOrderable (project_tables targets.now out.targets.items)) }
+    ensures refused { IfErr result (ForFault (λ refused.
+        IsProjectRefusal (option_map M.written (option_copied style.entry))
+        targets.now refused.0 refused.1)) }
+{
+    project_orders();
+    project_maps();
+    let mut outs = Vec::new(alloc);
+    for (index, target) in targets.iter().enumerate() {
+        match collate_linked(alloc, target, &outs, style) {
+            Ok(out) => outs.push(out)?,
+            Err(Failure::Memory) => return Err(Failure::Memory),
+            Err(Failure::Fault(refusal)) => return Err(Failure::Fault((index, refusal))),
+        }
+    }
+    Ok(ProjectOut { targets: outs })
+}
+
+/// Whether all indexes are below this one.
+fn are_below(indexes: &[usize], bound: usize) -> bool
+    ensures { IsTrue result ↔ All (λ k. k < bound) indexes.now }
+{
+    for index in indexes {
+        if *index >= bound {
+            return false;
+        }
+    }
+    true
+}
+
+/// The infos that the targets of these indexes wrote.
+fn infos_of<'a>(
+    alloc: Global,
+    linked: &[usize],
+    outs: &'a [Collated],
+) -> Result<Vec<&'a [u8]>, AllocError>
+    requires { All (λ k. k < length outs.now) linked.now }
+    ensures { IfOk result
+        (λ infos. map (λ s. s.now) infos.items ≡ linked_infos outs.now linked.now) }
+{
+    let mut infos = Vec::with_capacity(alloc, linked.len())?;
+    for target in linked {
+        infos.push(outs[*target].info())?;
+    }
+    Ok(infos)
+}
+
+/// Collates a target with the infos that the targets which it links wrote, all of which are to be
+/// among those given.
+fn collate_linked<M: MapStyle>(
+    alloc: Global,
+    target: &ProjectTarget,
+    outs: &[Collated],
+    style: Option<&M>,
+) -> Result<Collated, Failure<Refusal>>
+    ensures collated { IfOk result (CollatesLinked
+        (option_map M.written (option_copied style.entry)) outs.now target.now) }
+    ensures refused { IfErr result (ForFault (IsLinkedRefusal
+        (option_map M.written (option_copied style.entry))
+        outs.now (length outs.now) target.now)) }
+{
+    if !are_below(&target.linked, outs.len()) {
+        return Err(Failure::Fault(Refusal::LinkedLater));
+    }
+    let infos = infos_of(alloc, &target.linked, outs)?;
+    let parts = TargetParts {
+        name: &target.name,
+        setting: &target.setting,
+        scans: &target.scans,
+        infos: &infos,
+        kept: &target.kept,
+    };
+    collate_documents(alloc, &parts, style)
+}
