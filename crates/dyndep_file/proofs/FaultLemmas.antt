@@ -1,158 +1,34 @@
 -- What the reader refuses with is the first fault in the bytes.
-use Rattle.std.proofs.Common.{inl, inr, ◌≡◌, ℕ, ◌<◌, ◌≤◌, Bool, true, false, List, [], ◌∷◌, ◌++◌, length, take, drop, refl, sym, ap, ◌∙◌, subst, append_assoc, Some, None, Ok, Err, arith}
-use Rattle.std.specs.Prelude.{Option, Result, nat_le}
+use Rattle.std.proofs.Common.{inl, inr, ◌≡◌, ℕ, ◌<◌, ◌≤◌, List, [], ◌∷◌, ◌++◌, length, take, drop, refl, sym, ap, ◌∙◌, subst, append_assoc, Option, Some, None, Ok, Err, arith}
+use Rattle.std.specs.Prelude.{Result}
 use Rattle.std.specs.Option.{option_and_then}
-use Rattle.std.specs.List.{flat_map, AllByRecursion}
+use Rattle.std.specs.List.{flat_map}
 use Rattle.std.proofs.lemmas.List.{append-nil, take-append-drop, length-take-le}
 use Rattle.std.proofs.lemmas.Grind.{flat_map-append}
-use Rattle.std.proofs.lemmas.Bool.{cases_Bool, leb-true, cases_lt, lt-ltb, le-ltb}
-use Rattle.ninja_text.specs.Lines.{LineEnd, line_end, IsLine, Divides, LogicalLine, text_of, is_comment}
-use Rattle.ninja_text.specs.Cutting.{CutterState, Cuts, feed_outcome, feed_outcome_at, Feeds, waiting_line}
-use Rattle.ninja_text.specs.declared.faults.CutFault.{CutFault}
-use Rattle.ninja_text.specs.declared.faults.CutFault.TheVariants.{LineTooLong, Truncated}
-use Rattle.ninja_text.proofs.LinesForCallers.{end_fits, line_end-append, line_end-take, front_is_line, AllByRecursion-append, take_shorter}
-use Rattle.dyndep_file.specs.Classes.{Class, IsOfClass}
-use Rattle.ninja_text.specs.Lines.{line_limit}
+use Rattle.std.proofs.lemmas.Bool.{lt-ltb, le-ltb}
+use Rattle.ninja_text.specs.Lines.{line_limit, LineEnd, line_end, IsLine, LogicalLine, logical_line, text_of, is_comment}
+use Rattle.ninja_text.specs.LineReading.{LeadTo, BeginsWith, IsTooLong, IsNextFault, HasFailureBehind, LinesRead, HasLentAll, FeedsLines, EndsLines}
+use Rattle.ninja_text.specs.declared.failure.Failure.{Failure}
+use Rattle.ninja_text.specs.declared.failure.Failure.TheVariants.{Fault, Memory}
+use Rattle.ninja_text.proofs.LinesForCallers.{end_fits, front_is_line, AllByRecursion-append, too_long}
+use Rattle.dyndep_file.specs.Classes.{Class, IsOfClass, TextIsOfClass}
 use Rattle.dyndep_file.specs.Faults.{line_fault, text_line_fault, stage_after}
 use Rattle.dyndep_file.specs.Steps.{ProgressValue, step, run}
 use Rattle.dyndep_file.specs.Reading.{IsFaultyAfter}
-use Rattle.dyndep_file.specs.Reader.{IsStateAfter, IsFaultIn, IsFailureIn, fault_of_cutter, failure_of_cutter, AreTextsOfClasses}
-use Rattle.dyndep_file.specs.LineReading.{ReadsLine}
-use Rattle.dyndep_file.specs.declared.faults.ReadFault.TheVariants.{AtLine, Io}
-use Rattle.ninja_text.specs.declared.failure.Failure.{Failure}
-use Rattle.ninja_text.specs.declared.failure.Failure.TheVariants.{Fault, Memory as NoMemory}
+use Rattle.dyndep_file.specs.Reader.{Reader, HasRead, Reads, Ends, IsFaultAtEnd, IsFaultIn, IsFailureIn, fault_of_cutter, AreTextsOfClasses}
+use Rattle.dyndep_file.specs.LineStates.{PassesLine, RefusesLine, answer_at_end}
+use Rattle.dyndep_file.specs.StatementValue.{StatementValue}
+use Rattle.dyndep_file.specs.ProgressViews.{progress_value}
+use Rattle.dyndep_file.specs.declared.progress.Progress.{Progress}
 use Rattle.dyndep_file.specs.declared.faults.ReadFault.{ReadFault}
+use Rattle.dyndep_file.specs.declared.faults.ReadFault.TheVariants.{AtLine, Io}
 use Rattle.dyndep_file.specs.declared.faults.LineFault.{LineFault}
-use Rattle.dyndep_file.specs.declared.progress.Stage.TheVariants.{BeforeVersion}
 use Rattle.dyndep_file.specs.declared.faults.LineFault.TheVariants as lines
+use Rattle.dyndep_file.specs.declared.progress.Stage.{Stage}
+use Rattle.dyndep_file.specs.declared.progress.Stage.TheVariants.{BeforeVersion, NoneOpen, Open}
 use Rattle.dyndep_file.proofs.TableLemmas.{no_fault}
 use Rattle.dyndep_file.proofs.Runs.{runs_begin, begins_runs, run_more, stage_runs}
-use Rattle.dyndep_file.proofs.EndLemmas.{lines_classed, working, is_working, working_state, classed_lines, divided_lines}
-
--- a line whose end is not within the limit is too long
-too_long : (bytes : List ℕ) (e : LineEnd) → line_end (take line_limit bytes) ≡ None → line_end bytes ≡ Some e → line_limit < e.line_len
-too_long bytes e none some = elim (cases_lt line_limit e.line_len) [
-  | inl lt ↦ lt
-  | inr le ↦
-      let front = line_end-take bytes e some in
-      let shorter : take e.line_len (take line_limit bytes) ≡ take e.line_len bytes = take_shorter e.line_len line_limit bytes le in
-      let found : line_end (take line_limit bytes) ≡ Some e =
-      ap line_end (sym (take-append-drop e.line_len (take line_limit bytes)) ∙ ap (λ x. x ++ drop e.line_len (take line_limit bytes)) shorter)
-      ∙ line_end-append (take e.line_len bytes) (drop e.line_len (take line_limit bytes)) e front in
-      absurd (let clash : ◌≡◌ {A = Option LineEnd} None (Some e) = sym none ∙ found in cc)
-]
-
-module _ (front rest all : List ℕ) (number : ℕ) (held : List ℕ) (progress : ProgressValue) (split : front ++ rest ≡ all)
-    (state : IsStateAfter front (working number held) progress)
-    (none : line_end (take line_limit (held ++ rest)) ≡ None) (full : line_limit ≤ length (held ++ rest)) where
-  -- the bytes before are divided into the lines lent and what the cutter holds
-  divided : Divides front state.cuts.lines held
-  divided = divided_lines front number held progress state
-
-  -- all bytes are the lines lent, what the cutter holds, and the rest
-  whole : all ≡ flat_map (λ l. l) state.cuts.lines ++ (held ++ rest)
-  whole = sym split ∙ ap (λ f. f ++ rest) divided.whole ∙ append_assoc (flat_map (λ l. l) state.cuts.lines) held rest
-
-  -- bytes at the limit without an end within it are the fault of the text, whether an end follows or not
-  fault_at_limit : (o : Option LineEnd) → line_end (held ++ rest) ≡ o → IsFaultIn all (fault_of_cutter (LineTooLong number))
-  fault_at_limit None e = inr (
-    record {
-      lines = state.cuts.lines;
-      rest = held ++ rest;
-      classes = state.classes;
-      divided = record { whole = whole; each = divided.each; partial = e };
-      classed = classed_lines front number held progress state;
-      begun = runs_begin state.classes progress state.ran;
-      number = state.cuts.number;
-      reason = full;
-    },
-    refl,
-  )
-  fault_at_limit (Some e) h =
-      let line = take e.line_len (held ++ rest) in
-      let fits = end_fits (held ++ rest) e h in
-      let len : length line ≡ e.line_len = length-take-le e.line_len (held ++ rest) (omega (arith, fits.within)) in
-      let long : line_limit < length line = omega (arith, too_long (held ++ rest) e none h) in
-      inl (record {
-        before = state.cuts.lines;
-        line = line;
-        after = drop e.line_len (held ++ rest);
-        classes = state.classes;
-        whole = whole ∙ ap (λ x. flat_map (λ l. l) state.cuts.lines ++ x) (sym (take-append-drop e.line_len (held ++ rest))) ∙ sym (append_assoc (flat_map (λ l. l) state.cuts.lines) line _)
-            ∙ ap (λ x. x ++ drop e.line_len (held ++ rest)) (sym (flat_map-append (λ l. l) state.cuts.lines (line ∷ []) ∙ ap (λ x. flat_map (λ l. l) state.cuts.lines ++ x) (append-nil line)));
-        each = AllByRecursion-append IsLine state.cuts.lines (line ∷ []) divided.each (front_is_line (held ++ rest) e h, tt);
-        classed = classed_lines front number held progress state;
-        begun = runs_begin state.classes progress state.ran;
-        faulty = λ c is _. omega (arith, short_enough line c is, long);
-        number = state.cuts.number;
-        reason = refused line long;
-      }) where
-        short_enough : (line : List ℕ) (c : Class) → IsOfClass line c → length line ≤ line_limit
-        short_enough line c is = is.0
-
-        refused : (line : List ℕ) → line_limit < length line → line_fault (stage_after state.classes) line ≡ Some lines.LineTooLong
-        refused line long = rw (lt-ltb line_limit (length line) long) refl
-
--- a feed refuses a line as too long where there is no end and the bytes reach the limit; by the first end of a line
-too_long_up_to : (h : CutterState) (piece : List ℕ) (l : ℕ) (new : CutterState) (o : Option LineEnd) → feed_outcome_at h piece o ≡ (Err (LineTooLong l), new)
-    → (o ≡ None) × (line_limit ≤ length (h.bytes ++ piece)) × (l ≡ h.number)
-too_long_up_to h piece l new (Some e) is = absurd (let x : ◌≡◌ {A = Result ℕ CutFault} (Ok _) (Err (LineTooLong l)) = ap (λ p. p.0) is in cc)
-too_long_up_to h piece l new None is = elim (cases_Bool (nat_le line_limit (length (h.bytes ++ piece)))) [
-  | inl t ↦ (refl, leb-true line_limit (length (h.bytes ++ piece)) t, let x : ◌≡◌ {A = Result ℕ CutFault} (Err (LineTooLong h.number)) (Err (LineTooLong l)) = ap (λ p. p.0) (rw t at is) in cc)
-  | inr f ↦ absurd (let x : ◌≡◌ {A = Result ℕ CutFault} (Ok _) (Err (LineTooLong l)) = ap (λ p. p.0) (rw f at is) in cc)
-]
-
--- the same, of a working cutter's feed
-too_long_at_work : (number : ℕ) (bytes piece : List ℕ) (l : ℕ) (new : CutterState) → feed_outcome (working number bytes) piece ≡ (Err (LineTooLong l), new)
-    → (line_end (take line_limit (bytes ++ piece)) ≡ None) × (line_limit ≤ length (bytes ++ piece)) × (l ≡ number)
-too_long_at_work number bytes piece l new is = too_long_up_to (working number bytes) piece l new (line_end (take line_limit (bytes ++ piece))) is
-
--- a feed refuses no line as truncated; by the first end of a line
-never_truncated_up_to : (h : CutterState) (piece : List ℕ) (l : ℕ) (new : CutterState) (o : Option LineEnd) → feed_outcome_at h piece o ≡ (Err (Truncated l), new) → ⊥
-never_truncated_up_to h piece l new (Some e) is = let x : ◌≡◌ {A = Result ℕ CutFault} (Ok _) (Err (Truncated l)) = ap (λ p. p.0) is in cc
-never_truncated_up_to h piece l new None is = elim (cases_Bool (nat_le line_limit (length (h.bytes ++ piece)))) [
-  | inl t ↦ let x : ◌≡◌ {A = Result ℕ CutFault} (Err (LineTooLong h.number)) (Err (Truncated l)) = ap (λ p. p.0) (rw t at is) in cc
-  | inr f ↦ let x : ◌≡◌ {A = Result ℕ CutFault} (Ok _) (Err (Truncated l)) = ap (λ p. p.0) (rw f at is) in cc
-]
-
--- the same, of a working cutter's feed
-never_truncated : (number : ℕ) (bytes piece : List ℕ) (l : ℕ) (new : CutterState) → feed_outcome (working number bytes) piece ≡ (Err (Truncated l), new) → ⊥
-never_truncated number bytes piece l new is = never_truncated_up_to (working number bytes) piece l new (line_end (take line_limit (bytes ++ piece))) is
-
--- the fault that the cutter finds is in the bytes
-pub fault_fed : (front rest all : List ℕ) (h : CutterState) (progress : ProgressValue) (e : CutFault) (new : CutterState) → front ++ rest ≡ all → IsStateAfter front h progress
-    → Feeds h rest (Err (Fault e)) new → IsFaultIn all (fault_of_cutter e)
-fault_fed front rest all h progress (Truncated l) new split state is =
-    absurd (never_truncated h.number h.bytes rest l new (subst (λ k. feed_outcome k rest ≡ (Err (Truncated l), new)) (is_working h state.waits_not state.works) is))
-fault_fed front rest all h progress (LineTooLong l) new split state is =
-    let t = too_long_at_work h.number h.bytes rest l new (subst (λ k. feed_outcome k rest ≡ (Err (LineTooLong l), new)) (is_working h state.waits_not state.works) is) in
-    subst (λ n. IsFaultIn all (fault_of_cutter (LineTooLong n))) (sym t.2)
-    (fault_at_limit front rest all h.number h.bytes progress split (working_state front h progress state) t.0 t.1 (line_end (h.bytes ++ rest)) refl)
-
--- what the cutter fails with is want of memory or a fault in the bytes
-pub failure_fed : (front rest all : List ℕ) (h : CutterState) (progress : ProgressValue) (e : Failure CutFault) (new : CutterState) → front ++ rest ≡ all
-    → IsStateAfter front h progress → Feeds h rest (Err e) new → IsFailureIn all (failure_of_cutter e)
-failure_fed front rest all h progress NoMemory new split state is = tt
-failure_fed front rest all h progress (Fault fault) new split state is = fault_fed front rest all h progress fault new split state is
-
--- after a feed that succeeded a cutter has failed only if it had before; by the first end of a line
-works_up_to : (h : CutterState) (piece : List ℕ) (n : ℕ) (new : CutterState) (o : Option LineEnd) → feed_outcome_at h piece o ≡ (Ok n, new) → new.failed ≡ h.failed
-works_up_to h piece n new (Some e) is = sym (ap (λ p. p.1.failed) is)
-works_up_to h piece n new None is = elim (cases_Bool (nat_le line_limit (length (h.bytes ++ piece)))) [
-  | inl t ↦ absurd (let x : ◌≡◌ {A = Result ℕ CutFault} (Err _) (Ok n) = ap (λ p. p.0) (rw t at is) in cc)
-  | inr f ↦ sym (ap (λ p. p.1.failed) (rw f at is))
-]
-
--- a feed succeeds only where the cutter has not failed, and leaves it so
-works_fed : (number : ℕ) (bytes : List ℕ) (waits failed : Bool) (piece : List ℕ) (n : ℕ) (new : CutterState)
-    → feed_outcome (record { number = number; bytes = bytes; waits = waits; failed = failed }) piece ≡ (Ok n, new) → new.failed ≡ false
-works_fed number bytes waits true piece n new is = absurd (let x : ◌≡◌ {A = Result ℕ CutFault} (Err (LineTooLong number)) (Ok n) = ap (λ p. p.0) is in cc)
-works_fed number bytes true false piece n new is = sym (ap (λ p. p.1.failed) is)
-works_fed number bytes false false piece n new is = works_up_to (working number bytes) piece n new (line_end (take line_limit (bytes ++ piece))) is
-
--- so no cutter has failed after a feed that succeeded
-pub never_failed : (h : CutterState) (piece : List ℕ) (n : ℕ) (new : CutterState) → feed_outcome h piece ≡ (Ok n, new) → new.failed ≡ true → ⊥
-never_failed h piece n new is failed = let x : false ≡ true = sym (works_fed h.number h.bytes h.waits h.failed piece n new is) ∙ failed in cc
+use Rattle.dyndep_file.proofs.EndLemmas.{begins_classed, begins_divided, ends_truncated, ends_versionless, ends_well}
 
 -- no dyndep file goes on with a line that has a fault
 pub faulty_after : (classes : List Class) (line : List ℕ) (progress : ProgressValue) (f : LineFault) → run BeforeVersion [] classes ≡ Some progress
@@ -166,44 +42,196 @@ faulty_after classes line progress f ran fault c is begun =
       stepped None end h = absurd (let x : ◌≡◌ {A = Option ProgressValue} None (Some end) = h in cc)
       stepped (Some next) end h = (next, refl)
 
--- the fault of the line that the cutter lends is in the bytes
-pub fault_of_line : (front taken rest all : List ℕ) (h new : CutterState) (progress : ProgressValue) (line : LogicalLine) (number : ℕ) (f : LineFault) → taken ++ rest ≡ all
-    → (state : IsStateAfter front h progress) → Cuts taken state.lent new → new.waits ≡ true → line ≡ waiting_line new → number ≡ line.number
-    → text_line_fault progress.stage line.text line.comment ≡ Some f → IsFaultIn all (AtLine number f)
-fault_of_line front taken rest all h new progress line number f split state cuts waits is at fault =
-    go new.number new.bytes new.waits new.failed waits cuts (ap (λ l. l.number) is) (ap (λ l. l.text) is) (ap (λ l. l.comment) is) where
-      go : (n : ℕ) (bytes : List ℕ) (w d : Bool) → w ≡ true → Cuts taken state.lent (record { number = n; bytes = bytes; waits = w; failed = d }) → line.number ≡ n
-          → line.text ≡ text_of bytes → line.comment ≡ is_comment bytes → IsFaultIn all (AtLine number f)
-      go n bytes false d w cuts a t c = absurd (let x : false ≡ true = w in cc)
-      go n bytes true d w cuts a t c =
-          let faulty : text_line_fault progress.stage (text_of bytes) (is_comment bytes) ≡ Some f = rw (← t, ← c) fault in
-          let halves = halved cuts.lines bytes cuts.short in
-          inl (record {
-            before = cuts.lines;
-            line = bytes;
-            after = rest;
-            classes = state.classes;
-            whole = sym split ∙ ap (λ x. x ++ rest) (cuts.divided.whole ∙ append-nil (flat_map (λ l. l) (cuts.lines ++ bytes ∷ [])));
-            each = cuts.divided.each;
-            classed = lines_classed [] cuts.lines state.classes halves.0 (subst (λ lent. AreTextsOfClasses lent state.classes) cuts.lent_are state.texts);
-            begun = runs_begin state.classes progress state.ran;
-            faulty = faulty_after state.classes bytes progress f state.ran faulty;
-            number = at ∙ a ∙ cuts.number;
-            reason = reasoned bytes halves.1 (subst (λ s. text_line_fault s (text_of bytes) (is_comment bytes) ≡ Some f) (stage_runs state.classes progress state.ran) faulty);
-          }) where
-            halved : (lines : List (List ℕ)) (line : List ℕ) → AllByRecursion (λ l. length l ≤ line_limit) (lines ++ line ∷ [])
-                → AllByRecursion (λ l. length l ≤ line_limit) lines × (length line ≤ line_limit)
-            halved [] line h = (tt, h.0)
-            halved (l ∷ lines) line h = let later = halved lines line h.1 in ((h.0, later.0), later.1)
+module _ (bytes : List ℕ) (lent : List LogicalLine) (number : ℕ) (rest : List ℕ) (classes : List Class) (progress : ProgressValue)
+    (begins : BeginsWith bytes lent number rest) (texts : AreTextsOfClasses lent classes) (ran : run BeforeVersion [] classes ≡ Some progress) where
+  -- the lines before
+  before : List ℕ
+  before = flat_map (λ l. l) begins.lines
 
-            reasoned : (line : List ℕ) → length line ≤ line_limit → text_line_fault (stage_after state.classes) (text_of line) (is_comment line) ≡ Some f
-                → line_fault (stage_after state.classes) line ≡ Some f
-            reasoned line short h = rw (le-ltb line_limit (length line) short) h
+  -- a whole line behind them, and what follows it
+  behind : (line after : List ℕ) → rest ≡ line ++ after → bytes ≡ flat_map (λ l. l) (begins.lines ++ line ∷ []) ++ after
+  behind line after h = begins.whole ∙ ap (λ x. flat_map (λ l. l) begins.lines ++ x) h ∙ sym (append_assoc (flat_map (λ l. l) begins.lines) line after)
+      ∙ ap (λ x. x ++ after) (sym (flat_map-append (λ l. l) begins.lines (line ∷ []) ∙ ap (λ x. flat_map (λ l. l) begins.lines ++ x) (append-nil line)))
 
--- what reading a line fails with is want of memory or a fault in the bytes
-pub line_refused : (front taken rest all : List ℕ) (h new : CutterState) (progress now : ProgressValue) (line : LogicalLine) (e : Failure ReadFault) → taken ++ rest ≡ all
-    → (state : IsStateAfter front h progress) → Cuts taken state.lent new → new.waits ≡ true → line ≡ waiting_line new → ReadsLine progress line (Err e) now → IsFailureIn all e
-line_refused front taken rest all h new progress now line (Fault (AtLine number f)) split state cuts waits is refused =
-    fault_of_line front taken rest all h new progress line number f split state cuts waits is refused.0 refused.1
-line_refused front taken rest all h new progress now line NoMemory split state cuts waits is refused = tt
-line_refused front taken rest all h new progress now line (Fault Io) split state cuts waits is refused = absurd refused
+  -- bytes at the limit without an end within it are the fault of the text, whether an end follows or not
+  fault_at_limit : IsTooLong rest → (o : Option LineEnd) → line_end rest ≡ o → IsFaultIn bytes (AtLine number lines.LineTooLong)
+  fault_at_limit long None e = inr (
+    record {
+      lines = begins.lines;
+      rest = rest;
+      classes = classes;
+      divided = begins_divided bytes lent number rest classes progress begins texts ran e;
+      classed = begins_classed bytes lent number rest classes progress begins texts ran;
+      begun = runs_begin classes progress ran;
+      number = begins.number_is;
+      reason = long.0;
+    },
+    refl,
+  )
+  fault_at_limit long (Some e) h =
+      let line = take e.line_len rest in
+      let fits = end_fits rest e h in
+      let len : length line ≡ e.line_len = length-take-le e.line_len rest (omega (arith, fits.within)) in
+      let past : line_limit < length line = omega (arith, too_long rest e long.1 h) in
+      inl (record {
+        before = begins.lines;
+        line = line;
+        after = drop e.line_len rest;
+        classes = classes;
+        whole = behind line (drop e.line_len rest) (sym (take-append-drop e.line_len rest));
+        each = AllByRecursion-append IsLine begins.lines (line ∷ []) begins.each (front_is_line rest e h, tt);
+        classed = begins_classed bytes lent number rest classes progress begins texts ran;
+        begun = runs_begin classes progress ran;
+        faulty = λ c is _. omega (arith, short_enough line c is, past);
+        number = begins.number_is;
+        reason = refused line past;
+      }) where
+        short_enough : (line : List ℕ) (c : Class) → IsOfClass line c → length line ≤ line_limit
+        short_enough line c is = is.0
+
+        refused : (line : List ℕ) → line_limit < length line → line_fault (stage_after classes) line ≡ Some lines.LineTooLong
+        refused line past = rw (lt-ltb line_limit (length line) past) refl
+
+  -- a line that is refused is the first faulty one
+  fault_of_line : (line after : List ℕ) (seen : LogicalLine) (n : ℕ) (f : LineFault) → rest ≡ line ++ after → IsLine line → length line ≤ line_limit
+      → seen ≡ record (logical_line [] line) { number = number } → n ≡ seen.number → text_line_fault progress.stage seen.text seen.comment ≡ Some f → IsFaultIn bytes (AtLine n f)
+  fault_of_line line after seen n f split is short same at fault =
+      let faulty : text_line_fault progress.stage (text_of line) (is_comment line) ≡ Some f = subst (λ l. text_line_fault progress.stage l.text l.comment ≡ Some f) same fault in
+      inl (record {
+        before = begins.lines;
+        line = line;
+        after = after;
+        classes = classes;
+        whole = behind line after split;
+        each = AllByRecursion-append IsLine begins.lines (line ∷ []) begins.each (is, tt);
+        classed = begins_classed bytes lent number rest classes progress begins texts ran;
+        begun = runs_begin classes progress ran;
+        faulty = faulty_after classes line progress f ran faulty;
+        number = at ∙ ap (λ l. l.number) same ∙ begins.number_is;
+        reason = reasoned line short (subst (λ s. text_line_fault s (text_of line) (is_comment line) ≡ Some f) (stage_runs classes progress ran) faulty);
+      }) where
+        reasoned : (line : List ℕ) → length line ≤ line_limit → text_line_fault (stage_after classes) (text_of line) (is_comment line) ≡ Some f
+            → line_fault (stage_after classes) line ≡ Some f
+        reasoned line short h = rw (le-ltb line_limit (length line) short) h
+
+-- the next line's fault is in the bytes
+fault_of_next : (bytes : List ℕ) (lent : List LogicalLine) (classes : List Class) (state : Progress) (f : ReadFault) → AreTextsOfClasses lent classes
+    → run BeforeVersion [] classes ≡ Some (progress_value state)
+    → IsNextFault (λ (s : Progress) line fault. RefusesLine (progress_value s) line fault) fault_of_cutter bytes lent state f → IsFaultIn bytes f
+fault_of_next bytes lent classes state f texts ran (number, rest, begins, inl t) =
+    subst (IsFaultIn bytes) (sym t.1) (fault_at_limit bytes lent number rest classes (progress_value state) begins texts ran t.0 (line_end rest) refl)
+fault_of_next bytes lent classes state (AtLine n f) texts ran (number, rest, begins, inr (line, after, split, is, short, seen, same, refused)) =
+    fault_of_line bytes lent number rest classes (progress_value state) begins texts ran line after seen n f split is short same refused.0 refused.1
+fault_of_next bytes lent classes state Io texts ran (number, rest, begins, inr (line, after, split, is, short, seen, same, refused)) = absurd refused
+
+-- the classes of lines that led on, and the statements that they gave
+pub record Led (lent : List LogicalLine) (progress : ProgressValue) : Type 0 where
+  pub classes : List Class
+  pub texts : AreTextsOfClasses lent classes
+  pub ran : run BeforeVersion [] classes ≡ Some progress
+
+-- one more line of one more class
+texts-push : (lines : List LogicalLine) (classes : List Class) (line : LogicalLine) (c : Class) → AreTextsOfClasses lines classes → TextIsOfClass line.text line.comment c
+    → AreTextsOfClasses (lines ++ line ∷ []) (classes ++ c ∷ [])
+texts-push [] [] line c texts is = (is, tt)
+texts-push [] (d ∷ classes) line c texts is = absurd texts
+texts-push (l ∷ lines) [] line c texts is = absurd texts
+texts-push (l ∷ lines) (d ∷ classes) line c texts is = (texts.0, texts-push lines classes line c texts.1 is)
+
+-- one more line that passed
+led_by : (lent : List LogicalLine) (old new : ProgressValue) (line : LogicalLine) → Led lent old → PassesLine old line new → Led (lent ++ line ∷ []) new
+led_by lent old new line led (c, is, steps) = record {
+  classes = led.classes ++ c ∷ [];
+  texts = texts-push lent led.classes line c led.texts is;
+  ran = run_more led.classes (c ∷ []) BeforeVersion [] old led.ran ∙ once (step old.stage old.statements c) steps;
+} where
+  once : (o : Option ProgressValue) → o ≡ Some new → option_and_then (λ s. run s.stage s.statements []) o ≡ Some new
+  once o e = rw e refl
+
+-- more lines that passed
+pub led_on : (lent more : List LogicalLine) (old new : Progress) → Led lent (progress_value old)
+    → LeadTo (λ (old : Progress) line new. PassesLine (progress_value old) line (progress_value new)) old more new → Led (lent ++ more) (progress_value new)
+led_on lent [] old new led same = subst (λ l. Led l (progress_value new)) (sym (append-nil lent)) (subst (λ s. Led lent (progress_value s)) (sym same) led)
+led_on lent (line ∷ more) old new led (mid, passes, on) =
+    subst (λ l. Led l (progress_value new)) (append_assoc lent (line ∷ []) more)
+    (led_on (lent ++ line ∷ []) more mid new (led_by lent (progress_value old) (progress_value mid) line led passes) on)
+
+-- what reading a piece fails with is want of memory or a fault in the bytes
+pub failure_in : (bytes : List ℕ) (lent : List LogicalLine) (old : Progress) (failure : Failure ReadFault) → Led lent (progress_value old)
+    → HasFailureBehind (λ (old : Progress) line new. PassesLine (progress_value old) line (progress_value new)) (λ (s : Progress) line fault. RefusesLine (progress_value s) line fault)
+    fault_of_cutter bytes lent old failure → IsFailureIn bytes failure
+failure_in bytes lent old (Fault f) led (more, mid, leads, next) =
+    let on = led_on lent more old mid led leads in
+    fault_of_next bytes (lent ++ more) on.classes mid f on.texts on.ran next
+failure_in bytes lent old Memory led h = tt
+
+-- the reader of lines behind the reader
+abbrev pub Lines : Type 0
+Lines = LinesRead Progress ReadFault
+
+-- the reader of that reader of lines
+abbrev pub reader_of : Lines → Reader
+reader_of r = record { cutter = r.cutter; progress = progress_value r.state; failed = r.failed }
+
+-- what was read so far, as the reader of lines has it
+pub has_lent : (bytes : List ℕ) (r : Lines) (has : HasRead bytes (reader_of r)) → HasLentAll bytes has.state.lent r
+has_lent bytes r has = record {
+  has = record { cuts = has.state.cuts; waits_not = has.state.waits_not; works = has.state.works; short = has.state.short };
+  works = has.works;
+}
+
+-- the lines so far led to the statements so far
+pub led_so_far : (bytes : List ℕ) (r : Lines) (has : HasRead bytes (reader_of r)) → Led has.state.lent (progress_value r.state)
+led_so_far bytes r has = record { classes = has.state.classes; texts = has.state.texts; ran = has.state.ran }
+
+-- what reading a piece answers and leaves
+pub fed : (bytes all : List ℕ) (old : Lines) (result : Result Unit (Failure ReadFault)) (new : Lines) → HasRead bytes (reader_of old)
+    → ((lent : List LogicalLine) → HasLentAll bytes lent old → FeedsLines (λ (old : Progress) line new. PassesLine (progress_value old) line (progress_value new))
+    (λ (s : Progress) line fault. RefusesLine (progress_value s) line fault) fault_of_cutter all lent old.state result new)
+    → Reads all result (reader_of new)
+fed bytes all old (Ok u) new has feeds =
+    let f = feeds has.state.lent (has_lent bytes old has) in
+    let led = led_on has.state.lent f.0 old.state new.state (led_so_far bytes old has) f.2 in
+    record {
+      state = record {
+        lent = has.state.lent ++ f.0;
+        classes = led.classes;
+        cuts = f.1.has.cuts;
+        waits_not = f.1.has.waits_not;
+        works = f.1.has.works;
+        short = f.1.has.short;
+        texts = led.texts;
+        ran = led.ran;
+      };
+      works = f.1.works;
+    }
+fed bytes all old (Err failure) new has feeds =
+    let f = feeds has.state.lent (has_lent bytes old has) in
+    (f.0, failure_in all has.state.lent old.state failure (led_so_far bytes old has) f.1)
+
+-- the answer by what the reader of lines ends with
+abbrev pub answer_of : Result (Progress × ℕ) (Failure ReadFault) → Result (List StatementValue) (Failure ReadFault)
+answer_of (Ok end) = answer_at_end end.0.stage end.0.statements.items end.1
+answer_of (Err failure) = Err failure
+
+-- what is answered once all of the text was fed, and all lines read
+answered : (bytes : List ℕ) (lent : List LogicalLine) (classes : List Class) (stage : Stage) (statements : List StatementValue) (line : ℕ) → BeginsWith bytes lent line []
+    → AreTextsOfClasses lent classes → run BeforeVersion [] classes ≡ Some (record { stage = stage; statements = statements }) → Ends bytes (answer_at_end stage statements line)
+answered bytes lent classes BeforeVersion statements line begins texts ran =
+    ends_versionless bytes lent line classes (record { stage = BeforeVersion; statements = statements }) begins texts ran refl
+answered bytes lent classes NoneOpen statements line begins texts ran =
+    ends_well bytes lent line classes (record { stage = NoneOpen; statements = statements }) begins texts ran (λ e. let x : NoneOpen ≡ BeforeVersion = e in cc)
+answered bytes lent classes Open statements line begins texts ran =
+    ends_well bytes lent line classes (record { stage = Open; statements = statements }) begins texts ran (λ e. let x : Open ≡ BeforeVersion = e in cc)
+
+-- what is answered at the end of all bytes fed
+pub ended : (bytes : List ℕ) (r : Lines) (result : Result (Progress × ℕ) (Failure ReadFault)) → HasRead bytes (reader_of r)
+    → ((lent : List LogicalLine) → HasLentAll bytes lent r → EndsLines fault_of_cutter bytes lent r.state result) → Ends bytes (answer_of result)
+ended bytes r (Ok end) has ends =
+    let e = ends has.state.lent (has_lent bytes r has) in
+    answered bytes has.state.lent has.state.classes end.0.stage end.0.statements.items end.1 e.1 has.state.texts (subst (λ (s : Progress). run BeforeVersion [] has.state.classes ≡ Some (progress_value s)) (sym e.0) has.state.ran)
+ended bytes r (Err (Fault f)) has ends =
+    let e = ends has.state.lent (has_lent bytes r has) in
+    subst (λ (f : ReadFault). IsFaultAtEnd bytes (Fault f)) (sym e.4)
+    (ends_truncated bytes has.state.lent e.0 e.1 has.state.classes (progress_value r.state) e.2 has.state.texts has.state.ran e.3)
+ended bytes r (Err Memory) has ends = absurd (ends has.state.lent (has_lent bytes r has))

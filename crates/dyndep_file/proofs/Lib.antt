@@ -6,7 +6,6 @@ mod ReaderRows
 mod CallRows
 pub mod Runs
 pub mod EndLemmas
-pub mod TakeLemmas
 pub mod FaultLemmas
 pub mod TableLemmas
 pub mod BuildLemmas

@@ -8,6 +8,7 @@ pub mod Faults
 pub mod BuildTokens
 pub mod Steps
 pub mod LineReading
+pub mod LineStates
 pub mod Reading
 pub mod ReadingAll
 pub mod Laws

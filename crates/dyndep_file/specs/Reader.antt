@@ -74,17 +74,7 @@ Ends bytes (Err failure) = IsFaultAtEnd bytes failure
 
 -- ---- inside the reader
 
--- What taking all of a piece answers, and which state it leaves; by all bytes taken, the piece with them.
-abbrev pub TakesAll : List ℕ → Result Unit (Failure ReadFault) → CutterState → ProgressValue → Type 0
-TakesAll bytes (Ok u) cutter progress = IsStateAfter bytes cutter progress
-TakesAll bytes (Err failure) cutter progress = IsFailureIn bytes failure
-
 -- the cutter's fault as the reader's
 abbrev pub fault_of_cutter : CutFault → ReadFault
 fault_of_cutter (cut.LineTooLong line) = AtLine line LineTooLong
 fault_of_cutter (cut.Truncated line) = AtLine line Truncated
-
--- the cutter's failure as the reader's
-abbrev pub failure_of_cutter : Failure CutFault → Failure ReadFault
-failure_of_cutter Memory = Memory
-failure_of_cutter (Fault fault) = Fault (fault_of_cutter fault)

@@ -1,13 +1,12 @@
-//! The reader of dyndep files that come in pieces: it cuts lines, reads each, and keeps the statements so far.
-ghost use Rattle.std.specs.Prelude.{◌≡◌, ℕ, ◌++◌, List, [], Some, false};
-ghost use Rattle.dyndep_file.specs.Reader.{IsStateAfter, TakesAll, Ends, failure_of_cutter, fault_of_cutter};
-ghost use Rattle.dyndep_file.specs.ProgressViews.{progress_value};
+//! The reader of dyndep files that come in pieces: lines are read one by one into the statements so far.
+ghost use Rattle.std.specs.Prelude.{◌≡◌, ℕ, ◌++◌, List, [], Some};
+ghost use Rattle.dyndep_file.specs.LineStates.{answer_at_end};
 
 use crate::faults::{LineFault, ReadFault};
 use crate::line::read_line;
 use crate::progress::{Progress, Stage};
 use crate::statement::Dyndep;
-use ninja_text::{CutFault, Failure, LineCutter};
+use ninja_text::{CutFault, Failure, Line, LineReader, LineState};
 use std::alloc::Global;
 use std::marker::Model;
 
@@ -16,10 +15,7 @@ use std::marker::Model;
 /// A piece may end anywhere, within a continuation or between CR and LF too: the answer is that for the whole text.
 #[derive(Drop)]
 pub struct DyndepReader {
-    alloc: Global,
-    cutter: LineCutter,
-    progress: Progress,
-    failed: Option<Failure<ReadFault>>,
+    lines: LineReader<Progress, ReadFault>,
 }
 
 impl Model for DyndepReader {
@@ -29,14 +25,10 @@ impl Model for DyndepReader {
     ghost Value = { Reader };
 
     ghost view = { reader_value };
-
-    ghost use Rattle.std.specs.Prelude.{◌≡◌, false};
-
-    ghost invariant = { λ r. r.cutter.waits ≡ false };
 }
 
 impl DyndepReader {
-    ghost use Rattle.dyndep_file.specs.Reader.{HasRead, Reads};
+    ghost use Rattle.dyndep_file.specs.Reader.{HasRead, Reads, Ends};
     ghost use Rattle.dyndep_file.specs.declared.faults.ReadFault.{ReadFault};
     ghost use Rattle.ninja_text.specs.declared.failure.Failure.{Failure};
 
@@ -44,14 +36,12 @@ impl DyndepReader {
     pub fn new(alloc: Global) -> DyndepReader
         ensures { HasRead [] result }
     {
+        let progress = Progress {
+            stage: Stage::BeforeVersion,
+            statements: Vec::new(alloc),
+        };
         DyndepReader {
-            alloc,
-            cutter: LineCutter::new(alloc),
-            progress: Progress {
-                stage: Stage::BeforeVersion,
-                statements: Vec::new(alloc),
-            },
-            failed: None,
+            lines: LineReader::new(alloc, progress),
         }
     }
 
@@ -64,16 +54,7 @@ impl DyndepReader {
         // Whatever bytes it was fed before this piece.
         ensures all { (bytes : List ℕ) → HasRead bytes self.old → Reads (bytes ++ piece.now) result self.new }
     {
-        if let Some(failure) = self.failed {
-            return Err(failure);
-        }
-        match take_all(self.alloc, &mut self.cutter, &mut self.progress, piece) {
-            Ok(()) => Ok(()),
-            Err(failure) => {
-                self.failed = Some(failure);
-                Err(failure)
-            }
-        }
+        self.lines.feed(piece)
     }
 
     /// The statements of the text, once all of it was fed.
@@ -84,89 +65,54 @@ impl DyndepReader {
         ensures failed { (failure : Failure ReadFault) → self.failed ≡ Some failure → result ≡ Err failure }
         ensures all { (bytes : List ℕ) → HasRead bytes self → Ends bytes result }
     {
-        let DyndepReader {
-            alloc: _,
-            cutter,
-            progress,
-            failed,
-        } = self;
-        if let Some(failure) = failed {
-            return Err(failure);
+        match self.lines.finish() {
+            Ok((progress, next_line)) => answer_at_end(progress, next_line),
+            Err(failure) => Err(failure),
         }
-        end_of(&cutter, progress)
     }
 }
 
-/// The statements of a text whose whole lines were all read, or the fault of its end.
-fn end_of(cutter: &LineCutter, progress: Progress) -> Result<Dyndep, Failure<ReadFault>>
-    requires { cutter.now.waits ≡ false }
-    ensures { (bytes : List ℕ) → IsStateAfter bytes cutter.now (progress_value progress) → Ends bytes result }
+/// The statements of a text whose lines were all read, if a version line was among them; else the fault, at the next line.
+fn answer_at_end(progress: Progress, next_line: u64) -> Result<Dyndep, Failure<ReadFault>>
+    ensures { result ≡ answer_at_end progress.stage progress.statements.items next_line }
 {
-    if let Err(fault) = cutter.finish() {
-        return Err(Failure::Fault(cut_fault(fault)));
-    }
     let Progress { stage, statements } = progress;
     match stage {
         Stage::BeforeVersion => Err(Failure::Fault(ReadFault::AtLine {
-            line: cutter.number(),
+            line: next_line,
             fault: LineFault::NoVersion,
         })),
         Stage::NoneOpen | Stage::Open => Ok(Dyndep { statements }),
     }
 }
 
-/// Feeds the cutter the whole piece, and reads each line that the cutter lends.
-fn take_all(
-    alloc: Global,
-    cutter: &mut LineCutter,
-    progress: &mut Progress,
-    piece: &[u8],
-) -> Result<(), Failure<ReadFault>>
-    requires { cutter.old.waits ≡ false }
-    ensures waits_not { cutter.new.waits ≡ false }
-    ensures all { (bytes : List ℕ) → IsStateAfter bytes cutter.old (progress_value progress.old) → TakesAll (bytes ++ piece.now) result cutter.new (progress_value progress.new) }
-{
-    let mut rest = piece;
-    while !rest.is_empty() {
-        let taken = match cutter.feed(rest) {
-            Ok(taken) => taken,
-            Err(failure) => return Err(cut_failure(failure)),
-        };
-        rest = &rest[taken..];
-        match cutter.next_line() {
-            Err(fault) => return Err(Failure::Fault(cut_fault(fault))),
-            Ok(None) => {}
-            Ok(Some(line)) => match read_line(alloc, progress, line) {
-                Ok(()) => {}
-                Err(failure) => return Err(failure),
+impl LineState for Progress {
+    type Fault = ReadFault;
+
+    ghost use Rattle.dyndep_file.specs.ProgressViews.{progress_value};
+    ghost use Rattle.dyndep_file.specs.LineStates.{PassesLine, RefusesLine};
+    ghost use Rattle.dyndep_file.specs.Reader.{fault_of_cutter};
+
+    ghost passes = { λ old line new. PassesLine (progress_value old) line (progress_value new) };
+
+    ghost refuses = { λ old line fault. RefusesLine (progress_value old) line fault };
+
+    ghost of_cutter = { fault_of_cutter };
+
+    fn read_line(&mut self, alloc: Global, line: Line<'_>) -> Result<(), Failure<ReadFault>> {
+        read_line(alloc, self, line)
+    }
+
+    fn cut_fault(fault: CutFault) -> ReadFault {
+        match fault {
+            CutFault::LineTooLong { line } => ReadFault::AtLine {
+                line,
+                fault: LineFault::LineTooLong,
+            },
+            CutFault::Truncated { line } => ReadFault::AtLine {
+                line,
+                fault: LineFault::Truncated,
             },
         }
-    }
-    Ok(())
-}
-
-/// The cutter's failure as the reader's.
-fn cut_failure(failure: Failure<CutFault>) -> Failure<ReadFault>
-    ensures { result ≡ failure_of_cutter failure }
-{
-    match failure {
-        Failure::Memory => Failure::Memory,
-        Failure::Fault(fault) => Failure::Fault(cut_fault(fault)),
-    }
-}
-
-/// The cutter's fault as the reader's.
-fn cut_fault(fault: CutFault) -> ReadFault
-    ensures { result ≡ fault_of_cutter fault }
-{
-    match fault {
-        CutFault::LineTooLong { line } => ReadFault::AtLine {
-            line,
-            fault: LineFault::LineTooLong,
-        },
-        CutFault::Truncated { line } => ReadFault::AtLine {
-            line,
-            fault: LineFault::Truncated,
-        },
     }
 }

@@ -15,6 +15,8 @@ pub mod ScanLemmas
 pub mod ScanLists
 pub mod ReachLemmas
 pub mod CutLemmas
+pub mod FeedLemmas
+pub mod PieceLemmas
 pub mod TokenLemmas
 pub mod PlaceLemmas
 pub mod SpanLemmas

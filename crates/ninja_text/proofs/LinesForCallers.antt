@@ -10,3 +10,5 @@ pub use Rattle.ninja_text.proofs.ListLemmas.{tokens_are, tokens_one}
 -- Lists.
 pub use Rattle.ninja_text.proofs.CutLemmas.{AllByRecursion-append}
 pub use Rattle.ninja_text.proofs.ReachLemmas.{take_shorter}
+-- A cutter at work, and a line whose end is past the limit.
+pub use Rattle.ninja_text.proofs.FeedLemmas.{working, is_working, too_long}

@@ -18,6 +18,7 @@ pub mod Meanings
 pub mod Scanning
 pub mod Cutting
 pub mod LineViews
+pub mod LineReading
 pub mod Reaching
 pub mod CutterViews
 pub mod Lending

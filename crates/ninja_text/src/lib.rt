@@ -9,6 +9,8 @@
 //! - [`LineCutter`] cuts bytes that come in pieces of any size into logical lines. Whatever the pieces are, the lines lent are
 //!   those of the bytes taken, in order and numbered (`specs/Lines.antt`, `specs/Cutting.antt`), and its buffer never passes
 //!   [`LINE_LIMIT`] bytes.
+//! - [`LineReader`] reads bytes that come so into a [`LineState`], line by line: it answers the state that all lines lead to, or
+//!   the first line that is refused (`specs/LineReading.antt`).
 //! - [`words`] gives all tokens of a line in order (`specs/Tokens.antt`), and [`assignment`] its name and value
 //!   (`specs/Assignments.antt`), or the line's first lexical fault (`specs/Lexical.antt`). The rules are those of the Ninja 1.11
 //!   manual, "Lexical syntax"; these definitions state them on whole texts, and know nothing of the pieces in which a text came.
@@ -40,6 +42,7 @@ mod lexing;
 #[cfg(test)]
 mod lexing_tests;
 mod line;
+mod line_reader;
 mod meaning;
 mod paths;
 mod reduction;
@@ -59,5 +62,6 @@ pub use failure::Failure;
 pub use faults::{CutFault, LexFault};
 pub use lexing::words;
 pub use line::{LINE_LIMIT, Line};
+pub use line_reader::{LineReader, LineState};
 pub use paths::{PATH_LIMIT, Path, PathFault, one_canonical_list, path_meaning, place};
 pub use token::{Token, TokenKind, Words};

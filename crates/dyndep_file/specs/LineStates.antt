@@ -1,0 +1,27 @@
+-- What a line does to the statements so far, as the reader of lines wants it told.
+use Rattle.std.specs.Prelude.{ℕ, List, Result, Ok, Err}
+use Rattle.ninja_text.specs.Lines.{LogicalLine}
+use Rattle.ninja_text.specs.declared.failure.Failure.{Failure}
+use Rattle.ninja_text.specs.declared.failure.Failure.TheVariants.{Fault}
+use Rattle.dyndep_file.specs.StatementValue.{StatementValue}
+use Rattle.dyndep_file.specs.Steps.{ProgressValue}
+use Rattle.dyndep_file.specs.LineReading.{ReadsLine}
+use Rattle.dyndep_file.specs.declared.faults.ReadFault.{ReadFault}
+use Rattle.dyndep_file.specs.declared.faults.ReadFault.TheVariants.{AtLine}
+use Rattle.dyndep_file.specs.declared.faults.LineFault.TheVariants.{NoVersion}
+use Rattle.dyndep_file.specs.declared.progress.Stage.{Stage}
+use Rattle.dyndep_file.specs.declared.progress.Stage.TheVariants.{BeforeVersion, NoneOpen, Open}
+
+-- The line passes, and these are the statements after it.
+abbrev pub PassesLine : ProgressValue → LogicalLine → ProgressValue → Type 0
+PassesLine old line new = ReadsLine old line (Ok tt) new
+
+-- The line has this fault.
+abbrev pub RefusesLine : ProgressValue → LogicalLine → ReadFault → Type 0
+RefusesLine old line fault = ReadsLine old line (Err (Fault fault)) old
+
+-- what is answered once all lines were read: the statements, or that no version line came before this line
+abbrev pub answer_at_end : Stage → List StatementValue → ℕ → Result (List StatementValue) (Failure ReadFault)
+answer_at_end BeforeVersion statements line = Err (Fault (AtLine line NoVersion))
+answer_at_end NoneOpen statements line = Ok statements
+answer_at_end Open statements line = Ok statements

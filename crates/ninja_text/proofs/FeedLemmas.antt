@@ -1,0 +1,169 @@
+-- What a cutter's calls do where no line waits: when a feed is refused, and what it leaves.
+use Rattle.std.proofs.Common.{inl, inr, ◌≡◌, ℕ, ◌+◌, ◌-◌, ◌<◌, ◌≤◌, Bool, true, false, List, [], ◌∷◌, ◌++◌, length, take, drop, refl, sym, ap, ◌∙◌, subst, append_assoc, Some, None, Ok}
+use Rattle.std.proofs.Common.{Err, arith, min, take_all, length-drop}
+use Rattle.std.specs.Prelude.{Option, Result, nat_le, if◌then◌else◌}
+use Rattle.std.proofs.lemmas.List.{take-append-drop}
+use Rattle.std.proofs.lemmas.Bool.{cases_Bool, leb-true, leb-false, cases_lt}
+use Rattle.ninja_text.specs.Lines.{line_limit, LineEnd, line_end, line_feeds_in}
+use Rattle.ninja_text.specs.Cutting.{CutterState, feed_outcome, feed_outcome_at, Feeds, lent_next, after_lending, waiting_line, Finishes}
+use Rattle.ninja_text.specs.declared.faults.CutFault.{CutFault}
+use Rattle.ninja_text.specs.declared.faults.CutFault.TheVariants.{LineTooLong, Truncated}
+use Rattle.ninja_text.specs.declared.failure.Failure.{Failure}
+use Rattle.ninja_text.specs.declared.failure.Failure.TheVariants.{Memory, Fault}
+use Rattle.ninja_text.proofs.CutLemmas.{line_end-append, line_end-take}
+use Rattle.ninja_text.proofs.ReachLemmas.{take_shorter}
+
+-- a working cutter: no line waits, and it has not failed
+abbrev pub working : ℕ → List ℕ → CutterState
+working number bytes = record { number = number; bytes = bytes; waits = false; failed = false }
+
+-- a cutter where no line waits, and that has not failed, is a working one
+pub is_working : (h : CutterState) → h.waits ≡ false → h.failed ≡ false → h ≡ working h.number h.bytes
+is_working h i j = rebuilt i j where
+  rebuilt : {p q : Bool} → p ≡ false → q ≡ false → ◌≡◌ {A = CutterState} (record { number = h.number; bytes = h.bytes; waits = p; failed = q }) (working h.number h.bytes)
+  rebuilt i j = rw (i, j) refl
+
+-- what was read and what is left, once n more bytes were read
+pub moves_on : (front rest all : List ℕ) (n : ℕ) → front ++ rest ≡ all → (front ++ take n rest) ++ drop n rest ≡ all
+moves_on front rest all n h = append_assoc front (take n rest) (drop n rest) ∙ ap (λ r. front ++ r) (take-append-drop n rest) ∙ h
+
+-- where a feed succeeds and no line waits after it, the rest is below the limit; by the first end of a line
+below_up_to : (h : CutterState) (piece : List ℕ) (n : ℕ) (new : CutterState) (o : Option LineEnd) → feed_outcome_at h piece o ≡ (Ok n, new) → new.waits ≡ false
+    → (length new.bytes < line_limit) × (new.failed ≡ h.failed)
+below_up_to h piece n new (Some e) is waits = absurd (let x : true ≡ false = ap (λ p. p.1.waits) is ∙ waits in cc)
+below_up_to h piece n new None is waits = elim (cases_Bool (nat_le line_limit (length (h.bytes ++ piece)))) [
+  | inl t ↦ absurd (let x : ◌≡◌ {A = Result ℕ CutFault} (Err _) (Ok n) = ap (λ p. p.0) (rw t at is) in cc)
+  | inr f ↦ let e = rw f at is in
+      (let len : length (h.bytes ++ piece) ≡ length new.bytes = ap (λ p. length p.1.bytes) e in omega (arith, leb-false line_limit (length (h.bytes ++ piece)) f), sym (ap (λ p. p.1.failed) e))
+]
+
+-- the same, of a working cutter's feed
+below_at_work : (number : ℕ) (bytes piece : List ℕ) (n : ℕ) (new : CutterState) → feed_outcome (working number bytes) piece ≡ (Ok n, new) → new.waits ≡ false
+    → (length new.bytes < line_limit) × (new.failed ≡ false)
+below_at_work number bytes piece n new is waits = below_up_to (working number bytes) piece n new (line_end (take line_limit (bytes ++ piece))) is waits
+
+-- the same, of a feed of any cutter that has not failed and lends no line
+pub below_limit : (h : CutterState) (piece : List ℕ) (n : ℕ) (new : CutterState) → h.failed ≡ false → h.waits ≡ false → feed_outcome h piece ≡ (Ok n, new) → new.waits ≡ false
+    → length new.bytes < line_limit
+below_limit h piece n new works waits is waits' = (below_at_work h.number h.bytes piece n new (subst (λ k. feed_outcome k piece ≡ (Ok n, new)) (is_working h waits works) is) waits').0
+
+-- a cutter with no line to lend stays as it is
+pub lends_none : (h new : CutterState) → new ≡ after_lending h → h.failed ≡ false → h.waits ≡ false → new ≡ h
+lends_none h new is works waits = is ∙ same h.number h.bytes h.waits h.failed waits works where
+  same : (number : ℕ) (bytes : List ℕ) (p q : Bool) → p ≡ false → q ≡ false
+      → after_lending (record { number = number; bytes = bytes; waits = p; failed = q }) ≡ record { number = number; bytes = bytes; waits = p; failed = q }
+  same number bytes p q i j = rw (i, j) refl
+
+-- a cutter that lends its line holds nothing of the next
+pub lends_some : (h new : CutterState) → new ≡ after_lending h → h.failed ≡ false → h.waits ≡ true → (new.waits ≡ false) × (new.failed ≡ false) × (new.bytes ≡ []) × (lent_next h ≡ waiting_line h ∷ [])
+lends_some h new is works waits = (ap (λ k. k.waits) it, ap (λ k. k.failed) it, ap (λ k. k.bytes) it, next h.waits h.failed waits works) where
+  after : (number : ℕ) (bytes : List ℕ) (p q : Bool) → p ≡ true → q ≡ false
+      → (n : ℕ) × (after_lending (record { number = number; bytes = bytes; waits = p; failed = q }) ≡ record { number = n; bytes = []; waits = false; failed = false })
+  after number bytes p q i j = (min 18446744073709551615 (number + line_feeds_in bytes), rw (i, j) refl)
+
+  it : new ≡ record { number = (after h.number h.bytes h.waits h.failed waits works).0; bytes = []; waits = false; failed = false }
+  it = is ∙ (after h.number h.bytes h.waits h.failed waits works).1
+
+  next : (p q : Bool) → p ≡ true → q ≡ false → (if q then [] else if p then waiting_line h ∷ [] else []) ≡ waiting_line h ∷ []
+  next p q i j = rw (i, j) refl
+
+-- the bytes from a place on are all that there are from there
+pub to_the_end : (i : ℕ) (bytes : List ℕ) → take (length bytes - i) (drop i bytes) ≡ drop i bytes
+to_the_end i bytes = take_all (length bytes - i) (drop i bytes) (omega (arith, length-drop i bytes))
+
+-- where a feed is refused, a line waits only if one waited before; by the first end of a line
+waits_up_to : (h : CutterState) (piece : List ℕ) (e : CutFault) (new : CutterState) (o : Option LineEnd) → feed_outcome_at h piece o ≡ (Err e, new) → new.waits ≡ h.waits
+waits_up_to h piece e new (Some at) is = absurd (let x : ◌≡◌ {A = Result ℕ CutFault} (Ok _) (Err e) = ap (λ p. p.0) is in cc)
+waits_up_to h piece e new None is = elim (cases_Bool (nat_le line_limit (length (h.bytes ++ piece)))) [
+  | inl t ↦ sym (ap (λ p. p.1.waits) (rw t at is))
+  | inr f ↦ absurd (let x : ◌≡◌ {A = Result ℕ CutFault} (Ok _) (Err e) = ap (λ p. p.0) (rw f at is) in cc)
+]
+
+-- a refused feed of a cutter where no line waits leaves none waiting
+fed_waits : (number : ℕ) (bytes : List ℕ) (failed : Bool) (piece : List ℕ) (e : CutFault) (new : CutterState)
+    → feed_outcome (record { number = number; bytes = bytes; waits = false; failed = failed }) piece ≡ (Err e, new) → new.waits ≡ false
+fed_waits number bytes true piece e new is = sym (ap (λ p. p.1.waits) is)
+fed_waits number bytes false piece e new is = waits_up_to (working number bytes) piece e new (line_end (take line_limit (bytes ++ piece))) is
+
+-- a feed that is refused for a fault leaves no line waiting
+err_fed : (h : CutterState) (piece : List ℕ) (e : CutFault) (new : CutterState) → h.waits ≡ false → feed_outcome h piece ≡ (Err e, new) → new.waits ≡ false
+err_fed h piece e new waits is =
+    fed_waits h.number h.bytes h.failed piece e new (subst (λ b. feed_outcome (record { number = h.number; bytes = h.bytes; waits = b; failed = h.failed }) piece ≡ (Err e, new)) waits is)
+
+-- a refused feed leaves no line waiting, want of memory included
+pub err_waits : (h : CutterState) (piece : List ℕ) (e : Failure CutFault) (new : CutterState) → h.waits ≡ false → Feeds h piece (Err e) new → new.waits ≡ false
+err_waits h piece Memory new waits is = ap (λ k. k.waits) is.2 ∙ waits
+err_waits h piece (Fault fault) new waits is = err_fed h piece fault new waits is
+
+-- a line whose end is not within the limit is too long
+pub too_long : (bytes : List ℕ) (e : LineEnd) → line_end (take line_limit bytes) ≡ None → line_end bytes ≡ Some e → line_limit < e.line_len
+too_long bytes e none some = elim (cases_lt line_limit e.line_len) [
+  | inl lt ↦ lt
+  | inr le ↦
+      let front = line_end-take bytes e some in
+      let shorter : take e.line_len (take line_limit bytes) ≡ take e.line_len bytes = take_shorter e.line_len line_limit bytes le in
+      let found : line_end (take line_limit bytes) ≡ Some e =
+      ap line_end (sym (take-append-drop e.line_len (take line_limit bytes)) ∙ ap (λ x. x ++ drop e.line_len (take line_limit bytes)) shorter)
+      ∙ line_end-append (take e.line_len bytes) (drop e.line_len (take line_limit bytes)) e front in
+      absurd (let clash : ◌≡◌ {A = Option LineEnd} None (Some e) = sym none ∙ found in cc)
+]
+
+-- a feed refuses a line as too long where there is no end and the bytes reach the limit; by the first end of a line
+too_long_up_to : (h : CutterState) (piece : List ℕ) (l : ℕ) (new : CutterState) (o : Option LineEnd) → feed_outcome_at h piece o ≡ (Err (LineTooLong l), new)
+    → (o ≡ None) × (line_limit ≤ length (h.bytes ++ piece)) × (l ≡ h.number)
+too_long_up_to h piece l new (Some e) is = absurd (let x : ◌≡◌ {A = Result ℕ CutFault} (Ok _) (Err (LineTooLong l)) = ap (λ p. p.0) is in cc)
+too_long_up_to h piece l new None is = elim (cases_Bool (nat_le line_limit (length (h.bytes ++ piece)))) [
+  | inl t ↦ (refl, leb-true line_limit (length (h.bytes ++ piece)) t, let x : ◌≡◌ {A = Result ℕ CutFault} (Err (LineTooLong h.number)) (Err (LineTooLong l)) = ap (λ p. p.0) (rw t at is) in cc)
+  | inr f ↦ absurd (let x : ◌≡◌ {A = Result ℕ CutFault} (Ok _) (Err (LineTooLong l)) = ap (λ p. p.0) (rw f at is) in cc)
+]
+
+-- the same, of a working cutter's feed
+pub too_long_at_work : (number : ℕ) (bytes piece : List ℕ) (l : ℕ) (new : CutterState) → feed_outcome (working number bytes) piece ≡ (Err (LineTooLong l), new)
+    → (line_end (take line_limit (bytes ++ piece)) ≡ None) × (line_limit ≤ length (bytes ++ piece)) × (l ≡ number)
+too_long_at_work number bytes piece l new is = too_long_up_to (working number bytes) piece l new (line_end (take line_limit (bytes ++ piece))) is
+
+-- a feed refuses no line as truncated; by the first end of a line
+never_truncated_up_to : (h : CutterState) (piece : List ℕ) (l : ℕ) (new : CutterState) (o : Option LineEnd) → feed_outcome_at h piece o ≡ (Err (Truncated l), new) → ⊥
+never_truncated_up_to h piece l new (Some e) is = let x : ◌≡◌ {A = Result ℕ CutFault} (Ok _) (Err (Truncated l)) = ap (λ p. p.0) is in cc
+never_truncated_up_to h piece l new None is = elim (cases_Bool (nat_le line_limit (length (h.bytes ++ piece)))) [
+  | inl t ↦ let x : ◌≡◌ {A = Result ℕ CutFault} (Err (LineTooLong h.number)) (Err (Truncated l)) = ap (λ p. p.0) (rw t at is) in cc
+  | inr f ↦ let x : ◌≡◌ {A = Result ℕ CutFault} (Ok _) (Err (Truncated l)) = ap (λ p. p.0) (rw f at is) in cc
+]
+
+-- the same, of a working cutter's feed
+pub never_truncated : (number : ℕ) (bytes piece : List ℕ) (l : ℕ) (new : CutterState) → feed_outcome (working number bytes) piece ≡ (Err (Truncated l), new) → ⊥
+never_truncated number bytes piece l new is = never_truncated_up_to (working number bytes) piece l new (line_end (take line_limit (bytes ++ piece))) is
+
+-- after a feed that succeeded a cutter has failed only if it had before; by the first end of a line
+works_up_to : (h : CutterState) (piece : List ℕ) (n : ℕ) (new : CutterState) (o : Option LineEnd) → feed_outcome_at h piece o ≡ (Ok n, new) → new.failed ≡ h.failed
+works_up_to h piece n new (Some e) is = sym (ap (λ p. p.1.failed) is)
+works_up_to h piece n new None is = elim (cases_Bool (nat_le line_limit (length (h.bytes ++ piece)))) [
+  | inl t ↦ absurd (let x : ◌≡◌ {A = Result ℕ CutFault} (Err _) (Ok n) = ap (λ p. p.0) (rw t at is) in cc)
+  | inr f ↦ sym (ap (λ p. p.1.failed) (rw f at is))
+]
+
+-- a feed succeeds only where the cutter has not failed, and leaves it so
+works_fed : (number : ℕ) (bytes : List ℕ) (waits failed : Bool) (piece : List ℕ) (n : ℕ) (new : CutterState)
+    → feed_outcome (record { number = number; bytes = bytes; waits = waits; failed = failed }) piece ≡ (Ok n, new) → new.failed ≡ false
+works_fed number bytes waits true piece n new is = absurd (let x : ◌≡◌ {A = Result ℕ CutFault} (Err (LineTooLong number)) (Ok n) = ap (λ p. p.0) is in cc)
+works_fed number bytes true false piece n new is = sym (ap (λ p. p.1.failed) is)
+works_fed number bytes false false piece n new is = works_up_to (working number bytes) piece n new (line_end (take line_limit (bytes ++ piece))) is
+
+-- so no cutter has failed after a feed that succeeded
+pub never_failed : (h : CutterState) (piece : List ℕ) (n : ℕ) (new : CutterState) → feed_outcome h piece ≡ (Ok n, new) → new.failed ≡ true → ⊥
+never_failed h piece n new is failed = let x : false ≡ true = sym (works_fed h.number h.bytes h.waits h.failed piece n new is) ∙ failed in cc
+
+module _ (h : CutterState) (works : h.failed ≡ false) where
+  -- a cutter that has not failed and refuses the end holds bytes, and tells them truncated
+  pub finish_err : (e : CutFault) → Finishes h (Err e) → (length h.bytes ≡ 0 → ⊥) × (e ≡ Truncated h.number)
+  finish_err e f = elim (cases_Bool (nat_le (length h.bytes) 0)) [
+    | inl t ↦ absurd (let x : ◌≡◌ {A = Result Unit CutFault} (Err e) (Ok tt) = rw (works, t) at f in cc)
+    | inr n ↦ (λ z. omega (arith, leb-false (length h.bytes) 0 n), let x : ◌≡◌ {A = Result Unit CutFault} (Err e) (Err (Truncated h.number)) = rw (works, n) at f in cc)
+  ]
+
+  -- one that accepts the end holds none
+  pub finish_ok : (u : Unit) → Finishes h (Ok u) → length h.bytes ≤ 0
+  finish_ok u f = elim (cases_Bool (nat_le (length h.bytes) 0)) [
+    | inl t ↦ leb-true (length h.bytes) 0 t
+    | inr n ↦ absurd (let x : ◌≡◌ {A = Result Unit CutFault} (Ok u) (Err (Truncated h.number)) = rw (works, n) at f in cc)
+  ]
