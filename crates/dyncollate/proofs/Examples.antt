@@ -1,5 +1,5 @@
 -- The definitions on examples whose answers are known.
-use Rattle.std.proofs.Common.{◌≡◌, List, [], ◌∷◌, true, false, codes, refl}
+use Rattle.std.proofs.Common.{◌≡◌, List, [], ◌∷◌, ◌++◌, Some, None, true, false, codes, refl}
 use Rattle.scan_docs.specs.Scan.{RuleValue}
 use Rattle.scan_docs.specs.Info.{InfoValue}
 use Rattle.dyndep_file.specs.StatementValue.{StatementValue}
@@ -9,6 +9,8 @@ use Rattle.module_table.specs.declared.fault.TableFault.TheVariants.{InfoTwice, 
 use Rattle.dyncollate.specs.One.{table_of}
 use Rattle.dyncollate.specs.Statements.{statements_of}
 use Rattle.dyncollate.specs.TableFaults.{fault_text, ring_text}
+use Rattle.dyncollate.specs.Tasks.{one, show, task_in}
+use Rattle.dyncollate.specs.Answers.{line}
 
 -- `a.o` provides `A` and requires `B`, which `b.o` provides
 abbrev two_rules : List RuleValue
@@ -73,3 +75,21 @@ private = refl
 
 kept_unknown : fault_text two_rules linked (PrivateUnknown (codes "X")) ≡ codes "M10 PrivateUnknown X"
 kept_unknown = refl
+
+three_arguments : task_in (codes "one" ∷ codes "b.ddi" ∷ [] ∷ codes "-" ∷ []) ≡ Some (one (codes "b.ddi") [] (codes "-"))
+three_arguments = refl
+
+first_dashes_dropped : task_in (codes "show" ∷ codes "--" ∷ codes "--" ∷ []) ≡ Some (show (codes "--"))
+first_dashes_dropped = refl
+
+flag_refused : task_in (codes "show" ∷ codes "-x" ∷ []) ≡ None
+flag_refused = refl
+
+flag_behind_dashes : task_in (codes "show" ∷ codes "--" ∷ codes "-x" ∷ []) ≡ Some (show (codes "-x"))
+flag_behind_dashes = refl
+
+word_too_many : task_in (codes "show" ∷ codes "t.dd" ∷ codes "x" ∷ []) ≡ None
+word_too_many = refl
+
+shown_line : line (1 ∷ codes "a.o") ≡ codes "dyncollate: ?a.o" ++ 10 ∷ []
+shown_line = refl

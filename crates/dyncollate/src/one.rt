@@ -86,7 +86,7 @@ fn table_refused(
     }
 }
 
-/// The answer to a document that is refused. It is told as the first of its kind, which it is.
+/// The answer to a document that is refused. The command has one document, so its number is 0.
 fn document_refused(alloc: Global, fault: &DocFault) -> Result<Answer, AllocError>
     ensures { IfOk result (Refuses (document_text fault.now)) }
 {
