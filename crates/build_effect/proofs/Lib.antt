@@ -16,3 +16,9 @@ mod Reports
 mod FileOrders
 mod EdgeOrders
 mod EdgeSorting
+pub mod ListingEdges
+mod ListingRows
+pub mod ListingRuns
+pub mod ListingLineLemmas
+pub mod ListingLemmas
+pub mod ListingLaws

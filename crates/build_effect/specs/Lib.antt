@@ -8,4 +8,11 @@ pub mod Checks
 pub mod Premises
 pub mod Files
 pub mod Numbering
+pub mod ListingLines
+pub mod ListingGrammar
+pub mod ListingSteps
+pub mod ListingFaults
+pub mod ListingFaultTexts
+pub mod ListingReading
+pub mod ListingReaders
 pub mod inner

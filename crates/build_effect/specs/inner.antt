@@ -7,3 +7,4 @@ pub mod StatementEdges
 pub mod Added
 pub mod Checked
 pub mod Extended
+pub mod ListingRows

@@ -4,6 +4,9 @@
 //! - A [`Graph`] is a list of [`Edge`]s. [`Graph::new`] takes every list in which no file is made twice and each
 //!   edge that names a dyndep file has it among its inputs, and else answers E1 or E2 (`specs/Faults.antt`,
 //!   `IsGraphFault`).
+//! - [`ListingReader`] reads a listing of edges that comes in pieces of any size. For every cutting the answer is the graph of
+//!   the edges that the form of `specs/ListingGrammar.antt` gives the whole text, or the first faulty line, E3, and its cause
+//!   (`specs/ListingReading.antt`, `specs/ListingFaults.antt`).
 //! - [`apply`] answers the graph after the effect of a dyndep file, or the first fault in the order E8, E5, E4, E6, E7.
 //!   The effect is a relation of two graphs (`specs/Effect.antt`, `Effect`): the answer has it, and no other graph does.
 //!   Where a fault is answered, no graph has it (`specs/Faults.antt`, `IsEffectFault`).
@@ -16,7 +19,7 @@
 //! What a contract sees of a graph is the list of its edges, and of a path its canonical text. Definitions that only
 //! private clauses speak of stand in `specs/inner/`.
 //!
-//! It stands on `ninja_text` for paths, on `dyndep_file` for statements, on `dep_order` for orders and cycles, and on
+//! It stands on `ninja_text` for paths and lines, on `dyndep_file` for statements, on `dep_order` for orders and cycles, and on
 //! `indexmap` for look-ups.
 #![tactic(auto)]
 
@@ -31,6 +34,11 @@ mod files;
 mod graph;
 mod graph_checks;
 mod laws;
+mod listing_faults;
+mod listing_laws;
+mod listing_reader;
+mod listing_rows;
+mod listing_state;
 mod makers;
 mod needs;
 mod statement_edges;
@@ -42,4 +50,7 @@ pub use effect::apply;
 pub use fault::{EffectFault, GraphFault};
 pub use graph::Graph;
 pub use laws::{any_order, checks, files_order, level_orders, one_effect};
+pub use listing_faults::{LineCause, LineFault, ListingFault};
+pub use listing_laws::one_listing;
+pub use listing_reader::ListingReader;
 pub use needs::edge_order;

@@ -6,6 +6,7 @@ ghost use Rattle.std.specs.Prelude.{◌≢◌, [], All, IsTrue};
 
 mod effects;
 mod graphs;
+mod listings;
 mod orders;
 mod several_files;
 

@@ -20,8 +20,10 @@ PassesLine old line new = ReadsLine old line (Ok tt) new
 abbrev pub RefusesLine : ProgressValue → LogicalLine → ReadFault → Type 0
 RefusesLine old line fault = ReadsLine old line (Err (Fault fault)) old
 
--- what is answered once all lines were read: the statements, or that no version line came before this line
-abbrev pub answer_at_end : Stage → List StatementValue → ℕ → Result (List StatementValue) (Failure ReadFault)
+-- what is answered once all lines were read: the statements, or that no version line came before
+-- this line
+abbrev pub answer_at_end : Stage → List StatementValue → ℕ
+    → Result (List StatementValue) (Failure ReadFault)
 answer_at_end BeforeVersion statements line = Err (Fault (AtLine line NoVersion))
 answer_at_end NoneOpen statements line = Ok statements
 answer_at_end Open statements line = Ok statements

@@ -1,4 +1,5 @@
--- Lines that are read one by one into a state, by a text that comes in pieces: which lines were read, and where the fault is.
+-- Lines that are read one by one into a state, by a text that comes in pieces: which lines were
+-- read, and where the fault is.
 use Rattle.std.specs.Prelude.{◌≡◌, ℕ, ◌<◌, ◌≤◌, false, List, [], ◌∷◌, ◌++◌, length, take, Option, Some, None, Result, Ok, Err, ◌⊎◌}
 use Rattle.std.specs.List.{flat_map, AllByRecursion}
 use Rattle.ninja_text.specs.Lines.{line_limit, line_end, IsLine, LogicalLine, logical_line, logical_lines, number_after}
@@ -16,8 +17,8 @@ Passes S = S → LogicalLine → S → Type 0
 abbrev pub Refuses : Type 0 → Type 0 → Type 1
 Refuses S F = S → LogicalLine → F → Type 0
 
--- What reading a line answers: it passes and leaves this state, or it is refused with this fault, or
--- memory was refused.
+-- What reading a line answers: it passes and leaves this state, or it is refused with this fault,
+-- or memory was refused.
 abbrev pub ReadsLine : {S F : Type 0} → Passes S → Refuses S F → S → LogicalLine
     → Result Unit (Failure F) → S → Type 0
 ReadsLine passes refuses old line (Ok u) new = passes old line new
@@ -27,7 +28,8 @@ ReadsLine passes refuses old line (Err Memory) new = Unit {0}
 -- The lines pass one by one, and lead from a state to another.
 abbrev pub LeadTo : {S : Type 0} → Passes S → S → List LogicalLine → S → Type 0
 LeadTo passes old [] new = new ≡ old
-LeadTo {S} passes old (line ∷ lines) new = (mid : S) × passes old line mid × LeadTo passes mid lines new
+LeadTo {S} passes old (line ∷ lines) new =
+    (mid : S) × passes old line mid × LeadTo passes mid lines new
 
 -- The cutter took these bytes, has lent all their whole lines, and holds a rest below the limit.
 pub record HasLent (bytes : List ℕ) (lent : List LogicalLine) (cutter : CutterState) : Type 0 where
@@ -36,9 +38,10 @@ pub record HasLent (bytes : List ℕ) (lent : List LogicalLine) (cutter : Cutter
   pub works : cutter.failed ≡ false
   pub short : length cutter.bytes < line_limit
 
--- The bytes begin with whole lines, none too long, that are lent as these; this rest follows, and its
--- first line has this number.
-pub record BeginsWith (bytes : List ℕ) (lent : List LogicalLine) (number : ℕ) (rest : List ℕ) : Type 0 where
+-- The bytes begin with whole lines, none too long, that are lent as these; this rest follows, and
+-- its first line has this number.
+pub record BeginsWith (bytes : List ℕ) (lent : List LogicalLine) (number : ℕ) (rest : List ℕ)
+    : Type 0 where
   pub lines : List (List ℕ)
   pub whole : bytes ≡ flat_map (λ line. line) lines ++ rest
   pub each : AllByRecursion IsLine lines
@@ -80,30 +83,34 @@ HasFailureBehind passes refuses of_cutter bytes lent old (Fault fault) =
     HasFaultBehind passes refuses of_cutter bytes lent old fault
 HasFailureBehind passes refuses of_cutter bytes lent old Memory = Unit {0}
 
--- a reader of lines: its cutter, the state that the lines so far led to, and what it refused with, if
--- it did
+-- a reader of lines: its cutter, the state that the lines so far led to, and what it refused with,
+-- if it did
 pub record LinesRead (S F : Type 0) : Type 0 where
   pub cutter : CutterState
   pub state : S
   pub failed : Option (Failure F)
 
--- The reader was fed these bytes in all, their whole lines were lent as these, and it has refused none.
-pub record HasLentAll {S F : Type 0} (bytes : List ℕ) (lent : List LogicalLine) (r : LinesRead S F) : Type 0 where
+-- The reader was fed these bytes in all, their whole lines were lent as these, and it has refused
+-- none.
+pub record HasLentAll {S F : Type 0} (bytes : List ℕ) (lent : List LogicalLine)
+    (r : LinesRead S F) : Type 0 where
   pub has : HasLent bytes lent r.cutter
   pub works : r.failed ≡ None
 
 -- A reader that refused answers the same again, and stays as it is.
-abbrev pub StaysRefused : {S F : Type 0} → LinesRead S F → Result Unit (Failure F) → LinesRead S F → Type 0
+abbrev pub StaysRefused : {S F : Type 0} → LinesRead S F → Result Unit (Failure F)
+    → LinesRead S F → Type 0
 StaysRefused {S} {F} old result new =
     (failure : Failure F) → old.failed ≡ Some failure → (result ≡ Err failure) × (new ≡ old)
 
--- What `feed` answers and leaves: more lines were lent, and all passed; or the next one behind those
--- that passed has this fault, or memory was refused. By all bytes fed, this call's with them, and by
--- the lines lent before.
+-- What `feed` answers and leaves: more lines were lent, and all passed; or the next one behind
+-- those that passed has this fault, or memory was refused. By all bytes fed, this call's with them,
+-- and by the lines lent before.
 abbrev pub FeedsLines : {S F : Type 0} → Passes S → Refuses S F → (CutFault → F)
     → List ℕ → List LogicalLine → S → Result Unit (Failure F) → LinesRead S F → Type 0
 FeedsLines passes refuses of_cutter bytes lent old (Ok u) new =
-    (more : List LogicalLine) × HasLentAll bytes (lent ++ more) new × LeadTo passes old more new.state
+    (more : List LogicalLine) × HasLentAll bytes (lent ++ more) new
+    × LeadTo passes old more new.state
 FeedsLines passes refuses of_cutter bytes lent old (Err failure) new =
     (new.failed ≡ Some failure) × HasFailureBehind passes refuses of_cutter bytes lent old failure
 
@@ -111,8 +118,8 @@ FeedsLines passes refuses of_cutter bytes lent old (Err failure) new =
 abbrev pub IsTruncated : List ℕ → Type 0
 IsTruncated rest = (0 < length rest) × (length rest < line_limit) × (line_end rest ≡ None)
 
--- What `finish` answers: where the bytes are whole lines, the state that they led to, and the number of
--- the line that would come next; else that the last line has no end.
+-- What `finish` answers: where the bytes are whole lines, the state that they led to, and the
+-- number of the line that would come next; else that the last line has no end.
 abbrev pub EndsLines : {S F : Type 0} → (CutFault → F) → List ℕ → List LogicalLine → S
     → Result (S × ℕ) (Failure F) → Type 0
 EndsLines of_cutter bytes lent state (Ok end) = (end.0 ≡ state) × BeginsWith bytes lent end.1 []

@@ -1,0 +1,100 @@
+-- The row of a line, by its tokens or its assignment, and what a build line says, by its parts.
+use Rattle.std.proofs.Common.{◌≡◌, ◌≢◌, ℕ, ◌==◌, ◌&&◌, Bool, true, false, List, [], ◌∷◌, ◌++◌, map, refl, sym, ap, ◌∙◌, subst, Option, Some, None, Ok, Err}
+use Rattle.std.specs.Prelude.{Result, codes, not, if◌then◌else◌}
+use Rattle.std.proofs.lemmas.Bool.{cases_Bool, and_parts}
+use Rattle.ninja_text.specs.Lexical.{lexical_fault}
+use Rattle.ninja_text.specs.Tokens.{TokenAt, SeenToken, tokens, raw, with_raw, seen_tokens}
+use Rattle.ninja_text.specs.Assignments.{assignment_of}
+use Rattle.ninja_text.specs.declared.token.TokenKind.{TokenKind}
+use Rattle.ninja_text.specs.declared.token.TokenKind.TheVariants.{Word, Bar, DoubleBar, BarAt, Colon}
+use Rattle.dyndep_file.specs.Classes.{Symbol, WordSymbol, SignSymbol, symbol, symbols, begins_at_start, begins_with_space}
+use Rattle.dyndep_file.specs.Faults.{same_bytes, is_empty, after_build}
+use Rattle.dyndep_file.specs.BuildTokens.{symbol_of, is_word}
+use Rattle.build_effect.specs.ListingLines.{EdgeTexts, Row, row_of, sound_row, binding_row, unindented_row, edge_texts, right_texts, front_words, past_words, past_sign, part_words, past_part, is_rule_name}
+use Rattle.build_effect.specs.inner.ListingRows.{RulePassed}
+use Rattle.build_effect.specs.declared.listing_faults.LineCause.{LineCause}
+
+-- where there is a first token, the line is not blank
+not_blank : (text : List ℕ) (ts : List TokenAt) (head : SeenToken) (others : List SeenToken) → head ∷ others ≡ map (with_raw text) ts → is_empty ts ≡ false
+not_blank text [] head others h = absurd (let x : head ∷ others ≡ [] = h in cc)
+not_blank text (t ∷ ts) head others h = refl
+
+-- the symbols of tokens
+symbols_are : (text : List ℕ) (ts : List TokenAt) → map symbol_of (map (with_raw text) ts) ≡ map (λ t. symbol t.kind (raw text t)) ts
+symbols_are text [] = refl
+symbols_are text (t ∷ ts) = ap (λ s. symbol t.kind (raw text t) ∷ s) (symbols_are text ts)
+
+-- the tokens after the keyword `build`, told by the first symbol
+built_by : (kind : TokenKind) (at_start : Bool) (bytes : List ℕ) (more others : List Symbol) → others ≡ more
+    → after_build at_start (symbol kind bytes ∷ more) ≡ (if at_start && is_word (codes "build") (symbol kind bytes) then Some others else None)
+built_by Word at_start bytes more others h = rw h refl
+built_by Bar true bytes more others h = refl
+built_by Bar false bytes more others h = refl
+built_by DoubleBar true bytes more others h = refl
+built_by DoubleBar false bytes more others h = refl
+built_by BarAt true bytes more others h = refl
+built_by BarAt false bytes more others h = refl
+built_by Colon true bytes more others h = refl
+built_by Colon false bytes more others h = refl
+
+-- and by the first token
+built : (text : List ℕ) (ts : List TokenAt) (head : SeenToken) (others : List SeenToken) → head ∷ others ≡ map (with_raw text) ts
+    → after_build (begins_at_start ts) (map (λ t. symbol t.kind (raw text t)) ts)
+    ≡ (if (head.start == 0) && is_word (codes "build") (symbol_of head) then Some (map symbol_of others) else None)
+built text [] head others h = absurd (let x : head ∷ others ≡ [] = h in cc)
+built text (t ∷ ts) head others h =
+    let first : head ≡ with_raw text t = (let x : head ∷ others ≡ with_raw text t ∷ map (with_raw text) ts = h in cc) in
+    let rest : others ≡ map (with_raw text) ts = (let x : head ∷ others ≡ with_raw text t ∷ map (with_raw text) ts = h in cc) in
+    built_by t.kind (t.start == 0) (raw text t) (map (λ t. symbol t.kind (raw text t)) ts) (map symbol_of others) (ap (map symbol_of) rest ∙ symbols_are text ts)
+    ∙ ap (λ (h : SeenToken). if (h.start == 0) && is_word (codes "build") (symbol_of h) then Some (map symbol_of others) else None) (sym first)
+
+module _ (text : List ℕ) (comment : Bool) (no_comment : comment ≡ false) (sound : lexical_fault text ≡ None) (head : SeenToken) (others : List SeenToken) (all : head ∷ others ≡ seen_tokens text) where
+  -- the row of a line that is neither a comment nor blank
+  some_row : row_of text comment ≡ (if begins_with_space text then binding_row (assignment_of text) else unindented_row (after_build (begins_at_start (tokens text)) (symbols text)))
+  some_row = rw (no_comment, sound, not_blank text (tokens text) head others all) refl
+
+  -- an indented line
+  pub indented : begins_with_space text ≡ true → row_of text comment ≡ binding_row (assignment_of text)
+  indented space = some_row ∙ rw space refl
+
+  -- a line that is not indented
+  pub unindented : (builds : Bool) → begins_with_space text ≡ false → builds ≡ (head.start == 0) && is_word (codes "build") (symbol_of head)
+      → row_of text comment ≡ unindented_row (if builds then Some (map symbol_of others) else None)
+  unindented builds space is = some_row ∙ rw space (ap unindented_row (built text (tokens text) head others all ∙ ap (λ b. if b then Some (map symbol_of others) else None) (sym is)))
+
+-- what a build line says, by what stands on the left of the colon
+pub left_texts : (symbols s1 s2 : List Symbol) (outputs implicit_outputs : List (List ℕ)) → outputs ≡ front_words symbols → s1 ≡ past_words symbols
+    → implicit_outputs ≡ part_words (past_sign Bar s1) → s2 ≡ past_part (past_sign Bar s1) s1 → edge_texts symbols ≡ right_texts outputs implicit_outputs (past_sign Colon s2)
+left_texts symbols s1 s2 outputs implicit_outputs o a i b = rw (o, i, b, a) refl
+
+-- without a rule it says nothing
+pub no_rule : (outputs implicit_outputs : List (List ℕ)) (past : Option (List Symbol)) (new : List Symbol) → RulePassed past None new → right_texts outputs implicit_outputs past ≡ None
+no_rule outputs implicit_outputs None new h = refl
+no_rule outputs implicit_outputs (Some []) new h = refl
+no_rule outputs implicit_outputs (Some (SignSymbol sign ∷ more)) new h = refl
+no_rule outputs implicit_outputs (Some (WordSymbol word ∷ more)) new h = absurd (let x : _ ∷ _ ≡ [] = h.0 in cc)
+
+-- what it says by what stands on the right of the colon
+pub right_are : (outputs implicit_outputs inputs implicit_inputs order_only : List (List ℕ)) (rule name : List ℕ) (s0 s1 s2 s3 : List Symbol) → name ≡ rule → inputs ≡ front_words s0
+    → s1 ≡ past_words s0 → implicit_inputs ≡ part_words (past_sign Bar s1) → s2 ≡ past_part (past_sign Bar s1) s1 → order_only ≡ part_words (past_sign DoubleBar s2)
+    → s3 ≡ past_part (past_sign DoubleBar s2) s2 → (whole : Bool) → whole ≡ not (is_empty outputs) && is_rule_name rule && is_empty s3
+    → right_texts outputs implicit_outputs (Some (WordSymbol rule ∷ s0))
+    ≡ (if whole then Some (record {
+      rule = name;
+      outputs = outputs;
+      implicit_outputs = implicit_outputs;
+      inputs = inputs;
+      implicit_inputs = implicit_inputs;
+      order_only = order_only;
+    }) else None)
+right_are outputs implicit_outputs inputs implicit_inputs order_only rule name s0 s1 s2 s3 e n a m b l d whole is = rw (is, e, n, m, l, d, b, a) refl
+
+-- the test of a whole build line, of the same texts
+pub whole_is : (result whole : Bool) (o outputs : List (List ℕ)) (n rule : List ℕ) (s : List Symbol) → result ≡ not (is_empty o) && is_rule_name n && is_empty s → o ≡ outputs → n ≡ rule
+    → result ≡ whole → whole ≡ not (is_empty outputs) && is_rule_name rule && is_empty s
+whole_is result whole o outputs n rule s is os ns same = sym same ∙ is ∙ rw (os, ns) refl
+
+-- a whole build line has an output
+pub has_output : (outputs : List (List ℕ)) (a b : Bool) → true ≡ not (is_empty outputs) && a && b → outputs ≢ []
+has_output [] a b h = absurd (let x : true ≡ false = h in cc)
+has_output (o ∷ os) a b h = λ e. (let x : o ∷ os ≡ [] = e in cc)

@@ -1,0 +1,198 @@
+-- Rows of edge listings: the definitions compute to what each line is, and a listing of three edges is one of just these.
+use Rattle.std.proofs.Common.{◌≡◌, ℕ, List, [], ◌∷◌, ◌++◌, refl, Option, Some, None, true, false, Ok, Err}
+use Rattle.std.specs.Prelude.{codes, Result}
+use Rattle.ninja_text.specs.Lines.{text_of, is_comment}
+use Rattle.ninja_text.specs.Paths.{canonical_of}
+use Rattle.ninja_text.specs.declared.faults.LexFault.TheVariants.{Variable, LoneCr}
+use Rattle.ninja_text.specs.declared.paths.PathFault.TheVariants.{Empty, AboveRoot}
+use Rattle.build_effect.specs.EdgeValue.{EdgeValue}
+use Rattle.build_effect.specs.ListingLines.{EdgeTexts, Row, CommentRow, BlankRow, BuildRow, DyndepRow, RestatRow, Class, Comment, Blank, Build, Dyndep, Restat, row_of, class_of_row, TextIsOfClass}
+use Rattle.build_effect.specs.ListingGrammar.{IsListing, listing_end, listing_comment, listing_blank, listing_build, no_more_bindings, comment_between, dyndep_binding, restat_binding}
+use Rattle.build_effect.specs.ListingFaults.{line_cause, open_from}
+use Rattle.build_effect.specs.ListingReading.{Lists}
+use Rattle.build_effect.specs.declared.listing_faults.LineCause.{LineCause}
+use Rattle.build_effect.specs.declared.listing_faults.LineCause.TheVariants.{Lexical, Form, BadPath}
+use Rattle.build_effect.specs.declared.listing_state.Binding.TheVariants.{Closed, Open}
+
+-- a text with the end of its line
+abbrev line : List ℕ → List ℕ
+line text = text ++ 10 ∷ []
+
+-- one file
+abbrev file : List ℕ → List (List ℕ)
+file path = path ∷ []
+
+-- a compile edge that reads the dyndep file
+abbrev compile : List ℕ → List ℕ → EdgeTexts
+compile object source = record {
+  rule = codes "cxx";
+  outputs = file object;
+  implicit_outputs = [];
+  inputs = file source;
+  implicit_inputs = [];
+  order_only = file (codes "t.dd");
+}
+
+-- ---- lines
+
+-- a build line with an order-only input
+compile_line : row_of (codes "build a.o: cxx a.cpp || t.dd") false ≡ Ok (BuildRow (compile (codes "a.o") (codes "a.cpp")))
+compile_line = refl
+
+-- all five lists, with escapes
+all_lists : row_of (codes "build a$ b c | d$:e : r.x f | g h || i") false ≡ Ok (BuildRow (record {
+  rule = codes "r.x";
+  outputs = codes "a b" ∷ codes "c" ∷ [];
+  implicit_outputs = file (codes "d:e");
+  inputs = file (codes "f");
+  implicit_inputs = codes "g" ∷ codes "h" ∷ [];
+  order_only = file (codes "i");
+}))
+all_lists = refl
+
+-- paths are canonical
+canonical : class_of_row (DyndepRow (codes "./x/../t.dd")) ≡ Ok (Dyndep (codes "t.dd"))
+unfolding canonical_of
+canonical = refl
+
+-- a binding of `restat`, on and off
+restat_on : row_of (codes "  restat = 1") false ≡ Ok (RestatRow true)
+restat_on = refl
+
+restat_off : row_of (codes "  restat =") false ≡ Ok (RestatRow false)
+restat_off = refl
+
+-- ---- lines that are refused
+
+-- no output
+no_output : line_cause Closed (line (codes "build : cxx a.cpp")) ≡ Some Form
+no_output = refl
+
+-- a rule that cannot be called so
+rule_with_a_sign : line_cause Closed (line (codes "build a: c+x")) ≡ Some Form
+rule_with_a_sign = refl
+
+-- no rule
+no_rule : line_cause Closed (line (codes "build a:")) ≡ Some Form
+no_rule = refl
+
+-- order-only inputs before implicit ones
+turned_round : line_cause Closed (line (codes "build a: r || b | c")) ≡ Some Form
+turned_round = refl
+
+-- a validation
+validation : line_cause Closed (line (codes "build a: r |@ b")) ≡ Some Form
+validation = refl
+
+-- a binding under no edge; its form is told before its path
+no_edge : line_cause Closed (line (codes "  dyndep = a/..")) ≡ Some Form
+no_edge = refl
+
+-- a second binding of one name
+second_dyndep : line_cause (open_from Closed (Build (compile [] []) ∷ Dyndep [] ∷ Comment ∷ [])) (line (codes "  dyndep = b")) ≡ Some Form
+second_dyndep = refl
+
+-- a binding behind a blank line
+behind_a_blank_line : line_cause (open_from Closed (Build (compile [] []) ∷ Blank ∷ [])) (line (codes "  restat = 1")) ≡ Some Form
+behind_a_blank_line = refl
+
+-- another name
+other_name : line_cause (Open false false) (line (codes "  depfile = b")) ≡ Some Form
+other_name = refl
+
+-- the first word that is no path
+no_path : line_cause Closed (line (codes "build a: r b a/.. | ../..")) ≡ Some (BadPath Empty)
+unfolding canonical_of
+no_path = refl
+
+-- a reference to a variable, before all else
+variable : line_cause Closed (line (codes "rule $x")) ≡ Some (Lexical (Variable 5))
+variable = refl
+
+-- ---- a listing
+
+abbrev listing : List (List ℕ)
+listing =
+    line (codes "build a.o: cxx a.cpp || t.dd") ∷ line (codes "  dyndep = t.dd") ∷ line (codes "# objects") ∷ line (codes "  restat = 1")
+    ∷ line (codes "build b.o: cxx b.cpp || t.dd") ∷ line (codes "  dyndep = t.dd") ∷ line []
+    ∷ line (codes "build lib: ar a.o b.o") ∷ []
+
+abbrev archive : EdgeTexts
+archive = record {
+  rule = codes "ar";
+  outputs = file (codes "lib");
+  implicit_outputs = [];
+  inputs = codes "a.o" ∷ codes "b.o" ∷ [];
+  implicit_inputs = [];
+  order_only = [];
+}
+
+abbrev edges : List EdgeValue
+edges =
+    record {
+      rule = codes "cxx";
+      outputs = file (codes "a.o");
+      implicit_outputs = [];
+      inputs = file (codes "a.cpp");
+      implicit_inputs = [];
+      order_only = file (codes "t.dd");
+      dyndep = Some (codes "t.dd");
+      restat = true;
+    }
+    ∷ record {
+      rule = codes "cxx";
+      outputs = file (codes "b.o");
+      implicit_outputs = [];
+      inputs = file (codes "b.cpp");
+      implicit_inputs = [];
+      order_only = file (codes "t.dd");
+      dyndep = Some (codes "t.dd");
+      restat = false;
+    }
+    ∷ record {
+      rule = codes "ar";
+      outputs = file (codes "lib");
+      implicit_outputs = [];
+      inputs = codes "a.o" ∷ codes "b.o" ∷ [];
+      implicit_inputs = [];
+      order_only = [];
+      dyndep = None;
+      restat = false;
+    }
+    ∷ []
+
+abbrev classes : List Class
+classes =
+    Build (compile (codes "a.o") (codes "a.cpp")) ∷ Dyndep (codes "t.dd") ∷ Comment ∷ Restat true ∷ Build (compile (codes "b.o") (codes "b.cpp")) ∷ Dyndep (codes "t.dd") ∷ Blank
+    ∷ Build archive ∷ []
+
+-- the form relates its classes to its edges
+listing_form : IsListing classes edges
+listing_form =
+    listing_build (dyndep_binding (comment_between (restat_binding no_more_bindings)))
+    (listing_build (dyndep_binding no_more_bindings) (listing_blank (listing_build no_more_bindings listing_end)))
+
+-- its lines are of these classes
+abbrev IsLineOf : List ℕ → Class → Type 0
+IsLineOf line c = TextIsOfClass (text_of line) (is_comment line) c
+
+first_line : IsLineOf (line (codes "build a.o: cxx a.cpp || t.dd")) (Build (compile (codes "a.o") (codes "a.cpp")))
+unfolding canonical_of
+first_line = (BuildRow (compile (codes "a.o") (codes "a.cpp")), refl, refl)
+
+second_line : IsLineOf (line (codes "  dyndep = t.dd")) (Dyndep (codes "t.dd"))
+unfolding canonical_of
+second_line = (DyndepRow (codes "t.dd"), refl, refl)
+
+third_line : IsLineOf (line (codes "# objects")) Comment
+third_line = (CommentRow, refl, refl)
+
+fourth_line : IsLineOf (line (codes "  restat = 1")) (Restat true)
+fourth_line = (RestatRow true, refl, refl)
+
+seventh_line : IsLineOf (line []) Blank
+seventh_line = (BlankRow, refl, refl)
+
+last_line : IsLineOf (line (codes "build lib: ar a.o b.o")) (Build archive)
+unfolding canonical_of
+last_line = (BuildRow archive, refl, refl)

@@ -1,0 +1,308 @@
+-- Lines of an edge listing that are run over one after another, and the listings that begin with them.
+use Rattle.std.proofs.Common.{inl, inr, ◌⊎◌, ◌≡◌, ℕ, Bool, true, false, List, [], ◌∷◌, ◌++◌, refl, sym, ap, ◌∙◌, subst, append_assoc, Option, Some, None}
+use Rattle.std.specs.Prelude.{is_some, Result, Ok, Err, not, if◌then◌else◌}
+use Rattle.std.specs.Option.{option_and_then}
+use Rattle.std.proofs.lemmas.List.{append-nil}
+use Rattle.ninja_text.specs.Paths.{path_of}
+use Rattle.ninja_text.specs.declared.paths.PathFault.{PathFault}
+use Rattle.build_effect.specs.EdgeValue.{EdgeValue}
+use Rattle.build_effect.specs.ListingLines.{EdgeTexts, Row, CommentRow, BlankRow, BuildRow, DyndepRow, RestatRow, Class, Comment, Blank, Build, Dyndep, Restat, row_of, class_of_row, dyndep_class, TextIsOfClass}
+use Rattle.build_effect.specs.ListingGrammar.{HasBindings, no_more_bindings, comment_between, dyndep_binding, restat_binding, bound, IsListing, listing_end, listing_comment, listing_blank, listing_build, Begins}
+use Rattle.build_effect.specs.ListingSteps.{ListingValue, may_stand, with_last_dyndep, with_last_restat, step, run}
+use Rattle.build_effect.specs.ListingFaults.{left_open, open_from, row_cause, path_cause, text_cause}
+use Rattle.build_effect.specs.declared.listing_faults.LineCause.{LineCause}
+use Rattle.build_effect.specs.declared.listing_faults.LineCause.TheVariants.{Form}
+use Rattle.build_effect.specs.declared.listing_state.Binding.{Binding}
+use Rattle.build_effect.specs.declared.listing_state.Binding.TheVariants.{Closed, Open}
+
+-- the same edges so far
+pub value_same : {x y : ListingValue} → ◌≡◌ {A = Option ListingValue} (Some x) (Some y) → x ≡ y
+value_same h = cc
+
+-- where a line may not stand, nothing comes of it
+never : {end : ListingValue} {A : Type 0} → ◌≡◌ {A = Option ListingValue} None (Some end) → A
+never h = absurd (cc)
+
+-- a step either comes to something or does not
+cases_step : (o : Option ListingValue) → (o ≡ None) ⊎ ((next : ListingValue) × (o ≡ Some next))
+cases_step None = inl refl
+cases_step (Some next) = inr (next, refl)
+
+-- the last edge's dyndep file
+last_dyndep : (start : List EdgeValue) (t : EdgeTexts) (path : List ℕ) (dyndep : Option (List ℕ)) (restat : Option Bool)
+    → with_last_dyndep path (start ++ bound t dyndep restat ∷ []) ≡ start ++ bound t (Some path) restat ∷ []
+last_dyndep [] t path dyndep restat = refl
+last_dyndep (e ∷ []) t path dyndep restat = refl
+last_dyndep (e ∷ f ∷ es) t path dyndep restat = ap (λ l. e ∷ l) (last_dyndep (f ∷ es) t path dyndep restat)
+
+-- the last edge's flag
+last_restat : (start : List EdgeValue) (t : EdgeTexts) (flag : Bool) (dyndep : Option (List ℕ)) (restat : Option Bool)
+    → with_last_restat flag (start ++ bound t dyndep restat ∷ []) ≡ start ++ bound t dyndep (Some flag) ∷ []
+last_restat [] t flag dyndep restat = refl
+last_restat (e ∷ []) t flag dyndep restat = refl
+last_restat (e ∷ f ∷ es) t flag dyndep restat = ap (λ l. e ∷ l) (last_restat (f ∷ es) t flag dyndep restat)
+
+-- the run over these lines ends with these edges
+record RunsTo (binding : Binding) (start : List EdgeValue) (classes : List Class) (result : List EdgeValue) : Type 0 where
+  final : Binding
+  is : run binding start classes ≡ Some (record { edges = result; binding = final })
+
+-- what may follow where no edge is open may follow where one is
+open_runs : (binding : Binding) (classes : List Class) (start result : List EdgeValue) → RunsTo Closed start classes result → RunsTo binding start classes result
+open_runs binding [] start result r =
+    let same : start ≡ result = ap (λ s. s.edges) (value_same r.is) in
+    record { final = binding; is = ap (λ es. Some (record { edges = es; binding = binding })) same }
+open_runs binding (Comment ∷ classes) start result r = let later = open_runs binding classes start result (record { final = r.final; is = r.is }) in record { final = later.final; is = later.is }
+open_runs binding (Blank ∷ classes) start result r = record { final = r.final; is = r.is }
+open_runs binding (Build t ∷ classes) start result r = record { final = r.final; is = r.is }
+open_runs binding (Dyndep path ∷ classes) start result r = never r.is
+open_runs binding (Restat flag ∷ classes) start result r = never r.is
+
+-- the one that is there, the first if both are
+abbrev either : {A : Type 0} → Option A → Option A → Option A
+either None y = y
+either (Some x) y = Some x
+
+-- at most one is there
+abbrev Apart : {A : Type 0} → Option A → Option A → Type 0
+Apart None y = Unit {0}
+Apart (Some x) None = Unit {0}
+Apart (Some x) (Some y) = ⊥
+
+either_none : {A : Type 0} (x : Option A) → either x None ≡ x
+either_none None = refl
+either_none (Some x) = refl
+
+-- the bindings of an open edge set what they name
+bindings_run : {classes more : List Class} {d : Option (List ℕ)} {r : Option Bool} (start result : List EdgeValue) (t : EdgeTexts) (dyndep : Option (List ℕ)) (restat : Option Bool)
+    → HasBindings classes d r more → Apart dyndep d → Apart restat r → RunsTo Closed (start ++ bound t (either dyndep d) (either restat r) ∷ []) more result
+    → RunsTo (Open (is_some dyndep) (is_some restat)) (start ++ bound t dyndep restat ∷ []) classes result
+bindings_run start result t dyndep restat (no_more_bindings {more}) a b runs =
+    open_runs (Open (is_some dyndep) (is_some restat)) more (start ++ bound t dyndep restat ∷ []) result
+    (subst (λ e. RunsTo Closed (start ++ e ∷ []) more result) (rw (either_none dyndep, either_none restat) refl) runs)
+bindings_run start result t dyndep restat (comment_between h) a b runs =
+    let later = bindings_run start result t dyndep restat h a b runs in record { final = later.final; is = later.is }
+bindings_run start result t (Some p) restat (dyndep_binding h) a b runs = absurd a
+bindings_run start result t None restat (dyndep_binding {classes} {more} {path} {restat = r} h) a b runs =
+    let later = bindings_run start result t (Some path) restat h tt b runs in
+    record { final = later.final; is = ap (λ es. run (Open true (is_some restat)) es classes) (last_dyndep start t path None restat) ∙ later.is }
+bindings_run start result t dyndep (Some f) (restat_binding h) a b runs = absurd b
+bindings_run start result t dyndep None (restat_binding {classes} {more} {dyndep = d} {flag} h) a b runs =
+    let later = bindings_run start result t dyndep (Some flag) h a tt runs in
+    record { final = later.final; is = ap (λ es. run (Open (is_some dyndep) true) es classes) (last_restat start t flag dyndep None) ∙ later.is }
+
+-- the lines of a listing run to its edges
+listing_runs : {classes : List Class} {es : List EdgeValue} (start : List EdgeValue) → IsListing classes es → RunsTo Closed start classes (start ++ es)
+listing_runs start listing_end = record { final = Closed; is = ap (λ es. Some (record { edges = es; binding = Closed })) (sym (append-nil start)) }
+listing_runs start (listing_comment l) = let r = listing_runs start l in record { final = r.final; is = r.is }
+listing_runs start (listing_blank l) = let r = listing_runs start l in record { final = r.final; is = r.is }
+listing_runs start (listing_build {paths} {classes} {more} {dyndep} {restat} {edges} h l) =
+    let e = bound paths dyndep restat in
+    let later = subst (RunsTo Closed (start ++ e ∷ []) more) (append_assoc start (e ∷ []) edges) (listing_runs (start ++ e ∷ []) l) in
+    let r = bindings_run start (start ++ e ∷ edges) paths None None h tt tt later in
+    record { final = r.final; is = r.is }
+
+-- lines of these classes list one list of edges at most
+pub one_list_of_edges : {classes : List Class} {es fs : List EdgeValue} → IsListing classes es → IsListing classes fs → es ≡ fs
+one_list_of_edges {classes} {es} {fs} a b =
+    let r = listing_runs [] a in
+    let q = listing_runs [] b in
+    ap (λ s. s.edges) (value_same (sym r.is ∙ q.is))
+
+-- the edges that a run adds, where none is open
+record Added (classes : List Class) (start : List EdgeValue) (end : ListingValue) : Type 0 where
+  edges : List EdgeValue
+  are : end.edges ≡ start ++ edges
+  grammar : IsListing classes edges
+
+-- the bindings and the edges that a run adds, where one is open with these bindings
+record Bound (classes : List Class) (start : List EdgeValue) (t : EdgeTexts) (dyndep : Option (List ℕ)) (restat : Option Bool) (end : ListingValue) : Type 0 where
+  d : Option (List ℕ)
+  r : Option Bool
+  more : List Class
+  edges : List EdgeValue
+  bindings : HasBindings classes d r more
+  apart_d : Apart dyndep d
+  apart_r : Apart restat r
+  grammar : IsListing more edges
+  are : end.edges ≡ start ++ bound t (either dyndep d) (either restat r) ∷ edges
+
+-- what any run over these lines adds
+record RunAdds (classes : List Class) : Type 0 where
+  none : (start : List EdgeValue) (end : ListingValue) → run Closed start classes ≡ Some end → Added classes start end
+  one : (start : List EdgeValue) (t : EdgeTexts) (dyndep : Option (List ℕ)) (restat : Option Bool) (end : ListingValue)
+      → run (Open (is_some dyndep) (is_some restat)) (start ++ bound t dyndep restat ∷ []) classes ≡ Some end → Bound classes start t dyndep restat end
+
+apart_none : {A : Type 0} (x : Option A) → Apart x None
+apart_none None = tt
+apart_none (Some x) = tt
+
+apart_some : {A : Type 0} (x : A) (y : Option A) → Apart (Some x) y → y ≡ None
+apart_some x None h = refl
+apart_some x (Some y) h = absurd h
+
+-- no binding comes any more
+no_binding : (classes : List Class) (start : List EdgeValue) (t : EdgeTexts) (dyndep : Option (List ℕ)) (restat : Option Bool) (end : ListingValue) (edges : List EdgeValue)
+    → IsListing classes edges → end.edges ≡ start ++ bound t dyndep restat ∷ edges → Bound classes start t dyndep restat end
+no_binding classes start t dyndep restat end edges grammar are = record {
+  d = None;
+  r = None;
+  more = classes;
+  edges = edges;
+  bindings = no_more_bindings;
+  apart_d = apart_none dyndep;
+  apart_r = apart_none restat;
+  grammar = grammar;
+  are = rw (either_none dyndep, either_none restat) are;
+}
+
+-- a binding of `dyndep` comes next
+dyndep_next : (path : List ℕ) (classes : List Class) (later : RunAdds classes) (start : List EdgeValue) (t : EdgeTexts) (dyndep : Option (List ℕ)) (restat : Option Bool) (end : ListingValue)
+    → run (Open (is_some dyndep) (is_some restat)) (start ++ bound t dyndep restat ∷ []) (Dyndep path ∷ classes) ≡ Some end → Bound (Dyndep path ∷ classes) start t dyndep restat end
+dyndep_next path classes later start t (Some p) restat end h = never h
+dyndep_next path classes later start t None restat end h =
+    let o = later.one start t (Some path) restat end (sym (ap (λ es. run (Open true (is_some restat)) es classes) (last_dyndep start t path None restat)) ∙ h) in record {
+      d = Some path;
+      r = o.r;
+      more = o.more;
+      edges = o.edges;
+      bindings = dyndep_binding (subst (λ x. HasBindings classes x o.r o.more) (apart_some path o.d o.apart_d) o.bindings);
+      apart_d = tt;
+      apart_r = o.apart_r;
+      grammar = o.grammar;
+      are = o.are;
+    }
+
+-- a binding of `restat` comes next
+restat_next : (flag : Bool) (classes : List Class) (later : RunAdds classes) (start : List EdgeValue) (t : EdgeTexts) (dyndep : Option (List ℕ)) (restat : Option Bool) (end : ListingValue)
+    → run (Open (is_some dyndep) (is_some restat)) (start ++ bound t dyndep restat ∷ []) (Restat flag ∷ classes) ≡ Some end → Bound (Restat flag ∷ classes) start t dyndep restat end
+restat_next flag classes later start t dyndep (Some f) end h = never h
+restat_next flag classes later start t dyndep None end h =
+    let o = later.one start t dyndep (Some flag) end (sym (ap (λ es. run (Open (is_some dyndep) true) es classes) (last_restat start t flag dyndep None)) ∙ h) in record {
+      d = o.d;
+      r = Some flag;
+      more = o.more;
+      edges = o.edges;
+      bindings = restat_binding (subst (λ x. HasBindings classes o.d x o.more) (apart_some flag o.r o.apart_r) o.bindings);
+      apart_d = o.apart_d;
+      apart_r = tt;
+      grammar = o.grammar;
+      are = o.are;
+    }
+
+-- a run adds just the edges that its lines are a listing of
+run_adds : (classes : List Class) → RunAdds classes
+run_adds [] = record {
+  none = λ start end h. record { edges = []; are = sym (ap (λ s. s.edges) (value_same h)) ∙ sym (append-nil start); grammar = listing_end };
+  one = λ start t dyndep restat end h. no_binding [] start t dyndep restat end [] listing_end (sym (ap (λ s. s.edges) (value_same h)));
+}
+run_adds (Comment ∷ classes) = let later = run_adds classes in record {
+  none = λ start end h. let a = later.none start end h in record { edges = a.edges; are = a.are; grammar = listing_comment a.grammar };
+  one = λ start t dyndep restat end h. let o = later.one start t dyndep restat end h in record {
+    d = o.d;
+    r = o.r;
+    more = o.more;
+    edges = o.edges;
+    bindings = comment_between o.bindings;
+    apart_d = o.apart_d;
+    apart_r = o.apart_r;
+    grammar = o.grammar;
+    are = o.are;
+  };
+}
+run_adds (Blank ∷ classes) = let later = run_adds classes in record {
+  none = λ start end h. let a = later.none start end h in record { edges = a.edges; are = a.are; grammar = listing_blank a.grammar };
+  one = λ start t dyndep restat end h.
+      let e = bound t dyndep restat in
+      let a = later.none (start ++ e ∷ []) end h in
+      no_binding (Blank ∷ classes) start t dyndep restat end a.edges (listing_blank a.grammar) (a.are ∙ append_assoc start (e ∷ []) a.edges);
+}
+run_adds (Build u ∷ classes) = let later = run_adds classes in record {
+  none = λ start end h. let o = later.one start u None None end h in record { edges = bound u o.d o.r ∷ o.edges; are = o.are; grammar = listing_build o.bindings o.grammar };
+  one = λ start t dyndep restat end h.
+      let e = bound t dyndep restat in
+      let o = later.one (start ++ e ∷ []) u None None end h in
+      no_binding (Build u ∷ classes) start t dyndep restat end (bound u o.d o.r ∷ o.edges) (listing_build o.bindings o.grammar) (o.are ∙ append_assoc start (e ∷ []) (bound u o.d o.r ∷ o.edges));
+}
+run_adds (Dyndep path ∷ classes) = let later = run_adds classes in record { none = λ start end h. never h; one = dyndep_next path classes later }
+run_adds (Restat flag ∷ classes) = let later = run_adds classes in record { none = λ start end h. never h; one = restat_next flag classes later }
+
+-- lines that run are a listing of the edges that they run to
+pub run_is_listing : (classes : List Class) (end : ListingValue) → run Closed [] classes ≡ Some end → IsListing classes end.edges
+run_is_listing classes end h = let a = (run_adds classes).none [] end h in subst (IsListing classes) (sym a.are) a.grammar
+
+-- a run over more lines passes through the fewer
+run_front : (classes more : List Class) (binding : Binding) (start : List EdgeValue) (end : ListingValue) → run binding start (classes ++ more) ≡ Some end
+    → (mid : ListingValue) × (run binding start classes ≡ Some mid) × (run mid.binding mid.edges more ≡ Some end)
+run_front [] more binding start end h = (record { edges = start; binding = binding }, refl, h)
+run_front (c ∷ classes) more binding start end h = elim (cases_step (step binding start c)) [
+  | inl e ↦ absurd (let x : ◌≡◌ {A = Option ListingValue} None (Some end) = rw e at h in cc)
+  | inr o ↦ let later = run_front classes more o.0.binding o.0.edges end (rw o.1 at h) in (later.0, rw o.1 later.1, later.2)
+]
+
+-- and goes on from there
+pub run_more : (classes more : List Class) (binding : Binding) (start : List EdgeValue) (mid : ListingValue) → run binding start classes ≡ Some mid
+    → run binding start (classes ++ more) ≡ run mid.binding mid.edges more
+run_more [] more binding start mid h = ap (λ s. run s.binding s.edges more) (value_same h)
+run_more (c ∷ classes) more binding start mid h = elim (cases_step (step binding start c)) [
+  | inl e ↦ absurd (let x : ◌≡◌ {A = Option ListingValue} None (Some mid) = rw e at h in cc)
+  | inr o ↦ rw o.1 (run_more classes more o.0.binding o.0.edges mid (rw o.1 at h))
+]
+
+-- lines that some listing begins with can be run over
+pub begins_runs : (classes : List Class) → Begins classes → (end : ListingValue) × (run Closed [] classes ≡ Some end)
+begins_runs classes b =
+    let r = listing_runs [] b.2 in
+    let front = run_front classes b.0 Closed [] (record { edges = b.1; binding = r.final }) r.is in
+    (front.0, front.1)
+
+-- and some listing begins with lines that can be run over
+pub runs_begin : (classes : List Class) (end : ListingValue) → run Closed [] classes ≡ Some end → Begins classes
+runs_begin classes end h = ([], end.edges, subst (λ cs. IsListing cs end.edges) (sym (append-nil classes)) (run_is_listing classes end h))
+
+-- what a step leaves open is told by the class alone
+left : (binding : Binding) (es : List EdgeValue) (c : Class) (next : ListingValue) → step binding es c ≡ Some next → next.binding ≡ left_open binding c
+left binding es Comment next h = sym (ap (λ s. s.binding) (value_same h))
+left binding es Blank next h = sym (ap (λ s. s.binding) (value_same h))
+left binding es (Build t) next h = sym (ap (λ s. s.binding) (value_same h))
+left Closed es (Dyndep path) next h = never h
+left Closed es (Restat flag) next h = never h
+left (Open true restat) es (Dyndep path) next h = never h
+left (Open false restat) es (Dyndep path) next h = sym (ap (λ s. s.binding) (value_same h))
+left (Open dyndep true) es (Restat flag) next h = never h
+left (Open dyndep false) es (Restat flag) next h = sym (ap (λ s. s.binding) (value_same h))
+
+-- and so for a run
+pub binding_runs : (classes : List Class) (binding : Binding) (es : List EdgeValue) (end : ListingValue) → run binding es classes ≡ Some end → end.binding ≡ open_from binding classes
+binding_runs [] binding es end h = sym (ap (λ s. s.binding) (value_same h))
+binding_runs (c ∷ classes) binding es end h = elim (cases_step (step binding es c)) [
+  | inl e ↦ absurd (let x : ◌≡◌ {A = Option ListingValue} None (Some end) = rw e at h in cc)
+  | inr o ↦ binding_runs classes o.0.binding o.0.edges end (rw o.1 at h) ∙ ap (λ b. open_from b classes) (left binding es c o.0 o.1)
+]
+
+-- the class of a binding of `dyndep`
+dyndep_is : (o : Result (List ℕ) PathFault) (c : Class) → dyndep_class o ≡ Ok c → (path : List ℕ) × (c ≡ Dyndep path)
+dyndep_is (Ok path) c h = (path, let x : ◌≡◌ {A = Result Class PathFault} (Ok (Dyndep path)) (Ok c) = h in cc)
+dyndep_is (Err fault) c h = absurd (let x : ◌≡◌ {A = Result Class PathFault} (Err fault) (Ok c) = h in cc)
+
+-- a line of a class that passes may stand
+may_pass : (binding : Binding) (es : List EdgeValue) (row : Row) (c : Class) (next : ListingValue) → class_of_row row ≡ Ok c → step binding es c ≡ Some next → may_stand binding row ≡ true
+may_pass binding es CommentRow c next is steps = refl
+may_pass binding es BlankRow c next is steps = refl
+may_pass binding es (BuildRow t) c next is steps = refl
+may_pass Closed es (DyndepRow text) c next is steps =
+    let d = dyndep_is (path_of text) c is in never (subst (λ c. step Closed es c ≡ Some next) d.1 steps)
+may_pass (Open true restat) es (DyndepRow text) c next is steps =
+    let d = dyndep_is (path_of text) c is in never (subst (λ c. step (Open true restat) es c ≡ Some next) d.1 steps)
+may_pass (Open false restat) es (DyndepRow text) c next is steps = refl
+may_pass Closed es (RestatRow flag) c next is steps =
+    let r : c ≡ Restat flag = (let x : ◌≡◌ {A = Result Class PathFault} (Ok (Restat flag)) (Ok c) = is in cc) in never (subst (λ c. step Closed es c ≡ Some next) r steps)
+may_pass (Open dyndep true) es (RestatRow flag) c next is steps =
+    let r : c ≡ Restat flag = (let x : ◌≡◌ {A = Result Class PathFault} (Ok (Restat flag)) (Ok c) = is in cc) in never (subst (λ c. step (Open dyndep true) es c ≡ Some next) r steps)
+may_pass (Open dyndep false) es (RestatRow flag) c next is steps = refl
+
+-- and has no fault
+pub no_cause : (binding : Binding) (es : List EdgeValue) (text : List ℕ) (comment : Bool) (c : Class) (next : ListingValue) → TextIsOfClass text comment c → step binding es c ≡ Some next
+    → text_cause binding text comment ≡ None
+no_cause binding es text comment c next (row, is, of_row) steps =
+    ap (row_cause binding) is ∙ rw (may_pass binding es row c next of_row steps) (ap path_cause of_row)

@@ -1,0 +1,29 @@
+-- How the faults of an edge listing are printed: the line, the code and the name, and why a text is
+-- no path.
+use Rattle.std.specs.Prelude.{ℕ, List, ◌++◌, codes}
+use Rattle.std.specs.Fmt.{decimal}
+use Rattle.ninja_text.specs.FaultTexts.{lex_fault_text, path_fault_text}
+use Rattle.build_effect.specs.FaultTexts.{graph_fault_text}
+use Rattle.build_effect.specs.declared.listing_faults.LineCause.{LineCause}
+use Rattle.build_effect.specs.declared.listing_faults.LineCause.TheVariants.{LineTooLong, Truncated, Lexical, Form, BadPath}
+use Rattle.build_effect.specs.declared.listing_faults.LineFault.{LineFault}
+use Rattle.build_effect.specs.declared.listing_faults.ListingFault.{ListingFault}
+use Rattle.build_effect.specs.declared.listing_faults.ListingFault.TheVariants.{AtLine, NoGraph}
+
+-- what is wrong with a line
+abbrev pub line_cause_text : LineCause → List ℕ
+line_cause_text LineTooLong = codes "N5 LineTooLong"
+line_cause_text Truncated = codes "N6 Truncated"
+line_cause_text (Lexical fault) = lex_fault_text fault
+line_cause_text Form = codes "E3 Form"
+line_cause_text (BadPath fault) = codes "E3 Path " ++ path_fault_text fault
+
+-- the line, and what is wrong with it
+abbrev pub line_fault_text : LineFault → List ℕ
+line_fault_text fault =
+    codes "line " ++ decimal fault.line ++ codes ": " ++ line_cause_text fault.cause
+
+-- why a listing gave no graph
+abbrev pub listing_fault_text : ListingFault → List ℕ
+listing_fault_text (AtLine fault) = line_fault_text fault
+listing_fault_text (NoGraph fault) = graph_fault_text fault

@@ -1,0 +1,97 @@
+-- What a reader of edge listings answers, by all bytes that it was fed, however they were cut into
+-- pieces.
+use Rattle.std.specs.Prelude.{◌≡◌, ℕ, List, [], ◌∷◌, Option, Some, None, Result, Ok, Err, ◌⊎◌}
+use Rattle.ninja_text.specs.Lines.{LogicalLine}
+use Rattle.ninja_text.specs.LineReading.{LinesRead, HasLentAll}
+use Rattle.ninja_text.specs.declared.failure.Failure.{Failure}
+use Rattle.ninja_text.specs.declared.failure.Failure.TheVariants.{Memory, Fault}
+use Rattle.ninja_text.specs.declared.faults.CutFault.{CutFault}
+use Rattle.ninja_text.specs.declared.faults.CutFault.TheVariants as cut
+use Rattle.build_effect.specs.EdgeValue.{EdgeValue}
+use Rattle.build_effect.specs.ListingLines.{Row, Class, TextIsOfClass, row_of, class_of_row}
+use Rattle.build_effect.specs.ListingSteps.{ListingValue, step, run}
+use Rattle.build_effect.specs.ListingFaults.{text_cause}
+use Rattle.build_effect.specs.ListingReading.{Lists, FaultyLine, FaultyEnd}
+use Rattle.build_effect.specs.Faults.{IsGraphFault}
+use Rattle.build_effect.specs.declared.fault.GraphFault.{GraphFault}
+use Rattle.build_effect.specs.declared.listing_faults.LineCause.{LineCause}
+use Rattle.build_effect.specs.declared.listing_faults.LineCause.TheVariants.{LineTooLong, Truncated}
+use Rattle.build_effect.specs.declared.listing_faults.LineFault.{LineFault}
+use Rattle.build_effect.specs.declared.listing_faults.ListingFault.{ListingFault}
+use Rattle.build_effect.specs.declared.listing_faults.ListingFault.TheVariants.{AtLine, NoGraph}
+use Rattle.build_effect.specs.declared.listing_state.Binding.TheVariants.{Closed}
+
+-- The lines are of these classes, one by one.
+abbrev pub AreTextsOfClasses : List LogicalLine → List Class → Type 0
+AreTextsOfClasses [] [] = Unit {0}
+AreTextsOfClasses (line ∷ lines) (c ∷ classes) =
+    TextIsOfClass line.text line.comment c × AreTextsOfClasses lines classes
+AreTextsOfClasses [] (c ∷ classes) = ⊥
+AreTextsOfClasses (line ∷ lines) [] = ⊥
+
+-- Lines of these classes, one behind another, give the edges so far.
+pub record AreReadTo (lent : List LogicalLine) (value : ListingValue) : Type 0 where
+  pub classes : List Class
+  pub texts : AreTextsOfClasses lent classes
+  pub ran : run Closed [] classes ≡ Some value
+
+-- a reader: the lines read, the edges so far, and what it refused with, if it did
+abbrev pub Reader : Type 0
+Reader = LinesRead ListingValue LineFault
+
+-- The reader was fed these bytes in all, and has refused none.
+pub record HasRead (bytes : List ℕ) (r : Reader) : Type 0 where
+  pub lent : List LogicalLine
+  pub has : HasLentAll bytes lent r
+  pub read : AreReadTo lent r.state
+
+-- The fault is in the bytes: a line of them is the first faulty one, or their end has reached the
+-- limit of a line. It is the fault of every text that begins with them.
+abbrev pub IsFaultIn : List ℕ → LineFault → Type 0
+IsFaultIn bytes fault =
+    FaultyLine bytes fault ⊎ (FaultyEnd bytes fault × (fault.cause ≡ LineTooLong))
+
+-- Memory was refused, or the fault is in the bytes.
+abbrev pub IsFailureIn : List ℕ → Failure LineFault → Type 0
+IsFailureIn bytes Memory = Unit {0}
+IsFailureIn bytes (Fault fault) = IsFaultIn bytes fault
+
+-- What `feed` answers, and what the reader is then; by all bytes fed, this call's with them, to a
+-- reader that had refused none.
+abbrev pub Reads : List ℕ → Result Unit (Failure LineFault) → Reader → Type 0
+Reads bytes (Ok u) new = HasRead bytes new
+Reads bytes (Err failure) new = (new.failed ≡ Some failure) × IsFailureIn bytes failure
+
+-- what a reader that refused answers at the end
+abbrev pub line_failure : Failure LineFault → Failure ListingFault
+line_failure Memory = Memory
+line_failure (Fault fault) = Fault (AtLine fault)
+
+-- What `finish` answers; by all bytes fed to a reader that has refused none: the graph of the edges
+-- listed, or the fault of the text's end, or why the edges listed are no graph, or memory was
+-- refused.
+abbrev pub Ends : List ℕ → Result (List EdgeValue) (Failure ListingFault) → Type 0
+Ends bytes (Ok graph) = Lists bytes graph
+Ends bytes (Err (Fault (AtLine fault))) = FaultyEnd bytes fault
+Ends bytes (Err (Fault (NoGraph fault))) =
+    (edges : List EdgeValue) × Lists bytes edges × IsGraphFault edges fault
+Ends bytes (Err Memory) = Unit {0}
+
+-- ---- inside the reader
+
+-- A line passes, and these are the edges after it.
+abbrev pub PassesLine : ListingValue → LogicalLine → ListingValue → Type 0
+PassesLine old line new =
+    (c : Class) × TextIsOfClass line.text line.comment c
+    × (step old.binding old.edges c ≡ Some new)
+
+-- A line has this fault.
+abbrev pub RefusesLine : ListingValue → LogicalLine → LineFault → Type 0
+RefusesLine old line fault =
+    (fault.line ≡ line.number)
+    × (text_cause old.binding line.text line.comment ≡ Some fault.cause)
+
+-- the cutter's fault as the reader's
+abbrev pub fault_of_cutter : CutFault → LineFault
+fault_of_cutter (cut.LineTooLong line) = record { line = line; cause = LineTooLong }
+fault_of_cutter (cut.Truncated line) = record { line = line; cause = Truncated }

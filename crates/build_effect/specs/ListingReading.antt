@@ -1,0 +1,78 @@
+-- Which edges a text lists, and which fault a text has that lists none.
+use Rattle.std.specs.Prelude.{◌≡◌, ℕ, ◌<◌, ◌≤◌, List, [], ◌∷◌, ◌++◌, length, Some, ◌⊎◌}
+use Rattle.std.specs.List.{flat_map, AllByRecursion}
+use Rattle.ninja_text.specs.Lines.{line_limit, IsLine, Divides, number_after}
+use Rattle.build_effect.specs.EdgeValue.{EdgeValue}
+use Rattle.build_effect.specs.ListingLines.{Class, IsOfClass}
+use Rattle.build_effect.specs.ListingGrammar.{IsListing, Begins}
+use Rattle.build_effect.specs.ListingFaults.{open_from, line_cause}
+use Rattle.build_effect.specs.declared.listing_faults.LineCause.{LineCause}
+use Rattle.build_effect.specs.declared.listing_faults.LineCause.TheVariants.{LineTooLong, Truncated}
+use Rattle.build_effect.specs.declared.listing_faults.LineFault.{LineFault}
+use Rattle.build_effect.specs.declared.listing_state.Binding.TheVariants.{Closed}
+
+-- The lines are of these classes, one by one.
+abbrev pub AreOfClasses : List (List ℕ) → List Class → Type 0
+AreOfClasses [] [] = Unit {0}
+AreOfClasses (line ∷ lines) (c ∷ classes) = IsOfClass line c × AreOfClasses lines classes
+AreOfClasses [] (c ∷ classes) = ⊥
+AreOfClasses (line ∷ lines) [] = ⊥
+
+-- The text lists the edges: it is divided into lines, with no bytes left over, and the lines are a
+-- listing of them.
+pub record Lists (bytes : List ℕ) (edges : List EdgeValue) : Type 0 where
+  pub lines : List (List ℕ)
+  pub classes : List Class
+  pub divided : Divides bytes lines []
+  pub classed : AreOfClasses lines classes
+  pub grammar : IsListing classes edges
+
+-- After lines of these classes, no listing goes on with this line.
+abbrev pub IsFaultyAfter : List Class → List ℕ → Type 0
+IsFaultyAfter classes line = (c : Class) → IsOfClass line c → Begins (classes ++ c ∷ []) → ⊥
+
+-- A line of the text is the first faulty one: some listing begins with the lines before it, and
+-- none goes on with this line. The number is that of the line's first physical line. Any bytes may
+-- come after the line.
+pub record FaultyLine (bytes : List ℕ) (found : LineFault) : Type 0 where
+  pub before : List (List ℕ)
+  pub line : List ℕ
+  pub after : List ℕ
+  pub classes : List Class
+  pub whole : bytes ≡ flat_map (λ line. line) (before ++ line ∷ []) ++ after
+  pub each : AllByRecursion IsLine (before ++ line ∷ [])
+  pub classed : AreOfClasses before classes
+  pub begun : Begins classes
+  pub faulty : IsFaultyAfter classes line
+  pub number : found.line ≡ number_after (flat_map (λ line. line) before)
+  pub reason : line_cause (open_from Closed classes) line ≡ Some found.cause
+
+-- What is wrong at the end of a text without a faulty line: the bytes left over hold no end and
+-- reach the limit, or they are fewer, but some.
+abbrev pub IsEndCause : List ℕ → LineCause → Type 0
+IsEndCause rest LineTooLong = line_limit ≤ length rest
+IsEndCause rest Truncated = (0 < length rest) × (length rest < line_limit)
+IsEndCause rest other = ⊥
+
+-- No line of the text is faulty, and its end is; the number is that of the line which would begin
+-- behind the last whole line.
+pub record FaultyEnd (bytes : List ℕ) (found : LineFault) : Type 0 where
+  pub lines : List (List ℕ)
+  pub rest : List ℕ
+  pub classes : List Class
+  pub divided : Divides bytes lines rest
+  pub classed : AreOfClasses lines classes
+  pub begun : Begins classes
+  pub number : found.line ≡ number_after (flat_map (λ line. line) lines)
+  pub reason : IsEndCause rest found.cause
+
+-- Laws: a text lists one list of edges at most, and one that does has no fault.
+abbrev pub OneListing : Type 0
+OneListing =
+    (bytes : List ℕ) (edges others : List EdgeValue)
+    → Lists bytes edges → Lists bytes others → others ≡ edges
+
+abbrev pub ListedIsFaultless : Type 0
+ListedIsFaultless =
+    (bytes : List ℕ) (edges : List EdgeValue) (fault : LineFault)
+    → Lists bytes edges → FaultyLine bytes fault ⊎ FaultyEnd bytes fault → ⊥

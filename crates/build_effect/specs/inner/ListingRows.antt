@@ -1,0 +1,84 @@
+-- What the parts of reading a line of an edge listing answer, by the symbols before and after.
+use Rattle.std.specs.Prelude.{◌≡◌, ℕ, Bool, true, false, List, [], ◌∷◌, map, Option, Some, None, Result, Ok, Err}
+use Rattle.ninja_text.specs.Tokens.{SeenToken}
+use Rattle.ninja_text.specs.declared.failure.Failure.{Failure}
+use Rattle.ninja_text.specs.declared.failure.Failure.TheVariants.{Memory, Fault}
+use Rattle.ninja_text.specs.declared.token.TokenKind.{TokenKind}
+use Rattle.dyndep_file.specs.Classes.{Symbol, WordSymbol}
+use Rattle.build_effect.specs.ListingLines as lines
+use Rattle.build_effect.specs.ListingLines.{EdgeTexts, Class, class_of_row, past_sign, front_words, past_words}
+use Rattle.ninja_text.specs.declared.paths.PathFault.{PathFault}
+use Rattle.build_effect.specs.ListingGrammar.{bound}
+use Rattle.build_effect.specs.ListingSteps.{ListingValue, step}
+use Rattle.ninja_text.specs.Lines.{LogicalLine}
+use Rattle.build_effect.specs.EdgeValue.{EdgeValue}
+use Rattle.build_effect.specs.Faults.{IsGraphFault}
+use Rattle.build_effect.specs.ListingFaults.{row_cause, text_cause}
+use Rattle.build_effect.specs.ListingReaders.{PassesLine}
+use Rattle.build_effect.specs.declared.fault.GraphFault.{GraphFault}
+use Rattle.build_effect.specs.declared.listing_faults.LineFault.{LineFault}
+use Rattle.build_effect.specs.declared.listing_faults.ListingFault.{ListingFault}
+use Rattle.build_effect.specs.declared.listing_faults.ListingFault.TheVariants.{AtLine, NoGraph}
+use Rattle.build_effect.specs.declared.listing_faults.LineCause.{LineCause}
+use Rattle.build_effect.specs.declared.listing_rows.Row.{Row}
+use Rattle.build_effect.specs.declared.listing_rows.Row.TheVariants.{Comment, Blank, Build, Dyndep, Restat}
+
+-- a row, with the bytes of its texts
+abbrev pub row_value : Row → lines.Row
+row_value Comment = lines.CommentRow
+row_value Blank = lines.BlankRow
+row_value (Build texts) = lines.BuildRow texts
+row_value (Dyndep text) = lines.DyndepRow text.items
+row_value (Restat flag) = lines.RestatRow flag
+
+-- the sign is at the front and is passed over, or it is not there and nothing is
+abbrev pub SignPassed : TokenKind → List Symbol → Bool → List Symbol → Type 0
+SignPassed sign old true new = past_sign sign old ≡ Some new
+SignPassed sign old false new = (past_sign sign old ≡ None) × (new ≡ old)
+
+-- a word is at the front and is passed over, or there is none and nothing is
+abbrev pub WordPassed : List Symbol → Option SeenToken → List Symbol → Type 0
+WordPassed old (Some token) new = old ≡ WordSymbol token.raw ∷ new
+WordPassed old None new = (front_words old ≡ []) × (past_words old ≡ old) × (new ≡ old)
+
+-- behind the colon, if there is one, a word is at the front and is passed over
+abbrev pub RulePassed : Option (List Symbol) → Option SeenToken → List Symbol → Type 0
+RulePassed past (Some token) new = past ≡ Some (WordSymbol token.raw ∷ new)
+RulePassed None None new = Unit {0}
+RulePassed (Some symbols) None new = (front_words symbols ≡ []) × (past_words symbols ≡ symbols)
+
+-- what a row does: it is of a class that passes, or its form or a path of it is the cause why not,
+-- or memory was refused
+abbrev pub TakesRow : ListingValue → lines.Row → Result Unit (Failure LineCause)
+    → ListingValue → Type 0
+TakesRow old row (Ok u) new =
+    (c : Class) × (class_of_row row ≡ Ok c) × (step old.binding old.edges c ≡ Some new)
+TakesRow old row (Err (Fault cause)) new = row_cause old.binding (Ok row) ≡ Some cause
+TakesRow old row (Err Memory) new = Unit {0}
+
+-- what reading a line's text does: it is of a class that passes, or has this cause, or memory was
+-- refused
+abbrev pub ReadsText : ListingValue → LogicalLine → Result Unit (Failure LineCause)
+    → ListingValue → Type 0
+ReadsText old line (Ok u) new = PassesLine old line new
+ReadsText old line (Err (Fault cause)) new =
+    text_cause old.binding line.text line.comment ≡ Some cause
+ReadsText old line (Err Memory) new = Unit {0}
+
+-- what becomes of edges: they are a graph, or not for this reason, or memory was refused
+abbrev pub GivesGraph : List EdgeValue → Result (List EdgeValue) (Failure ListingFault) → Type 0
+GivesGraph edges (Ok graph) = graph ≡ edges
+GivesGraph edges (Err (Fault (NoGraph fault))) = IsGraphFault edges fault
+GivesGraph edges (Err (Fault (AtLine fault))) = ⊥
+GivesGraph edges (Err Memory) = Unit {0}
+
+-- the edge that these paths are, without bindings, or the fault of a text, or memory was refused
+abbrev pub GivesEdge : Result EdgeValue (Failure PathFault) → Result EdgeTexts PathFault → Type 0
+GivesEdge (Ok edge) paths = (t : EdgeTexts) × (paths ≡ Ok t) × (edge ≡ bound t None None)
+GivesEdge (Err (Fault fault)) paths = paths ≡ Err fault
+GivesEdge (Err Memory) paths = Unit {0}
+
+-- why edges are no graph, as a failure of the listing
+abbrev pub graph_failure : Failure GraphFault → Failure ListingFault
+graph_failure Memory = Memory
+graph_failure (Fault fault) = Fault (NoGraph fault)
