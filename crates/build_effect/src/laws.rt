@@ -13,8 +13,8 @@ pub fn one_effect()
     ensures gives { EffectGives }
 {}
 
-/// Dyndep files of which no two add one file may be applied in any order, each edge then gains exactly what its own file
-/// adds, and all orders end in one graph.
+/// Dyndep files that each meet the premises of [`one_effect`], have different names, and of which no two add one file may
+/// be applied in any order. Each edge then gains exactly what its own file adds, and all orders end in one graph.
 pub fn any_order()
     ensures any_order { AnyOrder }
     ensures end_alike { OrdersEndAlike }
@@ -26,8 +26,9 @@ pub fn checks()
     ensures exclude { FaultsExclude }
 {}
 
-/// Where the graph with the added outputs alone can be ordered such that the edges that name the file stand on one level,
-/// and what the statements add can be ordered, the graph after the effect can be ordered.
+/// The premises of [`one_effect`] hold of a file and a graph, what the statements add can be ordered, and the graph with the
+/// added outputs alone can be ordered such that the edges that name the file stand on one level, and the makers of added
+/// inputs that are no added outputs below it: then the graph after the effect can be ordered.
 pub fn level_orders()
     ensures { LevelOrders }
 {}
