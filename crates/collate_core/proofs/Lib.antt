@@ -18,6 +18,7 @@ pub mod LoopLemmas
 pub mod Outcomes
 pub mod OneRefusal
 pub mod ProjectOutcomes
+pub mod OneProjectRefusal
 pub mod Rows
 pub mod Pushes
 pub mod MapRows

@@ -1,5 +1,5 @@
 -- Lemmas on lists.
-use Rattle.std.proofs.Common.{◌≡◌, ℕ, zero, suc, ◌+◌, ◌<◌, List, [], ◌∷◌, ◌++◌, length, map, take, Some, refl, ap, ap₂, subst, ◌∙◌, arith}
+use Rattle.std.proofs.Common.{◌≡◌, ℕ, zero, suc, ◌+◌, ◌<◌, ◌≤◌, List, [], ◌∷◌, ◌++◌, length, map, take, Some, refl, ap, ap₂, subst, ◌∙◌, arith}
 use Rattle.std.specs.Prelude.{slice_get, All}
 use Rattle.std.specs.List.{flat_map, AllZip, AllByRecursion}
 use Rattle.std.proofs.lemmas.List.{take_more}
@@ -47,3 +47,10 @@ in_take [] n k x e less = cc
 in_take (y ∷ xs) zero k x e less = absurd (omega arith)
 in_take (y ∷ xs) (suc n) zero x e less = e
 in_take (y ∷ xs) (suc n) (suc k) x e less = in_take xs n k x e (omega arith)
+
+-- fewer of the first
+pub take_less : {X : Type 0} (i j : ℕ) (xs : List X) → i ≤ j → take i (take j xs) ≡ take i xs
+take_less zero j xs le = refl
+take_less (suc i) zero xs le = absurd (omega arith)
+take_less (suc i) (suc j) [] le = refl
+take_less (suc i) (suc j) (x ∷ xs) le = ap (λ ys. x ∷ ys) (take_less i j xs (omega arith))

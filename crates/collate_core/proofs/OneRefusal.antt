@@ -1,4 +1,4 @@
--- A target has one refusal at most, and so has a project.
+-- A target has one refusal at most.
 use Rattle.std.proofs.Common.{◌≡◌, ℕ, zero, suc, ◌+◌, ◌<◌, ◌≤◌, ◌⊎◌, List, [], ◌∷◌, length, take, Option, Some, None, Ok, Err, refl, ap, ap₂, subst, sym, ◌∙◌, inl, inr, arith, slice_get}
 use Rattle.std.specs.Prelude.{All}
 use Rattle.dyndep_file.specs.declared.writing.WriteFault.TheVariants as write
@@ -21,17 +21,11 @@ use Rattle.collate_core.specs.Laws.{OneRefusal, IsSameRefusal, same_refusal, sam
 use Rattle.collate_core.specs.declared.fault.Refusal.{Refusal}
 use Rattle.collate_core.specs.declared.fault.Refusal.TheVariants.{Scan, Info, Table, StatementTooLong, Map, LinkedLater}
 use Rattle.collate_core.specs.declared.module_map.MapFault.{MapFault}
-use Rattle.collate_core.proofs.Lists.{in_take}
+use Rattle.collate_core.proofs.Lists.{in_take, take_less}
 use Rattle.collate_core.proofs.Outcomes.{OneAnswer, no_scan, no_info, no_map_fault, one_map}
 
-take_less : {X : Type 0} (i j : ℕ) (xs : List X) → i ≤ j → take i (take j xs) ≡ take i xs
-take_less zero j xs le = refl
-take_less (suc i) zero xs le = absurd (omega arith)
-take_less (suc i) (suc j) [] le = refl
-take_less (suc i) (suc j) (x ∷ xs) le = ap (λ ys. x ∷ ys) (take_less i j xs (omega arith))
-
 -- equal refusals are one
-equal : (refusal other : Refusal) → refusal ≡ other → IsSameRefusal refusal other
+pub equal : (refusal other : Refusal) → refusal ≡ other → IsSameRefusal refusal other
 equal refusal other e = subst (IsSameRefusal refusal) e same_refusal
 
 module _ (answers : OneAnswer) (one_fault : OneFault) where

@@ -25,7 +25,7 @@ infos_agree outs others bound same (k ∷ ks) all =
     let tail : linked_infos outs ks ≡ linked_infos others ks = infos_agree outs others bound same ks (λ j d within. all (suc j) d (omega (arith, within))) in
     cc
 
-targets_agree : (outs others : List CollatedValue) (bound : ℕ) → ((k : ℕ) → k < bound → bytes_at outs k ≡ bytes_at others k) → (p : ProjectTargetValue) → All (λ k. k < bound) p.linked → target_of others p ≡ target_of outs p
+pub targets_agree : (outs others : List CollatedValue) (bound : ℕ) → ((k : ℕ) → k < bound → bytes_at outs k ≡ bytes_at others k) → (p : ProjectTargetValue) → All (λ k. k < bound) p.linked → target_of others p ≡ target_of outs p
 targets_agree outs others bound same p all = ap (λ infos. record { name = p.name; setting = p.setting; scans = p.scans; infos = infos; kept = p.kept }) (sym (infos_agree outs others bound same p.linked all))
 
 written_at : (outs : List CollatedValue) (k : ℕ) (c : CollatedValue) → slice_get outs k ≡ Some c → bytes_at outs k ≡ c.info
@@ -44,7 +44,7 @@ module _ (answers : OneAnswer) (style : Option Written) (targets : List ProjectT
       let same : target_of others p.0 ≡ target_of outs p.0 = targets_agree outs others k before p.0 (project.earlier k p.0 p.1) in
       written_at outs k c.0 c.1 ∙ one.info ∙ ap (λ (v : TargetValue). info_text (info_of_table v.name v.kept (table_of v))) (sym same) ∙ sym two.info ∙ sym (written_at others k d.0 d.1)
 
-  up_to : (m : ℕ) → m ≤ n → (j : ℕ) → j < m → bytes_at outs j ≡ bytes_at others j
+  pub up_to : (m : ℕ) → m ≤ n → (j : ℕ) → j < m → bytes_at outs j ≡ bytes_at others j
   up_to zero le j less = absurd (omega arith)
   up_to (suc m) le j less =
       elim (three_ways j m) [

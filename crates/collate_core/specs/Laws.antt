@@ -45,6 +45,14 @@ ProjectIsNotRefused =
     (n : ℕ) (refusal : Refusal) →
     IsProject style targets outs → IsProjectRefusal style targets n refusal → ⊥
 
+-- and it has one refusal at most, of one target
+abbrev pub OneProjectRefusal : Type 0
+OneProjectRefusal =
+    (style : Option Written) (targets : List ProjectTargetValue) (n m : ℕ)
+    (refusal other : Refusal) →
+    IsProjectRefusal style targets n refusal → IsProjectRefusal style targets m other →
+    (n ≡ m) × IsSameRefusal refusal other
+
 -- of each project, files of its targets may be applied in any order
 abbrev pub ProjectOrders : Type 0
 ProjectOrders =

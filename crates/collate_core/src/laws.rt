@@ -1,5 +1,5 @@
 //! Laws of collated targets and projects: each is the contract of a call that does nothing.
-ghost use Rattle.collate_core.specs.Laws.{HeadlineHolds, CollatedIsNotRefused, OneRefusal, ProjectIsNotRefused, ProjectOrders, ProjectNumbered, ProjectEndOrderable, ProjectNeeds, ProjectMaps};
+ghost use Rattle.collate_core.specs.Laws.{HeadlineHolds, CollatedIsNotRefused, OneRefusal, ProjectIsNotRefused, OneProjectRefusal, ProjectOrders, ProjectNumbered, ProjectEndOrderable, ProjectNeeds, ProjectMaps};
 
 use build_effect::{any_order, files_order, one_effect};
 use module_table::{added_files, one_fault};
@@ -37,13 +37,14 @@ pub fn project_maps()
     value_of_bytes();
 }
 
-/// A target that collates has no refusal, and a target has one at most; nor has a project whose
-/// targets all collate: `collate` and `project` succeed exactly where there is none, want of memory
-/// aside.
+/// A target that collates has no refusal, and a target has one at most; and so it is with a project
+/// whose targets all collate, and with any project: `collate` and `project` succeed exactly where
+/// there is none, and else report the one that there is, want of memory aside.
 pub fn one_outcome()
     ensures collate { CollatedIsNotRefused }
     ensures one { OneRefusal }
     ensures project { ProjectIsNotRefused }
+    ensures one_of_project { OneProjectRefusal }
 {
     one_answer();
     one_fault();

@@ -39,6 +39,8 @@ mod rehearsal;
 mod statements;
 mod table;
 mod target;
+#[cfg(test)]
+mod tests;
 
 pub use check::check_edges;
 pub use clang::Clang;
@@ -51,4 +53,5 @@ pub use map_style::MapStyle;
 pub use module_map::{MapEntry, MapFault, ModuleMap};
 pub use projects::{ProjectOut, ProjectTarget, project};
 pub use rehearsal::rehearse;
+pub use table::RULE_LIMIT;
 pub use target::Target;

@@ -24,7 +24,7 @@ use scan_docs::{DocFault, Info, Place, Rule, Setting, info_read, scan};
 use std::alloc::Global;
 
 /// The most rules of a target.
-const RULE_LIMIT: usize = 65536;
+pub const RULE_LIMIT: usize = 65536;
 
 /// The table of the target's documents, or the fault of the first that is faulty, or of the table.
 pub(crate) fn table_of(alloc: Global, target: &TargetParts<'_>) -> Result<Table, Failure<Refusal>>

@@ -1,5 +1,6 @@
 use Rattle.collate_core.proofs.Outcomes.{OneAnswer, not_refused}
 use Rattle.collate_core.proofs.OneRefusal.{one_refusal}
+use Rattle.collate_core.proofs.OneProjectRefusal.{one_project_refusal}
 use Rattle.collate_core.proofs.ProjectOutcomes.{project_not_refused}
 use Rattle.collate_core.proofs.laws.one_outcome.Goals as goal
 
@@ -17,3 +18,8 @@ pub returns-clause-project : goal.returns-clause-project
 returns-clause-project c =
     let answers : OneAnswer = record { scan = c.one_answer.ensures.scan; info = c.one_answer.ensures.info } in
     project_not_refused answers
+
+pub returns-clause-one_of_project : goal.returns-clause-one_of_project
+returns-clause-one_of_project c =
+    let answers : OneAnswer = record { scan = c.one_answer.ensures.scan; info = c.one_answer.ensures.info } in
+    one_project_refusal answers c.one_fault.ensures
