@@ -1,14 +1,14 @@
 -- The edges that a reader of listings has: the last one changed, one more, and that each has an output.
-use Rattle.std.proofs.Common.{◌≡◌, ◌≢◌, append_assoc, ℕ, ◌+◌, ◌<◌, Bool, true, false, zero, suc, List, [], ◌∷◌, ◌++◌, length, refl, sym, ap, ◌∙◌, subst, Option, Some, None, Ok, Err, arith}
+use Rattle.std.proofs.Common.{◌≡◌, ◌≢◌, append_assoc, ℕ, ◌+◌, Bool, true, false, zero, suc, List, [], ◌∷◌, ◌++◌, length, refl, sym, ap, ◌∙◌, Some, None, Ok, Err, arith}
 use Rattle.std.specs.Prelude.{Result, All, slice_set, slice_index_or}
 use Rattle.ninja_text.specs.Paths.{path_of}
 use Rattle.ninja_text.specs.declared.paths.PathFault.{PathFault}
 use Rattle.build_effect.specs.EdgeValue.{EdgeValue}
 use Rattle.build_effect.specs.ListingLines.{EdgeTexts, Class, Build, Dyndep, Restat, build_class, dyndep_class, with_path, paths_of, edge_paths}
 use Rattle.build_effect.specs.ListingGrammar.{bound}
-use Rattle.build_effect.specs.ListingSteps.{ListingValue, with_last, with_last_dyndep, with_last_restat, step}
+use Rattle.build_effect.specs.ListingSteps.{with_last, with_last_dyndep, with_last_restat, step}
 use Rattle.build_effect.specs.declared.listing_state.Binding.{Binding}
-use Rattle.build_effect.specs.declared.listing_state.Binding.TheVariants.{Closed, Open}
+use Rattle.build_effect.specs.declared.listing_state.Binding.TheVariants.{Open}
 
 -- the last edge set
 pub last_set : (change : EdgeValue → EdgeValue) (es : List EdgeValue) (n : ℕ) (e : EdgeValue) → n + 1 ≡ length es → e ≡ slice_index_or es n e

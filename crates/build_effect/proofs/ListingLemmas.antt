@@ -1,5 +1,5 @@
 -- What the reader of edge listings answers, by the lines that it has read.
-use Rattle.std.proofs.Common.{inl, inr, ◌≡◌, ℕ, ◌<◌, ◌≤◌, Bool, List, [], ◌∷◌, ◌++◌, length, take, drop, refl, sym, ap, ◌∙◌, subst, append_assoc, Option, Some, None, Ok, Err, arith}
+use Rattle.std.proofs.Common.{inl, inr, ◌≡◌, ℕ, ◌<◌, ◌≤◌, List, [], ◌∷◌, ◌++◌, length, take, drop, refl, sym, ap, ◌∙◌, subst, append_assoc, Option, Some, None, Ok, Err, arith}
 use Rattle.std.specs.Prelude.{Result}
 use Rattle.std.specs.Option.{option_and_then}
 use Rattle.std.specs.List.{flat_map, AllByRecursion}
@@ -10,7 +10,6 @@ use Rattle.ninja_text.specs.Lines.{line_limit, LineEnd, line_end, IsLine, Logica
 use Rattle.ninja_text.specs.LineReading.{LeadTo, BeginsWith, IsTooLong, IsTruncated, IsNextFault, HasFailureBehind, HasLentAll, FeedsLines, EndsLines}
 use Rattle.ninja_text.specs.declared.failure.Failure.{Failure}
 use Rattle.ninja_text.specs.declared.failure.Failure.TheVariants.{Fault, Memory}
-use Rattle.ninja_text.specs.declared.faults.CutFault.TheVariants as cut
 use Rattle.ninja_text.proofs.LinesForCallers.{end_fits, front_is_line, AllByRecursion-append, too_long}
 use Rattle.build_effect.specs.EdgeValue.{EdgeValue}
 use Rattle.build_effect.specs.ListingLines.{Class, IsOfClass, TextIsOfClass}

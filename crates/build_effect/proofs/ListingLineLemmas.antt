@@ -1,18 +1,16 @@
 -- The row of a line, by its tokens or its assignment, and what a build line says, by its parts.
-use Rattle.std.proofs.Common.{◌≡◌, ◌≢◌, ℕ, ◌==◌, ◌&&◌, Bool, true, false, List, [], ◌∷◌, ◌++◌, map, refl, sym, ap, ◌∙◌, subst, Option, Some, None, Ok, Err}
-use Rattle.std.specs.Prelude.{Result, codes, not, if◌then◌else◌}
-use Rattle.std.proofs.lemmas.Bool.{cases_Bool, and_parts}
+use Rattle.std.proofs.Common.{◌≡◌, ◌≢◌, ℕ, ◌==◌, ◌&&◌, Bool, true, false, List, [], ◌∷◌, map, refl, sym, ap, ◌∙◌, Option, Some, None}
+use Rattle.std.specs.Prelude.{codes, not, if◌then◌else◌}
 use Rattle.ninja_text.specs.Lexical.{lexical_fault}
 use Rattle.ninja_text.specs.Tokens.{TokenAt, SeenToken, tokens, raw, with_raw, seen_tokens}
 use Rattle.ninja_text.specs.Assignments.{assignment_of}
 use Rattle.ninja_text.specs.declared.token.TokenKind.{TokenKind}
 use Rattle.ninja_text.specs.declared.token.TokenKind.TheVariants.{Word, Bar, DoubleBar, BarAt, Colon}
 use Rattle.dyndep_file.specs.Classes.{Symbol, WordSymbol, SignSymbol, symbol, symbols, begins_at_start, begins_with_space}
-use Rattle.dyndep_file.specs.Faults.{same_bytes, is_empty, after_build}
+use Rattle.dyndep_file.specs.Faults.{is_empty, after_build}
 use Rattle.dyndep_file.specs.BuildTokens.{symbol_of, is_word}
-use Rattle.build_effect.specs.ListingLines.{EdgeTexts, Row, row_of, sound_row, binding_row, unindented_row, edge_texts, right_texts, front_words, past_words, past_sign, part_words, past_part, is_rule_name}
+use Rattle.build_effect.specs.ListingLines.{row_of, binding_row, unindented_row, edge_texts, right_texts, front_words, past_words, past_sign, part_words, past_part, is_rule_name}
 use Rattle.build_effect.specs.inner.ListingRows.{RulePassed}
-use Rattle.build_effect.specs.declared.listing_faults.LineCause.{LineCause}
 
 -- where there is a first token, the line is not blank
 not_blank : (text : List ℕ) (ts : List TokenAt) (head : SeenToken) (others : List SeenToken) → head ∷ others ≡ map (with_raw text) ts → is_empty ts ≡ false

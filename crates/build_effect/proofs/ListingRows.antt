@@ -1,16 +1,14 @@
 -- Rows of edge listings: the definitions compute to what each line is, and a listing of three edges is one of just these.
-use Rattle.std.proofs.Common.{◌≡◌, ℕ, List, [], ◌∷◌, ◌++◌, refl, Option, Some, None, true, false, Ok, Err}
-use Rattle.std.specs.Prelude.{codes, Result}
+use Rattle.std.proofs.Common.{◌≡◌, ℕ, List, [], ◌∷◌, ◌++◌, refl, Some, None, true, false, Ok}
+use Rattle.std.specs.Prelude.{codes}
 use Rattle.ninja_text.specs.Lines.{text_of, is_comment}
 use Rattle.ninja_text.specs.Paths.{canonical_of}
-use Rattle.ninja_text.specs.declared.faults.LexFault.TheVariants.{Variable, LoneCr}
-use Rattle.ninja_text.specs.declared.paths.PathFault.TheVariants.{Empty, AboveRoot}
+use Rattle.ninja_text.specs.declared.faults.LexFault.TheVariants.{Variable}
+use Rattle.ninja_text.specs.declared.paths.PathFault.TheVariants.{Empty}
 use Rattle.build_effect.specs.EdgeValue.{EdgeValue}
-use Rattle.build_effect.specs.ListingLines.{EdgeTexts, Row, CommentRow, BlankRow, BuildRow, DyndepRow, RestatRow, Class, Comment, Blank, Build, Dyndep, Restat, row_of, class_of_row, TextIsOfClass}
-use Rattle.build_effect.specs.ListingGrammar.{IsListing, listing_end, listing_comment, listing_blank, listing_build, no_more_bindings, comment_between, dyndep_binding, restat_binding}
+use Rattle.build_effect.specs.ListingLines.{EdgeTexts, CommentRow, BlankRow, BuildRow, DyndepRow, RestatRow, Class, Comment, Blank, Build, Dyndep, Restat, row_of, class_of_row, TextIsOfClass}
+use Rattle.build_effect.specs.ListingGrammar.{IsListing, listing_end, listing_blank, listing_build, no_more_bindings, comment_between, dyndep_binding, restat_binding}
 use Rattle.build_effect.specs.ListingFaults.{line_cause, open_from}
-use Rattle.build_effect.specs.ListingReading.{Lists}
-use Rattle.build_effect.specs.declared.listing_faults.LineCause.{LineCause}
 use Rattle.build_effect.specs.declared.listing_faults.LineCause.TheVariants.{Lexical, Form, BadPath}
 use Rattle.build_effect.specs.declared.listing_state.Binding.TheVariants.{Closed, Open}
 

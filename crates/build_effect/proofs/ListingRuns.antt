@@ -1,17 +1,14 @@
 -- Lines of an edge listing that are run over one after another, and the listings that begin with them.
 use Rattle.std.proofs.Common.{inl, inr, ◌⊎◌, ◌≡◌, ℕ, Bool, true, false, List, [], ◌∷◌, ◌++◌, refl, sym, ap, ◌∙◌, subst, append_assoc, Option, Some, None}
-use Rattle.std.specs.Prelude.{is_some, Result, Ok, Err, not, if◌then◌else◌}
-use Rattle.std.specs.Option.{option_and_then}
+use Rattle.std.specs.Prelude.{is_some, Result, Ok, Err}
 use Rattle.std.proofs.lemmas.List.{append-nil}
 use Rattle.ninja_text.specs.Paths.{path_of}
 use Rattle.ninja_text.specs.declared.paths.PathFault.{PathFault}
 use Rattle.build_effect.specs.EdgeValue.{EdgeValue}
-use Rattle.build_effect.specs.ListingLines.{EdgeTexts, Row, CommentRow, BlankRow, BuildRow, DyndepRow, RestatRow, Class, Comment, Blank, Build, Dyndep, Restat, row_of, class_of_row, dyndep_class, TextIsOfClass}
+use Rattle.build_effect.specs.ListingLines.{EdgeTexts, Row, CommentRow, BlankRow, BuildRow, DyndepRow, RestatRow, Class, Comment, Blank, Build, Dyndep, Restat, class_of_row, dyndep_class, TextIsOfClass}
 use Rattle.build_effect.specs.ListingGrammar.{HasBindings, no_more_bindings, comment_between, dyndep_binding, restat_binding, bound, IsListing, listing_end, listing_comment, listing_blank, listing_build, Begins}
 use Rattle.build_effect.specs.ListingSteps.{ListingValue, may_stand, with_last_dyndep, with_last_restat, step, run}
 use Rattle.build_effect.specs.ListingFaults.{left_open, open_from, row_cause, path_cause, text_cause}
-use Rattle.build_effect.specs.declared.listing_faults.LineCause.{LineCause}
-use Rattle.build_effect.specs.declared.listing_faults.LineCause.TheVariants.{Form}
 use Rattle.build_effect.specs.declared.listing_state.Binding.{Binding}
 use Rattle.build_effect.specs.declared.listing_state.Binding.TheVariants.{Closed, Open}
 

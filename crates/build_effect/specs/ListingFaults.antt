@@ -1,6 +1,6 @@
 -- The cause of a faulty line of an edge listing, by the lines before it: lexical, then its form,
 -- then its paths.
-use Rattle.std.specs.Prelude.{ℕ, Bool, true, false, ◌||◌, nat_lt, if◌then◌else◌, List, [], ◌∷◌, length, Option, Some, None, Result, Ok, Err}
+use Rattle.std.specs.Prelude.{ℕ, Bool, true, false, nat_lt, if◌then◌else◌, List, [], ◌∷◌, length, Option, Some, None, Result, Ok, Err}
 use Rattle.ninja_text.specs.Lines.{line_limit, text_of, is_comment}
 use Rattle.ninja_text.specs.declared.paths.PathFault.{PathFault}
 use Rattle.build_effect.specs.ListingLines.{Row, Class, Comment, Blank, Build, Dyndep, Restat, row_of, class_of_row}

@@ -1,7 +1,7 @@
 -- The lines of an edge listing, by what they are (Ninja 1.11 manual, "Build statements", "Lexical
 -- syntax").
 use Rattle.std.specs.Prelude.{◌≡◌, ℕ, ◌≤◌, Bool, true, false, ◌&&◌, not, nat_lt, if◌then◌else◌}
-use Rattle.std.specs.Prelude.{List, [], ◌∷◌, ◌++◌, length, map, codes, Option, Some, None, Result, Ok, Err}
+use Rattle.std.specs.Prelude.{List, [], ◌∷◌, length, codes, Option, Some, None, Result, Ok, Err}
 use Rattle.std.specs.List.{list_all}
 use Rattle.ninja_text.specs.Lines.{line_limit, text_of, is_comment}
 use Rattle.ninja_text.specs.Lexical.{lexical_fault}
@@ -11,11 +11,11 @@ use Rattle.ninja_text.specs.Paths.{path_of}
 use Rattle.ninja_text.specs.declared.paths.PathFault.{PathFault}
 use Rattle.ninja_text.specs.declared.faults.LexFault.{LexFault}
 use Rattle.ninja_text.specs.declared.token.TokenKind.{TokenKind}
-use Rattle.ninja_text.specs.declared.token.TokenKind.TheVariants.{Word, Bar, DoubleBar, BarAt, Colon}
+use Rattle.ninja_text.specs.declared.token.TokenKind.TheVariants.{Bar, DoubleBar, Colon}
 use Rattle.dyndep_file.specs.Classes.{Symbol, WordSymbol, SignSymbol, symbols, begins_at_start, begins_with_space}
-use Rattle.dyndep_file.specs.Faults.{same_bytes, is_empty, after_build, value_assigned}
+use Rattle.dyndep_file.specs.Faults.{same_bytes, is_empty, after_build}
 use Rattle.build_effect.specs.declared.listing_faults.LineCause.{LineCause}
-use Rattle.build_effect.specs.declared.listing_faults.LineCause.TheVariants.{Lexical, Form, BadPath}
+use Rattle.build_effect.specs.declared.listing_faults.LineCause.TheVariants.{Lexical, Form}
 
 -- ---- a build line:
 -- `build outputs | implicit outputs : rule inputs | implicit inputs || order-only inputs`

@@ -1,6 +1,6 @@
 -- What a reader of edge listings answers, by all bytes that it was fed, however they were cut into
 -- pieces.
-use Rattle.std.specs.Prelude.{◌≡◌, ℕ, List, [], ◌∷◌, Option, Some, None, Result, Ok, Err, ◌⊎◌}
+use Rattle.std.specs.Prelude.{◌≡◌, ℕ, List, [], ◌∷◌, Some, Result, Ok, Err, ◌⊎◌}
 use Rattle.ninja_text.specs.Lines.{LogicalLine}
 use Rattle.ninja_text.specs.LineReading.{LinesRead, HasLentAll}
 use Rattle.ninja_text.specs.declared.failure.Failure.{Failure}
@@ -8,13 +8,11 @@ use Rattle.ninja_text.specs.declared.failure.Failure.TheVariants.{Memory, Fault}
 use Rattle.ninja_text.specs.declared.faults.CutFault.{CutFault}
 use Rattle.ninja_text.specs.declared.faults.CutFault.TheVariants as cut
 use Rattle.build_effect.specs.EdgeValue.{EdgeValue}
-use Rattle.build_effect.specs.ListingLines.{Row, Class, TextIsOfClass, row_of, class_of_row}
+use Rattle.build_effect.specs.ListingLines.{Class, TextIsOfClass}
 use Rattle.build_effect.specs.ListingSteps.{ListingValue, step, run}
 use Rattle.build_effect.specs.ListingFaults.{text_cause}
 use Rattle.build_effect.specs.ListingReading.{Lists, FaultyLine, FaultyEnd}
 use Rattle.build_effect.specs.Faults.{IsGraphFault}
-use Rattle.build_effect.specs.declared.fault.GraphFault.{GraphFault}
-use Rattle.build_effect.specs.declared.listing_faults.LineCause.{LineCause}
 use Rattle.build_effect.specs.declared.listing_faults.LineCause.TheVariants.{LineTooLong, Truncated}
 use Rattle.build_effect.specs.declared.listing_faults.LineFault.{LineFault}
 use Rattle.build_effect.specs.declared.listing_faults.ListingFault.{ListingFault}

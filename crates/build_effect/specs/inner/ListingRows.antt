@@ -1,5 +1,5 @@
 -- What the parts of reading a line of an edge listing answer, by the symbols before and after.
-use Rattle.std.specs.Prelude.{◌≡◌, ℕ, Bool, true, false, List, [], ◌∷◌, map, Option, Some, None, Result, Ok, Err}
+use Rattle.std.specs.Prelude.{◌≡◌, Bool, true, false, List, [], ◌∷◌, Option, Some, None, Result, Ok, Err}
 use Rattle.ninja_text.specs.Tokens.{SeenToken}
 use Rattle.ninja_text.specs.declared.failure.Failure.{Failure}
 use Rattle.ninja_text.specs.declared.failure.Failure.TheVariants.{Memory, Fault}
@@ -16,7 +16,6 @@ use Rattle.build_effect.specs.Faults.{IsGraphFault}
 use Rattle.build_effect.specs.ListingFaults.{row_cause, text_cause}
 use Rattle.build_effect.specs.ListingReaders.{PassesLine}
 use Rattle.build_effect.specs.declared.fault.GraphFault.{GraphFault}
-use Rattle.build_effect.specs.declared.listing_faults.LineFault.{LineFault}
 use Rattle.build_effect.specs.declared.listing_faults.ListingFault.{ListingFault}
 use Rattle.build_effect.specs.declared.listing_faults.ListingFault.TheVariants.{AtLine, NoGraph}
 use Rattle.build_effect.specs.declared.listing_faults.LineCause.{LineCause}

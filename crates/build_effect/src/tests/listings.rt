@@ -133,7 +133,7 @@ fn other_causes_are_reported(rt: HostRuntime) -> Result<(), Fail> {
     assert!(rt;
         faulty_at(
             alloc,
-            b"build a: r\n dyndep = ../t\n",
+            b"build a: r\n dyndep = /../t\n",
             2,
             LineCause::BadPath(PathFault::AboveRoot),
         )?

@@ -1,4 +1,4 @@
-use Rattle.std.proofs.Common.{◌≡◌, ◌∙◌, sym, ap, true, false, List, ℕ}
+use Rattle.std.proofs.Common.{◌≡◌, sym, ap, true, false}
 use Rattle.dep_order.specs.Rows.{rows}
 use Rattle.dyndep_file.specs.BuildTokens.{symbols_left}
 use Rattle.ninja_text.specs.TokenViews.{seen_token}

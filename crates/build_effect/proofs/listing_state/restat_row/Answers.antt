@@ -1,5 +1,4 @@
 use Rattle.std.proofs.Common.{◌≡◌, ◌∙◌, sym, ap, subst, refl, false}
-use Rattle.build_effect.specs.EdgeValue.{EdgeValue}
 use Rattle.build_effect.specs.ListingSteps.{with_last_restat}
 use Rattle.build_effect.specs.declared.listing_state.Binding.TheVariants.{Open}
 use Rattle.build_effect.proofs.ListingEdges.{HaveOutputs, outputs_kept, restat_passes}
