@@ -22,3 +22,4 @@ pub mod ListingRuns
 pub mod ListingLineLemmas
 pub mod ListingLemmas
 pub mod ListingLaws
+pub mod ListingWrites

@@ -13,6 +13,7 @@ pub mod ListingGrammar
 pub mod ListingSteps
 pub mod ListingFaults
 pub mod ListingFaultTexts
+pub mod ListingWriting
 pub mod ListingReading
 pub mod ListingReaders
 pub mod inner

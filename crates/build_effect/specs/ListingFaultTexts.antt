@@ -9,6 +9,8 @@ use Rattle.build_effect.specs.declared.listing_faults.LineCause.TheVariants.{Lin
 use Rattle.build_effect.specs.declared.listing_faults.LineFault.{LineFault}
 use Rattle.build_effect.specs.declared.listing_faults.ListingFault.{ListingFault}
 use Rattle.build_effect.specs.declared.listing_faults.ListingFault.TheVariants.{AtLine, NoGraph}
+use Rattle.build_effect.specs.declared.listing_writing.ListingWriteFault.{ListingWriteFault}
+use Rattle.build_effect.specs.declared.listing_writing.ListingWriteFault.TheVariants.{ListingTooLong, Io}
 
 -- what is wrong with a line
 abbrev pub line_cause_text : LineCause → List ℕ
@@ -27,3 +29,8 @@ line_fault_text fault =
 abbrev pub listing_fault_text : ListingFault → List ℕ
 listing_fault_text (AtLine fault) = line_fault_text fault
 listing_fault_text (NoGraph fault) = graph_fault_text fault
+
+-- why a graph was not written; the edge is told by its first output
+abbrev pub listing_write_fault_text : ListingWriteFault → List ℕ
+listing_write_fault_text (ListingTooLong edge) = codes "E9 ListingTooLong"
+listing_write_fault_text (Io written) = codes "Y3 Io written " ++ decimal written

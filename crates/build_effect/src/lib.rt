@@ -7,6 +7,8 @@
 //! - [`ListingReader`] reads a listing of edges that comes in pieces of any size. For every cutting the answer is the graph of
 //!   the edges that the form of `specs/ListingGrammar.antt` gives the whole text, or the first faulty line, E3, and its cause
 //!   (`specs/ListingReading.antt`, `specs/ListingFaults.antt`).
+//! - [`listing_write`] writes the listing of a graph, byte for byte as `specs/ListingWriting.antt` states it, or E9 is answered before
+//!   the first byte.
 //! - [`apply`] answers the graph after the effect of a dyndep file, or the first fault in the order E8, E5, E4, E6, E7.
 //!   The effect is a relation of two graphs (`specs/Effect.antt`, `Effect`): the answer has it, and no other graph does.
 //!   Where a fault is answered, no graph has it (`specs/Faults.antt`, `IsEffectFault`).
@@ -39,6 +41,7 @@ mod listing_laws;
 mod listing_reader;
 mod listing_rows;
 mod listing_state;
+mod listing_writing;
 mod makers;
 mod needs;
 mod statement_edges;
@@ -53,4 +56,5 @@ pub use laws::{any_order, checks, files_order, level_orders, one_effect};
 pub use listing_faults::{LineCause, LineFault, ListingFault};
 pub use listing_laws::one_listing;
 pub use listing_reader::ListingReader;
+pub use listing_writing::{ListingWriteFault, listing_write};
 pub use needs::edge_order;

@@ -1,0 +1,70 @@
+-- What a call that writes a listing answers, by the text that was made or not.
+use Rattle.std.proofs.Common.{◌≡◌, ℕ, ◌+◌, ◌<◌, ◌≤◌, suc, List, ◌∷◌, ◌++◌, length, drop, get_or, add-one, drop-cons, append_assoc, refl, sym, ap, ◌∙◌, subst, Option, Some, None, Ok, Err}
+use Rattle.std.specs.Prelude.{Result, Vec}
+use Rattle.std.specs.declared.alloc.Global.{Global}
+use Rattle.std.proofs.lemmas.Bool.{le-ltb}
+use Rattle.ninja_text.specs.Lines.{line_limit}
+use Rattle.ninja_text.specs.Failure.{Gives}
+use Rattle.ninja_text.specs.Counting.{Call}
+use Rattle.ninja_text.specs.declared.counting.Counted.{Counted}
+use Rattle.ninja_text.specs.declared.failure.Failure.{Failure}
+use Rattle.ninja_text.specs.declared.failure.Failure.TheVariants.{Memory, Fault}
+use Rattle.build_effect.specs.EdgeValue.{EdgeValue}
+use Rattle.build_effect.specs.ListingWriting.{edge_line, dyndep_line, restat_line, too_long_from, listing_text, first_too_long, text_unless, text_or_fault, LeavesWriter, WritesInTurn, AnswersFault}
+use Rattle.build_effect.specs.declared.listing_writing.ListingWriteFault.{ListingWriteFault}
+use Rattle.build_effect.specs.declared.listing_writing.ListingWriteFault.TheVariants.{ListingTooLong, Io}
+
+-- the fault is that of an edge
+told : (o : Option ℕ) (es : List EdgeValue) (f : ListingWriteFault) → text_unless o es ≡ Err f → (k : ℕ) × (o ≡ Some k) × (f ≡ ListingTooLong k)
+told None es f h = absurd (let x : ◌≡◌ {A = Result (List ℕ) ListingWriteFault} (Ok (listing_text es)) (Err f) = h in cc)
+told (Some k) es f h = (k, refl, (let x : ◌≡◌ {A = Result (List ℕ) ListingWriteFault} (Err (ListingTooLong k)) (Err f) = h in cc))
+
+-- no text was made for want of memory, or of this edge
+pub failed : {W : Type 0} (contents : W → Option (List ℕ)) (out : Counted W) (text : List ℕ) (es : List EdgeValue) (failure : Failure ListingWriteFault)
+    → Gives {T = Vec ℕ Global} (λ made. made.items) (Err failure) (text_or_fault es) → LeavesWriter contents out out text failure × AnswersFault {T = Unit {0}} (first_too_long es) (Err failure)
+failed contents out text es Memory h = (refl, tt)
+failed contents out text es (Fault (ListingTooLong edge)) h =
+    let t = told (first_too_long es) es (ListingTooLong edge) h in
+    (refl, t.1 ∙ (let same : ListingTooLong edge ≡ ListingTooLong t.0 = t.2 in let e : edge ≡ t.0 = cc in ap (λ k. Some k) (sym e)))
+failed contents out text es (Fault (Io written)) h =
+    let t = told (first_too_long es) es (Io written) h in
+    absurd (let x : Io written ≡ ListingTooLong t.0 = t.2 in cc)
+
+-- no call of the writer was made then
+pub uncalled : {W : Type 0} (writes : Call W) (out : W) (text : List ℕ) (es : List EdgeValue) (failure : Failure ListingWriteFault)
+    → Gives {T = Vec ℕ Global} (λ made. made.items) (Err failure) (text_or_fault es) → WritesInTurn {T = Unit {0}} writes out out text (Err failure)
+uncalled writes out text es Memory h = refl
+uncalled writes out text es (Fault (ListingTooLong edge)) h = refl
+uncalled writes out text es (Fault (Io written)) h =
+    let t = told (first_too_long es) es (Io written) h in
+    absurd (let x : Io written ≡ ListingTooLong t.0 = t.2 in cc)
+
+-- a text is that of the edges
+given : (o : Option ℕ) (es : List EdgeValue) (text : List ℕ) → text_unless o es ≡ Ok text → (o ≡ None) × (text ≡ listing_text es)
+given None es text h = (refl, (let x : ◌≡◌ {A = Result (List ℕ) ListingWriteFault} (Ok (listing_text es)) (Ok text) = h in cc))
+given (Some k) es text h = absurd (let x : ◌≡◌ {A = Result (List ℕ) ListingWriteFault} (Err (ListingTooLong k)) (Ok text) = h in cc)
+
+pub made : (es : List EdgeValue) (text : Vec ℕ Global) → Gives {T = Vec ℕ Global} (λ made. made.items) (Ok text) (text_or_fault es)
+    → (first_too_long es ≡ None) × (text.items ≡ listing_text es)
+made es text h = given (first_too_long es) es text.items h
+
+-- the edge at hand is the next one
+drop_item : (edges : List EdgeValue) (i : ℕ) (e : EdgeValue) → i < length edges → e ≡ get_or edges i e → drop i edges ≡ e ∷ drop (i + 1) edges
+drop_item edges i e within is = rw add-one (drop-cons edges i e within ∙ ap (λ z. z ∷ drop (suc i) edges) (sym is))
+
+-- the text so far, with one more edge's
+pub text_goes_on : (edges : List EdgeValue) (i : ℕ) (e : EdgeValue) (text line new : List ℕ) → i < length edges → e ≡ get_or edges i e → line ≡ edge_line e
+    → new ≡ ((text ++ line) ++ dyndep_line e.dyndep) ++ restat_line e.restat → text ++ listing_text (drop i edges) ≡ listing_text edges
+    → new ++ listing_text (drop (i + 1) edges) ≡ listing_text edges
+text_goes_on edges i e text line new within is l n so_far =
+    let rest = listing_text (drop (i + 1) edges) in
+    let d = dyndep_line e.dyndep in
+    let r = restat_line e.restat in
+    let is_new : new ≡ text ++ ((edge_line e ++ d) ++ r) =
+    n ∙ ap (λ y. ((text ++ y) ++ d) ++ r) l ∙ ap (λ y. y ++ r) (append_assoc text (edge_line e) d) ∙ append_assoc text (edge_line e ++ d) r in
+    ap (λ x. x ++ rest) is_new ∙ append_assoc text ((edge_line e ++ d) ++ r) rest ∙ ap (λ xs. text ++ listing_text xs) (sym (drop_item edges i e within is)) ∙ so_far
+
+-- no build line so far is too long, nor is one more that keeps the limit
+pub none_goes_on : (edges : List EdgeValue) (i : ℕ) (e : EdgeValue) → i < length edges → e ≡ get_or edges i e → length (edge_line e) ≤ line_limit
+    → too_long_from 0 edges ≡ too_long_from i (drop i edges) → too_long_from 0 edges ≡ too_long_from (i + 1) (drop (i + 1) edges)
+none_goes_on edges i e within is short so_far = so_far ∙ ap (too_long_from i) (drop_item edges i e within is) ∙ rw (le-ltb line_limit (length (edge_line e)) short) refl

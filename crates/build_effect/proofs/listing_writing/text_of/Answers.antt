@@ -1,0 +1,20 @@
+use Rattle.std.proofs.Common.{◌≡◌, ◌≤◌, ◌∙◌, ◌++◌, length, ap, sym, subst, arith}
+use Rattle.ninja_text.specs.Lines.{line_limit}
+use Rattle.build_effect.specs.ListingWriting.{edge_line, dyndep_line, restat_line}
+use Rattle.build_effect.proofs.ListingWrites.{text_goes_on, none_goes_on}
+use Rattle.build_effect.proofs.listing_writing.text_of.Goals as goal
+
+pub loop-edge_index-preserved : goal.loop-edge_index-preserved
+loop-edge_index-preserved c =
+    let e = c.index-edges-edge_index.result in
+    let i = c.loop-edge_index.edge_index in
+    let line = c.in_ok-line.line in
+    let short : length (edge_line e) ≤ line_limit =
+    subst (λ n. n ≤ line_limit) (c.len.ensures ∙ line.ok.0 ∙ ap length c.in_ok-line.ensures) c.if-len-gt-LINE_LIMIT.false in
+    let added : c.push_bindings.new.text.items ≡ ((c.loop-edge_index.text.items ++ line.items) ++ dyndep_line e.dyndep) ++ restat_line e.restat =
+    c.in_ok-push_bindings.ensures ∙ ap (λ t. (t ++ dyndep_line e.dyndep) ++ restat_line e.restat) (c.in_ok-extend_from_slice.ensures.items ∙ ap (λ l. c.loop-edge_index.text.items ++ l) c.deref.ensures.value) in
+    record {
+      text = text_goes_on c.args.edges.now i e c.loop-edge_index.text.items line.items c.push_bindings.new.text.items c.loop-edge_index-test.true c.index-edges-edge_index.is c.in_ok-line.ensures added
+          c.loop-edge_index.invariant.text;
+      none = none_goes_on c.args.edges.now i e c.loop-edge_index-test.true c.index-edges-edge_index.is short c.loop-edge_index.invariant.none;
+    }

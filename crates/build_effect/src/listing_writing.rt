@@ -1,0 +1,157 @@
+//! The writer of edge listings.
+ghost use Rattle.std.specs.Prelude.{◌≡◌, ◌++◌, MatchResult, IfOk, OnOk};
+ghost use Rattle.std.specs.List.{flat_map};
+ghost use Rattle.ninja_text.specs.Counting.{held, IsWritten};
+ghost use Rattle.ninja_text.specs.Failure.{Gives};
+ghost use Rattle.dyndep_file.specs.Writing.{spaced};
+ghost use Rattle.build_effect.specs.ListingWriting.{part_text, edge_line, dyndep_line, restat_line, listing_text, first_too_long, text_or_fault, LeavesWriter, WritesInTurn, AnswersFault};
+
+use crate::edge::Edge;
+use crate::graph::Graph;
+use ninja_text::{Counted, Failure, LINE_LIMIT, Path, WriteCall, escape_into};
+use std::alloc::{AllocError, Global};
+use std::error::Error;
+use std::fmt;
+
+/// Why a graph was not written.
+#[derive(Clone, Copy, Debug, PartialEq, Eq)]
+pub enum ListingWriteFault {
+    /// E9: the build line of this edge has more than 1,048,576 bytes, its end included; the first such edge is reported.
+    ListingTooLong { edge: usize },
+    /// Y3: a call of the writer answered an error or took no byte. This many bytes went out before, from the text's
+    /// beginning.
+    Io { written: u128 },
+}
+
+impl fmt::Display for ListingWriteFault {
+    ghost use Rattle.std.specs.Prelude.{Some};
+    ghost use Rattle.build_effect.specs.ListingFaultTexts.{listing_write_fault_text};
+
+    ghost output = { λ fault. Some (listing_write_fault_text fault) };
+
+    fn fmt<W: fmt::Write>(&self, f: &mut fmt::Formatter<W>) -> fmt::Result {
+        match self {
+            ListingWriteFault::ListingTooLong { .. } => f.write_str("E9 ListingTooLong"),
+            ListingWriteFault::Io { written } => write!(f, "Y3 Io written {written}"),
+        }
+    }
+}
+
+impl Error for ListingWriteFault {}
+
+/// Writes the edges of a graph as Ninja spells them (Ninja 1.11 manual, "Build statements"): for each its build line, and
+/// its bindings `dyndep` and `restat`.
+///
+/// Too long a build line is told before the first byte, as is want of memory: the writer is as it was then. After an `Io`
+/// exactly so many bytes went out, and they are a beginning of the text.
+pub fn listing_write<W: WriteCall>(
+    alloc: Global,
+    graph: &Graph,
+    out: &mut Counted<W>,
+) -> Result<(), Failure<ListingWriteFault>>
+    ensures text { MatchResult result
+        (λ _. IsWritten W.contents out.old out.new (listing_text graph.now))
+        (λ failure. LeavesWriter W.contents out.old out.new (listing_text graph.now) failure) }
+    ensures calls { WritesInTurn W.writes (held out.old) (held out.new)
+        (listing_text graph.now) result }
+    ensures fault { AnswersFault (first_too_long graph.now) result }
+{
+    let text = match text_of(alloc, graph.edges()) {
+        Ok(text) => text,
+        Err(failure) => return Err(failure),
+    };
+    match out.write_text(text.as_slice()) {
+        Ok(()) => Ok(()),
+        Err(stopped) => Err(Failure::Fault(ListingWriteFault::Io {
+            written: stopped.written,
+        })),
+    }
+}
+
+/// The text of the edges, or the first of them whose build line is too long.
+fn text_of(alloc: Global, edges: &[Edge]) -> Result<Vec<u8>, Failure<ListingWriteFault>>
+    ensures { Gives (λ text. text.items) result (text_or_fault edges.now) }
+{
+    let mut text = Vec::new(alloc);
+    for (edge_index, edge) in edges.iter().enumerate() {
+        let line = edge_line(alloc, edge)?;
+        if line.len() > LINE_LIMIT {
+            return Err(Failure::Fault(ListingWriteFault::ListingTooLong { edge: edge_index }));
+        }
+        text.extend_from_slice(&line)?;
+        push_bindings(&mut text, edge)?;
+    }
+    Ok(text)
+}
+
+/// The build line of an edge.
+fn edge_line(alloc: Global, edge: &Edge) -> Result<Vec<u8>, AllocError>
+    ensures { IfOk result (λ line. line.items ≡ edge_line edge.now) }
+{
+    let mut line = Vec::new(alloc);
+    line.extend_from_slice(b"build")?;
+    push_spaced(&mut line, &edge.outputs)?;
+    push_part(&mut line, b" |", &edge.implicit_outputs)?;
+    line.extend_from_slice(b": ")?;
+    line.extend_from_slice(&edge.rule)?;
+    push_spaced(&mut line, &edge.inputs)?;
+    push_part(&mut line, b" |", &edge.implicit_inputs)?;
+    push_part(&mut line, b" ||", &edge.order_only)?;
+    line.extend_from_slice(b"\n")?;
+    Ok(line)
+}
+
+/// Appends the lines of an edge's bindings.
+fn push_bindings(text: &mut Vec<u8>, edge: &Edge) -> Result<(), AllocError>
+    ensures { OnOk result (text.new.items ≡ text.old.items ++ dyndep_line edge.now.dyndep ++ restat_line edge.now.restat) }
+{
+    push_dyndep(text, &edge.dyndep)?;
+    push_restat(text, edge.restat)
+}
+
+/// Appends the line of the binding `dyndep`, where there is one.
+fn push_dyndep(text: &mut Vec<u8>, dyndep: &Option<Path>) -> Result<(), AllocError>
+    ensures { OnOk result (text.new.items ≡ text.old.items ++ dyndep_line dyndep.now) }
+{
+    match dyndep {
+        None => Ok(()),
+        Some(path) => {
+            text.extend_from_slice(b"  dyndep = ")?;
+            escape_into(path.bytes(), text)?;
+            text.extend_from_slice(b"\n")
+        }
+    }
+}
+
+/// Appends the line of the binding `restat`, where it is on.
+fn push_restat(text: &mut Vec<u8>, restat: bool) -> Result<(), AllocError>
+    ensures { OnOk result (text.new.items ≡ text.old.items ++ restat_line restat) }
+{
+    if restat {
+        text.extend_from_slice(b"  restat = 1\n")
+    } else {
+        Ok(())
+    }
+}
+
+/// Appends the mark and each path after a space, where there are any.
+fn push_part(text: &mut Vec<u8>, mark: &[u8], paths: &[Path]) -> Result<(), AllocError>
+    ensures { OnOk result (text.new.items ≡ text.old.items ++ part_text mark.now paths.now) }
+{
+    if paths.is_empty() {
+        return Ok(());
+    }
+    text.extend_from_slice(mark)?;
+    push_spaced(text, paths)
+}
+
+/// Appends each path after a space.
+fn push_spaced(text: &mut Vec<u8>, paths: &[Path]) -> Result<(), AllocError>
+    ensures { OnOk result (text.new.items ≡ text.old.items ++ flat_map spaced paths.now) }
+{
+    for path in paths {
+        text.extend_from_slice(b" ")?;
+        escape_into(path.bytes(), text)?;
+    }
+    Ok(())
+}
