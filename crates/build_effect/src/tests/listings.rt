@@ -1,8 +1,8 @@
 //! Edge listings, whole, byte by byte, and cut in two at every place.
 
 use super::{fault_line, listing};
-use crate::{LineCause, LineFault, ListingFault, ListingReader};
-use ninja_text::{Failure, LexFault, PathFault};
+use crate::{LineCause, LineFault, ListingFault, ListingReader, listing_write};
+use ninja_text::{Counted, Failure, LexFault, PathFault};
 use std::alloc::{AllocError, Global};
 use std::test::Fail;
 
@@ -159,5 +159,31 @@ fn edges_that_are_no_graph_are_reported_at_the_end(rt: HostRuntime) -> Result<()
             b"E2 DyndepNotInput a",
         )?
     );
+    Ok(())
+}
+
+/// The listing of what was read, as it is written.
+fn written(alloc: Global, text: &[u8]) -> Answer {
+    let mut reader = ListingReader::new(alloc);
+    reader.feed(text)?;
+    let graph = match reader.finish() {
+        Ok(graph) => graph,
+        Err(_) => return Err(Failure::Memory),
+    };
+    let mut out = Counted::new(Vec::new(alloc));
+    match listing_write(alloc, &graph, &mut out) {
+        Ok(()) => Ok(out.into_inner()),
+        Err(_) => Err(Failure::Memory),
+    }
+}
+
+#[test]
+fn a_listing_is_written_as_it_is_read(rt: HostRuntime) -> Result<(), Fail> {
+    let alloc = rt.alloc();
+    let wanted = Ok(Vec::from_slice(alloc, LIBRARY)?);
+    assert!(rt; is_answer(&written(alloc, LIBRARY), &wanted)?);
+    let all = b"build a$ b c | d: r e$$ | f$:g || h\n  dyndep = f$:g\n  restat = 1\n".as_slice();
+    let wanted = Ok(Vec::from_slice(alloc, all)?);
+    assert!(rt; is_answer(&written(alloc, all), &wanted)?);
     Ok(())
 }
