@@ -1,4 +1,4 @@
-use Rattle.std.proofs.Common.{length, subst, ◌∙◌, ap, sym, ◌≡◌, ℕ, List, Ok, Err}
+use Rattle.std.proofs.Common.{length, subst, ◌∙◌, ◌≡◌, ℕ, List, Ok, Err}
 use Rattle.std.specs.Prelude.{Vec}
 use Rattle.std.specs.declared.alloc.Global.{Global}
 use Rattle.ninja_text.specs.Failure.{Gives}

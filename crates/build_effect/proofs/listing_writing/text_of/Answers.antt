@@ -1,4 +1,4 @@
-use Rattle.std.proofs.Common.{◌≡◌, ◌≤◌, ◌∙◌, ◌++◌, length, ap, sym, subst, arith}
+use Rattle.std.proofs.Common.{◌≡◌, ◌≤◌, ◌∙◌, ◌++◌, length, ap, subst}
 use Rattle.ninja_text.specs.Lines.{line_limit}
 use Rattle.build_effect.specs.ListingWriting.{edge_line, dyndep_line, restat_line}
 use Rattle.build_effect.proofs.ListingWrites.{text_goes_on, none_goes_on}
