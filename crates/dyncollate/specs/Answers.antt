@@ -1,5 +1,6 @@
 -- What a run answers, and the line that it ends with where it fails.
-use Rattle.std.specs.Prelude.{◌≡◌, ℕ, Result, Ok, Err, ◌||◌, ◌==◌, nat_lt, if◌then◌else◌, List, [], ◌∷◌, ◌++◌, map, codes}
+use Rattle.std.specs.Prelude.{◌≡◌, ℕ, Result, Ok, Err, ◌||◌, ◌==◌, nat_lt, if◌then◌else◌, List, [], ◌∷◌, ◌++◌, map, String, Vec, string_bytes, codes}
+use Rattle.std.specs.Global.{Global}
 use Rattle.dyndep_file.specs.FaultTexts.{write_fault_text}
 use Rattle.dyndep_file.specs.declared.writing.WriteFault.{WriteFault}
 use Rattle.dyncollate.specs.declared.answer.Answer.{Answer}
@@ -18,6 +19,17 @@ pub record Prints (text : List ℕ) (answer : Answer) : Type 0 where
   pub out : answer.out.items ≡ text
   pub err : answer.err.items ≡ []
   pub files : answer.files.items ≡ []
+
+-- the name and the bytes of a file that is to be written
+abbrev pub file_value : String Global × Vec ℕ Global → List ℕ × List ℕ
+file_value file = (string_bytes file.0, file.1.items)
+
+-- The run is done, prints nothing, and has these files to be written, in this order.
+pub record Writes (wanted : List (List ℕ × List ℕ)) (answer : Answer) : Type 0 where
+  pub status : answer.status ≡ 0
+  pub out : answer.out.items ≡ []
+  pub err : answer.err.items ≡ []
+  pub files : map file_value answer.files.items ≡ wanted
 
 -- The run ends with this status, prints nothing on standard output, and on standard error the line of this message.
 pub record Fails (number : ℕ) (message : List ℕ) (answer : Answer) : Type 0 where

@@ -1,8 +1,12 @@
 pub mod Answers
+pub mod CollateCommand
+pub mod Files
 pub mod One
 pub mod Printing
+pub mod RefusalTexts
 pub mod Runs
 pub mod Show
 pub mod Statements
 pub mod TableFaults
 pub mod Tasks
+pub mod inner

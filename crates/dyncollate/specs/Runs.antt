@@ -1,19 +1,22 @@
--- What a run answers to its task, by what reading the task's file answered.
+-- What a run answers to its task, by what reading the task's files answered.
 use Rattle.std.specs.Prelude.{ℕ, List, ◌++◌, Result, Ok, Err, Vec, codes}
 use Rattle.std.specs.Global.{Global}
 use Rattle.std.specs.declared.io.Error.{Error}
 use Rattle.dyncollate.specs.declared.answer.Answer.{Answer}
 use Rattle.dyncollate.specs.Answers.{Fails}
+use Rattle.dyncollate.specs.CollateCommand.{Reading, AnswersCollate}
 use Rattle.dyncollate.specs.One.{setting_of, AnswersDocument}
 use Rattle.dyncollate.specs.Show.{AnswersDyndep}
-use Rattle.dyncollate.specs.Tasks.{TaskValue, one, show, file_of}
+use Rattle.dyncollate.specs.Tasks.{TaskValue, one, collate, show, file_of}
 
--- what a run answers to the bytes of its file
-abbrev pub AnswersBytes : TaskValue → List ℕ → Answer → Type 0
-AnswersBytes (one scan dir ext) bytes answer = AnswersDocument (setting_of dir ext) bytes answer
-AnswersBytes (show dyndep) bytes answer = AnswersDyndep bytes answer
+-- what a run answers to the bytes of its file, where others are read like this
+abbrev pub AnswersBytes : TaskValue → Reading → List ℕ → Answer → Type 0
+AnswersBytes (one scan dir ext) reading bytes answer =
+    AnswersDocument (setting_of dir ext) bytes answer
+AnswersBytes (collate target) reading bytes answer = AnswersCollate bytes reading answer
+AnswersBytes (show dyndep) reading bytes answer = AnswersDyndep bytes answer
 
 -- the bytes of the file are answered, or the run fails with the name of the file that can't be read
-abbrev pub AnswersRead : TaskValue → Result (Vec ℕ Global) Error → Answer → Type 0
-AnswersRead task (Ok bytes) answer = AnswersBytes task bytes.items answer
-AnswersRead task (Err error) answer = Fails 3 (codes "cannot read " ++ file_of task) answer
+abbrev pub AnswersRead : TaskValue → Reading → Result (Vec ℕ Global) Error → Answer → Type 0
+AnswersRead task reading (Ok bytes) answer = AnswersBytes task reading bytes.items answer
+AnswersRead task reading (Err error) answer = Fails 3 (codes "cannot read " ++ file_of task) answer

@@ -8,15 +8,18 @@ use Rattle.dyncollate.specs.declared.words.Task.TheVariants as task
 -- a task, by the texts of its arguments
 pub data TaskValue : Type 0 where
   one : List ℕ → List ℕ → List ℕ → TaskValue
+  collate : List ℕ → TaskValue
   show : List ℕ → TaskValue
 
 abbrev pub task_value : Task → TaskValue
 task_value (task.One scan dir ext) = one scan.now dir.now ext.now
+task_value (task.Collate target) = collate target.now
 task_value (task.Show dyndep) = show dyndep.now
 
--- the file that a task reads
+-- the file that a task reads first
 abbrev pub file_of : TaskValue → List ℕ
 file_of (one scan dir ext) = scan
+file_of (collate target) = target
 file_of (show dyndep) = dyndep
 
 -- two bytes or more that begin with a hyphen
@@ -37,6 +40,11 @@ abbrev pub one_of : List (List ℕ) → Option TaskValue
 one_of (scan ∷ dir ∷ ext ∷ []) = Some (one scan dir ext)
 one_of _ = None
 
+-- as many arguments as `collate` has
+abbrev pub collate_of : List (List ℕ) → Option TaskValue
+collate_of (target ∷ []) = Some (collate target)
+collate_of _ = None
+
 -- as many arguments as `show` has
 abbrev pub show_of : List (List ℕ) → Option TaskValue
 show_of (dyndep ∷ []) = Some (show dyndep)
@@ -46,7 +54,8 @@ show_of _ = None
 abbrev pub task_from : List ℕ → List (List ℕ) → Option TaskValue
 task_from command given =
     if bytes_eq command (codes "one") then one_of given
-    else (if bytes_eq command (codes "show") then show_of given else None)
+    else (if bytes_eq command (codes "collate") then collate_of given
+    else (if bytes_eq command (codes "show") then show_of given else None))
 
 -- what the words behind the program's name ask for, where they are a proper call
 abbrev pub task_in : List (List ℕ) → Option TaskValue

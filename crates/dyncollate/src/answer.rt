@@ -1,8 +1,8 @@
 //! What a run of a command answers.
 
-ghost use Rattle.std.specs.Prelude.{◌≡◌, ◌++◌, [], IfOk, codes};
+ghost use Rattle.std.specs.Prelude.{◌≡◌, ◌++◌, [], map, IfOk, codes};
 ghost use Rattle.dyndep_file.specs.WriteFaults.{text_or_fault};
-ghost use Rattle.dyncollate.specs.Answers.{visible, line, Fails, AnswersText};
+ghost use Rattle.dyncollate.specs.Answers.{visible, line, file_value, Writes, Fails, AnswersText};
 
 use dyndep_file::Dyndep;
 use ninja_text::Failure;
@@ -34,6 +34,18 @@ impl Answer {
         }
     }
 
+    /// The run is done, prints nothing, and has these files to be written.
+    pub fn writes(alloc: Global, files: Vec<(String, Vec<u8>)>) -> Answer
+        ensures { Writes (map file_value files.items) result }
+    {
+        Answer {
+            status: 0,
+            out: Vec::new(alloc),
+            err: Vec::new(alloc),
+            files,
+        }
+    }
+
     /// The run prints the text of a dyndep file, or tells why it cannot be written.
     pub fn of_dyndep(alloc: Global, dyndep: &Dyndep) -> Result<Answer, AllocError>
         ensures { IfOk result (AnswersText (text_or_fault dyndep.now)) }
@@ -60,6 +72,14 @@ impl Answer {
         ensures { IfOk result (Fails 3 (codes "cannot read " ++ name.now)) }
     {
         let message = format!(in alloc; "cannot read {name}")?;
+        Answer::failed(alloc, 3, message.as_bytes())
+    }
+
+    /// The file of this name could not be written.
+    pub fn unwritten(alloc: Global, name: &str) -> Result<Answer, AllocError>
+        ensures { IfOk result (Fails 3 (codes "cannot write " ++ name.now)) }
+    {
+        let message = format!(in alloc; "cannot write {name}")?;
         Answer::failed(alloc, 3, message.as_bytes())
     }
 

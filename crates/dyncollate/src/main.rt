@@ -5,9 +5,12 @@
 //! refused. For each but 0 one line on standard error says why.
 //!
 //! - `words` tells what the words ask for.
-//! - `run` answers a task by what reading its file gave, and `print` writes an answer and gives the status. What is left to
-//!   `main` is to ask for the words, to read the file, and to end with the status.
-//! - `one` and `show` are the commands of these names. Their promises are the contracts of `one_run` and `show_run`.
+//! - `run` answers a task by what reading its files gave, and `print` writes an answer and gives the status. `files` reads
+//!   the files that a target document names, and writes those of an answer, by calls that `main` hands to it. What is left
+//!   to `main` is to ask for the words, to make these calls of the system, and to end with the status.
+//! - `one`, `collate` and `show` are the commands of these names. Their promises are the contracts of `one_run`,
+//!   `collate_run` and `show_run`.
+//! - `reading` finds files by their names, and `refusal` tells why a target is refused.
 //! - `statements` makes the statements of a module table, and `table_fault` tells why there is no table.
 //! - `answer` is what a command answers, and the line that it fails with.
 //!
@@ -15,6 +18,7 @@
 #![tactic(auto)]
 
 use answer::Answer;
+use files::{names_of, read_files, write_files};
 use ninja_text::Counted;
 use print::print;
 use run::task_run;
@@ -23,11 +27,15 @@ use std::io::ErrorKind;
 use std::process::ExitCode;
 use std::rt::{Env, Files};
 use std::{env, fs};
-use words::task_of;
+use words::{Task, task_of};
 
 mod answer;
+mod collate;
+mod files;
 mod one;
 mod print;
+mod reading;
+mod refusal;
 mod run;
 mod show;
 mod statements;
@@ -50,7 +58,21 @@ fn answer_of<R: Env + Files + AllocGlobal>(rt: &R) -> Result<Answer, AllocError>
         Err(_) => return Answer::usage(alloc),
     };
     match task_of(alloc, words.as_slice())? {
-        Some(task) => task_run(alloc, &task, fs::read(rt, task.file())),
+        Some(task) => task_answer(rt, &task),
         None => Answer::usage(alloc),
     }
+}
+
+/// What the program answers to its task, once it has read the task's files and written those of the answer.
+fn task_answer<R: Files + AllocGlobal>(rt: &R, task: &Task) -> Result<Answer, AllocError> {
+    let alloc = rt.alloc();
+    let read = fs::read(rt, task.file());
+    let names = names_of(alloc, task, &read)?;
+    let files = read_files(alloc, &names, |name: &str| fs::read(rt, name))?;
+    let answer = task_run(alloc, task, read, &files)?;
+    write_files(
+        alloc,
+        answer,
+        |name: &str, bytes: &[u8]| fs::write(rt, name, bytes),
+    )
 }

@@ -1,10 +1,13 @@
-//! A run of the program, once the file of its task was read or could not be.
+//! A run of the program, once the files of its task were read or could not be.
 
-ghost use Rattle.std.specs.Prelude.{IfOk};
+ghost use Rattle.std.specs.Prelude.{map, IfOk};
+ghost use Rattle.dyncollate.specs.Answers.{file_value};
+ghost use Rattle.dyncollate.specs.CollateCommand.{first_of};
 ghost use Rattle.dyncollate.specs.Tasks.{task_value};
 ghost use Rattle.dyncollate.specs.Runs.{AnswersBytes, AnswersRead};
 
 use crate::answer::Answer;
+use crate::collate::collate_run;
 use crate::one::one_run;
 use crate::show::show_run;
 use crate::words::Task;
@@ -12,23 +15,36 @@ use std::alloc::{AllocError, Global};
 use std::io;
 use std::io::ErrorKind;
 
-/// What a run answers to its task, by what reading the task's file answered.
-pub fn task_run(alloc: Global, task: &Task, read: io::Result<Vec<u8>>) -> Result<Answer, AllocError>
-    ensures { IfOk result (AnswersRead (task_value task.now) read) }
+/// What a run answers to its task, by what reading the task's file answered, and by the other files that were read.
+pub fn task_run(
+    alloc: Global,
+    task: &Task,
+    read: io::Result<Vec<u8>>,
+    files: &[(String, Vec<u8>)],
+) -> Result<Answer, AllocError>
+    ensures { IfOk result
+        (AnswersRead (task_value task.now) (first_of (map file_value files.now)) read) }
 {
     match read {
-        Ok(bytes) => bytes_run(alloc, task, &bytes),
+        Ok(bytes) => bytes_run(alloc, task, &bytes, files),
         Err(error) if error.kind() == ErrorKind::OutOfMemory => Err(AllocError),
         Err(_) => Answer::unread(alloc, task.file()),
     }
 }
 
-/// What a run answers to its task, by the bytes of the task's file.
-fn bytes_run(alloc: Global, task: &Task, bytes: &[u8]) -> Result<Answer, AllocError>
-    ensures { IfOk result (AnswersBytes (task_value task.now) bytes.now) }
+/// What a run answers to its task, by the bytes of the task's file and the other files.
+fn bytes_run(
+    alloc: Global,
+    task: &Task,
+    bytes: &[u8],
+    files: &[(String, Vec<u8>)],
+) -> Result<Answer, AllocError>
+    ensures { IfOk result
+        (AnswersBytes (task_value task.now) (first_of (map file_value files.now)) bytes.now) }
 {
     match task {
         Task::One { dir, ext, .. } => one_run(alloc, bytes, dir, ext),
+        Task::Collate { .. } => collate_run(alloc, bytes, files),
         Task::Show { .. } => show_run(alloc, bytes),
     }
 }

@@ -146,7 +146,7 @@ fn ring_text(alloc: Global, ring: &[usize], objects: &[Rule]) -> Result<Vec<u8>,
 }
 
 /// The path of the object of that number.
-fn object_path(objects: &[Rule], number: usize) -> &[u8]
+pub fn object_path(objects: &[Rule], number: usize) -> &[u8]
     ensures { result.now ≡ object_path objects.now number }
 {
     match objects.get(number) {
@@ -166,7 +166,7 @@ fn target_name(infos: &[Info], number: usize) -> &[u8]
 }
 
 /// The parts, one behind the other.
-fn joined(alloc: Global, parts: &[&[u8]]) -> Result<Vec<u8>, AllocError>
+pub fn joined(alloc: Global, parts: &[&[u8]]) -> Result<Vec<u8>, AllocError>
     ensures { IfOk result (λ text. text.items ≡ flat_map (λ part. part.now) parts.now) }
 {
     parts.concat(alloc)

@@ -14,6 +14,10 @@ pub enum Task<'w> {
         dir: &'w str,
         ext: &'w str,
     },
+    /// Write the files of the target of a target document.
+    Collate {
+        target: &'w str,
+    },
     /// Print the statements of a dyndep file.
     Show {
         dyndep: &'w str,
@@ -23,12 +27,13 @@ pub enum Task<'w> {
 impl<'w> Task<'w> {
     ghost use Rattle.dyncollate.specs.Tasks.{task_value, file_of};
 
-    /// The file that the task reads.
+    /// The file that the task reads first.
     pub fn file(&self) -> &'w str
         ensures { result.now ≡ file_of (task_value self.now) }
     {
         match self {
             Task::One { scan, .. } => *scan,
+            Task::Collate { target } => *target,
             Task::Show { dyndep } => *dyndep,
         }
     }
@@ -92,6 +97,10 @@ fn task_from<'w>(command: &str, given: &[&'w str]) -> Option<Task<'w>>
     match command {
         "one" => match given {
             [scan, dir, ext] => Some(Task::One { scan, dir, ext }),
+            _ => None,
+        },
+        "collate" => match given {
+            [target] => Some(Task::Collate { target }),
             _ => None,
         },
         "show" => match given {

@@ -1,0 +1,7 @@
+use Rattle.std.proofs.Common.{◌≡◌, length, take, map, string_bytes}
+use Rattle.dyncollate.proofs.files.read_files.Given as goal
+
+-- the files so far have the names so far
+abbrev pub invariant-loop-name : goal.invariant-loop-name
+invariant-loop-name g l =
+    (map (λ file. string_bytes file.0) l.files.items ≡ map string_bytes (take l.name-index l.names)) × (length l.files.items ≡ l.name-index) × goal.F-IsAlwaysCallable g l.read

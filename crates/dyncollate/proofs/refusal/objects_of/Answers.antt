@@ -1,0 +1,18 @@
+use Rattle.std.proofs.Common.{◌≡◌, ℕ, List, map, Some, subst, sym}
+use Rattle.ninja_text.specs.Failure.{ForFault}
+use Rattle.scan_docs.specs.Scan.{SettingValue}
+use Rattle.scan_docs.specs.ScanChecks.{scan_checks}
+use Rattle.scan_docs.specs.Document.{IsRefused}
+use Rattle.scan_docs.specs.Values.{rules_of}
+use Rattle.collate_core.specs.Documents.{IsScanAccepted}
+use Rattle.dyncollate.proofs.Documents.{holds_at}
+use Rattle.dyncollate.proofs.refusal.objects_of.Goals as goal
+
+-- an accepted document is not refused
+pub unreachable-requires : goal.unreachable-requires
+unreachable-requires c =
+    let s : SettingValue = c.args.setting.now in
+    let document : List ℕ = c.deref.result.now in
+    c.scan.ensures.one_answer.not_both (rules_of s document) c.in-Err-Fault.field-0-0
+    (subst (IsScanAccepted s) (sym c.deref.ensures.value) (holds_at (IsScanAccepted s) c.args.scans.now c.loop-document.document-index c.document-item.result c.loop-document-test.true c.document-item.is c.requires))
+    (subst (ForFault (IsRefused (scan_checks s) document)) c.in-Err-Fault.field-0-is c.in-Err-Fault.ensures.refused)

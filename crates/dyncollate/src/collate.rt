@@ -1,0 +1,211 @@
+//! The command `collate`: the files of a target.
+
+ghost use Rattle.std.specs.Prelude.{◌≡◌, Some, None, [], ◌∷◌, ◌++◌, map, zip, string_bytes, IsUtf8, All, IfOk, IfErr};
+ghost use Rattle.ninja_text.specs.Failure.{ForFault};
+ghost use Rattle.collate_core.specs.Collation.{Collates};
+ghost use Rattle.collate_core.specs.Refusals.{IsRefusal};
+ghost use Rattle.dyncollate.specs.Answers.{file_value, Refuses};
+ghost use Rattle.dyncollate.specs.CollateCommand.{first_of, first_unread, bytes_of, names_in, setting_in, target_in, style_of, map_name, files_of, AnswersTarget, AnswersSpec, AnswersCollate, spec_text};
+
+use crate::answer::Answer;
+use crate::reading::{first_files, read_each};
+use crate::refusal::refusal_text;
+use collate_core::{Clang, Collated, CollatedParts, Gcc, Refusal, Target, collate, one_outcome};
+use ninja_text::{Failure, Path};
+use scan_docs::{DocFault, MapForm, Setting, TargetSpec, spec_read};
+use std::alloc::{AllocError, Global};
+
+/// Runs `collate TARGETFILE` on the bytes of the target document, and on files by name. Of a name that is there twice the
+/// first file counts, and one that is not there counts as a file that can't be read. What is to be written are the map of
+/// each object, where the document wants maps, then the info, and last the dyndep file.
+pub fn collate_run(
+    alloc: Global,
+    spec: &[u8],
+    files: &[(String, Vec<u8>)],
+) -> Result<Answer, AllocError>
+    ensures { IfOk result (AnswersCollate spec.now (first_of (map file_value files.now))) }
+{
+    match spec_read(alloc, spec) {
+        Ok(spec) => spec_run(alloc, spec, files),
+        Err(Failure::Memory) => Err(AllocError),
+        Err(Failure::Fault(fault)) => spec_refused(alloc, &fault),
+    }
+}
+
+/// The answer to a target document that is refused.
+fn spec_refused(alloc: Global, fault: &DocFault) -> Result<Answer, AllocError>
+    ensures { IfOk result (Refuses (spec_text fault.now)) }
+{
+    let message = format!(in alloc; "target: {fault}")?;
+    Answer::failed(alloc, 1, message.as_bytes())
+}
+
+/// The answer to a target document with these members.
+fn spec_run(
+    alloc: Global,
+    spec: TargetSpec,
+    files: &[(String, Vec<u8>)],
+) -> Result<Answer, AllocError>
+    ensures { IfOk result (AnswersSpec (first_of (map file_value files.now)) spec) }
+{
+    match documents_of(alloc, &spec, files) {
+        Ok((scans, infos)) => documents_run(alloc, spec, scans, infos),
+        Err(Failure::Memory) => Err(AllocError),
+        Err(Failure::Fault(name)) => Answer::unread(alloc, name),
+    }
+}
+
+/// The scan documents and the infos that a target document names, or the first name of a file that is not there.
+fn documents_of<'s>(
+    alloc: Global,
+    spec: &'s TargetSpec,
+    files: &[(String, Vec<u8>)],
+) -> Result<(Vec<Vec<u8>>, Vec<Vec<u8>>), Failure<&'s str>>
+    ensures scans { IfOk result (λ documents. map (λ d. d.items) documents.0.items
+        ≡ bytes_of (first_of (map file_value files.now)) spec.now.scans) }
+    ensures infos { IfOk result (λ documents. map (λ d. d.items) documents.1.items
+        ≡ bytes_of (first_of (map file_value files.now)) spec.now.linked) }
+    ensures complete { IfOk result (λ _.
+        first_unread (first_of (map file_value files.now)) (names_in spec.now) ≡ None) }
+    ensures unread { IfErr result (ForFault (λ name.
+        first_unread (first_of (map file_value files.now)) (names_in spec.now) ≡ Some name.now)) }
+{
+    let found = first_files(alloc, files)?;
+    let scans = read_each(alloc, &found, &spec.scans)?;
+    let infos = read_each(alloc, &found, &spec.linked)?;
+    Ok((scans, infos))
+}
+
+/// The answer to a target document whose documents were read.
+fn documents_run(
+    alloc: Global,
+    spec: TargetSpec,
+    scans: Vec<Vec<u8>>,
+    infos: Vec<Vec<u8>>,
+) -> Result<Answer, AllocError>
+    ensures { IfOk result (AnswersTarget spec (record {
+      name = spec.target;
+      setting = setting_in spec;
+      scans = map (λ d. d.items) scans.items;
+      infos = map (λ d. d.items) infos.items;
+      kept = spec.kept;
+    })) }
+{
+    one_outcome();
+    let target = Target {
+        name: spec.target,
+        setting: Setting {
+            module_dir: spec.module_dir,
+            module_ext: spec.module_ext,
+            build_dir: spec.build_dir,
+        },
+        scans,
+        infos,
+        kept: spec.kept,
+    };
+    match collate_in(alloc, &target, spec.map) {
+        Ok(collated) => {
+            let files = files_of(alloc, collated, spec.info, spec.dyndep)?;
+            Ok(Answer::writes(alloc, files))
+        }
+        Err(Failure::Memory) => Err(AllocError),
+        Err(Failure::Fault(refusal)) => {
+            let message = refusal_text(alloc, &target, &refusal)?;
+            Answer::failed(alloc, 1, &message)
+        }
+    }
+}
+
+/// Collates a target, with maps of this form.
+fn collate_in(
+    alloc: Global,
+    target: &Target,
+    form: Option<MapForm>,
+) -> Result<Collated, Failure<Refusal>>
+    ensures collated { IfOk result (Collates target.now (style_of form)) }
+    ensures refused { IfErr result (ForFault (IsRefusal target.now (style_of form))) }
+{
+    match form {
+        None => collate(alloc, target, None::<&Gcc>),
+        Some(MapForm::Gcc) => collate(alloc, target, Some(&Gcc)),
+        Some(MapForm::Clang) => collate(alloc, target, Some(&Clang)),
+    }
+}
+
+/// The files of a collated target, whose texts are given up and not copied.
+fn files_of(
+    alloc: Global,
+    collated: Collated,
+    info: String,
+    dyndep: String,
+) -> Result<Vec<(String, Vec<u8>)>, AllocError>
+    requires { All IsUtf8 collated.objects }
+    ensures { IfOk result (λ files. map file_value files.items
+        ≡ zip (map map_name collated.objects) collated.maps
+        ++ (string_bytes info, collated.info) ∷ (string_bytes dyndep, collated.dyndep) ∷ []) }
+{
+    let CollatedParts {
+        dyndep: dyndep_text,
+        info: info_text,
+        objects,
+        maps,
+    } = collated.into_parts();
+    let mut files = map_files(alloc, &objects, maps)?;
+    files.push((info, info_text))?;
+    files.push((dyndep, dyndep_text))?;
+    Ok(files)
+}
+
+/// The map files of these objects, where there are maps.
+fn map_files(
+    alloc: Global,
+    objects: &[Path],
+    maps: Vec<Vec<u8>>,
+) -> Result<Vec<(String, Vec<u8>)>, AllocError>
+    requires { All IsUtf8 objects.now }
+    ensures { IfOk result (λ files. map file_value files.items
+        ≡ zip (map map_name objects.now) (map (λ m. m.items) maps.items)) }
+{
+    if maps.is_empty() {
+        return Ok(Vec::new(alloc));
+    }
+    let names = map_names(alloc, objects)?;
+    paired(alloc, names, maps)
+}
+
+/// The names of the map files of these objects.
+fn map_names(alloc: Global, objects: &[Path]) -> Result<Vec<String>, AllocError>
+    requires { All IsUtf8 objects.now }
+    ensures { IfOk result (λ names. map string_bytes names.items ≡ map map_name objects.now) }
+{
+    let mut names = Vec::with_capacity(alloc, objects.len())?;
+    for object in objects {
+        names.push(map_name(alloc, object)?)?;
+    }
+    Ok(names)
+}
+
+/// Each name with its text.
+fn paired(
+    alloc: Global,
+    names: Vec<String>,
+    texts: Vec<Vec<u8>>,
+) -> Result<Vec<(String, Vec<u8>)>, AllocError>
+    ensures { IfOk result (λ pairs. pairs.items ≡ zip names.items texts.items) }
+{
+    names.into_iter().zip(texts).collect(alloc)
+}
+
+/// The name of an object's map file.
+fn map_name(alloc: Global, object: &Path) -> Result<String, AllocError>
+    requires { IsUtf8 object.now }
+    ensures { IfOk result (λ name. string_bytes name ≡ map_name object.now) }
+{
+    match str::from_utf8(object.bytes()) {
+        Ok(object) => Ok(format!(in alloc; "{object}.modmap")?),
+        Err(_) => unreachable!(),
+    }
+}
+
+#[cfg(test)]
+mod tests;

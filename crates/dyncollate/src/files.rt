@@ -1,0 +1,89 @@
+//! The files that a task reads besides its own, and those that it writes.
+
+ghost use Rattle.std.specs.Prelude.{◌≡◌, map, take, length, string_bytes, IfOk};
+ghost use Rattle.dyncollate.specs.Tasks.{task_value};
+ghost use Rattle.dyncollate.specs.Files.{NamesIn, NamesOf, IsWritten};
+
+use crate::answer::Answer;
+use crate::words::Task;
+use ninja_text::Failure;
+use scan_docs::spec_read;
+use std::alloc::{AllocError, Global};
+use std::io;
+use std::io::ErrorKind;
+
+/// The names of the files that a task reads besides its own: those that a target document names, scan documents before
+/// infos, where the document is accepted, and else none.
+pub fn names_of(
+    alloc: Global,
+    task: &Task,
+    read: &io::Result<Vec<u8>>,
+) -> Result<Vec<String>, AllocError>
+    ensures { IfOk result (λ names. NamesOf (task_value task.now) read.now (map string_bytes names.items)) }
+{
+    match task {
+        Task::Collate { .. } => match read {
+            Ok(bytes) => names_in(alloc, bytes),
+            Err(_) => Ok(Vec::new(alloc)),
+        },
+        _ => Ok(Vec::new(alloc)),
+    }
+}
+
+/// The names of the files that a target document names.
+fn names_in(alloc: Global, bytes: &[u8]) -> Result<Vec<String>, AllocError>
+    ensures { IfOk result (λ names. NamesIn bytes.now (map string_bytes names.items)) }
+{
+    match spec_read(alloc, bytes) {
+        Ok(spec) => {
+            let mut names = spec.scans;
+            let mut linked = spec.linked;
+            names.append(&mut linked)?;
+            Ok(names)
+        }
+        Err(Failure::Memory) => Err(AllocError),
+        Err(Failure::Fault(_)) => Ok(Vec::new(alloc)),
+    }
+}
+
+/// The files of these names, read in order by this call, up to the first that can't be read.
+pub fn read_files<F: Fn(&str) -> io::Result<Vec<u8>>>(
+    alloc: Global,
+    names: &[String],
+    read: F,
+) -> Result<Vec<(String, Vec<u8>)>, AllocError>
+    requires { F.IsAlwaysCallable read }
+    ensures { IfOk result (λ files. map (λ file. string_bytes file.0) files.items
+        ≡ take (length files.items) (map string_bytes names.now)) }
+{
+    let mut files = Vec::with_capacity(alloc, names.len())?;
+    for name in names {
+        match read(name.as_str()) {
+            Ok(bytes) => files.push((String::from_str(alloc, name.as_str())?, bytes))?,
+            Err(error) if error.kind() == ErrorKind::OutOfMemory => return Err(AllocError),
+            Err(_) => return Ok(files),
+        }
+    }
+    Ok(files)
+}
+
+/// Writes the files of an answer by this call, in order, up to the first that can't be written. The answer is left, or the
+/// name of that file; the files before it stay.
+pub fn write_files<F: Fn(&str, &[u8]) -> io::Result<()>>(
+    alloc: Global,
+    answer: Answer,
+    write: F,
+) -> Result<Answer, AllocError>
+    requires { F.IsAlwaysCallable write }
+    ensures { IfOk result (IsWritten answer) }
+{
+    for file in &answer.files {
+        if write(file.0.as_str(), file.1.as_slice()).is_err() {
+            return Answer::unwritten(alloc, file.0.as_str());
+        }
+    }
+    Ok(answer)
+}
+
+#[cfg(test)]
+mod tests;

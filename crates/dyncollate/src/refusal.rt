@@ -1,0 +1,129 @@
+//! How the refusals of a target are told.
+
+ghost use Rattle.std.specs.Prelude.{◌≡◌, map, codes, All, IfOk};
+ghost use Rattle.scan_docs.specs.Values.{info_of};
+ghost use Rattle.collate_core.specs.Documents.{all_rules, IsScanAccepted, IsInfoAccepted, AreAccepted};
+ghost use Rattle.dyncollate.specs.RefusalTexts.{numbered_text, map_text, refusal_text};
+ghost use Rattle.dyncollate.specs.TableFaults.{fault_text};
+ghost use Rattle.dyncollate.specs.inner.Refusals.{HasTable};
+ghost use Rattle.collate_core.specs.Documents.{table_of};
+
+use crate::table_fault::{fault_text, joined, object_path};
+use collate_core::{MapFault, Refusal, Target};
+use dyndep_file::WriteFault;
+use module_table::TableFault;
+use ninja_text::Failure;
+use scan_docs::{DocFault, Info, Rule, Setting, info_read, scan};
+use std::alloc::{AllocError, Global};
+
+/// What is told of a refusal of this target.
+///
+/// A refusal names objects and infos by number, and the line tells them by their paths and names. So the documents are read
+/// once more, which only a run that is refused pays for.
+pub fn refusal_text(
+    alloc: Global,
+    target: &Target,
+    refusal: &Refusal,
+) -> Result<Vec<u8>, AllocError>
+    requires { HasTable target.now refusal.now }
+    ensures { IfOk result (λ text. text.items ≡ refusal_text target.now refusal.now) }
+{
+    match refusal {
+        Refusal::Scan { index, fault } => numbered_text(alloc, "scan", *index, fault),
+        Refusal::Info { index, fault } => numbered_text(alloc, "info", *index, fault),
+        Refusal::Table { fault } => table_text(alloc, target, fault),
+        Refusal::StatementTooLong { statement } => {
+            let fault = WriteFault::StatementTooLong {
+                statement: *statement,
+            };
+            let text = format!(in alloc; "{fault}")?;
+            Ok(text.into_bytes())
+        }
+        Refusal::Map { object, fault } => map_text(alloc, target, *object, fault),
+        Refusal::LinkedLater => Vec::from_slice(alloc, b"K3 LinkedLater"),
+    }
+}
+
+/// A faulty document, by its kind and its number.
+fn numbered_text(
+    alloc: Global,
+    kind: &str,
+    index: usize,
+    fault: &DocFault,
+) -> Result<Vec<u8>, AllocError>
+    ensures { IfOk result (λ text. text.items ≡ numbered_text kind.now index fault.now) }
+{
+    let text = format!(in alloc; "{kind} {index}: {fault}")?;
+    Ok(text.into_bytes())
+}
+
+/// A fault of the table of the target's documents.
+fn table_text(alloc: Global, target: &Target, fault: &TableFault) -> Result<Vec<u8>, AllocError>
+    requires { AreAccepted target.now }
+    ensures { IfOk result (λ text.
+        text.items ≡ fault_text (table_of target.now).objects (table_of target.now).infos fault.now) }
+{
+    let objects = objects_of(alloc, &target.scans, &target.setting)?;
+    let infos = infos_of(alloc, &target.infos)?;
+    fault_text(alloc, fault, &objects, &infos)
+}
+
+/// Why an object has no map.
+fn map_text(
+    alloc: Global,
+    target: &Target,
+    object: usize,
+    fault: &MapFault,
+) -> Result<Vec<u8>, AllocError>
+    requires { AreAccepted target.now }
+    ensures { IfOk result (λ text. text.items ≡ map_text target.now object fault.now) }
+{
+    match fault {
+        MapFault::MapPath { path } => joined(alloc, &[b"K1 MapPath ", path.bytes()]),
+        MapFault::TwoProvided => {
+            let objects = objects_of(alloc, &target.scans, &target.setting)?;
+            joined(alloc, &[b"K2 TwoProvided ", object_path(&objects, object)])
+        }
+        MapFault::BadMapLine { line } => {
+            let text = format!(in alloc; "K4 BadMapLine line {line}")?;
+            Ok(text.into_bytes())
+        }
+    }
+}
+
+/// The rules of scan documents, all of which are accepted.
+fn objects_of(alloc: Global, scans: &[Vec<u8>], setting: &Setting) -> Result<Vec<Rule>, AllocError>
+    requires { All (IsScanAccepted setting.now) (map (λ scan. scan.items) scans.now) }
+    ensures { IfOk result (λ rules.
+        rules.items ≡ all_rules setting.now (map (λ scan. scan.items) scans.now)) }
+{
+    let mut rules = Vec::new(alloc);
+    for document in scans {
+        match scan(alloc, document, setting) {
+            Ok(found) => {
+                let mut more = found;
+                rules.append(&mut more)?;
+            }
+            Err(Failure::Memory) => return Err(AllocError),
+            Err(Failure::Fault(_)) => unreachable!(),
+        }
+    }
+    Ok(rules)
+}
+
+/// The infos of info documents, all of which are accepted.
+fn infos_of(alloc: Global, documents: &[Vec<u8>]) -> Result<Vec<Info>, AllocError>
+    requires { All IsInfoAccepted (map (λ info. info.items) documents.now) }
+    ensures { IfOk result (λ infos.
+        infos.items ≡ map info_of (map (λ info. info.items) documents.now)) }
+{
+    let mut infos = Vec::new(alloc);
+    for document in documents {
+        match info_read(alloc, document) {
+            Ok(info) => infos.push(info)?,
+            Err(Failure::Memory) => return Err(AllocError),
+            Err(Failure::Fault(_)) => unreachable!(),
+        }
+    }
+    Ok(infos)
+}
