@@ -1,5 +1,5 @@
 -- What a run of `collate` answers.
-use Rattle.std.proofs.Common.{◌≡◌, ℕ, suc, ◌+◌, ◌<◌, List, [], ◌∷◌, ◌++◌, length, map, zip, Option, Some, None, refl, ap, ap₂, sym, subst, ◌∙◌, codes, arith}
+use Rattle.std.proofs.Common.{◌≡◌, ℕ, suc, List, [], ◌∷◌, ◌++◌, map, zip, Option, Some, None, refl, ap, sym, subst, ◌∙◌, codes, arith}
 use Rattle.std.specs.Prelude.{All, IsUtf8}
 use Rattle.std.specs.List.{AllZip}
 use Rattle.std.proofs.lemmas.List.Elements.{All-nil, All-cons, All-append, All-map}
@@ -20,7 +20,7 @@ use Rattle.dyncollate.specs.declared.answer.Answer.{Answer}
 use Rattle.dyncollate.specs.Answers.{Refuses, Fails, Writes}
 use Rattle.dyncollate.specs.TableFaults.{fault_text, ring_text}
 use Rattle.dyncollate.specs.RefusalTexts.{refusal_text}
-use Rattle.dyncollate.specs.CollateCommand.{Reading, first_unread, bytes_of, names_in, target_in, style_of, files_of, AnswersTarget, AnswersSpec}
+use Rattle.dyncollate.specs.CollateCommand.{Reading, first_unread, names_in, target_in, style_of, files_of, AnswersTarget, AnswersSpec}
 
 -- ---- the target
 

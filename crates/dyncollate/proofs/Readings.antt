@@ -1,5 +1,5 @@
 -- One more file, and one more name.
-use Rattle.std.proofs.Common.{◌≡◌, ℕ, ◌+◌, ◌<◌, Bool, true, false, List, [], ◌∷◌, ◌++◌, length, take, drop, get_or, map, Option, Some, None, refl, ap, ap₂, sym, subst, ◌∙◌, slice_get, bytes_eq, cond}
+use Rattle.std.proofs.Common.{◌≡◌, ℕ, ◌+◌, ◌<◌, Bool, true, false, List, [], ◌∷◌, ◌++◌, length, take, drop, get_or, map, Option, Some, None, refl, ap, ap₂, sym, ◌∙◌, bytes_eq, cond}
 use Rattle.std.specs.Prelude.{unwrap_or, is_some, option_map, option_copied}
 use Rattle.std.specs.Cmp.Lexicographic.{bytes_decides}
 use Rattle.std.specs.HashMap as hash

@@ -1,6 +1,5 @@
 -- What the command `collate` answers.
-use Rattle.std.specs.Prelude.{◌≡◌, ℕ, List, [], ◌∷◌, ◌++◌, map, zip, bytes_eq, if◌then◌else◌, Option, Some, None, unwrap_or, Result, String, Vec, string_bytes, codes}
-use Rattle.std.specs.Global.{Global}
+use Rattle.std.specs.Prelude.{◌≡◌, ℕ, List, [], ◌∷◌, ◌++◌, map, zip, bytes_eq, if◌then◌else◌, Option, Some, None, unwrap_or, codes}
 use Rattle.scan_docs.specs.Document.{IsAccepted, IsRefused}
 use Rattle.scan_docs.specs.FaultTexts.{doc_fault_text}
 use Rattle.scan_docs.specs.Scan.{SettingValue}

@@ -21,7 +21,8 @@ NamesOf (one scan dir ext) read names = names ≡ []
 NamesOf (show dyndep) read names = names ≡ []
 
 -- The file at this index could not be written, and the run fails with its name.
-pub record IsUnwritten (files : List (String Global × Vec ℕ Global)) (answer : Answer) : Type 0 where
+pub record IsUnwritten (files : List (String Global × Vec ℕ Global))
+    (answer : Answer) : Type 0 where
   pub index : ℕ
   pub file : String Global × Vec ℕ Global
   pub here : slice_get files index ≡ Some file

@@ -32,6 +32,7 @@ refusal_text target (Scan index fault) = numbered_text (codes "scan") index faul
 refusal_text target (Info index fault) = numbered_text (codes "info") index fault
 refusal_text target (Table fault) =
     fault_text (table_of target).objects (table_of target).infos fault
-refusal_text target (StatementTooLong statement) = write_fault_text (write.StatementTooLong statement)
+refusal_text target (StatementTooLong statement) =
+    write_fault_text (write.StatementTooLong statement)
 refusal_text target (Map object fault) = map_text target object fault
 refusal_text target LinkedLater = codes "K3 LinkedLater"

@@ -1,5 +1,5 @@
 -- Tables of files by their names.
-use Rattle.std.specs.Prelude.{ℕ, bytes_eq, List, Option, option_map}
+use Rattle.std.specs.Prelude.{ℕ, bytes_eq, List, option_map}
 use Rattle.std.specs.Borrow.{Bor}
 use Rattle.std.specs.HashMap.{HashMap, get_by}
 use Rattle.dyncollate.specs.CollateCommand.{Reading}

@@ -1,4 +1,4 @@
-use Rattle.std.proofs.Common.{rules, ◌≡◌, ℕ, List, ◌++◌, map, string_bytes, Some, None, ap, sym, ◌∙◌, subst}
+use Rattle.std.proofs.Common.{rules, ◌≡◌, ℕ, List, map, Some, None}
 use Rattle.std.specs.Prelude.{IfErr}
 use Rattle.ninja_text.specs.Failure.{ForFault}
 use Rattle.dyncollate.specs.Answers.{file_value}

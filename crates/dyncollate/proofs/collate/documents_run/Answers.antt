@@ -1,13 +1,12 @@
-use Rattle.std.proofs.Common.{rules, ◌≡◌, ℕ, List, map, subst, ◌∙◌}
+use Rattle.std.proofs.Common.{ℕ, List, map, subst, ◌∙◌}
 use Rattle.std.proofs.lemmas.Result.{IfOk-weaker}
 use Rattle.ninja_text.specs.Failure.{ForFault}
 use Rattle.scan_docs.specs.Target as document
 use Rattle.collate_core.specs.Values.{TargetValue}
 use Rattle.collate_core.specs.Refusals.{IsRefusal}
-use Rattle.dyncollate.specs.declared.answer.Answer.{Answer}
 use Rattle.std.specs.Prelude.{IfOk}
 use Rattle.dyncollate.specs.Answers.{Fails, Refuses, Writes}
-use Rattle.dyncollate.specs.CollateCommand.{setting_in, style_of, AnswersTarget}
+use Rattle.dyncollate.specs.CollateCommand.{setting_in, AnswersTarget}
 use Rattle.dyncollate.proofs.Commands.{collated, refused, objects_text}
 use Rattle.dyncollate.proofs.collate.documents_run.Goals as goal
 

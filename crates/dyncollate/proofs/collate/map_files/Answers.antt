@@ -1,9 +1,8 @@
-use Rattle.std.proofs.Common.{◌≡◌, ℕ, List, map, zip, string_bytes, ap, ◌∙◌}
+use Rattle.std.proofs.Common.{ℕ, map, zip, string_bytes, ap, ◌∙◌}
 use Rattle.std.specs.Prelude.{String, Vec}
 use Rattle.std.specs.declared.alloc.Global.{Global}
 use Rattle.std.proofs.lemmas.Result.{IfOk-weaker}
 use Rattle.dyncollate.specs.Answers.{file_value}
-use Rattle.dyncollate.specs.CollateCommand.{map_name}
 use Rattle.dyncollate.proofs.Commands.{zip_map}
 use Rattle.dyncollate.proofs.collate.map_files.Goals as goal
 

@@ -1,4 +1,4 @@
-use Rattle.std.proofs.Common.{◌≡◌, ℕ, map, take, length, string_bytes, ap, sym, ◌∙◌}
+use Rattle.std.proofs.Common.{map, take, string_bytes, ap, sym, ◌∙◌}
 use Rattle.std.proofs.lemmas.List.{take-map}
 use Rattle.dyncollate.proofs.files.read_files.Goals as goal
 

@@ -1,7 +1,6 @@
-use Rattle.std.proofs.Common.{◌≡◌, ℕ, ◌+◌, ◌∷◌, List, [], ◌++◌, take, map, string_bytes, not, ap, sym, ◌∙◌, subst}
+use Rattle.std.proofs.Common.{ℕ, List, take, map, not, ap, sym, ◌∙◌}
 use Rattle.dyncollate.specs.Answers.{file_value}
-use Rattle.dyncollate.specs.CollateCommand.{FileValue, first_of}
-use Rattle.dyncollate.specs.inner.Readings.{reading_of}
+use Rattle.dyncollate.specs.CollateCommand.{FileValue}
 use Rattle.dyncollate.proofs.Readings.{mapped_next, put, passed_over, not_there, is_there}
 use Rattle.dyncollate.proofs.reading.first_files.Goals as goal
 use Rattle.dyncollate.proofs.reading.first_files.Goals.{then-is_none+in_ok-insert, else-is_none}

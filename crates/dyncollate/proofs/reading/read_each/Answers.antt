@@ -1,8 +1,8 @@
-use Rattle.std.proofs.Common.{◌≡◌, ℕ, ◌+◌, ◌∷◌, List, [], ◌++◌, take, drop, map, string_bytes, Some, None, ap, sym, ◌∙◌, subst}
+use Rattle.std.proofs.Common.{◌≡◌, ℕ, ◌+◌, ◌∷◌, List, [], ◌++◌, take, drop, map, string_bytes, Some, None, ap, sym, ◌∙◌}
 use Rattle.std.specs.Prelude.{Vec, option_map, option_copied}
 use Rattle.std.specs.declared.alloc.Global.{Global}
 use Rattle.std.proofs.lemmas.List.{map_push}
-use Rattle.dyncollate.specs.CollateCommand.{Reading, first_unread, bytes_of}
+use Rattle.dyncollate.specs.CollateCommand.{Reading, first_unread}
 use Rattle.dyncollate.specs.inner.Readings.{reading_of}
 use Rattle.dyncollate.proofs.Readings.{mapped_next, bytes_next, none_next, none_here, split_at}
 use Rattle.dyncollate.proofs.reading.read_each.Goals as goal
