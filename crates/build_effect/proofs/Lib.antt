@@ -22,4 +22,7 @@ pub mod ListingRuns
 pub mod ListingLineLemmas
 pub mod ListingLemmas
 pub mod ListingLaws
+mod WrittenSymbols
+mod WrittenLines
+mod WrittenListings
 pub mod ListingWrites

@@ -15,5 +15,6 @@ pub mod ListingFaults
 pub mod ListingFaultTexts
 pub mod ListingWriting
 pub mod ListingReading
+pub mod ListingLaws
 pub mod ListingReaders
 pub mod inner

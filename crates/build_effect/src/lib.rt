@@ -8,7 +8,7 @@
 //!   the edges that the form of `specs/ListingGrammar.antt` gives the whole text, or the first faulty line, E3, and its cause
 //!   (`specs/ListingReading.antt`, `specs/ListingFaults.antt`).
 //! - [`listing_write`] writes the listing of a graph, byte for byte as `specs/ListingWriting.antt` states it, or E9 is answered before
-//!   the first byte.
+//!   the first byte. Where each rule's name is one that listings have, the text reads back ([`written_listing`]).
 //! - [`apply`] answers the graph after the effect of a dyndep file, or the first fault in the order E8, E5, E4, E6, E7.
 //!   The effect is a relation of two graphs (`specs/Effect.antt`, `Effect`): the answer has it, and no other graph does.
 //!   Where a fault is answered, no graph has it (`specs/Faults.antt`, `IsEffectFault`).
@@ -54,7 +54,7 @@ pub use fault::{EffectFault, GraphFault};
 pub use graph::Graph;
 pub use laws::{any_order, checks, files_order, level_orders, one_effect};
 pub use listing_faults::{LineCause, LineFault, ListingFault};
-pub use listing_laws::one_listing;
+pub use listing_laws::{one_listing, written_listing};
 pub use listing_reader::ListingReader;
 pub use listing_writing::{ListingWriteFault, listing_write};
 pub use needs::edge_order;

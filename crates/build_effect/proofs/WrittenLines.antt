@@ -1,0 +1,215 @@
+-- The lines of an edge as they are written: each is one line, keeps the limit, and is of its class.
+use Rattle.std.proofs.Common.{inl, inr, ◌≡◌, ◌≢◌, ℕ, ◌+◌, ◌≤◌, ◌==◌, Bool, true, false, List, [], ◌∷◌, ◌++◌, length, map, drop, refl, sym, ap, ◌∙◌, subst, Some, None, Ok, arith, length-append}
+use Rattle.std.specs.Prelude.{codes, if◌then◌else◌, option_map, IsTrue}
+use Rattle.std.specs.List.{flat_map, AllByRecursion}
+use Rattle.std.proofs.lemmas.List.{append_assoc, append-nil}
+use Rattle.std.proofs.lemmas.Bool.{cases_Bool, or_parts}
+use Rattle.std.proofs.lemmas.List.Elements.{All-from_recursion}
+use Rattle.ninja_text.specs.Units.{units}
+use Rattle.ninja_text.specs.Lines.{line_limit, IsLine, is_comment, text_of}
+use Rattle.ninja_text.specs.Lexical.{lexical_fault}
+use Rattle.ninja_text.specs.Tokens.{is_blank, tokens_from, tokens, raw}
+use Rattle.ninja_text.specs.Assignments.{SeenAssignment, after_run, begins_with_equals, tail_units, with_bytes, assignment_of}
+use Rattle.ninja_text.specs.Escapes.{is_unwritable, IsWritable, is_escaped, escaped_byte, escaped}
+use Rattle.ninja_text.specs.Paths.{IsPath}
+use Rattle.ninja_text.proofs.Shape.{shape}
+use Rattle.ninja_text.proofs.SpelledPaths.{path_unit, path_units, value_of_escaped}
+use Rattle.ninja_text.proofs.SpelledTokens.{word_and, word_token}
+use Rattle.ninja_text.proofs.SpelledLines.{lexical_none, is_line, text_is}
+use Rattle.dyndep_file.specs.Classes.{Symbol, WordSymbol, symbol, symbols, begins_at_start}
+use Rattle.dyndep_file.specs.Faults.{is_empty, after_build}
+use Rattle.dyndep_file.specs.Writing.{spaced}
+use Rattle.build_effect.specs.EdgeValue.{EdgeValue}
+use Rattle.build_effect.specs.ListingLines.{is_rule_name, BuildRow, DyndepRow, RestatRow, Class, Build, Dyndep, Restat, binding_row, build_row, unindented_row, row_of, with_path, paths_of, edge_paths, build_class, dyndep_class, TextIsOfClass, IsOfClass}
+use Rattle.build_effect.specs.ListingWriting.{part_text, right_text, edge_line, dyndep_line, restat_line}
+use Rattle.build_effect.proofs.WrittenSymbols.{Spelled, spelled_none, spelled_space, spelled_path, spelled_name, units_both, escaped_units, HasLine, texts_of, edge_symbols, behind_keyword, line_text, line_written, behind_written, line_says}
+
+-- ---- a text that is put together, by itself and as a line
+module _ {at_word : Bool} (text : List ℕ) (xs : List Symbol) (w : Spelled at_word text xs) where
+  spelled_symbols : symbols text ≡ xs
+  spelled_symbols = ap (λ t. map (λ k. symbol k.kind (raw t k)) (tokens text)) (sym w.text_is) ∙ w.yields []
+
+  spelled_faultless : lexical_fault text ≡ None
+  spelled_faultless = ap lexical_fault (sym w.text_is) ∙ lexical_none (units text) w.sound
+
+  spelled_is_line : is_comment (text ++ 10 ∷ []) ≡ false → IsLine (text ++ 10 ∷ [])
+  spelled_is_line said = subst (λ t. IsLine (t ++ 10 ∷ [])) w.text_is (is_line (units text) w.sound (ap (λ t. is_comment (t ++ 10 ∷ [])) w.text_is ∙ said))
+
+  spelled_text : is_comment (text ++ 10 ∷ []) ≡ false → text_of (text ++ 10 ∷ []) ≡ text
+  spelled_text said = ap (λ t. text_of (t ++ 10 ∷ [])) (sym w.text_is) ∙ text_is (units text) w.sound (ap (λ t. is_comment (t ++ 10 ∷ [])) w.text_is ∙ said) ∙ w.text_is
+
+  -- the class of the line is that of the text
+  spelled_classed : is_comment (text ++ 10 ∷ []) ≡ false → (c : Class) → length (text ++ 10 ∷ []) ≤ line_limit → TextIsOfClass text false c → IsOfClass (text ++ 10 ∷ []) c
+  spelled_classed said c short is =
+      (short, subst (λ b. TextIsOfClass (text_of (text ++ 10 ∷ [])) b c) (sym said) (subst (λ t. TextIsOfClass t false c) (sym (spelled_text said)) is))
+
+-- ---- paths
+
+paths_are : (paths : List (List ℕ)) → AllByRecursion IsPath paths → paths_of paths ≡ Ok paths
+paths_are [] each = refl
+paths_are (path ∷ paths) each = ap (λ r. with_path r (paths_of paths)) each.0 ∙ ap (with_path (Ok path)) (paths_are paths each.1)
+
+writable : (path : List ℕ) → IsPath path → IsWritable path
+writable path is = (shape path is).writable
+
+all_writable : (paths : List (List ℕ)) → AllByRecursion IsPath paths → AllByRecursion IsWritable paths
+all_writable [] each = tt
+all_writable (path ∷ paths) each = (writable path each.0, all_writable paths each.1)
+
+-- ---- the build line
+
+-- An edge whose build line is read back.
+pub record IsFit (e : EdgeValue) : Type 0 where
+  pub rule : IsTrue (is_rule_name e.rule)
+  pub some : is_empty e.outputs ≡ false
+  pub outputs : AllByRecursion IsPath e.outputs
+  pub implicit_outputs : AllByRecursion IsPath e.implicit_outputs
+  pub inputs : AllByRecursion IsPath e.inputs
+  pub implicit_inputs : AllByRecursion IsPath e.implicit_inputs
+  pub order_only : AllByRecursion IsPath e.order_only
+  pub line : length (edge_line e) ≤ line_limit
+
+module _ (e : EdgeValue) (fit : IsFit e) where
+  has_line : HasLine e
+  has_line = record {
+    rule = fit.rule;
+    some = fit.some;
+    outputs = all_writable e.outputs fit.outputs;
+    implicit_outputs = all_writable e.implicit_outputs fit.implicit_outputs;
+    inputs = all_writable e.inputs fit.inputs;
+    implicit_inputs = all_writable e.implicit_inputs fit.implicit_inputs;
+    order_only = all_writable e.order_only fit.order_only;
+  }
+
+  paths_kept : edge_paths (texts_of e) ≡ Ok (texts_of e)
+  paths_kept = rw (paths_are e.outputs fit.outputs, paths_are e.implicit_outputs fit.implicit_outputs, paths_are e.inputs fit.inputs, paths_are e.implicit_inputs fit.implicit_inputs, paths_are e.order_only fit.order_only) refl
+
+  -- its first token is the keyword
+  first_token : tokens (line_text e) ≡ tokens_from 0 (path_units (codes "build") ++ units (behind_keyword e))
+  first_token = ap (tokens_from 0) (units_both (codes "build") (behind_keyword e) refl refl)
+
+  first_word : tokens (line_text e) ≡ word_and 0 5 (units (behind_keyword e))
+  first_word = first_token ∙ word_token (path_unit 98) (path_units (codes "uild")) (units (behind_keyword e)) 0 refl (behind_written e has_line).begins
+
+  at_start : begins_at_start (tokens (line_text e)) ≡ true
+  at_start = ap begins_at_start first_word
+
+  some_token : is_empty (tokens (line_text e)) ≡ false
+  some_token = ap is_empty first_word
+
+  row_by_tokens : row_of (line_text e) false ≡ unindented_row (after_build (begins_at_start (tokens (line_text e))) (symbols (line_text e)))
+  row_by_tokens = rw (spelled_faultless (line_text e) (WordSymbol (codes "build") ∷ edge_symbols e) (line_written e has_line), some_token) refl
+
+  line_row : row_of (line_text e) false ≡ Ok (BuildRow (texts_of e))
+  line_row =
+      row_by_tokens
+      ∙ ap (λ b. unindented_row (after_build b (symbols (line_text e)))) at_start
+      ∙ ap (λ ss. unindented_row (after_build true ss)) (spelled_symbols (line_text e) (WordSymbol (codes "build") ∷ edge_symbols e) (line_written e has_line))
+      ∙ ap build_row (line_says e has_line)
+
+  -- the line, its end included
+  line_is : line_text e ++ 10 ∷ [] ≡ edge_line e
+  line_is =
+      let outputs = flat_map spaced e.outputs in
+      let implicit_outputs = part_text (codes " |") e.implicit_outputs in
+      let inputs = flat_map spaced e.inputs in
+      let implicit_inputs = part_text (codes " |") e.implicit_inputs in
+      let order_only = part_text (codes " ||") e.order_only in
+      ap (λ t. t ++ 10 ∷ []) (sym (
+      append_assoc (codes "build" ++ outputs ++ implicit_outputs) (codes ": ") (right_text e)
+      ∙ append_assoc (codes "build" ++ outputs) implicit_outputs (codes ": " ++ right_text e)
+      ∙ append_assoc (codes "build") outputs (implicit_outputs ++ (codes ": " ++ right_text e))
+      ∙ ap (λ r. codes "build" ++ (outputs ++ (implicit_outputs ++ (codes ": " ++ r)))) (append_assoc (e.rule ++ inputs) implicit_inputs order_only ∙ append_assoc e.rule inputs (implicit_inputs ++ order_only))))
+
+  pub edge_is_line : IsLine (edge_line e)
+  edge_is_line = subst IsLine line_is (spelled_is_line (line_text e) (WordSymbol (codes "build") ∷ edge_symbols e) (line_written e has_line) refl)
+
+  pub edge_classed : IsOfClass (edge_line e) (Build (texts_of e))
+  edge_classed =
+      subst (λ line. IsOfClass line (Build (texts_of e))) line_is
+      (spelled_classed (line_text e) (WordSymbol (codes "build") ∷ edge_symbols e) (line_written e has_line) refl (Build (texts_of e))
+      (subst (λ line. length line ≤ line_limit) (sym line_is) fit.line) (BuildRow (texts_of e), line_row, ap build_class paths_kept))
+
+-- ---- the line of a binding `dyndep`
+
+byte_length : (b : ℕ) → length (escaped_byte b) ≤ 2
+byte_length b = elim (cases_Bool (is_escaped b)) [ inl t ↦ rw t (omega arith) | inr f ↦ rw f (omega arith) ]
+
+escaped_length : (path : List ℕ) → length (escaped path) ≤ length path + length path
+escaped_length [] = omega arith
+escaped_length (b ∷ path) = omega (arith, byte_length b, escaped_length path, length-append (escaped_byte b) (escaped path))
+
+no_blank : (b : ℕ) → is_blank (path_unit b) ≡ false
+no_blank b = elim (cases_Bool (is_escaped b)) [
+  | inl t ↦ rw t refl
+  | inr f ↦ let p = or_parts (b == 36) _ f in let q = or_parts (b == 32) (b == 58) p.1 in rw f q.0
+]
+
+-- the value begins where the path does
+value_place : (path : List ℕ) → path ≢ [] → (after_run is_blank 11 (path_units path)).place ≡ 11
+value_place [] some = absurd (some refl)
+value_place (b ∷ path) some = rw (no_blank b) refl
+
+-- an `=` is a word
+equals_can : IsWritable (61 ∷ [])
+equals_can = record { some = λ e. cc; each = All-from_recursion (λ b. is_unwritable b ≡ false) (61 ∷ []) (refl, tt) }
+
+abbrev dyndep_text : List ℕ → List ℕ
+dyndep_text path = codes "  dyndep = " ++ escaped path
+
+module _ (path : List ℕ) (is : IsPath path) where
+  equals_units : units (61 ∷ 32 ∷ escaped path) ≡ units (61 ∷ 32 ∷ []) ++ path_units path
+  equals_units = units_both (61 ∷ 32 ∷ []) (escaped path) refl refl ∙ ap (λ us. units (61 ∷ 32 ∷ []) ++ us) (escaped_units path (writable path is))
+
+  -- the assignment, by the units from the `=` on
+  dyndep_assigns : assignment_of (dyndep_text path) ≡ Some (record { name_start = 2; name = codes "dyndep"; raw_value = escaped path })
+  dyndep_assigns =
+      ap (λ us.
+      let sign = after_run is_blank 9 us in
+      let value = after_run is_blank (sign.place + 1) (tail_units sign.units) in
+      option_map (with_bytes (dyndep_text path)) (if begins_with_equals sign.units then Some (record { name_start = 2; name_end = 8; value_start = value.place }) else None)) equals_units
+      ∙ ap (λ (n : ℕ). let a : SeenAssignment = record { name_start = 2; name = codes "dyndep"; raw_value = drop n (dyndep_text path) } in Some a) (value_place path (writable path is).some)
+
+  -- its symbols, behind the spaces
+  abbrev path_symbols : List Symbol
+  path_symbols = WordSymbol (escaped path) ∷ []
+
+  path_written : Spelled true (escaped path) path_symbols
+  path_written = subst (λ t. Spelled true t path_symbols) (append-nil (escaped path)) (spelled_path path [] [] (writable path is) spelled_none)
+
+  equals_written : Spelled true (61 ∷ 32 ∷ escaped path) (WordSymbol (61 ∷ []) ∷ path_symbols)
+  equals_written = spelled_path (61 ∷ []) (32 ∷ escaped path) path_symbols equals_can (spelled_space (escaped path) path_symbols path_written)
+
+  abbrev dyndep_symbols : List Symbol
+  dyndep_symbols = WordSymbol (codes "dyndep") ∷ WordSymbol (61 ∷ []) ∷ path_symbols
+
+  dyndep_written : Spelled false (dyndep_text path) dyndep_symbols
+  dyndep_written =
+      spelled_space (32 ∷ (codes "dyndep" ++ 32 ∷ 61 ∷ 32 ∷ escaped path)) dyndep_symbols
+      (spelled_space (codes "dyndep" ++ 32 ∷ 61 ∷ 32 ∷ escaped path) dyndep_symbols
+      (spelled_name (codes "dyndep") (32 ∷ 61 ∷ 32 ∷ escaped path) (WordSymbol (61 ∷ []) ∷ path_symbols) refl
+      (spelled_space (61 ∷ 32 ∷ escaped path) (WordSymbol (61 ∷ []) ∷ path_symbols) equals_written)))
+
+  dyndep_row : row_of (dyndep_text path) false ≡ Ok (DyndepRow path)
+  dyndep_row =
+      row_of_binding ∙ ap binding_row dyndep_assigns ∙ ap (λ p. Ok (DyndepRow p)) (value_of_escaped path (writable path is))
+    where
+      row_of_binding : row_of (dyndep_text path) false ≡ binding_row (assignment_of (dyndep_text path))
+      row_of_binding = rw (spelled_faultless (dyndep_text path) dyndep_symbols dyndep_written) refl
+
+  short : length (dyndep_text path ++ 10 ∷ []) ≤ line_limit
+  short = omega (arith, escaped_length path, (shape path is).short, length-append (escaped path) (10 ∷ []))
+
+  pub dyndep_is_line : IsLine (dyndep_line (Some path))
+  dyndep_is_line = spelled_is_line (dyndep_text path) dyndep_symbols dyndep_written refl
+
+  pub dyndep_classed : IsOfClass (dyndep_line (Some path)) (Dyndep path)
+  dyndep_classed = spelled_classed (dyndep_text path) dyndep_symbols dyndep_written refl (Dyndep path) short (DyndepRow path, dyndep_row, ap dyndep_class is)
+
+-- ---- the line of a binding `restat`
+
+pub restat_is_line : IsLine (restat_line true)
+restat_is_line = (12, refl)
+
+pub restat_classed : IsOfClass (restat_line true) (Restat true)
+restat_classed = (omega arith, (RestatRow true, refl, refl))

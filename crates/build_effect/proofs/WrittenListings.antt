@@ -1,0 +1,205 @@
+-- The text of a graph, line by line: it lists the graph's edges.
+use Rattle.std.proofs.Common.{inl, inr, ◌≡◌, ◌≢◌, ℕ, suc, ◌+◌, Bool, true, false, List, [], ◌∷◌, ◌++◌, length, slice_get, refl, sym, ap, ◌∙◌, Some, None}
+use Rattle.std.specs.Prelude.{Option, All}
+use Rattle.std.specs.List.{flat_map, AllByRecursion}
+use Rattle.std.proofs.lemmas.List.{append-nil, append_assoc}
+use Rattle.std.proofs.lemmas.List.Elements.{recursion_from_All, All-from_recursion}
+use Rattle.std.proofs.lemmas.Bool.{cases_Bool, ltb-false}
+use Rattle.std.proofs.lemmas.Grind.{flat_map-append}
+use Rattle.ninja_text.specs.Lines.{line_limit, IsLine}
+use Rattle.ninja_text.specs.Paths.{IsPath}
+use Rattle.ninja_text.proofs.LinesForCallers.{AllByRecursion-append, joined}
+use Rattle.dyndep_file.specs.Faults.{is_empty}
+use Rattle.build_effect.specs.EdgeValue.{EdgeValue}
+use Rattle.build_effect.specs.Graphs.{made_by, inputs_of, Reads, IsGraph}
+use Rattle.build_effect.specs.ListingLines.{EdgeTexts, Class, Build, Dyndep, Restat}
+use Rattle.build_effect.specs.ListingGrammar.{no_more_bindings, dyndep_binding, restat_binding, IsListing, listing_end, listing_build}
+use Rattle.build_effect.specs.ListingReading.{AreOfClasses, Lists}
+use Rattle.build_effect.specs.ListingWriting.{edge_line, dyndep_line, restat_line, edge_text, listing_text, is_too_long, too_long_from, first_too_long}
+use Rattle.build_effect.specs.ListingLaws.{IsListable, WrittenListing}
+use Rattle.build_effect.proofs.GraphParts.{all_at}
+use Rattle.build_effect.proofs.WrittenSymbols.{texts_of}
+use Rattle.build_effect.proofs.WrittenLines.{IsFit, edge_is_line, edge_classed, dyndep_is_line, dyndep_classed, restat_is_line, restat_classed}
+
+-- ---- the lines of an edge, and their classes
+
+abbrev dyndep_lines : Option (List ℕ) → List (List ℕ)
+dyndep_lines None = []
+dyndep_lines (Some path) = dyndep_line (Some path) ∷ []
+
+abbrev restat_lines : Bool → List (List ℕ)
+restat_lines true = restat_line true ∷ []
+restat_lines false = []
+
+abbrev dyndep_classes : Option (List ℕ) → List Class
+dyndep_classes None = []
+dyndep_classes (Some path) = Dyndep path ∷ []
+
+abbrev restat_classes : Bool → List Class
+restat_classes true = Restat true ∷ []
+restat_classes false = []
+
+abbrev lines_of : EdgeValue → List (List ℕ)
+lines_of e = edge_line e ∷ (dyndep_lines e.dyndep ++ restat_lines e.restat)
+
+abbrev classes_of : EdgeValue → List Class
+classes_of e = Build (texts_of e) ∷ (dyndep_classes e.dyndep ++ restat_classes e.restat)
+
+-- The path of a binding is canonical.
+abbrev DyndepIsPath : Option (List ℕ) → Type 0
+DyndepIsPath None = Unit {0}
+DyndepIsPath (Some path) = IsPath path
+
+-- An edge whose lines are all read back.
+record IsReadBack (e : EdgeValue) : Type 0 where
+  fit : IsFit e
+  dyndep : DyndepIsPath e.dyndep
+
+-- ---- each line is one, and of its class
+
+dyndep_are_lines : (dyndep : Option (List ℕ)) → DyndepIsPath dyndep → AllByRecursion IsLine (dyndep_lines dyndep)
+dyndep_are_lines None is = tt
+dyndep_are_lines (Some path) is = (dyndep_is_line path is, tt)
+
+restat_are_lines : (restat : Bool) → AllByRecursion IsLine (restat_lines restat)
+restat_are_lines true = (restat_is_line, tt)
+restat_are_lines false = tt
+
+dyndep_are_classed : (dyndep : Option (List ℕ)) → DyndepIsPath dyndep → AreOfClasses (dyndep_lines dyndep) (dyndep_classes dyndep)
+dyndep_are_classed None is = tt
+dyndep_are_classed (Some path) is = (dyndep_classed path is, tt)
+
+restat_are_classed : (restat : Bool) → AreOfClasses (restat_lines restat) (restat_classes restat)
+restat_are_classed true = (restat_classed, tt)
+restat_are_classed false = tt
+
+AreOfClasses-append : (ls ms : List (List ℕ)) (cs ds : List Class) → AreOfClasses ls cs → AreOfClasses ms ds → AreOfClasses (ls ++ ms) (cs ++ ds)
+AreOfClasses-append [] ms [] ds p q = q
+AreOfClasses-append [] ms (c ∷ cs) ds p q = absurd p
+AreOfClasses-append (l ∷ ls) ms [] ds p q = absurd p
+AreOfClasses-append (l ∷ ls) ms (c ∷ cs) ds p q = (p.0, AreOfClasses-append ls ms cs ds p.1 q)
+
+are_lines : (es : List EdgeValue) → AllByRecursion IsReadBack es → AllByRecursion IsLine (flat_map lines_of es)
+are_lines [] each = tt
+are_lines (e ∷ es) each =
+    AllByRecursion-append IsLine (lines_of e) (flat_map lines_of es)
+    (edge_is_line e (each.0).fit, AllByRecursion-append IsLine (dyndep_lines e.dyndep) (restat_lines e.restat) (dyndep_are_lines e.dyndep (each.0).dyndep) (restat_are_lines e.restat))
+    (are_lines es each.1)
+
+are_classed : (es : List EdgeValue) → AllByRecursion IsReadBack es → AreOfClasses (flat_map lines_of es) (flat_map classes_of es)
+are_classed [] each = tt
+are_classed (e ∷ es) each =
+    AreOfClasses-append (lines_of e) (flat_map lines_of es) (classes_of e) (flat_map classes_of es) (
+      edge_classed e (each.0).fit,
+      AreOfClasses-append (dyndep_lines e.dyndep) (restat_lines e.restat) (dyndep_classes e.dyndep) (restat_classes e.restat) (dyndep_are_classed e.dyndep (each.0).dyndep) (restat_are_classed e.restat),
+    )
+    (are_classed es each.1)
+
+-- ---- the classes are a listing of the edges
+
+-- the lines of one edge, by its parts, in front of a listing
+one_more : (t : EdgeTexts) (dyndep : Option (List ℕ)) (restat : Bool) (classes : List Class) (es : List EdgeValue) → IsListing classes es
+    → IsListing (Build t ∷ (dyndep_classes dyndep ++ restat_classes restat ++ classes)) (record {
+      rule = t.rule;
+      outputs = t.outputs;
+      implicit_outputs = t.implicit_outputs;
+      inputs = t.inputs;
+      implicit_inputs = t.implicit_inputs;
+      order_only = t.order_only;
+      dyndep = dyndep;
+      restat = restat;
+    } ∷ es)
+one_more t None false classes es later = listing_build no_more_bindings later
+one_more t None true classes es later = listing_build (restat_binding no_more_bindings) later
+one_more t (Some path) false classes es later = listing_build (dyndep_binding no_more_bindings) later
+one_more t (Some path) true classes es later = listing_build (dyndep_binding (restat_binding no_more_bindings)) later
+
+is_listing : (es : List EdgeValue) → IsListing (flat_map classes_of es) es
+is_listing [] = listing_end
+is_listing (e ∷ es) = one_more (texts_of e) e.dyndep e.restat (flat_map classes_of es) es (is_listing es)
+
+-- ---- the lines, one after another, are the text
+
+dyndep_joined : (dyndep : Option (List ℕ)) → joined (dyndep_lines dyndep) ≡ dyndep_line dyndep
+dyndep_joined None = refl
+dyndep_joined (Some path) = append-nil (dyndep_line (Some path))
+
+restat_joined : (restat : Bool) → joined (restat_lines restat) ≡ restat_line restat
+restat_joined true = refl
+restat_joined false = refl
+
+edge_joined : (e : EdgeValue) → joined (lines_of e) ≡ edge_text e
+edge_joined e =
+    ap (λ t. edge_line e ++ t)
+    (flat_map-append (λ line. line) (dyndep_lines e.dyndep) (restat_lines e.restat) ∙ ap (λ t. t ++ joined (restat_lines e.restat)) (dyndep_joined e.dyndep)
+    ∙ ap (λ t. dyndep_line e.dyndep ++ t) (restat_joined e.restat))
+    ∙ sym (append_assoc (edge_line e) (dyndep_line e.dyndep) (restat_line e.restat))
+
+text_joined : (es : List EdgeValue) → joined (flat_map lines_of es) ≡ listing_text es
+text_joined [] = refl
+text_joined (e ∷ es) =
+    flat_map-append (λ line. line) (lines_of e) (flat_map lines_of es) ∙ ap (λ t. t ++ joined (flat_map lines_of es)) (edge_joined e) ∙ ap (λ t. edge_text e ++ t) (text_joined es)
+
+lists : (es : List EdgeValue) → AllByRecursion IsReadBack es → Lists (listing_text es) es
+lists es each = record {
+  lines = flat_map lines_of es;
+  classes = flat_map classes_of es;
+  divided = record { whole = sym (text_joined es) ∙ sym (append-nil (joined (flat_map lines_of es))); each = are_lines es each; partial = refl };
+  classed = are_classed es each;
+  grammar = is_listing es;
+}
+
+-- ---- the edges of a graph are read back
+
+-- no build line is too long
+none_too_long : (index : ℕ) (es : List EdgeValue) → too_long_from index es ≡ None → AllByRecursion (λ e. is_too_long e ≡ false) es
+none_too_long index [] h = tt
+none_too_long index (e ∷ es) h = elim (cases_Bool (is_too_long e)) [
+  | inl t ↦ absurd (let x : ◌≡◌ {A = Option ℕ} (Some index) None = rw t at h in cc)
+  | inr f ↦ (f, none_too_long (index + 1) es (rw f at h))
+]
+
+both_parts : {X : Type 0} (P : X → Type 0) (xs ys : List X) → AllByRecursion P (xs ++ ys) → AllByRecursion P xs × AllByRecursion P ys
+both_parts P [] ys each = (tt, each)
+both_parts P (x ∷ xs) ys each = let later = both_parts P xs ys each.1 in ((each.0, later.0), later.1)
+
+some_element : (paths : List (List ℕ)) → paths ≢ [] → is_empty paths ≡ false
+some_element [] some = absurd (some refl)
+some_element (path ∷ paths) some = refl
+
+-- what each element has where it stands
+each_of : {X : Type 0} (P : X → Type 0) (xs : List X) → ((i : ℕ) (x : X) → slice_get xs i ≡ Some x → P x) → AllByRecursion P xs
+each_of P [] at = tt
+each_of P (x ∷ xs) at = (at 0 x refl, each_of P xs (λ i y h. at (suc i) y h))
+
+module _ (g : List EdgeValue) (is : IsGraph g) (listable : All IsListable g) (short : first_too_long g ≡ None) where
+  dyndep_path : (e : EdgeValue) → All IsPath (inputs_of e) → (dyndep : Option (List ℕ)) → ((file : List ℕ) → dyndep ≡ Some file → Reads e file) → DyndepIsPath dyndep
+  dyndep_path e paths None reads = tt
+  dyndep_path e paths (Some file) reads = let r = reads file refl in all_at IsPath (inputs_of e) paths r.0 file r.1
+
+  edge_back : (i : ℕ) (e : EdgeValue) → slice_get g i ≡ Some e → IsReadBack e
+  edge_back i e at =
+      let l = all_at IsListable g listable i e at in
+      let made = both_parts IsPath e.outputs e.implicit_outputs (recursion_from_All IsPath (made_by e) l.made) in
+      let read = both_parts IsPath e.inputs (e.implicit_inputs ++ e.order_only) (recursion_from_All IsPath (inputs_of e) l.read) in
+      let others = both_parts IsPath e.implicit_inputs e.order_only read.1 in
+      let kept = all_at (λ e. is_too_long e ≡ false) g (All-from_recursion (λ e. is_too_long e ≡ false) g (none_too_long 0 g short)) i e at in
+      record {
+        fit = record {
+          rule = l.rule;
+          some = some_element e.outputs (is.outputs i e at);
+          outputs = made.0;
+          implicit_outputs = made.1;
+          inputs = read.0;
+          implicit_inputs = others.0;
+          order_only = others.1;
+          line = ltb-false line_limit (length (edge_line e)) kept;
+        };
+        dyndep = dyndep_path e l.read e.dyndep (λ file h. is.dyndep_is_input i e file at h);
+      }
+
+  graph_listed : Lists (listing_text g) g
+  graph_listed = lists g (each_of IsReadBack g edge_back)
+
+pub written_listing : WrittenListing
+written_listing = graph_listed

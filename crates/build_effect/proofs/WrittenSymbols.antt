@@ -1,0 +1,328 @@
+-- The tokens of a build line as it is written, and what they say.
+use Rattle.std.proofs.Common.{inl, inr, ◌≡◌, ℕ, ◌+◌, ◌==◌, ◌&&◌, Bool, true, false, List, [], ◌∷◌, ◌++◌, length, map, refl, sym, ap, ◌∙◌, subst, Some, None, length-append}
+use Rattle.std.specs.Prelude.{IsTrue, codes, not, if◌then◌else◌}
+use Rattle.std.specs.List.{flat_map, list_all, AllByRecursion}
+use Rattle.std.proofs.lemmas.List.{append-nil, append_assoc}
+use Rattle.std.proofs.lemmas.List.Elements.{All-from_recursion}
+use Rattle.std.proofs.lemmas.List.Folds.{list_all-append}
+use Rattle.std.proofs.lemmas.Bool.{cases_Bool, eqb-true, and_from, and_parts}
+use Rattle.std.proofs.lemmas.Grind.{flat_map-append}
+use Rattle.ninja_text.specs.declared.token.TokenKind.{TokenKind}
+use Rattle.ninja_text.specs.declared.token.TokenKind.TheVariants.{Bar, DoubleBar, Colon}
+use Rattle.ninja_text.specs.Units.{units}
+use Rattle.ninja_text.specs.Tokens.{is_piece, goes_on, tokens_from}
+use Rattle.ninja_text.specs.Assignments.{is_name_byte}
+use Rattle.ninja_text.specs.Escapes.{is_unwritable, IsWritable, escaped_byte, escaped}
+use Rattle.ninja_text.proofs.SpelledUnits.{is_sound, text_of_units, unit_text, units_read}
+use Rattle.ninja_text.proofs.SpelledPaths.{path_unit, path_units, path_text, path_sound, path_pieces, has_spelling, value_of_escaped}
+use Rattle.ninja_text.proofs.SpelledTokens.{Yields, viewed, no_units, goes_on_piece, space_yields, colon_yields, bar_yields, path_yields}
+use Rattle.ninja_text.proofs.SpelledLines.{units_are}
+use Rattle.dyndep_file.specs.Classes.{Symbol, WordSymbol, SignSymbol, symbol}
+use Rattle.dyndep_file.specs.Faults.{is_empty}
+use Rattle.dyndep_file.specs.Writing.{spaced}
+use Rattle.build_effect.specs.EdgeValue.{EdgeValue}
+use Rattle.build_effect.specs.ListingLines.{EdgeTexts, front_words, past_words, is_sign, past_sign, part_words, past_part, is_rule_name, edge_texts, right_texts}
+use Rattle.build_effect.specs.ListingWriting.{part_text}
+use Rattle.build_effect.proofs.ListingLineLemmas.{left_texts, right_are}
+
+-- ---- a rule's name is spelled as it is
+
+-- a byte of a name is none that is not
+name_apart : (b c : ℕ) → is_name_byte b ≡ true → is_name_byte c ≡ false → (b == c) ≡ false
+name_apart b c h none = elim (cases_Bool (b == c)) [
+  | inl t ↦ absurd (let x : false ≡ true = sym none ∙ subst (λ n. is_name_byte n ≡ true) (eqb-true b c t) h in cc)
+  | inr f ↦ f
+]
+
+name_plain : (b : ℕ) → is_name_byte b ≡ true → escaped_byte b ≡ b ∷ []
+name_plain b h = rw (name_apart b 36 h refl, name_apart b 32 h refl, name_apart b 58 h refl) refl
+
+name_spelled : (b : ℕ) → is_name_byte b ≡ true → is_unwritable b ≡ false
+name_spelled b h = rw (name_apart b 124 h refl, name_apart b 0 h refl, name_apart b 13 h refl, name_apart b 10 h refl) refl
+
+names_plain : (name : List ℕ) → list_all is_name_byte name ≡ true → escaped name ≡ name
+names_plain [] h = refl
+names_plain (b ∷ name) h =
+    let p = and_parts (is_name_byte b) (list_all is_name_byte name) h in
+    ap (λ bs. bs ++ escaped name) (name_plain b p.0) ∙ ap (λ bs. b ∷ bs) (names_plain name p.1)
+
+names_spelled : (name : List ℕ) → list_all is_name_byte name ≡ true → AllByRecursion (λ b. is_unwritable b ≡ false) name
+names_spelled [] h = tt
+names_spelled (b ∷ name) h =
+    let p = and_parts (is_name_byte b) (list_all is_name_byte name) h in
+    (name_spelled b p.0, names_spelled name p.1)
+
+rule_plain : (rule : List ℕ) → IsTrue (is_rule_name rule) → escaped rule ≡ rule
+rule_plain [] h = refl
+rule_plain (b ∷ rule) h = names_plain (b ∷ rule) h
+
+rule_writable : (rule : List ℕ) → IsTrue (is_rule_name rule) → IsWritable rule
+rule_writable [] h = absurd (let x : false ≡ true = h in cc)
+rule_writable (b ∷ rule) h = record { some = λ e. cc; each = All-from_recursion (λ b. is_unwritable b ≡ false) (b ∷ rule) (names_spelled (b ∷ rule) h) }
+
+-- ---- texts put together
+
+-- The units of the text are spelled bytes, and its tokens are these symbols; at_word says whether it begins with a word.
+pub record Spelled (at_word : Bool) (text : List ℕ) (xs : List Symbol) : Type 0 where
+  pub sound : list_all is_sound (units text) ≡ true
+  pub text_is : text_of_units (units text) ≡ text
+  pub begins : goes_on (units text) ≡ at_word
+  pub yields : Yields symbol (units text) xs
+
+pub spelled_none : Spelled false [] []
+spelled_none = record { sound = refl; text_is = refl; begins = refl; yields = no_units symbol }
+
+-- the units of two texts, one behind another
+pub units_both : (front text : List ℕ) → list_all is_sound (units front) ≡ true → text_of_units (units front) ≡ front → units (front ++ text) ≡ units front ++ units text
+units_both front text sound is = ap (λ t. units (t ++ text)) (sym is) ∙ units_read (units front) text sound
+
+-- one more text in front
+spelled_more : {at_word now : Bool} (front text : List ℕ) (xs ys : List Symbol) → list_all is_sound (units front) ≡ true → text_of_units (units front) ≡ front → Spelled at_word text xs
+    → goes_on (units front ++ units text) ≡ now → Yields symbol (units front ++ units text) ys → Spelled now (front ++ text) ys
+spelled_more front text xs ys sound is later begins yields =
+    let both = units_both front text sound is in
+    record {
+      sound = ap (list_all is_sound) both ∙ list_all-append is_sound (units front) (units text) ∙ and_from _ _ sound later.sound;
+      text_is = ap text_of_units both ∙ flat_map-append unit_text (units front) (units text) ∙ ap (λ t. t ++ text_of_units (units text)) is ∙ ap (λ t. front ++ t) later.text_is;
+      begins = ap goes_on both ∙ begins;
+      yields = subst (λ us. Yields symbol us ys) (sym both) yields;
+    }
+
+pub spelled_space : {at_word : Bool} (text : List ℕ) (xs : List Symbol) → Spelled at_word text xs → Spelled false (32 ∷ text) xs
+spelled_space text xs later = spelled_more (32 ∷ []) text xs xs refl refl later refl (space_yields symbol (units text) xs later.yields)
+
+spelled_colon : {at_word : Bool} (text : List ℕ) (xs : List Symbol) → Spelled at_word text xs → Spelled false (58 ∷ text) (SignSymbol Colon ∷ xs)
+spelled_colon text xs later = spelled_more (58 ∷ []) text xs (SignSymbol Colon ∷ xs) refl refl later refl (colon_yields symbol (units text) xs later.yields)
+
+-- a `|` and a space
+spelled_bar : {at_word : Bool} (text : List ℕ) (xs : List Symbol) → Spelled at_word text xs → Spelled false (124 ∷ 32 ∷ text) (SignSymbol Bar ∷ xs)
+spelled_bar text xs later =
+    spelled_more (124 ∷ 32 ∷ []) text xs (SignSymbol Bar ∷ xs) refl refl later refl (bar_yields symbol (units text) xs (space_yields symbol (units text) xs later.yields))
+
+-- a `||`
+spelled_double_bar : {at_word : Bool} (text : List ℕ) (xs : List Symbol) → Spelled at_word text xs → Spelled false (124 ∷ 124 ∷ text) (SignSymbol DoubleBar ∷ xs)
+spelled_double_bar text xs later =
+    let bars = units (124 ∷ 124 ∷ []) in
+    spelled_more (124 ∷ 124 ∷ []) text xs (SignSymbol DoubleBar ∷ xs) refl refl later refl
+    (λ front. ap (λ ys. SignSymbol DoubleBar ∷ ys)
+    (ap (λ us. map (viewed symbol (text_of_units us)) (tokens_from (length (text_of_units front) + 2) (units text))) (sym (append_assoc front bars (units text)))
+    ∙ ap (λ n. map (viewed symbol (text_of_units ((front ++ bars) ++ units text))) (tokens_from n (units text)))
+    (sym (ap length (flat_map-append unit_text front bars) ∙ length-append (text_of_units front) (text_of_units bars)))
+    ∙ later.yields (front ++ bars)))
+
+-- the units of a path as it is spelled
+pub escaped_units : (path : List ℕ) → IsWritable path → units (escaped path) ≡ path_units path
+escaped_units path writable = ap units (sym (path_text path)) ∙ units_are (path_units path) (path_sound path (has_spelling path writable))
+
+-- a path
+pub spelled_path : (path text : List ℕ) (xs : List Symbol) → IsWritable path → Spelled false text xs → Spelled true (escaped path ++ text) (WordSymbol (escaped path) ∷ xs)
+spelled_path [] text xs writable later = absurd (writable.some refl)
+spelled_path (b ∷ path) text xs writable later =
+    let are = escaped_units (b ∷ path) writable in
+    let can = has_spelling (b ∷ path) writable in
+    spelled_more (escaped (b ∷ path)) text xs (WordSymbol (escaped (b ∷ path)) ∷ xs)
+    (ap (list_all is_sound) are ∙ path_sound (b ∷ path) can) (ap text_of_units are ∙ path_text (b ∷ path)) later
+    (ap (λ us. goes_on (us ++ units text)) are ∙ goes_on_piece (path_unit b) (path_units path ++ units text) (and_parts (is_piece (path_unit b)) (list_all is_piece (path_units path)) (path_pieces (b ∷ path) can)).0)
+    (subst (λ us. Yields symbol (us ++ units text) (WordSymbol (escaped (b ∷ path)) ∷ xs)) (sym are) (path_yields symbol (b ∷ path) (units text) xs writable later.begins later.yields))
+
+-- a word of the bytes that a rule's name has
+pub spelled_name : (name text : List ℕ) (xs : List Symbol) → IsTrue (is_rule_name name) → Spelled false text xs → Spelled true (name ++ text) (WordSymbol name ∷ xs)
+spelled_name name text xs h later =
+    subst (λ r. Spelled true (r ++ text) (WordSymbol r ∷ xs)) (rule_plain name h) (spelled_path name text xs (rule_writable name h) later)
+
+-- ---- paths, and a part, in front of a text
+
+-- the symbols of paths, and of a part
+abbrev words : List (List ℕ) → List Symbol
+words paths = map WordSymbol (map escaped paths)
+
+abbrev part_symbols : TokenKind → List (List ℕ) → List Symbol
+part_symbols sign [] = []
+part_symbols sign (path ∷ paths) = SignSymbol sign ∷ words (path ∷ paths)
+
+module _ (text : List ℕ) (xs : List Symbol) (later : Spelled false text xs) where
+  first_path_written : (path : List ℕ) (paths : List (List ℕ)) → IsWritable path → Spelled false (flat_map spaced paths ++ text) (words paths ++ xs)
+      → Spelled true ((escaped path ++ flat_map spaced paths) ++ text) (words (path ∷ paths) ++ xs)
+  first_path_written path paths writable rest =
+      subst (λ t. Spelled true t (words (path ∷ paths) ++ xs)) (sym (append_assoc (escaped path) (flat_map spaced paths) text))
+      (spelled_path path (flat_map spaced paths ++ text) (words paths ++ xs) writable rest)
+
+  paths_written : (paths : List (List ℕ)) → AllByRecursion IsWritable paths → Spelled false (flat_map spaced paths ++ text) (words paths ++ xs)
+  paths_written [] writable = later
+  paths_written (path ∷ paths) writable =
+      spelled_space ((escaped path ++ flat_map spaced paths) ++ text) (words (path ∷ paths) ++ xs)
+      (first_path_written path paths writable.0 (paths_written paths writable.1))
+
+  bar_written : (paths : List (List ℕ)) → AllByRecursion IsWritable paths → Spelled false (part_text (codes " |") paths ++ text) (part_symbols Bar paths ++ xs)
+  bar_written [] writable = later
+  bar_written (path ∷ paths) writable =
+      let behind = (escaped path ++ flat_map spaced paths) ++ text in
+      spelled_space (124 ∷ 32 ∷ behind) (SignSymbol Bar ∷ (words (path ∷ paths) ++ xs))
+      (spelled_bar behind (words (path ∷ paths) ++ xs) (first_path_written path paths writable.0 (paths_written paths writable.1)))
+
+  double_bar_written : (paths : List (List ℕ)) → AllByRecursion IsWritable paths → Spelled false (part_text (codes " ||") paths ++ text) (part_symbols DoubleBar paths ++ xs)
+  double_bar_written [] writable = later
+  double_bar_written (path ∷ paths) writable =
+      let behind = flat_map spaced (path ∷ paths) ++ text in
+      spelled_space (124 ∷ 124 ∷ behind) (SignSymbol DoubleBar ∷ (words (path ∷ paths) ++ xs))
+      (spelled_double_bar behind (words (path ∷ paths) ++ xs) (paths_written (path ∷ paths) writable))
+
+-- ---- what such symbols say
+
+-- No word stands at the front.
+record Stops (ss : List Symbol) : Type 0 where
+  none : front_words ss ≡ []
+  all : past_words ss ≡ ss
+
+part_stops : (sign : TokenKind) (paths : List (List ℕ)) (rest : List Symbol) → Stops rest → Stops (part_symbols sign paths ++ rest)
+part_stops sign [] rest s = s
+part_stops sign (path ∷ paths) rest s = record { none = refl; all = refl }
+
+same_cons : {x y : List ℕ} {xs ys : List (List ℕ)} → x ≡ y → xs ≡ ys → x ∷ xs ≡ y ∷ ys
+same_cons p q = rw (p, q) refl
+
+-- words are read up to what stops them
+front_is : (paths : List (List ℕ)) (rest : List Symbol) → AllByRecursion IsWritable paths → Stops rest → front_words (words paths ++ rest) ≡ paths
+front_is [] rest writable s = s.none
+front_is (path ∷ paths) rest writable s = same_cons (value_of_escaped path writable.0) (front_is paths rest writable.1 s)
+
+past_is : (paths : List (List ℕ)) (rest : List Symbol) → Stops rest → past_words (words paths ++ rest) ≡ rest
+past_is [] rest s = s.all
+past_is (path ∷ paths) rest s = past_is paths rest s
+
+-- and so is a part, where its sign does not follow it
+module _ (sign : TokenKind) (same : is_sign sign sign ≡ true) (rest : List Symbol) (s : Stops rest) (apart : past_sign sign rest ≡ None) where
+  part_is : (paths : List (List ℕ)) → AllByRecursion IsWritable paths → part_words (past_sign sign (part_symbols sign paths ++ rest)) ≡ paths
+  part_is [] writable = ap part_words apart
+  part_is (path ∷ paths) writable =
+      ap (λ (b : Bool). part_words (if b then Some (words (path ∷ paths) ++ rest) else None)) same ∙ front_is (path ∷ paths) rest writable s
+
+  part_past : (paths : List (List ℕ)) → past_part (past_sign sign (part_symbols sign paths ++ rest)) (part_symbols sign paths ++ rest) ≡ rest
+  part_past [] = ap (λ o. past_part o rest) apart
+  part_past (path ∷ paths) =
+      ap (λ (b : Bool). past_part (if b then Some (words (path ∷ paths) ++ rest) else None) (part_symbols sign (path ∷ paths) ++ rest)) same ∙ past_is (path ∷ paths) rest s
+
+no_bar : (paths : List (List ℕ)) → past_sign Bar (part_symbols DoubleBar paths ++ []) ≡ None
+no_bar [] = refl
+no_bar (path ∷ paths) = refl
+
+-- ---- the build line of an edge
+
+-- what its build line says
+abbrev pub texts_of : EdgeValue → EdgeTexts
+texts_of e = record {
+  rule = e.rule;
+  outputs = e.outputs;
+  implicit_outputs = e.implicit_outputs;
+  inputs = e.inputs;
+  implicit_inputs = e.implicit_inputs;
+  order_only = e.order_only;
+}
+
+-- Its rule may be called so, it has an output, and its paths have spellings.
+pub record HasLine (e : EdgeValue) : Type 0 where
+  pub rule : IsTrue (is_rule_name e.rule)
+  pub some : is_empty e.outputs ≡ false
+  pub outputs : AllByRecursion IsWritable e.outputs
+  pub implicit_outputs : AllByRecursion IsWritable e.implicit_outputs
+  pub inputs : AllByRecursion IsWritable e.inputs
+  pub implicit_inputs : AllByRecursion IsWritable e.implicit_inputs
+  pub order_only : AllByRecursion IsWritable e.order_only
+
+-- its symbols from the order-only inputs on, from the implicit inputs on, and so forth
+abbrev order_symbols : EdgeValue → List Symbol
+order_symbols e = part_symbols DoubleBar e.order_only ++ []
+
+abbrev implicit_symbols : EdgeValue → List Symbol
+implicit_symbols e = part_symbols Bar e.implicit_inputs ++ order_symbols e
+
+abbrev input_symbols : EdgeValue → List Symbol
+input_symbols e = words e.inputs ++ implicit_symbols e
+
+abbrev colon_symbols : EdgeValue → List Symbol
+colon_symbols e = SignSymbol Colon ∷ WordSymbol e.rule ∷ input_symbols e
+
+abbrev implicit_output_symbols : EdgeValue → List Symbol
+implicit_output_symbols e = part_symbols Bar e.implicit_outputs ++ colon_symbols e
+
+-- all of them behind the keyword
+abbrev pub edge_symbols : EdgeValue → List Symbol
+edge_symbols e = words e.outputs ++ implicit_output_symbols e
+
+-- the line without its end, from the rule on, behind the keyword, and whole
+abbrev behind_colon : EdgeValue → List ℕ
+behind_colon e = e.rule ++ (flat_map spaced e.inputs ++ (part_text (codes " |") e.implicit_inputs ++ part_text (codes " ||") e.order_only))
+
+abbrev pub behind_keyword : EdgeValue → List ℕ
+behind_keyword e = flat_map spaced e.outputs ++ (part_text (codes " |") e.implicit_outputs ++ (58 ∷ 32 ∷ behind_colon e))
+
+abbrev pub line_text : EdgeValue → List ℕ
+line_text e = codes "build" ++ behind_keyword e
+
+module _ (e : EdgeValue) (has : HasLine e) where
+  order_written : Spelled false (part_text (codes " ||") e.order_only) (order_symbols e)
+  order_written =
+      subst (λ t. Spelled false t (order_symbols e)) (append-nil (part_text (codes " ||") e.order_only))
+      (double_bar_written [] [] spelled_none e.order_only has.order_only)
+
+  inputs_written : Spelled false (flat_map spaced e.inputs ++ (part_text (codes " |") e.implicit_inputs ++ part_text (codes " ||") e.order_only)) (input_symbols e)
+  inputs_written =
+      paths_written (part_text (codes " |") e.implicit_inputs ++ part_text (codes " ||") e.order_only) (implicit_symbols e)
+      (bar_written (part_text (codes " ||") e.order_only) (order_symbols e) order_written e.implicit_inputs has.implicit_inputs)
+      e.inputs has.inputs
+
+  right_written : Spelled true (behind_colon e) (WordSymbol e.rule ∷ input_symbols e)
+  right_written =
+      spelled_name e.rule (flat_map spaced e.inputs ++ (part_text (codes " |") e.implicit_inputs ++ part_text (codes " ||") e.order_only)) (input_symbols e) has.rule inputs_written
+
+  colon_written : Spelled false (58 ∷ 32 ∷ behind_colon e) (colon_symbols e)
+  colon_written =
+      spelled_colon (32 ∷ behind_colon e) (WordSymbol e.rule ∷ input_symbols e)
+      (spelled_space (behind_colon e) (WordSymbol e.rule ∷ input_symbols e) right_written)
+
+  pub behind_written : Spelled false (behind_keyword e) (edge_symbols e)
+  behind_written =
+      paths_written (part_text (codes " |") e.implicit_outputs ++ (58 ∷ 32 ∷ behind_colon e)) (implicit_output_symbols e)
+      (bar_written (58 ∷ 32 ∷ behind_colon e) (colon_symbols e) colon_written e.implicit_outputs has.implicit_outputs)
+      e.outputs has.outputs
+
+  pub line_written : Spelled true (line_text e) (WordSymbol (codes "build") ∷ edge_symbols e)
+  line_written = spelled_name (codes "build") (behind_keyword e) (edge_symbols e) refl behind_written
+
+  order_stops : Stops (order_symbols e)
+  order_stops = part_stops DoubleBar e.order_only [] (record { none = refl; all = refl })
+
+  implicit_stops : Stops (implicit_symbols e)
+  implicit_stops = part_stops Bar e.implicit_inputs (order_symbols e) order_stops
+
+  colon_stops : Stops (colon_symbols e)
+  colon_stops = record { none = refl; all = refl }
+
+  implicit_output_stops : Stops (implicit_output_symbols e)
+  implicit_output_stops = part_stops Bar e.implicit_outputs (colon_symbols e) colon_stops
+
+  left_says : edge_texts (edge_symbols e) ≡ right_texts e.outputs e.implicit_outputs (Some (WordSymbol e.rule ∷ input_symbols e))
+  left_says =
+      left_texts (edge_symbols e) (implicit_output_symbols e) (colon_symbols e) e.outputs e.implicit_outputs
+      (sym (front_is e.outputs (implicit_output_symbols e) has.outputs implicit_output_stops))
+      (sym (past_is e.outputs (implicit_output_symbols e) implicit_output_stops))
+      (sym (part_is Bar refl (colon_symbols e) colon_stops refl e.implicit_outputs has.implicit_outputs))
+      (sym (part_past Bar refl (colon_symbols e) colon_stops refl e.implicit_outputs))
+
+  is_whole : true ≡ not (is_empty e.outputs) && is_rule_name e.rule && is_empty {A = Symbol} []
+  is_whole = sym (and_from (not (is_empty e.outputs) && is_rule_name e.rule) true (and_from (not (is_empty e.outputs)) (is_rule_name e.rule) (ap not has.some) has.rule) refl)
+
+  right_says : right_texts e.outputs e.implicit_outputs (Some (WordSymbol e.rule ∷ input_symbols e)) ≡ Some (texts_of e)
+  right_says =
+      right_are e.outputs e.implicit_outputs e.inputs e.implicit_inputs e.order_only e.rule e.rule (input_symbols e) (implicit_symbols e) (order_symbols e) [] refl
+      (sym (front_is e.inputs (implicit_symbols e) has.inputs implicit_stops))
+      (sym (past_is e.inputs (implicit_symbols e) implicit_stops))
+      (sym (part_is Bar refl (order_symbols e) order_stops (no_bar e.order_only) e.implicit_inputs has.implicit_inputs))
+      (sym (part_past Bar refl (order_symbols e) order_stops (no_bar e.order_only) e.implicit_inputs))
+      (sym (part_is DoubleBar refl [] (record { none = refl; all = refl }) refl e.order_only has.order_only))
+      (sym (part_past DoubleBar refl [] (record { none = refl; all = refl }) refl e.order_only))
+      true is_whole
+
+  -- and they say what the edge has
+  pub line_says : edge_texts (edge_symbols e) ≡ Some (texts_of e)
+  line_says = left_says ∙ right_says

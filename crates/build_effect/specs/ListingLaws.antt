@@ -1,0 +1,20 @@
+-- The law of what is written: it reads back.
+use Rattle.std.specs.Prelude.{◌≡◌, IsTrue, List, All, None}
+use Rattle.ninja_text.specs.Paths.{IsPath}
+use Rattle.build_effect.specs.EdgeValue.{EdgeValue}
+use Rattle.build_effect.specs.Graphs.{made_by, inputs_of, IsGraph}
+use Rattle.build_effect.specs.ListingLines.{is_rule_name}
+use Rattle.build_effect.specs.ListingWriting.{listing_text, first_too_long}
+use Rattle.build_effect.specs.ListingReading.{Lists}
+
+-- An edge as listings have them: a rule may be called as its rule is, and its paths are canonical.
+pub record IsListable (e : EdgeValue) : Type 0 where
+  pub rule : IsTrue (is_rule_name e.rule)
+  pub made : All IsPath (made_by e)
+  pub read : All IsPath (inputs_of e)
+
+-- Law: the text of a graph of such edges, none of whose build lines is too long, lists that graph.
+abbrev pub WrittenListing : Type 0
+WrittenListing =
+    (g : List EdgeValue) → IsGraph g → All IsListable g → first_too_long g ≡ None
+    → Lists (listing_text g) g
