@@ -1,14 +1,17 @@
 -- Rows of edge listings: the definitions compute to what each line is, and a listing of three edges is one of just these.
 use Rattle.std.proofs.Common.{◌≡◌, ℕ, List, [], ◌∷◌, ◌++◌, refl, Some, None, true, false, Ok}
-use Rattle.std.specs.Prelude.{codes}
+use Rattle.std.specs.Prelude.{codes, All}
+use Rattle.std.proofs.lemmas.List.Elements.{All-from_recursion}
 use Rattle.ninja_text.specs.Lines.{text_of, is_comment}
-use Rattle.ninja_text.specs.Paths.{canonical_of}
+use Rattle.ninja_text.specs.Paths.{canonical_of, IsPath}
 use Rattle.ninja_text.specs.declared.faults.LexFault.TheVariants.{Variable}
 use Rattle.ninja_text.specs.declared.paths.PathFault.TheVariants.{Empty}
 use Rattle.build_effect.specs.EdgeValue.{EdgeValue}
 use Rattle.build_effect.specs.ListingLines.{EdgeTexts, CommentRow, BlankRow, BuildRow, DyndepRow, RestatRow, Class, Comment, Blank, Build, Dyndep, Restat, row_of, class_of_row, TextIsOfClass}
 use Rattle.build_effect.specs.ListingGrammar.{IsListing, listing_end, listing_blank, listing_build, no_more_bindings, comment_between, dyndep_binding, restat_binding}
 use Rattle.build_effect.specs.ListingFaults.{line_cause, open_from}
+use Rattle.build_effect.specs.ListingWriting.{first_too_long}
+use Rattle.build_effect.specs.ListingLaws.{IsListable}
 use Rattle.build_effect.specs.declared.listing_faults.LineCause.TheVariants.{Lexical, Form, BadPath}
 use Rattle.build_effect.specs.declared.listing_state.Binding.TheVariants.{Closed, Open}
 
@@ -194,3 +197,25 @@ seventh_line = (BlankRow, refl, refl)
 last_line : IsLineOf (line (codes "build lib: ar a.o b.o")) (Build archive)
 unfolding canonical_of
 last_line = (BuildRow archive, refl, refl)
+
+-- ---- they are edges as the law of what is written has them
+
+one_path : (path : List ℕ) → IsPath path → All IsPath (path ∷ [])
+one_path path is = All-from_recursion IsPath (path ∷ []) (is, tt)
+
+two_paths : (path other : List ℕ) → IsPath path → IsPath other → All IsPath (path ∷ other ∷ [])
+two_paths path other is too = All-from_recursion IsPath (path ∷ other ∷ []) (is, (too, tt))
+
+listable : All IsListable edges
+unfolding canonical_of
+listable = All-from_recursion IsListable edges (
+  record { rule = refl; made = one_path (codes "a.o") refl; read = two_paths (codes "a.cpp") (codes "t.dd") refl refl },
+  (
+    record { rule = refl; made = one_path (codes "b.o") refl; read = two_paths (codes "b.cpp") (codes "t.dd") refl refl },
+    (record { rule = refl; made = one_path (codes "lib") refl; read = two_paths (codes "a.o") (codes "b.o") refl refl }, tt),
+  ),
+)
+
+-- and their build lines are short
+short : first_too_long edges ≡ None
+short = refl
