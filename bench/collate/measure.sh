@@ -1,0 +1,88 @@
+#!/usr/bin/env bash
+# Measures `dyncollate collate`, the whole program with reading and writing, beside plain C++ that does the same and
+# proves nothing, and beside cmake where it is there: measure.sh [LARGEST]. The targets are those of documents.awk with
+# 1,000, 10,000 and 60,000 objects, as far as they have no more than LARGEST, and those of chain.awk with 20,000. It fails
+# where the two do not write the same files. bench/common.sh says what is printed. The labels:
+#   each, all     a scan document for each object, and one of all of them; behind it the form of maps
+#   cmake         cmake -E cmake_ninja_dyndep on the documents of each, with maps for GCC, in lines of its own; what its
+#                 dyndep file says must be what the program says
+#   chain, ring   each object requires the module of the next; in a ring the last one that of the first, and the refusal
+#                 tells all objects
+set -euo pipefail
+here=$(cd "$(dirname "$0")" && pwd)
+source "$here/../common.sh"
+largest=${1:-60000}
+documents=$work/documents
+folders=(obj/core obj/data obj/net obj/view)
+rm -f "$work/measured."*
+
+# size_of PATTERN: how many bytes the documents have together whose names match.
+size_of() {
+    find "$documents" -regextype egrep -regex ".*/($1)" -printf '%s\n' | awk '{ sum += $1 } END { print sum }'
+}
+
+# what_it_says FILE: the statements of a dyndep file, without the empty lines of cmake's.
+what_it_says() {
+    sed -e 1d -e '/^$/d' "$1"
+}
+
+# measure_cmake OBJECTS BYTES ROUNDS: cmake is told the documents as it is by its own generator, and knows GCC's maps.
+measure_cmake() {
+    local directory=$work/cmake
+    rm -rf "$directory"
+    mkdir -p "$directory"
+    (cd "$directory" && mkdir -p "${folders[@]}")
+    # shellcheck disable=SC2046
+    alone cmake.gcc "$1" "$2" "$3" "$directory" "$(command -v cmake)" -E cmake_ninja_dyndep \
+        --tdi=../documents/DyndepInfo.json --lang=CXX --modmapfmt=gcc --dd=t.dd \
+        $(seq -f '../documents/%.0f.ddi' 0 $(($1 - 1)))
+    cmp <(what_it_says "$directory/t.dd") <(what_it_says "$work/program/t.dd") >&2
+}
+
+# measure_size OBJECTS ROUNDS: targets of so many objects, from both forms of scan documents, with all forms of maps.
+measure_size() {
+    local objects=$1 rounds=$2 bytes map
+    rm -rf "$documents"
+    mkdir -p "$documents"/lib{0..9}
+    awk -v objects="$objects" -v d="$documents" -f "$top/bench/names.awk" -f "$here/documents.awk"
+    bytes=$(size_of '[0-9]+.ddi|each.none.json|lib[0-9].json')
+    for map in none clang gcc; do
+        clear "${folders[@]}"
+        compare each."$map" "$objects" "$bytes" "$rounds" 0 collate ../documents/each."$map".json \
+            >> "$work/measured.each.$map"
+    done
+    if command -v cmake > /dev/null; then
+        measure_cmake "$objects" "$bytes" "$(((rounds + 3) / 4))" >> "$work/measured.cmake"
+    fi
+    bytes=$(size_of 'all.ddi|all.none.json|lib[0-9].json')
+    for map in none clang gcc; do
+        clear "${folders[@]}"
+        compare all."$map" "$objects" "$bytes" "$rounds" 0 collate ../documents/all."$map".json \
+            >> "$work/measured.all.$map"
+    done
+}
+
+measure_chain() {
+    local objects=20000 rounds=$1 status=0 shape
+    for shape in chain ring; do
+        rm -rf "$documents"
+        mkdir -p "$documents"
+        awk -v objects=$objects -v d="$documents" -v ring="$status" -f "$top/bench/names.awk" -f "$here/chain.awk"
+        clear
+        compare $shape $objects "$(size_of "$shape.*")" "$rounds" "$status" collate ../documents/$shape.json \
+            >> "$work/measured.$shape"
+        status=1
+    done
+}
+
+# how many objects a target has, and how often it is collated
+for size in '1000 20' '10000 6' '60000 3'; do
+    read -r objects rounds <<< "$size"
+    if [ "$objects" -le "$largest" ]; then
+        measure_size "$objects" "$rounds"
+    fi
+done
+measure_chain 5
+for label in each.none each.clang each.gcc cmake all.none all.clang all.gcc chain ring; do
+    [ ! -f "$work/measured.$label" ] || cat "$work/measured.$label"
+done | table objects

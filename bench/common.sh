@@ -1,0 +1,67 @@
+# What the scripts measure.sh share: common.sh is sourced by them, behind a line that sets here to their directory. It
+# builds plain, which does what dyncollate does and proves nothing, and rounds, which measures both; and it proves and
+# builds the program where it is not up to date. Where DYNCOLLATE names a program, that is measured in its place.
+# plain needs RapidJSON, Debian's package rapidjson-dev.
+top=$(cd "$here/../.." && pwd)
+tools=${TMPDIR:-/tmp}/dyncollate-bench/tools
+mkdir -p "$tools"
+for source in plain/plain rounds; do
+    g++ -O2 -std=c++20 -o "$tools/$(basename "$source")" "$top/bench/$source.cpp"
+done
+# the documents and what is written stand in memory where they can, since disks differ more than programs do
+work=$(mktemp -d -p /dev/shm 2> /dev/null || mktemp -d)
+trap 'rm -rf "$work"' EXIT
+program=${DYNCOLLATE:-}
+if [ -z "$program" ]; then
+    "$top/dyncollate" one "$top/examples/b.ddi" mod .bmi > /dev/null
+    program=$top/crates/dyncollate/out/dyncollate
+fi
+program=$(realpath "$program")
+
+# clear DIR..: the directories program and plain, in which both run, have these directories and nothing else.
+clear() {
+    for name in program plain; do
+        rm -rf "${work:?}/$name"
+        mkdir -p "$work/$name"
+        (cd "$work/$name" && mkdir -p . "$@")
+    done
+}
+
+# compare LABEL COUNT BYTES ROUNDS STATUS WORDS..: runs both with the words so often, sees that they leave the same files
+# and lines, and prints a line for table: the first three arguments, and what rounds prints of both.
+compare() {
+    "$tools/rounds" "$4" "$5" "$work/program" "$program" "$work/plain" "$tools/plain" -- "${@:6}" \
+        > "$work/measured"
+    diff -r "$work/program" "$work/plain" >&2
+    echo "$1" "$2" "$3" $(cat "$work/measured")
+}
+
+# alone LABEL COUNT BYTES ROUNDS DIR PROGRAM WORDS..: the same of another program, which runs in the directory DIR.
+alone() {
+    "$tools/rounds" "$4" 0 "$5" "$6" -- "${@:7}" > "$work/measured"
+    echo "$1" "$2" "$3" $(cat "$work/measured")
+}
+
+# table WHAT: of the lines of compare, the processor time that both take, of the fastest run and of the median one, the
+# kilobytes that both hold at most, and how often the program takes what plain takes; then the time by the things that
+# are counted, and how much this grew since the first line under the same label, but for digits at its end.
+table() {
+    awk -v what="$1" '
+        BEGIN {
+            titles = "%-14s %8s %10s %9s %9s %9s %9s %6s %8s %8s %6s %9s %6s\n"
+            printf titles, "", what, "bytes", "best ms", "median", "C++ best", "median", "ratio", \
+                "KB", "C++ KB", "ratio", "us/" substr(what, 1, 6), "growth"
+        }
+        {
+            each = $4 / $2 * 1e3
+            before = label
+            label = $1
+            sub(/[0-9]+$/, "", label)
+            smallest = label == before ? smallest : each
+            printf "%-14s %8d %10d %9.2f %9.2f ", $1, $2, $3, $4, $5
+        }
+        NF == 9 { printf "%9.2f %9.2f %6.2f %8d %8d %6.2f", $7, $8, $4 / $7, $6, $9, $6 / $9 }
+        NF == 6 { printf "%9s %9s %6s %8d %8s %6s", "-", "-", "-", $6, "-", "-" }
+        { printf " %9.2f %6.2f\n", each, each / smallest; fflush() }
+    '
+}

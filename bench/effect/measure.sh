@@ -1,0 +1,52 @@
+#!/usr/bin/env bash
+# Measures `dyncollate effect` and `dyncollate order`, the whole program with reading and writing, beside plain C++ that
+# does the same and proves nothing: measure.sh [LARGEST]. The listings are those of listing.awk with 1,000, 10,000 and
+# 60,000 edges, as far as they have no more than LARGEST, and those of chain.awk with 65,536. It fails where the two do
+# not print the same. bench/common.sh says what is printed. The labels:
+#   effect        the listing after the effect of its dyndep file
+#   order         the order of that listing, in which four of five inputs are made by other edges
+#   chain, ring   the order of edges that each need the next; in a ring the last one needs the first, and the line that
+#                 says so tells all of them
+set -euo pipefail
+here=$(cd "$(dirname "$0")" && pwd)
+source "$here/../common.sh"
+largest=${1:-60000}
+
+# size_of FILE..: how many bytes the files have together.
+size_of() {
+    cat "$@" | wc -c
+}
+
+measure_size() {
+    local edges=$1 rounds=$2
+    awk -v edges="$edges" -v d="$work" -f "$top/bench/names.awk" -f "$here/listing.awk"
+    clear
+    compare effect "$edges" "$(size_of "$work/listing" "$work/listing.dd")" "$rounds" 0 \
+        effect t.dd ../listing ../listing.dd >> "$work/measured.effect"
+    mv "$work/program/out" "$work/after"
+    clear
+    compare order "$edges" "$(size_of "$work/after")" "$rounds" 0 order ../after >> "$work/measured.order"
+}
+
+measure_chain() {
+    local edges=65536 rounds=$1 status=0 shape
+    for shape in chain ring; do
+        awk -v edges=$edges -v ring=$status -f "$top/bench/names.awk" -f "$here/chain.awk" > "$work/$shape"
+        clear
+        compare $shape $edges "$(size_of "$work/$shape")" "$rounds" $status order ../$shape \
+            >> "$work/measured.$shape"
+        status=1
+    done
+}
+
+# how many edges a listing has, and how often it is read
+for size in '1000 100' '10000 20' '60000 10'; do
+    read -r edges rounds <<< "$size"
+    if [ "$edges" -le "$largest" ]; then
+        measure_size "$edges" "$rounds"
+    fi
+done
+measure_chain 10
+for label in effect order chain ring; do
+    [ ! -f "$work/measured.$label" ] || cat "$work/measured.$label"
+done | table edges

@@ -1,0 +1,72 @@
+// Files, read and written whole.
+#pragma once
+
+#include <fcntl.h>
+#include <sys/stat.h>
+#include <unistd.h>
+
+#include <cstddef>
+#include <string>
+#include <string_view>
+
+#include "faults.hpp"
+
+// A file that is closed at the end of its scope.
+class OpenFile {
+public:
+    OpenFile(const char* name, int flags) : file_(open(name, flags, 0644)) {}
+    OpenFile(const OpenFile&) = delete;
+    OpenFile& operator=(const OpenFile&) = delete;
+    ~OpenFile() {
+        if (file_ >= 0) {
+            close(file_);
+        }
+    }
+    int get() const { return file_; }
+
+private:
+    int file_;
+};
+
+inline std::string read_file(const std::string& name) {
+    const OpenFile file(name.c_str(), O_RDONLY);
+    struct stat about;
+    if (file.get() < 0 || fstat(file.get(), &about) < 0) {
+        throw FileError("cannot read " + name);
+    }
+    std::string bytes(static_cast<std::size_t>(about.st_size), '\0');
+    std::size_t length = 0;
+    while (length < bytes.size()) {
+        const ssize_t count = read(file.get(), bytes.data() + length, bytes.size() - length);
+        if (count <= 0) {
+            throw FileError("cannot read " + name);
+        }
+        length += static_cast<std::size_t>(count);
+    }
+    return bytes;
+}
+
+// Whether all bytes were written.
+inline bool write_all(int file, std::string_view text) {
+    while (!text.empty()) {
+        const ssize_t count = write(file, text.data(), text.size());
+        if (count <= 0) {
+            return false;
+        }
+        text.remove_prefix(static_cast<std::size_t>(count));
+    }
+    return true;
+}
+
+inline void write_file(const std::string& name, std::string_view text) {
+    const OpenFile file(name.c_str(), O_WRONLY | O_CREAT | O_TRUNC);
+    if (file.get() < 0 || !write_all(file.get(), text)) {
+        throw FileError("cannot write " + name);
+    }
+}
+
+inline void write_out(std::string_view text) {
+    if (!write_all(STDOUT_FILENO, text)) {
+        throw FileError("cannot write standard output");
+    }
+}

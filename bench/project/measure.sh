@@ -1,0 +1,23 @@
+#!/usr/bin/env bash
+# Measures `dyncollate project`, the whole program with reading and writing, beside plain C++ that does the same and
+# proves nothing: measure.sh [OBJECTS]. The projects are those of documents.awk with 20,000 objects, where no number is
+# given, in 10, 100 and 1,000 targets, without maps and with those of both forms. All have as many rules, and the linked
+# infos have as many modules in all. It fails where the two do not write the same files. bench/common.sh says what is
+# printed; the labels are the form of maps and the number of targets.
+set -euo pipefail
+here=$(cd "$(dirname "$0")" && pwd)
+source "$here/../common.sh"
+objects=${1:-20000}
+documents=$work/documents
+
+for map in none clang gcc; do
+    for targets in 10 100 1000; do
+        rm -rf "$documents"
+        mkdir -p "$documents"
+        awk -v targets=$targets -v objects="$objects" -v map=$map -v d="$documents" -f "$top/bench/names.awk" \
+            -f "$here/documents.awk"
+        clear obj/core obj/data obj/net obj/view
+        bytes=$(find "$documents" -type f -printf '%s\n' | awk '{ sum += $1 } END { print sum }')
+        compare $map.$targets "$objects" "$bytes" 5 0 project ../documents/project.json
+    done
+done | table objects
