@@ -11,6 +11,9 @@
 #include <algorithm>
 #include <cstdio>
 #include <cstdlib>
+#include <fstream>
+#include <iostream>
+#include <string>
 #include <string_view>
 #include <vector>
 
@@ -25,8 +28,13 @@ double milliseconds(const timeval& time) {
     return static_cast<double>(time.tv_sec) * 1e3 + static_cast<double>(time.tv_usec) * 1e-3;
 }
 
+// Ends with what a program wrote to its standard error.
 [[noreturn]] void give_up(const Measured& measured) {
-    std::fprintf(stderr, "%s failed, see %s/err\n", measured.program, measured.directory);
+    std::fprintf(stderr, "%s did not end as it should\n", measured.program);
+    std::ifstream err(std::string(measured.directory) + "/err");
+    if (err.is_open() && err.peek() != EOF) {
+        std::cerr << err.rdbuf();
+    }
     std::exit(1);
 }
 
