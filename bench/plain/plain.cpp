@@ -1,5 +1,6 @@
 // Does what dyncollate does, by hand, and proves nothing: what the program is compared with. It has the commands one,
-// collate, project, effect and order, with the files, the standard output and the refusals of docs/FORMATS.md.
+// collate, project, effect and order, with the files, the standard output and the refusals of docs/FORMATS.md. It takes
+// all words as they stand, those that begin with a hyphen too.
 #include <cstddef>
 #include <cstdio>
 #include <string>

@@ -16,7 +16,7 @@ function linked(target,    lower, text) {
     return text
 }
 
-function write_scan(target, first, count,    file, local, number, start, entry, own, drawn, under) {
+function write_scan(target, first, count,    file, local, number, start, entry, own, drawn, block, under) {
     file = d "/" target ".ddi"
     printf "%s", document_begin() > file
     for (local = 0; local < count; local++) {
@@ -28,7 +28,8 @@ function write_scan(target, first, count,    file, local, number, start, entry, 
         for (entry = 0; entry < own; entry++) {
             printf "%s%s", entry == 0 ? "" : ",", required_entry(name(start + (drawn + entry) % (local % 10))) > file
         }
-        under = start - count * each_layer + draw(10)
+        block = count - local + local % 10
+        under = start - count * each_layer + draw(block < 10 ? block : 10)
         if (target >= each_layer) {
             printf "%s%s", own == 0 ? "" : ",", required_entry(name(under)) > file
         }
