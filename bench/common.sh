@@ -27,8 +27,8 @@ clear() {
     done
 }
 
-# compare LABEL COUNT BYTES ROUNDS STATUS WORDS..: runs both with the words so often, sees that they leave the same files
-# and lines, and prints a line for table: the first three arguments, and what rounds prints of both.
+# compare LABEL COUNT BYTES ROUNDS STATUS WORDS..: runs both with the words so often, sees that they leave the same
+# files and lines, and prints a line for table: the first three arguments, and what rounds prints of both.
 compare() {
     "$tools/rounds" "$4" "$5" "$work/program" "$program" "$work/plain" "$tools/plain" -- "${@:6}" \
         > "$work/measured"

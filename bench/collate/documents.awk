@@ -1,8 +1,9 @@
 # Writes what a target of so many objects is made of: awk -v objects=OBJECTS -v d=DIR -f ../names.awk -f documents.awk.
 # Each object provides a module and requires four: three of lower numbers in its block of 50, as far as there are, and
-# others of an info, so that what objects need is small. In DIR go a scan document for each object, one of all of them (all.ddi), ten infos, target
-# documents for the map forms none, gcc and clang of both (each.none.json, all.none.json, ..), and, for cmake, what it
-# reads in place of the target document and of the infos. A target is collated in a directory beside DIR.
+# others of an info, so that what objects need is small. In DIR go a scan document for each object, one of all of them
+# (all.ddi), ten infos, target documents for the map forms none, gcc and clang of both (each.none.json, all.none.json,
+# ..), and, for cmake, what it reads in place of the target document and of the infos. A target is collated in a
+# directory beside DIR.
 function info_name(info, module) {
     return "lib" info ".m" module
 }

@@ -1,11 +1,11 @@
 #!/usr/bin/env bash
 # Measures `dyncollate collate`, the whole program with reading and writing, beside plain C++ that does the same and
 # proves nothing, and beside cmake where it is there: measure.sh [LARGEST]. The targets are those of documents.awk with
-# 1,000, 10,000 and 60,000 objects, as far as they have no more than LARGEST, and those of chain.awk with 20,000. It fails
-# where the two do not write the same files. bench/common.sh says what is printed. The labels:
+# 1,000, 10,000 and 60,000 objects, as far as they have no more than LARGEST, and those of chain.awk with 20,000. It
+# fails where the two do not write the same files. bench/common.sh says what is printed. The labels:
 #   each, all     a scan document for each object, and one of all of them; behind it the form of maps
-#   cmake         cmake -E cmake_ninja_dyndep on the documents of each, by itself; what its dyndep file says must be what
-#                 the program says, but its maps, for GCC, name only the modules that an object requires itself
+#   cmake         cmake -E cmake_ninja_dyndep on the documents of each, by itself; what its dyndep file says must be
+#                 what the program says, but its maps, for GCC, name only the modules that an object requires itself
 #   chain, ring   each object requires the module of the next; in a ring the last one that of the first, and the refusal
 #                 tells all objects
 set -euo pipefail

@@ -1,9 +1,9 @@
 # Writes a project of so many targets with so many objects in all: awk -v targets=TARGETS -v objects=OBJECTS -v map=MAP
-# -v d=DIR -f ../names.awk -f documents.awk. The targets stand in ten layers, and are as many in each. A target links those
-# that stand under it, one of each lower layer. Each object provides a module and requires three of lower numbers in its
-# block of ten, as far as there are, and one of the same block of the target directly under it; so the modules of all
-# targets that it links are read, and what objects need is small. In DIR go a scan document for each target, the target
-# documents and project.json.
+# -v d=DIR -f ../names.awk -f documents.awk. The targets stand in ten layers, and are as many in each. A target links
+# those that stand under it, one of each lower layer. Each object provides a module and requires three of lower numbers
+# in its block of ten, as far as there are, and one of the same block of the target directly under it; so the modules of
+# all targets that it links are read, and what objects need is small. In DIR go a scan document for each target, the
+# target documents and project.json.
 function scan_name(target) {
     return "../documents/" target ".ddi"
 }
