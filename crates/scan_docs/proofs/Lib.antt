@@ -8,6 +8,7 @@ pub mod Each
 pub mod Values
 pub mod Exact
 pub mod InfoTrees
+pub mod Writers
 pub mod Outcome
 pub mod AllNames
 pub mod PathTexts

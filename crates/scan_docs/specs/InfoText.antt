@@ -1,14 +1,12 @@
 -- The one text of an info: version 2, compact, keys in byte order.
-use Rattle.std.specs.Prelude.{◌≡◌, ℕ, ◌≤◌, ◌<◌, List, length, map, Bool, true, false, Ok, codes}
+use Rattle.std.specs.Prelude.{ℕ, ◌≤◌, ◌<◌, List, length, map, Bool, true, false, codes}
 use Rattle.std.specs.List.{All}
-use Rattle.ninja_text.specs.Paths.{path_of}
 use Rattle.serde_json.specs.Data.{Data, string, number, unsigned, array, object, member, no_members}
 use Rattle.serde_json.specs.View.{items_of}
 use Rattle.serde_json.specs.Written.{compact_text}
 use Rattle.scan_docs.specs.declared.fault.DocFault.TheVariants.{TooLarge}
 use Rattle.scan_docs.specs.declared.fault.Place.TheVariants as place
 use Rattle.scan_docs.specs.Document.{document_limit, IsAccepted, IsRefused}
-use Rattle.scan_docs.specs.Name.{is_name, is_target_name}
 use Rattle.scan_docs.specs.Scan.{IsText}
 use Rattle.scan_docs.specs.Info.{ModuleValue, InfoValue, IsInfo}
 use Rattle.scan_docs.specs.InfoChecks.{info_checks}
@@ -63,20 +61,3 @@ IsInfoText info = All IsModuleText info.modules
 pub record ReadsBack (info : InfoValue) (text : List ℕ) : Type 0 where
   pub same : length text ≤ document_limit → IsAccepted info_checks IsInfo text info
   pub too_large : document_limit < length text → IsRefused info_checks text (TooLarge place.Document)
-
--- ---- what the types of names and paths promise, for private clauses
-
--- a name that is accepted, and a canonical path
-pub record IsSound (name : List ℕ) (path : List ℕ) : Type 0 where
-  pub accepted : is_name name ≡ true
-  pub canonical : path_of path ≡ Ok path
-
--- so are those of a module
-pub record IsSoundModule (entry : ModuleValue) : Type 0 where
-  pub own : IsSound entry.name entry.file
-  pub required : All (λ pair. IsSound pair.0 pair.1) entry.required
-
--- so are those of an info, and the target's name
-pub record IsSoundInfo (info : InfoValue) : Type 0 where
-  pub target : is_target_name info.target ≡ true
-  pub modules : All IsSoundModule info.modules

@@ -17,3 +17,4 @@ pub mod Info
 pub mod InfoChecks
 pub mod InfoText
 pub mod Values
+pub mod inner

@@ -4,14 +4,16 @@ ghost use Rattle.std.specs.Prelude.{◌≡◌, map, IfOk, OnOk, Ok};
 ghost use Rattle.std.specs.List.{All};
 ghost use Rattle.ninja_text.specs.Paths.{path_of};
 ghost use Rattle.serde_json.specs.Data.{array};
-ghost use Rattle.serde_json.specs.View.{view, items_of};
+ghost use Rattle.serde_json.specs.View.{items_of};
 ghost use Rattle.scan_docs.specs.Scan.{IsText};
-ghost use Rattle.scan_docs.specs.InfoText.{requirement_tree, requirements_tree, visibility_text, module_tree, info_tree, info_text, IsModuleText, IsInfoText, ReadsBack, IsSound, IsSoundModule, IsSoundInfo};
+ghost use Rattle.scan_docs.specs.InfoText.{requirement_tree, requirements_tree, visibility_text, module_tree, info_tree, info_text, IsModuleText, IsInfoText, ReadsBack};
+ghost use Rattle.scan_docs.specs.inner.Sound.{IsSound, IsSoundModule, IsSoundInfo};
+ghost use Rattle.scan_docs.specs.inner.Writing.{tree_tokens, member_tokens, named_file_tokens, Appends};
 
 use crate::info::{Info, InfoModule};
 use crate::name::Name;
+use json::Writer;
 use ninja_text::Path;
-use serde_json::{Value, json};
 use std::alloc::{AllocError, Global};
 use std::str;
 
@@ -24,43 +26,50 @@ pub fn info_write(alloc: Global, info: &Info) -> Result<Vec<u8>, AllocError>
     ensures text { IfOk result (λ text. text.items ≡ info_text info.now) }
     ensures reads_back { IfOk result (λ text. ReadsBack info.now text.items) }
 {
-    let tree = info_value(alloc, info)?;
-    tree.to_vec(alloc)
+    let mut out = Writer::new(Vec::new(alloc));
+    write_info(&mut out, info)?;
+    Ok(out.into_inner())
 }
 
-#[tactic(auto, unfolding(crate::specs::InfoText::info_tree))]
-fn info_value(alloc: Global, info: &Info) -> Result<Value, AllocError>
+fn write_info(out: &mut Writer, info: &Info) -> Result<(), AllocError>
     requires { IsInfoText info.now }
-    ensures tree { IfOk result (λ v. view v ≡ info_tree info.now) }
+    ensures written { OnOk result (Appends out.old out.new (tree_tokens (info_tree info.now))) }
     ensures sound { OnOk result (IsSoundInfo info.now) }
 {
-    let modules = modules_value(alloc, &info.modules)?;
-    json!(in alloc; {"modules": modules, "target": info.target.text(), "version": 2u64})
+    out.begin_object()?;
+    out.key("modules")?;
+    write_modules(out, &info.modules)?;
+    write_member(out, "target", info.target.text())?;
+    out.key("version")?;
+    out.u64(2)?;
+    out.end_object()
 }
 
-#[tactic(auto, using(crate::proofs::Elements::view_array))]
-fn modules_value(alloc: Global, modules: &[InfoModule]) -> Result<Value, AllocError>
+fn write_modules(out: &mut Writer, modules: &[InfoModule]) -> Result<(), AllocError>
     requires { All IsModuleText modules.now }
-    ensures tree { IfOk result (λ v. view v ≡ array (items_of (map module_tree modules.now))) }
+    ensures written { OnOk result
+        (Appends out.old out.new
+        (tree_tokens (array (items_of (map module_tree modules.now))))) }
     ensures sound { OnOk result (All IsSoundModule modules.now) }
 {
-    let mut values = Vec::new(alloc);
+    out.begin_array()?;
     for entry in modules {
-        let value = module_value(alloc, entry)?;
-        values.push(value)?;
+        write_module(out, entry)?;
     }
-    Ok(Value::Array(values))
+    out.end_array()
 }
 
-#[tactic(auto, unfolding(crate::specs::InfoText::module_tree))]
-fn module_value(alloc: Global, entry: &InfoModule) -> Result<Value, AllocError>
+fn write_module(out: &mut Writer, entry: &InfoModule) -> Result<(), AllocError>
     requires { IsModuleText entry.now }
-    ensures tree { IfOk result (λ v. view v ≡ module_tree entry.now) }
+    ensures written { OnOk result (Appends out.old out.new (tree_tokens (module_tree entry.now))) }
     ensures sound { OnOk result (IsSoundModule entry.now) }
 {
-    let requirements = requirements_value(alloc, &entry.required)?;
-    let visibility = visibility_text(entry.is_private);
-    json!(in alloc; {"bmi": text_of(&entry.file), "name": entry.name.text(), "requires": requirements, "visibility": visibility})
+    out.begin_object()?;
+    write_named_file(out, &entry.name, &entry.file)?;
+    out.key("requires")?;
+    write_requirements(out, &entry.required)?;
+    write_member(out, "visibility", visibility_text(entry.is_private))?;
+    out.end_object()
 }
 
 fn visibility_text(is_private: bool) -> &'static str
@@ -69,27 +78,47 @@ fn visibility_text(is_private: bool) -> &'static str
     if is_private { "private" } else { "public" }
 }
 
-#[tactic(auto, unfolding(crate::specs::InfoText::requirements_tree), using(crate::proofs::Elements::view_array))]
-fn requirements_value(alloc: Global, pairs: &[(Name, Path)]) -> Result<Value, AllocError>
+fn write_requirements(out: &mut Writer, pairs: &[(Name, Path)]) -> Result<(), AllocError>
     requires { All (λ pair. IsText pair.1) pairs.now }
-    ensures tree { IfOk result (λ v. view v ≡ requirements_tree pairs.now) }
+    ensures written { OnOk result
+        (Appends out.old out.new (tree_tokens (requirements_tree pairs.now))) }
     ensures sound { OnOk result (All (λ pair. IsSound pair.0 pair.1) pairs.now) }
 {
-    let mut values = Vec::new(alloc);
+    out.begin_array()?;
     for pair in pairs {
-        let value = requirement_value(alloc, pair)?;
-        values.push(value)?;
+        write_requirement(out, pair)?;
     }
-    Ok(Value::Array(values))
+    out.end_array()
 }
 
-#[tactic(auto, unfolding(crate::specs::InfoText::requirement_tree))]
-fn requirement_value(alloc: Global, pair: &(Name, Path)) -> Result<Value, AllocError>
+fn write_requirement(out: &mut Writer, pair: &(Name, Path)) -> Result<(), AllocError>
     requires { IsText pair.now.1 }
-    ensures tree { IfOk result (λ v. view v ≡ requirement_tree pair.now) }
+    ensures written { OnOk result
+        (Appends out.old out.new (tree_tokens (requirement_tree pair.now))) }
     ensures sound { OnOk result (IsSound pair.now.0 pair.now.1) }
 {
-    json!(in alloc; {"bmi": text_of(&pair.1), "name": pair.0.text()})
+    out.begin_object()?;
+    write_named_file(out, &pair.0, &pair.1)?;
+    out.end_object()
+}
+
+/// The members that a module and its requirements have in common.
+fn write_named_file(out: &mut Writer, name: &Name, file: &Path) -> Result<(), AllocError>
+    requires { IsText file.now }
+    ensures written { OnOk result
+        (Appends out.old out.new (named_file_tokens name.now file.now)) }
+    ensures sound { OnOk result (IsSound name.now file.now) }
+{
+    write_member(out, "bmi", text_of(file))?;
+    write_member(out, "name", name.text())
+}
+
+/// A member that is a text.
+fn write_member(out: &mut Writer, key: &str, text: &str) -> Result<(), AllocError>
+    ensures { OnOk result (Appends out.old out.new (member_tokens key.now text.now)) }
+{
+    out.key(key)?;
+    out.string(text)
 }
 
 /// The text of a path.

@@ -15,8 +15,8 @@
 //! - [`DocFault`], [`Place`] and [`Member`] print themselves (`specs/FaultTexts.antt`, `specs/Place.antt`,
 //!   `specs/Member.antt`).
 //!
-//! It stands on `ninja_text` for paths, on `json` for reading JSON (RFC 8259), on `serde_json` for what a JSON text means
-//! and for writing one, and on `fast_float` for numbers.
+//! It stands on `ninja_text` for paths, on `json` for reading and writing JSON (RFC 8259), on `serde_json` for what a JSON
+//! text means, and on `fast_float` for numbers.
 #![tactic(auto)]
 
 mod document;
