@@ -16,7 +16,8 @@ use Rattle.build_effect.specs.ListingLines.{Class, IsOfClass, TextIsOfClass}
 use Rattle.build_effect.specs.ListingFaults.{line_cause, text_cause, open_from}
 use Rattle.build_effect.specs.ListingSteps.{ListingValue, step, run}
 use Rattle.build_effect.specs.ListingReading.{AreOfClasses, Lists, IsFaultyAfter, FaultyEnd}
-use Rattle.build_effect.specs.ListingReaders.{Reader, HasRead, AreReadTo, Reads, Ends, line_failure, IsFaultIn, IsFailureIn, fault_of_cutter, AreTextsOfClasses, PassesLine, RefusesLine}
+use Rattle.build_effect.specs.ListingReaders.{Reader, HasRead, AreReadTo, Reads, Ends, line_failure, IsFaultIn, IsFailureIn, AreTextsOfClasses}
+use Rattle.build_effect.specs.inner.ReadLines.{fault_of_cutter, PassesLine, RefusesLine}
 use Rattle.build_effect.specs.declared.listing_faults.LineCause.{LineCause}
 use Rattle.build_effect.specs.declared.listing_faults.LineCause.TheVariants as causes
 use Rattle.build_effect.specs.declared.listing_faults.LineFault.{LineFault}

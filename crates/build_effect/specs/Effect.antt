@@ -1,4 +1,5 @@
--- The effect of a dyndep file on a graph, as a relation of two graphs (Ninja 1.11 manual, "Dynamic dependencies").
+-- The effect of a dyndep file on a graph, as a relation of two graphs (Ninja 1.11 manual, "Dynamic
+-- dependencies").
 use Rattle.std.specs.Prelude.{◌≡◌, ◌≢◌, ℕ, ◌||◌, List, ◌++◌, length, map, slice_get, Some, Ok}
 use Rattle.ninja_text.specs.Paths.{path_of}
 use Rattle.dyndep_file.specs.StatementValue.{StatementValue}

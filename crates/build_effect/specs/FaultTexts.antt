@@ -17,7 +17,8 @@ abbrev pub graph_fault_path : GraphFault → List ℕ
 graph_fault_path (ProducedTwice path) = path
 graph_fault_path (DyndepNotInput edge output) = output
 
--- why a dyndep file has no effect; a text that is no path has its statement's index, its own in the statement, and a cause
+-- why a dyndep file has no effect; a text that is no path has its statement's index, its own in the
+-- statement, and a cause
 abbrev pub effect_fault_text : EffectFault → List ℕ
 effect_fault_text (BadPath statement path cause) =
     codes "E8 BadPath statement " ++ decimal statement ++ codes " path " ++ decimal path

@@ -25,7 +25,8 @@ StandsBefore files k file = (j : ℕ) × (j < k) × (slice_get files j ≡ Some 
 abbrev pub NamesUnread : EdgeValue → Type 0
 NamesUnread e = (file : List ℕ) × Names file e × (Reads e file → ⊥)
 
--- the fault that keeps a list of edges from being a graph; the second is looked for only where the first is not there
+-- the fault that keeps a list of edges from being a graph; the second is looked for only where the
+-- first is not there
 abbrev pub IsGraphFault : List EdgeValue → GraphFault → Type 0
 -- the first file that is made once more
 IsGraphFault g (ProducedTwice file) =

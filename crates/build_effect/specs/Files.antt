@@ -27,15 +27,16 @@ pub record FilesMeet (g : List EdgeValue) (files : List NamedFile) : Type 0 wher
       slice_get files n ≡ Some f → slice_get files m ≡ Some h →
       AddsAt f.additions k i file → AddsAt h.additions l j file → n ≡ m
 
--- the files of these indices, applied one after the other, each with exactly one effect, lead from a graph to another
+-- the files of these indices, applied one after the other, each with exactly one effect, lead from
+-- a graph to another
 abbrev pub Applies : List NamedFile → List EdgeValue → List ℕ → List EdgeValue → Type 0
 Applies files old [] new = new ≡ old
 Applies files old (n ∷ order) new =
     (f : NamedFile) × (mid : List EdgeValue) × (slice_get files n ≡ Some f)
     × OnlyEffect old f.name f.statements mid × Applies files mid order new
 
--- Each edge that names one of these files has gained exactly what the one statement on it adds, and every other edge
--- stays as it is.
+-- Each edge that names one of these files has gained exactly what the one statement on it adds, and
+-- every other edge stays as it is.
 pub record GainsExactly (files : List NamedFile) (old : List EdgeValue) (order : List ℕ)
     (new : List EdgeValue) : Type 0 where
   pub same_edges : length new ≡ length old

@@ -41,8 +41,8 @@ abbrev pub DyndepsAreInputs : List EdgeValue → Type 0
 DyndepsAreInputs g =
     (i : ℕ) (e : EdgeValue) (file : List ℕ) → slice_get g i ≡ Some e → Names file e → Reads e file
 
--- What every graph keeps: each edge has an output, no file is made twice, and the dyndep files that edges name
--- are their inputs.
+-- What every graph keeps: each edge has an output, no file is made twice, and the dyndep files that
+-- edges name are their inputs.
 pub record IsGraph (g : List EdgeValue) : Type 0 where
   pub outputs : (i : ℕ) (e : EdgeValue) → slice_get g i ≡ Some e → e.outputs ≢ []
   pub made_once : MadeOnce g

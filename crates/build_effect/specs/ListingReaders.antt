@@ -5,15 +5,12 @@ use Rattle.ninja_text.specs.Lines.{LogicalLine}
 use Rattle.ninja_text.specs.LineReading.{LinesRead, HasLentAll}
 use Rattle.ninja_text.specs.declared.failure.Failure.{Failure}
 use Rattle.ninja_text.specs.declared.failure.Failure.TheVariants.{Memory, Fault}
-use Rattle.ninja_text.specs.declared.faults.CutFault.{CutFault}
-use Rattle.ninja_text.specs.declared.faults.CutFault.TheVariants as cut
 use Rattle.build_effect.specs.EdgeValue.{EdgeValue}
 use Rattle.build_effect.specs.ListingLines.{Class, TextIsOfClass}
-use Rattle.build_effect.specs.ListingSteps.{ListingValue, step, run}
-use Rattle.build_effect.specs.ListingFaults.{text_cause}
+use Rattle.build_effect.specs.ListingSteps.{ListingValue, run}
 use Rattle.build_effect.specs.ListingReading.{Lists, FaultyLine, FaultyEnd}
 use Rattle.build_effect.specs.Faults.{IsGraphFault}
-use Rattle.build_effect.specs.declared.listing_faults.LineCause.TheVariants.{LineTooLong, Truncated}
+use Rattle.build_effect.specs.declared.listing_faults.LineCause.TheVariants.{LineTooLong}
 use Rattle.build_effect.specs.declared.listing_faults.LineFault.{LineFault}
 use Rattle.build_effect.specs.declared.listing_faults.ListingFault.{ListingFault}
 use Rattle.build_effect.specs.declared.listing_faults.ListingFault.TheVariants.{AtLine, NoGraph}
@@ -74,22 +71,3 @@ Ends bytes (Err (Fault (AtLine fault))) = FaultyEnd bytes fault
 Ends bytes (Err (Fault (NoGraph fault))) =
     (edges : List EdgeValue) × Lists bytes edges × IsGraphFault edges fault
 Ends bytes (Err Memory) = Unit {0}
-
--- ---- inside the reader
-
--- A line passes, and these are the edges after it.
-abbrev pub PassesLine : ListingValue → LogicalLine → ListingValue → Type 0
-PassesLine old line new =
-    (c : Class) × TextIsOfClass line.text line.comment c
-    × (step old.binding old.edges c ≡ Some new)
-
--- A line has this fault.
-abbrev pub RefusesLine : ListingValue → LogicalLine → LineFault → Type 0
-RefusesLine old line fault =
-    (fault.line ≡ line.number)
-    × (text_cause old.binding line.text line.comment ≡ Some fault.cause)
-
--- the cutter's fault as the reader's
-abbrev pub fault_of_cutter : CutFault → LineFault
-fault_of_cutter (cut.LineTooLong line) = record { line = line; cause = LineTooLong }
-fault_of_cutter (cut.Truncated line) = record { line = line; cause = Truncated }

@@ -1,5 +1,5 @@
--- The text of an edge listing (Ninja 1.11 manual, "Build statements"), and what a call that writes it
--- answers and leaves behind.
+-- The text of an edge listing (Ninja 1.11 manual, "Build statements"), and what a call that writes
+-- it answers and leaves behind.
 use Rattle.std.specs.Prelude.{◌≡◌, ℕ, ◌+◌, Bool, if◌then◌else◌, nat_lt, List, [], ◌∷◌, ◌++◌, length, codes, Option, Some, None, Result, Ok, Err, ⊤}
 use Rattle.std.specs.List.{flat_map}
 use Rattle.ninja_text.specs.Bytes.{line_feed}
@@ -21,7 +21,8 @@ part_text mark (path ∷ paths) = mark ++ flat_map spaced (path ∷ paths)
 
 -- what stands on the left of the colon, and on its right
 abbrev pub left_text : EdgeValue → List ℕ
-left_text e = codes "build" ++ flat_map spaced e.outputs ++ part_text (codes " |") e.implicit_outputs
+left_text e =
+    codes "build" ++ flat_map spaced e.outputs ++ part_text (codes " |") e.implicit_outputs
 
 abbrev pub right_text : EdgeValue → List ℕ
 right_text e =
@@ -60,24 +61,16 @@ too_long_from index (e ∷ es) = if is_too_long e then Some index else too_long_
 abbrev pub first_too_long : List EdgeValue → Option ℕ
 first_too_long edges = too_long_from 0 edges
 
--- the text, unless a build line is too long
-abbrev pub text_unless : Option ℕ → List EdgeValue → Result (List ℕ) ListingWriteFault
-text_unless None edges = Ok (listing_text edges)
-text_unless (Some edge) edges = Err (ListingTooLong edge)
-
-abbrev pub text_or_fault : List EdgeValue → Result (List ℕ) ListingWriteFault
-text_or_fault edges = text_unless (first_too_long edges) edges
-
--- what stands after a call that failed: before the first byte nothing has changed, and an `Io` comes of
--- a failed call
+-- what stands after a call that failed: before the first byte nothing has changed, and an `Io`
+-- comes of a failed call
 abbrev pub LeavesWriter : {W : Type 0} → (W → Option (List ℕ)) → Counted W → Counted W → List ℕ
     → Failure ListingWriteFault → Type 0
 LeavesWriter contents old new text Memory = new ≡ old
 LeavesWriter contents old new text (Fault (ListingTooLong edge)) = new ≡ old
 LeavesWriter contents old new text (Fault (Io written)) = IsCutShort contents old new text written
 
--- which calls of the writer were made: on success some that took all of the text; before the first byte
--- none, and up to an `Io` those that took some bytes, and the one that failed
+-- which calls of the writer were made: on success some that took all of the text; before the first
+-- byte none, and up to an `Io` those that took some bytes, and the one that failed
 abbrev pub WritesInTurn : {W T : Type 0} → Call W → W → W → List ℕ
     → Result T (Failure ListingWriteFault) → Type 0
 WritesInTurn writes old new text (Ok done) = IsTakenInTurn writes old new text (length text)

@@ -23,8 +23,9 @@ pub record HasOutputsOnly (files : List NamedFile) (old new : List EdgeValue) : 
       ((n : ℕ) (f : NamedFile) → slice_get files n ≡ Some f → e.dyndep ≢ Some f.name) →
       slice_get new i ≡ Some e
 
--- Of the graph g, whose edges name the files, and h, which is g with the outputs alone that the files add: the edges of
--- each file have one number, those of a later file none that is smaller, and what an edge of h needs has a smaller one.
+-- Of the graph g, whose edges name the files, and h, which is g with the outputs alone that the
+-- files add: the edges of each file have one number, those of a later file none that is smaller,
+-- and what an edge of h needs has a smaller one.
 pub record IsRisingNumbering (files : List NamedFile) (g h : List EdgeValue) (ranks : List ℕ)
     : Type 0 where
   pub each : length ranks ≡ length h
@@ -37,8 +38,8 @@ pub record IsRisingNumbering (files : List NamedFile) (g h : List EdgeValue) (ra
       slice_get g i ≡ Some d → slice_get g j ≡ Some e → Names f.name d → Names l.name e →
       slice_index ranks i ≤ slice_index ranks j
 
--- The same of one file: its edges have one number, and each edge that makes an added input which is no added output has
--- a smaller one.
+-- The same of one file: its edges have one number, and each edge that makes an added input which is
+-- no added output has a smaller one.
 pub record IsLevelNumbering (f : NamedFile) (g h : List EdgeValue) (ranks : List ℕ) : Type 0 where
   pub each : length ranks ≡ length h
   pub below : (a b : ℕ) → EdgeNeeds h a b → slice_index ranks b < slice_index ranks a
@@ -49,7 +50,8 @@ pub record IsLevelNumbering (f : NamedFile) (g h : List EdgeValue) (ranks : List
       ((o p : ℕ) → AddsAt f.additions o p file → ⊥) → MakesAt h i j file →
       slice_get g l ≡ Some e → Names f.name e → slice_index ranks i < slice_index ranks l
 
--- Where there is such a numbering, and what is added can be ordered, the graph after the effect can be ordered.
+-- Where there is such a numbering, and what is added can be ordered, the graph after the effect can
+-- be ordered.
 abbrev pub LevelOrders : Type 0
 LevelOrders =
     (f : NamedFile) (g h new : List EdgeValue) (ranks : List ℕ) → Meets g f.name f.additions →
@@ -61,8 +63,8 @@ LevelOrders =
 abbrev pub rank_at : List (List ℕ) → ℕ → ℕ → ℕ
 rank_at ranks n k = option_map_or (λ row. slice_index row k) (slice_get ranks n) 0
 
--- One numbering of the additions of all files, a row for each file, puts each that adds a file below each that adds it
--- as an input, and the first is of the same file or of an earlier one.
+-- One numbering of the additions of all files, a row for each file, puts each that adds a file
+-- below each that adds it as an input, and the first is of the same file or of an earlier one.
 pub record AreOrdered (files : List NamedFile) : Type 0 where
   pub ranks : List (List ℕ)
   pub below : (n m k l i j : ℕ) (f d : NamedFile) (a : StatementValue) (file : List ℕ) →
@@ -70,8 +72,8 @@ pub record AreOrdered (files : List NamedFile) : Type 0 where
       slice_get f.additions k ≡ Some a → slice_get a.implicit_inputs i ≡ Some file →
       AddsAt d.additions l j file → (m ≤ n) × (rank_at ranks m l < rank_at ranks n k)
 
--- An edge that makes an added input which no file adds as an output has a smaller number than the edges of the file that
--- adds the input.
+-- An edge that makes an added input which no file adds as an output has a smaller number than the
+-- edges of the file that adds the input.
 abbrev pub IsAboveOthers : List NamedFile → List EdgeValue → List EdgeValue → List ℕ → Type 0
 IsAboveOthers files g h ranks =
     (n k m i j l : ℕ) (f : NamedFile) (a : StatementValue) (e : EdgeValue) (file : List ℕ) →
@@ -81,8 +83,8 @@ IsAboveOthers files g h ranks =
     MakesAt h i j file → slice_get g l ≡ Some e → Names f.name e →
     slice_index ranks i < slice_index ranks l
 
--- Where there is such a numbering, and the additions of all files can be ordered, the graph after all files, in whatever
--- order, can be ordered.
+-- Where there is such a numbering, and the additions of all files can be ordered, the graph after
+-- all files, in whatever order, can be ordered.
 abbrev pub FilesOrder : Type 0
 FilesOrder =
     (files : List NamedFile) (g h new : List EdgeValue) (order ranks : List ℕ) →

@@ -14,7 +14,8 @@ use indexmap::{IndexMap, IndexSet};
 use ninja_text::{Failure, Path};
 use std::alloc::{AllocError, Global};
 
-/// E7: no added output is made by an edge of the graph, or added by an earlier statement or earlier in its own.
+/// E7: no added output is made by an edge of the graph, or added by an earlier statement or earlier
+/// in its own.
 pub(crate) fn check_added(
     alloc: Global,
     makers: &IndexMap<&Path, usize>,
@@ -44,7 +45,8 @@ fn added_files<'t>(alloc: Global, additions: &'t [Addition]) -> Result<Vec<&'t P
     Ok(files)
 }
 
-/// The index of the first file that an edge makes or that stands earlier in the list, if there is one.
+/// The index of the first file that an edge makes or that stands earlier in the list, if there is
+/// one.
 fn first_made(
     alloc: Global,
     makers: &IndexMap<&Path, usize>,

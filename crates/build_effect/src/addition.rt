@@ -84,8 +84,8 @@ fn canonical_statement(
     })
 }
 
-/// The paths of these texts, or the first that is none. `from` is the index of the first of them among all texts of the
-/// statement.
+/// The paths of these texts, or the first that is none. `from` is the index of the first of them
+/// among all texts of the statement.
 fn canonical_paths(
     alloc: Global,
     texts: &[Vec<u8>],
@@ -106,7 +106,8 @@ fn canonical_paths(
     Ok(paths)
 }
 
-/// The path of a text, or why it is none, with the statement's index and that of the text among its texts.
+/// The path of a text, or why it is none, with the statement's index and that of the text among its
+/// texts.
 fn canonical_path(
     alloc: Global,
     text: &[u8],

@@ -3,7 +3,8 @@
 use ninja_text::Path;
 use std::marker::Model;
 
-/// A build statement of a manifest (Ninja 1.11 manual, "Build statements"): what it makes, and what it needs.
+/// A build statement of a manifest (Ninja 1.11 manual, "Build statements"): what it makes, and what
+/// it needs.
 #[derive(Drop)]
 pub struct Edge {
     /// The name of the rule.

@@ -14,15 +14,16 @@ use dyndep_file::Dyndep;
 use ninja_text::{Failure, Path};
 use std::alloc::Global;
 
-/// The graph after the effect of the dyndep file `name`, which holds these statements (Ninja 1.11 manual, "Dynamic
-/// dependencies").
+/// The graph after the effect of the dyndep file `name`, which holds these statements (Ninja 1.11
+/// manual, "Dynamic dependencies").
 ///
-/// Each edge that names the file has exactly one statement, whose output is one that the edge makes. The statement's
-/// implicit outputs and inputs are appended to those of the edge, and `restat` is on where it was or the statement's is. All
-/// other edges stay as they are.
+/// Each edge that names the file has exactly one statement, whose output is one that the edge
+/// makes. The statement's implicit outputs and inputs are appended to those of the edge, and
+/// `restat` is on where it was or the statement's is. All other edges stay as they are.
 ///
-/// The first fault is reported, of the first statement that has it, or of the first edge: E8 `BadPath`, E5 `NotBound`, E4
-/// `StatementTwice`, E6 `NotMentioned`, E7 `AddedTwice`. The graph that is lent stays as it is in any case.
+/// The first fault is reported, of the first statement that has it, or of the first edge: E8
+/// `BadPath`, E5 `NotBound`, E4 `StatementTwice`, E6 `NotMentioned`, E7 `AddedTwice`. The graph
+/// that is lent stays as it is in any case.
 pub fn apply(
     alloc: Global,
     graph: &Graph,

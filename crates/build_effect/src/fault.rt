@@ -1,6 +1,7 @@
 //! Why edges are no graph, and why a dyndep file has no effect.
 //!
-//! A fault prints all but the path of the file that it is about, whose bytes need not be text; `path` lends it.
+//! A fault prints all but the path of the file that it is about, whose bytes need not be text;
+//! `path` lends it.
 ghost use Rattle.std.specs.Prelude.{◌≡◌, option_copied};
 ghost use Rattle.build_effect.specs.FaultTexts.{graph_fault_path, effect_fault_path};
 
@@ -13,12 +14,14 @@ use std::fmt;
 pub enum GraphFault {
     /// E1: a file is made twice.
     ProducedTwice { path: Path },
-    /// E2: an edge names a dyndep file that is none of its inputs. It is reported by its index and its first output.
+    /// E2: an edge names a dyndep file that is none of its inputs. It is reported by its index and
+    /// its first output.
     DyndepNotInput { edge: usize, output: Path },
 }
 
 impl GraphFault {
-    /// The file that the fault is about: the one that is made twice, or the first output of the edge.
+    /// The file that the fault is about: the one that is made twice, or the first output of the
+    /// edge.
     pub fn path(&self) -> &Path
         ensures { result.now ≡ graph_fault_path self.now }
     {
@@ -54,8 +57,8 @@ impl Error for GraphFault {}
 /// Why a dyndep file has no effect on a graph. They are looked for in the order E8, E5, E4, E6, E7.
 #[derive(Drop)]
 pub enum EffectFault {
-    /// E8: a text of a statement is no path. Statements count from 0, and in one its texts: the output, the implicit
-    /// outputs, the implicit inputs.
+    /// E8: a text of a statement is no path. Statements count from 0, and in one its texts: the
+    /// output, the implicit outputs, the implicit inputs.
     BadPath {
         statement: usize,
         path: usize,

@@ -39,7 +39,8 @@ pub(crate) fn add_paths<'t>(paths: &'t [Path], files: &mut Vec<&'t Path>) -> Res
     Ok(())
 }
 
-/// The indices of the first file that stands in the list once more: where it stood, and where it stands again.
+/// The indices of the first file that stands in the list once more: where it stood, and where it
+/// stands again.
 pub(crate) fn first_repetition(
     alloc: Global,
     files: &[&Path],

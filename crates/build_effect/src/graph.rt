@@ -11,8 +11,8 @@ use ninja_text::Failure;
 use std::alloc::Global;
 use std::marker::Model;
 
-/// Build edges, by index. Each has an explicit output, no file is made twice, and each edge that names a dyndep
-/// file has it among its inputs.
+/// Build edges, by index. Each has an explicit output, no file is made twice, and each edge that
+/// names a dyndep file has it among its inputs.
 #[derive(Drop)]
 pub struct Graph {
     pub(crate) edges: Vec<Edge>,
@@ -31,13 +31,14 @@ impl Model for Graph {
 }
 
 impl Graph {
-    /// The graph of these edges. The caller sees to it that each has an explicit output, without which Ninja takes no build
-    /// statement (Ninja 1.11 manual, "Build statements").
+    /// The graph of these edges. The caller sees to it that each has an explicit output, without
+    /// which Ninja takes no build statement (Ninja 1.11 manual, "Build statements").
     ///
-    /// E1 `ProducedTwice`: a file is made twice; the first that is made again is reported, over the edges in
-    /// order and in each over its outputs before its implicit outputs. Else E2 `DyndepNotInput`: an edge names a dyndep file
-    /// that is not among its inputs of any kind ("Dynamic dependencies"); the first such edge is reported. The edges are
-    /// dropped then, and where memory is refused.
+    /// E1 `ProducedTwice`: a file is made twice; the first that is made again is reported, over the
+    /// edges in order and in each over its outputs before its implicit outputs. Else E2
+    /// `DyndepNotInput`: an edge names a dyndep file that is not among its inputs of any kind
+    /// ("Dynamic dependencies"); the first such edge is reported. The edges are dropped then, and
+    /// where memory is refused.
     pub fn new(alloc: Global, edges: Vec<Edge>) -> Result<Graph, Failure<GraphFault>>
         requires { All (λ e. e.outputs ≢ []) edges.items }
         ensures graph { IfOk result (λ graph. graph ≡ edges.items) }

@@ -1,28 +1,38 @@
-//! Build edges, the effect of a dyndep file on them, and the order in which they can run (Ninja 1.11 manual, "Build
-//! statements" and "Dynamic dependencies").
+//! Build edges, the effect of a dyndep file on them, and the order in which they can run (Ninja
+//! 1.11 manual, "Build statements" and "Dynamic dependencies").
 //!
-//! - A [`Graph`] is a list of [`Edge`]s. [`Graph::new`] takes every list in which no file is made twice and each
-//!   edge that names a dyndep file has it among its inputs, and else answers E1 or E2 (`specs/Faults.antt`,
+//! Each promise is a contract of the call, over the definitions named with it:
+//!
+//! - A [`Graph`] is a list of [`Edge`]s, each with an output. [`Graph::new`] takes every such list
+//!   in which no file is made twice and each edge that names a dyndep file has it among its inputs,
+//!   and else answers E1 or E2 (`specs/Graphs.antt`, `IsGraph`; `specs/Faults.antt`,
 //!   `IsGraphFault`).
-//! - [`ListingReader`] reads a listing of edges that comes in pieces of any size. For every cutting the answer is the graph of
-//!   the edges that the form of `specs/ListingGrammar.antt` gives the whole text, or the first faulty line, E3, and its cause
-//!   (`specs/ListingReading.antt`, `specs/ListingFaults.antt`).
-//! - [`listing_write`] writes the listing of a graph, byte for byte as `specs/ListingWriting.antt` states it, or E9 is answered before
-//!   the first byte. Where each rule's name is one that listings have, the text reads back ([`written_listing`]).
-//! - [`apply`] answers the graph after the effect of a dyndep file, or the first fault in the order E8, E5, E4, E6, E7.
-//!   The effect is a relation of two graphs (`specs/Effect.antt`, `Effect`): the answer has it, and no other graph does.
-//!   Where a fault is answered, no graph has it (`specs/Faults.antt`, `IsEffectFault`).
-//! - [`edge_order`] answers an order in which each edge stands after the makers of its inputs of all kinds, or the least
-//!   cycle (`specs/Graphs.antt`, `EdgeNeeds`).
-//! - The laws [`one_effect`], [`checks`], [`any_order`], [`level_orders`] and [`files_order`] say of the definitions alone
-//!   when there is an effect, that files may be applied in any order, and when the graph can be ordered afterwards
-//!   (`specs/Premises.antt`, `Checks.antt`, `Files.antt`, `Numbering.antt`).
+//! - [`ListingReader`] reads a listing of edges that comes in pieces of any size. For every cutting
+//!   the answer is the graph of the edges that the form gives the whole text, or the first faulty
+//!   line, E3, and its cause, or E1 or E2 of those edges (`specs/ListingGrammar.antt`, `IsListing`;
+//!   `specs/ListingFaults.antt`, `line_cause`; `specs/ListingReaders.antt`, `Reads`, `Ends`).
+//! - [`listing_write`] writes the listing of a graph byte for byte, or tells the first build line
+//!   that is too long, E9, before the first byte. After a failed write, Y3, a beginning of the text
+//!   went out (`specs/ListingWriting.antt`, `listing_text`, `first_too_long`).
+//! - [`apply`] answers the graph after the effect of a dyndep file. The effect is a relation of two
+//!   graphs: the answer has it, and no other graph does. Else it answers the first fault in the
+//!   order E8, E5, E4, E6, E7, and then no graph has the effect (`specs/Effect.antt`, `OnlyEffect`,
+//!   `HasNoEffect`; `specs/Faults.antt`, `IsEffectFault`).
+//! - [`edge_order`] answers an order in which each edge stands after the makers of its inputs of
+//!   all kinds, or the least cycle (`specs/Graphs.antt`, `EdgeNeeds`).
 //!
-//! What a contract sees of a graph is the list of its edges, and of a path its canonical text. Definitions that only
-//! private clauses speak of stand in `specs/inner/`.
+//! The laws are contracts of calls that do nothing. [`one_effect`], [`checks`], [`any_order`],
+//! [`level_orders`] and [`files_order`] say when there is an effect, that files may be applied in
+//! any order, and when the graph can be ordered afterwards (`specs/Premises.antt`, `Checks.antt`,
+//! `Files.antt`, `Numbering.antt`). [`one_listing`] says that a text lists one list of edges at
+//! most, and [`written_listing`] that what is written of a graph reads back, where its rules have
+//! names that listings have (`specs/ListingReading.antt`, `ListingLaws.antt`).
 //!
-//! It stands on `ninja_text` for paths and lines, on `dyndep_file` for statements, on `dep_order` for orders and cycles, and on
-//! `indexmap` for look-ups.
+//! What a contract sees of a graph is the list of its edges, and of a path its canonical text.
+//! Definitions that only private clauses speak of stand in `specs/inner/`.
+//!
+//! It stands on `ninja_text` for paths and lines, on `dyndep_file` for statements, on `dep_order`
+//! for orders and cycles, and on `indexmap` for look-ups.
 #![tactic(auto)]
 
 mod added;

@@ -5,7 +5,8 @@ use ninja_text::{LexFault, PathFault};
 use std::error::Error;
 use std::fmt;
 
-/// What is wrong with a line of an edge listing (Ninja 1.11 manual, "Build statements", "Lexical syntax").
+/// What is wrong with a line of an edge listing (Ninja 1.11 manual, "Build statements", "Lexical
+/// syntax").
 #[derive(Clone, Copy, Debug, PartialEq, Eq)]
 pub enum LineCause {
     /// N5: the first 1,048,576 bytes of the line hold no end.
@@ -39,8 +40,8 @@ impl fmt::Display for LineCause {
 
 impl Error for LineCause {}
 
-/// E3: the first faulty line of an edge listing, or its end, and what is wrong there. Lines are counted from 1, and a line with
-/// continuations has the number of its first one.
+/// E3: the first faulty line of an edge listing, or its end, and what is wrong there. Lines are
+/// counted from 1, and a line with continuations has the number of its first one.
 #[derive(Clone, Copy, Debug, PartialEq, Eq)]
 pub struct LineFault {
     pub line: u64,
@@ -60,7 +61,8 @@ impl fmt::Display for LineFault {
 
 impl Error for LineFault {}
 
-/// Why an edge listing gave no graph. The file that E1 and E2 are about is lent by the fault's `path`.
+/// Why an edge listing gave no graph. The file that E1 and E2 are about is lent by the fault's
+/// `path`.
 #[derive(Drop)]
 pub enum ListingFault {
     /// E3: a line is faulty, or the listing's end is.

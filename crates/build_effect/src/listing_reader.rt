@@ -1,4 +1,5 @@
-//! The reader of edge listings that come in pieces: lines are read one by one into the edges so far.
+//! The reader of edge listings that come in pieces: lines are read one by one into the edges so
+//! far.
 ghost use Rattle.std.specs.Prelude.{◌≡◌, ℕ, ◌++◌, List, [], Some, Err};
 ghost use Rattle.ninja_text.specs.LineViews.{seen_line};
 ghost use Rattle.build_effect.specs.inner.ListingRows.{ReadsText, GivesGraph, graph_failure};
@@ -13,10 +14,11 @@ use ninja_text::{CutFault, Failure, Line, LineReader, LineState};
 use std::alloc::Global;
 use std::marker::Model;
 
-/// Reads an edge listing that comes in pieces: build lines with their bindings `dyndep` and `restat` (Ninja 1.11 manual, "Build
-/// statements"), comments and blank lines.
+/// Reads an edge listing that comes in pieces: build lines with their bindings `dyndep` and
+/// `restat` (Ninja 1.11 manual, "Build statements"), comments and blank lines.
 ///
-/// A piece may end anywhere, within a continuation or between CR and LF too: the answer is that for the whole text.
+/// A piece may end anywhere, within a continuation or between CR and LF too: the answer is that for
+/// the whole text.
 #[derive(Drop)]
 pub struct ListingReader {
     alloc: Global,
@@ -52,22 +54,26 @@ impl ListingReader {
 
     /// Takes the next piece of the text, all of it.
     ///
-    /// E3, the first faulty line, is answered as soon as its end is there, and `LineTooLong` as soon as 1,048,576 bytes hold no
-    /// end. A reader that refused, for want of memory too, answers the same from then on.
+    /// E3, the first faulty line, is answered as soon as its end is there, and `LineTooLong` as
+    /// soon as 1,048,576 bytes hold no end. A reader that refused, for want of memory too, answers
+    /// the same from then on.
     pub fn feed(&mut self, piece: &[u8]) -> Result<(), Failure<LineFault>>
-        ensures failed { (failure : Failure LineFault) → self.old.failed ≡ Some failure → (result ≡ Err failure) × (self.new ≡ self.old) }
+        ensures failed { (failure : Failure LineFault) → self.old.failed ≡ Some failure →
+            (result ≡ Err failure) × (self.new ≡ self.old) }
         // Whatever bytes it was fed before this piece.
-        ensures all { (bytes : List ℕ) → HasRead bytes self.old → Reads (bytes ++ piece.now) result self.new }
+        ensures all { (bytes : List ℕ) → HasRead bytes self.old →
+            Reads (bytes ++ piece.now) result self.new }
     {
         self.lines.feed(piece)
     }
 
     /// The graph of the edges listed, once all of the text was fed.
     ///
-    /// E3 `Truncated` where the last line has no end; else E1 or E2 where the edges listed are no graph. A reader that refused
-    /// answers the same once more.
+    /// E3 `Truncated` where the last line has no end; else E1 or E2 where the edges listed are no
+    /// graph. A reader that refused answers the same once more.
     pub fn finish(self) -> Result<Graph, Failure<ListingFault>>
-        ensures failed { (failure : Failure LineFault) → self.failed ≡ Some failure → result ≡ Err (line_failure failure) }
+        ensures failed { (failure : Failure LineFault) → self.failed ≡ Some failure →
+            result ≡ Err (line_failure failure) }
         ensures all { (bytes : List ℕ) → HasRead bytes self → Ends bytes result }
     {
         let ListingReader { alloc, lines } = self;
@@ -112,7 +118,7 @@ fn graph_failure(failure: Failure<GraphFault>) -> Failure<ListingFault>
 impl LineState for ListingState {
     type Fault = LineFault;
 
-    ghost use Rattle.build_effect.specs.ListingReaders.{PassesLine, RefusesLine, fault_of_cutter};
+    ghost use Rattle.build_effect.specs.inner.ReadLines.{PassesLine, RefusesLine, fault_of_cutter};
 
     ghost passes = { PassesLine };
 

@@ -10,11 +10,11 @@ ghost use Rattle.ninja_text.specs.AssignmentViews.{seen_assignment};
 ghost use Rattle.dyndep_file.specs.Classes.{begins_with_space, WordSymbol};
 ghost use Rattle.dyndep_file.specs.Faults.{same_bytes, is_empty};
 ghost use Rattle.dyndep_file.specs.BuildTokens.{symbol_of, symbols_left, is_word};
-ghost use Rattle.build_effect.specs.ListingLines.{row_of, binding_row, edge_texts, front_words, past_words, past_sign, part_words, past_part, right_texts, is_sign, is_rule_name};
+ghost use Rattle.build_effect.specs.ListingLines.{binding_row, edge_texts, front_words, past_words, past_sign, right_texts, is_sign, is_rule_name};
 ghost use Rattle.ninja_text.specs.Assignments.{is_name_byte};
 ghost use Rattle.ninja_text.specs.declared.token.TokenKind.TheVariants.{Colon};
 ghost use Rattle.dep_order.specs.Rows.{rows};
-ghost use Rattle.build_effect.specs.inner.ListingRows.{row_value, SignPassed, WordPassed, RulePassed};
+ghost use Rattle.build_effect.specs.inner.ListingRows.{row_value, line_row, words_of_part, symbols_past_part, SignPassed, WordPassed, RulePassed};
 
 use crate::listing_faults::LineCause;
 use ninja_text::{Assignment, Failure, Line, Token, TokenKind, Words, assignment, words};
@@ -64,7 +64,7 @@ pub(crate) enum Row {
 
 /// The row of a line, or that it has a lexical fault or no such form.
 pub(crate) fn row_of(alloc: Global, line: Line<'_>) -> Result<Row, Failure<LineCause>>
-    ensures { Gives row_value result (row_of (seen_line line.entry).text (seen_line line.entry).comment) }
+    ensures { Gives row_value result (line_row (seen_line line.entry)) }
 {
     if line.is_comment() {
         return Ok(Row::Comment);
@@ -128,7 +128,9 @@ fn right_texts(
     rule: Token<'_>,
     words: Words<'_>,
 ) -> Result<Option<EdgeTexts>, AllocError>
-    ensures { IfOk result (λ texts. texts ≡ right_texts (rows outputs.items) (rows implicit_outputs.items) (Some (WordSymbol (seen_token rule.entry).raw ∷ symbols_left words.entry))) }
+    ensures { IfOk result (λ texts.
+        texts ≡ right_texts (rows outputs.items) (rows implicit_outputs.items)
+        (Some (WordSymbol (seen_token rule.entry).raw ∷ symbols_left words.entry))) }
 {
     let mut tokens = words;
     let inputs = front_words(alloc, &mut tokens)?;
@@ -151,7 +153,8 @@ fn right_texts(
 
 /// Whether there is an output, the rule may be called so, and no token is left over.
 fn is_whole(outputs: &[Vec<u8>], rule: &[u8], tokens: Words<'_>) -> bool
-    ensures { result ≡ not (is_empty (rows outputs.now)) && is_rule_name rule.now && is_empty (symbols_left tokens.entry) }
+    ensures { result ≡ not (is_empty (rows outputs.now)) && is_rule_name rule.now
+        && is_empty (symbols_left tokens.entry) }
 {
     has_some(outputs) && is_rule_name(rule) && is_over(tokens)
 }
@@ -179,7 +182,8 @@ fn is_over(words: Words<'_>) -> bool
 
 /// The values of the words at the front, which are passed over.
 fn front_words(alloc: Global, tokens: &mut Words<'_>) -> Result<Vec<Vec<u8>>, AllocError>
-    ensures words { IfOk result (λ words. rows words.items ≡ front_words (symbols_left tokens.old)) }
+    ensures words { IfOk result (λ words.
+        rows words.items ≡ front_words (symbols_left tokens.old)) }
     ensures rest { OnOk result (symbols_left tokens.new ≡ past_words (symbols_left tokens.old)) }
 {
     let mut values = Vec::new(alloc);
@@ -189,10 +193,13 @@ fn front_words(alloc: Global, tokens: &mut Words<'_>) -> Result<Vec<Vec<u8>>, Al
     Ok(values)
 }
 
-/// The words of a part that this sign begins, which is passed over, and none where the sign is not there.
+/// The words of a part that this sign begins, which is passed over, and none where the sign is not
+/// there.
 fn part(alloc: Global, tokens: &mut Words<'_>, sign: TokenKind) -> Result<Vec<Vec<u8>>, AllocError>
-    ensures words { IfOk result (λ words. rows words.items ≡ part_words (past_sign sign (symbols_left tokens.old))) }
-    ensures rest { OnOk result (symbols_left tokens.new ≡ past_part (past_sign sign (symbols_left tokens.old)) (symbols_left tokens.old)) }
+    ensures words { IfOk result (λ words.
+        rows words.items ≡ words_of_part sign (symbols_left tokens.old)) }
+    ensures rest { OnOk result
+        (symbols_left tokens.new ≡ symbols_past_part sign (symbols_left tokens.old)) }
 {
     if pass_sign(tokens, sign) {
         front_words(alloc, tokens)
@@ -230,7 +237,8 @@ fn is_sign(sign: TokenKind, kind: TokenKind) -> bool
 
 /// The next token, if it is a word, which is passed over then.
 fn next_word<'a>(tokens: &mut Words<'a>) -> Option<Token<'a>>
-    ensures { WordPassed (symbols_left tokens.old) (option_map seen_token result) (symbols_left tokens.new) }
+    ensures { WordPassed (symbols_left tokens.old) (option_map seen_token result)
+        (symbols_left tokens.new) }
 {
     let mut ahead = *tokens;
     let token = ahead.next()?;
@@ -245,7 +253,8 @@ fn next_word<'a>(tokens: &mut Words<'a>) -> Option<Token<'a>>
 
 /// The word after a colon at the front; both are passed over.
 fn rule_after_colon<'a>(tokens: &mut Words<'a>) -> Option<Token<'a>>
-    ensures { RulePassed (past_sign Colon (symbols_left tokens.old)) (option_map seen_token result) (symbols_left tokens.new) }
+    ensures { RulePassed (past_sign Colon (symbols_left tokens.old))
+        (option_map seen_token result) (symbols_left tokens.new) }
 {
     if pass_sign(tokens, TokenKind::Colon) {
         next_word(tokens)
@@ -272,7 +281,8 @@ fn value(alloc: Global, token: Token<'_>) -> Result<Vec<u8>, AllocError>
 
 /// What is assigned.
 fn assigned(alloc: Global, assignment: Assignment<'_>) -> Result<Vec<u8>, AllocError>
-    ensures { IfOk result (λ value. value.items ≡ value_of (seen_assignment assignment.entry).raw_value) }
+    ensures { IfOk result (λ value.
+        value.items ≡ value_of (seen_assignment assignment.entry).raw_value) }
 {
     let mut value = Vec::with_capacity(alloc, assignment.raw_value().len())?;
     assignment.value_into(&mut value)?;
@@ -305,7 +315,8 @@ fn is_name_byte(byte: u8) -> bool
 
 /// Whether a line whose first token this is is a build line.
 fn begins_build_line(first: Token<'_>) -> bool
-    ensures { result ≡ ((seen_token first.entry).start == 0) && is_word (codes "build") (symbol_of (seen_token first.entry)) }
+    ensures { result ≡ ((seen_token first.entry).start == 0)
+        && is_word (codes "build") (symbol_of (seen_token first.entry)) }
 {
     first.start() == 0 && first.kind() == TokenKind::Word && is_same(first.raw(), b"build")
 }

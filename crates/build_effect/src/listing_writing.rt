@@ -4,7 +4,8 @@ ghost use Rattle.std.specs.List.{flat_map};
 ghost use Rattle.ninja_text.specs.Counting.{held, IsWritten};
 ghost use Rattle.ninja_text.specs.Failure.{Gives};
 ghost use Rattle.dyndep_file.specs.Writing.{spaced};
-ghost use Rattle.build_effect.specs.ListingWriting.{part_text, edge_line, dyndep_line, restat_line, listing_text, first_too_long, text_or_fault, LeavesWriter, WritesInTurn, AnswersFault};
+ghost use Rattle.build_effect.specs.ListingWriting.{part_text, edge_line, dyndep_line, restat_line, listing_text, first_too_long, LeavesWriter, WritesInTurn, AnswersFault};
+ghost use Rattle.build_effect.specs.inner.ListingTexts.{text_or_fault};
 
 use crate::edge::Edge;
 use crate::graph::Graph;
@@ -16,10 +17,11 @@ use std::fmt;
 /// Why a graph was not written.
 #[derive(Clone, Copy, Debug, PartialEq, Eq)]
 pub enum ListingWriteFault {
-    /// E9: the build line of this edge has more than 1,048,576 bytes, its end included; the first such edge is reported.
+    /// E9: the build line of this edge has more than 1,048,576 bytes, its end included; the first
+    /// such edge is reported.
     ListingTooLong { edge: usize },
-    /// Y3: a call of the writer answered an error or took no byte. This many bytes went out before, from the text's
-    /// beginning.
+    /// Y3: a call of the writer answered an error or took no byte. This many bytes went out before,
+    /// from the text's beginning.
     Io { written: u128 },
 }
 
@@ -39,11 +41,11 @@ impl fmt::Display for ListingWriteFault {
 
 impl Error for ListingWriteFault {}
 
-/// Writes the edges of a graph as Ninja spells them (Ninja 1.11 manual, "Build statements"): for each its build line, and
-/// its bindings `dyndep` and `restat`.
+/// Writes the edges of a graph as Ninja spells them (Ninja 1.11 manual, "Build statements"): for
+/// each its build line, and its bindings `dyndep` and `restat`.
 ///
-/// Too long a build line is told before the first byte, as is want of memory: the writer is as it was then. After an `Io`
-/// exactly so many bytes went out, and they are a beginning of the text.
+/// Too long a build line is told before the first byte, as is want of memory: the writer is as it
+/// was then. After an `Io` exactly so many bytes went out, and they are a beginning of the text.
 pub fn listing_write<W: WriteCall>(
     alloc: Global,
     graph: &Graph,
@@ -103,7 +105,8 @@ fn edge_line(alloc: Global, edge: &Edge) -> Result<Vec<u8>, AllocError>
 
 /// Appends the lines of an edge's bindings.
 fn push_bindings(text: &mut Vec<u8>, edge: &Edge) -> Result<(), AllocError>
-    ensures { OnOk result (text.new.items ≡ text.old.items ++ dyndep_line edge.now.dyndep ++ restat_line edge.now.restat) }
+    ensures { OnOk result (text.new.items
+        ≡ text.old.items ++ dyndep_line edge.now.dyndep ++ restat_line edge.now.restat) }
 {
     push_dyndep(text, &edge.dyndep)?;
     push_restat(text, edge.restat)

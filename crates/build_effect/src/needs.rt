@@ -14,9 +14,10 @@ use indexmap::IndexMap;
 use ninja_text::Path;
 use std::alloc::{AllocError, Global};
 
-/// The edges, by index, in an order in which they can run: each stands after the makers of its inputs of all kinds, and of
-/// the edges that may come next the one with the smallest index does. Where there is no such order, the least cycle: each
-/// edge in it needs the next, and the last needs the first.
+/// The edges, by index, in an order in which they can run: each stands after the makers of its
+/// inputs of all kinds, and of the edges that may come next the one with the smallest index does.
+/// Where there is no such order, the least cycle: each edge in it needs the next, and the last
+/// needs the first.
 pub fn edge_order(alloc: Global, graph: &Graph) -> Result<Sorting, AllocError>
     ensures { IfOk result (IsSortingOf (length graph.now) (EdgeNeeds graph.now)) }
 {

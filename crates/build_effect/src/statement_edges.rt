@@ -77,7 +77,8 @@ fn names(edge: &Edge, name: &Path) -> bool
     }
 }
 
-/// E4: the statement on each edge, given the edge of each statement. No two statements have the same edge.
+/// E4: the statement on each edge, given the edge of each statement. No two statements have the
+/// same edge.
 pub(crate) fn statements_of_edges(
     alloc: Global,
     count: usize,

@@ -8,12 +8,14 @@ use Rattle.build_effect.specs.Faults.{path_texts, IsRefused, HasRefused}
 use Rattle.build_effect.specs.declared.fault.EffectFault.{EffectFault}
 use Rattle.build_effect.specs.declared.fault.EffectFault.TheVariants.{BadPath}
 
--- the text is no path, and the fault reports it with these indices of the statement and of the text in it
+-- the text is no path, and the fault reports it with these indices of the statement and of the text
+-- in it
 abbrev pub IsBadText : List ℕ → ℕ → ℕ → EffectFault → Type 0
 IsBadText text k j fault =
     (cause : PathFault) × (path_of text ≡ Err cause) × (fault ≡ BadPath k j cause)
 
--- the fault reports the first of these texts that is no path; the first of them has the index `from` in its statement
+-- the fault reports the first of these texts that is no path; the first of them has the index
+-- `from` in its statement
 abbrev pub IsBadTextFrom : List (List ℕ) → ℕ → ℕ → EffectFault → Type 0
 IsBadTextFrom texts k from fault =
     (j : ℕ) × (text : List ℕ) × IsFirst (λ _ text. IsRefused text) texts j text

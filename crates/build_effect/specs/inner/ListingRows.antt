@@ -1,12 +1,13 @@
 -- What the parts of reading a line of an edge listing answer, by the symbols before and after.
-use Rattle.std.specs.Prelude.{◌≡◌, Bool, true, false, List, [], ◌∷◌, Option, Some, None, Result, Ok, Err}
+use Rattle.std.specs.Prelude.{◌≡◌, ℕ, Bool, true, false, List, [], ◌∷◌, Option, Some, None, Result, Ok, Err}
 use Rattle.ninja_text.specs.Tokens.{SeenToken}
 use Rattle.ninja_text.specs.declared.failure.Failure.{Failure}
 use Rattle.ninja_text.specs.declared.failure.Failure.TheVariants.{Memory, Fault}
 use Rattle.ninja_text.specs.declared.token.TokenKind.{TokenKind}
 use Rattle.dyndep_file.specs.Classes.{Symbol, WordSymbol}
 use Rattle.build_effect.specs.ListingLines as lines
-use Rattle.build_effect.specs.ListingLines.{EdgeTexts, Class, class_of_row, past_sign, front_words, past_words}
+use Rattle.build_effect.specs.ListingLines.{EdgeTexts, Class, class_of_row}
+use Rattle.build_effect.specs.ListingLines.{past_sign, front_words, past_words, part_words, past_part}
 use Rattle.ninja_text.specs.declared.paths.PathFault.{PathFault}
 use Rattle.build_effect.specs.ListingGrammar.{bound}
 use Rattle.build_effect.specs.ListingSteps.{ListingValue, step}
@@ -14,7 +15,7 @@ use Rattle.ninja_text.specs.Lines.{LogicalLine}
 use Rattle.build_effect.specs.EdgeValue.{EdgeValue}
 use Rattle.build_effect.specs.Faults.{IsGraphFault}
 use Rattle.build_effect.specs.ListingFaults.{row_cause, text_cause}
-use Rattle.build_effect.specs.ListingReaders.{PassesLine}
+use Rattle.build_effect.specs.inner.ReadLines.{PassesLine}
 use Rattle.build_effect.specs.declared.fault.GraphFault.{GraphFault}
 use Rattle.build_effect.specs.declared.listing_faults.ListingFault.{ListingFault}
 use Rattle.build_effect.specs.declared.listing_faults.ListingFault.TheVariants.{AtLine, NoGraph}
@@ -29,6 +30,17 @@ row_value Blank = lines.BlankRow
 row_value (Build texts) = lines.BuildRow texts
 row_value (Dyndep text) = lines.DyndepRow text.items
 row_value (Restat flag) = lines.RestatRow flag
+
+-- the row of a line, or that it has a lexical fault or no such form
+abbrev pub line_row : LogicalLine → Result lines.Row LineCause
+line_row line = lines.row_of line.text line.comment
+
+-- the words of the part that this sign begins, and what follows them
+abbrev pub words_of_part : TokenKind → List Symbol → List (List ℕ)
+words_of_part sign symbols = part_words (past_sign sign symbols)
+
+abbrev pub symbols_past_part : TokenKind → List Symbol → List Symbol
+symbols_past_part sign symbols = past_part (past_sign sign symbols) symbols
 
 -- the sign is at the front and is passed over, or it is not there and nothing is
 abbrev pub SignPassed : TokenKind → List Symbol → Bool → List Symbol → Type 0

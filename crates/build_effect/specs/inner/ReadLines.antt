@@ -1,0 +1,27 @@
+-- What one line does to a reader of edge listings.
+use Rattle.std.specs.Prelude.{◌≡◌, Some}
+use Rattle.ninja_text.specs.Lines.{LogicalLine}
+use Rattle.ninja_text.specs.declared.faults.CutFault.{CutFault}
+use Rattle.ninja_text.specs.declared.faults.CutFault.TheVariants as cut
+use Rattle.build_effect.specs.ListingLines.{Class, TextIsOfClass}
+use Rattle.build_effect.specs.ListingSteps.{ListingValue, step}
+use Rattle.build_effect.specs.ListingFaults.{text_cause}
+use Rattle.build_effect.specs.declared.listing_faults.LineCause.TheVariants.{LineTooLong, Truncated}
+use Rattle.build_effect.specs.declared.listing_faults.LineFault.{LineFault}
+
+-- A line passes, and these are the edges after it.
+abbrev pub PassesLine : ListingValue → LogicalLine → ListingValue → Type 0
+PassesLine old line new =
+    (c : Class) × TextIsOfClass line.text line.comment c
+    × (step old.binding old.edges c ≡ Some new)
+
+-- A line has this fault.
+abbrev pub RefusesLine : ListingValue → LogicalLine → LineFault → Type 0
+RefusesLine old line fault =
+    (fault.line ≡ line.number)
+    × (text_cause old.binding line.text line.comment ≡ Some fault.cause)
+
+-- the cutter's fault as the reader's
+abbrev pub fault_of_cutter : CutFault → LineFault
+fault_of_cutter (cut.LineTooLong line) = record { line = line; cause = LineTooLong }
+fault_of_cutter (cut.Truncated line) = record { line = line; cause = Truncated }
