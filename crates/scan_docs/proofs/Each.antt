@@ -9,7 +9,7 @@ use Rattle.ninja_text.specs.declared.failure.Failure.{Failure}
 use Rattle.ninja_text.specs.declared.failure.Failure.TheVariants.{Fault}
 use Rattle.scan_docs.specs.declared.fault.DocFault.{DocFault}
 use Rattle.scan_docs.specs.Check.{Check, first_refusal, each_from}
-use Rattle.scan_docs.specs.Reading.{first_failure}
+use Rattle.scan_docs.specs.inner.Reading.{first_failure}
 
 -- ---- what a call answers, and the refusal
 

@@ -8,7 +8,7 @@ use Rattle.fast_float.specs.Text.{Parts, IsInteger, scan, digits_of, nearest, wi
 use Rattle.serde_json.specs.Data.{Num, unsigned, negative, float}
 use Rattle.serde_json.specs.Find.{as_u64}
 use Rattle.serde_json.specs.Read.{number_of, number_from, float_of, is_integer}
-use Rattle.scan_docs.specs.Tree.{number_value}
+use Rattle.scan_docs.specs.inner.Tree.{number_value}
 
 abbrev whole : Option Num → Option ℕ
 whole o = as_u64 (unwrap_or o (negative (pos 0)))

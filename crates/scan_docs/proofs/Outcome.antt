@@ -6,7 +6,7 @@ use Rattle.ninja_text.specs.declared.failure.Failure.TheVariants.{Memory, Fault}
 use Rattle.serde_json.specs.Data.{Data}
 use Rattle.scan_docs.specs.declared.fault.DocFault.{DocFault}
 use Rattle.scan_docs.specs.Check.{Check}
-use Rattle.scan_docs.specs.Reading.{Answers}
+use Rattle.scan_docs.specs.inner.Reading.{Answers}
 use Rattle.scan_docs.specs.Document.{document_limit, IsTree, IsAccepted, IsRefused, false_check}
 use Rattle.scan_docs.proofs.Each.{none_refused, some_refused}
 

@@ -1,7 +1,7 @@
 -- Texts that are copied one after another.
 use Rattle.std.proofs.Common.{◌≡◌, ℕ, Global, ◌+◌, ◌<◌, List, [], ◌∷◌, ◌++◌, map, length, drop, get_or, Option, Some, None, option_map, option_and_then, append_assoc, refl, sym, ap, ◌∙◌}
 use Rattle.serde_json.specs.Find.{as_str}
-use Rattle.scan_docs.specs.Tree.{view}
+use Rattle.scan_docs.specs.inner.Tree.{view}
 use Rattle.json.specs.declared.value.Value.{Value}
 use Rattle.scan_docs.specs.Shape.{all_texts}
 use Rattle.scan_docs.proofs.Each.{front}

@@ -14,7 +14,7 @@ use Rattle.serde_json.specs.Read.{number_of, of_json, of_items, of_members, read
 use Rattle.serde_json.proofs.Views.{get_member-put, get_member-put_other}
 use Rattle.scan_docs.specs.Document.{IsTree}
 use Rattle.scan_docs.specs.Shape.{elements}
-use Rattle.scan_docs.specs.Tree.{number_value, data_of, data_of_items, data_of_members, numbers_fit, items_fit, members_fit, view, value_of}
+use Rattle.scan_docs.specs.inner.Tree.{number_value, data_of, data_of_items, data_of_members, numbers_fit, items_fit, members_fit, view, value_of}
 
 -- ---- what `serde_json` makes of a value
 

@@ -8,7 +8,8 @@ use Rattle.scan_docs.specs.declared.member.Member.TheVariants as m
 use Rattle.scan_docs.specs.Shape.{text, text_of, entries_of, whole_number}
 use Rattle.scan_docs.specs.Scan.{IsText}
 
--- a module, its file, the modules that it requires, each with the file that it was found in, and whether others may import it
+-- a module, its file, the modules that it requires, each with the file that it was found in, and
+-- whether the target keeps it to itself
 pub record ModuleValue : Type 0 where
   pub name : List ℕ
   pub file : List ℕ
@@ -28,11 +29,14 @@ has_visibility d = option_map_or (λ version. version == 2) (whole_number m.Vers
 
 -- whether this word means private
 abbrev pub visibility_meaning : List ℕ → Option Bool
-visibility_meaning text = if bytes_eq text (codes "private") then Some true else (if bytes_eq text (codes "public") then Some false else None)
+visibility_meaning text =
+    if bytes_eq text (codes "private") then Some true
+    else (if bytes_eq text (codes "public") then Some false else None)
 
 -- whether a module is private, where the document says so as it should
 abbrev pub privacy : Bool → Data → Option Bool
-privacy with_visibility d = if with_visibility then option_and_then visibility_meaning (text m.Visibility d) else Some false
+privacy with_visibility d =
+    if with_visibility then option_and_then visibility_meaning (text m.Visibility d) else Some false
 
 -- ---- the meaning
 

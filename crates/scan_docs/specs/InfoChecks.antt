@@ -17,11 +17,15 @@ abbrev pub is_info_version : Option ℕ → Bool
 is_info_version None = false
 is_info_version (Some version) = (version == 1) || (version == 2)
 
+-- the document's version
+abbrev pub version_check : Data → Check
+version_check d = is_info_version (whole_number m.Version d) otherwise BadVersion
+
 -- the document itself; the target's name follows
 unfoldable pub head_checks : Data → List Check
 head_checks d =
     shape_check place.Document m.Document (is_object d)
-    ∷ (is_info_version (whole_number m.Version d) otherwise BadVersion)
+    ∷ version_check d
     ∷ []
 
 -- the list of modules
@@ -42,7 +46,8 @@ requires_check place d = shape_check place m.Requires (is_some (entries m.Requir
 
 -- `public` or `private`, from version 2 on
 unfoldable pub visibility_check : Bool → Place → Data → List Check
-visibility_check with_visibility place d = shape_check place m.Visibility (is_some (privacy with_visibility d)) ∷ []
+visibility_check with_visibility place d =
+    shape_check place m.Visibility (is_some (privacy with_visibility d)) ∷ []
 
 -- a name and a file
 unfoldable pub named_file_checks : Place → List ℕ → List ℕ → List Check
@@ -58,7 +63,8 @@ requirement_checks place d =
 
 -- the entries of a module's `requires`, in order
 unfoldable pub all_requirement_checks : ℕ → List Data → List Check
-all_requirement_checks owner ds = each_from (λ entry d. requirement_checks (place.ModuleRequires owner entry) d) 0 ds
+all_requirement_checks owner ds =
+    each_from (λ entry d. requirement_checks (place.ModuleRequires owner entry) d) 0 ds
 
 -- all checks of a module
 unfoldable pub module_checks : Bool → ℕ → Data → List Check

@@ -60,4 +60,5 @@ IsInfoText info = All IsModuleText info.modules
 -- The text is read as this info, and is refused exactly where it is longer than a document may be.
 pub record ReadsBack (info : InfoValue) (text : List ℕ) : Type 0 where
   pub same : length text ≤ document_limit → IsAccepted info_checks IsInfo text info
-  pub too_large : document_limit < length text → IsRefused info_checks text (TooLarge place.Document)
+  pub too_large : document_limit < length text →
+      IsRefused info_checks text (TooLarge place.Document)

@@ -1,11 +1,9 @@
-pub mod Tree
 pub mod Member
 pub mod Place
 pub mod FaultTexts
 pub mod Shape
 pub mod Name
 pub mod Check
-pub mod Reading
 pub mod Document
 pub mod Scan
 pub mod ScanChecks

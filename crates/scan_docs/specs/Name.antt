@@ -1,10 +1,11 @@
 -- Which texts are names of modules and of targets.
 use Rattle.std.specs.Prelude.{ℕ, List, [], ◌∷◌, length, count_by, Bool, not, ◌&&◌, ◌||◌, ◌==◌, nat_le, nat_lt}
 use Rattle.std.specs.List.{list_all, list_any, slice_split}
+use Rattle.scan_docs.specs.declared.name.TheConstants.{NAME_LIMIT}
 
 -- the longest name, in bytes
 abbrev pub name_limit : ℕ
-name_limit = 1024
+name_limit = NAME_LIMIT
 
 -- `.` and `:`
 abbrev pub is_separator : ℕ → Bool

@@ -8,7 +8,10 @@ use Rattle.scan_docs.specs.declared.fault.Place.TheVariants as place
 abbrev pub place_text : Place → List ℕ
 place_text place.Document = codes "document"
 place_text (place.Rule rule) = codes "rule " ++ decimal rule
-place_text (place.Provides rule entry) = codes "rule " ++ decimal rule ++ codes " provides " ++ decimal entry
-place_text (place.Requires rule entry) = codes "rule " ++ decimal rule ++ codes " requires " ++ decimal entry
+place_text (place.Provides rule entry) =
+    codes "rule " ++ decimal rule ++ codes " provides " ++ decimal entry
+place_text (place.Requires rule entry) =
+    codes "rule " ++ decimal rule ++ codes " requires " ++ decimal entry
 place_text (place.Module number) = codes "module " ++ decimal number
-place_text (place.ModuleRequires number entry) = codes "module " ++ decimal number ++ codes " requires " ++ decimal entry
+place_text (place.ModuleRequires number entry) =
+    codes "module " ++ decimal number ++ codes " requires " ++ decimal entry

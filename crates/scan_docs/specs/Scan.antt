@@ -13,7 +13,8 @@ pub record SettingValue : Type 0 where
   pub module_ext : List ℕ
   pub build_dir : Option (List ℕ)
 
--- an object file, the modules that its source provides, each with its file, and the modules that it requires
+-- an object file, the modules that its source provides, each with its file, and the modules that
+-- it requires
 pub record RuleValue : Type 0 where
   pub object : List ℕ
   pub provided : List (List ℕ × List ℕ)
@@ -31,25 +32,29 @@ dashed b = if b == 58 then 45 else b
 
 -- the name of a module's file where the document names none
 abbrev pub joined_file : List ℕ → List ℕ → List ℕ → List ℕ
-joined_file dir name ext = (if length dir == 0 then [] else dir ++ 47 ∷ []) ++ map dashed name ++ ext
+joined_file dir name ext =
+    (if length dir == 0 then [] else dir ++ 47 ∷ []) ++ map dashed name ++ ext
 
 -- where a module is compiled to by its name
 abbrev pub made_file : SettingValue → List ℕ → List ℕ
 made_file s name = joined_file s.module_dir name s.module_ext
 
 -- the file of a name and of the path that the document gives for it, if it does
-abbrev pub file_from : SettingValue → Option (List ℕ) → List ℕ → Option (List ℕ) → Result (List ℕ) PathFault
+abbrev pub file_from : SettingValue → Option (List ℕ) → List ℕ → Option (List ℕ)
+    → Result (List ℕ) PathFault
 file_from s work name (Some path) = placed work s.build_dir path
 file_from s work name None = placed None s.build_dir (made_file s name)
 
 -- where a provided module's file lies, if its path is accepted
 abbrev pub file_of : SettingValue → Option (List ℕ) → Data → Result (List ℕ) PathFault
-file_of s work entry = file_from s work (text_of m.LogicalName entry) (text m.CompiledModulePath entry)
+file_of s work entry =
+    file_from s work (text_of m.LogicalName entry) (text m.CompiledModulePath entry)
 
 -- a requirement that is looked up as a header
 abbrev pub names_header : Option (List ℕ) → Bool
 names_header None = false
-names_header (Some method) = bytes_eq method (codes "include-angle") || bytes_eq method (codes "include-quote")
+names_header (Some method) =
+    bytes_eq method (codes "include-angle") || bytes_eq method (codes "include-quote")
 
 -- one of the three ways to look up a requirement
 abbrev pub is_method : Option (List ℕ) → Bool
@@ -67,7 +72,8 @@ pub record IsText (path : List ℕ) : Type 0 where
   pub utf8 : IsUtf8 path
 
 -- a provided module: its name, and its file
-pub record IsProvided (s : SettingValue) (work : Option (List ℕ)) (entry : Data) (provided : List ℕ × List ℕ) : Type 0 where
+pub record IsProvided (s : SettingValue) (work : Option (List ℕ)) (entry : Data)
+    (provided : List ℕ × List ℕ) : Type 0 where
   pub name : text m.LogicalName entry ≡ Some provided.0
   pub file : file_of s work entry ≡ Ok provided.1
   pub is_text : IsText provided.1
@@ -80,7 +86,8 @@ IsRequired entry name = text m.LogicalName entry ≡ Some name
 pub record IsRule (s : SettingValue) (d : Data) (rule : RuleValue) : Type 0 where
   pub object : object_of s d ≡ Ok rule.object
   pub is_text : IsText rule.object
-  pub provided : AllZip (IsProvided s (text m.WorkDirectory d)) (entries_of m.Provides d) rule.provided
+  pub provided :
+      AllZip (IsProvided s (text m.WorkDirectory d)) (entries_of m.Provides d) rule.provided
   pub required : AllZip IsRequired (entries_of m.Requires d) rule.required
 
 -- the rules of a document that passes its checks

@@ -5,6 +5,7 @@ use Rattle.scan_docs.specs.declared.fault.DocFault.TheVariants.{BadVersion, NoPr
 use Rattle.scan_docs.specs.declared.fault.Place.{Place}
 use Rattle.scan_docs.specs.declared.fault.Place.TheVariants as place
 use Rattle.scan_docs.specs.declared.member.Member.TheVariants as m
+use Rattle.scan_docs.specs.declared.scan_document.TheConstants.{COUNT_LIMIT}
 use Rattle.scan_docs.specs.Check.{Check, ◌otherwise◌, shape_check, path_checks, each_from}
 use Rattle.scan_docs.specs.Shape.{is_object, given, text, text_of, flag, entries, entries_of, whole_number, fits}
 use Rattle.scan_docs.specs.Name.{is_name}
@@ -12,20 +13,28 @@ use Rattle.scan_docs.specs.Scan.{SettingValue, object_of, file_of, is_unique_on_
 
 -- the most rules of a document, and entries of one of a rule's lists
 abbrev pub count_limit : ℕ
-count_limit = 65536
+count_limit = COUNT_LIMIT
+
+-- the list has no more entries than one may have
+abbrev pub is_short : List Data → Bool
+is_short ds = nat_le (length ds) count_limit
 
 -- 0, which some producers write, or 1
 abbrev pub is_scan_version : Option ℕ → Bool
 is_scan_version None = false
 is_scan_version (Some version) = nat_le version 1
 
+-- the document's version
+abbrev pub version_check : Data → Check
+version_check d = is_scan_version (whole_number m.Version d) otherwise BadVersion
+
 -- the document itself
 unfoldable pub head_checks : Data → List Check
 head_checks d =
     shape_check place.Document m.Document (is_object d)
-    ∷ (is_scan_version (whole_number m.Version d) otherwise BadVersion)
+    ∷ version_check d
     ∷ shape_check place.Document m.Rules (is_some (entries m.Rules d))
-    ∷ (nat_le (length (entries_of m.Rules d)) count_limit otherwise TooLarge place.Document)
+    ∷ (is_short (entries_of m.Rules d) otherwise TooLarge place.Document)
     ∷ []
 
 -- a rule's members, by their shapes
@@ -47,8 +56,7 @@ object_checks s place d =
 -- the lengths of a rule's lists
 unfoldable pub count_checks : Place → List Data → List Data → List Check
 count_checks place provided required =
-    (nat_le (length provided) count_limit && nat_le (length required) count_limit otherwise TooLarge place)
-    ∷ []
+    (is_short provided && is_short required otherwise TooLarge place) ∷ []
 
 -- an entry of `provides`
 unfoldable pub provided_checks : SettingValue → Option (List ℕ) → Place → Data → List Check
@@ -64,7 +72,14 @@ provided_checks s work place d =
 
 -- the entries of `provides`, in order
 unfoldable pub all_provided_checks : SettingValue → Option (List ℕ) → ℕ → List Data → List Check
-all_provided_checks s work rule ds = each_from (λ entry d. provided_checks s work (place.Provides rule entry) d) 0 ds
+all_provided_checks s work rule ds =
+    each_from (λ entry d. provided_checks s work (place.Provides rule entry) d) 0 ds
+
+-- how a required module is looked up
+abbrev pub lookup_check : Place → Data → Check
+lookup_check place d =
+    shape_check place m.LookupMethod
+    (is_none (given m.LookupMethod d) || is_method (text m.LookupMethod d))
 
 -- an entry of `requires`
 unfoldable pub required_checks : Place → Data → List Check
@@ -72,14 +87,16 @@ required_checks place d =
     shape_check place m.Entry (is_object d)
     ∷ shape_check place m.LogicalName (is_some (text m.LogicalName d))
     ∷ shape_check place m.UniqueOnSourcePath (fits flag m.UniqueOnSourcePath d)
-    ∷ shape_check place m.LookupMethod (is_none (given m.LookupMethod d) || is_method (text m.LookupMethod d))
-    ∷ (not (is_unique_on_source d || names_header (text m.LookupMethod d)) otherwise HeaderUnit place)
+    ∷ lookup_check place d
+    ∷ (not (is_unique_on_source d || names_header (text m.LookupMethod d))
+    otherwise HeaderUnit place)
     ∷ (is_name (text_of m.LogicalName d) otherwise BadName place)
     ∷ []
 
 -- the entries of `requires`, in order
 unfoldable pub all_required_checks : ℕ → List Data → List Check
-all_required_checks rule ds = each_from (λ entry d. required_checks (place.Requires rule entry) d) 0 ds
+all_required_checks rule ds =
+    each_from (λ entry d. required_checks (place.Requires rule entry) d) 0 ds
 
 -- all checks of a rule
 unfoldable pub rule_checks : SettingValue → ℕ → Data → List Check

@@ -38,7 +38,9 @@ build_dir d = option_and_then absolute_path (text m.BuildDir d)
 
 -- the form of this name
 abbrev pub map_form_of : List ℕ → Option MapForm
-map_form_of text = if bytes_eq text (codes "gcc") then Some Gcc else (if bytes_eq text (codes "clang") then Some Clang else None)
+map_form_of text =
+    if bytes_eq text (codes "gcc") then Some Gcc
+    else (if bytes_eq text (codes "clang") then Some Clang else None)
 
 -- the form of the module maps
 abbrev pub map_form : Data → Option MapForm

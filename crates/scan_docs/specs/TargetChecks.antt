@@ -16,11 +16,15 @@ abbrev pub is_target_version : Option ℕ → Bool
 is_target_version None = false
 is_target_version (Some version) = version == 1
 
+-- the document's version
+abbrev pub version_check : Data → Check
+version_check d = is_target_version (whole_number m.Version d) otherwise BadVersion
+
 -- the document itself, here and in a project document
 unfoldable pub head_checks : Data → List Check
 head_checks d =
     shape_check place.Document m.Document (is_object d)
-    ∷ (is_target_version (whole_number m.Version d) otherwise BadVersion)
+    ∷ version_check d
     ∷ []
 
 -- the target's name, here and in an info document
@@ -58,11 +62,20 @@ dyndep_checks d =
     shape_check place.Document m.Dyndep (is_some (text m.Dyndep d))
     ∷ path_checks place.Document (placed None (build_dir d) (text_of m.Dyndep d))
 
+-- the file of the target's info
+abbrev pub info_check : Data → Check
+info_check d = shape_check place.Document m.Info (nat_lt 0 (length (text_of m.Info d)))
+
+-- the form of the module maps
+abbrev pub map_check : Data → Check
+map_check d =
+    shape_check place.Document m.Map (is_none (given m.Map d) || is_some (map_form d))
+
 -- the other files, and the form of the module maps
 unfoldable pub file_checks : Data → List Check
 file_checks d =
-    shape_check place.Document m.Info (nat_lt 0 (length (text_of m.Info d)))
-    ∷ shape_check place.Document m.Map (is_none (given m.Map d) || is_some (map_form d))
+    info_check d
+    ∷ map_check d
     ∷ shape_check place.Document m.Edges (fits text m.Edges d)
     ∷ []
 

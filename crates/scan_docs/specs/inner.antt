@@ -1,3 +1,5 @@
 -- Definitions that private clauses alone speak of.
+pub mod Tree
+pub mod Reading
 pub mod Sound
 pub mod Writing

@@ -5,7 +5,7 @@ ghost use Rattle.json.specs.Value.{value_view};
 ghost use Rattle.ninja_text.specs.declared.failure.Failure.TheVariants.{Memory, Fault};
 ghost use Rattle.serde_json.specs.Data.{Data};
 ghost use Rattle.scan_docs.specs.Document.{IsTree, document_limit};
-ghost use Rattle.scan_docs.specs.Tree.{view, value_of};
+ghost use Rattle.scan_docs.specs.inner.Tree.{view, value_of};
 
 use crate::fault::{DocFault, Place};
 use crate::tree::numbers_fit;

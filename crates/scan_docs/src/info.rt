@@ -1,17 +1,16 @@
 //! Info documents: what a target tells the targets that link it.
 
-ghost use Rattle.std.specs.Prelude.{◌≡◌, map, Some, Ok, IfOk, IfErr, is_some};
+ghost use Rattle.std.specs.Prelude.{◌≡◌, map, Some, Ok, IfOk, IfErr};
 ghost use Rattle.std.specs.List.{AllZip};
 ghost use Rattle.ninja_text.specs.Failure.{ForFault};
 ghost use Rattle.ninja_text.specs.Paths.{path_of};
-ghost use Rattle.scan_docs.specs.Tree.{view};
-ghost use Rattle.scan_docs.specs.Check.{◌otherwise◌, shape_check, path_checks};
-ghost use Rattle.scan_docs.specs.Reading.{Answers, Tests};
+ghost use Rattle.scan_docs.specs.inner.Tree.{view};
+ghost use Rattle.scan_docs.specs.inner.Reading.{Answers, Tests, AnswersPath};
 ghost use Rattle.scan_docs.specs.Document.{IsAccepted, IsRefused, HasOneAnswer};
-ghost use Rattle.scan_docs.specs.Shape.{text, entries, whole_number};
+ghost use Rattle.scan_docs.specs.Shape.{text, entries};
 ghost use Rattle.scan_docs.specs.Scan.{IsText};
 ghost use Rattle.scan_docs.specs.Info.{has_visibility, privacy, IsRequirement, IsModule, IsInfo};
-ghost use Rattle.scan_docs.specs.InfoChecks.{is_info_version, head_checks, modules_check, entry_shape_checks, requires_check, visibility_check, named_file_checks, requirement_checks, all_requirement_checks, module_checks, all_module_checks, info_checks};
+ghost use Rattle.scan_docs.specs.InfoChecks.{head_checks, modules_check, entry_shape_checks, requires_check, visibility_check, named_file_checks, requirement_checks, all_requirement_checks, module_checks, all_module_checks, info_checks, version_check};
 ghost use Rattle.scan_docs.specs.InfoText.{IsInfoText};
 ghost use Rattle.scan_docs.specs.Values.{info_of};
 ghost use Rattle.scan_docs.specs.declared.member.Member.TheVariants as m;
@@ -44,7 +43,12 @@ impl Model for InfoModule {
 
     ghost Value = { ModuleValue };
 
-    ghost view = { λ v. record { name = v.name; file = v.file; required = v.required.items; is_private = v.is_private } };
+    ghost view = { λ v. record {
+      name = v.name;
+      file = v.file;
+      required = v.required.items;
+      is_private = v.is_private;
+    } };
 }
 
 /// What a target tells the targets that link it.
@@ -100,7 +104,7 @@ fn read_head(tree: &Value<'_>) -> Result<bool, Failure<DocFault>>
 }
 
 fn read_version(tree: &Value<'_>) -> Result<bool, Failure<DocFault>>
-    ensures { Tests (is_info_version (whole_number m.Version (view tree.now)) otherwise DocFault.BadVersion)
+    ensures { Tests (version_check (view tree.now))
         (λ with_visibility. with_visibility ≡ has_visibility (view tree.now)) result }
 {
     match tree::get(tree, Member::Version.key()).and_then(tree::as_u64) {
@@ -222,8 +226,7 @@ fn read_named_file(
 }
 
 fn read_path(alloc: Global, place: Place, path: &str) -> Result<Path, Failure<DocFault>>
-    ensures { Answers (path_checks place (path_of path.now))
-        (λ found. (path_of path.now ≡ Ok found) × IsText found) result }
+    ensures { AnswersPath place (path_of path.now) result }
 {
     Path::of(alloc, path.as_bytes()).map_err(|failure| bad_path(place, failure))
 }

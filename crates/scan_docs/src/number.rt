@@ -3,7 +3,7 @@
 ghost use Rattle.std.specs.Prelude.{◌≡◌, true, false, ◌<◌, ◌==◌, ◌^◌, length, slice_index, IsTrue, is_some, option_and_then};
 ghost use Rattle.serde_json.specs.Find.{as_u64};
 ghost use Rattle.serde_json.specs.Read.{number_of, number_from, float_of};
-ghost use Rattle.scan_docs.specs.Tree.{number_value};
+ghost use Rattle.scan_docs.specs.inner.Tree.{number_value};
 
 use fast_float::Numeral;
 

@@ -2,8 +2,8 @@
 
 ghost use Rattle.std.specs.Prelude.{◌≡◌, Some, map, IfOk, IfErr, string_bytes};
 ghost use Rattle.ninja_text.specs.Failure.{ForFault};
-ghost use Rattle.scan_docs.specs.Tree.{view};
-ghost use Rattle.scan_docs.specs.Reading.{Answers};
+ghost use Rattle.scan_docs.specs.inner.Tree.{view};
+ghost use Rattle.scan_docs.specs.inner.Reading.{Answers};
 ghost use Rattle.scan_docs.specs.Document.{IsAccepted, IsRefused, HasOneAnswer};
 ghost use Rattle.scan_docs.specs.Shape.{texts};
 ghost use Rattle.scan_docs.specs.Project.{IsProject};

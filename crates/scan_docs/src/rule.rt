@@ -1,16 +1,16 @@
 //! Rules of a scan document.
 
-ghost use Rattle.std.specs.Prelude.{◌≡◌, [], ◌∷◌, ◌++◌, map, Some, Ok, IfOk, OnOk, IsUtf8, option_copied, is_none, ◌||◌};
+ghost use Rattle.std.specs.Prelude.{◌≡◌, [], ◌∷◌, ◌++◌, map, Some, Ok, IfOk, OnOk, IsUtf8, option_copied, ◌||◌};
 ghost use Rattle.std.specs.List.{AllZip};
 ghost use Rattle.ninja_text.specs.Paths.{placed};
 ghost use Rattle.serde_json.specs.Data.{Data};
-ghost use Rattle.scan_docs.specs.Tree.{view};
-ghost use Rattle.scan_docs.specs.Check.{◌otherwise◌, shape_check, path_checks};
-ghost use Rattle.scan_docs.specs.Reading.{Answers, Tests};
+ghost use Rattle.scan_docs.specs.inner.Tree.{view};
+ghost use Rattle.scan_docs.specs.Check.{◌otherwise◌};
+ghost use Rattle.scan_docs.specs.inner.Reading.{Answers, Tests, AnswersPath};
 ghost use Rattle.scan_docs.specs.Shape.{text, entries_of, given};
 ghost use Rattle.scan_docs.specs.Name.{is_name};
-ghost use Rattle.scan_docs.specs.Scan.{object_of, is_method, names_header, made_file, joined_file, dashed, IsText, IsProvided, IsRequired, IsRule};
-ghost use Rattle.scan_docs.specs.ScanChecks.{rule_shape_checks, provided_checks, all_provided_checks, required_checks, all_required_checks, object_checks, count_checks, rule_checks};
+ghost use Rattle.scan_docs.specs.Scan.{object_of, names_header, made_file, joined_file, dashed, IsText, IsProvided, IsRequired, IsRule};
+ghost use Rattle.scan_docs.specs.ScanChecks.{rule_shape_checks, provided_checks, all_provided_checks, required_checks, all_required_checks, object_checks, count_checks, rule_checks, lookup_check};
 ghost use Rattle.scan_docs.specs.declared.member.Member.TheVariants as m;
 
 use crate::fault::{DocFault, Place, bad_path, bad_shape};
@@ -38,7 +38,11 @@ impl Model for Rule {
 
     ghost Value = { RuleValue };
 
-    ghost view = { λ r. record { object = r.object; provided = r.provided.items; required = r.required.items } };
+    ghost view = { λ r. record {
+      object = r.object;
+      provided = r.provided.items;
+      required = r.required.items;
+    } };
 }
 
 /// The members of a rule, by their shapes.
@@ -141,8 +145,10 @@ fn read_all_provided(
     rule: usize,
     entries: &[Value<'_>],
 ) -> Result<Vec<(Name, Path)>, Failure<DocFault>>
-    ensures { Answers (all_provided_checks setting.now (option_copied work.entry) rule (map view entries.now))
-        (λ found. AllZip (IsProvided setting.now (option_copied work.entry)) (map view entries.now) found.items) result }
+    ensures { Answers
+        (all_provided_checks setting.now (option_copied work.entry) rule (map view entries.now))
+        (λ found. AllZip (IsProvided setting.now (option_copied work.entry))
+        (map view entries.now) found.items) result }
 {
     let mut found = Vec::new(alloc);
     for (entry, value) in entries.iter().enumerate() {
@@ -161,7 +167,8 @@ fn read_provided(
     place: Place,
     entry: &Value<'_>,
 ) -> Result<(Name, Path), Failure<DocFault>>
-    ensures { Answers (provided_checks setting.now (option_copied work.entry) place (view entry.now))
+    ensures { Answers
+        (provided_checks setting.now (option_copied work.entry) place (view entry.now))
         (IsProvided setting.now (option_copied work.entry) (view entry.now)) result }
 {
     shape::object(entry, Member::Entry, place)?;
@@ -218,8 +225,7 @@ fn read_required(alloc: Global, place: Place, entry: &Value<'_>) -> Result<Name,
 
 /// Whether a requirement is looked up as a header.
 fn names_header(entry: &Value<'_>, place: Place) -> Result<bool, Failure<DocFault>>
-    ensures { Tests (shape_check place m.LookupMethod
-        (is_none (given m.LookupMethod (view entry.now)) || is_method (text m.LookupMethod (view entry.now))))
+    ensures { Tests (lookup_check place (view entry.now))
         (λ header. header ≡ names_header (text m.LookupMethod (view entry.now))) result }
 {
     match shape::given(entry, Member::LookupMethod) {
@@ -249,8 +255,8 @@ fn read_path(
     at: Place,
 ) -> Result<Path, Failure<DocFault>>
     requires { IsUtf8 path.now }
-    ensures { Answers (path_checks at (placed (option_copied work.entry) setting.now.build_dir path.now))
-        (λ found. (placed (option_copied work.entry) setting.now.build_dir path.now ≡ Ok found) × IsText found) result }
+    ensures { AnswersPath at
+        (placed (option_copied work.entry) setting.now.build_dir path.now) result }
 {
     let work = work.map(|work| work.as_bytes());
     place(alloc, work, setting.build_dir.as_ref(), path).map_err(|failure| bad_path(at, failure))

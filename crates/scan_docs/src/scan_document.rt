@@ -3,13 +3,12 @@
 ghost use Rattle.std.specs.Prelude.{◌≡◌, map, IfOk, IfErr};
 ghost use Rattle.std.specs.List.{AllZip, All};
 ghost use Rattle.ninja_text.specs.Failure.{ForFault};
-ghost use Rattle.scan_docs.specs.Tree.{view};
-ghost use Rattle.scan_docs.specs.Check.{◌otherwise◌};
-ghost use Rattle.scan_docs.specs.Reading.{Answers, Tests};
+ghost use Rattle.scan_docs.specs.inner.Tree.{view};
+ghost use Rattle.scan_docs.specs.inner.Reading.{Answers, Tests};
 ghost use Rattle.scan_docs.specs.Document.{IsAccepted, IsRefused, HasOneAnswer};
-ghost use Rattle.scan_docs.specs.Shape.{entries_of, whole_number};
+ghost use Rattle.scan_docs.specs.Shape.{entries_of};
 ghost use Rattle.scan_docs.specs.Scan.{IsRule, AreRules, IsRuleText};
-ghost use Rattle.scan_docs.specs.ScanChecks.{is_scan_version, head_checks, all_rule_checks, scan_checks};
+ghost use Rattle.scan_docs.specs.ScanChecks.{head_checks, all_rule_checks, scan_checks, version_check};
 ghost use Rattle.scan_docs.specs.Values.{rules_of};
 ghost use Rattle.scan_docs.specs.declared.member.Member.TheVariants as m;
 
@@ -33,7 +32,8 @@ pub const COUNT_LIMIT: usize = 65536;
 /// that are not asked for may hold anything, among them `revision`, `outputs` and every `source-path`.
 pub fn scan(alloc: Global, bytes: &[u8], setting: &Setting) -> Result<Vec<Rule>, Failure<DocFault>>
     ensures accepted { IfOk result
-        (λ rules. IsAccepted (scan_checks setting.now) (AreRules setting.now) bytes.now rules.items) }
+        (λ rules.
+        IsAccepted (scan_checks setting.now) (AreRules setting.now) bytes.now rules.items) }
     ensures refused { IfErr result (ForFault (IsRefused (scan_checks setting.now) bytes.now)) }
     ensures value { IfOk result (λ rules. rules.items ≡ rules_of setting.now bytes.now) }
     ensures text { IfOk result (λ rules. All IsRuleText rules.items) }
@@ -73,8 +73,7 @@ fn read_head<'v, 'a>(tree: &'v Value<'a>) -> Result<&'v [Value<'a>], Failure<Doc
 }
 
 fn check_version(tree: &Value<'_>) -> Result<(), Failure<DocFault>>
-    ensures { Tests (is_scan_version (whole_number m.Version (view tree.now)) otherwise DocFault.BadVersion)
-        (λ _. Unit {0}) result }
+    ensures { Tests (version_check (view tree.now)) (λ _. Unit {0}) result }
 {
     match tree::get(tree, Member::Version.key()).and_then(tree::as_u64) {
         Some(0 | 1) => Ok(()),

@@ -1,9 +1,9 @@
 //! Members of an object, by the shape that they should have.
 
 ghost use Rattle.std.specs.Prelude.{◌≡◌, [], ◌||◌, Some, map, option_map, option_copied, is_some, IfOk, string_bytes};
-ghost use Rattle.scan_docs.specs.Tree.{view};
+ghost use Rattle.scan_docs.specs.inner.Tree.{view};
 ghost use Rattle.scan_docs.specs.Check.{shape_check};
-ghost use Rattle.scan_docs.specs.Reading.{Tests};
+ghost use Rattle.scan_docs.specs.inner.Reading.{Tests};
 ghost use Rattle.scan_docs.specs.Shape.{given, text, entries, entries_of, flag, fits, is_object, texts, texts_of, all_texts};
 
 use crate::fault::{DocFault, Place, bad_shape};
@@ -164,7 +164,8 @@ pub(crate) fn required_texts(
 /// The values as texts, or None where one is no text.
 fn copy_texts(alloc: Global, values: &[Value<'_>]) -> Result<Option<Vec<String>>, AllocError>
     ensures { IfOk result
-        (λ found. option_map (λ v. map string_bytes v.items) found ≡ all_texts (map view values.now)) }
+        (λ found. option_map (λ v. map string_bytes v.items) found
+        ≡ all_texts (map view values.now)) }
 {
     let mut found = Vec::new(alloc);
     for value in values {

@@ -1,18 +1,18 @@
 //! Target documents.
 
-ghost use Rattle.std.specs.Prelude.{◌≡◌, [], Some, Ok, true, IfOk, IfErr, is_none, is_some, ◌||◌, map, string_bytes, option_map, option_copied, nat_lt, length};
+ghost use Rattle.std.specs.Prelude.{◌≡◌, [], Some, Ok, true, IfOk, IfErr, is_none, is_some, ◌||◌, map, string_bytes, option_map, option_copied};
 ghost use Rattle.std.specs.List.{list_all};
 ghost use Rattle.std.specs.Option.{ForSome};
 ghost use Rattle.ninja_text.specs.Failure.{ForFault};
 ghost use Rattle.ninja_text.specs.Paths.{placed, is_rooted};
-ghost use Rattle.scan_docs.specs.Tree.{view};
+ghost use Rattle.scan_docs.specs.inner.Tree.{view};
 ghost use Rattle.scan_docs.specs.Check.{◌otherwise◌, shape_check, path_checks};
-ghost use Rattle.scan_docs.specs.Reading.{Answers, Tests};
+ghost use Rattle.scan_docs.specs.inner.Reading.{Answers, Tests};
 ghost use Rattle.scan_docs.specs.Document.{IsAccepted, IsRefused, HasOneAnswer};
-ghost use Rattle.scan_docs.specs.Shape.{text, text_of, texts_of, given, whole_number};
+ghost use Rattle.scan_docs.specs.Shape.{text, texts_of, given};
 ghost use Rattle.scan_docs.specs.Name.{is_name};
 ghost use Rattle.scan_docs.specs.Target.{IsTarget, build_dir, map_form};
-ghost use Rattle.scan_docs.specs.TargetChecks.{is_target_version, head_checks, name_checks, directory_checks, list_checks, kept_checks, dyndep_checks, file_checks, target_checks};
+ghost use Rattle.scan_docs.specs.TargetChecks.{head_checks, name_checks, directory_checks, list_checks, kept_checks, dyndep_checks, file_checks, target_checks, version_check, info_check, map_check};
 ghost use Rattle.scan_docs.specs.Values.{spec_of};
 ghost use Rattle.scan_docs.specs.declared.member.Member.TheVariants as m;
 
@@ -130,8 +130,7 @@ pub(crate) fn read_head(tree: &Value<'_>) -> Result<(), Failure<DocFault>>
 }
 
 fn check_version(tree: &Value<'_>) -> Result<(), Failure<DocFault>>
-    ensures { Tests (is_target_version (whole_number m.Version (view tree.now)) otherwise DocFault.BadVersion)
-        (λ _. Unit {0}) result }
+    ensures { Tests (version_check (view tree.now)) (λ _. Unit {0}) result }
 {
     match tree::get(tree, Member::Version.key()).and_then(tree::as_u64) {
         Some(1) => Ok(()),
@@ -218,7 +217,8 @@ fn read_kept(alloc: Global, tree: &Value<'_>) -> Result<Vec<Name>, Failure<DocFa
 
 /// The texts as names, all of which have to be accepted.
 fn read_names(alloc: Global, texts: &[String]) -> Result<Vec<Name>, Failure<DocFault>>
-    ensures { Tests (list_all is_name (map string_bytes texts.now) otherwise DocFault.BadName Place.Document)
+    ensures { Tests
+        (list_all is_name (map string_bytes texts.now) otherwise DocFault.BadName Place.Document)
         (λ found. map string_bytes texts.now ≡ found.items) result }
 {
     let mut names = Vec::new(alloc);
@@ -237,7 +237,8 @@ fn read_dyndep(
 ) -> Result<String, Failure<DocFault>>
     requires { ForSome (option_copied build) (λ path. is_rooted path ≡ true) }
     ensures { build_dir (view tree.now) ≡ option_copied build.entry
-        → Answers (dyndep_checks (view tree.now)) (λ t. text m.Dyndep (view tree.now) ≡ Some (string_bytes t)) result }
+        → Answers (dyndep_checks (view tree.now))
+        (λ t. text m.Dyndep (view tree.now) ≡ Some (string_bytes t)) result }
 {
     let text = shape::required_text(tree, Member::Dyndep, Place::Document)?;
     check_placed(alloc, build, text)?;
@@ -247,7 +248,8 @@ fn read_dyndep(
 /// Whether a text is a path as Ninja sees it.
 fn check_placed(alloc: Global, build: Option<&Path>, text: &str) -> Result<(), Failure<DocFault>>
     requires { ForSome (option_copied build) (λ path. is_rooted path ≡ true) }
-    ensures { Answers (path_checks Place.Document (placed None (option_copied build.entry) text.now))
+    ensures { Answers
+        (path_checks Place.Document (placed None (option_copied build.entry) text.now))
         (λ _. Unit {0}) result }
 {
     match place(alloc, None, build, text.as_bytes()) {
@@ -284,7 +286,7 @@ fn copy_text(alloc: Global, text: Option<&str>) -> Result<Option<String>, AllocE
 }
 
 fn read_info_file<'a>(tree: &Value<'a>) -> Result<&'a str, Failure<DocFault>>
-    ensures { Tests (shape_check Place.Document m.Info (nat_lt 0 (length (text_of m.Info (view tree.now)))))
+    ensures { Tests (info_check (view tree.now))
         (λ t. text m.Info (view tree.now) ≡ Some t.now) result }
 {
     match shape::given(tree, Member::Info).and_then(tree::as_str) {
@@ -294,8 +296,7 @@ fn read_info_file<'a>(tree: &Value<'a>) -> Result<&'a str, Failure<DocFault>>
 }
 
 fn read_map_form(tree: &Value<'_>) -> Result<Option<MapForm>, Failure<DocFault>>
-    ensures { Tests (shape_check Place.Document m.Map
-        (is_none (given m.Map (view tree.now)) || is_some (map_form (view tree.now))))
+    ensures { Tests (map_check (view tree.now))
         (λ form. map_form (view tree.now) ≡ form) result }
 {
     match shape::given(tree, Member::Map) {

@@ -8,7 +8,7 @@ ghost use Rattle.json.specs.Find.{as_array as array_of};
 ghost use Rattle.json.specs.Value.{value_view, items_view, members_view};
 ghost use Rattle.serde_json.specs.Find.{get, as_null, as_bool, as_str, as_number, as_array, as_object, as_u64};
 ghost use Rattle.scan_docs.specs.Shape.{elements};
-ghost use Rattle.scan_docs.specs.Tree.{view, numbers_fit, items_fit, members_fit};
+ghost use Rattle.scan_docs.specs.inner.Tree.{view, numbers_fit, items_fit, members_fit};
 
 use crate::number::{fits, whole_number};
 use json::Value;

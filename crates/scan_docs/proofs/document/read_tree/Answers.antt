@@ -1,6 +1,6 @@
 use Rattle.std.proofs.Common.{inr, refl, sym, ap, ◌∙◌, arith}
 use Rattle.json.specs.Value.{value_view}
-use Rattle.scan_docs.specs.Tree.{value_of}
+use Rattle.scan_docs.specs.inner.Tree.{value_of}
 use Rattle.scan_docs.proofs.Trees.{is_tree, no_number}
 use Rattle.scan_docs.proofs.document.read_tree.Goals as goal
 

@@ -1,5 +1,5 @@
 use Rattle.std.proofs.Common.{◌≡◌}
-use Rattle.scan_docs.specs.Tree.{view}
+use Rattle.scan_docs.specs.inner.Tree.{view}
 use Rattle.scan_docs.specs.Info.{IsInfo}
 use Rattle.scan_docs.specs.InfoChecks.{info_checks}
 use Rattle.scan_docs.specs.InfoText.{IsInfoText}

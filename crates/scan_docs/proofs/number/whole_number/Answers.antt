@@ -2,7 +2,7 @@ use Rattle.std.proofs.Common.{◌<◌, ◌^◌, ap, sym, subst, ◌∙◌}
 use Rattle.std.specs.Option.{SomeIff}
 use Rattle.fast_float.specs.Text.{Parts, IsInteger, digits_of}
 use Rattle.serde_json.specs.Find.{as_u64}
-use Rattle.scan_docs.specs.Tree.{number_value}
+use Rattle.scan_docs.specs.inner.Tree.{number_value}
 use Rattle.scan_docs.proofs.Numbers.{minus_not_whole, digits_whole}
 use Rattle.scan_docs.proofs.number.whole_number.Goals as goal
 

@@ -1,5 +1,5 @@
 use Rattle.std.proofs.Common.{◌≡◌}
-use Rattle.scan_docs.specs.Tree.{view}
+use Rattle.scan_docs.specs.inner.Tree.{view}
 use Rattle.scan_docs.specs.Project.{IsProject}
 use Rattle.scan_docs.specs.ProjectChecks.{project_checks}
 use Rattle.scan_docs.specs.Values.{project_of}

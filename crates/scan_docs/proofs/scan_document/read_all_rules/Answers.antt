@@ -1,5 +1,5 @@
 use Rattle.std.proofs.lemmas.Result.{err_from_is_err_and}
-use Rattle.scan_docs.specs.Tree.{view}
+use Rattle.scan_docs.specs.inner.Tree.{view}
 use Rattle.scan_docs.specs.Scan.{IsRule}
 use Rattle.scan_docs.specs.ScanChecks.{rule_checks}
 use Rattle.scan_docs.specs.ScanChecks.{all_rule_checks}

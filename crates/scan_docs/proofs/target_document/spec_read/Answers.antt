@@ -1,5 +1,5 @@
 use Rattle.std.proofs.Common.{◌≡◌}
-use Rattle.scan_docs.specs.Tree.{view}
+use Rattle.scan_docs.specs.inner.Tree.{view}
 use Rattle.scan_docs.specs.Target.{IsTarget}
 use Rattle.scan_docs.specs.TargetChecks.{target_checks}
 use Rattle.scan_docs.specs.Values.{spec_of}

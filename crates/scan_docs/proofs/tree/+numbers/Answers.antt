@@ -1,6 +1,6 @@
 use Rattle.std.proofs.Common.{◌≡◌, ◌+◌, ◌&&◌, drop, false, sym, ap, ◌∙◌}
 use Rattle.json.specs.Value.{value_view, items_view, members_view}
-use Rattle.scan_docs.specs.Tree.{numbers_fit, items_fit, members_fit}
+use Rattle.scan_docs.specs.inner.Tree.{numbers_fit, items_fit, members_fit}
 use Rattle.scan_docs.proofs.Trees.{items_from, members_from}
 use Rattle.scan_docs.proofs.tree.+numbers.Goals as goal
 

@@ -1,6 +1,6 @@
 use Rattle.std.proofs.Common.{◌≡◌, drop}
 use Rattle.json.specs.Value.{items_view, members_view}
-use Rattle.scan_docs.specs.Tree.{items_fit, members_fit}
+use Rattle.scan_docs.specs.inner.Tree.{items_fit, members_fit}
 use Rattle.scan_docs.proofs.tree.+numbers.Given as goal
 
 abbrev pub invariant-items_fit-loop-item : goal.invariant-items_fit-loop-item

@@ -1,6 +1,6 @@
 use Rattle.std.proofs.Common.{Some, map, ap, ◌∙◌}
 use Rattle.json.specs.Value.{value_view}
-use Rattle.scan_docs.specs.Tree.{view}
+use Rattle.scan_docs.specs.inner.Tree.{view}
 use Rattle.scan_docs.proofs.Trees.{elements_data}
 use Rattle.scan_docs.proofs.tree.elements.Goals as goal
 

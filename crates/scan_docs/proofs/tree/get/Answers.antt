@@ -1,6 +1,6 @@
 use Rattle.std.proofs.Common.{option_map, sym, ap, ◌∙◌}
 use Rattle.json.specs.Value.{value_view}
-use Rattle.scan_docs.specs.Tree.{data_of}
+use Rattle.scan_docs.specs.inner.Tree.{data_of}
 use Rattle.scan_docs.proofs.Trees.{view_of_ref, get_data}
 use Rattle.scan_docs.proofs.tree.get.Goals as goal
 

@@ -1,5 +1,5 @@
--- The tree of a document as a value of `json` holds it, a number as its text and a key that comes twice as two members, for
--- private clauses.
+-- The tree of a document as a value of `json` holds it, a number as its text and a key that comes
+-- twice as two members.
 use Rattle.std.specs.Prelude.{ℕ, List, Bool, true, ◌&&◌, pos, Option, is_some, unwrap_or, option_and_then}
 use Rattle.std.specs.declared.alloc.Global.{Global}
 use Rattle.json.specs.Json as json
@@ -9,7 +9,8 @@ use Rattle.json.specs.declared.value.Value.{Value}
 use Rattle.serde_json.specs.Data.{Num, negative, Data, null, boolean, number, string, array, object, Items, no_items, item, Members, no_members, put}
 use Rattle.serde_json.specs.Read.{number_of, max_depth}
 
--- The number of a text. One that is out of range, which no document has, counts as one that is not whole.
+-- The number of a text. One that is out of range, which no document has, counts as one that is not
+-- whole.
 abbrev pub number_value : List ℕ → Num
 number_value s = unwrap_or (number_of s) (negative (pos 0))
 

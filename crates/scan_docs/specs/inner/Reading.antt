@@ -1,0 +1,33 @@
+-- What the readers of a document's parts answer.
+use Rattle.std.specs.Prelude.{◌≡◌, ◌≢◌, ℕ, List, [], ◌∷◌, true, false, if◌then◌else◌, Option, Some, None, Result, Ok, MatchResult}
+use Rattle.ninja_text.specs.declared.failure.Failure.{Failure}
+use Rattle.ninja_text.specs.declared.failure.Failure.TheVariants.{Memory, Fault}
+use Rattle.ninja_text.specs.declared.paths.PathFault.{PathFault}
+use Rattle.scan_docs.specs.declared.fault.DocFault.{DocFault}
+use Rattle.scan_docs.specs.declared.fault.Place.{Place}
+use Rattle.scan_docs.specs.Check.{Check, path_checks}
+use Rattle.scan_docs.specs.Scan.{IsText}
+
+-- the first refusal, as a call answers it
+abbrev pub first_failure : List Check → Option (Failure DocFault)
+first_failure [] = None
+first_failure (c ∷ cs) = if c.holds then first_failure cs else Some (Fault c.refusal)
+
+-- A reader answers a value that P holds of where all checks hold, and else the first refusal,
+-- memory aside.
+abbrev pub Answers : {T : Type 0} → List Check → (T → Type 0) → Result T (Failure DocFault) → Type 0
+Answers checks P result =
+    MatchResult result (λ x. (first_failure checks ≡ None) × P x)
+    (λ e. e ≢ Memory → first_failure checks ≡ Some e)
+
+-- the same for one check
+abbrev pub Tests : {T : Type 0} → Check → (T → Type 0) → Result T (Failure DocFault) → Type 0
+Tests c P result =
+    MatchResult result (λ x. (c.holds ≡ true) × P x)
+    (λ e. e ≢ Memory → (c.holds ≡ false) × (e ≡ Fault c.refusal))
+
+-- A reader answers the path of an outcome, which is text, and else its fault.
+abbrev pub AnswersPath : Place → Result (List ℕ) PathFault → Result (List ℕ) (Failure DocFault)
+    → Type 0
+AnswersPath place outcome result =
+    Answers (path_checks place outcome) (λ path. (outcome ≡ Ok path) × IsText path) result
