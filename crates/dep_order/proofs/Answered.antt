@@ -1,26 +1,25 @@
 -- What the calls answer, from what their steps leave.
-use Rattle.std.proofs.Common.{◌≡◌, ◌≢◌, ℕ, ◌+◌, ◌<◌, ◌≤◌, List, [], ◌∷◌, ◌++◌, length, get_or, Option, Some, None, sym, ◌∙◌, ap, subst, inl, inr, ◌⊎◌, ⊎_elim, arith, zero, suc}
-use Rattle.std.specs.Option.{is_some, IsSome}
+use Rattle.std.proofs.Common.{◌≡◌, ◌≢◌, ℕ, ◌+◌, ◌<◌, ◌≤◌, List, [], ◌∷◌, ◌++◌, length, get_or, Option, None, sym, ◌∙◌, ap, subst, inl, inr, ◌⊎◌, ⊎_elim, arith, zero, suc}
 use Rattle.std.specs.List.{Contains, All}
-use Rattle.std.proofs.lemmas.Bool.{cases_eq, cases_lt, false≢true, false_from_ne_true}
+use Rattle.std.proofs.lemmas.Bool.{cases_eq, cases_lt, false_from_ne_true}
 use Rattle.std.proofs.lemmas.Cmp.{nat_eq_equiv}
 use Rattle.std.proofs.lemmas.List.{get_or_past, length_push, get_or_default}
 use Rattle.std.proofs.lemmas.List.Elements.{All-get_or, All-contains, Contains-push_cases, Contains-get_or}
 use Rattle.std.proofs.lemmas.Map.Keys.{IsDistinct-push}
 use Rattle.std.proofs.lemmas.Map.Steps.{length-le_from_distinct_below, le-length_from_below}
-use Rattle.dep_order.specs.Needs.{needs_of, NodeNeeds, NeedsAreNodes, IsOrderable, IsChain, Reaches, IsReach}
+use Rattle.dep_order.specs.Needs.{needs_of, NodeNeeds, NeedsAreNodes, IsOrderable, IsChain}
 use Rattle.dep_order.specs.Orders.{IsLeastOrder}
 use Rattle.dep_order.specs.Cycles.{IsCycle, IsLeastCycle, first_of}
 use Rattle.dep_order.specs.Placing.{IsPlacing}
 use Rattle.dep_order.specs.Users.{AreUsers}
-use Rattle.dep_order.specs.Steps.{AreSteps, LeadsBack, IsFewest, IsLeastFrom, AreReached}
+use Rattle.dep_order.specs.Steps.{AreSteps, LeadsBack, IsFewest, IsLeastFrom}
 use Rattle.dep_order.specs.Marks.{mark_of}
 use Rattle.dep_order.proofs.Members.{has_none, has_or_not, has_from_any, any_from_has, count_from_has, has_from_count}
-use Rattle.dep_order.proofs.Chains.{chain_append, rotated}
+use Rattle.dep_order.proofs.Chains.{rotated}
 use Rattle.dep_order.proofs.Orders.{AreWithin, orderable, next_on_cycle}
 use Rattle.dep_order.proofs.Placings.{differ, not_more, placed_below}
 use Rattle.dep_order.proofs.Stuck.{IsStuck, HasCycle, not_orderable, has_cycle}
-use Rattle.dep_order.proofs.Searches.{none_is_no_some, some_or_none}
+use Rattle.dep_order.proofs.Searches.{none_is_no_some}
 use Rattle.dep_order.proofs.Greedy.{chain_steps}
 
 -- needs are among the nodes
@@ -132,29 +131,6 @@ least_of_all Needs first cycle below h = record {
   least_list = λ other c begins long. h.least_list other c (begins ∙ h.begins_with) long;
 }
 
--- what steps lead to is reached
-pub steps_reach : (count : ℕ) (Needs : ℕ → ℕ → Type 0) (from : ℕ) (steps : List (Option ℕ)) → AreSteps count Needs from steps → (k node : ℕ) → mark_of steps node ≡ Some k → Reaches Needs from node
-steps_reach count Needs from steps s zero node e = inl (sym (s.only_start node e))
-steps_reach count Needs from steps s (suc k) node e =
-    let b = s.behind node k (e ∙ ap (λ n. Some n) (let n : suc k ≡ k + 1 = omega arith in n)) in
-    ⊎_elim
-    (λ same. inr ([], subst (λ z. Needs z node) (sym same) b.2))
-    (λ c. inr (c.0 ++ b.0 ∷ [], chain_append Needs (from ∷ c.0) b.0 [] node c.1 b.2))
-    (steps_reach count Needs from steps s k b.0 b.1)
-
-chain_reach : (count : ℕ) (Needs : ℕ → ℕ → Type 0) (from : ℕ) (steps : List (Option ℕ)) → AreSteps count Needs from steps → (x j : ℕ) (xs : List ℕ) (node : ℕ) → mark_of steps x ≡ Some j → IsChain Needs (x ∷ xs) node → (k : ℕ) × (mark_of steps node ≡ Some k)
-chain_reach count Needs from steps s x j [] node e h = let n = s.nearest x node j e h in (n.0, n.1)
-chain_reach count Needs from steps s x j (next ∷ xs) node e h =
-    let n = s.nearest x next j e h.0 in chain_reach count Needs from steps s next n.0 xs node n.1 h.1
-
--- what is reached has steps to it
-pub reach_steps : (count : ℕ) (Needs : ℕ → ℕ → Type 0) (from : ℕ) (steps : List (Option ℕ)) → AreSteps count Needs from steps → (node : ℕ) → Reaches Needs from node → IsSome (mark_of steps node)
-reach_steps count Needs from steps s node h =
-    ⊎_elim
-    (λ e. ap is_some (subst (λ z. mark_of steps z ≡ Some 0) e s.start))
-    (λ c. ap is_some (chain_reach count Needs from steps s from 0 c.0 node s.start c.1).1)
-    h
-
 -- what a node needs is below the number of nodes
 pub row_nodes : (graph : List (List ℕ)) (node n : ℕ) → n ≡ length graph → node < length graph → NeedsAreNodes graph → All (λ needed. needed < n) (needs_of graph node)
 row_nodes graph node n e lt nodes = subst (λ m. All (λ needed. needed < m) (needs_of graph node)) (sym e) (All-get_or (λ row. All (λ needed. needed < length graph) row) graph node [] lt nodes)
@@ -168,16 +144,6 @@ first_in_range graph (first ∷ others) nodes h = let next = next_on_cycle (Node
 pub none_from : (Needs : ℕ → ℕ → Type 0) (first : ℕ) → ((cycle : List ℕ) → IsCycle Needs cycle → first_of cycle ≡ first → ⊥) → ((cycle : List ℕ) → IsCycle Needs cycle → first ≤ first_of cycle) → (cycle : List ℕ) → IsCycle Needs cycle → first + 1 ≤ first_of cycle
 none_from Needs first none below cycle h =
     ⊎_elim (λ same. absurd (none cycle h same)) (λ ne. omega (arith, ne, below cycle h)) (cases_eq (first_of cycle) first)
-
--- the nodes that steps lead to are what is reached
-pub is_reach : (count : ℕ) (Needs : ℕ → ℕ → Type 0) (from : ℕ) (steps : List (Option ℕ)) (reached : List ℕ) → AreSteps count Needs from steps → AreReached steps reached → IsReach Needs from reached
-is_reach count Needs from steps reached s h = record {
-  rising = h.rising;
-  exactly = λ node. (
-    (λ has. ⊎_elim (λ e. steps_reach count Needs from steps s e.0 node e.1) (λ none. absurd (false≢true (sym (ap is_some none) ∙ (h.exactly node).0 has))) (some_or_none (mark_of steps node))),
-    (λ r. (h.exactly node).1 (reach_steps count Needs from steps s node r)),
-  );
-}
 
 -- no cycle begins with what needs nothing
 pub none_without_needs : (graph : List (List ℕ)) (node : ℕ) → needs_of graph node ≡ [] → (cycle : List ℕ) → IsCycle (NodeNeeds graph) cycle → first_of cycle ≡ node → ⊥

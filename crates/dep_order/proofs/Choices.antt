@@ -1,12 +1,8 @@
 -- The nodes that steps lead to, the fewest steps of a row, and its least node at so many steps.
-use Rattle.std.proofs.Common.{◌≡◌, ℕ, ◌+◌, ◌<◌, true, false, List, [], ◌∷◌, ◌++◌, length, take, get_or, Option, Some, None, sym, ◌∙◌, ap, subst, ⊎_elim, arith, min, eqb}
-use Rattle.std.specs.Prelude.{◌↔◌}
-use Rattle.std.specs.Option.{MatchOption, is_some, IsSome, option_eq}
+use Rattle.std.proofs.Common.{◌≡◌, ℕ, ◌+◌, ◌<◌, true, false, List, length, take, get_or, Option, Some, None, sym, ◌∙◌, ap, subst, ⊎_elim, arith, min, eqb}
+use Rattle.std.specs.Option.{MatchOption, option_eq}
 use Rattle.std.specs.List.{Contains}
-use Rattle.std.specs.List.Sorted.{IsStrictlyIncreasing}
 use Rattle.std.proofs.lemmas.Bool.{cases_lt, false≢true}
-use Rattle.std.proofs.lemmas.List.{get_or_append_left, get_or_push, length_push}
-use Rattle.std.proofs.lemmas.List.Elements.{Contains-append_left, Contains-push, Contains-push_cases, Contains-get_or}
 use Rattle.dep_order.specs.Steps.{IsFewest, IsLeastAt}
 use Rattle.dep_order.specs.Marks.{mark_of}
 use Rattle.dep_order.proofs.Members.{same, same_itself}
@@ -17,52 +13,6 @@ use Rattle.dep_order.proofs.Searches.{none_is_no_some, one_value}
 abbrev pub IsLeastIfAny : List ℕ → List (Option ℕ) → ℕ → Option ℕ → Type 0
 IsLeastIfAny row steps count least =
     MatchOption least ((node : ℕ) → Contains row node → mark_of steps node ≡ Some count → ⊥) (λ node. IsLeastAt row steps count node)
-
--- the nodes below that steps lead to
-pub record AreReachedBelow (steps : List (Option ℕ)) (below : ℕ) (reached : List ℕ) : Type 0 where
-  pub rising : IsStrictlyIncreasing reached
-  pub has : (node : ℕ) → Contains reached node ↔ ((node < below) × IsSome (mark_of steps node))
-
--- no steps lead to the next node
-pub reached_skip : (steps : List (Option ℕ)) (below : ℕ) (reached : List ℕ) → is_some (mark_of steps below) ≡ false → AreReachedBelow steps below reached → AreReachedBelow steps (below + 1) reached
-reached_skip steps below reached no_steps h = record {
-  rising = h.rising;
-  has = λ node. (
-    (λ has. let was = (h.has node).0 has in (omega (arith, was.0), was.1)),
-    (λ w. ⊎_elim
-        (λ lt. (h.has node).1 (lt, w.1))
-        (λ ge. let e : node ≡ below = omega (arith, ge, w.0) in absurd (false≢true (sym no_steps ∙ subst (λ x. is_some (mark_of steps x) ≡ true) e w.1)))
-        (cases_lt node below)),
-  );
-}
-
--- steps lead to the next node
-pub reached_more : (steps : List (Option ℕ)) (below : ℕ) (reached : List ℕ) → is_some (mark_of steps below) ≡ true → AreReachedBelow steps below reached → AreReachedBelow steps (below + 1) (reached ++ below ∷ [])
-reached_more steps below reached some h = record {
-  rising = λ k lt.
-      ⊎_elim
-      (λ front.
-      let a : get_or (reached ++ below ∷ []) k 0 ≡ get_or reached k 0 = get_or_append_left reached (below ∷ []) 0 k (omega (arith, front)) in
-      let b : get_or (reached ++ below ∷ []) (k + 1) 0 ≡ get_or reached (k + 1) 0 = get_or_append_left reached (below ∷ []) 0 (k + 1) front in
-      omega (arith, a, b, h.rising k front))
-      (λ back.
-      let last : length reached ≡ k + 1 = omega (arith, back, lt, length_push reached below) in
-      let in' : k < length reached = omega (arith, last) in
-      let a : get_or (reached ++ below ∷ []) k 0 ≡ get_or reached k 0 = get_or_append_left reached (below ∷ []) 0 k in' in
-      let b : get_or (reached ++ below ∷ []) (k + 1) 0 ≡ below = get_or_push reached below 0 (k + 1) last in
-      omega (arith, a, b, ((h.has (get_or reached k 0)).0 (Contains-get_or reached k 0 in')).0))
-      (cases_lt (k + 1) (length reached));
-  has = λ node. (
-    (λ has. ⊎_elim
-        (λ front. let was = (h.has node).0 front in (omega (arith, was.0), was.1))
-        (λ last. (omega (arith, last), subst (λ x. is_some (mark_of steps x) ≡ true) last some))
-        (Contains-push_cases reached below node has)),
-    (λ w. ⊎_elim
-        (λ lt. Contains-append_left reached (below ∷ []) node ((h.has node).1 (lt, w.1)))
-        (λ ge. let e : below ≡ node = omega (arith, ge, w.0) in subst (Contains (reached ++ below ∷ [])) e (Contains-push reached below))
-        (cases_lt node below)),
-  );
-}
 
 -- a node of the row that no steps lead to
 pub fewest_skip : (row : List ℕ) (steps : List (Option ℕ)) (i : ℕ) (best : Option ℕ) → i < length row → mark_of steps (get_or row i 0) ≡ None → IsFewest (take i row) steps best → IsFewest (take (i + 1) row) steps best

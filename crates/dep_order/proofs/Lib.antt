@@ -16,4 +16,5 @@ pub mod Postorders
 pub mod Connected
 pub mod Finite
 pub mod Least
+pub mod Reached
 pub mod ForCallers

@@ -10,3 +10,4 @@ pub mod Marks
 pub mod Steps
 pub mod Postorders
 pub mod Components
+pub mod inner

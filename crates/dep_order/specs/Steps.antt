@@ -1,7 +1,6 @@
 -- The fewest steps from a node to each other one, and the least cycle that is read from them.
-use Rattle.std.specs.Prelude.{◌≡◌, ◌≢◌, ℕ, ◌+◌, ◌≤◌, List, length, Contains, Option, Some, None, ◌↔◌, IsSome, MatchOption, ◌⊎◌, Vec}
+use Rattle.std.specs.Prelude.{◌≡◌, ◌≢◌, ℕ, ◌+◌, ◌≤◌, List, length, Contains, Option, Some, None, MatchOption, ◌⊎◌, Vec}
 use Rattle.std.specs.declared.alloc.Global.{Global}
-use Rattle.std.specs.List.Sorted.{IsStrictlyIncreasing}
 use Rattle.std.specs.Ordering.{nat_cmp}
 use Rattle.std.specs.declared.cmp.Ordering.TheVariants.{Greater}
 use Rattle.std.specs.Cmp.Lexicographic.{slice_cmp}
@@ -56,8 +55,3 @@ IsLeastFromIfAny Needs first found =
     MatchOption found
     ((cycle : List ℕ) → IsCycle Needs cycle → first_of cycle ≡ first → ⊥)
     (λ cycle. IsLeastFrom Needs first cycle.items)
-
--- the nodes that steps lead to, rising
-pub record AreReached (steps : List (Option ℕ)) (reached : List ℕ) : Type 0 where
-  pub rising : IsStrictlyIncreasing reached
-  pub exactly : (node : ℕ) → Contains reached node ↔ IsSome (mark_of steps node)

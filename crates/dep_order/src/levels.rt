@@ -2,7 +2,7 @@
 ghost use Rattle.std.specs.Prelude.{◌≡◌, ◌<◌, All, IfOk, OnOk, length};
 ghost use Rattle.dep_order.specs.Needs.{NodeNeeds, NeedsAreNodes};
 ghost use Rattle.dep_order.specs.Rows.{lists};
-ghost use Rattle.dep_order.specs.Steps.{AreSteps, AreAdvanced, AreReached};
+ghost use Rattle.dep_order.specs.Steps.{AreSteps, AreAdvanced};
 
 use crate::marking::mark_row;
 use crate::rows::row_of;
@@ -50,17 +50,4 @@ fn advance(
         mark_row(row_of(slices, *node), count, steps, &mut next)?;
     }
     Ok(next)
-}
-
-/// The nodes that steps lead to, rising.
-pub fn reached_nodes(alloc: Global, steps: &[Option<usize>]) -> Result<Vec<usize>, AllocError>
-    ensures { IfOk result (λ reached. AreReached steps.now reached.items) }
-{
-    let mut reached = Vec::new(alloc);
-    for (node, count) in steps.iter().enumerate() {
-        if count.is_some() {
-            reached.push(node)?;
-        }
-    }
-    Ok(reached)
 }

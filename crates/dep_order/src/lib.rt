@@ -2,11 +2,12 @@
 //! node reaches.
 //!
 //! Nodes are numbered from 0. `order` answers all nodes, each after what it needs, by smallest
-//! numbers, or else the least cycle; `reach` answers what chains of needs lead to. One clause says all
-//! of each: `IsSortingOf` of `specs/Sortings.antt`, which stands on `specs/Orders.antt` and
-//! `specs/Cycles.antt`, and `IsReach` of `specs/Needs.antt`. The only error is want of memory. The
-//! module `laws` has the laws of these definitions: there is at most one order and one least cycle,
-//! and an order exactly where there is no cycle.
+//! numbers, or else the least cycle; `reach` answers what chains of needs lead to, and `Reaching` the
+//! same from one node after the other. One clause says all of each: `IsSortingOf` of
+//! `specs/Sortings.antt`, which stands on `specs/Orders.antt` and `specs/Cycles.antt`, and `IsReach`
+//! and `AreReached` of `specs/Needs.antt`. The only error is want of memory. The module `laws` has the
+//! laws of these definitions: there is at most one order and one least cycle, and an order exactly
+//! where there is no cycle.
 //!
 //! The definitions speak of any relation between numbered things. A caller with needs of its own makes
 //! the digraph of the same needs, and carries the answer over with the lemmas of
@@ -23,19 +24,20 @@ pub mod laws;
 mod levels;
 mod marking;
 mod placing;
+mod reaching;
 mod rows;
 #[cfg(test)]
 mod tests;
 mod users;
 
-ghost use Rattle.std.specs.Prelude.{◌≡◌, ◌<◌, length, IfOk};
-ghost use Rattle.dep_order.specs.Needs.{NodeNeeds, NeedsAreNodes, IsReach};
+ghost use Rattle.std.specs.Prelude.{◌≡◌, ◌<◌, All, length, IfOk};
+ghost use Rattle.dep_order.specs.Needs.{needs_of, NodeNeeds, NeedsAreNodes, IsReach};
 ghost use Rattle.dep_order.specs.Rows.{rows, lists};
 ghost use Rattle.dep_order.specs.Sortings.{IsSortingOf};
 
 use cycles::least_cycle;
-use levels::{reached_nodes, steps_from};
 use placing::place_all;
+pub use reaching::Reaching;
 use rows::{lend_parts, lend_rows};
 use std::alloc::{AllocError, Global};
 use std::marker::Model;
@@ -69,6 +71,22 @@ impl Digraph {
     {
         Digraph { needs }
     }
+
+    /// How many nodes there are.
+    fn len(&self) -> usize
+        ensures { result ≡ length self.now }
+    {
+        self.needs.len()
+    }
+
+    /// What a node needs.
+    fn needs_of(&self, node: usize) -> &[usize]
+        requires { node < length self.now }
+        ensures needs { result.now ≡ needs_of self.now node }
+        ensures nodes { All (λ needed. needed < length self.now) result.now }
+    {
+        &self.needs[node]
+    }
 }
 
 /// The nodes of a digraph in order, or a cycle where they have none.
@@ -97,8 +115,10 @@ pub fn reach(alloc: Global, graph: &Digraph, from: usize) -> Result<Vec<usize>, 
     requires { from < length graph.now }
     ensures { IfOk result (λ reached. IsReach (NodeNeeds graph.now) from reached.items) }
 {
-    let needs = lend_rows(alloc, graph.needs.as_slice())?;
-    nodes_reached(alloc, needs.as_slice(), from)
+    let mut reaching = Reaching::new(alloc, graph)?;
+    let mut reached = reaching.from(alloc, from)?;
+    reached.sort_unstable();
+    Ok(reached)
 }
 
 /// The order by smallest numbers, or the least cycle; each node needs those of its list.
@@ -115,14 +135,4 @@ fn sort_nodes(alloc: Global, needs: &[&[usize]]) -> Result<Sorting, AllocError>
         let cycle = least_cycle(alloc, needs, users.as_slice())?;
         Ok(Sorting::Cycle(cycle))
     }
-}
-
-/// The node and all that chains of needs lead to from it; each node needs those of its list.
-fn nodes_reached(alloc: Global, needs: &[&[usize]], from: usize) -> Result<Vec<usize>, AllocError>
-    requires nodes { NeedsAreNodes (lists needs.now) }
-    requires from { from < length needs.now }
-    ensures { IfOk result (λ reached. IsReach (NodeNeeds (lists needs.now)) from reached.items) }
-{
-    let steps = steps_from(alloc, needs, from)?;
-    reached_nodes(alloc, steps.as_slice())
 }

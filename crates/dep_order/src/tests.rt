@@ -4,7 +4,7 @@ ghost use Rattle.std.specs.Prelude.{◌<◌, ◌↔◌, length, All, IsTrue};
 ghost use Rattle.dep_order.specs.Needs.{NeedsAreNodes};
 ghost use Rattle.dep_order.specs.Rows.{rows};
 
-use crate::{Digraph, Sorting, order, reach};
+use crate::{Digraph, Reaching, Sorting, order, reach};
 use std::alloc::{AllocError, Global};
 
 /// Whether each need in the row is below the count.
@@ -117,6 +117,41 @@ fn known_nodes_are_reached(rt: HostRuntime) -> Result<(), AllocError> {
     let alloc = rt.alloc();
     assert!(rt; is_reach(alloc, &[&[1], &[2], &[], &[0]], 0, &[0, 1, 2])?);
     assert!(rt; is_reach(alloc, &[&[0]], 0, &[0])?);
+    Ok(())
+}
+
+/// What these nodes reach by these rows, one after the other, or none where one is no node.
+fn reaches_of(
+    alloc: Global,
+    rows: &[&[usize]],
+    nodes: &[usize],
+) -> Result<Option<Vec<Vec<usize>>>, AllocError> {
+    let needs = rows_of(alloc, rows)?;
+    if !are_nodes(needs.as_slice()) {
+        return Ok(None);
+    }
+    let count = needs.len();
+    let graph = Digraph::new(needs);
+    let mut reaching = Reaching::new(alloc, &graph)?;
+    let mut all = Vec::new(alloc);
+    for node in nodes {
+        if *node >= count {
+            return Ok(None);
+        }
+        let mut reached = reaching.from(alloc, *node)?;
+        reached.sort_unstable();
+        all.push(reached)?;
+    }
+    Ok(Some(all))
+}
+
+#[test]
+fn one_search_finds_nothing_of_the_search_before(rt: HostRuntime) -> Result<(), AllocError> {
+    let alloc = rt.alloc();
+    let rows: [&[usize]; 4] = [&[1], &[2], &[], &[0, 1]];
+    let all = reaches_of(alloc, &rows, &[3, 1, 2, 0])?;
+    let want = rows_of(alloc, &[&[0, 1, 2, 3], &[1, 2], &[2], &[0, 1, 2]])?;
+    assert!(rt; all == Some(want));
     Ok(())
 }
 

@@ -1,0 +1,33 @@
+use Rattle.std.proofs.Common.{◌≡◌, ◌<◌, ◌∙◌, ◌+◌, [], ◌∷◌, ◌++◌, ap, sym, subst, length, slice_index, take, set, arith, ℕ, Vec, List}
+use Rattle.std.specs.declared.alloc.Global.{Global}
+use Rattle.std.specs.List.{Contains}
+use Rattle.std.proofs.lemmas.Bool.{false≢true}
+use Rattle.dep_order.specs.inner.Found.{IsRowFound}
+use Rattle.dep_order.proofs.Reached.{row_old, row_new}
+use Rattle.dep_order.proofs.reaching.find_row.Goals as goal
+use Rattle.dep_order.proofs.reaching.find_row.Goals.{then-not-is_found+in_ok-push, else-not-is_found}
+
+pub loop-node-preserved : goal.loop-node-preserved
+loop-node-preserved c =
+    let i = c.loop-node.node-index in
+    let row = c.args.row.now in
+    let indexes = c.args.indexes.now.items in
+    let found = c.args.found.now.items in
+    let now_indexes = c.loop-node.indexes.items in
+    let now_found = c.loop-node.found.items in
+    let node : ℕ = slice_index row i in
+    elim c.if-not-is_found.branch [
+      | then-not-is_found+in_ok-push w ↦
+          let fresh : Contains now_found node → ⊥ = (λ has. false≢true (sym w.if-not-is_found.true ∙ c.is_found.ensures.1 (subst (λ xs. Contains xs node) (sym c.deref-in-loop-node.ensures.value) has))) in
+          let below : node < length now_indexes = omega (arith, c.requires.row i 0 c.loop-node-test.true, c.loop-node.invariant.as_many) in
+          let last : w.len.result ≡ length now_found = omega (arith, w.len.ensures, c.loop-node.found.ok.0) in
+          subst (λ (v : Vec ℕ Global). IsRowFound (take (i + 1) row) indexes found v.items c.if-not-is_found.found.items) (sym w.indexes-is)
+          (subst (λ (xs : List ℕ). IsRowFound (take (i + 1) row) indexes found (set now_indexes node w.len.result) xs) (sym (ap (λ (v : Vec ℕ Global). v.items) w.found-is ∙ w.in_ok-push.ensures.items))
+          (subst (λ (n : ℕ). IsRowFound (take (i + 1) row) indexes found (set now_indexes node n) (now_found ++ node ∷ [])) (sym last)
+          (row_new row indexes found now_indexes now_found i c.loop-node-test.true c.loop-node.invariant below fresh)))
+      | else-not-is_found w ↦
+          let known : Contains now_found node = subst (λ xs. Contains xs node) c.deref-in-loop-node.ensures.value (c.is_found.ensures.0 w.if-not-is_found.false) in
+          subst (λ (v : Vec ℕ Global). IsRowFound (take (i + 1) row) indexes found v.items c.if-not-is_found.found.items) (sym w.indexes-is)
+          (subst (λ (v : Vec ℕ Global). IsRowFound (take (i + 1) row) indexes found now_indexes v.items) (sym w.found-is)
+          (row_old row indexes found now_indexes now_found i c.loop-node-test.true c.loop-node.invariant known))
+    ]

@@ -1,0 +1,105 @@
+//! What nodes reach, one after the other.
+ghost use Rattle.std.specs.Prelude.{◌≡◌, ◌<◌, ◌↔◌, All, Contains, IfOk, IsTrue, OnOk, length};
+ghost use Rattle.dep_order.specs.Needs.{NodeNeeds, AreReached};
+ghost use Rattle.dep_order.specs.inner.Found.{AreFound, IsRowFound};
+
+use crate::Digraph;
+use std::alloc::{AllocError, Global};
+use std::marker::Model;
+
+/// A search for what nodes of a digraph reach. It keeps its workspace from one node to the next, so
+/// that the work for a node grows with what it reaches and what that needs, and not with the digraph.
+/// A contract sees it as the digraph.
+#[derive(Drop)]
+pub struct Reaching<'g> {
+    graph: &'g Digraph,
+    /// The index of each node among those that are found. A node is found where it stands at its
+    /// index, so what an earlier search left need not be cleared (P. Briggs and L. Torczon, An
+    /// efficient representation for sparse sets, ACM Letters on Programming Languages and Systems 2,
+    /// 1993).
+    indexes: Vec<usize>,
+}
+
+impl<'g> Model for Reaching<'g> {
+    ghost use Rattle.std.specs.Prelude.{◌≡◌, ℕ, List, length};
+
+    ghost Value = { List (List ℕ) };
+
+    ghost view = { λ reaching. reaching.graph.now };
+
+    ghost invariant = { λ reaching. length reaching.indexes.items ≡ length reaching.graph.now };
+}
+
+impl<'g> Reaching<'g> {
+    /// A search in the digraph. The error is want of memory alone.
+    pub fn new(alloc: Global, graph: &'g Digraph) -> Result<Reaching<'g>, AllocError>
+        ensures { IfOk result (λ reaching. reaching ≡ graph.now) }
+    {
+        let indexes = vec![in alloc; 0; graph.len()]?;
+        Ok(Reaching { graph, indexes })
+    }
+
+    /// The node itself and all that chains of needs lead to from it, each once, in no set order. The
+    /// error is want of memory alone, and the search may go on after it.
+    pub fn from(&mut self, alloc: Global, node: usize) -> Result<Vec<usize>, AllocError>
+        requires { node < length self.old }
+        ensures same { self.new ≡ self.old }
+        ensures reached { IfOk result (λ reached. AreReached (NodeNeeds self.old) node reached.items) }
+    {
+        let graph = self.graph;
+        search(alloc, graph, node, &mut self.indexes)
+    }
+}
+
+/// What the node reaches, each once.
+fn search(
+    alloc: Global,
+    graph: &Digraph,
+    from: usize,
+    indexes: &mut Vec<usize>,
+) -> Result<Vec<usize>, AllocError>
+    requires from { from < length graph.now }
+    requires as_many { length indexes.old.items ≡ length graph.now }
+    ensures as_many { length indexes.new.items ≡ length graph.now }
+    ensures reached { IfOk result (λ reached. AreReached (NodeNeeds graph.now) from reached.items) }
+{
+    let mut found = vec![in alloc; from]?;
+    indexes[from] = 0;
+    let mut next = 0;
+    'search: while next < found.len() {
+        find_row(graph.needs_of(found[next]), indexes, &mut found)?;
+        next += 1;
+    }
+    Ok(found)
+}
+
+/// Puts the nodes of the row that aren't found yet behind those that are.
+fn find_row(
+    row: &[usize],
+    indexes: &mut Vec<usize>,
+    found: &mut Vec<usize>,
+) -> Result<(), AllocError>
+    requires row { All (λ node. node < length indexes.old.items) row.now }
+    requires found { AreFound indexes.old.items found.old.items }
+    ensures as_many { length indexes.new.items ≡ length indexes.old.items }
+    ensures found { OnOk result
+        (IsRowFound row.now indexes.old.items found.old.items indexes.new.items found.new.items) }
+{
+    for node in row {
+        if !is_found(indexes, found, *node) {
+            indexes[*node] = found.len();
+            found.push(*node)?;
+        }
+    }
+    Ok(())
+}
+
+/// Whether the node is found.
+fn is_found(indexes: &[usize], found: &[usize], node: usize) -> bool
+    requires node { node < length indexes.now }
+    requires found { AreFound indexes.now found.now }
+    ensures { IsTrue result ↔ Contains found.now node }
+{
+    let index = indexes[node];
+    index < found.len() && found[index] == node
+}
