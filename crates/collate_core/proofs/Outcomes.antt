@@ -17,6 +17,7 @@ use Rattle.collate_core.proofs.ByIndex.{element_at, same_some}
 use Rattle.scan_docs.specs.Values.{rules_of, info_of}
 use Rattle.collate_core.specs.Values.{ModuleMapValue}
 use Rattle.collate_core.specs.Documents.{all_rules, table_of, IsScanAccepted, IsInfoAccepted, AreScansAccepted}
+use Rattle.collate_core.specs.Statements.{statements_of}
 use Rattle.collate_core.specs.Maps.{IsMapOf, Written}
 use Rattle.collate_core.specs.Collation.{AreMaps}
 use Rattle.collate_core.specs.Refusals.{IsScanFault, IsScanRefusal, IsInfoRefusal, IsMapFault, IsMapWritten, IsMapRefusal}
@@ -24,6 +25,7 @@ use Rattle.collate_core.specs.Laws.{CollatedIsNotRefused}
 use Rattle.collate_core.specs.declared.fault.Refusal.TheVariants.{Scan, Info, Table, StatementTooLong, Map, LinkedLater}
 use Rattle.collate_core.specs.declared.module_map.MapFault.{MapFault}
 use Rattle.collate_core.proofs.Lists.{all_at, take_next, flat_map_last}
+use Rattle.collate_core.proofs.Writing.{no_fault}
 
 -- an object has one map
 pub one_map : (t : TableValue) (o : ℕ) (rule : RuleValue) (m n : ModuleMapValue) → IsMapOf t o rule m → IsMapOf t o rule n → m ≡ n
@@ -68,7 +70,7 @@ module _ (answers : OneAnswer) where
   not_refused target style c (Scan i fault) k r = no_scan target.setting target.scans i fault k.resolved.documents.scans r r.faulty
   not_refused target style c (Info i fault) k (before, r) = no_info target.infos i fault k.resolved.documents.infos r
   not_refused target style c (Table fault) k r = k.resolved.no_fault fault r.1.present
-  not_refused target style c (StatementTooLong n) k r = let both : None ≡ Some (write.StatementTooLong n) = sym k.fits ∙ r.1 in cc
+  not_refused target style c (StatementTooLong n) k r = let both : None ≡ Some (write.StatementTooLong n) = sym (no_fault (statements_of (table_of target)) c.dyndep k.text) ∙ r.1 in cc
   not_refused target None c (Map o fault) k r = r
   not_refused target (Some written) c (Map o fault) k r = no_map (table_of target) written c.maps o fault k.maps r.2
   not_refused target style c LinkedLater k r = r

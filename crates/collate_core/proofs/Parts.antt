@@ -1,5 +1,5 @@
 -- From the parts of collating to the whole.
-use Rattle.std.proofs.Common.{◌≡◌, ℕ, zero, suc, ◌+◌, ◌<◌, List, [], ◌∷◌, ◌++◌, length, map, Option, Some, None, ap, subst, sym, ◌∙◌, inl, inr, arith}
+use Rattle.std.proofs.Common.{◌≡◌, ℕ, zero, suc, ◌+◌, ◌<◌, List, [], ◌∷◌, ◌++◌, length, map, Option, Some, None, Ok, ap, subst, sym, ◌∙◌, inl, inr, arith}
 use Rattle.std.specs.Prelude.{slice_get, All, Vec}
 use Rattle.std.specs.declared.alloc.Global.{Global}
 use Rattle.std.proofs.lemmas.List.{map_push, length-map}
@@ -7,7 +7,7 @@ use Rattle.ninja_text.specs.Failure.{ForFault}
 use Rattle.ninja_text.specs.declared.failure.Failure.{Failure}
 use Rattle.ninja_text.specs.declared.failure.Failure.TheVariants.{Memory, Fault}
 use Rattle.dyndep_file.specs.StatementValue.{StatementValue}
-use Rattle.dyndep_file.specs.WriteFaults.{write_fault}
+use Rattle.dyndep_file.specs.WriteFaults.{write_fault, text_or_fault}
 use Rattle.dyndep_file.specs.Reading.{StandsForOnly}
 use Rattle.scan_docs.specs.Scan.{RuleValue}
 use Rattle.scan_docs.specs.InfoText.{info_text, ReadsBack}
@@ -36,7 +36,7 @@ pub record Given (target : TargetValue) (style : Option Written) (t : TableValue
   pub kept : KeepsOwn t target.kept
   pub spelled : All HasSpelled ss
   pub stands : StandsForOnly c.dyndep ss
-  pub fits : write_fault ss ≡ None
+  pub text : text_or_fault ss ≡ Ok c.dyndep
   pub objects : c.objects ≡ map (λ rule. rule.object) t.objects
   pub info : c.info ≡ info_text (info_of_table target.name target.kept t)
   pub reads : ReadsBack (info_of_table target.name target.kept t) c.info
@@ -45,7 +45,7 @@ pub record Given (target : TargetValue) (style : Option Written) (t : TableValue
 of_table : (target : TargetValue) (style : Option Written) (c : CollatedValue) → Given target style (table_of target) (statements_of (table_of target)) c → Collates target style c
 of_table target style c h = record {
   resolved = record { documents = h.documents; no_fault = h.no_fault; sound = h.sound; kept = h.kept };
-  fits = h.fits;
+  text = h.text;
   dyndep = h.stands;
   canonical = has_paths (statements_of (table_of target)) h.spelled;
   objects = h.objects;

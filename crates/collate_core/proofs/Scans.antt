@@ -1,16 +1,24 @@
 -- The documents of a target, read one after another.
-use Rattle.std.proofs.Common.{◌≡◌, ℕ, zero, suc, ◌+◌, ◌<◌, ◌≤◌, List, [], ◌∷◌, ◌++◌, length, map, take, get_or, Some, refl, ap, ap₂, subst, sym, ◌∙◌}
-use Rattle.std.specs.Prelude.{slice_get, All, option_map, Vec}
-use Rattle.std.specs.declared.alloc.Global.{Global}
+use Rattle.std.proofs.Common.{◌≡◌, ℕ, zero, suc, ◌+◌, ◌<◌, ◌≤◌, List, [], ◌∷◌, ◌++◌, length, map, take, get_or, Some, refl, ap, ap₂, subst, sym, ◌∙◌, inl, inr}
+use Rattle.std.specs.Prelude.{slice_get, All, option_map}
 use Rattle.std.proofs.lemmas.Option.{slice_get-map, slice_get_read}
 use Rattle.std.specs.List.{flat_map}
 use Rattle.std.proofs.lemmas.List.{map_push}
 use Rattle.std.proofs.lemmas.List.Elements.{All-push, All-append}
+use Rattle.ninja_text.specs.Failure.{ForFault}
+use Rattle.ninja_text.specs.declared.failure.Failure.{Failure}
+use Rattle.ninja_text.specs.declared.failure.Failure.TheVariants.{Fault}
+use Rattle.scan_docs.specs.Document.{IsRefused}
+use Rattle.scan_docs.specs.ScanChecks.{scan_checks}
 use Rattle.scan_docs.specs.Scan.{SettingValue, RuleValue, IsRuleText}
 use Rattle.scan_docs.specs.Info.{InfoValue}
 use Rattle.scan_docs.specs.InfoText.{IsInfoText}
 use Rattle.scan_docs.specs.Values.{rules_of, info_of}
+use Rattle.scan_docs.specs.declared.fault.DocFault.{DocFault}
+use Rattle.scan_docs.specs.declared.fault.DocFault.TheVariants.{TooLarge}
+use Rattle.scan_docs.specs.declared.fault.Place.TheVariants.{Document}
 use Rattle.collate_core.specs.Documents.{all_rules, rule_limit, IsScanAccepted, IsInfoAccepted, AreScansAccepted}
+use Rattle.collate_core.specs.Refusals.{IsScanRefusal}
 use Rattle.collate_core.proofs.Lists.{take_next, flat_map_last}
 
 -- The first scan documents are accepted, and these are their rules.
@@ -56,19 +64,42 @@ more_infos documents i document infos info here so_far accepted is text =
     }
 
 -- the document at a index, as bytes
-pub document_at : (documents : List (Vec ℕ Global)) (i : ℕ) (document : Vec ℕ Global) (text : List ℕ) → i < length documents → document ≡ get_or documents i document → text ≡ document.items →
-    slice_get (map (λ d. d.items) documents) i ≡ Some text
-document_at documents i document text within is same =
-    slice_get-map (λ (d : Vec ℕ Global). d.items) documents i ∙ ap (option_map (λ (d : Vec ℕ Global). d.items)) (slice_get_read documents (length documents) i document refl within is) ∙ ap Some (sym same)
-
 get_or_again : {X : Type 0} (xs : List X) (i : ℕ) (other : X) → get_or xs i (get_or xs i other) ≡ get_or xs i other
 get_or_again [] i other = refl
 get_or_again (x ∷ xs) zero other = refl
 get_or_again (x ∷ xs) (suc i) other = get_or_again xs i other
 
+-- the document at an index, of values that hold documents
+document_at : {X : Type 0} (bytes : X → List ℕ) (documents : List X) (i : ℕ) (other : X) → i < length documents → slice_get (map bytes documents) i ≡ Some (bytes (get_or documents i other))
+document_at bytes documents i other within =
+    slice_get-map bytes documents i ∙ ap (option_map bytes) (slice_get_read documents (length documents) i (get_or documents i other) refl within (sym (get_or_again documents i other)))
+
+pub lent_scans : {X : Type 0} (bytes : X → List ℕ) (documents : List X) (i : ℕ) (other : X) (s : SettingValue) (rules more : List RuleValue) → i < length documents → ScansSoFar s (map bytes documents) i rules →
+    IsScanAccepted s (bytes (get_or documents i other)) → more ≡ rules_of s (bytes (get_or documents i other)) → All IsRuleText more → length (rules ++ more) ≤ rule_limit → ScansSoFar s (map bytes documents) (i + 1) (rules ++ more)
+lent_scans bytes documents i other s rules more within so_far accepted are text short =
+    more_scans s (map bytes documents) i (bytes (get_or documents i other)) rules more (document_at bytes documents i other within) so_far accepted are text short
+
+pub past_limit : {X : Type 0} (bytes : X → List ℕ) (documents : List X) (i : ℕ) (other : X) (s : SettingValue) (rules more : List RuleValue) → i < length documents → ScansSoFar s (map bytes documents) i rules →
+    IsScanAccepted s (bytes (get_or documents i other)) → more ≡ rules_of s (bytes (get_or documents i other)) → rule_limit < length (rules ++ more) → IsScanRefusal s (map bytes documents) i (TooLarge Document)
+past_limit bytes documents i other s rules more within so_far accepted are past =
+    let here = document_at bytes documents i other within in
+    record {
+      before = so_far.accepted;
+      scan = bytes (get_or documents i other);
+      here = here;
+      faulty = inr (accepted, subst (λ rs. rule_limit < length rs) (one_scan s (map bytes documents) i (bytes (get_or documents i other)) rules more here so_far.same are) past, refl);
+    }
+
+pub refused_scan : {X : Type 0} (bytes : X → List ℕ) (documents : List X) (i : ℕ) (other : X) (s : SettingValue) (rules : List RuleValue) (failure : Failure DocFault) (fault : DocFault) → i < length documents →
+    ScansSoFar s (map bytes documents) i rules → failure ≡ Fault fault → ForFault (IsRefused (scan_checks s) (bytes (get_or documents i other))) failure → IsScanRefusal s (map bytes documents) i fault
+refused_scan bytes documents i other s rules failure fault within so_far is refused = record {
+  before = so_far.accepted;
+  scan = bytes (get_or documents i other);
+  here = document_at bytes documents i other within;
+  faulty = inl (subst (ForFault (IsRefused (scan_checks s) (bytes (get_or documents i other)))) is refused);
+}
+
 pub lent_infos : {X : Type 0} (bytes : X → List ℕ) (documents : List X) (i : ℕ) (other : X) (infos : List InfoValue) (info : InfoValue) → i < length documents → InfosSoFar (map bytes documents) i infos →
     IsInfoAccepted (bytes (get_or documents i other)) → info ≡ info_of (bytes (get_or documents i other)) → IsInfoText info → InfosSoFar (map bytes documents) (i + 1) (infos ++ info ∷ [])
 lent_infos bytes documents i other infos info within so_far accepted is text =
-    let here : slice_get (map bytes documents) i ≡ Some (bytes (get_or documents i other)) =
-    slice_get-map bytes documents i ∙ ap (option_map bytes) (slice_get_read documents (length documents) i (get_or documents i other) refl within (sym (get_or_again documents i other))) in
-    more_infos (map bytes documents) i (bytes (get_or documents i other)) infos info here so_far accepted is text
+    more_infos (map bytes documents) i (bytes (get_or documents i other)) infos info (document_at bytes documents i other within) so_far accepted is text

@@ -37,3 +37,11 @@ unless_err (Some other) ss fault h = cc
 -- the fault that is answered for the text is that of the statements
 pub is_fault : (ss : List StatementValue) (fault : WriteFault) → text_or_fault ss ≡ Err fault → write_fault ss ≡ Some fault
 is_fault ss fault h = unless_err (write_fault ss) ss fault h
+
+unless_ok : (o : Option WriteFault) (ss : List StatementValue) (text : List ℕ) → text_unless o ss ≡ Ok text → o ≡ None
+unless_ok None ss text h = refl
+unless_ok (Some fault) ss text h = absurd (cc)
+
+-- statements that have a text have no fault
+pub no_fault : (ss : List StatementValue) (text : List ℕ) → text_or_fault ss ≡ Ok text → write_fault ss ≡ None
+no_fault ss text h = unless_ok (write_fault ss) ss text h

@@ -2,7 +2,7 @@
 use Rattle.std.specs.Prelude.{◌≡◌, ℕ, List, [], length, map, slice_get, Option, Some, None, Ok, All}
 use Rattle.ninja_text.specs.Paths.{IsPath}
 use Rattle.dyndep_file.specs.StatementValue.{StatementValue}
-use Rattle.dyndep_file.specs.WriteFaults.{write_fault, paths_of}
+use Rattle.dyndep_file.specs.WriteFaults.{text_or_fault, paths_of}
 use Rattle.dyndep_file.specs.Reading.{StandsForOnly}
 use Rattle.scan_docs.specs.Scan.{RuleValue}
 use Rattle.scan_docs.specs.InfoText.{info_text, ReadsBack}
@@ -36,9 +36,10 @@ AreMaps t (Some written) texts =
 pub record Collates (target : TargetValue) (style : Option Written)
     (c : CollatedValue) : Type 0 where
   pub resolved : IsResolved target
-  -- every build line keeps the limit
-  pub fits : write_fault (statements_of (table_of target)) ≡ None
-  -- the dyndep text stands for one statement an object, in order, and for no others
+  -- the dyndep text is that of one statement an object, in order, byte for byte: these have no
+  -- fault, so that every build line keeps the limit
+  pub text : text_or_fault (statements_of (table_of target)) ≡ Ok c.dyndep
+  -- it stands for these statements, and for no others
   pub dyndep : StandsForOnly c.dyndep (statements_of (table_of target))
   -- whose paths are canonical
   pub canonical : All HasPaths (statements_of (table_of target))

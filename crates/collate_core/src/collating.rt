@@ -14,7 +14,7 @@ use crate::map_style::MapStyle;
 use crate::object_maps::maps_of;
 use crate::statements::{statements_of, text_of};
 use crate::table::table_of;
-use crate::target::{Target, TargetParts};
+use crate::target::Target;
 use module_table::{Table, added_files};
 use ninja_text::{Failure, Path};
 use std::alloc::{AllocError, Global};
@@ -29,7 +29,7 @@ use std::alloc::{AllocError, Global};
 /// the file adds to each object's edge exactly what the object provides and requires.
 pub fn collate<M: MapStyle>(
     alloc: Global,
-    target: &Target,
+    target: &Target<'_>,
     style: Option<&M>,
 ) -> Result<Collated, Failure<Refusal>>
     ensures collated { IfOk result
@@ -39,46 +39,13 @@ pub fn collate<M: MapStyle>(
         (option_map M.written (option_copied style.entry)))) }
 {
     headline();
-    let infos = lend_all(alloc, &target.infos)?;
-    let parts = TargetParts {
-        name: &target.name,
-        setting: &target.setting,
-        scans: &target.scans,
-        infos: &infos,
-        kept: &target.kept,
-    };
-    collate_documents(alloc, &parts, style)
-}
-
-/// The documents, lent.
-fn lend_all(alloc: Global, documents: &[Vec<u8>]) -> Result<Vec<&[u8]>, AllocError>
-    ensures { IfOk result (λ lent. map (λ d. d.now) lent.items ≡ map (λ d. d.items) documents.now) }
-{
-    let mut lent = Vec::with_capacity(alloc, documents.len())?;
-    for document in documents {
-        lent.push(document.as_slice())?;
-    }
-    Ok(lent)
-}
-
-/// Collates the target of these parts.
-pub(crate) fn collate_documents<M: MapStyle>(
-    alloc: Global,
-    target: &TargetParts<'_>,
-    style: Option<&M>,
-) -> Result<Collated, Failure<Refusal>>
-    ensures collated { IfOk result
-        (Collates target.now (option_map M.written (option_copied style.entry))) }
-    ensures refused { IfErr result (ForFault (IsRefusal target.now
-        (option_map M.written (option_copied style.entry)))) }
-{
+    added_files();
     let table = table_of(alloc, target)?;
     let statements = statements_of(alloc, &table)?;
     let text = text_of(alloc, &statements)?;
     let maps = maps_of(alloc, &table, style)?;
     let info = info_text_of(alloc, target.name, target.kept, &table)?;
     let objects = objects_of(alloc, &table)?;
-    added_files();
     Ok(Collated::new(text, info, objects, maps))
 }
 

@@ -8,40 +8,42 @@ ghost use Rattle.collate_core.specs.ProjectNeeds.{MapsReadBack};
 ghost use Rattle.collate_core.specs.inner.Parts.{CollatesLinked};
 
 use crate::collated::Collated;
-use crate::collating::collate_documents;
+use crate::collating::collate;
 use crate::fault::Refusal;
 use crate::laws::{project_maps, project_orders};
 use crate::map_style::MapStyle;
-use crate::target::TargetParts;
+use crate::target::Target;
 use ninja_text::Failure;
 use scan_docs::{Name, Setting, TargetName};
 use std::alloc::{AllocError, Global};
 use std::marker::Model;
 
-/// A target of a project, with its scan documents as bytes, which links earlier ones by index.
+/// A target of a project, with its scan documents as bytes, which links earlier ones by index. It
+/// borrows all its parts.
 #[derive(Drop)]
-pub struct ProjectTarget {
-    pub name: TargetName,
-    pub setting: Setting,
-    pub scans: Vec<Vec<u8>>,
+pub struct ProjectTarget<'a> {
+    pub name: &'a TargetName,
+    pub setting: &'a Setting,
+    /// The scan documents of its sources.
+    pub scans: &'a [&'a [u8]],
     /// The indexes of the targets that it links, all of which are to be earlier.
-    pub linked: Vec<usize>,
+    pub linked: &'a [usize],
     /// The names of the modules that it keeps to itself. A name may be listed twice.
-    pub kept: Vec<Name>,
+    pub kept: &'a [Name],
 }
 
-impl Model for ProjectTarget {
+impl<'a> Model for ProjectTarget<'a> {
     ghost use Rattle.std.specs.Prelude.{map};
     ghost use Rattle.collate_core.specs.Values.{ProjectTargetValue};
 
     ghost Value = { ProjectTargetValue };
 
     ghost view = { λ t. record {
-      name = t.name;
-      setting = t.setting;
-      scans = map (λ s. s.items) t.scans.items;
-      linked = t.linked.items;
-      kept = t.kept.items;
+      name = t.name.now;
+      setting = t.setting.now;
+      scans = map (λ s. s.now) t.scans.now;
+      linked = t.linked.now;
+      kept = t.kept.now;
     } };
 }
 
@@ -59,7 +61,7 @@ pub struct ProjectOut {
 /// [`collate`](crate::collate) reports.
 pub fn project<M: MapStyle>(
     alloc: Global,
-    targets: &[ProjectTarget],
+    targets: &[ProjectTarget<'_>],
     style: Option<&M>,
 ) -> Result<ProjectOut, Failure<(usize, Refusal)>>
     ensures collated { IfOk result (λ out.
@@ -127,7 +129,7 @@ fn infos_of<'a>(
 /// among those given.
 fn collate_linked<M: MapStyle>(
     alloc: Global,
-    target: &ProjectTarget,
+    target: &ProjectTarget<'_>,
     outs: &[Collated],
     style: Option<&M>,
 ) -> Result<Collated, Failure<Refusal>>
@@ -137,16 +139,16 @@ fn collate_linked<M: MapStyle>(
         (option_map M.written (option_copied style.entry))
         outs.now (length outs.now) target.now)) }
 {
-    if !are_below(&target.linked, outs.len()) {
+    if !are_below(target.linked, outs.len()) {
         return Err(Failure::Fault(Refusal::LinkedLater));
     }
-    let infos = infos_of(alloc, &target.linked, outs)?;
-    let parts = TargetParts {
-        name: &target.name,
-        setting: &target.setting,
-        scans: &target.scans,
+    let infos = infos_of(alloc, target.linked, outs)?;
+    let with_infos = Target {
+        name: target.name,
+        setting: target.setting,
+        scans: target.scans,
         infos: &infos,
-        kept: &target.kept,
+        kept: target.kept,
     };
-    collate_documents(alloc, &parts, style)
+    collate(alloc, &with_infos, style)
 }

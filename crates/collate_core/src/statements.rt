@@ -1,7 +1,7 @@
 //! The statements of a table's objects, and their text.
-ghost use Rattle.std.specs.Prelude.{◌≡◌, map, None, All, IfOk, OnOk, IfErr};
+ghost use Rattle.std.specs.Prelude.{◌≡◌, map, None, Ok, All, IfOk, OnOk, IfErr};
 ghost use Rattle.ninja_text.specs.Failure.{ForFault};
-ghost use Rattle.dyndep_file.specs.WriteFaults.{write_fault};
+ghost use Rattle.dyndep_file.specs.WriteFaults.{write_fault, text_or_fault};
 ghost use Rattle.dyndep_file.specs.Reading.{StandsForOnly};
 ghost use Rattle.collate_core.specs.Statements.{files_of, statement_of, statements_of};
 ghost use Rattle.collate_core.specs.inner.Parts.{IsSpelled, HasSpelled, IsWriteRefusal};
@@ -68,7 +68,8 @@ fn files_of(alloc: Global, modules: &[(Name, Path)]) -> Result<Vec<Vec<u8>>, All
 /// The text of the statements, or the first whose build line is too long.
 pub(crate) fn text_of(alloc: Global, dyndep: &Dyndep) -> Result<Vec<u8>, Failure<Refusal>>
     requires { All HasSpelled dyndep.now }
-    ensures text { IfOk result (λ text. StandsForOnly text.items dyndep.now) }
+    ensures text { IfOk result (λ text. text_or_fault dyndep.now ≡ Ok text.items) }
+    ensures meaning { IfOk result (λ text. StandsForOnly text.items dyndep.now) }
     ensures fits { OnOk result (write_fault dyndep.now ≡ None) }
     ensures refused { IfErr result (ForFault (IsWriteRefusal dyndep.now)) }
 {

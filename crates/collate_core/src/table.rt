@@ -17,7 +17,7 @@ ghost use Rattle.collate_core.specs.Refusals.{IsRefusal, IsScanRefusal, IsInfoRe
 ghost use Rattle.collate_core.specs.inner.Parts.{IsTableText, ForScan, ForInfo};
 
 use crate::fault::Refusal;
-use crate::target::TargetParts;
+use crate::target::Target;
 use module_table::Table;
 use ninja_text::Failure;
 use scan_docs::{DocFault, Info, Place, Rule, Setting, info_read, scan};
@@ -27,7 +27,7 @@ use std::alloc::Global;
 pub const RULE_LIMIT: usize = 65536;
 
 /// The table of the target's documents, or the fault of the first that is faulty, or of the table.
-pub(crate) fn table_of(alloc: Global, target: &TargetParts<'_>) -> Result<Table, Failure<Refusal>>
+pub(crate) fn table_of(alloc: Global, target: &Target<'_>) -> Result<Table, Failure<Refusal>>
     ensures documents { OnOk result (AreAccepted target.now) }
     ensures table { IfOk result (λ table. table ≡ table_of target.now) }
     ensures no_fault { IfOk result
@@ -52,15 +52,15 @@ pub(crate) fn table_of(alloc: Global, target: &TargetParts<'_>) -> Result<Table,
 fn rules_of_all(
     alloc: Global,
     setting: &Setting,
-    scans: &[Vec<u8>],
+    scans: &[&[u8]],
 ) -> Result<Vec<Rule>, Failure<Refusal>>
     ensures accepted { OnOk result
-        (AreScansAccepted setting.now (map (λ scan. scan.items) scans.now)) }
+        (AreScansAccepted setting.now (map (λ scan. scan.now) scans.now)) }
     ensures rules { IfOk result (λ rules.
-        rules.items ≡ all_rules setting.now (map (λ scan. scan.items) scans.now)) }
+        rules.items ≡ all_rules setting.now (map (λ scan. scan.now) scans.now)) }
     ensures text { IfOk result (λ rules. All IsRuleText rules.items) }
     ensures refused { IfErr result (ForFault (ForScan
-        (IsScanRefusal setting.now (map (λ scan. scan.items) scans.now)))) }
+        (IsScanRefusal setting.now (map (λ scan. scan.now) scans.now)))) }
 {
     let mut rules = Vec::new(alloc);
     for (index, document) in scans.iter().enumerate() {

@@ -1,26 +1,27 @@
-//! What no clause says: that calls succeed where memory is ample, and worked targets whose answers are known. Documents are
-//! given as texts, and answers are compared as texts.
+//! What no clause says: that calls succeed where memory is ample, and worked targets whose answers are known. Answers are
+//! compared as texts.
 
 mod bare;
+mod growths;
 mod maps;
 mod projects;
-mod real;
-mod real_documents;
 mod rehearsals;
 mod targets;
 
 use crate::{Collated, MapFault, MapStyle, Refusal, Target, collate};
-use ninja_text::{Failure, Path};
+use build_effect::{Graph, ListingReader, listing_write};
+use module_table::TableFault;
+use ninja_text::{Counted, Failure, Path};
 use scan_docs::{Name, Setting, TargetName};
 use std::alloc::{AllocError, Global};
 
 /// Two objects: `a.o` provides `A` and requires `B`, which `b.o` provides.
-const TWO_OBJECTS: &str =
-    r#"{"version":1,"rules":[{"primary-output":"a.o","provides":[{"logical-name":"A"}],"requires":[{"logical-name":"B"}]},{"primary-output":"b.o","provides":[{"logical-name":"B"}]}]}"#;
+const TWO_OBJECTS: &[u8] =
+    br#"{"version":1,"rules":[{"primary-output":"a.o","provides":[{"logical-name":"A"}],"requires":[{"logical-name":"B"}]},{"primary-output":"b.o","provides":[{"logical-name":"B"}]}]}"#;
 
 /// The dyndep text of the two objects, where modules go to `mod` and end in `.bmi`.
-const TWO_OBJECTS_DYNDEP: &str =
-    "ninja_dyndep_version = 1\nbuild a.o | mod/A.bmi: dyndep | mod/B.bmi\n  restat = 1\nbuild b.o | mod/B.bmi: dyndep\n  restat = 1\n";
+const TWO_OBJECTS_DYNDEP: &[u8] =
+    b"ninja_dyndep_version = 1\nbuild a.o | mod/A.bmi: dyndep | mod/B.bmi\n  restat = 1\nbuild b.o | mod/B.bmi: dyndep\n  restat = 1\n";
 
 fn path(alloc: Global, text: &str) -> Result<Path, AllocError> {
     match Path::of(alloc, text.as_bytes()) {
@@ -51,39 +52,14 @@ fn names(alloc: Global, texts: &[&str]) -> Result<Vec<Name>, AllocError> {
     Ok(names)
 }
 
-fn documents(alloc: Global, texts: &[&str]) -> Result<Vec<Vec<u8>>, AllocError> {
-    let mut documents = Vec::new(alloc);
-    for text in texts {
-        documents.push(Vec::from_slice(alloc, text.as_bytes())?)?;
-    }
-    Ok(documents)
-}
-
-/// Modules go to this folder, and their files have this ending.
-fn setting(alloc: Global, module_dir: &str, module_ext: &str) -> Result<Setting, AllocError> {
-    let module_dir = String::from_str(alloc, module_dir)?;
-    let module_ext = String::from_str(alloc, module_ext)?;
+/// Modules go to `mod`, and their files end in `.bmi`.
+fn setting(alloc: Global) -> Result<Setting, AllocError> {
+    let module_dir = String::from_str(alloc, "mod")?;
+    let module_ext = String::from_str(alloc, ".bmi")?;
     Ok(Setting {
         module_dir,
         module_ext,
         build_dir: None,
-    })
-}
-
-/// The target `t` with these scan documents and infos, which keeps these modules to itself. Modules go to `mod` and end in
-/// `.bmi`.
-fn target(
-    alloc: Global,
-    scans: &[&str],
-    infos: &[&str],
-    kept: &[&str],
-) -> Result<Target, AllocError> {
-    Ok(Target {
-        name: target_name(alloc, "t")?,
-        setting: setting(alloc, "mod", ".bmi")?,
-        scans: documents(alloc, scans)?,
-        infos: documents(alloc, infos)?,
-        kept: names(alloc, kept)?,
     })
 }
 
@@ -110,12 +86,54 @@ fn map_fault_text(alloc: Global, fault: &MapFault) -> Result<Vec<u8>, AllocError
     }
 }
 
+/// Why there is no table; of some faults with all that they say.
+fn table_fault_text(alloc: Global, fault: &TableFault) -> Result<String, AllocError> {
+    match fault {
+        TableFault::ProvidedTwice {
+            name,
+            first,
+            second,
+        } => format!(in alloc; "{fault} {} {first:?} {second:?}", name.text()),
+        TableFault::ModuleUnknown { name, object } => {
+            format!(in alloc; "{fault} {} {object}", name.text())
+        }
+        TableFault::InfoUnknown {
+            target,
+            module_name,
+            name,
+        } => {
+            format!(in alloc;
+                "{fault} {} {} {}",
+                target.text(),
+                module_name.text(),
+                name.text()
+            )
+        }
+        TableFault::InfoDisagrees {
+            target,
+            module_name,
+            name,
+        } => {
+            format!(in alloc;
+                "{fault} {} {} {}",
+                target.text(),
+                module_name.text(),
+                name.text()
+            )
+        }
+        TableFault::ModulePrivate { name, info, user } => {
+            format!(in alloc; "{fault} {} {info} {user:?}", name.text())
+        }
+        _ => format!(in alloc; "{fault}"),
+    }
+}
+
 /// Why a target does not collate.
 fn refusal_text(alloc: Global, refusal: &Refusal) -> Result<Vec<u8>, AllocError> {
     let text = match refusal {
         Refusal::Scan { index, fault } => format!(in alloc; "scan {index}: {fault}")?,
         Refusal::Info { index, fault } => format!(in alloc; "info {index}: {fault}")?,
-        Refusal::Table { fault } => format!(in alloc; "{fault}")?,
+        Refusal::Table { fault } => table_fault_text(alloc, fault)?,
         Refusal::StatementTooLong { statement } => {
             format!(in alloc; "Y2 StatementTooLong statement {statement}")?
         }
@@ -145,15 +163,48 @@ fn collated_text(alloc: Global, collated: Collated) -> Result<Vec<u8>, AllocErro
     Ok(out)
 }
 
-/// What the target collates to, or why it does not.
+/// What the target `t` of these documents collates to, or why it does not. It keeps these modules to itself.
 fn answer<M: MapStyle>(
     alloc: Global,
-    target: &Target,
+    scans: &[&[u8]],
+    infos: &[&[u8]],
+    kept: &[&str],
     style: Option<&M>,
 ) -> Result<Vec<u8>, AllocError> {
-    match collate(alloc, target, style) {
+    let name = target_name(alloc, "t")?;
+    let setting = setting(alloc)?;
+    let kept = names(alloc, kept)?;
+    let target = Target {
+        name: &name,
+        setting: &setting,
+        scans,
+        infos,
+        kept: &kept,
+    };
+    match collate(alloc, &target, style) {
         Ok(collated) => collated_text(alloc, collated),
         Err(Failure::Memory) => Err(AllocError),
         Err(Failure::Fault(refusal)) => refusal_text(alloc, &refusal),
+    }
+}
+
+/// The graph of a listing.
+fn graph_of(alloc: Global, listing: &[u8]) -> Result<Graph, AllocError> {
+    let mut reader = ListingReader::new(alloc);
+    if reader.feed(listing).is_err() {
+        return Err(AllocError);
+    }
+    match reader.finish() {
+        Ok(graph) => Ok(graph),
+        Err(_failure) => Err(AllocError),
+    }
+}
+
+/// The listing of a graph.
+fn listing_of(alloc: Global, graph: &Graph) -> Result<Vec<u8>, AllocError> {
+    let mut out = Counted::new(Vec::new(alloc));
+    match listing_write(alloc, graph, &mut out) {
+        Ok(()) => Ok(out.into_inner()),
+        Err(_failure) => Err(AllocError),
     }
 }

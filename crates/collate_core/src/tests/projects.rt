@@ -1,58 +1,88 @@
 //! Projects: targets that link earlier ones.
 
-use super::{collated_text, documents, names, refusal_text, setting, target_name};
-use crate::{Gcc, MapStyle, ProjectTarget, project};
+use super::{collated_text, graph_of, listing_of, names, path, refusal_text, setting, target_name};
+use crate::{Collated, Gcc, MapStyle, ProjectTarget, project, rehearse};
 use ninja_text::Failure;
+use scan_docs::{Name, TargetName};
 use std::alloc::{AllocError, Global};
 use std::test::Fail;
 
-/// A target with one scan document, which links the targets of these indexes.
+/// The parts of a target with one scan document.
+#[derive(Drop)]
+struct Parts {
+    name: TargetName,
+    scans: Vec<&'static [u8]>,
+    linked: Vec<usize>,
+    kept: Vec<Name>,
+}
+
+/// The parts of a target that links the targets of these indexes, and keeps these modules to itself.
 fn linking(
     alloc: Global,
     name: &str,
-    scan: &str,
+    scan: &'static [u8],
     linked: &[usize],
     kept: &[&str],
-) -> Result<ProjectTarget, AllocError> {
-    Ok(ProjectTarget {
+) -> Result<Parts, AllocError> {
+    Ok(Parts {
         name: target_name(alloc, name)?,
-        setting: setting(alloc, "mod", ".bmi")?,
-        scans: documents(alloc, &[scan])?,
+        scans: vec![in alloc; scan]?,
         linked: Vec::from_slice(alloc, linked)?,
         kept: names(alloc, kept)?,
     })
 }
 
-/// What each target collates to, or the first refusal with the index of its target.
-fn answer<M: MapStyle>(
+/// What the targets of these parts collate to, or the text of the first refusal with the index of its target.
+fn collated<M: MapStyle>(
     alloc: Global,
-    targets: &[ProjectTarget],
+    parts: &[Parts],
     style: Option<&M>,
-) -> Result<Vec<u8>, AllocError> {
-    let mut out = Vec::new(alloc);
-    match project(alloc, targets, style) {
-        Ok(done) => {
-            for collated in done.targets {
-                out.extend_from_slice(&collated_text(alloc, collated)?)?;
-            }
-        }
-        Err(Failure::Memory) => return Err(AllocError),
+) -> Result<Result<Vec<Collated>, Vec<u8>>, AllocError> {
+    let setting = setting(alloc)?;
+    let mut targets = Vec::new(alloc);
+    for part in parts {
+        targets.push(ProjectTarget {
+            name: &part.name,
+            setting: &setting,
+            scans: &part.scans,
+            linked: &part.linked,
+            kept: &part.kept,
+        })?;
+    }
+    match project(alloc, &targets, style) {
+        Ok(done) => Ok(Ok(done.targets)),
+        Err(Failure::Memory) => Err(AllocError),
         Err(Failure::Fault((index, refusal))) => {
-            out.extend_from_slice(format!(in alloc; "target {index}: ")?.as_bytes())?;
+            let text = format!(in alloc; "target {index}: ")?;
+            let mut out = Vec::from_slice(alloc, text.as_bytes())?;
             out.extend_from_slice(&refusal_text(alloc, &refusal)?)?;
+            Ok(Err(out))
         }
     }
-    Ok(out)
 }
 
-const PROVIDES_B: &str =
-    r#"{"version":1,"rules":[{"primary-output":"l.o","provides":[{"logical-name":"B"}]}]}"#;
+/// The texts of what each target collates to, or the first refusal.
+fn answer(alloc: Global, parts: &[Parts]) -> Result<Vec<u8>, AllocError> {
+    match collated(alloc, parts, Some(&Gcc))? {
+        Ok(done) => {
+            let mut out = Vec::new(alloc);
+            for collated in done {
+                out.extend_from_slice(&collated_text(alloc, collated)?)?;
+            }
+            Ok(out)
+        }
+        Err(refusal) => Ok(refusal),
+    }
+}
 
-const PROVIDES_K: &str =
-    r#"{"version":1,"rules":[{"primary-output":"k.o","provides":[{"logical-name":"K"}],"requires":[{"logical-name":"B"}]}]}"#;
+const PROVIDES_B: &[u8] =
+    br#"{"version":1,"rules":[{"primary-output":"l.o","provides":[{"logical-name":"B"}]}]}"#;
 
-const NEEDS_K: &str =
-    r#"{"version":1,"rules":[{"primary-output":"main.o","requires":[{"logical-name":"K"}]}]}"#;
+const PROVIDES_K: &[u8] =
+    br#"{"version":1,"rules":[{"primary-output":"k.o","provides":[{"logical-name":"K"}],"requires":[{"logical-name":"B"}]}]}"#;
+
+const NEEDS_K: &[u8] =
+    br#"{"version":1,"rules":[{"primary-output":"main.o","requires":[{"logical-name":"K"}]}]}"#;
 
 /// Three targets: `K` of the second requires `B` of the first, and the third requires `K`.
 fn three(
@@ -60,47 +90,46 @@ fn three(
     second: &[usize],
     third: &[usize],
     kept: &[&str],
-) -> Result<Vec<ProjectTarget>, AllocError> {
-    let mut targets = Vec::new(alloc);
-    targets.push(linking(alloc, "t0", PROVIDES_B, &[], kept)?)?;
-    targets.push(linking(alloc, "t1", PROVIDES_K, second, &[])?)?;
-    targets.push(linking(alloc, "t2", NEEDS_K, third, &[])?)?;
-    Ok(targets)
-}
-
-#[test]
-fn each_target_sees_the_infos_of_those_that_it_links(rt: HostRuntime) -> Result<(), Fail> {
-    let alloc = rt.alloc();
-    let found = answer(alloc, &three(alloc, &[0], &[0, 1], &[])?, Some(&Gcc))?;
-    let wanted =
-        "ninja_dyndep_version = 1\nbuild l.o | mod/B.bmi: dyndep\n  restat = 1\n{\"modules\":[{\"bmi\":\"mod/B.bmi\",\"name\":\"B\",\"requires\":[],\"visibility\":\"public\"}],\"target\":\"t0\",\"version\":2}\nl.o\nB mod/B.bmi\nninja_dyndep_version = 1\nbuild k.o | mod/K.bmi: dyndep | mod/B.bmi\n  restat = 1\n{\"modules\":[{\"bmi\":\"mod/K.bmi\",\"name\":\"K\",\"requires\":[{\"bmi\":\"mod/B.bmi\",\"name\":\"B\"}],\"visibility\":\"public\"}],\"target\":\"t1\",\"version\":2}\nk.o\nK mod/K.bmi\nB mod/B.bmi\nninja_dyndep_version = 1\nbuild main.o: dyndep | mod/K.bmi\n{\"modules\":[],\"target\":\"t2\",\"version\":2}\nmain.o\nB mod/B.bmi\nK mod/K.bmi\n";
-    assert_eq!(rt; found.as_slice(), wanted.as_bytes());
-    Ok(())
+) -> Result<Vec<Parts>, AllocError> {
+    let mut parts = Vec::new(alloc);
+    parts.push(linking(alloc, "t0", PROVIDES_B, &[], kept)?)?;
+    parts.push(linking(alloc, "t1", PROVIDES_K, second, &[])?)?;
+    parts.push(linking(alloc, "t2", NEEDS_K, third, &[])?)?;
+    Ok(parts)
 }
 
 /// What three targets that link these collate to, or the first refusal.
-fn linked(
+pub(super) fn linked(
     alloc: Global,
     second: &[usize],
     third: &[usize],
     kept: &[&str],
 ) -> Result<Vec<u8>, AllocError> {
-    answer(alloc, &three(alloc, second, third, kept)?, Some(&Gcc))
+    answer(alloc, &three(alloc, second, third, kept)?)
 }
 
 #[test]
 fn the_first_refused_target_is_reported(rt: HostRuntime) -> Result<(), Fail> {
     let alloc = rt.alloc();
     let found = linked(alloc, &[0], &[1], &[])?;
-    assert_eq!(rt; found.as_slice(), "target 2: M6 InfoUnknown".as_bytes());
+    assert_eq!(rt;
+        found.as_slice(),
+        "target 2: M6 InfoUnknown t1 K B".as_bytes()
+    );
     let found = linked(alloc, &[0], &[2], &[])?;
     assert_eq!(rt; found.as_slice(), "target 2: K3 LinkedLater".as_bytes());
     let found = linked(alloc, &[0, 0], &[9], &[])?;
     assert_eq!(rt; found.as_slice(), "target 1: M2 InfoTwice".as_bytes());
     let found = linked(alloc, &[0], &[0], &[])?;
-    assert_eq!(rt; found.as_slice(), "target 2: M5 ModuleUnknown".as_bytes());
+    assert_eq!(rt;
+        found.as_slice(),
+        "target 2: M5 ModuleUnknown K 0".as_bytes()
+    );
     let found = linked(alloc, &[0], &[0, 1], &["B"])?;
-    assert_eq!(rt; found.as_slice(), "target 1: M9 ModulePrivate".as_bytes());
+    assert_eq!(rt;
+        found.as_slice(),
+        "target 1: M9 ModulePrivate B 0 Object(0)".as_bytes()
+    );
     let found = linked(alloc, &[0], &[0, 1], &["X"])?;
     assert_eq!(rt; found.as_slice(), "target 0: M10 PrivateUnknown".as_bytes());
     Ok(())
@@ -109,9 +138,8 @@ fn the_first_refused_target_is_reported(rt: HostRuntime) -> Result<(), Fail> {
 #[test]
 fn a_link_to_a_later_target_comes_before_the_scan_documents(rt: HostRuntime) -> Result<(), Fail> {
     let alloc = rt.alloc();
-    let mut targets = Vec::new(alloc);
-    targets.push(linking(alloc, "t", "{", &[0], &[])?)?;
-    let found = answer(alloc, &targets, Some(&Gcc))?;
+    let parts = vec![in alloc; linking(alloc, "t", b"{", &[0], &[])?]?;
+    let found = answer(alloc, &parts)?;
     assert_eq!(rt; found.as_slice(), "target 0: K3 LinkedLater".as_bytes());
     Ok(())
 }
@@ -120,13 +148,13 @@ fn a_link_to_a_later_target_comes_before_the_scan_documents(rt: HostRuntime) -> 
 fn a_private_module_is_needed_and_mapped_like_any_other(rt: HostRuntime) -> Result<(), Fail> {
     let alloc = rt.alloc();
     let library =
-        r#"{"version":1,"rules":[{"primary-output":"l.o","provides":[{"logical-name":"L"}],"requires":[{"logical-name":"B"}]},{"primary-output":"b.o","provides":[{"logical-name":"B"}]}]}"#;
+        br#"{"version":1,"rules":[{"primary-output":"l.o","provides":[{"logical-name":"L"}],"requires":[{"logical-name":"B"}]},{"primary-output":"b.o","provides":[{"logical-name":"B"}]}]}"#;
     let user =
-        r#"{"version":1,"rules":[{"primary-output":"main.o","requires":[{"logical-name":"L"}]}]}"#;
-    let mut targets = Vec::new(alloc);
-    targets.push(linking(alloc, "l", library, &[], &["B"])?)?;
-    targets.push(linking(alloc, "t", user, &[0], &[])?)?;
-    let found = answer(alloc, &targets, Some(&Gcc))?;
+        br#"{"version":1,"rules":[{"primary-output":"main.o","requires":[{"logical-name":"L"}]}]}"#;
+    let mut parts = Vec::new(alloc);
+    parts.push(linking(alloc, "l", library, &[], &["B"])?)?;
+    parts.push(linking(alloc, "t", user, &[0], &[])?)?;
+    let found = answer(alloc, &parts)?;
     let wanted =
         "ninja_dyndep_version = 1\nbuild l.o | mod/L.bmi: dyndep | mod/B.bmi\n  restat = 1\nbuild b.o | mod/B.bmi: dyndep\n  restat = 1\n{\"modules\":[{\"bmi\":\"mod/L.bmi\",\"name\":\"L\",\"requires\":[{\"bmi\":\"mod/B.bmi\",\"name\":\"B\"}],\"visibility\":\"public\"},{\"bmi\":\"mod/B.bmi\",\"name\":\"B\",\"requires\":[],\"visibility\":\"private\"}],\"target\":\"l\",\"version\":2}\nl.o\nL mod/L.bmi\nB mod/B.bmi\nb.o\nB mod/B.bmi\nninja_dyndep_version = 1\nbuild main.o: dyndep | mod/L.bmi\n{\"modules\":[],\"target\":\"t\",\"version\":2}\nmain.o\nB mod/B.bmi\nL mod/L.bmi\n";
     assert_eq!(rt; found.as_slice(), wanted.as_bytes());
@@ -135,7 +163,51 @@ fn a_private_module_is_needed_and_mapped_like_any_other(rt: HostRuntime) -> Resu
 
 #[test]
 fn no_targets_collate_to_nothing(rt: HostRuntime) -> Result<(), Fail> {
-    let found = answer::<Gcc>(rt.alloc(), &[], None)?;
+    let found = answer(rt.alloc(), &[])?;
     assert_eq!(rt; found.as_slice(), "".as_bytes());
+    Ok(())
+}
+
+/// One edge for each object of the three targets, which names the dyndep file of its target.
+const EDGES: &[u8] =
+    b"build l.o: cxx l.cpp || t0.dd\n  dyndep = t0.dd\nbuild k.o: cxx k.cpp || t1.dd\n  dyndep = t1.dd\nbuild main.o: cxx main.cpp || t2.dd\n  dyndep = t2.dd\n";
+
+const EDGES_AFTER: &[u8] =
+    b"build l.o | mod/B.bmi: cxx l.cpp || t0.dd\n  dyndep = t0.dd\n  restat = 1\nbuild k.o | mod/K.bmi: cxx k.cpp | mod/B.bmi || t1.dd\n  dyndep = t1.dd\n  restat = 1\nbuild main.o: cxx main.cpp | mod/K.bmi || t2.dd\n  dyndep = t2.dd\n";
+
+/// The listing of the edges after the dyndep files of the targets of these indexes, one after another.
+fn applied(alloc: Global, done: &[Collated], order: &[usize]) -> Result<Vec<u8>, AllocError> {
+    let mut graph = graph_of(alloc, EDGES)?;
+    for index in order {
+        let Some(collated) = done.get(*index) else {
+            return Err(AllocError);
+        };
+        let file = path(alloc, format!(in alloc; "t{index}.dd")?.as_str())?;
+        match rehearse(alloc, collated.dyndep(), &file, &graph, &[]) {
+            Ok(new) => graph = new,
+            Err(_failure) => return Err(AllocError),
+        }
+    }
+    listing_of(alloc, &graph)
+}
+
+#[test]
+fn the_files_of_a_project_have_one_effect_in_any_order(rt: HostRuntime) -> Result<(), Fail> {
+    let alloc = rt.alloc();
+    let parts = three(alloc, &[0], &[0, 1], &[])?;
+    let done = match collated::<Gcc>(alloc, &parts, None)? {
+        Ok(done) => done,
+        Err(_refusal) => return Err(Fail::from(AllocError)),
+    };
+    for order in [
+        [0usize, 1, 2],
+        [0, 2, 1],
+        [1, 0, 2],
+        [1, 2, 0],
+        [2, 0, 1],
+        [2, 1, 0],
+    ] {
+        assert_eq!(rt; applied(alloc, &done, &order)?.as_slice(), EDGES_AFTER);
+    }
     Ok(())
 }

@@ -1,99 +1,26 @@
 //! Dyndep texts on graphs, and the order of the edges afterwards.
-ghost use Rattle.std.specs.Prelude.{◌≢◌, [], All, IsTrue};
 
-use super::{TWO_OBJECTS, TWO_OBJECTS_DYNDEP, path, push_line, target};
-use crate::{Collated, Gcc, RehearseFault, check_edges, collate, rehearse};
-use build_effect::{Edge, Graph};
+use super::{TWO_OBJECTS, TWO_OBJECTS_DYNDEP, graph_of, listing_of, path, setting, target_name};
+use crate::{Collated, Gcc, RehearseFault, Target, check_edges, collate, rehearse};
+use build_effect::{Graph, edge_order};
 use dep_order::Sorting;
 use dyndep_file::ReadFault;
-use ninja_text::{Failure, Path};
+use ninja_text::Failure;
 use std::alloc::{AllocError, Global};
 use std::test::Fail;
 
-fn paths(alloc: Global, texts: &[&str]) -> Result<Vec<Path>, AllocError> {
-    let mut paths = Vec::new(alloc);
-    for text in texts {
-        paths.push(path(alloc, *text)?)?;
-    }
-    Ok(paths)
-}
+/// The compilations of two objects, which name `t.dd`, and a library of both.
+const LIBRARY: &[u8] =
+    b"build a.o: cxx a.cpp || t.dd\n  dyndep = t.dd\nbuild b.o: cxx b.cpp || t.dd\n  dyndep = t.dd\nbuild lib: ar a.o b.o\n";
 
-/// An edge; with a dyndep file it is a compilation, which waits for that file.
-fn edge(
-    alloc: Global,
-    output: &str,
-    inputs: &[&str],
-    dyndep: Option<&str>,
-) -> Result<Edge, AllocError> {
-    let (order_only, dyndep) = match dyndep {
-        Some(file) => (paths(alloc, &[file])?, Some(path(alloc, file)?)),
-        None => (Vec::new(alloc), None),
-    };
-    Ok(Edge {
-        rule: Vec::from_slice(alloc, b"cc")?,
-        outputs: paths(alloc, &[output])?,
-        implicit_outputs: Vec::new(alloc),
-        inputs: paths(alloc, inputs)?,
-        implicit_inputs: Vec::new(alloc),
-        order_only,
-        dyndep,
-        restat: false,
-    })
-}
+const LIBRARY_AFTER: &[u8] =
+    b"build a.o | mod/A.bmi: cxx a.cpp | mod/B.bmi || t.dd\n  dyndep = t.dd\n  restat = 1\nbuild b.o | mod/B.bmi: cxx b.cpp || t.dd\n  dyndep = t.dd\n  restat = 1\nbuild lib: ar a.o b.o\n";
 
-/// Whether each edge has an output, as `Graph::new` requires.
-fn have_outputs(edges: &[Edge]) -> bool
-    ensures { IsTrue result → All (λ e. e.outputs ≢ []) edges.now }
-{
-    for edge in edges {
-        if edge.outputs.is_empty() {
-            return false;
-        }
-    }
-    true
-}
+/// The compilations of two objects, of which the second one also needs a file that is made of the first one.
+const GENERATED: &[u8] =
+    b"build a.o: cxx a.cpp || t.dd\n  dyndep = t.dd\nbuild b.o: cxx b.cpp gen.h || t.dd\n  dyndep = t.dd\nbuild gen.h: gen a.o\n";
 
-fn graph_of(alloc: Global, edges: Vec<Edge>) -> Result<Graph, AllocError> {
-    if !have_outputs(&edges) {
-        return Err(AllocError);
-    }
-    match Graph::new(alloc, edges) {
-        Ok(graph) => Ok(graph),
-        Err(_failure) => Err(AllocError),
-    }
-}
-
-/// The compilations of `a.o` and `b.o`, which name `t.dd`, and a library of both; `b.o` also needs these.
-fn library(alloc: Global, generated: &[&str]) -> Result<Vec<Edge>, AllocError> {
-    let a = edge(alloc, "a.o", &["a.cpp"], Some("t.dd"))?;
-    let b = edge(alloc, "b.o", generated, Some("t.dd"))?;
-    let lib = edge(alloc, "lib", &["a.o", "b.o"], None)?;
-    Ok(vec![in alloc; a, b, lib]?)
-}
-
-/// Each edge in words: its first output, its implicit outputs and inputs, and whether `restat` is on.
-fn graph_text(alloc: Global, graph: &Graph) -> Result<Vec<u8>, AllocError> {
-    let mut out = Vec::new(alloc);
-    for edge in graph.edges() {
-        push_paths(&mut out, &edge.outputs)?;
-        out.push(b'|')?;
-        push_paths(&mut out, &edge.implicit_outputs)?;
-        out.push(b':')?;
-        push_paths(&mut out, &edge.implicit_inputs)?;
-        push_line(&mut out, if edge.restat { b"restat" } else { b"" })?;
-    }
-    Ok(out)
-}
-
-fn push_paths(out: &mut Vec<u8>, paths: &[Path]) -> Result<(), AllocError> {
-    for path in paths {
-        out.extend_from_slice(path.bytes())?;
-        out.push(b' ')?;
-    }
-    Ok(())
-}
-
-/// The graph after the rehearsal, or why there is none.
+/// The listing after the rehearsal, or why there is none.
 fn rehearsed(
     alloc: Global,
     text: &[u8],
@@ -102,7 +29,7 @@ fn rehearsed(
     cuts: &[usize],
 ) -> Result<Vec<u8>, AllocError> {
     match rehearse(alloc, text, &path(alloc, name)?, graph, cuts) {
-        Ok(new) => graph_text(alloc, &new),
+        Ok(new) => listing_of(alloc, &new),
         Err(Failure::Memory) => Err(AllocError),
         Err(Failure::Fault(fault)) => rehearse_fault_text(alloc, &fault),
     }
@@ -123,16 +50,14 @@ fn read_fault_text(alloc: Global, fault: &ReadFault) -> Result<String, AllocErro
     }
 }
 
-const AFTER: &str = "a.o |mod/A.bmi :mod/B.bmi restat\nb.o |mod/B.bmi :restat\nlib |:\n";
-
 #[test]
 fn the_effect_is_the_same_for_every_cutting(rt: HostRuntime) -> Result<(), Fail> {
     let alloc = rt.alloc();
-    let graph = graph_of(alloc, library(alloc, &["b.cpp"])?)?;
-    let text = TWO_OBJECTS_DYNDEP.as_bytes();
+    let graph = graph_of(alloc, LIBRARY)?;
+    let text = TWO_OBJECTS_DYNDEP;
     for first in 0..text.len() + 2 {
         let found = rehearsed(alloc, text, "./t.dd", &graph, &[first])?;
-        assert_eq!(rt; found.as_slice(), AFTER.as_bytes());
+        assert_eq!(rt; found.as_slice(), LIBRARY_AFTER);
     }
     let mut bytes = Vec::new(alloc);
     for _ in 0..text.len() {
@@ -140,7 +65,7 @@ fn the_effect_is_the_same_for_every_cutting(rt: HostRuntime) -> Result<(), Fail>
         bytes.push(0usize)?;
     }
     let found = rehearsed(alloc, text, "t.dd", &graph, &bytes)?;
-    assert_eq!(rt; found.as_slice(), AFTER.as_bytes());
+    assert_eq!(rt; found.as_slice(), LIBRARY_AFTER);
     Ok(())
 }
 
@@ -150,8 +75,8 @@ fn a_text_that_is_no_dyndep_file_is_refused_whatever_the_graph(
 ) -> Result<(), Fail> {
     let alloc = rt.alloc();
     let text = b"ninja_dyndep_version = 1\nrule cc\n";
-    let empty = graph_of(alloc, Vec::new(alloc))?;
-    let full = graph_of(alloc, library(alloc, &["b.cpp"])?)?;
+    let empty = graph_of(alloc, b"")?;
+    let full = graph_of(alloc, LIBRARY)?;
     for cut in [0usize, 1, 25, 30, 100] {
         let found = rehearsed(alloc, text, "t.dd", &empty, &[cut])?;
         assert_eq!(rt; found.as_slice(), "line 2: Y8 BadLine".as_bytes());
@@ -164,7 +89,7 @@ fn a_text_that_is_no_dyndep_file_is_refused_whatever_the_graph(
 #[test]
 fn statements_without_an_effect_are_refused(rt: HostRuntime) -> Result<(), Fail> {
     let alloc = rt.alloc();
-    let graph = graph_of(alloc, library(alloc, &["b.cpp"])?)?;
+    let graph = graph_of(alloc, LIBRARY)?;
     for (text, wanted) in [
         (
             "ninja_dyndep_version = 1\nbuild a.o: dyndep\n",
@@ -185,24 +110,47 @@ fn statements_without_an_effect_are_refused(rt: HostRuntime) -> Result<(), Fail>
     Ok(())
 }
 
-/// The first outputs of the edges in order or on the least cycle, or why there is no effect.
+/// What the two objects collate to.
+fn two_objects(alloc: Global) -> Result<Collated, AllocError> {
+    let name = target_name(alloc, "t")?;
+    let setting = setting(alloc)?;
+    let target = Target {
+        name: &name,
+        setting: &setting,
+        scans: &[TWO_OBJECTS],
+        infos: &[],
+        kept: &[],
+    };
+    match collate::<Gcc>(alloc, &target, None) {
+        Ok(collated) => Ok(collated),
+        Err(_failure) => Err(AllocError),
+    }
+}
+
+/// The edges in order or on the least cycle, or why there is no effect.
 fn checked(
     alloc: Global,
     collated: &Collated,
     name: &str,
     graph: &Graph,
 ) -> Result<Vec<u8>, AllocError> {
-    let (word, indexes) = match check_edges(alloc, collated, &path(alloc, name)?, graph) {
-        Ok(Sorting::Order(indexes)) => ("order", indexes),
-        Ok(Sorting::Cycle(indexes)) => ("cycle", indexes),
-        Err(Failure::Memory) => return Err(AllocError),
+    match check_edges(alloc, collated, &path(alloc, name)?, graph) {
+        Ok(sorting) => sorting_text(alloc, &sorting),
+        Err(Failure::Memory) => Err(AllocError),
         Err(Failure::Fault(fault)) => {
             let text = format!(in alloc; "{fault}")?;
-            return Vec::from_slice(alloc, text.as_bytes());
+            Vec::from_slice(alloc, text.as_bytes())
         }
+    }
+}
+
+fn sorting_text(alloc: Global, sorting: &Sorting) -> Result<Vec<u8>, AllocError> {
+    let (word, indexes) = match sorting {
+        Sorting::Order(indexes) => ("order", indexes),
+        Sorting::Cycle(indexes) => ("cycle", indexes),
     };
     let mut out = Vec::from_slice(alloc, word.as_bytes())?;
-    for index in &indexes {
+    for index in indexes {
         let text = format!(in alloc; " {index}")?;
         out.extend_from_slice(text.as_bytes())?;
     }
@@ -212,29 +160,19 @@ fn checked(
 #[test]
 fn edges_are_checked_after_the_effect(rt: HostRuntime) -> Result<(), Fail> {
     let alloc = rt.alloc();
-    let collated = match collate::<Gcc>(alloc, &target(alloc, &[TWO_OBJECTS], &[], &[])?, None) {
-        Ok(collated) => collated,
-        Err(_failure) => return Err(Fail::from(AllocError)),
-    };
-    assert_eq!(rt; collated.dyndep(), TWO_OBJECTS_DYNDEP.as_bytes());
+    let collated = two_objects(alloc)?;
+    assert_eq!(rt; collated.dyndep(), TWO_OBJECTS_DYNDEP);
     assert_eq!(rt; collated.maps().len(), 0);
     assert_eq!(rt; collated.objects().len(), 2);
-    let graph = graph_of(alloc, library(alloc, &["b.cpp"])?)?;
-    assert_eq!(rt;
-        checked(alloc, &collated, "t.dd", &graph)?.as_slice(),
-        "order 1 0 2".as_bytes()
-    );
-    // `gen.h` is made of `a.o`, and `b.o` needs it: no cycle before the effect
-    let mut edges = library(alloc, &["b.cpp", "gen.h"])?;
-    edges.push(edge(alloc, "gen.h", &["a.o"], None)?)?;
-    let graph = graph_of(alloc, edges)?;
-    assert_eq!(rt;
-        checked(alloc, &collated, "t.dd", &graph)?.as_slice(),
-        "cycle 0 1 3".as_bytes()
-    );
-    assert_eq!(rt;
-        checked(alloc, &collated, "u.dd", &graph)?.as_slice(),
-        "E5 NotBound".as_bytes()
-    );
+    let found = checked(alloc, &collated, "t.dd", &graph_of(alloc, LIBRARY)?)?;
+    assert_eq!(rt; found.as_slice(), "order 1 0 2".as_bytes());
+    // no cycle before the effect
+    let graph = graph_of(alloc, GENERATED)?;
+    let before = sorting_text(alloc, &edge_order(alloc, &graph)?)?;
+    assert_eq!(rt; before.as_slice(), "order 0 2 1".as_bytes());
+    let found = checked(alloc, &collated, "t.dd", &graph)?;
+    assert_eq!(rt; found.as_slice(), "cycle 0 1 2".as_bytes());
+    let found = checked(alloc, &collated, "u.dd", &graph)?;
+    assert_eq!(rt; found.as_slice(), "E5 NotBound".as_bytes());
     Ok(())
 }

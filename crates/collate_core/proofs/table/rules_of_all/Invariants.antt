@@ -3,4 +3,4 @@ use Rattle.collate_core.proofs.Scans.{ScansSoFar}
 use Rattle.collate_core.proofs.table.rules_of_all.Given as goal
 
 abbrev pub invariant-loop-index : goal.invariant-loop-index
-invariant-loop-index l = ScansSoFar l.setting (map (λ scan. scan.items) l.scans) l.index l.rules.items
+invariant-loop-index l = ScansSoFar l.setting (map (λ scan. scan.now) l.scans) l.index l.rules.items
