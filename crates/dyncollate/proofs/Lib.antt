@@ -1,7 +1,9 @@
 pub mod Arguments
 pub mod Commands
 pub mod Documents
+pub mod Dyndeps
 pub mod Examples
+pub mod Listings
 pub mod Readings
 pub mod Results
 pub mod Tasks

@@ -1,7 +1,12 @@
 pub mod Answers
 pub mod CollateCommand
+pub mod Dyndeps
+pub mod EdgeFaults
+pub mod Effect
 pub mod Files
+pub mod Listings
 pub mod One
+pub mod Order
 pub mod Printing
 pub mod RefusalTexts
 pub mod Runs

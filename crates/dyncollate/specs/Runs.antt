@@ -5,16 +5,23 @@ use Rattle.std.specs.declared.io.Error.{Error}
 use Rattle.dyncollate.specs.declared.answer.Answer.{Answer}
 use Rattle.dyncollate.specs.Answers.{Fails}
 use Rattle.dyncollate.specs.CollateCommand.{Reading, AnswersCollate}
+use Rattle.dyncollate.specs.Dyndeps.{AnswersDyndep}
+use Rattle.dyncollate.specs.Effect.{AnswersFiles}
+use Rattle.dyncollate.specs.Listings.{AnswersListing}
 use Rattle.dyncollate.specs.One.{setting_of, AnswersDocument}
-use Rattle.dyncollate.specs.Show.{AnswersDyndep}
-use Rattle.dyncollate.specs.Tasks.{TaskValue, one, collate, show, file_of}
+use Rattle.dyncollate.specs.Order.{AnswersOrder}
+use Rattle.dyncollate.specs.Show.{AnswersShown}
+use Rattle.dyncollate.specs.Tasks.{TaskValue, one, collate, show, effect, order, file_of}
 
 -- what a run answers to the bytes of its file, where others are read like this
 abbrev pub AnswersBytes : TaskValue → Reading → List ℕ → Answer → Type 0
 AnswersBytes (one scan dir ext) reading bytes answer =
     AnswersDocument (setting_of dir ext) bytes answer
 AnswersBytes (collate target) reading bytes answer = AnswersCollate bytes reading answer
-AnswersBytes (show dyndep) reading bytes answer = AnswersDyndep bytes answer
+AnswersBytes (show dyndep) reading bytes answer = AnswersDyndep AnswersShown bytes answer
+AnswersBytes (effect name edges dyndep) reading bytes answer =
+    AnswersFiles name bytes dyndep (reading dyndep) answer
+AnswersBytes (order edges) reading bytes answer = AnswersListing AnswersOrder bytes answer
 
 -- the bytes of the file are answered, or the run fails with the name of the file that can't be read
 abbrev pub AnswersRead : TaskValue → Reading → Result (Vec ℕ Global) Error → Answer → Type 0

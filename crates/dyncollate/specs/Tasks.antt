@@ -10,17 +10,23 @@ pub data TaskValue : Type 0 where
   one : List ℕ → List ℕ → List ℕ → TaskValue
   collate : List ℕ → TaskValue
   show : List ℕ → TaskValue
+  effect : List ℕ → List ℕ → List ℕ → TaskValue
+  order : List ℕ → TaskValue
 
 abbrev pub task_value : Task → TaskValue
 task_value (task.One scan dir ext) = one scan.now dir.now ext.now
 task_value (task.Collate target) = collate target.now
 task_value (task.Show dyndep) = show dyndep.now
+task_value (task.Effect name edges dyndep) = effect name.now edges.now dyndep.now
+task_value (task.Order edges) = order edges.now
 
 -- the file that a task reads first
 abbrev pub file_of : TaskValue → List ℕ
 file_of (one scan dir ext) = scan
 file_of (collate target) = target
 file_of (show dyndep) = dyndep
+file_of (effect name edges dyndep) = edges
+file_of (order edges) = edges
 
 -- two bytes or more that begin with a hyphen
 abbrev pub is_flag : List ℕ → Bool
@@ -50,12 +56,24 @@ abbrev pub show_of : List (List ℕ) → Option TaskValue
 show_of (dyndep ∷ []) = Some (show dyndep)
 show_of _ = None
 
+-- as many arguments as `effect` has
+abbrev pub effect_of : List (List ℕ) → Option TaskValue
+effect_of (name ∷ edges ∷ dyndep ∷ []) = Some (effect name edges dyndep)
+effect_of _ = None
+
+-- as many arguments as `order` has
+abbrev pub order_of : List (List ℕ) → Option TaskValue
+order_of (edges ∷ []) = Some (order edges)
+order_of _ = None
+
 -- the task of a command and its arguments
 abbrev pub task_from : List ℕ → List (List ℕ) → Option TaskValue
 task_from command given =
     if bytes_eq command (codes "one") then one_of given
     else (if bytes_eq command (codes "collate") then collate_of given
-    else (if bytes_eq command (codes "show") then show_of given else None))
+    else (if bytes_eq command (codes "show") then show_of given
+    else (if bytes_eq command (codes "effect") then effect_of given
+    else (if bytes_eq command (codes "order") then order_of given else None))))
 
 -- what the words behind the program's name ask for, where they are a proper call
 abbrev pub task_in : List (List ℕ) → Option TaskValue

@@ -110,7 +110,7 @@ fn fault_line(alloc: Global, message: &[u8]) -> Result<Vec<u8>, AllocError>
 }
 
 /// A byte as it is shown in a line: `?` in place of a control byte.
-fn visible(byte: u8) -> u8
+pub fn visible(byte: u8) -> u8
     ensures { result ≡ visible byte }
 {
     if byte < 32 || byte == 127 { b'?' } else { byte }

@@ -12,8 +12,8 @@ use std::alloc::{AllocError, Global};
 use std::io;
 use std::io::ErrorKind;
 
-/// The names of the files that a task reads besides its own: those that a target document names, scan documents before
-/// infos, where the document is accepted, and else none.
+/// The names of the files that a task reads besides its own, once that could be read: those that a target document names,
+/// scan documents before infos, where the document is accepted; the dyndep file of an effect; and else none.
 pub fn names_of(
     alloc: Global,
     task: &Task,
@@ -21,11 +21,15 @@ pub fn names_of(
 ) -> Result<Vec<String>, AllocError>
     ensures { IfOk result (λ names. NamesOf (task_value task.now) read.now (map string_bytes names.items)) }
 {
+    let Ok(bytes) = read else {
+        return Ok(Vec::new(alloc));
+    };
     match task {
-        Task::Collate { .. } => match read {
-            Ok(bytes) => names_in(alloc, bytes),
-            Err(_) => Ok(Vec::new(alloc)),
-        },
+        Task::Collate { .. } => names_in(alloc, bytes),
+        Task::Effect { dyndep, .. } => {
+            let name = String::from_str(alloc, dyndep)?;
+            Ok(vec![in alloc; name]?)
+        }
         _ => Ok(Vec::new(alloc)),
     }
 }

@@ -31,8 +31,13 @@ use words::{Task, task_of};
 
 mod answer;
 mod collate;
+mod dyndep_text;
+mod edge_fault;
+mod effect;
 mod files;
+mod listing;
 mod one;
+mod order;
 mod print;
 mod reading;
 mod refusal;

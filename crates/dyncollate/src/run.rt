@@ -8,7 +8,9 @@ ghost use Rattle.dyncollate.specs.Runs.{AnswersBytes, AnswersRead};
 
 use crate::answer::Answer;
 use crate::collate::collate_run;
+use crate::effect::effect_files;
 use crate::one::one_run;
+use crate::order::order_run;
 use crate::show::show_run;
 use crate::words::Task;
 use std::alloc::{AllocError, Global};
@@ -46,6 +48,8 @@ fn bytes_run(
         Task::One { dir, ext, .. } => one_run(alloc, bytes, dir, ext),
         Task::Collate { .. } => collate_run(alloc, bytes, files),
         Task::Show { .. } => show_run(alloc, bytes),
+        Task::Effect { name, dyndep, .. } => effect_files(alloc, name, bytes, dyndep, files),
+        Task::Order { .. } => order_run(alloc, bytes),
     }
 }
 

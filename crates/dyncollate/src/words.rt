@@ -22,6 +22,16 @@ pub enum Task<'w> {
     Show {
         dyndep: &'w str,
     },
+    /// Print an edge listing after the effect of the dyndep file that edges call by this name.
+    Effect {
+        name: &'w str,
+        edges: &'w str,
+        dyndep: &'w str,
+    },
+    /// Print the edges of a listing in order.
+    Order {
+        edges: &'w str,
+    },
 }
 
 impl<'w> Task<'w> {
@@ -35,6 +45,8 @@ impl<'w> Task<'w> {
             Task::One { scan, .. } => *scan,
             Task::Collate { target } => *target,
             Task::Show { dyndep } => *dyndep,
+            Task::Effect { edges, .. } => *edges,
+            Task::Order { edges } => *edges,
         }
     }
 }
@@ -105,6 +117,18 @@ fn task_from<'w>(command: &str, given: &[&'w str]) -> Option<Task<'w>>
         },
         "show" => match given {
             [dyndep] => Some(Task::Show { dyndep }),
+            _ => None,
+        },
+        "effect" => match given {
+            [name, edges, dyndep] => Some(Task::Effect {
+                name,
+                edges,
+                dyndep,
+            }),
+            _ => None,
+        },
+        "order" => match given {
+            [edges] => Some(Task::Order { edges }),
             _ => None,
         },
         _ => None,

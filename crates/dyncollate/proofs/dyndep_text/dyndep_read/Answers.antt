@@ -5,8 +5,8 @@ use Rattle.ninja_text.specs.Failure.{ForFault}
 use Rattle.dyndep_file.specs.Reader.{IsFailureIn}
 use Rattle.dyndep_file.specs.declared.faults.ReadFault.{ReadFault}
 use Rattle.dyndep_file.specs.declared.faults.ReadFault.TheVariants.{AtLine, Io}
-use Rattle.dyncollate.specs.Show.{IsTold}
-use Rattle.dyncollate.proofs.show.read.Goals as goal
+use Rattle.dyncollate.specs.Dyndeps.{IsTold}
+use Rattle.dyncollate.proofs.dyndep_text.dyndep_read.Goals as goal
 
 -- a fault that the reader told of the text so far is one of the text
 told : (text : List ℕ) (failure : Failure ReadFault) → IsFailureIn text failure → ForFault (IsTold text) failure
