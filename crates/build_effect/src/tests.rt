@@ -1,14 +1,17 @@
-//! What no clause says: worked examples whose answers are known, and that a call succeeds where memory is left.
+//! What no clause says: worked examples whose answers are known, and that a call succeeds where
+//! memory is left.
 //!
-//! Paths are given as texts. An answer is compared as the listing of its edges, as the line of a fault, or as the first
-//! outputs of edges in order.
+//! Paths are given as texts. An answer is compared as the listing of its edges, as the line of a
+//! fault, or as the first outputs of edges in order.
 ghost use Rattle.std.specs.Prelude.{◌≢◌, [], All, IsTrue};
 
 mod effects;
 mod graphs;
+mod growths;
 mod listings;
 mod orders;
 mod several_files;
+mod writing;
 
 use crate::{Edge, EffectFault, Graph, GraphFault, apply};
 use dyndep_file::{Dyndep, Statement};

@@ -7,8 +7,20 @@ use std::alloc::{AllocError, Global};
 use std::test::Fail;
 
 /// Two compilations that name the same dyndep file, and a library of both objects.
-const LIBRARY: &[u8] =
-    b"build a.o: cxx a.cpp || t.dd\n  dyndep = t.dd\nbuild b.o: cxx b.cpp || t.dd\n  dyndep = t.dd\nbuild lib: ar a.o b.o\n";
+const LIBRARY: &[u8] = b"build a.o: cxx a.cpp || t.dd
+  dyndep = t.dd
+build b.o: cxx b.cpp || t.dd
+  dyndep = t.dd
+build lib: ar a.o b.o
+";
+
+/// The same, with the dyndep file spelled in other ways.
+const SPELLED_LIBRARY: &[u8] = b"build a.o: cxx a.cpp || ./t.dd
+  dyndep = ./x/../t.dd
+build b.o: cxx b.cpp || x//../t.dd
+  dyndep = ./x/../t.dd
+build lib: ar a.o b.o
+";
 
 type Answer = Result<Vec<u8>, Failure<LineFault>>;
 
@@ -77,6 +89,7 @@ fn faulty_at(alloc: Global, text: &[u8], line: u64, cause: LineCause) -> Result<
 fn a_listing_is_read_in_every_cutting(rt: HostRuntime) -> Result<(), Fail> {
     let alloc = rt.alloc();
     assert!(rt; reads_as(alloc, LIBRARY, LIBRARY)?);
+    assert!(rt; reads_as(alloc, SPELLED_LIBRARY, LIBRARY)?);
     assert!(rt; reads_as(alloc, b"", b"")?);
     assert!(rt; reads_as(alloc, b"# none\n \n\n", b"")?);
     Ok(())
@@ -88,7 +101,11 @@ fn all_parts_of_an_edge_are_read(rt: HostRuntime) -> Result<(), Fail> {
     assert!(rt;
         reads_as(
             alloc,
-            b"build a $\n  ./b | x/../c : r.1 d $\r\n e | f || g $\n\n  restat = 1\n # a comment\n  dyndep = ./g\n",
+            b"build a $\n  ./b | x/../c : r.1 d $\r\n e | f || g $\n
+  restat = 1
+ # a comment
+  dyndep = ./g
+",
             b"build a b | c: r.1 d e | f || g\n  dyndep = g\n  restat = 1\n",
         )?
     );
