@@ -61,6 +61,14 @@ too_long_from index (e ∷ es) = if is_too_long e then Some index else too_long_
 abbrev pub first_too_long : List EdgeValue → Option ℕ
 first_too_long edges = too_long_from 0 edges
 
+-- the text, or the first edge whose build line is too long
+abbrev pub text_unless : Option ℕ → List EdgeValue → Result (List ℕ) ListingWriteFault
+text_unless None edges = Ok (listing_text edges)
+text_unless (Some edge) edges = Err (ListingTooLong edge)
+
+abbrev pub text_or_fault : List EdgeValue → Result (List ℕ) ListingWriteFault
+text_or_fault edges = text_unless (first_too_long edges) edges
+
 -- what stands after a call that failed: before the first byte nothing has changed, and an `Io`
 -- comes of a failed call
 abbrev pub LeavesWriter : {W : Type 0} → (W → Option (List ℕ)) → Counted W → Counted W → List ℕ

@@ -8,5 +8,4 @@ pub mod Added
 pub mod Checked
 pub mod Extended
 pub mod ListingRows
-pub mod ListingTexts
 pub mod ReadLines

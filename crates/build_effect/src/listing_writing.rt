@@ -5,7 +5,7 @@ ghost use Rattle.ninja_text.specs.Counting.{held, IsWritten};
 ghost use Rattle.ninja_text.specs.Failure.{Gives};
 ghost use Rattle.dyndep_file.specs.Writing.{spaced};
 ghost use Rattle.build_effect.specs.ListingWriting.{part_text, edge_line, dyndep_line, restat_line, listing_text, first_too_long, LeavesWriter, WritesInTurn, AnswersFault};
-ghost use Rattle.build_effect.specs.inner.ListingTexts.{text_or_fault};
+ghost use Rattle.build_effect.specs.ListingWriting.{text_or_fault};
 
 use crate::edge::Edge;
 use crate::graph::Graph;
