@@ -18,7 +18,7 @@ pub mod ModulePlaces
 pub mod Numbering
 pub mod Reaching
 pub mod GraphParts
-pub mod SortedPairs
+pub mod ByName
 pub mod NeededPairs
 pub mod Excluded
 pub mod Faultless

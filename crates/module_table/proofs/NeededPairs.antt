@@ -1,73 +1,80 @@
 -- The pairs of the modules that the graph leads to are what the object needs.
-use Rattle.std.proofs.Common.{◌≡◌, ℕ, zero, suc, ◌+◌, ◌<◌, List, [], ◌∷◌, length, Option, Some, None, refl, ap, subst, sym, ◌∙◌, ⊎_elim, arith, slice_get, Contains}
-use Rattle.std.specs.Option.{option_map}
-use Rattle.std.specs.List.{filter_map, cons_option}
+use Rattle.std.proofs.Common.{◌≡◌, ◌≢◌, ℕ, eqb, zero, suc, ◌+◌, ◌<◌, List, [], ◌∷◌, length, map, get_or, false, Option, Some, None, refl, ap, ap₂, subst, sym, ◌∙◌, ⊎_elim, arith, slice_get, Contains}
+use Rattle.std.specs.Borrow.{Bor}
+use Rattle.std.specs.List.{All, AllPairs, filter_map, cons_option}
 use Rattle.std.specs.List.Sorted.{IsSorted, IsPermutation, IsStrictlyIncreasing}
+use Rattle.std.specs.Ordering.{nat_cmp}
+use Rattle.std.proofs.lemmas.Bool.Decides.{nat_tests}
+use Rattle.std.proofs.lemmas.Cmp.{nat_eq_equiv}
 use Rattle.std.proofs.lemmas.Option.{slice_get_within, slice_get-get_or, get_or_from_slice_get}
 use Rattle.std.proofs.lemmas.List.Kept.{AllPairs-from_increasing}
-use Rattle.std.proofs.lemmas.List.Sorted.{Contains-permutation, IsPermutation-sym}
-use Rattle.dep_order.specs.Needs.{NodeNeeds, Reaches, IsReach}
+use Rattle.std.proofs.lemmas.List.Sorted.{IsNonDecreasingBy-from_sort, Contains-permutation, IsPermutation-sym}
+use Rattle.std.proofs.lemmas.Map.Keys.{IsDistinct-from_apart, IsDistinct-IsPermutation, IsStrictlyIncreasing-from_distinct}
+use Rattle.dep_order.specs.Needs.{NodeNeeds, Reaches, AreReached}
 use Rattle.module_table.specs.TableValue.{TableValue}
 use Rattle.module_table.specs.Modules.{IsProvided, Provision, provisions}
-use Rattle.module_table.specs.Needed.{ArePairs, IsNeeded}
+use Rattle.module_table.specs.Needed.{ArePairs, IsNeeded, Precedes, lent}
 use Rattle.module_table.specs.Sound.{IsSound}
-use Rattle.module_table.specs.Located.{places_of}
-use Rattle.module_table.specs.Places.{pair_at}
+use Rattle.module_table.specs.Shown.{names_of}
 use Rattle.module_table.specs.Graph.{IsModuleGraph}
+use Rattle.module_table.specs.inner.Ranks.{AreRanked}
 use Rattle.module_table.specs.declared.fault.Maker.TheVariants.{Object, Info}
-use Rattle.module_table.proofs.Places.{three_ways, object_provision, info_provision}
-use Rattle.module_table.proofs.Required.{contained, from_filter_map, from_option_map}
+use Rattle.module_table.proofs.Places.{same_some, three_ways, to_map, object_provision, info_provision}
+use Rattle.module_table.proofs.Required.{contained, from_map, from_filter_map}
 use Rattle.module_table.proofs.Checks.{element}
-use Rattle.module_table.proofs.Rings.{in_filter_map}
+use Rattle.module_table.proofs.Rings.{in_filter_map, length_mapped}
 use Rattle.module_table.proofs.Numbering.{placed}
-use Rattle.module_table.proofs.GraphParts.{many_names}
+use Rattle.module_table.proofs.GraphParts.{all_from}
 use Rattle.module_table.proofs.Reaching.{number_at, needed_if_reached, reached_if_needed}
-use Rattle.module_table.proofs.SortedPairs.{Pair, pair_cmp, NamesApart, sorted_rise}
 
--- ---- what is made of different numbers
+abbrev Pair : Type 0
+Pair = List ℕ × List ℕ
 
--- no number stands at two places
+-- ---- different numbers
+
+-- no number stands at two indexes
 abbrev AreDifferent : List ℕ → Type 0
 AreDifferent ns = (i j n : ℕ) → slice_get ns i ≡ Some n → slice_get ns j ≡ Some n → i ≡ j
 
-different : (ns : List ℕ) → IsStrictlyIncreasing ns → AreDifferent ns
-different ns up i j n at_i at_j =
-    let rise = AllPairs-from_increasing ns up in
-    let in_i = slice_get_within ns i n at_i in
-    let in_j = slice_get_within ns j n at_j in
-    let is_i = get_or_from_slice_get ns i n 0 at_i in
-    let is_j = get_or_from_slice_get ns j n 0 at_j in
+different : (ns : List ℕ) → AllPairs (λ one other. one ≢ other) ns → AreDifferent ns
+different ns once i j n at_i at_j =
+    let same : get_or ns i 0 ≡ get_or ns j 0 = get_or_from_slice_get ns i n 0 at_i ∙ sym (get_or_from_slice_get ns j n 0 at_j) in
     ⊎_elim
-    (λ lt. let below = rise i j 0 lt in_j in absurd (omega (arith, below, is_i, is_j)))
-    (λ rest. ⊎_elim (λ e. e) (λ gt. let below = rise j i 0 gt in_i in absurd (omega (arith, below, is_i, is_j))) rest)
+    (λ lt. absurd (once i j 0 lt (slice_get_within ns j n at_j) same))
+    (λ rest. ⊎_elim (λ e. e) (λ gt. absurd (once j i 0 gt (slice_get_within ns i n at_i) (sym same))) rest)
     (three_ways i j)
 
--- the same name stands at one place only
-abbrev AreApart : List Pair → Type 0
-AreApart pairs = (i j : ℕ) (x y : Pair) → slice_get pairs i ≡ Some x → slice_get pairs j ≡ Some y → x.0 ≡ y.0 → i ≡ j
-
-module _ (h : ℕ → Option Pair) (one : (k l : ℕ) (x y : Pair) → h k ≡ Some x → h l ≡ Some y → x.0 ≡ y.0 → k ≡ l) where
+module _ (h : ℕ → Option ℕ) (one : (k l x : ℕ) → h k ≡ Some x → h l ≡ Some x → k ≡ l) where
   -- what the first number makes is nothing that a later one makes
-  not_later : (n : ℕ) (ns : List ℕ) (x y : Pair) (j : ℕ) → AreDifferent (n ∷ ns) → h n ≡ Some x → slice_get (filter_map h ns) j ≡ Some y → x.0 ≡ y.0 → ⊥
-  not_later n ns x y j differ made at same =
-      let from = from_filter_map h ns j y at in
-      let number : n ≡ from.0 = one n from.0 x y made from.2 same in
-      let place = differ 0 (suc from.1.0) n refl (from.1.1 ∙ ap (λ m. Some m) (sym number)) in
-      absurd (omega (arith, place))
+  not_later : (n : ℕ) (ns : List ℕ) (x j : ℕ) → AreDifferent (n ∷ ns) → h n ≡ Some x → slice_get (filter_map h ns) j ≡ Some x → ⊥
+  not_later n ns x j differ made at =
+      let from = from_filter_map h ns j x at in
+      let number : n ≡ from.0 = one n from.0 x made from.2 in
+      let index = differ 0 (suc from.1.0) n refl (from.1.1 ∙ ap (λ m. Some m) (sym number)) in
+      absurd (omega (arith, index))
 
-  apart_behind : (n : ℕ) (ns : List ℕ) → AreDifferent (n ∷ ns) → AreApart (filter_map h ns) → (o : Option Pair) → h n ≡ o → AreApart (cons_option o (filter_map h ns))
-  apart_behind n ns differ rest None made i j x y at_i at_j same = rest i j x y at_i at_j same
-  apart_behind n ns differ rest (Some z) made zero zero x y at_i at_j same = refl
-  apart_behind n ns differ rest (Some z) made zero (suc j) x y at_i at_j same = absurd (not_later n ns x y j differ (made ∙ at_i) at_j same)
-  apart_behind n ns differ rest (Some z) made (suc i) zero x y at_i at_j same = absurd (not_later n ns y x i differ (made ∙ at_j) at_i (sym same))
-  apart_behind n ns differ rest (Some z) made (suc i) (suc j) x y at_i at_j same = ap suc (rest i j x y at_i at_j same)
+  made_behind : (n : ℕ) (ns : List ℕ) → AreDifferent (n ∷ ns) → AreDifferent (filter_map h ns) → (o : Option ℕ) → h n ≡ o → AreDifferent (cons_option o (filter_map h ns))
+  made_behind n ns differ rest None made i j x at_i at_j = rest i j x at_i at_j
+  made_behind n ns differ rest (Some z) made zero zero x at_i at_j = refl
+  made_behind n ns differ rest (Some z) made zero (suc j) x at_i at_j = absurd (not_later n ns x j differ (made ∙ at_i) at_j)
+  made_behind n ns differ rest (Some z) made (suc i) zero x at_i at_j = absurd (not_later n ns x i differ (made ∙ at_j) at_i)
+  made_behind n ns differ rest (Some z) made (suc i) (suc j) x at_i at_j = ap suc (rest i j x at_i at_j)
 
-  apart : (ns : List ℕ) → AreDifferent ns → AreApart (filter_map h ns)
-  apart [] differ = λ i j x y at_i at_j same. cc
-  apart (n ∷ ns) differ = apart_behind n ns differ (apart ns (λ k l m at_k at_l. let e = differ (suc k) (suc l) m at_k at_l in omega (arith, e))) (h n) refl
+  all_made : (ns : List ℕ) → AreDifferent ns → AreDifferent (filter_map h ns)
+  all_made [] differ = λ i j x at_i at_j. cc
+  all_made (n ∷ ns) differ = made_behind n ns differ (all_made ns (λ k l m at_k at_l. let e = differ (suc k) (suc l) m at_k at_l in omega (arith, e))) (h n) refl
 
-names_apart : (pairs : List Pair) → AreApart pairs → NamesApart pairs
-names_apart pairs apart i j in_i in_j same = apart i j _ _ (slice_get-get_or pairs i ([], []) in_i) (slice_get-get_or pairs j ([], []) in_j) same
+not_equal : (x y : ℕ) → x ≢ y → eqb x y ≡ false
+not_equal x y h = grind (arith, nat_tests)
+
+-- different numbers, sorted
+strictly : (ns sorted : List ℕ) → AreDifferent ns → IsPermutation ns sorted → IsSorted nat_cmp sorted → IsStrictlyIncreasing sorted
+strictly ns sorted differ permuted in_order =
+    IsStrictlyIncreasing-from_distinct sorted (IsNonDecreasingBy-from_sort (λ x. x) sorted in_order)
+    (IsDistinct-IsPermutation eqb nat_eq_equiv.symm ns sorted permuted
+    (IsDistinct-from_apart eqb ns
+    (λ i j d lt in_j. not_equal (get_or ns i d) (get_or ns j d)
+    (λ same. let e = differ i j (get_or ns j d) (slice_get-get_or ns i d (omega (arith, lt, in_j)) ∙ ap (λ n. Some n) same) (slice_get-get_or ns j d in_j) in omega (arith, lt, e)))))
 
 -- ---- what an object needs
 
@@ -76,47 +83,108 @@ provision_of : (t : TableValue) (name file : List ℕ) → IsProvided t name fil
 provision_of t name file (Object o, by) = (_, _, object_provision t o by.0 name file by.1, refl, refl)
 provision_of t name file (Info i, by) = (_, _, info_provision t i by.0 by.1 by.2, by.3, by.4)
 
-module _ (t : TableValue) (sound : IsSound t) (graph : List (List ℕ)) (g : IsModuleGraph t graph) (object : ℕ) (within : object < length t.objects)
-    (reached : List ℕ) (reach : IsReach (NodeNeeds graph) (length (places_of t) + object) reached) where
-  abbrev pairs : List Pair
-  pairs = filter_map (pair_at (provisions t)) reached
+module _ (t : TableValue) (sound : IsSound t) (graph : List (List ℕ)) (g : IsModuleGraph t graph) (ranks : List ℕ) (pairs : List Pair) (r : AreRanked (provisions t) ranks pairs) where
+  many : length ranks ≡ length (names_of (provisions t))
+  many = r.as_many ∙ sym (length_mapped (λ (p : Provision). p.name) (provisions t))
 
-  pair_made : (k : ℕ) (x : Pair) → pair_at (provisions t) k ≡ Some x → (p : Provision) × (slice_get (provisions t) k ≡ Some p) × ((p.name, p.file) ≡ x)
-  pair_made k x e = from_option_map (λ (p : Provision). let q : Pair = (p.name, p.file) in q) (slice_get (provisions t) k) x e
+  one_rank : (k l x : ℕ) → slice_get ranks k ≡ Some x → slice_get ranks l ≡ Some x → k ≡ l
+  one_rank k l x at_k at_l =
+      let p = element (provisions t) k (omega (arith, slice_get_within ranks k x at_k, r.as_many)) in
+      let q = element (provisions t) l (omega (arith, slice_get_within ranks l x at_l, r.as_many)) in
+      let a = r.each k p.0 p.1 in
+      let b = r.each l q.0 q.1 in
+      let x_a : a.0 ≡ x = same_some _ _ (sym a.1 ∙ at_k) in
+      let x_b : b.0 ≡ x = same_some _ _ (sym b.1 ∙ at_l) in
+      let same : (p.0.name, p.0.file) ≡ (q.0.name, q.0.file) = same_some _ _ (sym a.2 ∙ ap (slice_get pairs) (x_a ∙ sym x_b) ∙ b.2) in
+      sound.names_differ k l p.0 q.0 p.1 q.1 (ap (λ (z : Pair). z.0) same)
 
-  all_apart : NamesApart pairs
-  all_apart =
-      names_apart pairs
-      (apart (pair_at (provisions t))
-      (λ k l x y at_k at_l same.
-      let p = pair_made k x at_k in
-      let q = pair_made l y at_l in
-      sound.names_differ k l p.0 q.0 p.1 q.1 (ap (λ (z : Pair). z.0) p.2 ∙ same ∙ ap (λ (z : Pair). z.0) (sym q.2)))
-      reached (different reached reach.rising))
+  module _ (object : ℕ) (within : object < length t.objects) (nodes : List ℕ) (reach : AreReached (NodeNeeds graph) (length ranks + object) nodes)
+      (sorted : List ℕ) (permuted : IsPermutation (filter_map (slice_get ranks) nodes) sorted) (in_order : IsSorted nat_cmp sorted) where
+    abbrev found : List ℕ
+    found = filter_map (slice_get ranks) nodes
 
-  only_needed : (name file : List ℕ) → Contains pairs (name, file) → IsNeeded t object name file
-  only_needed name file has =
-      let there = placed pairs (name, file) has in
-      let from = from_filter_map (pair_at (provisions t)) reached there.0 (name, file) there.1 in
-      let p = pair_made from.0 (name, file) from.2 in
-      let rule = element t.objects object within in
-      let chain = subst (λ n. Reaches (NodeNeeds graph) (n + object) from.0) (many_names t) ((reach.exactly from.0).0 (contained reached from.0 from.1)) in
-      subst (λ (x : Pair). IsNeeded t object x.0 x.1) p.2 (needed_if_reached t sound graph g object rule.0 from.0 p.0 rule.1 p.1 chain)
+    -- the module of a rank
+    abbrev IsOfRank : ℕ → ℕ → Provision → Type 0
+    IsOfRank x k p = (slice_get (provisions t) k ≡ Some p) × (slice_get pairs x ≡ Some (p.name, p.file)) × Contains nodes k
 
-  all_needed : (name file : List ℕ) → IsNeeded t object name file → Contains pairs (name, file)
-  all_needed name file needed =
-      let p = provision_of t name file needed.4 in
-      let number = number_at t sound p.0 p.1 p.2 ∙ ap (λ n. Some n) p.3 in
-      let chain = reached_if_needed t sound graph g object name file needed p.0 number in
-      let has = placed reached p.0 ((reach.exactly p.0).1 (subst (λ n. Reaches (NodeNeeds graph) (n + object) p.0) (sym (many_names t)) chain)) in
-      let made : pair_at (provisions t) p.0 ≡ Some (name, file) = ap (option_map (λ (q : Provision). let x : Pair = (q.name, q.file) in x)) p.2 ∙ ap (λ n. Some (n, p.1.file)) p.3 ∙ ap (λ f. Some (name, f)) p.4 in
-      contained pairs (name, file) (in_filter_map (pair_at (provisions t)) reached has.0 p.0 (name, file) has.1 made)
+    module_of : (x : ℕ) → Contains sorted x → (k : ℕ) × (p : Provision) × IsOfRank x k p
+    module_of x has =
+        let there = placed found x (Contains-permutation sorted found x (IsPermutation-sym found sorted permuted) has) in
+        let from = from_filter_map (slice_get ranks) nodes there.0 x there.1 in
+        let p = element (provisions t) from.0 (omega (arith, slice_get_within ranks from.0 x from.2, r.as_many)) in
+        let a = r.each from.0 p.0 p.1 in
+        let rank : x ≡ a.0 = same_some _ _ (sym from.2 ∙ a.1) in
+        (from.0, p.0, (p.1, ap (slice_get pairs) rank ∙ a.2, contained nodes from.0 from.1))
 
-  pub needed_pairs : (sorted : List Pair) → IsPermutation pairs sorted → IsSorted pair_cmp sorted → ArePairs (IsNeeded t object) sorted
-  needed_pairs sorted permuted in_order = record {
-    each = λ name file. (
-      (λ has. only_needed name file (Contains-permutation sorted pairs (name, file) (IsPermutation-sym pairs sorted permuted) has)),
-      (λ needed. Contains-permutation pairs sorted (name, file) permuted (all_needed name file needed)),
-    );
-    rising = sorted_rise pairs sorted permuted in_order all_apart;
-  }
+    pub in_range : (x : ℕ) → Contains sorted x → x < length pairs
+    in_range x has = let m = module_of x has in slice_get_within pairs x _ m.2.1
+
+    module _ (out : List Pair) (is : map (λ (p : Pair). Some p) out ≡ map (slice_get pairs) sorted) where
+      rank_there : (i : ℕ) (x : Pair) → slice_get out i ≡ Some x → (s : ℕ) × (slice_get sorted i ≡ Some s) × (slice_get pairs s ≡ Some x)
+      rank_there i x at = from_map (slice_get pairs) sorted i (Some x) (ap (λ xs. slice_get xs i) (sym is) ∙ to_map (λ (p : Pair). Some p) out i x at)
+
+      pair_there : (i s : ℕ) (x : Pair) → slice_get sorted i ≡ Some s → slice_get pairs s ≡ Some x → slice_get out i ≡ Some x
+      pair_there i s x at is_x =
+          let o = from_map (λ (p : Pair). Some p) out i (slice_get pairs s) (ap (λ xs. slice_get xs i) is ∙ to_map (slice_get pairs) sorted i s at) in
+          o.1 ∙ o.2 ∙ is_x
+
+      only_needed : (name file : List ℕ) → Contains out (name, file) → IsNeeded t object name file
+      only_needed name file has =
+          let there = placed out (name, file) has in
+          let s = rank_there there.0 (name, file) there.1 in
+          let m = module_of s.0 (contained sorted s.0 (there.0, s.1)) in
+          let same : (m.1.name, m.1.file) ≡ (name, file) = same_some _ _ (sym m.2.1 ∙ s.2) in
+          let rule = element t.objects object within in
+          let chain = subst (λ n. Reaches (NodeNeeds graph) (n + object) m.0) many ((reach.exactly m.0).0 m.2.2) in
+          subst (λ (x : Pair). IsNeeded t object x.0 x.1) same (needed_if_reached t sound graph g object rule.0 m.0 m.1 rule.1 m.2.0 chain)
+
+      all_needed : (name file : List ℕ) → IsNeeded t object name file → Contains out (name, file)
+      all_needed name file needed =
+          let p = provision_of t name file needed.4 in
+          let number = number_at t sound p.0 p.1 p.2 ∙ ap (λ n. Some n) p.3 in
+          let chain = reached_if_needed t sound graph g object name file needed p.0 number in
+          let node = placed nodes p.0 ((reach.exactly p.0).1 (subst (λ n. Reaches (NodeNeeds graph) (n + object) p.0) (sym many) chain)) in
+          let a = r.each p.0 p.1 p.2 in
+          let rank = contained found a.0 (in_filter_map (slice_get ranks) nodes node.0 p.0 a.0 node.1 a.1) in
+          let there = placed sorted a.0 (Contains-permutation found sorted a.0 permuted rank) in
+          contained out (name, file) (there.0, pair_there there.0 a.0 (name, file) there.1 (a.2 ∙ ap (λ n. Some (n, p.1.file)) p.3 ∙ ap (λ f. Some (name, f)) p.4))
+
+      rising : AllPairs (λ a b. Precedes a.0 b.0) out
+      rising i j d lt in_j =
+          let x = get_or out i d in
+          let y = get_or out j d in
+          let s = rank_there i x (slice_get-get_or out i d (omega (arith, lt, in_j))) in
+          let u = rank_there j y (slice_get-get_or out j d in_j) in
+          let up = AllPairs-from_increasing sorted (strictly found sorted (all_made (slice_get ranks) one_rank nodes (different nodes reach.once)) permuted in_order) i j 0 lt (slice_get_within sorted j u.0 u.1) in
+          let below : s.0 < u.0 = omega (arith, up, get_or_from_slice_get sorted i s.0 0 s.1, get_or_from_slice_get sorted j u.0 0 u.1) in
+          let names = r.rising s.0 u.0 d below (slice_get_within pairs u.0 y u.2) in
+          subst (λ (z : Pair). Precedes x.0 z.0) (get_or_from_slice_get pairs u.0 y d u.2) (subst (λ (z : Pair). Precedes z.0 (get_or pairs u.0 d).0) (get_or_from_slice_get pairs s.0 x d s.2) names)
+
+      pub needed_pairs : ArePairs (IsNeeded t object) out
+      needed_pairs = record {
+        each = λ name file. (only_needed name file, all_needed name file);
+        rising = rising;
+      }
+
+-- ---- pairs that are lent
+
+abbrev Lent : Type 0
+Lent = Bor (List ℕ) × Bor (List ℕ)
+
+lent_out : (pairs out : List Lent) (ranks : List ℕ) → map (λ (p : Lent). Some p) out ≡ map (slice_get pairs) ranks → map (λ (p : Pair). Some p) (map lent out) ≡ map (slice_get (map lent pairs)) ranks
+lent_out pairs [] [] e = refl
+lent_out pairs [] (rank ∷ ranks) e = cc
+lent_out pairs (x ∷ out) [] e = cc
+lent_out pairs (x ∷ out) (rank ∷ ranks) e =
+    let first : Some x ≡ slice_get pairs rank = cc in
+    let rest : map (λ (p : Lent). Some p) out ≡ map (slice_get pairs) ranks = cc in
+    ap₂ (λ (p : Option Pair) (ps : List (Option Pair)). p ∷ ps) (sym (to_map lent pairs rank x (sym first))) (lent_out pairs out ranks rest)
+
+module _ (t : TableValue) (sound : IsSound t) (graph : List (List ℕ)) (g : IsModuleGraph t graph) (ranks : List ℕ) (pairs : List Lent) (r : AreRanked (provisions t) ranks (map lent pairs))
+    (object : ℕ) (within : object < length t.objects) (nodes : List ℕ) (reach : AreReached (NodeNeeds graph) (length ranks + object) nodes)
+    (sorted : List ℕ) (permuted : IsPermutation (filter_map (slice_get ranks) nodes) sorted) (in_order : IsSorted nat_cmp sorted) where
+  pub all_in_range : All (λ rank. rank < length pairs) sorted
+  all_in_range = all_from (λ rank. rank < length pairs) sorted (λ x has. let lt = in_range t sound graph g ranks (map lent pairs) r object within nodes reach sorted permuted in_order x (contained sorted x has) in omega (arith, lt, length_mapped lent pairs))
+
+  pub needed_lent : (out : List Lent) → map (λ (p : Lent). Some p) out ≡ map (slice_get pairs) sorted → ArePairs (IsNeeded t object) (map lent out)
+  needed_lent out is = needed_pairs t sound graph g ranks (map lent pairs) r object within nodes reach sorted permuted in_order (map lent out) (lent_out pairs out sorted is)

@@ -59,7 +59,7 @@ by_places Before xs all i j a b lt at_i at_j =
     subst (λ x. Before x b) (get_or_from_slice_get xs i a a at_i)
     (subst (Before (get_or xs i a)) (get_or_from_slice_get xs j b a at_j) (all i j a lt (slice_get_within xs j b at_j)))
 
-precedes_one_way : (a b : List ℕ) → Precedes a b → Precedes b a → ⊥
+pub precedes_one_way : (a b : List ℕ) → Precedes a b → Precedes b a → ⊥
 precedes_one_way a b h k = let both : Less ≡ Greater = sym k ∙ nat_list_cmp_total.antisymm b a ∙ ap ordering_reverse h in cc
 
 pub one_list_of_pairs : (P : List ℕ → List ℕ → Type 0) (xs ys : List (List ℕ × List ℕ)) → ArePairs P xs → ArePairs P ys → xs ≡ ys

@@ -16,3 +16,4 @@ pub mod Located
 pub mod Places
 pub mod Graph
 pub mod Outcomes
+pub mod inner

@@ -1,5 +1,6 @@
 -- The modules that an object needs, itself and through others.
 use Rattle.std.specs.Prelude.{◌≡◌, ◌⊎◌, ◌↔◌, ℕ, List, [], ◌∷◌, Contains, AllPairs}
+use Rattle.std.specs.Borrow.{Bor}
 use Rattle.std.specs.Cmp.Lexicographic.{slice_cmp}
 use Rattle.std.specs.Ordering.{nat_cmp}
 use Rattle.std.specs.declared.cmp.Ordering.TheVariants.{Less}
@@ -30,3 +31,7 @@ Precedes a b = slice_cmp nat_cmp a b ≡ Less
 pub record ArePairs (P : List ℕ → List ℕ → Type 0) (pairs : List (List ℕ × List ℕ)) : Type 0 where
   pub each : (name : List ℕ) (file : List ℕ) → Contains pairs (name, file) ↔ P name file
   pub rising : AllPairs (λ a b. Precedes a.0 b.0) pairs
+
+-- the name and the file that are lent
+abbrev pub lent : Bor (List ℕ) × Bor (List ℕ) → List ℕ × List ℕ
+lent pair = (pair.0.now, pair.1.now)

@@ -7,10 +7,11 @@
 //! (`specs/Outcomes.antt`).
 //!
 //! [`Table::lookup`] answers who provides a name, [`Table::provided`] and [`Table::required`] what an object provides and
-//! requires, and [`Table::needed`] the modules at the ends of chains of requirements (`specs/Needed.antt`). The law
-//! [`added_files`] says what a sound table means for the files that are added to a build
-//! (`specs/Added.antt`). These definitions are relations over rules and infos (`specs/Modules.antt`); that the code works
-//! with numbers of names does not show in them. The other files of `specs/` are for private clauses, and say so.
+//! requires, and [`Table::needed`] the modules at the ends of chains of requirements (`specs/Needed.antt`);
+//! [`Table::needs`] answers the same for one object after the other. The law [`added_files`] says what a sound table
+//! means for the files that are added to a build (`specs/Added.antt`). These definitions are relations over rules and
+//! infos (`specs/Modules.antt`); that the code works with numbers of names does not show in them. The other files of
+//! `specs/` are for private clauses, and say so.
 //!
 //! [`TableFault::name`] answers the code and the name of a fault, and a fault is printed so (`specs/FaultNames.antt`).
 //!
@@ -34,6 +35,7 @@ mod numbers;
 mod pairs;
 mod paths;
 mod provided;
+mod ranks;
 mod repetition;
 mod table;
 #[cfg(test)]
@@ -41,4 +43,5 @@ mod tests;
 
 pub use fault::{Maker, TableFault};
 pub use laws::{added_files, one_fault, sound_tables};
+pub use needed::Needs;
 pub use table::Table;

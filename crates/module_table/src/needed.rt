@@ -1,83 +1,146 @@
-//! The modules that an object needs, itself and through others.
-ghost use Rattle.std.specs.Prelude.{◌≡◌, ◌<◌, ℕ, List, length, slice_get, Some, IfOk};
+//! The modules that objects need, themselves and through others.
+ghost use Rattle.std.specs.Prelude.{◌≡◌, ◌<◌, ◌+◌, ◌^◌, ℕ, List, All, map, length, slice_get, Some, IfOk};
 ghost use Rattle.std.specs.List.{filter_map};
-ghost use Rattle.scan_docs.specs.Scan.{RuleValue};
-ghost use Rattle.module_table.specs.Modules.{provisions};
-ghost use Rattle.module_table.specs.Needed.{ArePairs, IsNeeded};
+ghost use Rattle.module_table.specs.Needed.{ArePairs, IsNeeded, lent};
 ghost use Rattle.module_table.specs.Sound.{IsSound};
 ghost use Rattle.module_table.specs.Located.{places_of};
-ghost use Rattle.module_table.specs.Places.{pair_at, IsNamedAt, IsPlaceAmong, IsObjectsPair};
+ghost use Rattle.module_table.specs.Places.{IsNamedAt, IsObjectsPair};
 ghost use Rattle.module_table.specs.Graph.{IsModuleGraph};
 
 use crate::fault::Maker;
 use crate::graph::module_at;
-use dep_order::{Digraph, reach};
+use crate::ranks::{modules_by_name, pairs_of, ranks_of};
+use crate::table::Table;
+use dep_order::{Digraph, Reaching};
 use ninja_text::Path;
 use scan_docs::{Info, Name, Rule};
 use std::alloc::{AllocError, Global};
+use std::marker::Model;
 
-/// All modules that chains of requirements lead to from the object, in byte order of names.
-pub(crate) fn needed_modules(
-    alloc: Global,
-    graph: &Digraph,
-    objects: &[Rule],
-    infos: &[Info],
-    places: &[(Maker, usize)],
-    object: usize,
-) -> Result<Vec<(Name, Path)>, AllocError>
-    requires sound { IsSound (record { objects = objects.now; infos = infos.now }) }
-    requires needs { IsModuleGraph (record { objects = objects.now; infos = infos.now }) graph.now }
-    requires places { places.now ≡ places_of (record { objects = objects.now; infos = infos.now }) }
-    requires object { object < length objects.now }
-    ensures { IfOk result (λ pairs. ArePairs (IsNeeded (record { objects = objects.now; infos = infos.now }) object) pairs.items) }
-{
-    let nodes = reach(alloc, graph, places.len() + object)?;
-    let mut pairs = module_pairs(alloc, objects, infos, places, nodes.as_slice())?;
-    pairs.sort_unstable();
-    Ok(pairs)
+/// The modules that the objects of a table need, one object after the other. It keeps its workspace
+/// from one object to the next, so that the work for an object grows with what it needs, and not with
+/// the table. A contract sees it as the table.
+#[derive(Drop)]
+pub struct Needs<'t> {
+    table: &'t Table,
+    reaching: Reaching<'t>,
+    /// The name and the file of each module, in byte order of names.
+    pairs: Vec<(&'t Name, &'t Path)>,
+    /// The index of each module among them, by its number.
+    ranks: Vec<usize>,
 }
 
-/// The names and files of the modules among these nodes.
-fn module_pairs(
-    alloc: Global,
-    objects: &[Rule],
-    infos: &[Info],
-    places: &[(Maker, usize)],
-    nodes: &[usize],
-) -> Result<Vec<(Name, Path)>, AllocError>
-    requires { places.now ≡ places_of (record { objects = objects.now; infos = infos.now }) }
-    ensures { IfOk result (λ pairs. pairs.items ≡ filter_map (pair_at (provisions (record { objects = objects.now; infos = infos.now }))) nodes.now) }
+impl<'t> Model for Needs<'t> {
+    ghost use Rattle.std.specs.Prelude.{◌+◌, ◌<◌, ◌^◌, length, map};
+    ghost use Rattle.module_table.specs.TableValue.{TableValue};
+    ghost use Rattle.module_table.specs.Sound.{IsSound};
+    ghost use Rattle.module_table.specs.Modules.{provisions};
+    ghost use Rattle.module_table.specs.Needed.{lent};
+    ghost use Rattle.module_table.specs.Graph.{IsModuleGraph};
+    ghost use Rattle.module_table.specs.inner.Ranks.{AreRanked};
+
+    ghost Value = { TableValue };
+
+    ghost view = { λ needs. needs.table.now };
+
+    ghost invariant = { λ needs. IsSound needs.table.now
+        × IsModuleGraph needs.table.now needs.reaching
+        × AreRanked (provisions needs.table.now) needs.ranks.items (map lent needs.pairs.items)
+        × (length (provisions needs.table.now) + length needs.table.now.objects < 2 ^ 64) };
+}
+
+impl<'t> Needs<'t> {
+    /// The needs of a table's objects.
+    pub(crate) fn new(
+        alloc: Global,
+        table: &'t Table,
+        graph: &'t Digraph,
+        objects: &'t [Rule],
+        infos: &'t [Info],
+        places: &[(Maker, usize)],
+    ) -> Result<Needs<'t>, AllocError>
+        requires table { table.now ≡ record { objects = objects.now; infos = infos.now } }
+        requires sound { IsSound (record { objects = objects.now; infos = infos.now }) }
+        requires graph { IsModuleGraph (record { objects = objects.now; infos = infos.now }) graph.now }
+        requires places { places.now ≡ places_of (record { objects = objects.now; infos = infos.now }) }
+        ensures { IfOk result (λ needs. needs ≡ table.now) }
+    {
+        let modules = modules_by_name(alloc, objects, infos, places)?;
+        let ranks = ranks_of(alloc, modules.as_slice())?;
+        let pairs = pairs_of(alloc, modules.as_slice())?;
+        let reaching = Reaching::new(alloc, graph)?;
+        Ok(Needs {
+            table,
+            reaching,
+            pairs,
+            ranks,
+        })
+    }
+
+    /// All modules that chains of requirements lead to from the object, in byte order of names. The
+    /// error is want of memory alone, and other objects may be asked for after it.
+    pub fn of(
+        &mut self,
+        alloc: Global,
+        object: usize,
+    ) -> Result<Vec<(&'t Name, &'t Path)>, AllocError>
+        requires { object < length self.old.objects }
+        ensures same { self.new ≡ self.old }
+        ensures pairs { IfOk result
+            (λ pairs. ArePairs (IsNeeded self.old object) (map lent pairs.items)) }
+    {
+        let nodes = self.reaching.from(alloc, self.ranks.len() + object)?;
+        let mut ranks = ranks_at(alloc, self.ranks.as_slice(), nodes.as_slice())?;
+        ranks.sort_unstable();
+        pairs_at(alloc, self.pairs.as_slice(), ranks.as_slice())
+    }
+}
+
+/// The ranks of the modules among these nodes. Nodes behind all modules are objects.
+fn ranks_at(alloc: Global, ranks: &[usize], nodes: &[usize]) -> Result<Vec<usize>, AllocError>
+    ensures { IfOk result (λ found. found.items ≡ filter_map (slice_get ranks.now) nodes.now) }
 {
-    let mut pairs = Vec::new(alloc);
+    let mut found = Vec::with_capacity(alloc, nodes.len())?;
     for node in nodes {
-        match module_pair(alloc, objects, infos, places, *node)? {
-            Some(pair) => pairs.push(pair)?,
+        match ranks.get(*node) {
+            Some(rank) => found.push(*rank)?,
             None => {}
         }
     }
-    Ok(pairs)
+    Ok(found)
 }
 
-/// The name and the file of the module of that number, if there is one.
-fn module_pair(
+/// The pairs at these indexes.
+fn pairs_at<'t>(
     alloc: Global,
-    objects: &[Rule],
-    infos: &[Info],
-    places: &[(Maker, usize)],
-    node: usize,
-) -> Result<Option<(Name, Path)>, AllocError>
-    requires { places.now ≡ places_of (record { objects = objects.now; infos = infos.now }) }
-    ensures { IfOk result (λ pair. pair ≡ pair_at (provisions (record { objects = objects.now; infos = infos.now })) node) }
+    pairs: &[(&'t Name, &'t Path)],
+    indexes: &[usize],
+) -> Result<Vec<(&'t Name, &'t Path)>, AllocError>
+    requires { All (λ index. index < length pairs.now) indexes.now }
+    ensures { IfOk result
+        (λ found. map (λ pair. Some pair) found.items ≡ map (slice_get pairs.now) indexes.now) }
 {
-    match places.get(node) {
-        Some(place) => {
-            let (name, file) = named_at(objects, infos, *place);
-            let name = name.copy(alloc)?;
-            let file = file.copy(alloc)?;
-            Ok(Some((name, file)))
-        }
-        None => Ok(None),
+    let mut found = Vec::with_capacity(alloc, indexes.len())?;
+    for index in indexes {
+        found.push(pairs[*index])?;
     }
+    Ok(found)
+}
+
+/// The pairs, copied.
+pub(crate) fn copy_pairs(
+    alloc: Global,
+    pairs: &[(&Name, &Path)],
+) -> Result<Vec<(Name, Path)>, AllocError>
+    ensures { IfOk result (λ copies. copies.items ≡ map lent pairs.now) }
+{
+    let mut copies = Vec::with_capacity(alloc, pairs.len())?;
+    for pair in pairs {
+        let name = pair.0.copy(alloc)?;
+        let file = pair.1.copy(alloc)?;
+        copies.push((name, file))?;
+    }
+    Ok(copies)
 }
 
 /// The name and the file of the module at the place.

@@ -1,0 +1,5 @@
+use Rattle.std.proofs.Common.{◌≡◌, take, map, slice_get, Some}
+use Rattle.module_table.proofs.needed.pairs_at.Given as goal
+
+abbrev pub invariant-loop-index : goal.invariant-loop-index
+invariant-loop-index l = map (λ pair. Some pair) l.found.items ≡ map (slice_get l.pairs) (take l.index-index l.indexes)

@@ -1,0 +1,61 @@
+//! The modules in byte order of names.
+ghost use Rattle.std.specs.Prelude.{◌≡◌, ℕ, List, map, length, IfOk};
+ghost use Rattle.module_table.specs.Modules.{provisions};
+ghost use Rattle.module_table.specs.Sound.{IsSound};
+ghost use Rattle.module_table.specs.Located.{places_of};
+ghost use Rattle.module_table.specs.inner.Ranks.{AreByName, AreNumbers, AreRanks};
+
+use crate::fault::Maker;
+use crate::needed::named_at;
+use ninja_text::Path;
+use scan_docs::{Info, Name, Rule};
+use std::alloc::{AllocError, Global};
+
+/// The name and the file of each module, and its number, in byte order of names.
+pub(crate) fn modules_by_name<'t>(
+    alloc: Global,
+    objects: &'t [Rule],
+    infos: &'t [Info],
+    places: &[(Maker, usize)],
+) -> Result<Vec<((&'t Name, &'t Path), usize)>, AllocError>
+    requires sound { IsSound (record { objects = objects.now; infos = infos.now }) }
+    requires places { places.now ≡ places_of (record { objects = objects.now; infos = infos.now }) }
+    ensures { IfOk result
+        (λ modules. AreByName (provisions (record { objects = objects.now; infos = infos.now })) modules.items) }
+{
+    let mut modules = Vec::with_capacity(alloc, places.len())?;
+    for (number, place) in places.iter().enumerate() {
+        modules.push((named_at(objects, infos, *place), number))?;
+    }
+    modules.sort_unstable();
+    Ok(modules)
+}
+
+/// The index of each module, by its number.
+pub(crate) fn ranks_of(
+    alloc: Global,
+    modules: &[((&Name, &Path), usize)],
+) -> Result<Vec<usize>, AllocError>
+    requires { AreNumbers modules.now }
+    ensures { IfOk result (λ ranks. AreRanks modules.now (length modules.now) ranks.items) }
+{
+    let mut ranks = vec![in alloc; 0; modules.len()]?;
+    for (rank, numbered) in modules.iter().enumerate() {
+        ranks[numbered.1] = rank;
+    }
+    Ok(ranks)
+}
+
+/// The names and files of the modules.
+pub(crate) fn pairs_of<'t>(
+    alloc: Global,
+    modules: &[((&'t Name, &'t Path), usize)],
+) -> Result<Vec<(&'t Name, &'t Path)>, AllocError>
+    ensures { IfOk result (λ pairs. pairs.items ≡ map (λ numbered. numbered.0) modules.now) }
+{
+    let mut pairs = Vec::with_capacity(alloc, modules.len())?;
+    for numbered in modules {
+        pairs.push(numbered.0)?;
+    }
+    Ok(pairs)
+}
