@@ -159,6 +159,10 @@ fn an_info_is_written_in_one_way(rt: HostRuntime) -> Result<(), Fail> {
             r#"{"modules":[],"target":"t","version":2}"#,
         ),
         (
+            r#"{"version":1,"target":"a\u0022b\\c","modules":[{"bmi":"m\u0022d/\\.bmi","name":"A","requires":[]}]}"#,
+            r#"{"modules":[{"bmi":"m\"d/\\.bmi","name":"A","requires":[],"visibility":"public"}],"target":"a\"b\\c","version":2}"#,
+        ),
+        (
             r#"{"version":2,"target":"t","modules":[{"visibility":"private","requires":[{"name":"B","bmi":"mod/./B.bmi"}],"name":"L","bmi":"mod/L.bmi"}]}"#,
             r#"{"modules":[{"bmi":"mod/L.bmi","name":"L","requires":[{"bmi":"mod/B.bmi","name":"B"}],"visibility":"private"}],"target":"t","version":2}"#,
         ),
