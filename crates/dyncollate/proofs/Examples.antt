@@ -1,5 +1,5 @@
 -- The definitions on examples whose answers are known.
-use Rattle.std.proofs.Common.{◌≡◌, List, [], ◌∷◌, ◌++◌, Some, None, true, false, codes, refl}
+use Rattle.std.proofs.Common.{◌≡◌, ℕ, List, [], ◌∷◌, ◌++◌, Some, None, true, false, codes, refl}
 use Rattle.scan_docs.specs.Scan.{RuleValue}
 use Rattle.scan_docs.specs.Info.{InfoValue}
 use Rattle.dyndep_file.specs.StatementValue.{StatementValue}
@@ -9,7 +9,13 @@ use Rattle.module_table.specs.declared.fault.TableFault.TheVariants.{InfoTwice, 
 use Rattle.dyncollate.specs.One.{table_of}
 use Rattle.dyncollate.specs.Statements.{statements_of}
 use Rattle.dyncollate.specs.TableFaults.{fault_text, ring_text}
-use Rattle.dyncollate.specs.Tasks.{one, show, task_in}
+use Rattle.build_effect.specs.EdgeValue.{EdgeValue}
+use Rattle.build_effect.specs.declared.fault.EffectFault.TheVariants.{AddedTwice}
+use Rattle.build_effect.specs.declared.fault.GraphFault.TheVariants.{DyndepNotInput}
+use Rattle.build_effect.specs.declared.listing_faults.ListingFault.TheVariants.{NoGraph}
+use Rattle.dyncollate.specs.EdgeFaults.{listing_fault_text, effect_text, cycle_text}
+use Rattle.dyncollate.specs.Order.{order_text}
+use Rattle.dyncollate.specs.Tasks.{one, show, effect, order, file_of, task_in}
 use Rattle.dyncollate.specs.Answers.{line}
 
 -- `a.o` provides `A` and requires `B`, which `b.o` provides
@@ -93,3 +99,32 @@ word_too_many = refl
 
 shown_line : line (1 ∷ codes "a.o") ≡ codes "dyncollate: ?a.o" ++ 10 ∷ []
 shown_line = refl
+
+-- an edge that makes a file of some others
+abbrev edge : List ℕ → List (List ℕ) → EdgeValue
+edge output inputs = record { rule = codes "r"; outputs = output ∷ []; implicit_outputs = []; inputs = inputs; implicit_inputs = []; order_only = []; dyndep = None; restat = false }
+
+-- two objects, and a header that is made of the first one
+abbrev three_edges : List EdgeValue
+three_edges = edge (codes "a.o") [] ∷ edge (codes "b.o") (codes "gen.h" ∷ []) ∷ edge (codes "gen.h") (codes "a.o" ∷ []) ∷ []
+
+one_a_line : order_text three_edges (0 ∷ 2 ∷ 1 ∷ []) ≡ codes "a.o" ++ 10 ∷ codes "gen.h" ++ 10 ∷ codes "b.o" ++ 10 ∷ []
+one_a_line = refl
+
+cycle : cycle_text three_edges (0 ∷ 1 ∷ 2 ∷ []) ≡ codes "cycle a.o -> b.o -> gen.h"
+cycle = refl
+
+unread_file : listing_fault_text (NoGraph (DyndepNotInput 0 (codes "a.o"))) ≡ codes "E2 DyndepNotInput a.o"
+unread_file = refl
+
+added_twice : effect_text (AddedTwice (codes "mod/B.bmi")) ≡ codes "E7 AddedTwice mod/B.bmi"
+added_twice = refl
+
+name_first : task_in (codes "effect" ∷ codes "t.dd" ∷ codes "e" ∷ codes "d" ∷ []) ≡ Some (effect (codes "t.dd") (codes "e") (codes "d"))
+name_first = refl
+
+listing_read_first : file_of (effect (codes "t.dd") (codes "e") (codes "d")) ≡ codes "e"
+listing_read_first = refl
+
+one_argument : task_in (codes "order" ∷ codes "e" ∷ []) ≡ Some (order (codes "e"))
+one_argument = refl

@@ -37,6 +37,18 @@ fn a_command_takes_as_many_words_as_it_has_arguments(rt: HostRuntime) -> Result<
     asks_for(&rt, &["show", "t.dd"], Some(Task::Show { dyndep: "t.dd" }))?;
     asks_for(&rt, &["show"], None)?;
     asks_for(&rt, &["show", "t.dd", "x"], None)?;
+    asks_for(
+        &rt,
+        &["effect", "t.dd", "e", "d"],
+        Some(Task::Effect {
+            name: "t.dd",
+            edges: "e",
+            dyndep: "d",
+        }),
+    )?;
+    asks_for(&rt, &["effect", "t.dd", "e"], None)?;
+    asks_for(&rt, &["order", "e"], Some(Task::Order { edges: "e" }))?;
+    asks_for(&rt, &["order", "e", "x"], None)?;
     asks_for(&rt, &["One", "b.ddi", "mod", ".bmi"], None)?;
     asks_for(&rt, &["", "b.ddi", "mod", ".bmi"], None)?;
     Ok(())
