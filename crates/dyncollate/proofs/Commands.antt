@@ -17,10 +17,11 @@ use Rattle.collate_core.specs.Refusals.{IsRefusal}
 use Rattle.collate_core.specs.Laws.{CollatedIsNotRefused, OneRefusal, IsSameRefusal, same_refusal, same_fault}
 use Rattle.collate_core.specs.declared.fault.Refusal.{Refusal}
 use Rattle.dyncollate.specs.declared.answer.Answer.{Answer}
-use Rattle.dyncollate.specs.Answers.{Refuses, Fails, Writes}
+use Rattle.dyncollate.specs.Answers.{Refuses, Fails}
 use Rattle.dyncollate.specs.TableFaults.{fault_text, ring_text}
 use Rattle.dyncollate.specs.RefusalTexts.{refusal_text}
-use Rattle.dyncollate.specs.CollateCommand.{Reading, first_unread, names_in, target_in, style_of, files_of, AnswersTarget, AnswersSpec}
+use Rattle.dyncollate.specs.CollateCommand.{Reading, first_unread, listing_of, names_in, target_in, dyndep_path, style_of, files_of, AnswersTarget, AnswersSpec}
+use Rattle.dyncollate.specs.EdgeChecks.{AnswersEdges}
 
 -- ---- the target
 
@@ -33,16 +34,20 @@ refusal_same : (target : TargetValue) (refusal other : Refusal) → IsSameRefusa
 refusal_same target refusal other same_refusal = refl
 refusal_same target refusal other (same_fault s) = fault_same (table_of target).objects (table_of target).infos _ _ s
 
--- the files of what the target collates to are the answer
-pub collated : CollatedIsNotRefused → (spec : document.TargetValue) (target : TargetValue) (answer : Answer) (c : CollatedValue) → Collates target (style_of spec.map_form) c → Writes (files_of spec c) answer → AnswersTarget spec target answer
-collated not_refused spec target answer c collates writes = record {
-  collated = λ none. record { collated = c; collates = collates; writes = writes };
+-- the path under another spelling
+pub at_path : {listing : Option (List ℕ)} {p q dyndep : List ℕ} {files : List (List ℕ × List ℕ)} {answer : Answer} → p ≡ q → AnswersEdges listing p dyndep files answer → AnswersEdges listing q dyndep files answer
+at_path {listing} {p} {q} {dyndep} {files} {answer} e h = subst (λ x. AnswersEdges listing x dyndep files answer) e h
+
+-- what is answered to what the target collates to is the answer
+pub collated : CollatedIsNotRefused → (spec : document.TargetValue) (listing : Option (List ℕ)) (target : TargetValue) (answer : Answer) (c : CollatedValue) → Collates target (style_of spec.map_form) c → AnswersEdges listing (dyndep_path spec) c.dyndep (files_of spec c) answer → AnswersTarget spec listing target answer
+collated not_refused spec listing target answer c collates answers = record {
+  collated = λ none. record { collated = c; collates = collates; answers = answers };
   refused = λ refusal is. absurd (not_refused target (style_of spec.map_form) c refusal collates is);
 }
 
 -- the line of a refusal that the target has is the answer
-pub refused : OneRefusal → (spec : document.TargetValue) (target : TargetValue) (answer : Answer) (refusal : Refusal) → IsRefusal target (style_of spec.map_form) refusal → Refuses (refusal_text target refusal) answer → AnswersTarget spec target answer
-refused one spec target answer refusal is line = record {
+pub refused : OneRefusal → (spec : document.TargetValue) (listing : Option (List ℕ)) (target : TargetValue) (answer : Answer) (refusal : Refusal) → IsRefusal target (style_of spec.map_form) refusal → Refuses (refusal_text target refusal) answer → AnswersTarget spec listing target answer
+refused one spec listing target answer refusal is line = record {
   collated = λ none. absurd (none refusal is);
   refused = λ other is_other. subst (λ text. Refuses text answer) (refusal_same target refusal other (one target (style_of spec.map_form) refusal other is is_other)) line;
 }
@@ -77,7 +82,7 @@ zip_map f g (x ∷ xs) (y ∷ ys) = ap (λ l. (f x, g y) ∷ l) (zip_map f g xs 
 -- ---- the target document
 
 -- all files are there, and this is the answer to the target
-pub read : (reading : Reading) (spec : document.TargetValue) (answer : Answer) → first_unread reading (names_in spec) ≡ None → AnswersTarget spec (target_in reading spec) answer → AnswersSpec reading spec answer
+pub read : (reading : Reading) (spec : document.TargetValue) (answer : Answer) → first_unread reading (names_in spec) ≡ None → AnswersTarget spec (listing_of reading spec.edges) (target_in reading spec) answer → AnswersSpec reading spec answer
 read reading spec answer complete h = record {
   unread = λ name e. let no : Some name ≡ None = sym e ∙ complete in cc;
   read = λ e. h;

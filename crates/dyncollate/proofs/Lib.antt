@@ -2,8 +2,10 @@ pub mod Arguments
 pub mod Commands
 pub mod Documents
 pub mod Dyndeps
+pub mod EdgeChecks
 pub mod Examples
 pub mod Listings
 pub mod Readings
 pub mod Results
+pub mod TargetDocuments
 pub mod Tasks

@@ -11,7 +11,7 @@ use Rattle.std.specs.Prelude.{Result, Ok, Err, IfErr}
 use Rattle.ninja_text.specs.Failure.{ForFault}
 use Rattle.ninja_text.specs.declared.failure.Failure.{Failure}
 use Rattle.ninja_text.specs.declared.failure.Failure.TheVariants.{Memory, Fault}
-use Rattle.dyncollate.specs.CollateCommand.{FileValue, Reading, first_of, unread_or, first_unread, bytes_of}
+use Rattle.dyncollate.specs.CollateCommand.{FileValue, Reading, first_of, unread_or, first_unread, bytes_of, listing_of}
 use Rattle.dyncollate.specs.inner.Readings.{reading_of}
 use Rattle.dyncollate.proofs.Arguments.{drop_item}
 
@@ -129,6 +129,10 @@ unread_same f g same (name ∷ names) = ap₂ (unread_or name) (same name) (unre
 pub bytes_same : (f g : Reading) → ((name : List ℕ) → f name ≡ g name) → (names : List (List ℕ)) → bytes_of f names ≡ bytes_of g names
 bytes_same f g same [] = refl
 bytes_same f g same (name ∷ names) = ap₂ (λ b bs. unwrap_or b [] ∷ bs) (same name) (bytes_same f g same names)
+
+pub listing_same : (f g : Reading) → ((name : List ℕ) → f name ≡ g name) → (name : Option (List ℕ)) → listing_of f name ≡ listing_of g name
+listing_same f g same None = refl
+listing_same f g same (Some name) = ap (λ b. Some (unwrap_or b [])) (same name)
 
 -- the files of two lists are all there
 pub none_in_both : (f g : Reading) → ((name : List ℕ) → f name ≡ g name) → (xs ys : List (List ℕ)) → first_unread f xs ≡ None → first_unread f ys ≡ None → first_unread g (xs ++ ys) ≡ None

@@ -1,11 +1,13 @@
 -- What the command `collate` answers.
-use Rattle.std.specs.Prelude.{◌≡◌, ℕ, List, [], ◌∷◌, ◌++◌, map, zip, bytes_eq, if◌then◌else◌, Option, Some, None, unwrap_or, codes}
+use Rattle.std.specs.Prelude.{◌≡◌, ℕ, List, [], ◌∷◌, ◌++◌, map, zip, bytes_eq, if◌then◌else◌, Option, Some, None, option_map, unwrap_or, codes}
+use Rattle.ninja_text.specs.Paths.{placed}
 use Rattle.scan_docs.specs.Document.{IsAccepted, IsRefused}
 use Rattle.scan_docs.specs.FaultTexts.{doc_fault_text}
 use Rattle.scan_docs.specs.Scan.{SettingValue}
 use Rattle.scan_docs.specs.Target as document
 use Rattle.scan_docs.specs.Target.{IsTarget}
 use Rattle.scan_docs.specs.TargetChecks.{target_checks}
+use Rattle.scan_docs.specs.Values.{path_in}
 use Rattle.scan_docs.specs.declared.fault.DocFault.{DocFault}
 use Rattle.scan_docs.specs.declared.map_form.MapForm.{MapForm}
 use Rattle.scan_docs.specs.declared.map_form.MapForm.TheVariants.{Gcc, Clang}
@@ -18,6 +20,7 @@ use Rattle.collate_core.specs.Refusals.{IsRefusal}
 use Rattle.collate_core.specs.declared.fault.Refusal.{Refusal}
 use Rattle.dyncollate.specs.declared.answer.Answer.{Answer}
 use Rattle.dyncollate.specs.Answers.{Fails, Refuses, Writes}
+use Rattle.dyncollate.specs.EdgeChecks.{AnswersEdges}
 use Rattle.dyncollate.specs.RefusalTexts.{refusal_text}
 
 -- ---- files that are read
@@ -49,11 +52,24 @@ first_unread reading (name ∷ names) = unread_or name (reading name) (first_unr
 abbrev pub bytes_of : Reading → List (List ℕ) → List (List ℕ)
 bytes_of reading names = map (λ name. unwrap_or (reading name) []) names
 
+-- the bytes of the file of a name, where there is one, which can be read
+abbrev pub listing_of : Reading → Option (List ℕ) → Option (List ℕ)
+listing_of reading name = option_map (λ n. unwrap_or (reading n) []) name
+
+-- the value, where there is one, as a list
+abbrev pub list_of : {X : Type 0} → Option X → List X
+list_of None = []
+list_of (Some value) = value ∷ []
+
 -- ---- the target of a document
 
 -- the files that a target document names, in the order in which they are read
 abbrev pub names_in : document.TargetValue → List (List ℕ)
-names_in spec = spec.scans ++ spec.linked
+names_in spec = spec.scans ++ (spec.linked ++ list_of spec.edges)
+
+-- the dyndep file, as Ninja sees it
+abbrev pub dyndep_path : document.TargetValue → List ℕ
+dyndep_path spec = path_in (placed None spec.build_dir spec.dyndep)
 
 -- where the target's modules are compiled to, and where Ninja runs
 abbrev pub setting_in : document.TargetValue → SettingValue
@@ -91,20 +107,21 @@ abbrev pub files_of : document.TargetValue → CollatedValue → List FileValue
 files_of spec c =
     zip (map map_name c.objects) c.maps ++ (spec.info, c.info) ∷ (spec.dyndep, c.dyndep) ∷ []
 
--- The run writes the files of what the target collates to, and prints nothing.
-pub record WritesCollated (spec : document.TargetValue) (target : TargetValue)
-    (answer : Answer) : Type 0 where
+-- The target collates to this, and the run writes its files, or tells what is wrong with the edges
+-- that its document names, if any.
+pub record AnswersCollated (spec : document.TargetValue) (listing : Option (List ℕ))
+    (target : TargetValue) (answer : Answer) : Type 0 where
   pub collated : CollatedValue
   pub collates : Collates target (style_of spec.map_form) collated
-  pub writes : Writes (files_of spec collated) answer
+  pub answers : AnswersEdges listing (dyndep_path spec) collated.dyndep (files_of spec collated) answer
 
--- What a run answers to a target whose files were read: its files where it has no refusal, and else
--- the line of its refusal.
-pub record AnswersTarget (spec : document.TargetValue) (target : TargetValue)
-    (answer : Answer) : Type 0 where
+-- What a run answers to a target whose files were read: the line of its refusal, or, where it has
+-- none, what it answers to what the target collates to.
+pub record AnswersTarget (spec : document.TargetValue) (listing : Option (List ℕ))
+    (target : TargetValue) (answer : Answer) : Type 0 where
   pub collated :
       ((refusal : Refusal) → IsRefusal target (style_of spec.map_form) refusal → ⊥) →
-      WritesCollated spec target answer
+      AnswersCollated spec listing target answer
   pub refused : (refusal : Refusal) → IsRefusal target (style_of spec.map_form) refusal →
       Refuses (refusal_text target refusal) answer
 
@@ -115,7 +132,7 @@ pub record AnswersSpec (reading : Reading) (spec : document.TargetValue)
   pub unread : (name : List ℕ) → first_unread reading (names_in spec) ≡ Some name →
       Fails 3 (codes "cannot read " ++ name) answer
   pub read : first_unread reading (names_in spec) ≡ None →
-      AnswersTarget spec (target_in reading spec) answer
+      AnswersTarget spec (listing_of reading spec.edges) (target_in reading spec) answer
 
 -- the document is accepted, and these are its members
 abbrev pub HasSpec : List ℕ → document.TargetValue → Type 0

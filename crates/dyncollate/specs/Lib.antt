@@ -1,6 +1,7 @@
 pub mod Answers
 pub mod CollateCommand
 pub mod Dyndeps
+pub mod EdgeChecks
 pub mod EdgeFaults
 pub mod Effect
 pub mod Files

@@ -1,2 +1,4 @@
+pub mod EdgeChecks
 pub mod Readings
 pub mod Refusals
+pub mod TargetDocuments

@@ -1,23 +1,27 @@
 //! The command `collate`: the files of a target.
 
-ghost use Rattle.std.specs.Prelude.{◌≡◌, Some, None, [], ◌∷◌, ◌++◌, map, zip, string_bytes, IsUtf8, All, IfOk, IfErr};
+ghost use Rattle.std.specs.Prelude.{◌≡◌, Some, None, [], ◌∷◌, ◌++◌, map, zip, string_bytes, option_copied, IsUtf8, All, IfOk, IfErr, OnOk};
 ghost use Rattle.ninja_text.specs.Failure.{ForFault};
 ghost use Rattle.collate_core.specs.Collation.{Collates};
 ghost use Rattle.collate_core.specs.Refusals.{IsRefusal};
 ghost use Rattle.dyncollate.specs.Answers.{file_value, Refuses};
-ghost use Rattle.dyncollate.specs.CollateCommand.{first_of, first_unread, bytes_of, names_in, setting_in, target_in, style_of, map_name, files_of, AnswersTarget, AnswersSpec, AnswersCollate, spec_text};
+ghost use Rattle.dyncollate.specs.CollateCommand.{first_of, first_unread, bytes_of, listing_of, names_in, dyndep_path, setting_in, target_in, style_of, map_name, files_of, AnswersTarget, AnswersSpec, AnswersCollate, spec_text};
+ghost use Rattle.dyncollate.specs.EdgeChecks.{PassesEdges, FailsEdges, AnswersEdges};
+ghost use Rattle.dyncollate.specs.inner.TargetDocuments.{IsPlaced};
 
 use crate::answer::Answer;
-use crate::reading::{first_files, read_each};
+use crate::edges::{EdgesFault, edges_check, edges_text};
+use crate::reading::{first_files, read_each, read_named};
 use crate::refusal::refusal_text;
 use collate_core::{Clang, Collated, CollatedParts, Gcc, Refusal, Target, collate, one_outcome};
-use ninja_text::{Failure, Path};
+use ninja_text::{Failure, Path, place};
 use scan_docs::{DocFault, MapForm, Setting, TargetSpec, spec_read};
 use std::alloc::{AllocError, Global};
 
 /// Runs `collate TARGETFILE` on the bytes of the target document, and on files by name. Of a name that is there twice the
 /// first file counts, and one that is not there counts as a file that can't be read. What is to be written are the map of
-/// each object, where the document wants maps, then the info, and last the dyndep file.
+/// each object, where the document wants maps, then the info, and last the dyndep file. Where the document names a listing
+/// of edges, they have to have an order after the effect of that dyndep file.
 pub fn collate_run(
     alloc: Global,
     spec: &[u8],
@@ -46,25 +50,29 @@ fn spec_run(
     spec: TargetSpec,
     files: &[(String, Vec<u8>)],
 ) -> Result<Answer, AllocError>
+    requires { IsPlaced spec }
     ensures { IfOk result (AnswersSpec (first_of (map file_value files.now)) spec) }
 {
     match documents_of(alloc, &spec, files) {
-        Ok((scans, infos)) => documents_run(alloc, spec, scans, infos),
+        Ok((scans, infos, listing)) => documents_run(alloc, spec, scans, infos, listing),
         Err(Failure::Memory) => Err(AllocError),
         Err(Failure::Fault(name)) => Answer::unread(alloc, name),
     }
 }
 
-/// The scan documents and the infos that a target document names, or the first name of a file that is not there.
-fn documents_of<'s>(
+/// The scan documents, the infos and the listing of edges that a target document names, or the first name of a file that is
+/// not there.
+fn documents_of<'s, 'f>(
     alloc: Global,
     spec: &'s TargetSpec,
-    files: &[(String, Vec<u8>)],
-) -> Result<(Vec<Vec<u8>>, Vec<Vec<u8>>), Failure<&'s str>>
+    files: &'f [(String, Vec<u8>)],
+) -> Result<(Vec<Vec<u8>>, Vec<Vec<u8>>, Option<&'f [u8]>), Failure<&'s str>>
     ensures scans { IfOk result (λ documents. map (λ d. d.items) documents.0.items
         ≡ bytes_of (first_of (map file_value files.now)) spec.now.scans) }
     ensures infos { IfOk result (λ documents. map (λ d. d.items) documents.1.items
         ≡ bytes_of (first_of (map file_value files.now)) spec.now.linked) }
+    ensures listing { IfOk result (λ documents. option_copied documents.2
+        ≡ listing_of (first_of (map file_value files.now)) spec.now.edges) }
     ensures complete { IfOk result (λ _.
         first_unread (first_of (map file_value files.now)) (names_in spec.now) ≡ None) }
     ensures unread { IfErr result (ForFault (λ name.
@@ -73,17 +81,20 @@ fn documents_of<'s>(
     let found = first_files(alloc, files)?;
     let scans = read_each(alloc, &found, &spec.scans)?;
     let infos = read_each(alloc, &found, &spec.linked)?;
-    Ok((scans, infos))
+    let listing = read_named(&found, &spec.edges)?;
+    Ok((scans, infos, listing))
 }
 
-/// The answer to a target document whose documents were read.
+/// The answer to a target document whose files were read.
 fn documents_run(
     alloc: Global,
     spec: TargetSpec,
     scans: Vec<Vec<u8>>,
     infos: Vec<Vec<u8>>,
+    listing: Option<&[u8]>,
 ) -> Result<Answer, AllocError>
-    ensures { IfOk result (AnswersTarget spec (record {
+    requires { IsPlaced spec }
+    ensures { IfOk result (AnswersTarget spec (option_copied listing.entry) (record {
       name = spec.target;
       setting = setting_in spec;
       scans = map (λ d. d.items) scans.items;
@@ -92,6 +103,7 @@ fn documents_run(
     })) }
 {
     one_outcome();
+    let path = dyndep_path(alloc, &spec)?;
     let target = Target {
         name: spec.target,
         setting: Setting {
@@ -104,13 +116,69 @@ fn documents_run(
         kept: spec.kept,
     };
     match collate_in(alloc, &target, spec.map) {
-        Ok(collated) => {
-            let files = files_of(alloc, collated, spec.info, spec.dyndep)?;
-            Ok(Answer::writes(alloc, files))
-        }
+        Ok(collated) => collated_run(alloc, collated, spec.info, spec.dyndep, &path, listing),
         Err(Failure::Memory) => Err(AllocError),
         Err(Failure::Fault(refusal)) => {
             let message = refusal_text(alloc, &target, &refusal)?;
+            Answer::failed(alloc, 1, &message)
+        }
+    }
+}
+
+/// The dyndep file of a target document, as Ninja sees it.
+#[tactic(auto, using(crate::proofs::TargetDocuments::path_known))]
+fn dyndep_path(alloc: Global, spec: &TargetSpec) -> Result<Path, AllocError>
+    requires { IsPlaced spec.now }
+    ensures { IfOk result (λ path. path ≡ dyndep_path spec.now) }
+{
+    match place(alloc, None, spec.build_dir.as_ref(), spec.dyndep.as_bytes()) {
+        Ok(path) => Ok(path),
+        Err(Failure::Memory) => Err(AllocError),
+        Err(Failure::Fault(_)) => unreachable!(),
+    }
+}
+
+/// Whether the edges of a listing, if there is one, can be put in order after the effect of a collated target's dyndep
+/// file, which has that name.
+fn edges_pass(
+    alloc: Global,
+    listing: Option<&[u8]>,
+    name: &Path,
+    collated: &Collated,
+) -> Result<(), Failure<EdgesFault>>
+    ensures passes { OnOk result
+        (PassesEdges (option_copied listing.entry) name.now collated.now.dyndep) }
+    ensures fails { IfErr result (ForFault
+        (FailsEdges (option_copied listing.entry) name.now collated.now.dyndep)) }
+{
+    match listing {
+        Some(text) => edges_check(alloc, text, name, collated),
+        None => Ok(()),
+    }
+}
+
+/// The answer to a collated target: its files, or what is wrong with the edges of the listing, if there is one.
+fn collated_run(
+    alloc: Global,
+    collated: Collated,
+    info: String,
+    dyndep: String,
+    path: &Path,
+    listing: Option<&[u8]>,
+) -> Result<Answer, AllocError>
+    requires { All IsUtf8 collated.objects }
+    ensures { IfOk result (AnswersEdges (option_copied listing.entry) path.now collated.dyndep
+        (zip (map map_name collated.objects) collated.maps
+        ++ (string_bytes info, collated.info) ∷ (string_bytes dyndep, collated.dyndep) ∷ [])) }
+{
+    match edges_pass(alloc, listing, path, &collated) {
+        Ok(()) => {
+            let files = files_of(alloc, collated, info, dyndep)?;
+            Ok(Answer::writes(alloc, files))
+        }
+        Err(Failure::Memory) => Err(AllocError),
+        Err(Failure::Fault(fault)) => {
+            let message = edges_text(alloc, &fault)?;
             Answer::failed(alloc, 1, &message)
         }
     }

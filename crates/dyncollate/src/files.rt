@@ -13,7 +13,8 @@ use std::io;
 use std::io::ErrorKind;
 
 /// The names of the files that a task reads besides its own, once that could be read: those that a target document names,
-/// scan documents before infos, where the document is accepted; the dyndep file of an effect; and else none.
+/// scan documents before infos and the listing of edges last, where the document is accepted; the dyndep file of an
+/// effect; and else none.
 pub fn names_of(
     alloc: Global,
     task: &Task,
@@ -42,7 +43,11 @@ fn names_in(alloc: Global, bytes: &[u8]) -> Result<Vec<String>, AllocError>
         Ok(spec) => {
             let mut names = spec.scans;
             let mut linked = spec.linked;
+            let edges = spec.edges;
             names.append(&mut linked)?;
+            if let Some(edges) = edges {
+                names.push(edges)?;
+            }
             Ok(names)
         }
         Err(Failure::Memory) => Err(AllocError),

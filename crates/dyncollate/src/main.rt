@@ -11,6 +11,7 @@
 //! - `one`, `collate` and `show` are the commands of these names. Their promises are the contracts of `one_run`,
 //!   `collate_run` and `show_run`.
 //! - `reading` finds files by their names, and `refusal` tells why a target is refused.
+//! - `edges` checks the edges that a target document names; `listing` reads them, and `edge_fault` tells why there are none.
 //! - `statements` makes the statements of a module table, and `table_fault` tells why there is no table.
 //! - `answer` is what a command answers, and the line that it fails with.
 //!
@@ -33,6 +34,7 @@ mod answer;
 mod collate;
 mod dyndep_text;
 mod edge_fault;
+mod edges;
 mod effect;
 mod files;
 mod listing;

@@ -3,7 +3,7 @@
 ghost use Rattle.std.specs.Prelude.{◌≡◌, List, ℕ, Some, None, map, string_bytes, option_copied, option_map, IfOk, IfErr};
 ghost use Rattle.ninja_text.specs.Failure.{ForFault};
 ghost use Rattle.dyncollate.specs.Answers.{file_value};
-ghost use Rattle.dyncollate.specs.CollateCommand.{first_of, first_unread, bytes_of};
+ghost use Rattle.dyncollate.specs.CollateCommand.{first_of, first_unread, bytes_of, listing_of, list_of};
 ghost use Rattle.dyncollate.specs.inner.Readings.{reading_of};
 
 use indexmap::IndexMap;
@@ -50,4 +50,28 @@ pub fn read_each<'n>(
         }
     }
     Ok(documents)
+}
+
+/// The bytes of the file of a name, where there is one, or the name where its file is not there.
+pub fn read_named<'n, 'f>(
+    files: &IndexMap<&str, &'f [u8]>,
+    name: &'n Option<String>,
+) -> Result<Option<&'f [u8]>, Failure<&'n str>>
+    ensures read { IfOk result (λ listing. option_copied listing
+        ≡ listing_of (reading_of files.now) (option_map string_bytes name.now)) }
+    ensures complete { IfOk result (λ _. first_unread (reading_of files.now)
+        (list_of (option_map string_bytes name.now)) ≡ None) }
+    ensures unread { IfErr result (ForFault (λ unread. first_unread (reading_of files.now)
+        (list_of (option_map string_bytes name.now)) ≡ Some unread.now)) }
+{
+    match name {
+        Some(name) => {
+            let name = name.as_str();
+            match files.get(&name) {
+                Some(bytes) => Ok(Some(*bytes)),
+                None => Err(Failure::Fault(name)),
+            }
+        }
+        None => Ok(None),
+    }
 }

@@ -5,7 +5,11 @@ use Rattle.scan_docs.specs.Document.{IsRefused}
 use Rattle.scan_docs.specs.TargetChecks.{target_checks}
 use Rattle.dyncollate.specs.Answers.{file_value, Refuses}
 use Rattle.dyncollate.specs.CollateCommand.{Reading, first_of, AnswersSpec, AnswersCollate, spec_text}
+use Rattle.dyncollate.proofs.TargetDocuments.{is_placed}
 use Rattle.dyncollate.proofs.collate.collate_run.Goals as goal
+
+pub spec_run-requires : goal.spec_run-requires
+spec_run-requires c = is_placed _ _ c.in-Ok.ensures.accepted
 
 -- the members that were read are the ones that the document has
 pub returns-in-Ok : goal.returns-in-Ok

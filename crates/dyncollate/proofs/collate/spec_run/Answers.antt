@@ -1,9 +1,9 @@
-use Rattle.std.proofs.Common.{◌≡◌, ◌++◌, map, Some, ap₂, subst, codes}
+use Rattle.std.proofs.Common.{◌≡◌, ℕ, List, ◌++◌, map, Option, Some, ap₂, subst, codes}
 use Rattle.std.proofs.lemmas.Result.{IfOk-weaker}
 use Rattle.ninja_text.specs.Failure.{ForFault}
 use Rattle.collate_core.specs.Values.{TargetValue}
 use Rattle.dyncollate.specs.Answers.{file_value, Fails}
-use Rattle.dyncollate.specs.CollateCommand.{Reading, first_of, first_unread, names_in, setting_in, target_in, AnswersTarget, AnswersSpec}
+use Rattle.dyncollate.specs.CollateCommand.{Reading, first_of, first_unread, listing_of, names_in, setting_in, target_in, AnswersTarget, AnswersSpec}
 use Rattle.dyncollate.proofs.Commands.{read, unread}
 use Rattle.dyncollate.proofs.collate.spec_run.Goals as goal
 
@@ -12,10 +12,13 @@ pub returns-in-Ok : goal.returns-in-Ok
 returns-in-Ok c =
     let reading : Reading = first_of (map file_value c.args.files.now) in
     let spec = c.args.spec in
+    let given : TargetValue = record { name = spec.target; setting = setting_in spec; scans = map (λ d. d.items) c.in-Ok.scans.items; infos = map (λ d. d.items) c.in-Ok.infos.items; kept = spec.kept } in
     let same : record { name = spec.target; setting = setting_in spec; scans = map (λ d. d.items) c.in-Ok.scans.items; infos = map (λ d. d.items) c.in-Ok.infos.items; kept = spec.kept } ≡ target_in reading spec =
     ap₂ (λ a b. let t : TargetValue = record { name = spec.target; setting = setting_in spec; scans = a; infos = b; kept = spec.kept } in t) c.in-Ok.ensures.scans c.in-Ok.ensures.infos in
     IfOk-weaker c.documents_run.result _ (AnswersSpec reading spec)
-    (λ answer h. read reading spec answer c.in-Ok.ensures.complete (subst (λ (t : TargetValue). AnswersTarget spec t answer) same h))
+    (λ answer h. read reading spec answer c.in-Ok.ensures.complete
+    (subst (λ (t : TargetValue). AnswersTarget spec (listing_of reading spec.edges) t answer) same
+    (subst (λ (l : Option (List ℕ)). AnswersTarget spec l given answer) c.in-Ok.ensures.listing h)))
     c.documents_run.ensures
 
 -- a file was not there
