@@ -1,5 +1,5 @@
 -- The dyndep file of an accepted target document.
-use Rattle.std.proofs.Common.{◌≡◌, ℕ, List, [], ◌∷◌, ◌++◌, Bool, true, false, Option, Some, None, Result, Ok, Err, refl, ap, ap₂, sym, subst, ◌∙◌}
+use Rattle.std.proofs.Common.{◌≡◌, ℕ, List, [], ◌∷◌, ◌++◌, Bool, true, false, Some, None, Result, Ok, Err, refl, ap, ap₂, sym, ◌∙◌}
 use Rattle.std.specs.Prelude.{unwrap_or}
 use Rattle.std.proofs.Common.{cond}
 use Rattle.ninja_text.specs.Paths.{placed}
@@ -8,7 +8,7 @@ use Rattle.scan_docs.specs.Check.{Check, first_refusal, path_checks}
 use Rattle.scan_docs.specs.declared.fault.Place.{Place}
 use Rattle.scan_docs.specs.declared.fault.Place.TheVariants as place
 use Rattle.scan_docs.specs.declared.member.Member.TheVariants as m
-use Rattle.scan_docs.specs.Shape.{text, text_of}
+use Rattle.scan_docs.specs.Shape.{text_of}
 use Rattle.scan_docs.specs.Target as document
 use Rattle.scan_docs.specs.Target.{build_dir}
 use Rattle.scan_docs.specs.TargetChecks.{head_checks, name_checks, directory_checks, list_checks, kept_checks, dyndep_checks, file_checks, target_checks}

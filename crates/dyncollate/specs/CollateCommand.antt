@@ -19,7 +19,7 @@ use Rattle.collate_core.specs.Collation.{Collates}
 use Rattle.collate_core.specs.Refusals.{IsRefusal}
 use Rattle.collate_core.specs.declared.fault.Refusal.{Refusal}
 use Rattle.dyncollate.specs.declared.answer.Answer.{Answer}
-use Rattle.dyncollate.specs.Answers.{Fails, Refuses, Writes}
+use Rattle.dyncollate.specs.Answers.{Fails, Refuses}
 use Rattle.dyncollate.specs.EdgeChecks.{AnswersEdges}
 use Rattle.dyncollate.specs.RefusalTexts.{refusal_text}
 

@@ -54,7 +54,7 @@ fn spec_run(
     ensures { IfOk result (AnswersSpec (first_of (map file_value files.now)) spec) }
 {
     match documents_of(alloc, &spec, files) {
-        Ok((scans, infos, listing)) => documents_run(alloc, spec, scans, infos, listing),
+        Ok((scans, infos, listing)) => documents_run(alloc, spec, &scans, &infos, listing),
         Err(Failure::Memory) => Err(AllocError),
         Err(Failure::Fault(name)) => Answer::unread(alloc, name),
     }
@@ -66,10 +66,10 @@ fn documents_of<'s, 'f>(
     alloc: Global,
     spec: &'s TargetSpec,
     files: &'f [(String, Vec<u8>)],
-) -> Result<(Vec<Vec<u8>>, Vec<Vec<u8>>, Option<&'f [u8]>), Failure<&'s str>>
-    ensures scans { IfOk result (λ documents. map (λ d. d.items) documents.0.items
+) -> Result<(Vec<&'f [u8]>, Vec<&'f [u8]>, Option<&'f [u8]>), Failure<&'s str>>
+    ensures scans { IfOk result (λ documents. map (λ d. d.now) documents.0.items
         ≡ bytes_of (first_of (map file_value files.now)) spec.now.scans) }
-    ensures infos { IfOk result (λ documents. map (λ d. d.items) documents.1.items
+    ensures infos { IfOk result (λ documents. map (λ d. d.now) documents.1.items
         ≡ bytes_of (first_of (map file_value files.now)) spec.now.linked) }
     ensures listing { IfOk result (λ documents. option_copied documents.2
         ≡ listing_of (first_of (map file_value files.now)) spec.now.edges) }
@@ -89,31 +89,32 @@ fn documents_of<'s, 'f>(
 fn documents_run(
     alloc: Global,
     spec: TargetSpec,
-    scans: Vec<Vec<u8>>,
-    infos: Vec<Vec<u8>>,
+    scans: &[&[u8]],
+    infos: &[&[u8]],
     listing: Option<&[u8]>,
 ) -> Result<Answer, AllocError>
     requires { IsPlaced spec }
     ensures { IfOk result (AnswersTarget spec (option_copied listing.entry) (record {
       name = spec.target;
       setting = setting_in spec;
-      scans = map (λ d. d.items) scans.items;
-      infos = map (λ d. d.items) infos.items;
+      scans = map (λ d. d.now) scans.now;
+      infos = map (λ d. d.now) infos.now;
       kept = spec.kept;
     })) }
 {
     one_outcome();
     let path = dyndep_path(alloc, &spec)?;
+    let setting = Setting {
+        module_dir: spec.module_dir,
+        module_ext: spec.module_ext,
+        build_dir: spec.build_dir,
+    };
     let target = Target {
-        name: spec.target,
-        setting: Setting {
-            module_dir: spec.module_dir,
-            module_ext: spec.module_ext,
-            build_dir: spec.build_dir,
-        },
+        name: &spec.target,
+        setting: &setting,
         scans,
         infos,
-        kept: spec.kept,
+        kept: &spec.kept,
     };
     match collate_in(alloc, &target, spec.map) {
         Ok(collated) => collated_run(alloc, collated, spec.info, spec.dyndep, &path, listing),

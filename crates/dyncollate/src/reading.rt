@@ -29,12 +29,12 @@ pub fn first_files<'f>(
 }
 
 /// The bytes of the files of these names, or the first name whose file is not there.
-pub fn read_each<'n>(
+pub fn read_each<'n, 'f>(
     alloc: Global,
-    files: &IndexMap<&str, &[u8]>,
+    files: &IndexMap<&str, &'f [u8]>,
     names: &'n [String],
-) -> Result<Vec<Vec<u8>>, Failure<&'n str>>
-    ensures read { IfOk result (λ documents. map (λ document. document.items) documents.items
+) -> Result<Vec<&'f [u8]>, Failure<&'n str>>
+    ensures read { IfOk result (λ documents. map (λ document. document.now) documents.items
         ≡ bytes_of (reading_of files.now) (map string_bytes names.now)) }
     ensures complete { IfOk result (λ _.
         first_unread (reading_of files.now) (map string_bytes names.now) ≡ None) }
@@ -45,7 +45,7 @@ pub fn read_each<'n>(
     for name in names {
         let name = name.as_str();
         match files.get(&name) {
-            Some(bytes) => documents.push(Vec::from_slice(alloc, bytes)?)?,
+            Some(bytes) => documents.push(*bytes)?,
             None => return Err(Failure::Fault(name)),
         }
     }

@@ -63,8 +63,8 @@ fn table_text(alloc: Global, target: &Target, fault: &TableFault) -> Result<Vec<
     ensures { IfOk result (λ text.
         text.items ≡ fault_text (table_of target.now).objects (table_of target.now).infos fault.now) }
 {
-    let objects = objects_of(alloc, &target.scans, &target.setting)?;
-    let infos = infos_of(alloc, &target.infos)?;
+    let objects = objects_of(alloc, target.scans, target.setting)?;
+    let infos = infos_of(alloc, target.infos)?;
     fault_text(alloc, fault, &objects, &infos)
 }
 
@@ -81,7 +81,7 @@ fn map_text(
     match fault {
         MapFault::MapPath { path } => joined(alloc, &[b"K1 MapPath ", path.bytes()]),
         MapFault::TwoProvided => {
-            let objects = objects_of(alloc, &target.scans, &target.setting)?;
+            let objects = objects_of(alloc, target.scans, target.setting)?;
             joined(alloc, &[b"K2 TwoProvided ", object_path(&objects, object)])
         }
         MapFault::BadMapLine { line } => {
@@ -92,14 +92,14 @@ fn map_text(
 }
 
 /// The rules of scan documents, all of which are accepted.
-fn objects_of(alloc: Global, scans: &[Vec<u8>], setting: &Setting) -> Result<Vec<Rule>, AllocError>
-    requires { All (IsScanAccepted setting.now) (map (λ scan. scan.items) scans.now) }
+fn objects_of(alloc: Global, scans: &[&[u8]], setting: &Setting) -> Result<Vec<Rule>, AllocError>
+    requires { All (IsScanAccepted setting.now) (map (λ scan. scan.now) scans.now) }
     ensures { IfOk result (λ rules.
-        rules.items ≡ all_rules setting.now (map (λ scan. scan.items) scans.now)) }
+        rules.items ≡ all_rules setting.now (map (λ scan. scan.now) scans.now)) }
 {
     let mut rules = Vec::new(alloc);
     for document in scans {
-        match scan(alloc, document, setting) {
+        match scan(alloc, *document, setting) {
             Ok(found) => {
                 let mut more = found;
                 rules.append(&mut more)?;
@@ -112,14 +112,14 @@ fn objects_of(alloc: Global, scans: &[Vec<u8>], setting: &Setting) -> Result<Vec
 }
 
 /// The infos of info documents, all of which are accepted.
-fn infos_of(alloc: Global, documents: &[Vec<u8>]) -> Result<Vec<Info>, AllocError>
-    requires { All IsInfoAccepted (map (λ info. info.items) documents.now) }
+fn infos_of(alloc: Global, documents: &[&[u8]]) -> Result<Vec<Info>, AllocError>
+    requires { All IsInfoAccepted (map (λ info. info.now) documents.now) }
     ensures { IfOk result (λ infos.
-        infos.items ≡ map info_of (map (λ info. info.items) documents.now)) }
+        infos.items ≡ map info_of (map (λ info. info.now) documents.now)) }
 {
     let mut infos = Vec::new(alloc);
     for document in documents {
-        match info_read(alloc, document) {
+        match info_read(alloc, *document) {
             Ok(info) => infos.push(info)?,
             Err(Failure::Memory) => return Err(AllocError),
             Err(Failure::Fault(_)) => unreachable!(),

@@ -1,4 +1,4 @@
-use Rattle.std.proofs.Common.{rules, ◌≡◌, ℕ, List, ◌++◌, map, Some, None, refl, ◌∙◌}
+use Rattle.std.proofs.Common.{rules, ◌≡◌, ◌++◌, map, Some, None, refl, ◌∙◌}
 use Rattle.std.specs.Prelude.{IfErr, option_copied}
 use Rattle.ninja_text.specs.Failure.{ForFault}
 use Rattle.dyncollate.specs.Answers.{file_value}

@@ -1,4 +1,4 @@
-use Rattle.std.proofs.Common.{◌≡◌, ℕ, List, Option, map, subst, ◌∙◌}
+use Rattle.std.proofs.Common.{◌≡◌, ℕ, List, map, subst, ◌∙◌}
 use Rattle.std.specs.Prelude.{IfOk, option_copied}
 use Rattle.std.proofs.lemmas.Result.{IfOk-weaker}
 use Rattle.ninja_text.specs.Failure.{ForFault}
@@ -20,7 +20,7 @@ collated_run-requires c = objects_text _ _ c.in-Ok.collated c.in-Ok.ensures.coll
 -- what is answered to what the target collates to
 pub returns-in-Ok : goal.returns-in-Ok
 returns-in-Ok c =
-    let target = target_with (map (λ d. d.items) c.args.scans.items) (map (λ d. d.items) c.args.infos.items) in
+    let target = target_with (map (λ d. d.now) c.args.scans.now) (map (λ d. d.now) c.args.infos.now) in
     IfOk-weaker c.collated_run.result _ _
     (λ answer h. subst (λ (s : document.TargetValue). c.in_ok-path.path ≡ dyndep_path s → AnswersTarget s (option_copied c.args.listing) (target s) answer) c.spec.view_is
     (λ e. collated c.one_outcome.ensures.collate _ _ _ answer c.in-Ok.collated c.in-Ok.ensures.collated (at_path e h))
@@ -30,7 +30,7 @@ returns-in-Ok c =
 -- the line of the target's refusal
 pub returns : goal.returns
 returns c =
-    let target = target_with (map (λ d. d.items) c.args.scans.items) (map (λ d. d.items) c.args.infos.items) in
+    let target = target_with (map (λ d. d.now) c.args.scans.now) (map (λ d. d.now) c.args.infos.now) in
     subst (λ (spec : document.TargetValue). IfOk c.failed.result (AnswersTarget spec (option_copied c.args.listing) (target spec))) c.spec.view_is
     (IfOk-weaker c.failed.result (Fails 1 c.deref.result.now) (AnswersTarget _ _ _)
     (λ answer h. refused c.one_outcome.ensures.one _ _ _ answer c.in-Err-Fault.refusal

@@ -27,5 +27,5 @@ loop-name-preserved c =
     let name : List ℕ = c.as_str-name.result.now in
     let here : reading name ≡ Some c.in-Some.bytes.now.now = ap (option_map (λ b. b.now)) (sym c.get.ensures.value ∙ ap option_copied c.in-Some.is) in
     let next = mapped_next string_bytes names i c.name-item.result c.loop-name-test.true c.name-item.is ∙ ap (λ n. map string_bytes (take i names) ++ n ∷ []) (sym c.as_str-name.ensures.value) in
-    rw (next, c.in_ok-push-in-Some.ensures.items, map_push (λ (d : Vec ℕ Global). d.items), c.in_ok-from_slice-in-Some.ensures.items)
+    rw (next, c.in_ok-push-in-Some.ensures.items, map_push (λ d. d.now))
     (bytes_next reading (map string_bytes (take i names)) name c.in-Some.bytes.now.now _ here c.loop-name.invariant.0, none_next reading (map string_bytes (take i names)) name c.in-Some.bytes.now.now here c.loop-name.invariant.1)

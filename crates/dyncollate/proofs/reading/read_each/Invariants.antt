@@ -6,5 +6,5 @@ use Rattle.dyncollate.proofs.reading.read_each.Given as goal
 -- the files so far are there, and these are their bytes
 abbrev pub invariant-loop-name : goal.invariant-loop-name
 invariant-loop-name l =
-    (map (λ d. d.items) l.documents.items ≡ bytes_of (reading_of l.files) (map string_bytes (take l.name-index l.names)))
+    (map (λ d. d.now) l.documents.items ≡ bytes_of (reading_of l.files) (map string_bytes (take l.name-index l.names)))
     × (first_unread (reading_of l.files) (map string_bytes (take l.name-index l.names)) ≡ None)

@@ -1,4 +1,4 @@
-use Rattle.std.proofs.Common.{◌≡◌, ℕ, List, [], Some, string_bytes, ap, sym, subst, ◌∙◌}
+use Rattle.std.proofs.Common.{◌≡◌, [], Some, string_bytes, ap, sym, subst, ◌∙◌}
 use Rattle.std.specs.Prelude.{option_map, option_copied, unwrap_or}
 use Rattle.dyncollate.specs.CollateCommand.{Reading, listing_of}
 use Rattle.dyncollate.specs.inner.Readings.{reading_of}

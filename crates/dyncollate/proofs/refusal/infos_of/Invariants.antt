@@ -4,4 +4,4 @@ use Rattle.dyncollate.proofs.refusal.infos_of.Given as goal
 
 -- the infos of the documents so far
 abbrev pub invariant-loop-document : goal.invariant-loop-document
-invariant-loop-document l = l.infos.items ≡ map info_of (map (λ d. d.items) (take l.document-index l.documents))
+invariant-loop-document l = l.infos.items ≡ map info_of (map (λ d. d.now) (take l.document-index l.documents))

@@ -4,4 +4,4 @@ use Rattle.dyncollate.proofs.refusal.objects_of.Given as goal
 
 -- the rules of the documents so far
 abbrev pub invariant-loop-document : goal.invariant-loop-document
-invariant-loop-document l = l.rules.items ≡ all_rules l.setting (map (λ d. d.items) (take l.document-index l.scans))
+invariant-loop-document l = l.rules.items ≡ all_rules l.setting (map (λ d. d.now) (take l.document-index l.scans))
