@@ -3,7 +3,7 @@ use Rattle.std.proofs.Common.{◌≡◌, ℕ, ◌+◌, ◌||◌, Bool, true, fal
 use Rattle.std.specs.List.{flat_map, list_any}
 use Rattle.std.proofs.lemmas.Slice.Eq.{bytes_eq-Decides}
 use Rattle.indexmap.specs.IndexSet.{insert_key}
-use Rattle.scan_docs.specs.Info.{ModuleValue, InfoValue}
+use Rattle.scan_docs.specs.Info.{ModuleValue}
 use Rattle.module_table.specs.TableValue.{TableValue}
 use Rattle.module_table.specs.Added.{Task, tasks_of}
 use Rattle.collate_core.specs.Infos.{is_kept, module_of, modules_of, info_of_table}

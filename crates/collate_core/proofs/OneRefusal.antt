@@ -1,5 +1,5 @@
 -- A target has one refusal at most.
-use Rattle.std.proofs.Common.{◌≡◌, ℕ, zero, suc, ◌+◌, ◌<◌, ◌≤◌, ◌⊎◌, List, [], ◌∷◌, length, take, Option, Some, None, Ok, Err, refl, ap, ap₂, subst, sym, ◌∙◌, inl, inr, arith, slice_get}
+use Rattle.std.proofs.Common.{◌≡◌, ℕ, ◌+◌, ◌<◌, ◌⊎◌, List, length, take, Some, None, Err, ap, ap₂, subst, sym, ◌∙◌, inl, inr, arith, slice_get}
 use Rattle.std.specs.Prelude.{All}
 use Rattle.dyndep_file.specs.declared.writing.WriteFault.TheVariants as write
 use Rattle.scan_docs.specs.Scan.{SettingValue, RuleValue}
@@ -12,11 +12,11 @@ use Rattle.scan_docs.specs.declared.fault.Place.TheVariants.{Document}
 use Rattle.module_table.specs.TableValue.{TableValue}
 use Rattle.module_table.specs.Outcomes.{OneFault}
 use Rattle.collate_core.proofs.ByIndex.{same_some, three_ways}
-use Rattle.scan_docs.specs.Values.{rules_of, info_of}
+use Rattle.scan_docs.specs.Values.{rules_of}
 use Rattle.collate_core.specs.Values.{TargetValue}
 use Rattle.collate_core.specs.Documents.{IsScanAccepted, IsInfoAccepted, AreScansAccepted, all_rules, rule_limit, table_of}
 use Rattle.collate_core.specs.Maps.{Written}
-use Rattle.collate_core.specs.Refusals.{IsScanFault, IsScanRefusal, IsInfoRefusal, IsMapFault, IsMapRefusal, IsRefusal}
+use Rattle.collate_core.specs.Refusals.{IsScanFault, IsScanRefusal, IsInfoRefusal, IsMapFault, IsMapRefusal}
 use Rattle.collate_core.specs.Laws.{OneRefusal, IsSameRefusal, same_refusal, same_fault}
 use Rattle.collate_core.specs.declared.fault.Refusal.{Refusal}
 use Rattle.collate_core.specs.declared.fault.Refusal.TheVariants.{Scan, Info, Table, StatementTooLong, Map, LinkedLater}

@@ -1,8 +1,8 @@
 -- A target that collates has no refusal.
-use Rattle.std.proofs.Common.{◌≡◌, ℕ, zero, suc, ◌+◌, ◌<◌, ◌⊎◌, List, [], ◌∷◌, ◌++◌, length, take, get_or, Some, None, Ok, Err, refl, ap, ap₂, subst, sym, ◌∙◌, inl, inr, arith, slice_get, Contains, length-append}
-use Rattle.std.specs.Prelude.{All, AllPairs}
+use Rattle.std.proofs.Common.{◌≡◌, ℕ, ◌+◌, ◌<◌, List, ◌++◌, length, take, get_or, Some, None, Ok, Err, ap, ap₂, sym, ◌∙◌, inl, inr, arith, slice_get, length-append}
+use Rattle.std.specs.Prelude.{All}
 use Rattle.std.proofs.lemmas.List.Folds.{length-flat_map-take}
-use Rattle.std.proofs.lemmas.Option.{slice_get_within, get_or_from_slice_get, slice_get_read}
+use Rattle.std.proofs.lemmas.Option.{slice_get_within, get_or_from_slice_get}
 use Rattle.dyndep_file.specs.declared.writing.WriteFault.TheVariants as write
 use Rattle.scan_docs.specs.Document.{HasOneAnswer}
 use Rattle.scan_docs.specs.Scan.{SettingValue, RuleValue, AreRules}
@@ -13,7 +13,7 @@ use Rattle.scan_docs.specs.declared.fault.DocFault.{DocFault}
 use Rattle.module_table.specs.TableValue.{TableValue}
 use Rattle.module_table.specs.Needed.{IsNeeded}
 use Rattle.module_table.proofs.ForCallers.{one_list_of_pairs}
-use Rattle.collate_core.proofs.ByIndex.{element_at, same_some}
+use Rattle.collate_core.proofs.ByIndex.{element_at}
 use Rattle.scan_docs.specs.Values.{rules_of, info_of}
 use Rattle.collate_core.specs.Values.{ModuleMapValue}
 use Rattle.collate_core.specs.Documents.{all_rules, table_of, IsScanAccepted, IsInfoAccepted, AreScansAccepted}

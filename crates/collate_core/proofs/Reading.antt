@@ -1,5 +1,5 @@
 -- What a reader of dyndep files reports of the bytes so far is what it reports of the whole text.
-use Rattle.std.proofs.Common.{◌≡◌, ℕ, List, ◌++◌, inr, subst, sym}
+use Rattle.std.proofs.Common.{◌≡◌, ℕ, List, ◌++◌, subst, sym}
 use Rattle.ninja_text.specs.declared.failure.Failure.{Failure}
 use Rattle.ninja_text.specs.declared.failure.Failure.TheVariants.{Memory, Fault}
 use Rattle.ninja_text.specs.Failure.{ForFault}

@@ -1,9 +1,9 @@
 -- The maps of GCC: for each module a line with its name, a space and its path.
-use Rattle.std.specs.Prelude.{◌≡◌, ℕ, List, [], ◌∷◌, ◌++◌, map, option_map, Option, Some, None, Result, Ok, Err}
+use Rattle.std.specs.Prelude.{ℕ, List, [], ◌∷◌, ◌++◌, map, option_map, Option, Some, None, Result, Ok, Err}
 use Rattle.std.specs.List.{flat_map}
 use Rattle.ninja_text.specs.Bytes.{space}
 use Rattle.collate_core.specs.Values.{ModuleMapValue}
-use Rattle.collate_core.specs.Maps.{pairs_of, IsModuleMap}
+use Rattle.collate_core.specs.Maps.{pairs_of}
 use Rattle.collate_core.specs.MapLines.{first_unfit, named, ended, pair_in, LineForm, read_lines, lines_of}
 use Rattle.collate_core.specs.declared.module_map.MapEntry.{MapEntry}
 use Rattle.collate_core.specs.declared.module_map.MapFault.{MapFault}

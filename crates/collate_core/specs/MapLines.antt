@@ -1,6 +1,6 @@
 -- What the styles of module maps share: the paths that stand in a map, and how its lines are read.
-use Rattle.std.specs.Prelude.{ℕ, ◌+◌, ◌-◌, ◌==◌, Bool, true, false, not, ◌&&◌, ◌||◌, if◌then◌else◌, nat_le, List, [], ◌∷◌, ◌++◌, length, take, drop, slice_get, option_map, Option, Some, None, Result, Ok, Err, bytes_eq, position}
-use Rattle.std.specs.List.{list_all, find, slice_split}
+use Rattle.std.specs.Prelude.{ℕ, ◌+◌, ◌==◌, Bool, not, ◌&&◌, if◌then◌else◌, nat_le, List, [], ◌∷◌, ◌++◌, length, take, drop, option_map, Option, Some, None, Result, Ok, Err, bytes_eq, position}
+use Rattle.std.specs.List.{list_all, slice_split}
 use Rattle.std.specs.Str.{is_utf8}
 use Rattle.ninja_text.specs.Paths.{path_of, is_empty}
 use Rattle.ninja_text.specs.Bytes.{line_feed}

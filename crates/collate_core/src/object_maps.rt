@@ -11,8 +11,8 @@ ghost use Rattle.collate_core.specs.inner.Parts.{IsMapsRefusal};
 use crate::fault::Refusal;
 use crate::map_style::MapStyle;
 use crate::module_map::{MapFault, ModuleMap};
-use crate::pairs::copy_pairs;
-use module_table::Table;
+use crate::pairs::{copy_lent, copy_pairs};
+use module_table::{Needs, Table};
 use ninja_text::Failure;
 use std::alloc::{AllocError, Global};
 
@@ -45,9 +45,10 @@ fn texts_of<M: MapStyle>(
     ensures refused { IfErr result
         (ForFault (IsMapsRefusal table.now (Some (M.written style.now)))) }
 {
+    let mut needs = table.needs(alloc)?;
     let mut texts = Vec::new(alloc);
     for object in 0..table.objects().len() {
-        match text_of(alloc, table, object, style) {
+        match text_of(alloc, table, &mut needs, object, style) {
             Ok(text) => texts.push(text)?,
             Err(Failure::Memory) => return Err(Failure::Memory),
             Err(Failure::Fault(fault)) => {
@@ -62,10 +63,13 @@ fn texts_of<M: MapStyle>(
 fn text_of<M: MapStyle>(
     alloc: Global,
     table: &Table,
+    needs: &mut Needs<'_>,
     object: usize,
     style: &M,
 ) -> Result<Vec<u8>, Failure<MapFault>>
-    requires { object < length table.now.objects }
+    requires object { object < length table.now.objects }
+    requires needs { needs.old ≡ table.now }
+    ensures same { needs.new ≡ needs.old }
     ensures text { IfOk result
         (λ text. (rule : RuleValue) → slice_get table.now.objects object ≡ Some rule →
         IsMapText table.now (M.written style.now) object rule text.items) }
@@ -73,19 +77,27 @@ fn text_of<M: MapStyle>(
         (rule : RuleValue) → slice_get table.now.objects object ≡ Some rule →
         IsMapFault table.now (M.written style.now) object rule fault)) }
 {
-    let map = map_of(alloc, table, object)?;
+    let map = map_of(alloc, table, needs, object)?;
     style.write(alloc, &map)
 }
 
 /// The map of an object.
-fn map_of(alloc: Global, table: &Table, object: usize) -> Result<ModuleMap, AllocError>
-    requires { object < length table.now.objects }
-    ensures { IfOk result
+fn map_of(
+    alloc: Global,
+    table: &Table,
+    needs: &mut Needs<'_>,
+    object: usize,
+) -> Result<ModuleMap, AllocError>
+    requires object { object < length table.now.objects }
+    requires needs { needs.old ≡ table.now }
+    ensures same { needs.new ≡ needs.old }
+    ensures map { IfOk result
         (λ map. (rule : RuleValue) → slice_get table.now.objects object ≡ Some rule →
         IsMapOf table.now object rule map) }
 {
     let provided = copy_pairs(alloc, table.provided(object))?;
-    let needed = table.needed(alloc, object)?;
+    let lent = needs.of(alloc, object)?;
+    let needed = copy_lent(alloc, &lent)?;
     match ModuleMap::new(provided, needed) {
         Some(map) => Ok(map),
         None => unreachable!(),

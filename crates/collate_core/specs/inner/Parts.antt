@@ -1,5 +1,5 @@
 -- What the parts of collating promise one another: definitions for private clauses.
-use Rattle.std.specs.Prelude.{◌≡◌, ℕ, ◌<◌, List, length, Option, Some, All}
+use Rattle.std.specs.Prelude.{◌≡◌, ℕ, List, length, Option, Some, All}
 use Rattle.ninja_text.specs.Paths.{IsPath}
 use Rattle.ninja_text.specs.Escapes.{IsWritable}
 use Rattle.dyndep_file.specs.StatementValue.{StatementValue}

@@ -1,13 +1,12 @@
 -- The maps of the style for tests.
-use Rattle.std.proofs.Common.{◌≡◌, true, ℕ, zero, suc, List, [], ◌∷◌, ◌++◌, map, slice_get, Option, Some, None, Result, Ok, Err, refl, ap, sym, subst, ◌∙◌, arith, append-nil, codes}
-use Rattle.std.specs.Prelude.{option_map}
+use Rattle.std.proofs.Common.{◌≡◌, true, ℕ, zero, suc, List, [], ◌∷◌, ◌++◌, map, slice_get, Option, Some, None, Ok, refl, ap, sym, subst, ◌∙◌, arith, append-nil, codes}
 use Rattle.std.specs.List.{flat_map, AllByRecursion}
 use Rattle.std.proofs.lemmas.List.Elements.{All-append, All-nil}
 use Rattle.std.proofs.lemmas.List.Splits.{join_with_byte-slice_split}
 use Rattle.ninja_text.specs.Paths.{IsPath}
 use Rattle.collate_core.specs.Values.{ModuleMapValue}
 use Rattle.collate_core.specs.Maps.{IsModule, IsModuleMap, IsWrittenText, AreEntriesOf, pairs_of}
-use Rattle.collate_core.specs.MapLines.{is_fit, first_unfit, nameless, ended, path_in, LineForm, read_lines, lines_of}
+use Rattle.collate_core.specs.MapLines.{is_fit, first_unfit, nameless, ended, path_in, lines_of}
 use Rattle.collate_core.specs.inner.BareMaps.{bare_text, bare_written, bare_kept, bare_entry, bare_form, bare_entries}
 use Rattle.collate_core.specs.map_laws.LineLemmas.{ReadsEach, EachBehind, lines-only, each-all, none-unfit, some-module, path-is, lines-back, each-fit, all-each, path-back, fit-lacks}
 use Rattle.collate_core.specs.declared.module_map.MapEntry.{MapEntry}

@@ -1,6 +1,6 @@
 -- The maps of Clang.
-use Rattle.std.proofs.Common.{◌≡◌, ℕ, ◌+◌, ◌-◌, ◌<◌, ◌==◌, zero, suc, Bool, true, false, not, cond, nat_lt, List, [], ◌∷◌, ◌++◌, length, map, Option, Some, None, Result, Ok, Err, refl, ap, ap₂, sym, subst, ◌∙◌, arith, append_assoc, append-nil, length-append, take, drop, slice_get, codes}
-use Rattle.std.specs.Prelude.{⊤, All, AllPairs, bytes_eq}
+use Rattle.std.proofs.Common.{◌≡◌, ℕ, ◌+◌, ◌-◌, ◌<◌, ◌==◌, zero, suc, Bool, true, false, not, cond, nat_lt, List, [], ◌∷◌, ◌++◌, length, map, Option, Some, None, Ok, Err, refl, ap, ap₂, sym, subst, ◌∙◌, arith, append_assoc, append-nil, length-append, take, drop, slice_get, codes}
+use Rattle.std.specs.Prelude.{⊤, All, bytes_eq}
 use Rattle.std.specs.Ordering.{nat_cmp}
 use Rattle.std.specs.Cmp.Lexicographic.{slice_cmp}
 use Rattle.std.specs.declared.cmp.Ordering.{Ordering}
@@ -24,8 +24,7 @@ use Rattle.collate_core.specs.MapLines.{behind, pair_in, is_fit, first_unfit, na
 use Rattle.collate_core.specs.ClangMaps.{module_flag, output_flag, file_flag, output_line, file_line, clang_text, clang_result, clang_written, clang_kept, rises_behind, file_entry, file_pair, output_path, clang_form, read_behind, read_provided, clang_read, clang_entries}
 use Rattle.collate_core.specs.map_laws.LineLemmas.{ReadsEach, EachBehind, lines-only, each-all, none-unfit, some-module, path-is, lines-back, each-fit, all-each, pair-back, path-back, pair-lacks, lacks, fit-lacks, named-pairs, some-line, pair-is}
 use Rattle.collate_core.specs.declared.module_map.MapEntry.{MapEntry}
-use Rattle.collate_core.specs.declared.module_map.MapFault.{MapFault}
-use Rattle.collate_core.specs.declared.module_map.MapFault.TheVariants.{TwoProvided, BadMapLine}
+use Rattle.collate_core.specs.declared.module_map.MapFault.TheVariants.{TwoProvided}
 
 abbrev Pairs : Type 0
 Pairs = List (List ℕ × List ℕ)

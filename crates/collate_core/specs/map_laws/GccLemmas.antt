@@ -1,12 +1,12 @@
 -- The maps of GCC.
-use Rattle.std.proofs.Common.{◌≡◌, ℕ, ◌∷◌, [], ◌++◌, List, Option, Some, None, Result, Ok, Err, refl, ap, sym, ◌∙◌, false, true, map, arith, append-nil}
+use Rattle.std.proofs.Common.{◌≡◌, ℕ, ◌∷◌, [], ◌++◌, List, Option, Some, None, Ok, refl, ap, sym, ◌∙◌, true, map, arith, append-nil}
 use Rattle.std.specs.Prelude.{option_map}
 use Rattle.std.specs.List.{flat_map, AllByRecursion}
 use Rattle.std.proofs.lemmas.List.Elements.{All-append, All-nil}
 use Rattle.std.proofs.lemmas.List.Splits.{join_with_byte-slice_split}
 use Rattle.collate_core.specs.Values.{ModuleMapValue}
 use Rattle.collate_core.specs.Maps.{IsModule, IsModuleMap, IsWrittenText, AreEntriesOf, pairs_of}
-use Rattle.collate_core.specs.MapLines.{pair_in, is_fit, first_unfit, named, ended, lines_of, read_lines}
+use Rattle.collate_core.specs.MapLines.{pair_in, is_fit, first_unfit, named, ended, lines_of}
 use Rattle.collate_core.specs.GccMaps.{gcc_line, gcc_text, gcc_form, gcc_written, gcc_kept, gcc_entries}
 use Rattle.collate_core.specs.map_laws.LineLemmas.{ReadsEach, lines-back, each-fit, all-each, pair-back, pair-lacks, named-pairs, pair-is, EachBehind, lines-only, each-all, none-unfit}
 use Rattle.collate_core.specs.declared.module_map.MapEntry.{MapEntry}

@@ -1,6 +1,6 @@
 -- The lines of module maps.
-use Rattle.std.proofs.Common.{◌≡◌, ℕ, ◌+◌, ◌-◌, ◌<◌, ◌≤◌, ◌==◌, ◌&&◌, Bool, true, false, cond, nat_lt, nat_le, List, [], ◌∷◌, ◌++◌, length, take, drop, get_or, Option, Some, None, Result, Ok, Err, refl, ap, ap₂, subst, sym, ◌∙◌, arith, position, IsTrue, map, append_assoc, append-nil, zero, suc, eqb-true, length-append, codes}
-use Rattle.std.specs.Prelude.{⊤, bytes_eq, slice_get, IsUtf8, option_map, All, ◌↔◌}
+use Rattle.std.proofs.Common.{◌≡◌, ℕ, ◌+◌, ◌<◌, ◌==◌, ◌&&◌, Bool, true, false, cond, nat_lt, nat_le, List, [], ◌∷◌, ◌++◌, length, take, drop, get_or, Option, Some, None, Result, Ok, Err, refl, ap, ap₂, subst, sym, ◌∙◌, arith, position, IsTrue, map, append_assoc, append-nil, suc, eqb-true, length-append, codes}
+use Rattle.std.specs.Prelude.{⊤, bytes_eq, slice_get, IsUtf8, option_map, All}
 use Rattle.std.specs.List.{slice_split, onto_first, position_or_len, join_with_byte, list_all, count_by, flat_map, AllByRecursion}
 use Rattle.std.specs.Str.{is_utf8, IsAscii}
 use Rattle.std.specs.Option.{SomeIff}

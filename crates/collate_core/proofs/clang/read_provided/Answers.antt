@@ -1,6 +1,6 @@
 use Rattle.std.proofs.Common.{◌≡◌, ℕ, List, [], ◌∷◌, ◌++◌, Some, None, ap, sym, subst, ◌∙◌}
 use Rattle.ninja_text.specs.Failure.{Gives}
-use Rattle.collate_core.specs.MapLines.{lines_of, read_lines, behind, path_in}
+use Rattle.collate_core.specs.MapLines.{lines_of, read_lines, behind}
 use Rattle.collate_core.specs.ClangMaps.{output_flag, output_path, clang_form, read_provided}
 use Rattle.collate_core.specs.map_laws.ClangLemmas.{provided-line}
 use Rattle.collate_core.specs.declared.module_map.MapEntry.{MapEntry}

@@ -1,4 +1,4 @@
-use Rattle.std.proofs.Common.{◌≡◌, ℕ, List, ◌++◌, Some, None, Option, ap, sym, ◌∙◌, subst, option_copied}
+use Rattle.std.proofs.Common.{ap, sym, ◌∙◌}
 use Rattle.collate_core.specs.MapLines.{first_unfit}
 use Rattle.collate_core.specs.map_laws.LineLemmas.{unfit-front, unfit-back}
 use Rattle.collate_core.proofs.map_lines.first_unfit.Goals as goal

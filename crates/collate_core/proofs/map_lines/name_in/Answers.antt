@@ -1,4 +1,4 @@
-use Rattle.std.proofs.Common.{◌≡◌, ℕ, List, IsTrue, rules, subst, sym}
+use Rattle.std.proofs.Common.{◌≡◌, ℕ, List, IsTrue, subst}
 use Rattle.std.specs.Prelude.{Result, Ok, Err, Option, IfOk, IsUtf8}
 use Rattle.std.specs.Option.{SomeIff}
 use Rattle.std.specs.declared.alloc.AllocError.{AllocError}

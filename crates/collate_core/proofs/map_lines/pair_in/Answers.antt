@@ -1,4 +1,4 @@
-use Rattle.std.proofs.Common.{◌≡◌, ℕ, List, Some, None, Option, ap, ap₂, sym, ◌∙◌, refl}
+use Rattle.std.proofs.Common.{◌≡◌, ℕ, List, Some, None, Option, ap₂, sym, ◌∙◌, refl}
 use Rattle.collate_core.specs.MapLines.{cut, both, name_in, path_in, pair_in}
 use Rattle.collate_core.specs.map_laws.LineLemmas.{pair-of}
 use Rattle.collate_core.proofs.map_lines.pair_in.Goals as goal

@@ -1,4 +1,4 @@
-use Rattle.std.proofs.Common.{◌≡◌, ℕ, ◌+◌, ◌<◌, ◌≤◌, List, [], ◌∷◌, ◌++◌, length, Some, None, ap, sym, subst, ◌∙◌, arith}
+use Rattle.std.proofs.Common.{◌≡◌, ◌+◌, List, Some, None, ap, sym, ◌∙◌, arith}
 use Rattle.collate_core.specs.MapLines.{LineForm, read_lines, lines_of}
 use Rattle.collate_core.specs.map_laws.LineLemmas.{line-read, line-bad}
 use Rattle.collate_core.specs.declared.module_map.MapEntry.{MapEntry}

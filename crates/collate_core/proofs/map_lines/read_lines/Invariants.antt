@@ -1,4 +1,4 @@
-use Rattle.std.proofs.Common.{◌≡◌, ℕ, ◌+◌, ◌≤◌, List, length}
+use Rattle.std.proofs.Common.{◌≡◌, ◌+◌, ◌≤◌, length}
 use Rattle.collate_core.specs.MapLines.{read_lines, lines_of}
 use Rattle.collate_core.proofs.map_lines.read_lines.Given as goal
 

@@ -1,4 +1,4 @@
-use Rattle.std.proofs.Common.{◌≡◌, ℕ, List, drop}
+use Rattle.std.proofs.Common.{◌≡◌, drop}
 use Rattle.collate_core.specs.MapLines.{first_unfit}
 use Rattle.collate_core.proofs.map_lines.unfit_in.Given as goal
 

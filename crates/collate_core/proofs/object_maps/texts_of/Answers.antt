@@ -1,4 +1,4 @@
-use Rattle.std.proofs.Common.{◌≡◌, ℕ, ◌<◌, [], ◌∷◌, length, map, Some, subst, sym, ap, ◌∙◌, arith, slice_get, length-append}
+use Rattle.std.proofs.Common.{rules, ◌≡◌, ℕ, ◌<◌, [], ◌∷◌, length, map, Some, subst, sym, ap, ◌∙◌, arith, slice_get, length-append}
 use Rattle.ninja_text.specs.Failure.{ForFault}
 use Rattle.scan_docs.specs.Scan.{RuleValue}
 use Rattle.module_table.specs.TableValue.{TableValue}
@@ -30,6 +30,7 @@ loop-object-preserved g c =
     let written : Written = g.M.MapStyle.written c.args.style.now in
     let items = c.in_ok-push-in-Ok.ensures.items in
     record {
+      needs = search rules;
       count = ap length items ∙ omega (arith, length-append c.loop-object.texts.items (c.in-Ok.text ∷ []), c.loop-object.invariant.count);
       each = subst (λ xs. EachMap t written (map (λ m. m.items) xs)) (sym items)
           (more_maps t written c.loop-object.texts.items c.loop-object.object c.in-Ok.text c.loop-object.invariant.count c.loop-object.invariant.each c.in-Ok.ensures.text);

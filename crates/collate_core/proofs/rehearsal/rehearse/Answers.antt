@@ -5,7 +5,6 @@ use Rattle.dyndep_file.specs.Reading.{StandsFor, StandsForOnly}
 use Rattle.dyndep_file.specs.Laws.{OneList, NotBoth}
 use Rattle.dyndep_file.specs.declared.faults.ReadFault.{ReadFault}
 use Rattle.dyndep_file.specs.declared.faults.ReadFault.TheVariants.{AtLine, Io}
-use Rattle.build_effect.specs.EdgeValue.{EdgeValue}
 use Rattle.build_effect.specs.Effect.{HasNoEffect}
 use Rattle.build_effect.specs.Faults.{IsEffectFault}
 use Rattle.build_effect.specs.declared.fault.EffectFault.{EffectFault}

@@ -1,5 +1,5 @@
-use Rattle.std.proofs.Common.{◌≡◌, Some, Err, sym, ◌∙◌}
-use Rattle.dyndep_file.specs.WriteFaults.{text_or_fault, write_fault}
+use Rattle.std.proofs.Common.{◌≡◌, Err, sym, ◌∙◌}
+use Rattle.dyndep_file.specs.WriteFaults.{text_or_fault}
 use Rattle.dyndep_file.specs.declared.writing.WriteFault.TheVariants.{Unwritable, StatementTooLong, Io}
 use Rattle.collate_core.proofs.Writing.{all_writable, is_fault}
 use Rattle.collate_core.proofs.statements.text_of.Goals as goal

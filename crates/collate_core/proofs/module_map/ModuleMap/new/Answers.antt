@@ -1,6 +1,5 @@
-use Rattle.std.proofs.Common.{◌≡◌, ℕ, List, Bool, true, false, not, subst, refl}
+use Rattle.std.proofs.Common.{◌≡◌, ℕ, List, subst}
 use Rattle.std.specs.Prelude.{All}
-use Rattle.collate_core.specs.Values.{ModuleMapValue}
 use Rattle.collate_core.specs.Maps.{IsModule, IsModuleMap, IsRising}
 use Rattle.collate_core.proofs.module_map.ModuleMap.new.Goals as goal
 
