@@ -1,5 +1,5 @@
 -- What is answered to a dyndep file, by its reading.
-use Rattle.std.proofs.Common.{◌≡◌, ℕ, List, subst}
+use Rattle.std.proofs.Common.{ℕ, List, subst}
 use Rattle.dyndep_file.specs.StatementValue.{StatementValue}
 use Rattle.dyndep_file.specs.Laws.{OneList, NotBoth, OneFault}
 use Rattle.dyndep_file.specs.Reading.{FaultAt, StandsFor}

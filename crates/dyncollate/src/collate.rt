@@ -54,7 +54,7 @@ fn spec_run(
     ensures { IfOk result (AnswersSpec (first_of (map file_value files.now)) spec) }
 {
     match documents_of(alloc, &spec, files) {
-        Ok((scans, infos, listing)) => documents_run(alloc, spec, &scans, &infos, listing),
+        Ok((scans, infos, listing)) => documents_run(alloc, &spec, &scans, &infos, listing),
         Err(Failure::Memory) => Err(AllocError),
         Err(Failure::Fault(name)) => Answer::unread(alloc, name),
     }
@@ -88,27 +88,21 @@ fn documents_of<'s, 'f>(
 /// The answer to a target document whose files were read.
 fn documents_run(
     alloc: Global,
-    spec: TargetSpec,
+    spec: &TargetSpec,
     scans: &[&[u8]],
     infos: &[&[u8]],
     listing: Option<&[u8]>,
 ) -> Result<Answer, AllocError>
-    requires { IsPlaced spec }
-    ensures { IfOk result (AnswersTarget spec (option_copied listing.entry) (record {
-      name = spec.target;
-      setting = setting_in spec;
+    requires { IsPlaced spec.now }
+    ensures { IfOk result (AnswersTarget spec.now (option_copied listing.entry) (record {
+      name = spec.now.target;
+      setting = setting_in spec.now;
       scans = map (λ d. d.now) scans.now;
       infos = map (λ d. d.now) infos.now;
-      kept = spec.kept;
+      kept = spec.now.kept;
     })) }
 {
-    one_outcome();
-    let path = dyndep_path(alloc, &spec)?;
-    let setting = Setting {
-        module_dir: spec.module_dir,
-        module_ext: spec.module_ext,
-        build_dir: spec.build_dir,
-    };
+    let setting = setting_in(alloc, spec)?;
     let target = Target {
         name: &spec.target,
         setting: &setting,
@@ -116,14 +110,44 @@ fn documents_run(
         infos,
         kept: &spec.kept,
     };
-    match collate_in(alloc, &target, spec.map) {
-        Ok(collated) => collated_run(alloc, collated, spec.info, spec.dyndep, &path, listing),
+    target_run(alloc, &target, spec, listing)
+}
+
+/// The answer to the target of a target document.
+fn target_run(
+    alloc: Global,
+    target: &Target<'_>,
+    spec: &TargetSpec,
+    listing: Option<&[u8]>,
+) -> Result<Answer, AllocError>
+    requires { IsPlaced spec.now }
+    ensures { IfOk result (AnswersTarget spec.now (option_copied listing.entry) target.now) }
+{
+    one_outcome();
+    let path = dyndep_path(alloc, spec)?;
+    match collate_in(alloc, target, spec) {
+        Ok(collated) => collated_run(alloc, collated, spec, &path, listing),
         Err(Failure::Memory) => Err(AllocError),
         Err(Failure::Fault(refusal)) => {
-            let message = refusal_text(alloc, &target, &refusal)?;
+            let message = refusal_text(alloc, target, &refusal)?;
             Answer::failed(alloc, 1, &message)
         }
     }
+}
+
+/// Where the target's modules are compiled to, and where Ninja runs.
+fn setting_in(alloc: Global, spec: &TargetSpec) -> Result<Setting, AllocError>
+    ensures { IfOk result (λ setting. setting ≡ setting_in spec.now) }
+{
+    let build_dir = match &spec.build_dir {
+        Some(path) => Some(path.copy(alloc)?),
+        None => None,
+    };
+    Ok(Setting {
+        module_dir: String::from_str(alloc, &spec.module_dir)?,
+        module_ext: String::from_str(alloc, &spec.module_ext)?,
+        build_dir,
+    })
 }
 
 /// The dyndep file of a target document, as Ninja sees it.
@@ -162,19 +186,17 @@ fn edges_pass(
 fn collated_run(
     alloc: Global,
     collated: Collated,
-    info: String,
-    dyndep: String,
+    spec: &TargetSpec,
     path: &Path,
     listing: Option<&[u8]>,
 ) -> Result<Answer, AllocError>
     requires { All IsUtf8 collated.objects }
     ensures { IfOk result (AnswersEdges (option_copied listing.entry) path.now collated.dyndep
-        (zip (map map_name collated.objects) collated.maps
-        ++ (string_bytes info, collated.info) ∷ (string_bytes dyndep, collated.dyndep) ∷ [])) }
+        (files_of spec.now collated)) }
 {
     match edges_pass(alloc, listing, path, &collated) {
         Ok(()) => {
-            let files = files_of(alloc, collated, info, dyndep)?;
+            let files = files_of(alloc, collated, spec)?;
             Ok(Answer::writes(alloc, files))
         }
         Err(Failure::Memory) => Err(AllocError),
@@ -185,16 +207,16 @@ fn collated_run(
     }
 }
 
-/// Collates a target, with maps of this form.
+/// Collates the target of a target document, with maps of the form that this asks for.
 fn collate_in(
     alloc: Global,
-    target: &Target,
-    form: Option<MapForm>,
+    target: &Target<'_>,
+    spec: &TargetSpec,
 ) -> Result<Collated, Failure<Refusal>>
-    ensures collated { IfOk result (Collates target.now (style_of form)) }
-    ensures refused { IfErr result (ForFault (IsRefusal target.now (style_of form))) }
+    ensures collated { IfOk result (Collates target.now (style_of spec.now.map_form)) }
+    ensures refused { IfErr result (ForFault (IsRefusal target.now (style_of spec.now.map_form))) }
 {
-    match form {
+    match spec.map {
         None => collate(alloc, target, None::<&Gcc>),
         Some(MapForm::Gcc) => collate(alloc, target, Some(&Gcc)),
         Some(MapForm::Clang) => collate(alloc, target, Some(&Clang)),
@@ -205,13 +227,11 @@ fn collate_in(
 fn files_of(
     alloc: Global,
     collated: Collated,
-    info: String,
-    dyndep: String,
+    spec: &TargetSpec,
 ) -> Result<Vec<(String, Vec<u8>)>, AllocError>
     requires { All IsUtf8 collated.objects }
     ensures { IfOk result (λ files. map file_value files.items
-        ≡ zip (map map_name collated.objects) collated.maps
-        ++ (string_bytes info, collated.info) ∷ (string_bytes dyndep, collated.dyndep) ∷ []) }
+        ≡ files_of spec.now collated) }
 {
     let CollatedParts {
         dyndep: dyndep_text,
@@ -220,8 +240,8 @@ fn files_of(
         maps,
     } = collated.into_parts();
     let mut files = map_files(alloc, &objects, maps)?;
-    files.push((info, info_text))?;
-    files.push((dyndep, dyndep_text))?;
+    files.push((String::from_str(alloc, &spec.info)?, info_text))?;
+    files.push((String::from_str(alloc, &spec.dyndep)?, dyndep_text))?;
     Ok(files)
 }
 

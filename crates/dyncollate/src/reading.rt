@@ -28,6 +28,16 @@ pub fn first_files<'f>(
     Ok(found)
 }
 
+/// The bytes of the file of this name, if it is there.
+fn found_file<'f>(files: &IndexMap<&str, &'f [u8]>, name: &str) -> Option<&'f [u8]>
+    ensures { option_copied result ≡ reading_of files.now name.now }
+{
+    match files.get(&name) {
+        Some(bytes) => Some(*bytes),
+        None => None,
+    }
+}
+
 /// The bytes of the files of these names, or the first name whose file is not there.
 pub fn read_each<'n, 'f>(
     alloc: Global,
@@ -44,8 +54,8 @@ pub fn read_each<'n, 'f>(
     let mut documents = Vec::with_capacity(alloc, names.len())?;
     for name in names {
         let name = name.as_str();
-        match files.get(&name) {
-            Some(bytes) => documents.push(*bytes)?,
+        match found_file(files, name) {
+            Some(bytes) => documents.push(bytes)?,
             None => return Err(Failure::Fault(name)),
         }
     }

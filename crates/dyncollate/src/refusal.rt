@@ -99,7 +99,7 @@ fn objects_of(alloc: Global, scans: &[&[u8]], setting: &Setting) -> Result<Vec<R
 {
     let mut rules = Vec::new(alloc);
     for document in scans {
-        match scan(alloc, *document, setting) {
+        match scan(alloc, document, setting) {
             Ok(found) => {
                 let mut more = found;
                 rules.append(&mut more)?;
@@ -119,7 +119,7 @@ fn infos_of(alloc: Global, documents: &[&[u8]]) -> Result<Vec<Info>, AllocError>
 {
     let mut infos = Vec::new(alloc);
     for document in documents {
-        match info_read(alloc, *document) {
+        match info_read(alloc, document) {
             Ok(info) => infos.push(info)?,
             Err(Failure::Memory) => return Err(AllocError),
             Err(Failure::Fault(_)) => unreachable!(),

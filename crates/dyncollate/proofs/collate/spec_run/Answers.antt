@@ -1,4 +1,5 @@
-use Rattle.std.proofs.Common.{◌≡◌, ℕ, List, ◌++◌, map, Option, Some, ap₂, subst, codes}
+use Rattle.std.proofs.Common.{◌≡◌, ℕ, List, ◌++◌, map, Option, Some, ap, ap₂, subst, ◌∙◌, codes}
+use Rattle.std.specs.Borrow.{Bor}
 use Rattle.std.proofs.lemmas.Result.{IfOk-weaker}
 use Rattle.ninja_text.specs.Failure.{ForFault}
 use Rattle.collate_core.specs.Values.{TargetValue}
@@ -12,9 +13,13 @@ pub returns-in-Ok : goal.returns-in-Ok
 returns-in-Ok c =
     let reading : Reading = first_of (map file_value c.args.files.now) in
     let spec = c.args.spec in
-    let given : TargetValue = record { name = spec.target; setting = setting_in spec; scans = map (λ d. d.items) c.in-Ok.scans.items; infos = map (λ d. d.items) c.in-Ok.infos.items; kept = spec.kept } in
-    let same : record { name = spec.target; setting = setting_in spec; scans = map (λ d. d.items) c.in-Ok.scans.items; infos = map (λ d. d.items) c.in-Ok.infos.items; kept = spec.kept } ≡ target_in reading spec =
-    ap₂ (λ a b. let t : TargetValue = record { name = spec.target; setting = setting_in spec; scans = a; infos = b; kept = spec.kept } in t) c.in-Ok.ensures.scans c.in-Ok.ensures.infos in
+    let scans = map (λ (d : Bor (List ℕ)). d.now) c.deref.result.now in
+    let infos = map (λ (d : Bor (List ℕ)). d.now) c.deref-in-Ok.result.now in
+    let given : TargetValue = record { name = spec.target; setting = setting_in spec; scans = scans; infos = infos; kept = spec.kept } in
+    let same : record { name = spec.target; setting = setting_in spec; scans = scans; infos = infos; kept = spec.kept } ≡ target_in reading spec =
+    ap₂ (λ a b. let t : TargetValue = record { name = spec.target; setting = setting_in spec; scans = a; infos = b; kept = spec.kept } in t)
+    (ap (map (λ (d : Bor (List ℕ)). d.now)) c.deref.ensures.value ∙ c.in-Ok.ensures.scans)
+    (ap (map (λ (d : Bor (List ℕ)). d.now)) c.deref-in-Ok.ensures.value ∙ c.in-Ok.ensures.infos) in
     IfOk-weaker c.documents_run.result _ (AnswersSpec reading spec)
     (λ answer h. read reading spec answer c.in-Ok.ensures.complete
     (subst (λ (t : TargetValue). AnswersTarget spec (listing_of reading spec.edges) t answer) same

@@ -1,4 +1,4 @@
-use Rattle.std.proofs.Common.{ℕ, List, subst, sym}
+use Rattle.std.proofs.Common.{subst}
 use Rattle.ninja_text.specs.Failure.{ForFault}
 use Rattle.scan_docs.specs.Scan.{SettingValue}
 use Rattle.scan_docs.specs.ScanChecks.{scan_checks}
@@ -12,7 +12,6 @@ use Rattle.dyncollate.proofs.refusal.objects_of.Goals as goal
 pub unreachable-requires : goal.unreachable-requires
 unreachable-requires c =
     let s : SettingValue = c.args.setting.now in
-    let document : List ℕ = c.deref.result.now in
-    c.scan.ensures.one_answer.not_both (rules_of s document) c.in-Err-Fault.field-0-0
-    (subst (IsScanAccepted s) (sym c.deref.ensures.value) (holds_at (IsScanAccepted s) c.args.scans.now c.loop-document.document-index c.document-item.result c.loop-document-test.true c.document-item.is c.requires))
-    (subst (ForFault (IsRefused (scan_checks s) document)) c.in-Err-Fault.field-0-is c.in-Err-Fault.ensures.refused)
+    c.scan.ensures.one_answer.not_both (rules_of s _) c.in-Err-Fault.field-0-0
+    (holds_at (IsScanAccepted s) c.args.scans.now c.loop-document.document-index _ c.loop-document-test.true c.requires)
+    (subst (ForFault (IsRefused (scan_checks s) _)) c.in-Err-Fault.field-0-is c.in-Err-Fault.ensures.refused)
