@@ -1,0 +1,6 @@
+import number;
+import sum;
+
+extern "C" int printf(const char*, ...);
+
+int main() { printf("%d\n", sum(20, doubled(11))); }

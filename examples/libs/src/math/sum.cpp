@@ -1,0 +1,3 @@
+module sum;
+
+int sum(int left, int right) { return plus({left}, {right}).value; }

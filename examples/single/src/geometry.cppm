@@ -1,0 +1,6 @@
+export module geometry;
+
+export import :point;
+export import :shapes;
+
+export int area(const Box& box);

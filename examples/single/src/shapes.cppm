@@ -1,0 +1,8 @@
+export module geometry:shapes;
+
+import :point;
+
+export struct Box {
+  Point low;
+  Point high;
+};
