@@ -31,6 +31,21 @@
 //! What a contract sees of a graph is the list of its edges, and of a path its canonical text.
 //! Definitions that only private clauses speak of stand in `specs/inner/`.
 //!
+//! # How it works
+//!
+//! - Each file that an edge makes is put once into an `indexmap` table of its maker (`makers.rt`), in
+//!   which the edge of a statement, the maker of an input and a second maker of an added output are
+//!   found. So the work is linear in the files of the graph and of the statements.
+//! - The checks are functions of their own, made in the order of their faults (`all_checks.rt`):
+//!   `canonical_statements` (E8), `edges_of_statements` (E5), `statements_of_edges` (E4),
+//!   `check_mentioned` (E6), `check_added` (E7). `edges_of_statements` and `statements_of_edges` give
+//!   the edge of each statement and the statement on each edge, and `extended_edges` makes the new
+//!   edges of them. That these are the effect is the law [`checks`], which [`apply`] calls.
+//! - [`edge_order`] gives `dep_order` the makers of each edge's inputs, and carries its answer over
+//!   to `EdgeNeeds` (`needs.rt`).
+//! - The law [`files_order`] puts two numberings together by `layered` of `dep_order`: that of the
+//!   graph with the added outputs alone, and within one level that of what is added.
+//!
 //! It stands on `ninja_text` for paths and lines, on `dyndep_file` for statements, on `dep_order`
 //! for orders and cycles, and on `indexmap` for look-ups.
 #![tactic(auto)]

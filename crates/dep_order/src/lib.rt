@@ -13,8 +13,38 @@
 //! the digraph of the same needs, and carries the answer over with the lemmas of
 //! `proofs/ForCallers.antt`.
 //!
+//! # How it works
+//!
+//! - `users_of` reads the needs backwards, by a counting sort into one flat list. `place_all` counts
+//!   the missing needs of each node and keeps the ready ones in an ordered set.
+//! - Where not all are placed, one search from the first node that has needs and users tries whether
+//!   it lies on a cycle; then it is the least that does. Where it does not, `components_of` numbers
+//!   the strongly connected components: a search in depth with a path of its own gives a postorder
+//!   (`depth_first.rt`), and from its end on each root takes what leads to it. The least node that
+//!   needs a node of its own component is the least on any cycle.
+//! - From that node `steps_from` finds by levels how far each node is from it, along users;
+//!   `cycle_from` then takes at each step the least node that is one step nearer.
+//! - `Reaching` keeps the nodes that it finds in a sparse set, so that a search costs what it finds,
+//!   and nothing has to be cleared before the next.
+//!
 //! Work grows linearly with the nodes and needs, but for a logarithm in placing nodes, and no call
 //! recurses. The crate stands on `std` alone.
+//!
+//! # Needs of a caller's own
+//!
+//! A caller makes the digraph so that `NodeNeeds` holds of it exactly where its own relation does
+//! (`rows_are_nodes` of `proofs/ForCallers.antt` gives what `Digraph::new` requires), calls `order`,
+//! and carries the clause over by `sorting_same`, to which it gives that the one relation holds where
+//! the other does. That file has all that other crates cite:
+//!
+//! - `sorting_same`, `orderable_same`, `order_same`, `least_cycle_same`, `cycle_same`, `chain_same`,
+//!   `reaches_same`: the same of needs that hold of the same things;
+//! - `no_cycle`: what is orderable has no cycle;
+//! - `orderable`, `AreWithin`, `within`: what has an order is orderable, where needs are among the
+//!   things, as a digraph's are;
+//! - `layered`: numbers that put needed things lower or level, and inner numbers for those that are
+//!   level, make needs orderable;
+//! - `one_order`, `one_cycle`: at most one list each.
 #![tactic(auto)]
 
 mod components;

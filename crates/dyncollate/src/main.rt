@@ -8,10 +8,11 @@
 //! - `run` answers a task by what reading its files gave, and `print` writes an answer and gives the status. `files` reads
 //!   the files that a target document names, and writes those of an answer, by calls that `main` hands to it. What is left
 //!   to `main` is to ask for the words, to make these calls of the system, and to end with the status.
-//! - `one`, `collate` and `show` are the commands of these names. Their promises are the contracts of `one_run`,
-//!   `collate_run` and `show_run`.
-//! - `reading` finds files by their names, and `refusal` tells why a target is refused.
-//! - `edges` checks the edges that a target document names; `listing` reads them, and `edge_fault` tells why there are none.
+//! - `one`, `collate`, `effect`, `order` and `show` are the commands of these names. Their promises are the contracts of
+//!   `one_run`, `collate_run`, `effect_run`, `order_run` and `show_run`.
+//! - `reading` finds files by their names, `listing` and `dyndep_text` read listings and dyndep files, and `edges` checks
+//!   the edges that a target document names.
+//! - `refusal` tells why a target is refused, and `edge_fault` what is wrong with edges.
 //! - `statements` makes the statements of a module table, and `table_fault` tells why there is no table.
 //! - `answer` is what a command answers, and the line that it fails with.
 //!

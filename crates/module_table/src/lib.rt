@@ -15,6 +15,24 @@
 //!
 //! [`TableFault::name`] answers the code and the name of a fault, and a fault is printed so (`specs/FaultNames.antt`).
 //!
+//! # How it works
+//!
+//! Each check of one code is a function of its own, made in the order of the codes (`all_checks.rt`); the first that
+//! fails tells its fault, so that the lowest code is told.
+//!
+//! - A name's number is that of its module among all provided modules, by object and position and then by info and
+//!   position (`provided.rt`, `names.rt`). Names and paths are found in `indexmap` tables; nothing is searched from the
+//!   front.
+//! - `check_rings` gives `dep_order` what each object requires of others, by number, and carries its answer over to
+//!   `DependsOn`.
+//! - A table keeps the names by number, who provides each, what each object requires with the files, and a digraph of
+//!   modules and objects (`graph.rt`): a module of an object needs the object, a module of an info what it requires, an
+//!   object what it requires. [`Needs`] asks `Reaching` of `dep_order` there, and sorts what it finds by the ranks of the
+//!   names, which are given once (`ranks.rt`).
+//!
+//! That one list at most has exactly the pairs of a relation is in `proofs/ForCallers.antt`, which alone of the proofs is
+//! cited by other crates.
+//!
 //! It stands on `scan_docs` for rules, infos and names, on `ninja_text` for paths, on `dep_order` for rings and for what
 //! a module leads to, and on `indexmap` for look-ups.
 #![tactic(auto)]
