@@ -30,7 +30,7 @@ fault_same : (objects : List RuleValue) (infos : List InfoValue) (fault other : 
 fault_same objects infos fault other same = refl
 fault_same objects infos fault other (same_ring e) = ap (λ ring. codes "M8 ImportCycle" ++ codes " " ++ ring_text objects ring) e
 
-refusal_same : (target : TargetValue) (refusal other : Refusal) → IsSameRefusal refusal other → refusal_text target refusal ≡ refusal_text target other
+pub refusal_same : (target : TargetValue) (refusal other : Refusal) → IsSameRefusal refusal other → refusal_text target refusal ≡ refusal_text target other
 refusal_same target refusal other same_refusal = refl
 refusal_same target refusal other (same_fault s) = fault_same (table_of target).objects (table_of target).infos _ _ s
 

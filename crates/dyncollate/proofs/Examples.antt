@@ -2,12 +2,8 @@
 use Rattle.std.proofs.Common.{◌≡◌, ℕ, List, [], ◌∷◌, ◌++◌, Some, None, true, false, codes, refl}
 use Rattle.scan_docs.specs.Scan.{RuleValue}
 use Rattle.scan_docs.specs.Info.{InfoValue}
-use Rattle.dyndep_file.specs.StatementValue.{StatementValue}
-use Rattle.module_table.specs.Added.{required_of}
 use Rattle.module_table.specs.declared.fault.Maker.TheVariants.{Object, Info}
 use Rattle.module_table.specs.declared.fault.TableFault.TheVariants.{InfoTwice, ProvidedTwice, InfoUnknown, InfoDisagrees, ModulePrivate, PrivateUnknown}
-use Rattle.dyncollate.specs.One.{table_of}
-use Rattle.dyncollate.specs.Statements.{statements_of}
 use Rattle.dyncollate.specs.TableFaults.{fault_text, ring_text}
 use Rattle.build_effect.specs.EdgeValue.{EdgeValue}
 use Rattle.build_effect.specs.declared.fault.EffectFault.TheVariants.{AddedTwice}
@@ -24,35 +20,6 @@ two_rules =
     record { object = codes "a.o"; provided = (codes "A", codes "mod/A.bmi") ∷ []; required = codes "B" ∷ [] }
     ∷ record { object = codes "b.o"; provided = (codes "B", codes "mod/B.bmi") ∷ []; required = [] }
     ∷ []
-
-abbrev two_statements : List StatementValue
-two_statements =
-    record { output = codes "a.o"; implicit_outputs = codes "mod/A.bmi" ∷ []; implicit_inputs = codes "mod/B.bmi" ∷ []; restat = true }
-    ∷ record { output = codes "b.o"; implicit_outputs = codes "mod/B.bmi" ∷ []; implicit_inputs = []; restat = true }
-    ∷ []
-
-in_scan_order : statements_of (table_of two_rules) ≡ two_statements
-unfolding required_of
-in_scan_order = refl
-
--- `main.o` requires `A`, `A` again, and a partition
-abbrev three_rules : List RuleValue
-three_rules =
-    record { object = codes "main.o"; provided = []; required = codes "A" ∷ codes "A" ∷ codes "M:P" ∷ [] }
-    ∷ record { object = codes "a.o"; provided = (codes "A", codes "mod/A.bmi") ∷ []; required = [] }
-    ∷ record { object = codes "p.o"; provided = (codes "M:P", codes "mod/M-P.bmi") ∷ []; required = [] }
-    ∷ []
-
-abbrev three_statements : List StatementValue
-three_statements =
-    record { output = codes "main.o"; implicit_outputs = []; implicit_inputs = codes "mod/A.bmi" ∷ codes "mod/M-P.bmi" ∷ []; restat = false }
-    ∷ record { output = codes "a.o"; implicit_outputs = codes "mod/A.bmi" ∷ []; implicit_inputs = []; restat = true }
-    ∷ record { output = codes "p.o"; implicit_outputs = codes "mod/M-P.bmi" ∷ []; implicit_inputs = []; restat = true }
-    ∷ []
-
-mentioned_once : statements_of (table_of three_rules) ≡ three_statements
-unfolding required_of
-mentioned_once = refl
 
 -- the target `l` is linked
 abbrev linked : List InfoValue

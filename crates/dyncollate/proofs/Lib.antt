@@ -8,4 +8,4 @@ pub mod Listings
 pub mod Readings
 pub mod Results
 pub mod TargetDocuments
-pub mod Tasks
+pub mod Targets

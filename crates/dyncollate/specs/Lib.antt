@@ -12,7 +12,7 @@ pub mod Printing
 pub mod RefusalTexts
 pub mod Runs
 pub mod Show
-pub mod Statements
 pub mod TableFaults
+pub mod Targets
 pub mod Tasks
 pub mod inner

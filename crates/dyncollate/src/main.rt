@@ -12,8 +12,8 @@
 //!   `one_run`, `collate_run`, `effect_run`, `order_run` and `show_run`.
 //! - `reading` finds files by their names, `listing` and `dyndep_text` read listings and dyndep files, and `edges` checks
 //!   the edges that a target document names.
-//! - `refusal` tells why a target is refused, and `edge_fault` what is wrong with edges.
-//! - `statements` makes the statements of a module table, and `table_fault` tells why there is no table.
+//! - `refusal` tells why a target is refused, `table_fault` why its modules have no table, and `edge_fault` what is wrong
+//!   with edges.
 //! - `answer` is what a command answers, and the line that it fails with.
 //!
 //! It stands on the library crates of this repository alone.
@@ -46,7 +46,6 @@ mod reading;
 mod refusal;
 mod run;
 mod show;
-mod statements;
 mod table_fault;
 mod words;
 

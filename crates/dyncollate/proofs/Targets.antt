@@ -1,0 +1,34 @@
+-- What a run answers to a target, by what it answers to what the target collates to.
+use Rattle.std.proofs.Common.{Option, subst}
+use Rattle.collate_core.specs.Values.{TargetValue, CollatedValue}
+use Rattle.collate_core.specs.Maps.{Written}
+use Rattle.collate_core.specs.Collation.{Collates}
+use Rattle.collate_core.specs.Refusals.{IsRefusal}
+use Rattle.collate_core.specs.Laws.{CollatedIsNotRefused, OneRefusal}
+use Rattle.collate_core.specs.declared.fault.Refusal.{Refusal}
+use Rattle.dyncollate.specs.declared.answer.Answer.{Answer}
+use Rattle.dyncollate.specs.Answers.{Refuses}
+use Rattle.dyncollate.specs.RefusalTexts.{refusal_text}
+use Rattle.dyncollate.specs.Targets.{AnswersTarget}
+use Rattle.dyncollate.proofs.Commands.{refusal_same}
+
+-- what is answered to what the target collates to is the answer
+pub collated : CollatedIsNotRefused → (Answers : CollatedValue → Answer → Type 0)
+    (target : TargetValue) (style : Option Written) (answer : Answer) (c : CollatedValue) →
+    Collates target style c → Answers c answer → AnswersTarget Answers target style answer
+collated not_refused Answers target style answer c collates answers = record {
+  collated = λ none. record { collated = c; collates = collates; answers = answers };
+  refused = λ refusal is. absurd (not_refused target style c refusal collates is);
+}
+
+-- the line of a refusal that the target has is the answer
+pub refused : OneRefusal → (Answers : CollatedValue → Answer → Type 0)
+    (target : TargetValue) (style : Option Written) (answer : Answer) (refusal : Refusal) →
+    IsRefusal target style refusal → Refuses (refusal_text target refusal) answer →
+    AnswersTarget Answers target style answer
+refused one Answers target style answer refusal is line = record {
+  collated = λ none. absurd (none refusal is);
+  refused = λ other is_other.
+      subst (λ text. Refuses text answer)
+      (refusal_same target refusal other (one target style refusal other is is_other)) line;
+}

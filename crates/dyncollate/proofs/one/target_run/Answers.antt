@@ -1,0 +1,30 @@
+use Rattle.std.proofs.Common.{None, ap, subst, ◌∙◌}
+use Rattle.std.proofs.lemmas.Result.{IfOk-weaker}
+use Rattle.ninja_text.specs.Failure.{ForFault}
+use Rattle.collate_core.specs.Refusals.{IsRefusal}
+use Rattle.dyncollate.specs.Answers.{Fails, Refuses}
+use Rattle.dyncollate.specs.One.{PrintsDyndep}
+use Rattle.dyncollate.specs.Targets.{AnswersTarget}
+use Rattle.dyncollate.proofs.Targets.{collated, refused}
+use Rattle.dyncollate.proofs.one.target_run.Goals as goal
+
+-- the text of what the target collates to
+pub returns-in-Ok : goal.returns-in-Ok
+returns-in-Ok c =
+    collated c.one_outcome.ensures.collate _ _ _ c.done.result c.in-Ok.collated c.in-Ok.ensures.collated
+    (record {
+      status = c.done.ensures.status;
+      out = ap (λ text. text.items) c.done.ensures.out ∙ c.into_parts.ensures.dyndep;
+      err = c.done.ensures.err;
+      files = c.done.ensures.files;
+    })
+
+-- the line of the target's refusal
+pub returns-in_ok-message-in-Err-Fault : goal.returns-in_ok-message-in-Err-Fault
+returns-in_ok-message-in-Err-Fault c =
+    IfOk-weaker c.failed.result (Fails 1 c.deref.result.now)
+    (AnswersTarget PrintsDyndep c.args.target.now None)
+    (λ answer h. refused c.one_outcome.ensures.one PrintsDyndep c.args.target.now None answer c.in-Err-Fault.refusal
+    (subst (ForFault (IsRefusal c.args.target.now None)) c.in-Err-Fault.field-0-is c.in-Err-Fault.ensures.refused)
+    (subst (λ text. Refuses text answer) (c.deref.ensures.value ∙ c.in_ok-message-in-Err-Fault.ensures) h))
+    c.failed.ensures
