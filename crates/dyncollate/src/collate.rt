@@ -295,6 +295,3 @@ fn map_name(alloc: Global, object: &Path) -> Result<String, AllocError>
         Err(_) => unreachable!(),
     }
 }
-
-#[cfg(test)]
-mod tests;

@@ -127,6 +127,3 @@ fn new_run(alloc: Global, new: &Graph) -> Result<Answer, AllocError>
         }
     }
 }
-
-#[cfg(test)]
-mod tests;

@@ -93,6 +93,3 @@ pub fn write_files<F: Fn(&str, &[u8]) -> io::Result<()>>(
     }
     Ok(answer)
 }
-
-#[cfg(test)]
-mod tests;

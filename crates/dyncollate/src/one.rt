@@ -64,6 +64,3 @@ fn target_run(alloc: Global, target: &Target<'_>) -> Result<Answer, AllocError>
         }
     }
 }
-
-#[cfg(test)]
-mod tests;

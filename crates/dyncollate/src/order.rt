@@ -65,6 +65,3 @@ fn push_visible(text: &mut Vec<u8>, name: &[u8]) -> Result<(), AllocError>
     }
     Ok(())
 }
-
-#[cfg(test)]
-mod tests;

@@ -42,6 +42,3 @@ fn texts_of(answer: &Result<Answer, AllocError>) -> (u8, &[u8], &[u8])
         Err(AllocError) => (3, b"".as_slice(), b"dyncollate: out of memory\n".as_slice()),
     }
 }
-
-#[cfg(test)]
-mod tests;

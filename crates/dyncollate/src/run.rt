@@ -52,6 +52,3 @@ fn bytes_run(
         Task::Order { .. } => order_run(alloc, bytes),
     }
 }
-
-#[cfg(test)]
-mod tests;

@@ -23,6 +23,3 @@ pub fn show_run(alloc: Global, text: &[u8]) -> Result<Answer, AllocError>
         Err(Failure::Fault(fault)) => dyndep_refused(alloc, &fault),
     }
 }
-
-#[cfg(test)]
-mod tests;

@@ -134,6 +134,3 @@ fn task_from<'w>(command: &str, given: &[&'w str]) -> Option<Task<'w>>
         _ => None,
     }
 }
-
-#[cfg(test)]
-mod tests;
