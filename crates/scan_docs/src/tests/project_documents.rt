@@ -1,81 +1,112 @@
-use super::{documents as real, fault_text, joined, push_word};
 use crate::{DOCUMENT_LIMIT, project_read};
+use ninja_text::Failure;
 use std::alloc::{AllocError, Global};
 use std::test::Fail;
 
-/// The printed fault, or the target documents.
-fn answer(alloc: Global, document: &[u8]) -> Result<Vec<u8>, AllocError> {
-    let project = match project_read(alloc, document) {
-        Ok(project) => project,
-        Err(failure) => return fault_text(alloc, failure),
-    };
-    let mut out = Vec::new(alloc);
-    for target in &project.targets {
-        push_word(&mut out, target.as_bytes())?;
+/// Appends what a document is answered: its target documents, each behind a space, or the printed fault.
+fn push_answer(out: &mut Vec<u8>, alloc: Global, document: &[u8]) -> Result<(), AllocError> {
+    match project_read(alloc, document) {
+        Ok(project) => push_targets(out, &project.targets),
+        Err(Failure::Memory) => Err(AllocError),
+        Err(Failure::Fault(fault)) => {
+            let text = format!(in alloc; "{fault}\n")?;
+            out.extend_from_slice(text.as_bytes())
+        }
     }
-    Ok(out)
+}
+
+fn push_targets(out: &mut Vec<u8>, targets: &[String]) -> Result<(), AllocError> {
+    for target in targets {
+        out.push(b' ')?;
+        out.extend_from_slice(target.as_bytes())?;
+    }
+    out.push(b'\n')?;
+    Ok(())
+}
+
+/// The target documents of a real project.
+const LIBRARIES: &str = r#"{
+ "targets": [
+  "base.target.json",
+  "math.target.json",
+  "io.target.json",
+  "legacy.target.json",
+  "engine.target.json",
+  "app.target.json"
+ ],
+ "version": 1
+}
+"#;
+
+#[test]
+fn project_documents_that_are_accepted(rt: HostRuntime) -> Result<(), Fail> {
+    let mut found = Vec::new(rt.alloc());
+    for document in [
+        r#"{"targets":["b.json","./a.json"],"version":1}"#,
+        r#"{"targets":[],"version":1}"#,
+        r#"{"other":[7],"target":3,"targets":["a"],"version":1}"#,
+        r#"{"targets":["a"],"targets":["b"],"version":1}"#,
+        LIBRARIES,
+    ] {
+        push_answer(&mut found, rt.alloc(), document.as_bytes())?;
+    }
+    let wanted =
+        " b.json ./a.json\n\n a\n b\n base.target.json math.target.json io.target.json legacy.target.json engine.target.json app.target.json\n";
+    assert_eq!(rt; found.as_slice(), wanted.as_bytes());
+    Ok(())
 }
 
 #[test]
-fn project_documents(rt: HostRuntime) -> Result<(), Fail> {
-    let alloc = rt.alloc();
-    for (document, wanted) in [
-        (
-            r#"{"targets":["b.json","./a.json"],"version":1}"#,
-            "b.json ./a.json",
-        ),
-        (r#"{"targets":[],"version":1}"#, ""),
-        (
-            r#"{"other":[7],"target":3,"targets":["a"],"version":1}"#,
-            "a",
-        ),
-        (r#"{"targets":["a"],"targets":["b"],"version":1}"#, "b"),
-        (r#"{"targets":["a"],"version":1"#, "S1 NotJson document"),
-        (r#"[]"#, "S3 BadShape document member document"),
-        (r#"{"targets":7,"version":2}"#, "S2 BadVersion document"),
-        (r#"{"targets":["a"],"version":0}"#, "S2 BadVersion document"),
-        (r#"{"targets":["a"]}"#, "S2 BadVersion document"),
-        (r#"{"version":1}"#, "S3 BadShape document member targets"),
-        (
-            r#"{"targets":null,"version":1}"#,
-            "S3 BadShape document member targets",
-        ),
-        (
-            r#"{"targets":"a","version":1}"#,
-            "S3 BadShape document member targets",
-        ),
-        (
-            r#"{"targets":["a",7],"version":1}"#,
-            "S3 BadShape document member targets",
-        ),
+fn project_documents_that_are_refused(rt: HostRuntime) -> Result<(), Fail> {
+    let mut found = Vec::new(rt.alloc());
+    for document in [
+        r#"{"targets":["a"],"version":1"#,
+        r#"[]"#,
+        r#"{"targets":7,"version":2}"#,
+        r#"{"targets":["a"],"version":0}"#,
+        r#"{"targets":["a"]}"#,
+        r#"{"version":1}"#,
+        r#"{"targets":null,"version":1}"#,
+        r#"{"targets":"a","version":1}"#,
+        r#"{"targets":["a",7],"version":1}"#,
     ] {
-        let found = answer(alloc, document.as_bytes())?;
-        assert_eq!(rt; found.as_slice(), wanted.as_bytes(), "{document}");
+        push_answer(&mut found, rt.alloc(), document.as_bytes())?;
     }
+    let wanted = "S1 NotJson document
+S3 BadShape document member document
+S2 BadVersion document
+S2 BadVersion document
+S2 BadVersion document
+S3 BadShape document member targets
+S3 BadShape document member targets
+S3 BadShape document member targets
+S3 BadShape document member targets
+";
+    assert_eq!(rt; found.as_slice(), wanted.as_bytes());
     Ok(())
+}
+
+/// A document of one target that ends in spaces, so many bytes in all.
+fn document_of_length(alloc: Global, length: usize) -> Result<Vec<u8>, AllocError> {
+    let mut text = Vec::from_slice(alloc, br#"{"targets":["a"],"version":1}"#)?;
+    text.resize(length, b' ')?;
+    Ok(text)
 }
 
 #[test]
 fn a_project_document_has_16777216_bytes_at_most(rt: HostRuntime) -> Result<(), Fail> {
     let alloc = rt.alloc();
-    let document = br#"{"targets":["a"],"version":1}"#;
-    let spaces = vec![in alloc; b' '; DOCUMENT_LIMIT - document.len()]?;
-    let longest = joined(alloc, document, &spaces, b"")?;
-    assert_eq!(rt; longest.len(), DOCUMENT_LIMIT);
-    let found = answer(alloc, &longest)?;
-    assert_eq!(rt; found.as_slice(), b"a".as_slice());
-    let longer = joined(alloc, b" ", document, &spaces)?;
-    let found = answer(alloc, &longer)?;
-    assert_eq!(rt; found.as_slice(), b"S8 TooLarge document".as_slice());
-    Ok(())
-}
-
-#[test]
-fn the_project_document_of_a_real_project(rt: HostRuntime) -> Result<(), Fail> {
-    let alloc = rt.alloc();
-    let found = answer(alloc, real::LIBS_PROJECT.as_bytes())?;
-    let wanted =
-        b"base.target.json math.target.json io.target.json legacy.target.json engine.target.json app.target.json";
-    assert_eq!(rt; found.as_slice(), wanted.as_slice());
+    let mut found = Vec::new(alloc);
+    push_answer(
+        &mut found,
+        alloc,
+        &document_of_length(alloc, DOCUMENT_LIMIT)?,
+    )?;
+    push_answer(
+        &mut found,
+        alloc,
+        &document_of_length(alloc, DOCUMENT_LIMIT + 1)?,
+    )?;
+    assert_eq!(rt; found.as_slice(), b" a\nS8 TooLarge document\n".as_slice());
     Ok(())
 }
