@@ -1,197 +1,195 @@
 //! Rows of words: tokens with their spans and values, and the lexical faults.
 use super::*;
-use crate::token::TokenKind::{Bar, BarAt, Colon, DoubleBar, Word};
-use std::alloc::Global;
-use std::process::Abort;
+use crate::assignment;
+use crate::cutter::LineCutter;
+use crate::line::Line;
+use std::alloc::{AllocError, Global};
 use std::test::Fail;
 
-/// Compares the tokens of a line, its end included, with what is expected: kind, start, end and value.
-fn assert_tokens(
-    rt: &impl Abort,
-    alloc: Global,
-    text: &[u8],
-    expected: &[(TokenKind, usize, usize, &[u8])],
-) -> Result<(), Fail> {
-    let mut cutter = LineCutter::new(alloc);
-    assert_eq!(rt; cutter.feed(text)?, text.len());
-    let mut count = 0;
-    if let Some(line) = cutter.next_line()? {
-        assert!(rt; !line.is_comment());
-        for token in words(line)? {
-            let mut value = Vec::new(alloc);
-            token.value_into(&mut value)?;
-            assert!(rt; count < expected.len());
-            let (kind, start, end, meaning) = expected[count];
-            assert_eq!(rt; token.kind(), kind);
-            assert_eq!(rt; token.start(), start);
-            assert_eq!(rt; token.end(), end);
-            assert_eq!(rt; value.as_slice(), meaning);
-            count += 1;
+/// Appends the kind, the start and the end of a token.
+fn push_span(alloc: Global, token: &Token, out: &mut Vec<u8>) -> Result<(), AllocError> {
+    let span = format!(in alloc; "{:?} {} {} ", token.kind(), token.start(), token.end())?;
+    out.extend_from_slice(span.as_bytes())
+}
+
+/// Appends the kind, the start, the end and the value of a token.
+fn push_token(alloc: Global, token: &Token, out: &mut Vec<u8>) -> Result<(), AllocError> {
+    push_span(alloc, token, out)?;
+    token.value_into(out)?;
+    out.extend_from_slice(b"\n")
+}
+
+/// Appends the tokens of a line, or its fault.
+fn push_words(alloc: Global, line: Line<'_>, out: &mut Vec<u8>) -> Result<(), AllocError> {
+    if line.is_comment() {
+        return out.extend_from_slice(b"comment\n");
+    }
+    match words(line) {
+        Ok(tokens) => push_tokens(alloc, tokens, out),
+        Err(fault) => {
+            let text = format!(in alloc; "{fault}\n")?;
+            out.extend_from_slice(text.as_bytes())
         }
     }
-    assert_eq!(rt; count, expected.len());
+}
+
+fn push_tokens(alloc: Global, tokens: Words<'_>, out: &mut Vec<u8>) -> Result<(), AllocError> {
+    for token in tokens {
+        push_token(alloc, &token, out)?;
+    }
     Ok(())
 }
 
-/// The first lexical fault of a line, its end included, as `words` and `assignment` both answer it.
-fn fault_of(rt: &impl Abort, alloc: Global, text: &[u8]) -> Result<Option<LexFault>, Fail> {
-    let mut cutter = LineCutter::new(alloc);
-    assert_eq!(rt; cutter.feed(text)?, text.len());
-    match cutter.next_line()? {
-        Some(line) => {
-            assert!(rt; !line.is_comment());
-            let fault = words(line).err();
-            assert_eq!(rt; assignment(line).err(), fault);
-            Ok(fault)
-        }
-        None => Ok(None),
+/// Appends the fault that `assignment` answers of a line, or `none`.
+fn push_fault(alloc: Global, line: Line<'_>, out: &mut Vec<u8>) -> Result<(), AllocError> {
+    if line.is_comment() {
+        return out.extend_from_slice(b"comment\n");
     }
+    match assignment(line) {
+        Ok(_) => out.extend_from_slice(b"none\n"),
+        Err(fault) => {
+            let text = format!(in alloc; "{fault}\n")?;
+            out.extend_from_slice(text.as_bytes())
+        }
+    }
+}
+
+/// The tokens of a line, its end included, or its fault.
+fn words_of(alloc: Global, text: &[u8]) -> Result<Vec<u8>, Fail> {
+    let mut out = Vec::new(alloc);
+    let mut cutter = LineCutter::new(alloc);
+    cutter.feed(text)?;
+    if let Some(line) = cutter.next_line()? {
+        push_words(alloc, line, &mut out)?;
+    }
+    Ok(out)
+}
+
+/// The fault of a line, its end included, as `words` and `assignment` both answer it.
+fn faults_of(alloc: Global, text: &[u8]) -> Result<Vec<u8>, Fail> {
+    let mut out = Vec::new(alloc);
+    let mut cutter = LineCutter::new(alloc);
+    cutter.feed(text)?;
+    if let Some(line) = cutter.next_line()? {
+        push_words(alloc, line, &mut out)?;
+        push_fault(alloc, line, &mut out)?;
+    }
+    Ok(out)
 }
 
 #[test]
 fn a_word_goes_on_over_a_continuation(rt: HostRuntime) -> Result<(), Fail> {
-    assert_tokens(
-        &rt,
-        rt.alloc(),
-        b"build a$\n  b.o: dyndep\n",
-        &[
-            (Word, 0, 5, b"build"),
-            (Word, 6, 14, b"ab.o"),
-            (Colon, 14, 15, b":"),
-            (Word, 16, 22, b"dyndep"),
-        ],
-    )?;
-    assert_tokens(
-        &rt,
-        rt.alloc(),
-        b"build a$\r\n  b.o: dyndep\r\n",
-        &[
-            (Word, 0, 5, b"build"),
-            (Word, 6, 15, b"ab.o"),
-            (Colon, 15, 16, b":"),
-            (Word, 17, 23, b"dyndep"),
-        ],
-    )
+    let found = words_of(rt.alloc(), b"build a$\n  b.o: dyndep\n")?;
+    let wanted = "Word 0 5 build\nWord 6 14 ab.o\nColon 14 15 :\nWord 16 22 dyndep\n";
+    assert!(rt; found.as_slice() == wanted.as_bytes());
+    let found = words_of(rt.alloc(), b"build a$\r\n  b.o: dyndep\r\n")?;
+    let wanted = "Word 0 5 build\nWord 6 15 ab.o\nColon 15 16 :\nWord 17 23 dyndep\n";
+    assert!(rt; found.as_slice() == wanted.as_bytes());
+    Ok(())
 }
 
 #[test]
 fn a_space_before_a_continuation_ends_the_word(rt: HostRuntime) -> Result<(), Fail> {
-    assert_tokens(
-        &rt,
-        rt.alloc(),
-        b"a $\n b\n",
-        &[(Word, 0, 1, b"a"), (Word, 5, 6, b"b")],
-    )?;
-    assert_tokens(
-        &rt,
-        rt.alloc(),
-        b"build a.o $\n: dyndep\n",
-        &[
-            (Word, 0, 5, b"build"),
-            (Word, 6, 9, b"a.o"),
-            (Colon, 12, 13, b":"),
-            (Word, 14, 20, b"dyndep"),
-        ],
-    )
+    let found = words_of(rt.alloc(), b"a $\n b\n")?;
+    assert!(rt; found.as_slice() == "Word 0 1 a\nWord 5 6 b\n".as_bytes());
+    let found = words_of(rt.alloc(), b"build a.o $\n: dyndep\n")?;
+    let wanted = "Word 0 5 build\nWord 6 9 a.o\nColon 12 13 :\nWord 14 20 dyndep\n";
+    assert!(rt; found.as_slice() == wanted.as_bytes());
+    Ok(())
 }
 
 #[test]
 fn of_the_bars_the_longest_is_the_token(rt: HostRuntime) -> Result<(), Fail> {
-    assert_tokens(
-        &rt,
-        rt.alloc(),
-        b"a|||@b| |\n",
-        &[
-            (Word, 0, 1, b"a"),
-            (DoubleBar, 1, 3, b"||"),
-            (BarAt, 3, 5, b"|@"),
-            (Word, 5, 6, b"b"),
-            (Bar, 6, 7, b"|"),
-            (Bar, 8, 9, b"|"),
-        ],
-    )
+    let found = words_of(rt.alloc(), b"a|||@b| |\n")?;
+    let wanted = "Word 0 1 a\nDoubleBar 1 3 ||\nBarAt 3 5 |@\nWord 5 6 b\nBar 6 7 |\nBar 8 9 |\n";
+    assert!(rt; found.as_slice() == wanted.as_bytes());
+    Ok(())
 }
 
 #[test]
 fn an_escape_stands_for_its_second_byte(rt: HostRuntime) -> Result<(), Fail> {
-    assert_tokens(
-        &rt,
-        rt.alloc(),
-        b"my$ mods/$$x$:y/A.bmi: dyndep\n",
-        &[
-            (Word, 0, 21, b"my mods/$x:y/A.bmi"),
-            (Colon, 21, 22, b":"),
-            (Word, 23, 29, b"dyndep"),
-        ],
-    )
+    let found = words_of(rt.alloc(), b"my$ mods/$$x$:y/A.bmi: dyndep\n")?;
+    let wanted = "Word 0 21 my mods/$x:y/A.bmi\nColon 21 22 :\nWord 23 29 dyndep\n";
+    assert!(rt; found.as_slice() == wanted.as_bytes());
+    Ok(())
 }
 
 #[test]
 fn a_tab_is_an_ordinary_byte_and_spaces_alone_have_no_token(rt: HostRuntime) -> Result<(), Fail> {
-    assert_tokens(
-        &rt,
-        rt.alloc(),
-        b"\ta b\n",
-        &[(Word, 0, 2, b"\ta"), (Word, 3, 4, b"b")],
-    )?;
-    assert_tokens(&rt, rt.alloc(), b" $\n  \n", &[])
+    let found = words_of(rt.alloc(), b"\ta b\n")?;
+    assert!(rt; found.as_slice() == "Word 0 2 \ta\nWord 3 4 b\n".as_bytes());
+    let found = faults_of(rt.alloc(), b" $\n  \n")?;
+    assert!(rt; found.as_slice() == "none\n".as_bytes());
+    Ok(())
 }
 
 #[test]
 fn faults_are_found_at_their_places(rt: HostRuntime) -> Result<(), Fail> {
-    let alloc = rt.alloc();
-    assert_eq!(rt;
-        fault_of(&rt, alloc, b"build a\0b: dyndep\n")?,
-        Some(LexFault::Nul { place: 7 })
-    );
-    assert_eq!(rt;
-        fault_of(&rt, alloc, b"build a\rb: dyndep\n")?,
-        Some(LexFault::LoneCr { place: 7 })
-    );
-    assert_eq!(rt;
-        fault_of(&rt, alloc, b"build a$\rb: dyndep\n")?,
-        Some(LexFault::BadEscape { place: 7 })
-    );
-    assert_eq!(rt;
-        fault_of(&rt, alloc, b"build a: dyndep\r\r\n")?,
-        Some(LexFault::LoneCr { place: 15 })
-    );
-    assert_eq!(rt;
-        fault_of(&rt, alloc, b"build $x: dyndep\n")?,
-        Some(LexFault::Variable { place: 6 })
-    );
-    assert_eq!(rt;
-        fault_of(&rt, alloc, b"build ${x}: dyndep\n")?,
-        Some(LexFault::Variable { place: 6 })
-    );
-    assert_eq!(rt;
-        fault_of(&rt, alloc, b"build a$.b: dyndep\n")?,
-        Some(LexFault::BadEscape { place: 7 })
-    );
-    assert_eq!(rt;
-        fault_of(&rt, alloc, b"a$\0\r\n")?,
-        Some(LexFault::BadEscape { place: 1 })
-    );
-    assert_eq!(rt; fault_of(&rt, alloc, b"build a: dyndep\r\n")?, None);
+    let mut found = Vec::new(rt.alloc());
+    for text in [
+        b"build a\0b: dyndep\n".as_slice(),
+        b"build a\rb: dyndep\n",
+        b"build a$\rb: dyndep\n",
+        b"build a: dyndep\r\r\n",
+        b"build $x: dyndep\n",
+        b"build ${x}: dyndep\n",
+        b"build a$.b: dyndep\n",
+        b"a$\0\r\n",
+        b"build a: dyndep\r\n",
+    ] {
+        found.extend_from_slice(&faults_of(rt.alloc(), text)?)?;
+    }
+    let wanted = "N7 Nul at 7
+N7 Nul at 7
+N8 LoneCr at 7
+N8 LoneCr at 7
+N10 BadEscape at 7
+N10 BadEscape at 7
+N8 LoneCr at 15
+N8 LoneCr at 15
+N9 Variable at 6
+N9 Variable at 6
+N9 Variable at 6
+N9 Variable at 6
+N10 BadEscape at 7
+N10 BadEscape at 7
+N10 BadEscape at 1
+N10 BadEscape at 1
+Word 0 5 build
+Word 6 7 a
+Colon 7 8 :
+Word 9 15 dyndep
+none
+";
+    assert!(rt; found.as_slice() == wanted.as_bytes());
     Ok(())
+}
+
+/// Appends the value of each token, a second time where memory was refused. Then the vector is as before.
+fn push_values(line: Line<'_>, out: &mut Vec<u8>) -> Result<bool, Fail> {
+    if line.is_comment() {
+        return Ok(false);
+    }
+    for token in words(line)? {
+        if token.value_into(out).is_err() {
+            if out.as_slice() != b"was ".as_slice() {
+                return Ok(false);
+            }
+            token.value_into(out)?;
+        }
+    }
+    Ok(true)
 }
 
 /// With each allocation refused in turn (`rt try --test --fail-alloc N`): the vector is as before.
 #[test]
 fn a_value_that_found_no_memory_leaves_the_vector(rt: HostRuntime) -> Result<(), Fail> {
     let mut cutter = LineCutter::new(rt.alloc());
-    let mut out = Vec::new(rt.alloc());
-    out.extend_from_slice(b"was ")?;
-    assert_eq!(rt; cutter.feed(b"a-word-of-some-length\n")?, 22);
+    let mut out = Vec::from_slice(rt.alloc(), b"was ")?;
+    cutter.feed(b"a-word-of-some-length\n")?;
     if let Some(line) = cutter.next_line()? {
-        assert!(rt; !line.is_comment());
-        for token in words(line)? {
-            if token.value_into(&mut out).is_err() {
-                assert_eq!(rt; out.as_slice(), b"was ".as_slice());
-                token.value_into(&mut out)?;
-            }
-        }
+        assert!(rt; push_values(line, &mut out)?);
     }
-    assert_eq!(rt; out.as_slice(), b"was a-word-of-some-length".as_slice());
+    assert!(rt; out.as_slice() == b"was a-word-of-some-length".as_slice());
     Ok(())
 }
