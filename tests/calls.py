@@ -1,0 +1,74 @@
+"""Runs the program dyncollate, many times and quickly."""
+import os
+import signal
+import tempfile
+
+TOP = os.path.dirname(os.path.dirname(os.path.abspath(__file__)))
+PROGRAM = os.path.abspath(os.environ.get("DYNCOLLATE", f"{TOP}/crates/dyncollate/out/dyncollate"))
+
+
+def is_there():
+    return os.access(PROGRAM, os.X_OK)
+
+
+def has_project():
+    """Whether the program has the command `project`."""
+    return Caller().run("project", "/dev/null")[0] == 1
+
+
+def folder(name):
+    """A new folder, in memory where there is such a place."""
+    memory = "/dev/shm"
+    return tempfile.mkdtemp(prefix=f"dyncollate-{name}-", dir=memory if os.access(memory, os.W_OK) else None)
+
+
+class Caller:
+    """Calls the program; what it prints goes to two files that are read and emptied after each call."""
+
+    def __init__(self):
+        self.out, self.err = (os.memfd_create(name) for name in ("out", "err"))
+        self.environment = dict(os.environ)
+        self.child, self.count = None, 0
+        signal.signal(signal.SIGALRM, lambda *_: os.kill(self.child, signal.SIGKILL))
+
+    def begin(self, *words, out=None, err=None, closed=(), signals=()):
+        """Begins a run. Standard output and standard error may go to other files, and files 0 to 2 may be closed. These signals
+        have their usual effect, some of which Python turns off."""
+        files = [(os.POSIX_SPAWN_OPEN, 0, "/dev/null", os.O_RDONLY, 0),
+                 (os.POSIX_SPAWN_DUP2, self.out if out is None else out, 1),
+                 (os.POSIX_SPAWN_DUP2, self.err if err is None else err, 2)]
+        files += [(os.POSIX_SPAWN_CLOSE, it) for it in closed]
+        self.count += 1
+        self.child = os.posix_spawn(PROGRAM, [PROGRAM, *words], self.environment, file_actions=files, setsigdef=signals)
+        return self.child
+
+    def end(self, child, seconds=60):
+        """The status of a run that was begun, or the negative number of the signal that ended it, and what it printed."""
+        self.child = child
+        signal.alarm(seconds)
+        _, status = os.waitpid(child, 0)
+        signal.alarm(0)
+        return os.waitstatus_to_exitcode(status), emptied(self.out), emptied(self.err)
+
+    def run(self, *words, **given):
+        return self.end(self.begin(*words, **given))
+
+
+def emptied(file):
+    """What stands in a file, which is empty afterwards."""
+    text = os.pread(file, os.fstat(file).st_size, 0)
+    if text:
+        os.ftruncate(file, 0)
+        os.lseek(file, 0, os.SEEK_SET)
+    return text
+
+
+def write(name, text):
+    os.makedirs(os.path.dirname(name) or ".", exist_ok=True)
+    with open(name, "wb") as file:
+        file.write(text)
+
+
+def read(name):
+    with open(name, "rb") as file:
+        return file.read()

@@ -1,0 +1,107 @@
+"""Dyndep files: docs/FORMATS.md, "Dyndep files, as the reader takes them" and "Dyndep files, as they are written"."""
+import re
+from collections import namedtuple
+
+from .lines import LINE_LIMIT, assignment_of, is_word, lexical_fault, lines_of, tokens_of, value_of
+from .paths import Refused, spelled
+
+VERSION = b"ninja_dyndep_version = 1\n"
+
+Statement = namedtuple("Statement", "output outputs inputs restat")
+
+
+def statement_text(output, outputs, inputs, restat):
+    line = b"build " + spelled(output)
+    line += b" |" + b"".join(b" " + spelled(it) for it in outputs) if outputs else b""
+    line += b": dyndep"
+    line += b" |" + b"".join(b" " + spelled(it) for it in inputs) if inputs else b""
+    return line + b"\n" + (b"  restat = 1\n" if restat else b"")
+
+
+def dyndep_text(statements):
+    """The text of a dyndep file; the first statement whose build line is too long is refused."""
+    for at, it in enumerate(statements):
+        if len(statement_text(it.output, it.outputs, it.inputs, False)) > LINE_LIMIT:
+            raise Refused(b"Y2 StatementTooLong statement %d" % at)
+    return VERSION + b"".join(statement_text(*it) for it in statements)
+
+
+# For each position of a build line: where each kind of token leads to, or the fault that it is. A word that is taken keeps
+# the position, but for the output and the rule.
+BUILD_LINE = {
+    "start": {"word": "named", "|": b"Y9 NoOutput", ":": b"Y9 NoOutput", "||": b"Y9 NoOutput", "|@": b"Y9 NoOutput",
+              "end": b"Y9 NoOutput"},
+    "named": {"word": b"Y10 SecondOutput", "|": "outputs", ":": "rule", "||": b"Y13 OrderOnly", "|@": b"Y14 Validation",
+              "end": b"Y8 BadLine"},
+    "outputs": {"word": "outputs", "|": b"Y8 BadLine", ":": "rule", "||": b"Y13 OrderOnly", "|@": b"Y14 Validation",
+                "end": b"Y8 BadLine"},
+    "rule": {"word": "ruled", "|": b"Y11 BadRule", ":": b"Y11 BadRule", "||": b"Y11 BadRule", "|@": b"Y11 BadRule",
+             "end": b"Y11 BadRule"},
+    "ruled": {"word": b"Y12 ExplicitInput", "|": "inputs", ":": b"Y8 BadLine", "||": b"Y13 OrderOnly", "|@": b"Y14 Validation",
+              "end": "done"},
+    "inputs": {"word": "inputs", "|": b"Y8 BadLine", ":": b"Y8 BadLine", "||": b"Y13 OrderOnly", "|@": b"Y14 Validation",
+               "end": "done"},
+}
+
+
+def statement_of(tokens, where):
+    """The statement of a build line's tokens behind the keyword, or the line's refusal."""
+    position, words = "start", {"named": [], "outputs": [], "ruled": [], "inputs": []}
+    for token in tokens + [None]:
+        kind = "end" if token is None else "word" if is_word(token) else token.decode()
+        then = BUILD_LINE[position][kind]
+        if then == "ruled" and token != b"dyndep":
+            then = b"Y11 BadRule"
+        if isinstance(then, bytes):
+            raise Refused(where + then)
+        if kind == "word":
+            words[then].append(value_of(token))
+        position = then
+    return Statement(words["named"][0], words["outputs"], words["inputs"], False)
+
+
+def dyndep_of(text):
+    """The statements of a dyndep file, or the refusal of its first faulty line."""
+    statements, is_versioned, is_open = [], False, False
+    for line in lines_of(text):
+        if line.is_comment:
+            continue
+        where = b"line %d: " % line.number
+        fault = lexical_fault(line.text)
+        if fault:
+            raise Refused(where + fault)
+        tokens, assigned = tokens_of(line.text), assignment_of(line.text)
+        if not tokens:
+            is_open = False
+        elif not is_versioned:
+            version_checked(assigned, where)
+            is_versioned = True
+        elif line.text.startswith(b" "):
+            statements[-1:] = [bound(statements[-1:], is_open, assigned, where)]
+            is_open = False
+        elif assigned and assigned[:2] == (0, b"ninja_dyndep_version"):
+            raise Refused(where + b"Y6 SecondVersion")
+        elif tokens[0] == (0, b"build"):
+            statements.append(statement_of([it for _, it in tokens[1:]], where))
+            is_open = True
+        else:
+            raise Refused(where + b"Y8 BadLine")
+    if not is_versioned:
+        raise Refused(b"line %d: Y4 NoVersion" % (text.count(b"\n") + 1))
+    return statements
+
+
+def version_checked(assigned, where):
+    if not assigned or assigned[:2] != (0, b"ninja_dyndep_version"):
+        raise Refused(where + b"Y4 NoVersion")
+    if not re.match(rb"1(?:\Z|[^0-9.])|1\.0(?:\Z|[^0-9])", assigned[2]):
+        raise Refused(where + b"Y5 BadVersion")
+
+
+def bound(last, is_open, assigned, where):
+    """The last statement with the binding of an indented line below it."""
+    if not is_open:
+        raise Refused(where + b"Y7 Indent")
+    if not assigned or assigned[1] != b"restat":
+        raise Refused(where + b"Y15 BadBinding")
+    return last[0]._replace(restat=assigned[2] != b"")

@@ -1,0 +1,193 @@
+"""Edge listings, what dyndep files do to edges, and the order of edges: docs/FORMATS.md, "Edge listings"."""
+import re
+
+from .digraphs import least_cycle, least_order, repeated
+from .dyndeps import Statement
+from .lines import LINE_LIMIT, assignment_of, lexical_fault, lines_of, tokens_of, value_of
+from .paths import PathFault, Refused, path_of, spelled
+
+
+def edge_of(rule, outputs, implicit, inputs, implicit_inputs, order_only, dyndep=None, restat=False):
+    return {"rule": rule, "outputs": outputs, "implicit": implicit, "inputs": inputs, "implicit inputs": implicit_inputs,
+            "order only": order_only, "dyndep": dyndep, "restat": restat}
+
+
+def made_by(edge):
+    return edge["outputs"] + edge["implicit"]
+
+
+def needed_by(edge):
+    return edge["inputs"] + edge["implicit inputs"] + edge["order only"]
+
+
+def edge_text(edge):
+    line = b"build" + b"".join(b" " + spelled(it) for it in edge["outputs"])
+    for mark, part in ((b" |", "implicit"), (b": " + edge["rule"], "inputs"), (b" |", "implicit inputs"),
+                       (b" ||", "order only")):
+        if edge[part] or part == "inputs":
+            line += mark + b"".join(b" " + spelled(it) for it in edge[part])
+    return line + b"\n"
+
+
+def listing_text(edges):
+    """The text of a listing; the first edge whose build line is too long is refused."""
+    text = []
+    for edge in edges:
+        line = edge_text(edge)
+        if len(line) > LINE_LIMIT:
+            raise Refused(b"E9 ListingTooLong " + edge["outputs"][0])
+        text.append(line)
+        text.append(b"  dyndep = " + spelled(edge["dyndep"]) + b"\n" if edge["dyndep"] else b"")
+        text.append(b"  restat = 1\n" if edge["restat"] else b"")
+    return b"".join(text)
+
+
+# a build line with a letter for each token
+EDGE = re.compile(r"bw+(\|w*)?:ww*(\|w*)?(ow*)?")
+LETTERS = {b"|": "|", b":": ":", b"||": "o", b"|@": "@"}
+
+
+def edge_read(tokens):
+    """The edge of a build line's tokens, its paths as they are spelled, or None where the line has another form."""
+    letters = "".join(LETTERS.get(it, "w") for it in tokens[1:])
+    if not EDGE.fullmatch("b" + letters):
+        return None
+    at = tokens.index(b":")
+    rule = tokens[at + 1]
+    if not re.fullmatch(rb"[A-Za-z0-9_.-]+", rule):
+        return None
+    made, needed = divided(tokens[1:at], [b"|"]), divided(tokens[at + 2:], [b"|", b"||"])
+    return edge_of(rule, *made, *needed)
+
+
+def divided(tokens, marks):
+    """The words before the first of these marks, and behind each of them; none where a mark is left out."""
+    parts = {mark: [] for mark in [b""] + marks}
+    mark = b""
+    for token in tokens:
+        if token in marks:
+            mark = token
+        else:
+            parts[mark].append(value_of(token))
+    return list(parts.values())
+
+
+PARTS = ("outputs", "implicit", "inputs", "implicit inputs", "order only")
+
+
+def listing_of(text):
+    """The edges of a listing, or the refusal of its first faulty line, or why they are no graph."""
+    edges, taken = [], None
+    for line in lines_of(text, b"edges: "):
+        if line.is_comment:
+            continue
+        where = b"edges: line %d: " % line.number
+        fault = lexical_fault(line.text)
+        if fault:
+            raise Refused(where + fault)
+        tokens = tokens_of(line.text)
+        if not tokens:
+            taken = None
+        elif line.text.startswith(b" "):
+            edge_bound(edges, taken, assignment_of(line.text), where)
+        elif tokens[0] == (0, b"build"):
+            edges.append(edge_placed(edge_read([it for _, it in tokens]), where))
+            taken = set()
+        else:
+            raise Refused(where + b"E3 Form")
+    return graph_of(edges)
+
+
+def edge_bound(edges, taken, assigned, where):
+    """Gives the last edge the binding of an indented line. `taken` has the names of those that it has."""
+    if taken is None or not assigned or assigned[1] not in (b"dyndep", b"restat") or assigned[1] in taken:
+        raise Refused(where + b"E3 Form")
+    taken.add(assigned[1])
+    if assigned[1] == b"restat":
+        edges[-1]["restat"] = assigned[2] != b""
+    else:
+        edges[-1]["dyndep"] = listed_path(assigned[2], where)
+
+
+def edge_placed(edge, where):
+    """The edge with its paths made canonical."""
+    if edge is None:
+        raise Refused(where + b"E3 Form")
+    for part in PARTS:
+        edge[part] = [listed_path(it, where) for it in edge[part]]
+    return edge
+
+
+def listed_path(path, where):
+    try:
+        return path_of(path)
+    except PathFault as fault:
+        raise Refused(where + b"E3 Path " + fault.text) from fault
+
+
+def graph_of(edges):
+    twice = repeated([it for edge in edges for it in made_by(edge)])
+    if twice:
+        raise Refused(b"E1 ProducedTwice " + twice[0])
+    for edge in edges:
+        if edge["dyndep"] and edge["dyndep"] not in needed_by(edge):
+            raise Refused(b"E2 DyndepNotInput " + edge["outputs"][0])
+    return edges
+
+
+def after(edges, statements, name):
+    """The edges after the effect of the statements of a dyndep file of this name, or why they have none."""
+    placed = [statement_placed(at, it) for at, it in enumerate(statements)]
+    maker = {it: at for at, edge in enumerate(edges) for it in made_by(edge)}
+    for it in placed:
+        if it.output not in maker or edges[maker[it.output]]["dyndep"] != name:
+            raise Refused(b"E5 NotBound " + it.output)
+    on = [maker[it.output] for it in placed]
+    twice = repeated(on)
+    if twice:
+        raise Refused(b"E4 StatementTwice " + placed[twice[2]].output)
+    for at, edge in enumerate(edges):
+        if edge["dyndep"] == name and at not in on:
+            raise Refused(b"E6 NotMentioned " + edge["outputs"][0])
+    made = set(maker)
+    for it in placed:
+        for path in it.outputs:
+            if path in made:
+                raise Refused(b"E7 AddedTwice " + path)
+            made.add(path)
+    edges = [dict(it) for it in edges]
+    for at, it in zip(on, placed):
+        edge = edges[at]
+        edge["implicit"] = edge["implicit"] + it.outputs
+        edge["implicit inputs"] = edge["implicit inputs"] + it.inputs
+        edge["restat"] = edge["restat"] or it.restat
+    return edges
+
+
+def statement_placed(at, statement):
+    """The statement with its paths made canonical."""
+    paths = []
+    for path in [statement.output] + statement.outputs + statement.inputs:
+        try:
+            paths.append(path_of(path))
+        except PathFault as fault:
+            raise Refused(b"E8 BadPath statement %d path %d %s" % (at, len(paths), fault.text)) from fault
+    behind = 1 + len(statement.outputs)
+    return Statement(paths[0], paths[1:behind], paths[behind:], statement.restat)
+
+
+# ---- orders
+
+def needs_of(edges):
+    maker = {it: at for at, edge in enumerate(edges) for it in made_by(edge)}
+    return [{maker[it] for it in needed_by(edge) if it in maker} for edge in edges]
+
+
+def order_of(edges):
+    """The first outputs of the edges in their order, or their least cycle."""
+    needs = needs_of(edges)
+    first = [edge["outputs"][0] for edge in edges]
+    cycle = least_cycle(needs)
+    if cycle:
+        raise Refused(b"cycle " + b" -> ".join(first[it] for it in cycle))
+    return [first[it] for it in least_order(needs)]

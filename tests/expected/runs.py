@@ -1,0 +1,45 @@
+"""What a call of the program has to answer and to write, by the files that are there."""
+import os
+
+from . import commands
+
+
+def read(name):
+    with open(name, "rb") as file:
+        return file.read()
+
+
+def opened(name):
+    """The bytes of a file, or None where it cannot be read."""
+    try:
+        return read(name)
+    except (OSError, ValueError):
+        return None
+
+
+def answer_of(command, *given):
+    """What a call has to answer."""
+    call = getattr(commands, command)
+    if command == "one":
+        return call(opened(given[0]), *map(os.fsencode, given[1:]))
+    if command == "effect":
+        return call(os.fsencode(given[0]), *map(opened, given[1:]))
+    if command in ("collate", "project"):
+        return call(opened(given[0]), opened)
+    return call(opened(given[0]))
+
+
+def ending(answer):
+    """The status and the two texts of an answer once its files are written, and these files, up to one that cannot be."""
+    written = {}
+    for name, text in answer.files:
+        if b"\x00" in name or not os.path.isdir(os.path.dirname(name) or b".") or os.path.isdir(name) or len(name) > 255:
+            return tuple(commands.failed(3, b"cannot write " + name)[:3]), written
+        written[os.path.normpath(name)] = text
+    return tuple(answer[:3]), written
+
+
+def tree():
+    """The files that are in the folder and below it."""
+    return {os.path.normpath(os.path.join(folder, name)): read(os.path.join(folder, name))
+            for folder, _, names in os.walk(b".") for name in names}
