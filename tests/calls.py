@@ -67,8 +67,3 @@ def write(name, text):
     os.makedirs(os.path.dirname(name) or ".", exist_ok=True)
     with open(name, "wb") as file:
         file.write(text)
-
-
-def read(name):
-    with open(name, "rb") as file:
-        return file.read()
