@@ -1,21 +1,14 @@
-//! What no clause says: worked examples whose answers are known, and that a call succeeds where
-//! memory is left.
-//!
-//! Paths are given as texts. An answer is compared as the listing of its edges, as the line of a
-//! fault, or as the first outputs of edges in order.
+//! What no clause says: that a call succeeds where memory is left, listings in every cutting, and writers that fail. What
+//! listings and effects are answered is a table of tests/rows, whose rows are given to the built program.
 ghost use Rattle.std.specs.Prelude.{◌≢◌, [], All, IsTrue};
 
-mod effects;
-mod graphs;
 mod growths;
 mod listings;
-mod orders;
-mod several_files;
 mod writing;
 
-use crate::{Edge, EffectFault, Graph, GraphFault, apply};
+use crate::{Edge, Graph};
 use dyndep_file::{Dyndep, Statement};
-use ninja_text::{Failure, Path};
+use ninja_text::Path;
 use std::alloc::{AllocError, Global};
 
 fn path(alloc: Global, text: &str) -> Result<Path, AllocError> {
@@ -23,45 +16,6 @@ fn path(alloc: Global, text: &str) -> Result<Path, AllocError> {
         Ok(path) => Ok(path),
         Err(_failure) => Err(AllocError),
     }
-}
-
-fn paths(alloc: Global, texts: &[&str]) -> Result<Vec<Path>, AllocError> {
-    let mut paths = Vec::new(alloc);
-    for text in texts {
-        paths.push(path(alloc, *text)?)?;
-    }
-    Ok(paths)
-}
-
-fn edge(
-    alloc: Global,
-    rule: &str,
-    outputs: &[&str],
-    inputs: &[&str],
-    order_only: &[&str],
-) -> Result<Edge, AllocError> {
-    Ok(Edge {
-        rule: Vec::from_slice(alloc, rule.as_bytes())?,
-        outputs: paths(alloc, outputs)?,
-        implicit_outputs: Vec::new(alloc),
-        inputs: paths(alloc, inputs)?,
-        implicit_inputs: Vec::new(alloc),
-        order_only: paths(alloc, order_only)?,
-        dyndep: None,
-        restat: false,
-    })
-}
-
-/// The edge of a compilation, which waits for the dyndep file that it names.
-fn compilation(
-    alloc: Global,
-    object: &str,
-    source: &str,
-    dyndep: &str,
-) -> Result<Edge, AllocError> {
-    let mut compilation = edge(alloc, "cxx", &[object], &[source], &[dyndep])?;
-    compilation.dyndep = Some(path(alloc, dyndep)?);
-    Ok(compilation)
 }
 
 fn texts(alloc: Global, texts: &[&str]) -> Result<Vec<Vec<u8>>, AllocError> {
@@ -72,7 +26,7 @@ fn texts(alloc: Global, texts: &[&str]) -> Result<Vec<Vec<u8>>, AllocError> {
     Ok(copies)
 }
 
-/// A statement, whose flag is set where it adds outputs.
+/// A statement whose flag is set.
 fn statement(
     alloc: Global,
     output: &str,
@@ -83,16 +37,8 @@ fn statement(
         output: Vec::from_slice(alloc, output.as_bytes())?,
         implicit_outputs: texts(alloc, outputs)?,
         implicit_inputs: texts(alloc, inputs)?,
-        restat: !outputs.is_empty(),
+        restat: true,
     })
-}
-
-/// Two compilations that name `t.dd`, and a library of both objects.
-fn library_edges(alloc: Global) -> Result<Vec<Edge>, AllocError> {
-    let a = compilation(alloc, "a.o", "a.cpp", "t.dd")?;
-    let b = compilation(alloc, "b.o", "b.cpp", "t.dd")?;
-    let lib = edge(alloc, "ar", &["lib"], &["a.o", "b.o"], &[])?;
-    Ok(vec![in alloc; a, b, lib]?)
 }
 
 /// `a.o` provides `A` and requires `B`, which `b.o` provides.
@@ -116,40 +62,14 @@ fn have_outputs(edges: &[Edge]) -> bool
     true
 }
 
-/// The graph of edges, or why they are none.
-fn graph_or_fault(
-    alloc: Global,
-    edges: Vec<Edge>,
-) -> Result<Result<Graph, GraphFault>, AllocError> {
+/// The graph of edges that are one.
+fn graph_of(alloc: Global, edges: Vec<Edge>) -> Result<Graph, AllocError> {
     if !have_outputs(edges.as_slice()) {
         return Err(AllocError);
     }
     match Graph::new(alloc, edges) {
-        Ok(graph) => Ok(Ok(graph)),
-        Err(Failure::Memory) => Err(AllocError),
-        Err(Failure::Fault(fault)) => Ok(Err(fault)),
-    }
-}
-
-/// The graph of edges that are one.
-fn graph_of(alloc: Global, edges: Vec<Edge>) -> Result<Graph, AllocError> {
-    match graph_or_fault(alloc, edges)? {
         Ok(graph) => Ok(graph),
-        Err(_fault) => Err(AllocError),
-    }
-}
-
-/// The graph after the effect of the file of that name, or why it has none.
-fn applied(
-    alloc: Global,
-    graph: &Graph,
-    name: &str,
-    dyndep: &Dyndep,
-) -> Result<Result<Graph, EffectFault>, AllocError> {
-    match apply(alloc, graph, &path(alloc, name)?, dyndep) {
-        Ok(graph) => Ok(Ok(graph)),
-        Err(Failure::Memory) => Err(AllocError),
-        Err(Failure::Fault(fault)) => Ok(Err(fault)),
+        Err(_failure) => Err(AllocError),
     }
 }
 
@@ -166,6 +86,18 @@ fn push_paths(out: &mut Vec<u8>, mark: &str, paths: &[Path]) -> Result<(), Alloc
     Ok(())
 }
 
+fn push_bindings(out: &mut Vec<u8>, edge: &Edge) -> Result<(), AllocError> {
+    if let Some(dyndep) = &edge.dyndep {
+        out.extend_from_slice(b"\n  dyndep = ")?;
+        out.extend_from_slice(dyndep.bytes())?;
+    }
+    if edge.restat {
+        out.extend_from_slice(b"\n  restat = 1")?;
+    }
+    out.push(b'\n')?;
+    Ok(())
+}
+
 fn push_edge(out: &mut Vec<u8>, edge: &Edge) -> Result<(), AllocError> {
     push_paths(out, "build", &edge.outputs)?;
     push_paths(out, " |", &edge.implicit_outputs)?;
@@ -174,16 +106,7 @@ fn push_edge(out: &mut Vec<u8>, edge: &Edge) -> Result<(), AllocError> {
     push_paths(out, "", &edge.inputs)?;
     push_paths(out, " |", &edge.implicit_inputs)?;
     push_paths(out, " ||", &edge.order_only)?;
-    out.push(b'\n')?;
-    if let Some(dyndep) = &edge.dyndep {
-        out.extend_from_slice(b"  dyndep = ")?;
-        out.extend_from_slice(dyndep.bytes())?;
-        out.push(b'\n')?;
-    }
-    if edge.restat {
-        out.extend_from_slice(b"  restat = 1\n")?;
-    }
-    Ok(())
+    push_bindings(out, edge)
 }
 
 /// The edges in Ninja's spelling.
@@ -193,27 +116,4 @@ fn listing(alloc: Global, graph: &Graph) -> Result<Vec<u8>, AllocError> {
         push_edge(&mut out, edge)?;
     }
     Ok(out)
-}
-
-/// The text of a fault, and the path that is reported with it.
-fn fault_line(alloc: Global, text: &str, path: Option<&Path>) -> Result<Vec<u8>, AllocError> {
-    let mut line = Vec::from_slice(alloc, text.as_bytes())?;
-    if let Some(path) = path {
-        line.push(b' ')?;
-        line.extend_from_slice(path.bytes())?;
-    }
-    Ok(line)
-}
-
-/// The listing after the effect, or the line of the fault.
-fn effect_text(
-    alloc: Global,
-    edges: Vec<Edge>,
-    name: &str,
-    dyndep: &Dyndep,
-) -> Result<Vec<u8>, AllocError> {
-    match applied(alloc, &graph_of(alloc, edges)?, name, dyndep)? {
-        Ok(graph) => listing(alloc, &graph),
-        Err(fault) => fault_line(alloc, format!(in alloc; "{fault}")?.as_str(), fault.path()),
-    }
 }
