@@ -1,6 +1,6 @@
 //! The worked rows of the format, whole, byte by byte, and cut in two at every place.
 use super::*;
-use ninja_text::{Counted, Failure, LexFault};
+use ninja_text::{Counted, Failure};
 use std::alloc::{AllocError, Global};
 use std::io;
 use std::io::{ErrorKind, Read};
@@ -11,8 +11,6 @@ const VERSION_LINE: &[u8] = b"ninja_dyndep_version = 1\n";
 /// Two statements, each with a `restat` binding: 25, 42, 13, 30 and 13 bytes.
 const TWO_STATEMENTS: &[u8] =
     b"ninja_dyndep_version = 1\nbuild a.o | mod/A.bmi: dyndep | mod/B.bmi\n  restat = 1\nbuild b.o | mod/B.bmi: dyndep\n  restat = 1\n";
-
-type Answer = Result<Vec<u8>, Failure<ReadFault>>;
 
 /// The statements, a line each: the output, ` +` and each implicit output, ` <` and each implicit input, and ` !` for the flag.
 fn listed(alloc: Global, dyndep: &Dyndep) -> Result<Vec<u8>, AllocError> {
@@ -42,65 +40,84 @@ fn list_paths(mark: &[u8], paths: &[Vec<u8>], text: &mut Vec<u8>) -> Result<(), 
     Ok(())
 }
 
-fn read_in_two(alloc: Global, text: &[u8], cut: usize) -> Answer {
-    let (front, back) = text.split_at(cut.min(text.len()));
-    let mut reader = DyndepReader::new(alloc);
-    reader.feed(front)?;
-    reader.feed(back)?;
-    Ok(listed(alloc, &reader.finish()?)?)
+/// The statements of a file, or its printed fault.
+fn answered(
+    alloc: Global,
+    read: Result<Dyndep, Failure<ReadFault>>,
+) -> Result<Vec<u8>, AllocError> {
+    match read {
+        Ok(dyndep) => listed(alloc, &dyndep),
+        Err(Failure::Memory) => Err(AllocError),
+        Err(Failure::Fault(fault)) => {
+            let text = format!(in alloc; "{fault}\n")?;
+            Vec::from_slice(alloc, text.as_bytes())
+        }
+    }
 }
 
-fn read_bytewise(alloc: Global, text: &[u8]) -> Answer {
+/// Feeds one piece and then another, up to the first that is refused.
+fn feed_both(
+    reader: &mut DyndepReader,
+    front: &[u8],
+    back: &[u8],
+) -> Result<(), Failure<ReadFault>> {
+    reader.feed(front)?;
+    reader.feed(back)
+}
+
+fn read_in_two(alloc: Global, text: &[u8], cut: usize) -> Result<Vec<u8>, AllocError> {
+    let (front, back) = text.split_at(cut.min(text.len()));
+    let mut reader = DyndepReader::new(alloc);
+    match feed_both(&mut reader, front, back) {
+        Ok(()) => answered(alloc, reader.finish()),
+        Err(failure) => answered(alloc, Err(failure)),
+    }
+}
+
+fn read_bytewise(alloc: Global, text: &[u8]) -> Result<Vec<u8>, AllocError> {
     let mut reader = DyndepReader::new(alloc);
     for byte in text {
         if let Err(failure) = reader.feed(&[*byte]) {
-            return asked_again(reader, failure);
+            return asked_again(alloc, reader, failure);
         }
     }
-    Ok(listed(alloc, &reader.finish()?)?)
+    answered(alloc, reader.finish())
 }
 
-/// The failure, where a refused reader answers it again; `Io`, which no reader answers, where it does not.
-fn asked_again(reader: DyndepReader, failure: Failure<ReadFault>) -> Answer {
+/// The failure, where a refused reader answers it again.
+fn asked_again(
+    alloc: Global,
+    reader: DyndepReader,
+    failure: Failure<ReadFault>,
+) -> Result<Vec<u8>, AllocError> {
     let mut reader = reader;
     if reader.feed(b"\n") != Err(failure) {
-        return Err(Failure::Fault(ReadFault::Io));
+        return Vec::from_slice(alloc, b"another answer");
     }
     match reader.finish() {
-        Err(again) if again == failure => Err(failure),
-        _ => Err(Failure::Fault(ReadFault::Io)),
+        Err(again) if again == failure => answered(alloc, Err(failure)),
+        _ => Vec::from_slice(alloc, b"another answer"),
     }
 }
 
-/// Whether the text is answered so in every cutting: whole, byte by byte, and cut in two at every place.
-fn always_answers(alloc: Global, text: &[u8], answer: &Answer) -> Result<bool, AllocError> {
+/// Whether the text is answered so in every cutting: byte by byte, and cut in two at every place.
+fn always_answers(alloc: Global, text: &[u8], answer: &[u8]) -> Result<bool, AllocError> {
     for cut in 0..=text.len() {
-        if !is_answer(&read_in_two(alloc, text, cut), answer)? {
+        if read_in_two(alloc, text, cut)?.as_slice() != answer {
             return Ok(false);
         }
     }
-    is_answer(&read_bytewise(alloc, text), answer)
+    Ok(read_bytewise(alloc, text)?.as_slice() == answer)
 }
 
-/// Whether an answer is the one wanted, where memory was not refused.
-fn is_answer(found: &Answer, wanted: &Answer) -> Result<bool, AllocError> {
-    if *found == Err(Failure::Memory) {
-        return Err(AllocError);
+/// Appends the answer to a text, where it is the same in every cutting.
+fn push_answer(alloc: Global, text: &[u8], out: &mut Vec<u8>) -> Result<(), AllocError> {
+    let whole = read_in_two(alloc, text, 0)?;
+    if always_answers(alloc, text, &whole)? {
+        out.extend_from_slice(&whole)
+    } else {
+        out.extend_from_slice(b"answers differ\n")
     }
-    Ok(found == wanted)
-}
-
-/// The fault of a file that was read to its end or refused, if it has one.
-fn fault_of(read: Result<Dyndep, Failure<ReadFault>>) -> Result<Option<ReadFault>, AllocError> {
-    match read {
-        Ok(_) => Ok(None),
-        Err(Failure::Memory) => Err(AllocError),
-        Err(Failure::Fault(fault)) => Ok(Some(fault)),
-    }
-}
-
-fn fault_at(line: u64, fault: LineFault) -> Answer {
-    Err(Failure::Fault(ReadFault::AtLine { line, fault }))
 }
 
 /// The text after a version line.
@@ -113,195 +130,186 @@ fn after_version(alloc: Global, text: &[u8]) -> Result<Vec<u8>, AllocError> {
 
 #[test]
 fn two_statements_are_read_in_every_cutting(rt: HostRuntime) -> Result<(), Fail> {
-    let said: &[u8] = b"a.o +mod/A.bmi <mod/B.bmi !\nb.o +mod/B.bmi !\n";
-    assert_eq!(rt; TWO_STATEMENTS.len(), 123);
-    assert!(rt; always_answers(rt.alloc(), TWO_STATEMENTS, &Ok(said.to_vec(rt.alloc())?))?);
+    let said = b"a.o +mod/A.bmi <mod/B.bmi !\nb.o +mod/B.bmi !\n";
+    assert!(rt; TWO_STATEMENTS.len() == 123);
+    assert!(rt; always_answers(rt.alloc(), TWO_STATEMENTS, said)?);
     Ok(())
 }
 
 #[test]
 fn a_word_goes_on_past_a_continuation(rt: HostRuntime) -> Result<(), Fail> {
-    let rows: [(&[u8], &[u8]); 6] = [
-        (b"build a$\n  b.o: dyndep\n", b"ab.o\n"),
-        (b"build a$\r\n  b.o: dyndep\r\n", b"ab.o\n"),
-        (b"build a.o $\n: dyndep\n", b"a.o\n"),
-        (b"build a.o $\r\n: dyndep\r\n", b"a.o\n"),
-        (
-            b"build a.o | b $\n c: dyndep | d$ e $$f\n",
-            b"a.o +b +c <d e <$f\n",
-        ),
-        (b"build a$:b: dyndep\n\n# a $x comment\n", b"a:b\n"),
-    ];
-    for (text, said) in rows {
-        let text = after_version(rt.alloc(), text)?;
-        assert!(rt; always_answers(rt.alloc(), &text, &Ok(said.to_vec(rt.alloc())?))?);
+    let mut found = Vec::new(rt.alloc());
+    for text in [
+        b"build a$\n  b.o: dyndep\n".as_slice(),
+        b"build a$\r\n  b.o: dyndep\r\n",
+        b"build a.o $\n: dyndep\n",
+        b"build a.o $\r\n: dyndep\r\n",
+        b"build a.o | b $\n c: dyndep | d$ e $$f\n",
+        b"build a$:b: dyndep\n\n# a $x comment\n",
+    ] {
+        push_answer(rt.alloc(), &after_version(rt.alloc(), text)?, &mut found)?;
     }
-    Ok(())
-}
-
-#[test]
-fn faults_of_a_line_after_the_version(rt: HostRuntime) -> Result<(), Fail> {
-    let rows: [(&[u8], u64, LineFault); 26] = [
-        (b"build a.o: dyndep", 2, LineFault::Truncated),
-        (b"build a b: dyndep\n", 2, LineFault::SecondOutput),
-        (b"build : dyndep\n", 2, LineFault::NoOutput),
-        (b"build\n", 2, LineFault::NoOutput),
-        (b"build a\n", 2, LineFault::BadLine),
-        (b"build a | b\n", 2, LineFault::BadLine),
-        (b"build a:\n", 2, LineFault::BadRule),
-        (b"build a: phony\n", 2, LineFault::BadRule),
-        (b"build a: dyndep x\n", 2, LineFault::ExplicitInput),
-        (b"build a: dyndep || x\n", 2, LineFault::OrderOnly),
-        (b"build a: dyndep |@ x\n", 2, LineFault::Validation),
-        (b"build a: dyndep | b : c\n", 2, LineFault::BadLine),
-        (
-            b"build $x: dyndep\n",
-            2,
-            LineFault::Lexical(LexFault::Variable { place: 6 }),
-        ),
-        (
-            b"build a$.b: dyndep\n",
-            2,
-            LineFault::Lexical(LexFault::BadEscape { place: 7 }),
-        ),
-        (
-            b"build a\0b: dyndep\n",
-            2,
-            LineFault::Lexical(LexFault::Nul { place: 7 }),
-        ),
-        (
-            b"build a\rb: dyndep\n",
-            2,
-            LineFault::Lexical(LexFault::LoneCr { place: 7 }),
-        ),
-        (
-            b"build a$\rb: dyndep\n",
-            2,
-            LineFault::Lexical(LexFault::BadEscape { place: 7 }),
-        ),
-        (
-            b"build a: dyndep\r\r\n",
-            2,
-            LineFault::Lexical(LexFault::LoneCr { place: 15 }),
-        ),
-        (b"rule cc\n", 2, LineFault::BadLine),
-        (b"$\nbuild a: dyndep\n", 2, LineFault::BadLine),
-        (b"ninja_dyndep_version = 1\n", 2, LineFault::SecondVersion),
-        (b"  restat = 1\n", 2, LineFault::Indent),
-        (b"build a: dyndep\n\n  restat = 1\n", 4, LineFault::Indent),
-        (
-            b"build a: dyndep\n  restat = 1\n  restat = 1\n",
-            4,
-            LineFault::Indent,
-        ),
-        (
-            b"build a: dyndep\n  depfile = x\n",
-            3,
-            LineFault::BadBinding,
-        ),
-        (b"build a$\n$\n: phony\n", 2, LineFault::BadRule),
-    ];
-    for (text, line, fault) in rows {
-        let text = after_version(rt.alloc(), text)?;
-        assert!(rt; always_answers(rt.alloc(), &text, &fault_at(line, fault))?);
-    }
+    let wanted = b"ab.o\nab.o\na.o\na.o\na.o +b +c <d e <$f\na:b\n";
+    assert!(rt; found.as_slice() == wanted.as_slice());
     Ok(())
 }
 
 #[test]
 fn lines_that_are_accepted(rt: HostRuntime) -> Result<(), Fail> {
-    let rows: [(&[u8], &[u8]); 6] = [
-        (
-            b"ninja_dyndep_version = 1.0-extra\nbuild a: dyndep\n",
-            b"a\n",
-        ),
-        (b"# \0 $x\r\n\n  \nninja_dyndep_version=1\r\n", b""),
-        (
-            b"ninja_dyndep_version = 1\nbuild a: dyndep\n  restat =\n",
-            b"a\n",
-        ),
-        (
-            b"ninja_dyndep_version = 1\nbuild a: dyndep\n# kept open\n  restat = 0\n",
-            b"a !\n",
-        ),
-        (b"ninja_dyndep_version = 1\nbuild a | : dyndep |\n", b"a\n"),
-        (b"ninja_dyndep_version = 1\n#\0$x\n", b""),
-    ];
-    for (text, said) in rows {
-        assert!(rt; always_answers(rt.alloc(), text, &Ok(said.to_vec(rt.alloc())?))?);
+    let mut found = Vec::new(rt.alloc());
+    for text in [
+        b"ninja_dyndep_version = 1.0-extra\nbuild a: dyndep\n".as_slice(),
+        b"# \0 $x\r\n\n  \nninja_dyndep_version=1\r\n",
+        b"ninja_dyndep_version = 1\nbuild b: dyndep\n  restat =\n",
+        b"ninja_dyndep_version = 1\nbuild c: dyndep\n# kept open\n  restat = 0\n",
+        b"ninja_dyndep_version = 1\nbuild d | : dyndep |\n",
+        b"ninja_dyndep_version = 1\n#\0$x\n",
+    ] {
+        push_answer(rt.alloc(), text, &mut found)?;
     }
+    assert!(rt; found.as_slice() == b"a\nb\nc !\nd\n".as_slice());
+    Ok(())
+}
+
+#[test]
+fn faults_of_a_line_after_the_version(rt: HostRuntime) -> Result<(), Fail> {
+    let mut found = Vec::new(rt.alloc());
+    for text in [
+        b"build a.o: dyndep".as_slice(),
+        b"build a b: dyndep\n",
+        b"build : dyndep\n",
+        b"build\n",
+        b"build a\n",
+        b"build a | b\n",
+        b"build a:\n",
+        b"build a: phony\n",
+        b"build a: dyndep x\n",
+        b"build a: dyndep || x\n",
+        b"build a: dyndep |@ x\n",
+        b"build a: dyndep | b : c\n",
+        b"rule cc\n",
+        b"$\nbuild a: dyndep\n",
+        b"ninja_dyndep_version = 1\n",
+        b"  restat = 1\n",
+        b"build a: dyndep\n\n  restat = 1\n",
+        b"build a: dyndep\n  restat = 1\n  restat = 1\n",
+        b"build a: dyndep\n  depfile = x\n",
+        b"build a$\n$\n: phony\n",
+    ] {
+        push_answer(rt.alloc(), &after_version(rt.alloc(), text)?, &mut found)?;
+    }
+    let wanted = "line 2: N6 Truncated
+line 2: Y10 SecondOutput
+line 2: Y9 NoOutput
+line 2: Y9 NoOutput
+line 2: Y8 BadLine
+line 2: Y8 BadLine
+line 2: Y11 BadRule
+line 2: Y11 BadRule
+line 2: Y12 ExplicitInput
+line 2: Y13 OrderOnly
+line 2: Y14 Validation
+line 2: Y8 BadLine
+line 2: Y8 BadLine
+line 2: Y8 BadLine
+line 2: Y6 SecondVersion
+line 2: Y7 Indent
+line 4: Y7 Indent
+line 4: Y7 Indent
+line 3: Y15 BadBinding
+line 2: Y11 BadRule
+";
+    assert!(rt; found.as_slice() == wanted.as_bytes());
+    Ok(())
+}
+
+#[test]
+fn lexical_faults_of_a_line_after_the_version(rt: HostRuntime) -> Result<(), Fail> {
+    let mut found = Vec::new(rt.alloc());
+    for text in [
+        b"build $x: dyndep\n".as_slice(),
+        b"build a$.b: dyndep\n",
+        b"build a\0b: dyndep\n",
+        b"build a\rb: dyndep\n",
+        b"build a$\rb: dyndep\n",
+        b"build a: dyndep\r\r\n",
+    ] {
+        push_answer(rt.alloc(), &after_version(rt.alloc(), text)?, &mut found)?;
+    }
+    let wanted = "line 2: N9 Variable at 6
+line 2: N10 BadEscape at 7
+line 2: N7 Nul at 7
+line 2: N8 LoneCr at 7
+line 2: N10 BadEscape at 7
+line 2: N8 LoneCr at 15
+";
+    assert!(rt; found.as_slice() == wanted.as_bytes());
     Ok(())
 }
 
 #[test]
 fn faults_before_or_at_the_version(rt: HostRuntime) -> Result<(), Fail> {
-    let rows: [(&[u8], u64, LineFault); 8] = [
-        (b"", 1, LineFault::NoVersion),
-        (b"# only\n\n", 3, LineFault::NoVersion),
-        (b"build a: dyndep\n", 1, LineFault::NoVersion),
-        (b"  restat = 1\n", 1, LineFault::NoVersion),
-        (b"x\n", 1, LineFault::NoVersion),
-        (b"ninja_dyndep_version = 1.1\n", 1, LineFault::BadVersion),
-        (b"ninja_dyndep_version = 12\n", 1, LineFault::BadVersion),
-        (b"ninja_dyndep_version = 2\n", 1, LineFault::BadVersion),
-    ];
-    for (text, line, fault) in rows {
-        assert!(rt; always_answers(rt.alloc(), text, &fault_at(line, fault))?);
+    let mut found = Vec::new(rt.alloc());
+    for text in [
+        b"".as_slice(),
+        b"# only\n\n",
+        b"build a: dyndep\n",
+        b"  restat = 1\n",
+        b"x\n",
+        b"ninja_dyndep_version = 1.1\n",
+        b"ninja_dyndep_version = 12\n",
+        b"ninja_dyndep_version = 2\n",
+    ] {
+        push_answer(rt.alloc(), text, &mut found)?;
     }
+    let wanted = "line 1: Y4 NoVersion
+line 3: Y4 NoVersion
+line 1: Y4 NoVersion
+line 1: Y4 NoVersion
+line 1: Y4 NoVersion
+line 1: Y5 BadVersion
+line 1: Y5 BadVersion
+line 1: Y5 BadVersion
+";
+    assert!(rt; found.as_slice() == wanted.as_bytes());
     Ok(())
 }
 
 /// What the first `len` bytes of the two statements are answered.
-fn truncated_answer(alloc: Global, len: usize) -> Result<Answer, AllocError> {
-    Ok(match len {
-        0 => fault_at(1, LineFault::NoVersion),
-        1..=24 => fault_at(1, LineFault::Truncated),
-        25 => Ok(Vec::new(alloc)),
-        26..=66 => fault_at(2, LineFault::Truncated),
-        67 => Ok(b"a.o +mod/A.bmi <mod/B.bmi\n".to_vec(alloc)?),
-        68..=79 => fault_at(3, LineFault::Truncated),
-        80 => Ok(b"a.o +mod/A.bmi <mod/B.bmi !\n".to_vec(alloc)?),
-        81..=109 => fault_at(4, LineFault::Truncated),
-        110 => Ok(b"a.o +mod/A.bmi <mod/B.bmi !\nb.o +mod/B.bmi\n".to_vec(alloc)?),
-        _ => fault_at(5, LineFault::Truncated),
-    })
+fn truncated_answer(len: usize) -> &'static str {
+    match len {
+        0 => "line 1: Y4 NoVersion\n",
+        1..=24 => "line 1: N6 Truncated\n",
+        25 => "",
+        26..=66 => "line 2: N6 Truncated\n",
+        67 => "a.o +mod/A.bmi <mod/B.bmi\n",
+        68..=79 => "line 3: N6 Truncated\n",
+        80 => "a.o +mod/A.bmi <mod/B.bmi !\n",
+        81..=109 => "line 4: N6 Truncated\n",
+        110 => "a.o +mod/A.bmi <mod/B.bmi !\nb.o +mod/B.bmi\n",
+        _ => "line 5: N6 Truncated\n",
+    }
 }
 
 #[test]
 fn every_beginning_of_two_statements(rt: HostRuntime) -> Result<(), Fail> {
     for len in 0..TWO_STATEMENTS.len() {
-        let answer = truncated_answer(rt.alloc(), len)?;
-        assert!(rt;
-            always_answers(rt.alloc(), &TWO_STATEMENTS[..len], &answer)?,
-            "the first {len} bytes"
-        );
+        let answer = truncated_answer(len).as_bytes();
+        assert!(rt; always_answers(rt.alloc(), &TWO_STATEMENTS[..len], answer)?);
     }
     Ok(())
 }
 
 #[test]
-fn a_line_reaches_the_limit_and_no_further(rt: HostRuntime) -> Result<(), Fail> {
-    let mut text = Vec::with_capacity(rt.alloc(), 1_048_601)?;
-    text.extend_from_slice(VERSION_LINE)?;
-    text.extend_from_slice(b"build ")?;
-    text.extend_from_slice(vec![in rt.alloc(); b'a'; 1_048_561]?.as_slice())?;
-    text.extend_from_slice(b": dyndep\n")?;
-    let mut reader = DyndepReader::new(rt.alloc());
-    reader.feed(&text)?;
-    let dyndep = reader.finish()?;
-    assert_eq!(rt; listed(rt.alloc(), &dyndep)?.len(), 1_048_562);
-    let mut whole = vec![in rt.alloc(); b'#'; 1_048_575]?;
-    whole.push(b'\n')?;
-    let mut reader = DyndepReader::new(rt.alloc());
-    reader.feed(&whole)?;
+fn too_long_a_line_is_refused_from_then_on(rt: HostRuntime) -> Result<(), Fail> {
     let comment = vec![in rt.alloc(); b'#'; 1_048_576]?;
     let mut reader = DyndepReader::new(rt.alloc());
     let too_long = Err(Failure::Fault(ReadFault::AtLine {
         line: 1,
         fault: LineFault::LineTooLong,
     }));
-    assert_eq!(rt; reader.feed(&comment), too_long);
-    assert_eq!(rt; reader.feed(b"\n"), too_long);
+    assert!(rt; reader.feed(&comment) == too_long);
+    assert!(rt; reader.feed(b"\n") == too_long);
     assert!(rt; reader.finish().is_err());
     Ok(())
 }
@@ -337,42 +345,49 @@ fn input(text: &[u8], fails_at: usize) -> Counted<Bytewise<'_>> {
     })
 }
 
+/// Whether a text is answered so by a reader that fails at a call, after so many calls, of which so many failed.
+fn reads_as(
+    alloc: Global,
+    input: Counted<Bytewise<'_>>,
+    answer: &[u8],
+    calls: usize,
+    failures: u128,
+) -> Result<bool, AllocError> {
+    let mut input = input;
+    let found = answered(alloc, read_all(alloc, &mut input))?;
+    Ok(
+        found.as_slice() == answer
+            && input.failures() == failures
+            && input.into_inner().calls == calls,
+    )
+}
+
 #[test]
 fn a_reader_is_read_to_its_end(rt: HostRuntime) -> Result<(), Fail> {
-    let mut input = input(TWO_STATEMENTS, 0);
-    let dyndep = read_all(rt.alloc(), &mut input)?;
-    assert_eq!(rt;
-        listed(rt.alloc(), &dyndep)?.as_slice(),
-        b"a.o +mod/A.bmi <mod/B.bmi !\nb.o +mod/B.bmi !\n".as_slice()
-    );
-    assert_eq!(rt; input.failures(), 0);
-    assert_eq!(rt; input.into_inner().calls, 124);
+    let said = b"a.o +mod/A.bmi <mod/B.bmi !\nb.o +mod/B.bmi !\n";
+    assert!(rt; reads_as(rt.alloc(), input(TWO_STATEMENTS, 0), said, 124, 0)?);
     Ok(())
 }
 
 #[test]
 fn a_failed_read_is_not_tried_again(rt: HostRuntime) -> Result<(), Fail> {
     for call in 1..124usize {
-        let mut input = input(TWO_STATEMENTS, call);
-        assert_eq!(rt;
-            fault_of(read_all(rt.alloc(), &mut input))?,
-            Some(ReadFault::Io)
+        assert!(rt;
+            reads_as(
+                rt.alloc(),
+                input(TWO_STATEMENTS, call),
+                b"Y16 Io\n",
+                call,
+                1
+            )?
         );
-        assert_eq!(rt; input.failures(), 1);
-        assert_eq!(rt; input.into_inner().calls, call);
     }
     Ok(())
 }
 
 #[test]
 fn a_refused_text_is_read_no_further(rt: HostRuntime) -> Result<(), Fail> {
-    let mut input = input(b"ninja_dyndep_version = 2\n", 26);
-    let fault = ReadFault::AtLine {
-        line: 1,
-        fault: LineFault::BadVersion,
-    };
-    assert_eq!(rt; fault_of(read_all(rt.alloc(), &mut input))?, Some(fault));
-    assert_eq!(rt; input.failures(), 0);
-    assert_eq!(rt; input.into_inner().calls, 25);
+    let input = input(b"ninja_dyndep_version = 2\n", 26);
+    assert!(rt; reads_as(rt.alloc(), input, b"line 1: Y5 BadVersion\n", 25, 0)?);
     Ok(())
 }
