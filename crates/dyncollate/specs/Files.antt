@@ -5,15 +5,22 @@ use Rattle.std.specs.declared.io.Error.{Error}
 use Rattle.scan_docs.specs.Target as document
 use Rattle.dyncollate.specs.declared.answer.Answer.{Answer}
 use Rattle.dyncollate.specs.Answers.{Fails}
-use Rattle.dyncollate.specs.CollateCommand.{HasSpec, names_in}
-use Rattle.dyncollate.specs.Tasks.{TaskValue, one, collate, show, effect, order}
+use Rattle.scan_docs.specs.Project.{ProjectValue}
+use Rattle.dyncollate.specs.CollateCommand.{FileValue, HasSpec, names_in}
+use Rattle.dyncollate.specs.ProjectCommand.{HasProject, names_of_target}
+use Rattle.dyncollate.specs.Tasks.{TaskValue, one, collate, show, effect, order, project}
 
 -- the names are those of the files that the target document names, if it is accepted
 abbrev pub NamesIn : List ℕ → List (List ℕ) → Type 0
 NamesIn bytes names = (spec : document.TargetValue) → HasSpec bytes spec → names ≡ names_in spec
 
+-- the names are those of the target documents that the project document names, if it is accepted
+abbrev pub NamesInProject : List ℕ → List (List ℕ) → Type 0
+NamesInProject bytes names = (p : ProjectValue) → HasProject bytes p → names ≡ p.targets
+
 -- The names of the files that a task reads besides its own, by what reading its own answered: those
--- of a target document, the dyndep file of an effect, and else none.
+-- of a target document, the target documents of a project, the dyndep file of an effect, and else
+-- none.
 abbrev pub NamesOf : TaskValue → Result (Vec ℕ Global) Error → List (List ℕ) → Type 0
 NamesOf (collate target) (Ok bytes) names = NamesIn bytes.items names
 NamesOf (collate target) (Err error) names = names ≡ []
@@ -22,6 +29,30 @@ NamesOf (show dyndep) read names = names ≡ []
 NamesOf (effect name edges dyndep) (Ok bytes) names = names ≡ dyndep ∷ []
 NamesOf (effect name edges dyndep) (Err error) names = names ≡ []
 NamesOf (order edges) read names = names ≡ []
+NamesOf (project document) (Ok bytes) names = NamesInProject bytes.items names
+NamesOf (project document) (Err error) names = names ≡ []
+
+-- the names are those of the files that a project reads for the target document, if it is accepted
+abbrev pub NamesInTarget : List ℕ → List (List ℕ) → Type 0
+NamesInTarget bytes names =
+    (spec : document.TargetValue) → HasSpec bytes spec → names ≡ names_of_target spec
+
+-- the names are those of the files that a project reads for its target documents, one after another
+abbrev pub NamesInTargets : List FileValue → List (List ℕ) → Type 0
+NamesInTargets [] names = names ≡ []
+NamesInTargets (document ∷ documents) names =
+    (first : List (List ℕ)) × (others : List (List ℕ)) × NamesInTarget document.1 first
+    × NamesInTargets documents others × (names ≡ first ++ others)
+
+-- The names of the files that a task reads last, by the files that it read before: those that the
+-- target documents of a project name, and else none.
+abbrev pub FurtherNamesOf : TaskValue → List FileValue → List (List ℕ) → Type 0
+FurtherNamesOf (project document) files names = NamesInTargets files names
+FurtherNamesOf (one scan dir ext) files names = names ≡ []
+FurtherNamesOf (collate target) files names = names ≡ []
+FurtherNamesOf (show dyndep) files names = names ≡ []
+FurtherNamesOf (effect name edges dyndep) files names = names ≡ []
+FurtherNamesOf (order edges) files names = names ≡ []
 
 -- The file at this index could not be written, and the run fails with its name.
 pub record IsUnwritten (files : List (String Global × Vec ℕ Global))

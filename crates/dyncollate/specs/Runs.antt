@@ -10,8 +10,9 @@ use Rattle.dyncollate.specs.Effect.{AnswersFiles}
 use Rattle.dyncollate.specs.Listings.{AnswersListing}
 use Rattle.dyncollate.specs.One.{setting_of, AnswersDocument}
 use Rattle.dyncollate.specs.Order.{AnswersOrder}
+use Rattle.dyncollate.specs.ProjectCommand.{AnswersProject}
 use Rattle.dyncollate.specs.Show.{AnswersShown}
-use Rattle.dyncollate.specs.Tasks.{TaskValue, one, collate, show, effect, order, file_of}
+use Rattle.dyncollate.specs.Tasks.{TaskValue, one, collate, show, effect, order, project, file_of}
 
 -- what a run answers to the bytes of its file, where others are read like this
 abbrev pub AnswersBytes : TaskValue → Reading → List ℕ → Answer → Type 0
@@ -22,6 +23,7 @@ AnswersBytes (show dyndep) reading bytes answer = AnswersDyndep AnswersShown byt
 AnswersBytes (effect name edges dyndep) reading bytes answer =
     AnswersFiles name bytes dyndep (reading dyndep) answer
 AnswersBytes (order edges) reading bytes answer = AnswersListing AnswersOrder bytes answer
+AnswersBytes (project document) reading bytes answer = AnswersProject bytes reading answer
 
 -- the bytes of the file are answered, or the run fails with the name of the file that can't be read
 abbrev pub AnswersRead : TaskValue → Reading → Result (Vec ℕ Global) Error → Answer → Type 0

@@ -12,6 +12,7 @@ pub data TaskValue : Type 0 where
   show : List ℕ → TaskValue
   effect : List ℕ → List ℕ → List ℕ → TaskValue
   order : List ℕ → TaskValue
+  project : List ℕ → TaskValue
 
 abbrev pub task_value : Task → TaskValue
 task_value (task.One scan dir ext) = one scan.now dir.now ext.now
@@ -19,6 +20,7 @@ task_value (task.Collate target) = collate target.now
 task_value (task.Show dyndep) = show dyndep.now
 task_value (task.Effect name edges dyndep) = effect name.now edges.now dyndep.now
 task_value (task.Order edges) = order edges.now
+task_value (task.Project document) = project document.now
 
 -- the file that a task reads first
 abbrev pub file_of : TaskValue → List ℕ
@@ -27,6 +29,7 @@ file_of (collate target) = target
 file_of (show dyndep) = dyndep
 file_of (effect name edges dyndep) = edges
 file_of (order edges) = edges
+file_of (project document) = document
 
 -- two bytes or more that begin with a hyphen
 abbrev pub is_flag : List ℕ → Bool
@@ -66,6 +69,11 @@ abbrev pub order_of : List (List ℕ) → Option TaskValue
 order_of (edges ∷ []) = Some (order edges)
 order_of _ = None
 
+-- as many arguments as `project` has
+abbrev pub project_of : List (List ℕ) → Option TaskValue
+project_of (document ∷ []) = Some (project document)
+project_of _ = None
+
 -- the task of a command and its arguments
 abbrev pub task_from : List ℕ → List (List ℕ) → Option TaskValue
 task_from command given =
@@ -73,7 +81,8 @@ task_from command given =
     else (if bytes_eq command (codes "collate") then collate_of given
     else (if bytes_eq command (codes "show") then show_of given
     else (if bytes_eq command (codes "effect") then effect_of given
-    else (if bytes_eq command (codes "order") then order_of given else None))))
+    else (if bytes_eq command (codes "order") then order_of given
+    else (if bytes_eq command (codes "project") then project_of given else None)))))
 
 -- what the words behind the program's name ask for, where they are a proper call
 abbrev pub task_in : List (List ℕ) → Option TaskValue

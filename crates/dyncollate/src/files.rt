@@ -2,19 +2,20 @@
 
 ghost use Rattle.std.specs.Prelude.{◌≡◌, map, take, length, string_bytes, IfOk};
 ghost use Rattle.dyncollate.specs.Tasks.{task_value};
-ghost use Rattle.dyncollate.specs.Files.{NamesIn, NamesOf, IsWritten};
+ghost use Rattle.dyncollate.specs.Answers.{file_value};
+ghost use Rattle.dyncollate.specs.Files.{NamesIn, NamesInProject, NamesInTarget, NamesInTargets, NamesOf, FurtherNamesOf, IsWritten};
 
 use crate::answer::Answer;
 use crate::words::Task;
 use ninja_text::Failure;
-use scan_docs::spec_read;
+use scan_docs::{project_read, spec_read};
 use std::alloc::{AllocError, Global};
 use std::io;
 use std::io::ErrorKind;
 
 /// The names of the files that a task reads besides its own, once that could be read: those that a target document names,
-/// scan documents before infos and the listing of edges last, where the document is accepted; the dyndep file of an
-/// effect; and else none.
+/// scan documents before infos and the listing of edges last, where the document is accepted; the target documents of a
+/// project, where its document is accepted; the dyndep file of an effect; and else none.
 pub fn names_of(
     alloc: Global,
     task: &Task,
@@ -31,7 +32,69 @@ pub fn names_of(
             let name = String::from_str(alloc, dyndep)?;
             Ok(vec![in alloc; name]?)
         }
+        Task::Project { .. } => names_in_project(alloc, bytes),
         _ => Ok(Vec::new(alloc)),
+    }
+}
+
+/// The names of the files that a task reads last, once those that [`names_of`] gave were read: of a project those that its
+/// target documents name, one after another, where they are accepted; and else none.
+pub fn further_names(
+    alloc: Global,
+    task: &Task,
+    files: &[(String, Vec<u8>)],
+) -> Result<Vec<String>, AllocError>
+    ensures { IfOk result (λ names. FurtherNamesOf
+        (task_value task.now) (map file_value files.now) (map string_bytes names.items)) }
+{
+    match task {
+        Task::Project { .. } => names_in_targets(alloc, files),
+        _ => Ok(Vec::new(alloc)),
+    }
+}
+
+/// The names of the target documents that a project document names.
+fn names_in_project(alloc: Global, bytes: &[u8]) -> Result<Vec<String>, AllocError>
+    ensures { IfOk result (λ names. NamesInProject bytes.now (map string_bytes names.items)) }
+{
+    match project_read(alloc, bytes) {
+        Ok(project) => Ok(project.targets),
+        Err(Failure::Memory) => Err(AllocError),
+        Err(Failure::Fault(_)) => Ok(Vec::new(alloc)),
+    }
+}
+
+/// The names of the files that a project reads for these target documents.
+fn names_in_targets(
+    alloc: Global,
+    documents: &[(String, Vec<u8>)],
+) -> Result<Vec<String>, AllocError>
+    ensures { IfOk result (λ names.
+        NamesInTargets (map file_value documents.now) (map string_bytes names.items)) }
+{
+    let mut names = Vec::new(alloc);
+    for document in documents {
+        let mut more = names_in_target(alloc, &document.1)?;
+        names.append(&mut more)?;
+    }
+    Ok(names)
+}
+
+/// The names of the files that a project reads for a target document: it takes no infos from files.
+fn names_in_target(alloc: Global, bytes: &[u8]) -> Result<Vec<String>, AllocError>
+    ensures { IfOk result (λ names. NamesInTarget bytes.now (map string_bytes names.items)) }
+{
+    match spec_read(alloc, bytes) {
+        Ok(spec) => {
+            let mut names = spec.scans;
+            let edges = spec.edges;
+            if let Some(edges) = edges {
+                names.push(edges)?;
+            }
+            Ok(names)
+        }
+        Err(Failure::Memory) => Err(AllocError),
+        Err(Failure::Fault(_)) => Ok(Vec::new(alloc)),
     }
 }
 

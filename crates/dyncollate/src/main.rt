@@ -8,8 +8,8 @@
 //! - `run` answers a task by what reading its files gave, and `print` writes an answer and gives the status. `files` reads
 //!   the files that a target document names, and writes those of an answer, by calls that `main` hands to it. What is left
 //!   to `main` is to ask for the words, to make these calls of the system, and to end with the status.
-//! - `one`, `collate`, `effect`, `order` and `show` are the commands of these names. Their promises are the contracts of
-//!   `one_run`, `collate_run`, `effect_run`, `order_run` and `show_run`.
+//! - `one`, `collate`, `project`, `effect`, `order` and `show` are the commands of these names. Their promises are the
+//!   contracts of `one_run`, `collate_run`, `project_run`, `effect_run`, `order_run` and `show_run`.
 //! - `reading` finds files by their names, `listing` and `dyndep_text` read listings and dyndep files, and `edges` checks
 //!   the edges that a target document names.
 //! - `refusal` tells why a target is refused, `table_fault` why its modules have no table, and `edge_fault` what is wrong
@@ -20,7 +20,7 @@
 #![tactic(auto)]
 
 use answer::Answer;
-use files::{names_of, read_files, write_files};
+use files::{further_names, names_of, read_files, write_files};
 use ninja_text::Counted;
 use print::print;
 use run::task_run;
@@ -42,6 +42,7 @@ mod listing;
 mod one;
 mod order;
 mod print;
+mod project;
 mod reading;
 mod refusal;
 mod run;
@@ -75,7 +76,10 @@ fn task_answer<R: Files + AllocGlobal>(rt: &R, task: &Task) -> Result<Answer, Al
     let alloc = rt.alloc();
     let read = fs::read(rt, task.file());
     let names = names_of(alloc, task, &read)?;
-    let files = read_files(alloc, &names, |name: &str| fs::read(rt, name))?;
+    let mut files = read_files(alloc, &names, |name: &str| fs::read(rt, name))?;
+    let names = further_names(alloc, task, &files)?;
+    let mut further = read_files(alloc, &names, |name: &str| fs::read(rt, name))?;
+    files.append(&mut further)?;
     let answer = task_run(alloc, task, read, &files)?;
     write_files(
         alloc,

@@ -11,6 +11,7 @@ use crate::collate::collate_run;
 use crate::effect::effect_files;
 use crate::one::one_run;
 use crate::order::order_run;
+use crate::project::project_run;
 use crate::show::show_run;
 use crate::words::Task;
 use std::alloc::{AllocError, Global};
@@ -50,5 +51,6 @@ fn bytes_run(
         Task::Show { .. } => show_run(alloc, bytes),
         Task::Effect { name, dyndep, .. } => effect_files(alloc, name, bytes, dyndep, files),
         Task::Order { .. } => order_run(alloc, bytes),
+        Task::Project { .. } => project_run(alloc, bytes, files),
     }
 }

@@ -32,6 +32,10 @@ pub enum Task<'w> {
     Order {
         edges: &'w str,
     },
+    /// Write the files of the targets of a project document.
+    Project {
+        document: &'w str,
+    },
 }
 
 impl<'w> Task<'w> {
@@ -47,6 +51,7 @@ impl<'w> Task<'w> {
             Task::Show { dyndep } => *dyndep,
             Task::Effect { edges, .. } => *edges,
             Task::Order { edges } => *edges,
+            Task::Project { document } => *document,
         }
     }
 }
@@ -129,6 +134,10 @@ fn task_from<'w>(command: &str, given: &[&'w str]) -> Option<Task<'w>>
         },
         "order" => match given {
             [edges] => Some(Task::Order { edges }),
+            _ => None,
+        },
+        "project" => match given {
+            [document] => Some(Task::Project { document }),
             _ => None,
         },
         _ => None,
