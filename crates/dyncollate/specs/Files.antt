@@ -1,5 +1,5 @@
 -- The files that a task reads besides its own, and those that it writes.
-use Rattle.std.specs.Prelude.{◌≡◌, ◌⊎◌, ℕ, List, [], ◌∷◌, ◌++◌, slice_get, Some, Result, Ok, Err, String, Vec, string_bytes, codes}
+use Rattle.std.specs.Prelude.{◌≡◌, ℕ, List, [], ◌∷◌, ◌++◌, length, take, All, slice_get, Some, Result, Ok, Err, String, Vec, string_bytes, codes}
 use Rattle.std.specs.Global.{Global}
 use Rattle.std.specs.declared.io.Error.{Error}
 use Rattle.scan_docs.specs.Target as document
@@ -54,14 +54,45 @@ FurtherNamesOf (show dyndep) files names = names ≡ []
 FurtherNamesOf (effect name edges dyndep) files names = names ≡ []
 FurtherNamesOf (order edges) files names = names ≡ []
 
--- The file at this index could not be written, and the run fails with its name.
-pub record IsUnwritten (files : List (String Global × Vec ℕ Global))
+-- ---- calls that read and write files
+
+-- what a call that reads files may answer for a name
+abbrev pub ReadAnswers : Type 1
+ReadAnswers = List ℕ → Result (Vec ℕ Global) Error → Type 0
+
+-- the call answers the file's bytes for its name
+abbrev pub IsRead : ReadAnswers → String Global × Vec ℕ Global → Type 0
+IsRead Answers (name, bytes) = Answers (string_bytes name) (Ok bytes)
+
+-- so many files were read: those of all names, or the call answers an error for the next name
+pub data EndsReading (Answers : ReadAnswers) (names : List (List ℕ)) (count : ℕ) : Type 0 where
+  all_read : count ≡ length names → EndsReading Answers names count
+  one_unread : (name : List ℕ) (error : Error) → slice_get names count ≡ Some name →
+      Answers name (Err error) → EndsReading Answers names count
+
+-- what a call that writes files may answer for a name and bytes
+abbrev pub WriteAnswers : Type 1
+WriteAnswers = List ℕ → List ℕ → Result (Unit {0}) Error → Type 0
+
+-- the call takes all bytes of the file
+abbrev pub IsTaken : WriteAnswers → String Global × Vec ℕ Global → Type 0
+IsTaken Answers (name, bytes) = Answers (string_bytes name) bytes.items (Ok tt)
+
+-- The file at this index is the first that could not be written, and the run fails with its name.
+pub record IsUnwritten (Answers : WriteAnswers) (files : List (String Global × Vec ℕ Global))
     (answer : Answer) : Type 0 where
   pub index : ℕ
-  pub file : String Global × Vec ℕ Global
-  pub here : slice_get files index ≡ Some file
-  pub fails : Fails 3 (codes "cannot write " ++ string_bytes file.0) answer
+  pub before : All (IsTaken Answers) (take index files)
+  pub name : String Global
+  pub bytes : Vec ℕ Global
+  pub here : slice_get files index ≡ Some (name, bytes)
+  pub error : Error
+  pub refused : Answers (string_bytes name) bytes.items (Err error)
+  pub fails : Fails 3 (codes "cannot write " ++ string_bytes name) answer
 
--- what is left of a run's answer once its files were to be written: itself, or a file's name
-abbrev pub IsWritten : Answer → Answer → Type 0
-IsWritten answer new = (new ≡ answer) ⊎ IsUnwritten answer.files.items new
+-- What is left of a run's answer once its files were to be written: itself, where all of them were,
+-- or the name of the first that was not.
+pub data IsWritten (Answers : WriteAnswers) (answer : Answer) (new : Answer) : Type 0 where
+  all_written : All (IsTaken Answers) answer.files.items → new ≡ answer →
+      IsWritten Answers answer new
+  one_unwritten : IsUnwritten Answers answer.files.items new → IsWritten Answers answer new

@@ -1,9 +1,10 @@
 //! The files that a task reads besides its own, and those that it writes.
 
-ghost use Rattle.std.specs.Prelude.{◌≡◌, map, take, length, string_bytes, IfOk};
+ghost use Rattle.std.specs.Prelude.{◌≡◌, map, take, length, string_bytes, All, IfOk};
+ghost use Rattle.std.specs.Fn.{FnReturnsAt, FnReturnsAtPair};
 ghost use Rattle.dyncollate.specs.Tasks.{task_value};
 ghost use Rattle.dyncollate.specs.Answers.{file_value};
-ghost use Rattle.dyncollate.specs.Files.{NamesIn, NamesInProject, NamesInTarget, NamesInTargets, NamesOf, FurtherNamesOf, IsWritten};
+ghost use Rattle.dyncollate.specs.Files.{NamesIn, NamesInProject, NamesInTarget, NamesInTargets, NamesOf, FurtherNamesOf, IsRead, EndsReading, IsWritten};
 
 use crate::answer::Answer;
 use crate::words::Task;
@@ -125,8 +126,13 @@ pub fn read_files<F: Fn(&str) -> io::Result<Vec<u8>>>(
     read: F,
 ) -> Result<Vec<(String, Vec<u8>)>, AllocError>
     requires { F.IsAlwaysCallable read }
-    ensures { IfOk result (λ files. map (λ file. string_bytes file.0) files.items
+    ensures names { IfOk result (λ files. map (λ file. string_bytes file.0) files.items
         ≡ take (length files.items) (map string_bytes names.now)) }
+    // the call answered these bytes
+    ensures bytes { IfOk result (λ files. All (IsRead (FnReturnsAt F.Fn read)) files.items) }
+    // and an error for the next name, if there is one
+    ensures end { IfOk result (λ files. EndsReading (FnReturnsAt F.Fn read)
+        (map string_bytes names.now) (length files.items)) }
 {
     let mut files = Vec::with_capacity(alloc, names.len())?;
     for name in names {
@@ -147,7 +153,7 @@ pub fn write_files<F: Fn(&str, &[u8]) -> io::Result<()>>(
     write: F,
 ) -> Result<Answer, AllocError>
     requires { F.IsAlwaysCallable write }
-    ensures { IfOk result (IsWritten answer) }
+    ensures { IfOk result (IsWritten (FnReturnsAtPair F.Fn write) answer) }
 {
     for file in &answer.files {
         if write(file.0.as_str(), file.1.as_slice()).is_err() {
