@@ -65,3 +65,22 @@ table() {
         { printf " %9.2f %6.2f\n", each, each / smallest; fflush() }
     '
 }
+
+# each_size FUNCTION 'COUNT ROUNDS'..: calls the function with both numbers, for each count that is no larger than largest.
+each_size() {
+    local function=$1 size count rounds
+    for size in "${@:2}"; do
+        read -r count rounds <<< "$size"
+        if [ "$count" -le "$largest" ]; then
+            "$function" "$count" "$rounds"
+        fi
+    done
+}
+
+# report WHAT LABEL..: the table of what was measured under these labels, in the files measured.LABEL.
+report() {
+    local label
+    for label in "${@:2}"; do
+        [ ! -f "$work/measured.$label" ] || cat "$work/measured.$label"
+    done | table "$1"
+}

@@ -39,27 +39,27 @@ measure_cmake() {
     cmp <(what_it_says "$directory/t.dd") <(what_it_says "$work/program/t.dd") >&2
 }
 
-# measure_size OBJECTS ROUNDS: targets of so many objects, from both forms of scan documents, with all forms of maps.
+# measure_form FORM OBJECTS ROUNDS FILES: the target documents of one form, with all forms of maps; these files are read.
+measure_form() {
+    local map bytes
+    bytes=$(size_of "$4")
+    for map in none clang gcc; do
+        clear "${folders[@]}"
+        compare "$1.$map" "$2" "$bytes" "$3" 0 collate ../documents/"$1.$map".json >> "$work/measured.$1.$map"
+    done
+}
+
+# measure_size OBJECTS ROUNDS: targets of so many objects, from both forms of scan documents.
 measure_size() {
-    local objects=$1 rounds=$2 bytes map
+    local objects=$1 rounds=$2 files='[0-9]+.ddi|each.none.json|lib[0-9].json'
     rm -rf "$documents"
     mkdir -p "$documents"/lib{0..9}
     awk -v objects="$objects" -v d="$documents" -f "$top/bench/names.awk" -f "$here/documents.awk"
-    bytes=$(size_of '[0-9]+.ddi|each.none.json|lib[0-9].json')
-    for map in none clang gcc; do
-        clear "${folders[@]}"
-        compare each."$map" "$objects" "$bytes" "$rounds" 0 collate ../documents/each."$map".json \
-            >> "$work/measured.each.$map"
-    done
+    measure_form each "$objects" "$rounds" "$files"
     if command -v cmake > /dev/null; then
-        measure_cmake "$objects" "$bytes" "$(((rounds + 3) / 4))" >> "$work/measured.cmake"
+        measure_cmake "$objects" "$(size_of "$files")" "$(((rounds + 3) / 4))" >> "$work/measured.cmake"
     fi
-    bytes=$(size_of 'all.ddi|all.none.json|lib[0-9].json')
-    for map in none clang gcc; do
-        clear "${folders[@]}"
-        compare all."$map" "$objects" "$bytes" "$rounds" 0 collate ../documents/all."$map".json \
-            >> "$work/measured.all.$map"
-    done
+    measure_form all "$objects" "$rounds" 'all.ddi|all.none.json|lib[0-9].json'
 }
 
 measure_chain() {
@@ -76,13 +76,6 @@ measure_chain() {
 }
 
 # how many objects a target has, and how often it is collated
-for size in '1000 20' '10000 6' '60000 3'; do
-    read -r objects rounds <<< "$size"
-    if [ "$objects" -le "$largest" ]; then
-        measure_size "$objects" "$rounds"
-    fi
-done
+each_size measure_size '1000 20' '10000 6' '60000 3'
 measure_chain 5
-for label in each.none each.clang each.gcc cmake all.none all.clang all.gcc chain ring; do
-    [ ! -f "$work/measured.$label" ] || cat "$work/measured.$label"
-done | table objects
+report objects each.none each.clang each.gcc cmake all.none all.clang all.gcc chain ring

@@ -40,13 +40,6 @@ measure_chain() {
 }
 
 # how many edges a listing has, and how often it is read
-for size in '1000 100' '10000 20' '60000 10'; do
-    read -r edges rounds <<< "$size"
-    if [ "$edges" -le "$largest" ]; then
-        measure_size "$edges" "$rounds"
-    fi
-done
+each_size measure_size '1000 100' '10000 20' '60000 10'
 measure_chain 10
-for label in effect order chain ring; do
-    [ ! -f "$work/measured.$label" ] || cat "$work/measured.$label"
-done | table edges
+report edges effect order chain ring

@@ -386,16 +386,22 @@ private:
     }
 };
 
+// The name of the target of an info or a target document.
+inline std::string_view target_name_of(const Value& document) {
+    const std::string_view name = needed_text(document, "target", {});
+    if (!is_target_name(name)) {
+        refuse("S6 BadName", {});
+    }
+    return name;
+}
+
 // Reads infos.
 class InfoReader {
 public:
     Info read(std::string& bytes) {
         const Value& document = json_.read(bytes, 1, 2);
         Info info;
-        info.target = needed_text(document, "target", {});
-        if (!is_target_name(info.target)) {
-            refuse("S6 BadName", {});
-        }
+        info.target = target_name_of(document);
         const Value& list = needed_array(document, "modules", {});
         info.modules.reserve(list.Size());
         for (const Value& module : list.GetArray()) {
@@ -458,10 +464,7 @@ public:
     TargetSpec read(std::string& bytes) {
         const Value& document = json_.read(bytes, 1, 1);
         TargetSpec spec;
-        spec.name = needed_text(document, "target", {});
-        if (!is_target_name(spec.name)) {
-            refuse("S6 BadName", {});
-        }
+        spec.name = target_name_of(document);
         spec.setting.module_dir = needed_text(document, "module-dir", {});
         spec.setting.module_ext = needed_text(document, "module-ext", {});
         spec.setting.build_directory = read_build_directory(document);
