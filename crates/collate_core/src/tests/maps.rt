@@ -61,67 +61,64 @@ fn read<M: MapStyle>(alloc: Global, style: &M, text: &[u8]) -> Result<Vec<u8>, A
     }
 }
 
+/// Whether the style writes this text of the map, and reads these entries of the text.
+fn is_written<M: MapStyle>(
+    alloc: Global,
+    style: &M,
+    map: &ModuleMap,
+    text: &str,
+    entries: &str,
+) -> Result<bool, AllocError> {
+    Ok(
+        written(alloc, style, map)?.as_slice() == text.as_bytes()
+            && read(alloc, style, text.as_bytes())?.as_slice() == entries.as_bytes(),
+    )
+}
+
 #[test]
 fn each_style_writes_its_lines_and_reads_them_back(rt: HostRuntime) -> Result<(), Fail> {
     let alloc = rt.alloc();
     let map = map_of(alloc, &[("A", "mod/A.bmi")], &[("B", "mod/B.bmi")])?;
     let gcc = "A mod/A.bmi\nB mod/B.bmi\n";
     let clang = "-x c++-module\n-fmodule-output=mod/A.bmi\n-fmodule-file=B=mod/B.bmi\n";
-    let bare = "mod/A.bmi\nmod/B.bmi\n";
-    assert_eq!(rt; written(alloc, &Gcc, &map)?.as_slice(), gcc.as_bytes());
-    assert_eq!(rt; written(alloc, &Clang, &map)?.as_slice(), clang.as_bytes());
-    assert_eq!(rt; written(alloc, &Bare, &map)?.as_slice(), bare.as_bytes());
-    assert_eq!(rt;
-        read(alloc, &Gcc, gcc.as_bytes())?.as_slice(),
-        gcc.as_bytes()
-    );
     let nameless = "- mod/A.bmi\nB mod/B.bmi\n";
-    assert_eq!(rt;
-        read(alloc, &Clang, clang.as_bytes())?.as_slice(),
-        nameless.as_bytes()
-    );
-    let all_nameless = "- mod/A.bmi\n- mod/B.bmi\n";
-    assert_eq!(rt;
-        read(alloc, &Bare, bare.as_bytes())?.as_slice(),
-        all_nameless.as_bytes()
-    );
+    let bare = "mod/A.bmi\nmod/B.bmi\n";
+    assert!(rt; is_written(alloc, &Gcc, &map, gcc, gcc)?);
+    assert!(rt; is_written(alloc, &Clang, &map, clang, nameless)?);
+    assert!(rt; is_written(alloc, &Bare, &map, bare, "- mod/A.bmi\n- mod/B.bmi\n")?);
     let kept = entries_text(alloc, &Clang.keeps(alloc, &map)?)?;
-    assert_eq!(rt; kept.as_slice(), nameless.as_bytes());
+    assert!(rt; kept.as_slice() == nameless.as_bytes());
     Ok(())
 }
 
+/// Whether the style writes this text, or reports this fault where the map does not fit.
+fn answers<M: MapStyle>(
+    alloc: Global,
+    style: &M,
+    map: &ModuleMap,
+    fits: bool,
+    text: &str,
+) -> Result<bool, AllocError> {
+    Ok(style.fits(map) == fits && written(alloc, style, map)?.as_slice() == text.as_bytes())
+}
+
+/// K1 comes before K2.
 #[test]
 fn a_map_fits_where_the_style_writes_it(rt: HostRuntime) -> Result<(), Fail> {
     let alloc = rt.alloc();
     let two = map_of(alloc, &[("A", "a"), ("B", "b")], &[])?;
-    assert!(rt; Gcc.fits(&two));
-    assert_eq!(rt;
-        written(alloc, &Gcc, &two)?.as_slice(),
-        "A a\nB b\n".as_bytes()
-    );
-    assert!(rt; !Clang.fits(&two));
-    assert_eq!(rt;
-        written(alloc, &Clang, &two)?.as_slice(),
-        "K2 TwoProvided".as_bytes()
-    );
+    assert!(rt; answers(alloc, &Gcc, &two, true, "A a\nB b\n")?);
+    assert!(rt; answers(alloc, &Clang, &two, false, "K2 TwoProvided")?);
     let spaced = map_of(
         alloc,
         &[("A", "a"), ("B", "b")],
         &[("C", "my mods/C"), ("D", "it's")],
     )?;
-    assert!(rt; !Gcc.fits(&spaced));
-    assert!(rt; !Bare.fits(&spaced));
-    assert_eq!(rt;
-        written(alloc, &Gcc, &spaced)?.as_slice(),
-        "K1 MapPath my mods/C".as_bytes()
-    );
-    // K1 before K2
-    assert_eq!(rt;
-        written(alloc, &Clang, &spaced)?.as_slice(),
-        "K1 MapPath my mods/C".as_bytes()
-    );
-    let nothing = map_of(alloc, &[], &[])?;
-    assert_eq!(rt; written(alloc, &Clang, &nothing)?.as_slice(), "".as_bytes());
+    let unfit = "K1 MapPath my mods/C";
+    assert!(rt; answers(alloc, &Gcc, &spaced, false, unfit)?);
+    assert!(rt; answers(alloc, &Bare, &spaced, false, unfit)?);
+    assert!(rt; answers(alloc, &Clang, &spaced, false, unfit)?);
+    assert!(rt; answers(alloc, &Clang, &map_of(alloc, &[], &[])?, true, "")?);
     Ok(())
 }
 
@@ -136,41 +133,55 @@ fn needed_names_rise_strictly(rt: HostRuntime) -> Result<(), Fail> {
 }
 
 #[test]
-fn a_text_that_is_no_map_is_refused_at_its_first_bad_line(rt: HostRuntime) -> Result<(), Fail> {
-    let alloc = rt.alloc();
-    for (text, wanted) in [
-        ("", ""),
-        ("A mod/A.bmi", "K4 BadMapLine 1"),
-        ("A ./a\n", "K4 BadMapLine 1"),
-        ("A a\n a\n", "K4 BadMapLine 2"),
-        ("A a\n\n", "K4 BadMapLine 2"),
-        ("A a b\n", "K4 BadMapLine 1"),
+fn a_text_that_is_no_map_of_gcc_is_refused_at_its_first_bad_line(
+    rt: HostRuntime,
+) -> Result<(), Fail> {
+    let mut found = Vec::new(rt.alloc());
+    for text in [
+        "",
+        "A mod/A.bmi",
+        "A ./a\n",
+        "A a\n a\n",
+        "A a\n\n",
+        "A a b\n",
     ] {
-        assert_eq!(rt;
-            read(alloc, &Gcc, text.as_bytes())?.as_slice(),
-            wanted.as_bytes()
-        );
+        push_line(&mut found, &read(rt.alloc(), &Gcc, text.as_bytes())?)?;
     }
-    for (text, wanted) in [
-        ("", ""),
-        ("-x c++-module\n", "K4 BadMapLine 2"),
-        ("-x c++-module\n-fmodule-output=a", "K4 BadMapLine 2"),
-        (
-            "-x c++-module\n-fmodule-output=a\n-x c++-module\n",
-            "K4 BadMapLine 3",
-        ),
-        ("-fmodule-output=a\n", "K4 BadMapLine 1"),
-        ("-fmodule-file=C=c\n-fmodule-file=B=b\n", "K4 BadMapLine 2"),
-        ("-fmodule-file=B=a=b\n", "B a=b\n"),
-        (
-            "-x c++-module\n-fmodule-output=a\n-fmodule-file=B=b\n",
-            "- a\nB b\n",
-        ),
+    let wanted =
+        "\nK4 BadMapLine 1\nK4 BadMapLine 1\nK4 BadMapLine 2\nK4 BadMapLine 2\nK4 BadMapLine 1\n";
+    assert!(rt; found.as_slice() == wanted.as_bytes());
+    Ok(())
+}
+
+#[test]
+fn a_text_that_is_no_map_of_clang_is_refused_at_its_first_bad_line(
+    rt: HostRuntime,
+) -> Result<(), Fail> {
+    let mut found = Vec::new(rt.alloc());
+    for text in [
+        "",
+        "-x c++-module\n",
+        "-x c++-module\n-fmodule-output=a",
+        "-x c++-module\n-fmodule-output=a\n-x c++-module\n",
+        "-fmodule-output=a\n",
+        "-fmodule-file=C=c\n-fmodule-file=B=b\n",
+        "-fmodule-file=B=a=b\n",
+        "-x c++-module\n-fmodule-output=a\n-fmodule-file=B=b\n",
     ] {
-        assert_eq!(rt;
-            read(alloc, &Clang, text.as_bytes())?.as_slice(),
-            wanted.as_bytes()
-        );
+        push_line(&mut found, &read(rt.alloc(), &Clang, text.as_bytes())?)?;
     }
+    let wanted = "
+K4 BadMapLine 2
+K4 BadMapLine 2
+K4 BadMapLine 3
+K4 BadMapLine 1
+K4 BadMapLine 2
+B a=b
+
+- a
+B b
+
+";
+    assert!(rt; found.as_slice() == wanted.as_bytes());
     Ok(())
 }

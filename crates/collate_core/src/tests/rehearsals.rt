@@ -50,6 +50,16 @@ fn read_fault_text(alloc: Global, fault: &ReadFault) -> Result<String, AllocErro
     }
 }
 
+/// Pieces of one byte, and empty ones between them.
+fn bytewise(alloc: Global, count: usize) -> Result<Vec<usize>, AllocError> {
+    let mut cuts = Vec::new(alloc);
+    for _ in 0..count {
+        cuts.push(1)?;
+        cuts.push(0)?;
+    }
+    Ok(cuts)
+}
+
 #[test]
 fn the_effect_is_the_same_for_every_cutting(rt: HostRuntime) -> Result<(), Fail> {
     let alloc = rt.alloc();
@@ -57,15 +67,11 @@ fn the_effect_is_the_same_for_every_cutting(rt: HostRuntime) -> Result<(), Fail>
     let text = TWO_OBJECTS_DYNDEP;
     for first in 0..text.len() + 2 {
         let found = rehearsed(alloc, text, "./t.dd", &graph, &[first])?;
-        assert_eq!(rt; found.as_slice(), LIBRARY_AFTER);
+        assert!(rt; found.as_slice() == LIBRARY_AFTER);
     }
-    let mut bytes = Vec::new(alloc);
-    for _ in 0..text.len() {
-        bytes.push(1usize)?;
-        bytes.push(0usize)?;
-    }
-    let found = rehearsed(alloc, text, "t.dd", &graph, &bytes)?;
-    assert_eq!(rt; found.as_slice(), LIBRARY_AFTER);
+    let cuts = bytewise(alloc, text.len())?;
+    let found = rehearsed(alloc, text, "t.dd", &graph, &cuts)?;
+    assert!(rt; found.as_slice() == LIBRARY_AFTER);
     Ok(())
 }
 
@@ -77,11 +83,12 @@ fn a_text_that_is_no_dyndep_file_is_refused_whatever_the_graph(
     let text = b"ninja_dyndep_version = 1\nrule cc\n";
     let empty = graph_of(alloc, b"")?;
     let full = graph_of(alloc, LIBRARY)?;
+    let wanted = "line 2: Y8 BadLine".as_bytes();
     for cut in [0usize, 1, 25, 30, 100] {
         let found = rehearsed(alloc, text, "t.dd", &empty, &[cut])?;
-        assert_eq!(rt; found.as_slice(), "line 2: Y8 BadLine".as_bytes());
+        assert!(rt; found.as_slice() == wanted);
         let found = rehearsed(alloc, text, "t.dd", &full, &[cut, cut])?;
-        assert_eq!(rt; found.as_slice(), "line 2: Y8 BadLine".as_bytes());
+        assert!(rt; found.as_slice() == wanted);
     }
     Ok(())
 }
@@ -90,23 +97,17 @@ fn a_text_that_is_no_dyndep_file_is_refused_whatever_the_graph(
 fn statements_without_an_effect_are_refused(rt: HostRuntime) -> Result<(), Fail> {
     let alloc = rt.alloc();
     let graph = graph_of(alloc, LIBRARY)?;
-    for (text, wanted) in [
-        (
-            "ninja_dyndep_version = 1\nbuild a.o: dyndep\n",
-            "E6 NotMentioned",
-        ),
-        (
-            "ninja_dyndep_version = 1\nbuild lib: dyndep\n",
-            "E5 NotBound",
-        ),
-        (
-            "ninja_dyndep_version = 1\nbuild a/..: dyndep\n",
-            "E8 BadPath statement 0 path 0 N1 Empty",
-        ),
+    let mut found = Vec::new(alloc);
+    for text in [
+        "ninja_dyndep_version = 1\nbuild a.o: dyndep\n",
+        "ninja_dyndep_version = 1\nbuild lib: dyndep\n",
+        "ninja_dyndep_version = 1\nbuild a/..: dyndep\n",
     ] {
-        let found = rehearsed(alloc, text.as_bytes(), "t.dd", &graph, &[])?;
-        assert_eq!(rt; found.as_slice(), wanted.as_bytes());
+        found.extend_from_slice(&rehearsed(alloc, text.as_bytes(), "t.dd", &graph, &[])?)?;
+        found.push(b'\n')?;
     }
+    let wanted = "E6 NotMentioned\nE5 NotBound\nE8 BadPath statement 0 path 0 N1 Empty\n";
+    assert!(rt; found.as_slice() == wanted.as_bytes());
     Ok(())
 }
 
@@ -158,21 +159,28 @@ fn sorting_text(alloc: Global, sorting: &Sorting) -> Result<Vec<u8>, AllocError>
 }
 
 #[test]
+fn what_is_collated_can_be_asked_for(rt: HostRuntime) -> Result<(), Fail> {
+    let collated = two_objects(rt.alloc())?;
+    assert!(rt; collated.dyndep() == TWO_OBJECTS_DYNDEP);
+    assert!(rt; collated.maps().is_empty());
+    assert!(rt; collated.objects().len() == 2);
+    Ok(())
+}
+
+/// Of the graph with a generated file there is no cycle before the effect.
+#[test]
 fn edges_are_checked_after_the_effect(rt: HostRuntime) -> Result<(), Fail> {
     let alloc = rt.alloc();
     let collated = two_objects(alloc)?;
-    assert_eq!(rt; collated.dyndep(), TWO_OBJECTS_DYNDEP);
-    assert_eq!(rt; collated.maps().len(), 0);
-    assert_eq!(rt; collated.objects().len(), 2);
-    let found = checked(alloc, &collated, "t.dd", &graph_of(alloc, LIBRARY)?)?;
-    assert_eq!(rt; found.as_slice(), "order 1 0 2".as_bytes());
-    // no cycle before the effect
-    let graph = graph_of(alloc, GENERATED)?;
-    let before = sorting_text(alloc, &edge_order(alloc, &graph)?)?;
-    assert_eq!(rt; before.as_slice(), "order 0 2 1".as_bytes());
-    let found = checked(alloc, &collated, "t.dd", &graph)?;
-    assert_eq!(rt; found.as_slice(), "cycle 0 1 2".as_bytes());
-    let found = checked(alloc, &collated, "u.dd", &graph)?;
-    assert_eq!(rt; found.as_slice(), "E5 NotBound".as_bytes());
+    let library = graph_of(alloc, LIBRARY)?;
+    let generated = graph_of(alloc, GENERATED)?;
+    let found = checked(alloc, &collated, "t.dd", &library)?;
+    assert!(rt; found.as_slice() == "order 1 0 2".as_bytes());
+    let before = sorting_text(alloc, &edge_order(alloc, &generated)?)?;
+    assert!(rt; before.as_slice() == "order 0 2 1".as_bytes());
+    let found = checked(alloc, &collated, "t.dd", &generated)?;
+    assert!(rt; found.as_slice() == "cycle 0 1 2".as_bytes());
+    let found = checked(alloc, &collated, "u.dd", &generated)?;
+    assert!(rt; found.as_slice() == "E5 NotBound".as_bytes());
     Ok(())
 }
