@@ -1,7 +1,7 @@
 //! Worked targets and a project, whose growths of memory `tests/growths` refuses in turn. A test answers `AllocError` where
 //! a call answered that memory was refused, and nowhere else; every other answer has to be the example's.
 
-use super::projects::linked;
+use super::projects::three;
 use super::targets::{INFO_K, INFO_L};
 use super::{TWO_OBJECTS, answer};
 use crate::{Clang, Gcc};
@@ -25,7 +25,7 @@ fn infos_that_disagree_are_refused(rt: HostRuntime) -> Result<(), Fail> {
 
 #[test]
 fn each_target_sees_the_infos_of_those_that_it_links(rt: HostRuntime) -> Result<(), Fail> {
-    let found = linked(rt.alloc(), &[0], &[0, 1], &[])?;
+    let found = three(rt.alloc())?;
     let wanted =
         "ninja_dyndep_version = 1\nbuild l.o | mod/B.bmi: dyndep\n  restat = 1\n{\"modules\":[{\"bmi\":\"mod/B.bmi\",\"name\":\"B\",\"requires\":[],\"visibility\":\"public\"}],\"target\":\"t0\",\"version\":2}\nl.o\nB mod/B.bmi\nninja_dyndep_version = 1\nbuild k.o | mod/K.bmi: dyndep | mod/B.bmi\n  restat = 1\n{\"modules\":[{\"bmi\":\"mod/K.bmi\",\"name\":\"K\",\"requires\":[{\"bmi\":\"mod/B.bmi\",\"name\":\"B\"}],\"visibility\":\"public\"}],\"target\":\"t1\",\"version\":2}\nk.o\nK mod/K.bmi\nB mod/B.bmi\nninja_dyndep_version = 1\nbuild main.o: dyndep | mod/K.bmi\n{\"modules\":[],\"target\":\"t2\",\"version\":2}\nmain.o\nB mod/B.bmi\nK mod/K.bmi\n";
     assert!(rt; found.as_slice() == wanted.as_bytes());
