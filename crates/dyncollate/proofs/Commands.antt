@@ -4,9 +4,8 @@ use Rattle.std.specs.Prelude.{All, IsUtf8}
 use Rattle.std.specs.List.{AllZip}
 use Rattle.std.proofs.lemmas.List.Elements.{All-nil, All-cons, All-append, All-map}
 use Rattle.scan_docs.specs.Scan.{SettingValue, RuleValue, IsRule}
-use Rattle.scan_docs.specs.Info.{InfoValue}
 use Rattle.scan_docs.specs.Target as document
-use Rattle.scan_docs.specs.Values.{rules_of}
+use Rattle.scan_docs.specs.Values.{rules_of, info_of}
 use Rattle.module_table.specs.Outcomes.{IsSameFault, same, same_ring}
 use Rattle.module_table.specs.declared.fault.TableFault.{TableFault}
 use Rattle.collate_core.specs.Values.{TargetValue, CollatedValue}
@@ -26,13 +25,13 @@ use Rattle.dyncollate.specs.EdgeChecks.{AnswersEdges}
 -- ---- the target
 
 -- one refusal has one text
-fault_same : (objects : List RuleValue) (infos : List InfoValue) (fault other : TableFault) → IsSameFault fault other → fault_text objects infos fault ≡ fault_text objects infos other
-fault_same objects infos fault other same = refl
-fault_same objects infos fault other (same_ring e) = ap (λ ring. codes "M8 ImportCycle" ++ codes " " ++ ring_text objects ring) e
+fault_same : (objects : List RuleValue) (names : List (List ℕ)) (fault other : TableFault) → IsSameFault fault other → fault_text objects names fault ≡ fault_text objects names other
+fault_same objects names fault other same = refl
+fault_same objects names fault other (same_ring e) = ap (λ ring. codes "M8 ImportCycle" ++ codes " " ++ ring_text objects ring) e
 
 pub refusal_same : (target : TargetValue) (refusal other : Refusal) → IsSameRefusal refusal other → refusal_text target refusal ≡ refusal_text target other
 refusal_same target refusal other same_refusal = refl
-refusal_same target refusal other (same_fault s) = fault_same (table_of target).objects (table_of target).infos _ _ s
+refusal_same target refusal other (same_fault s) = fault_same (all_rules target.setting target.scans) (map (λ info. (info_of info).target) target.infos) _ _ s
 
 -- the path under another spelling
 pub at_path : {listing : Option (List ℕ)} {p q dyndep : List ℕ} {files : List (List ℕ × List ℕ)} {answer : Answer} → p ≡ q → AnswersEdges listing p dyndep files answer → AnswersEdges listing q dyndep files answer

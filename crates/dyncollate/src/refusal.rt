@@ -2,18 +2,17 @@
 
 ghost use Rattle.std.specs.Prelude.{◌≡◌, map, codes, All, IfOk};
 ghost use Rattle.scan_docs.specs.Values.{info_of};
-ghost use Rattle.collate_core.specs.Documents.{all_rules, IsScanAccepted, IsInfoAccepted, AreAccepted};
-ghost use Rattle.dyncollate.specs.RefusalTexts.{numbered_text, map_text, refusal_text};
+ghost use Rattle.collate_core.specs.Documents.{all_rules, IsScanAccepted, IsInfoAccepted};
+ghost use Rattle.dyncollate.specs.RefusalTexts.{numbered_text, map_text, refusal_by_names, refusal_text};
 ghost use Rattle.dyncollate.specs.TableFaults.{fault_text};
-ghost use Rattle.dyncollate.specs.inner.Refusals.{HasTable};
-ghost use Rattle.collate_core.specs.Documents.{table_of};
+ghost use Rattle.dyncollate.specs.inner.Refusals.{HasObjects, HasTable};
 
 use crate::table_fault::{fault_text, joined, object_path};
 use collate_core::{MapFault, Refusal, Target};
 use dyndep_file::WriteFault;
 use module_table::TableFault;
 use ninja_text::Failure;
-use scan_docs::{DocFault, Info, Rule, Setting, info_read, scan};
+use scan_docs::{DocFault, Info, Rule, Setting, TargetName, info_read, scan};
 use std::alloc::{AllocError, Global};
 
 /// What is told of a refusal of this target.
@@ -29,9 +28,31 @@ pub fn refusal_text(
     ensures { IfOk result (λ text. text.items ≡ refusal_text target.now refusal.now) }
 {
     match refusal {
+        Refusal::Table { fault } => {
+            let infos = infos_of(alloc, target.infos)?;
+            let names = names_of(alloc, &infos)?;
+            table_text(alloc, target.setting, target.scans, &names, fault)
+        }
+        _ => refusal_by_names(alloc, target.setting, target.scans, &[], refusal),
+    }
+}
+
+/// What is told of a refusal of a target with this setting and these scan documents, which links targets of these names.
+pub fn refusal_by_names(
+    alloc: Global,
+    setting: &Setting,
+    scans: &[&[u8]],
+    names: &[&TargetName],
+    refusal: &Refusal,
+) -> Result<Vec<u8>, AllocError>
+    requires { HasObjects setting.now (map (λ scan. scan.now) scans.now) refusal.now }
+    ensures { IfOk result (λ text. text.items ≡ refusal_by_names setting.now
+        (map (λ scan. scan.now) scans.now) (map (λ name. name.now) names.now) refusal.now) }
+{
+    match refusal {
         Refusal::Scan { index, fault } => numbered_text(alloc, "scan", *index, fault),
         Refusal::Info { index, fault } => numbered_text(alloc, "info", *index, fault),
-        Refusal::Table { fault } => table_text(alloc, target, fault),
+        Refusal::Table { fault } => table_text(alloc, setting, scans, names, fault),
         Refusal::StatementTooLong { statement } => {
             let fault = WriteFault::StatementTooLong {
                 statement: *statement,
@@ -39,7 +60,7 @@ pub fn refusal_text(
             let text = format!(in alloc; "{fault}")?;
             Ok(text.into_bytes())
         }
-        Refusal::Map { object, fault } => map_text(alloc, target, *object, fault),
+        Refusal::Map { object, fault } => map_text(alloc, setting, scans, *object, fault),
         Refusal::LinkedLater => Vec::from_slice(alloc, b"K3 LinkedLater"),
     }
 }
@@ -57,31 +78,39 @@ fn numbered_text(
     Ok(text.into_bytes())
 }
 
-/// A fault of the table of the target's documents.
-fn table_text(alloc: Global, target: &Target, fault: &TableFault) -> Result<Vec<u8>, AllocError>
-    requires { AreAccepted target.now }
-    ensures { IfOk result (λ text.
-        text.items ≡ fault_text (table_of target.now).objects (table_of target.now).infos fault.now) }
+/// A fault of the table of a target's documents.
+fn table_text(
+    alloc: Global,
+    setting: &Setting,
+    scans: &[&[u8]],
+    names: &[&TargetName],
+    fault: &TableFault,
+) -> Result<Vec<u8>, AllocError>
+    requires { All (IsScanAccepted setting.now) (map (λ scan. scan.now) scans.now) }
+    ensures { IfOk result (λ text. text.items ≡ fault_text
+        (all_rules setting.now (map (λ scan. scan.now) scans.now))
+        (map (λ name. name.now) names.now) fault.now) }
 {
-    let objects = objects_of(alloc, target.scans, target.setting)?;
-    let infos = infos_of(alloc, target.infos)?;
-    fault_text(alloc, fault, &objects, &infos)
+    let objects = objects_of(alloc, scans, setting)?;
+    fault_text(alloc, fault, &objects, names)
 }
 
 /// Why an object has no map.
 fn map_text(
     alloc: Global,
-    target: &Target,
+    setting: &Setting,
+    scans: &[&[u8]],
     object: usize,
     fault: &MapFault,
 ) -> Result<Vec<u8>, AllocError>
-    requires { AreAccepted target.now }
-    ensures { IfOk result (λ text. text.items ≡ map_text target.now object fault.now) }
+    requires { All (IsScanAccepted setting.now) (map (λ scan. scan.now) scans.now) }
+    ensures { IfOk result (λ text. text.items ≡ map_text
+        (all_rules setting.now (map (λ scan. scan.now) scans.now)) object fault.now) }
 {
     match fault {
         MapFault::MapPath { path } => joined(alloc, &[b"K1 MapPath ", path.bytes()]),
         MapFault::TwoProvided => {
-            let objects = objects_of(alloc, target.scans, target.setting)?;
+            let objects = objects_of(alloc, scans, setting)?;
             joined(alloc, &[b"K2 TwoProvided ", object_path(&objects, object)])
         }
         MapFault::BadMapLine { line } => {
@@ -126,4 +155,16 @@ fn infos_of(alloc: Global, documents: &[&[u8]]) -> Result<Vec<Info>, AllocError>
         }
     }
     Ok(infos)
+}
+
+/// The names of the targets of infos.
+fn names_of<'i>(alloc: Global, infos: &'i [Info]) -> Result<Vec<&'i TargetName>, AllocError>
+    ensures { IfOk result (λ names.
+        map (λ name. name.now) names.items ≡ map (λ info. info.target) infos.now) }
+{
+    let mut names = Vec::with_capacity(alloc, infos.len())?;
+    for info in infos {
+        names.push(&info.target)?;
+    }
+    Ok(names)
 }

@@ -1,11 +1,11 @@
 //! How the faults of a module table are told.
 
-ghost use Rattle.std.specs.Prelude.{◌≡◌, ◌++◌, IfOk, codes};
+ghost use Rattle.std.specs.Prelude.{◌≡◌, ◌++◌, map, IfOk, codes};
 ghost use Rattle.std.specs.List.{flat_map};
 ghost use Rattle.dyncollate.specs.TableFaults.{object_path, target_name, maker_text, made_twice_text, requirement_text, private_text, ring_text, fault_subject, fault_text};
 
 use module_table::{Maker, TableFault};
-use scan_docs::{Info, Name, Rule, TargetName};
+use scan_docs::{Name, Rule, TargetName};
 use std::alloc::{AllocError, Global};
 
 /// What is told of a fault of the table of these objects and infos: its code, its name and what it is about. Objects are
@@ -14,25 +14,26 @@ pub fn fault_text(
     alloc: Global,
     fault: &TableFault,
     objects: &[Rule],
-    infos: &[Info],
+    names: &[&TargetName],
 ) -> Result<Vec<u8>, AllocError>
-    ensures { IfOk result (λ text. text.items ≡ fault_text objects.now infos.now fault.now) }
+    ensures { IfOk result (λ text.
+        text.items ≡ fault_text objects.now (map (λ n. n.now) names.now) fault.now) }
 {
-    let subject = fault_subject(alloc, fault, Makers { objects, infos })?;
+    let subject = fault_subject(alloc, fault, Makers { objects, names })?;
     joined(alloc, &[fault.name().as_bytes(), b" ", &subject])
 }
 
-/// The objects and the infos that a fault tells by number.
+/// The objects, and the names of the infos' targets, that a fault tells by number.
 #[derive(Clone, Copy)]
 struct Makers<'t> {
     objects: &'t [Rule],
-    infos: &'t [Info],
+    names: &'t [&'t TargetName],
 }
 
 /// What a fault is about.
 fn fault_subject(alloc: Global, fault: &TableFault, makers: Makers) -> Result<Vec<u8>, AllocError>
-    ensures { IfOk result (λ text.
-        text.items ≡ fault_subject makers.entry.objects.now makers.entry.infos.now fault.now) }
+    ensures { IfOk result (λ text. text.items ≡ fault_subject
+        makers.entry.objects.now (map (λ n. n.now) makers.entry.names.now) fault.now) }
 {
     match fault {
         TableFault::ObjectTwice { path, .. } => Vec::from_slice(alloc, path.bytes()),
@@ -78,7 +79,7 @@ fn made_twice_text(
     makers: Makers,
 ) -> Result<Vec<u8>, AllocError>
     ensures { IfOk result (λ text. text.items ≡ made_twice_text
-        makers.entry.objects.now makers.entry.infos.now made.now first second) }
+        makers.entry.objects.now (map (λ n. n.now) makers.entry.names.now) made.now first second) }
 {
     let first = maker_text(alloc, first, makers)?;
     let second = maker_text(alloc, second, makers)?;
@@ -110,22 +111,22 @@ fn private_text(
     makers: Makers,
 ) -> Result<Vec<u8>, AllocError>
     ensures { IfOk result (λ text. text.items ≡ private_text
-        makers.entry.objects.now makers.entry.infos.now name.now info user) }
+        makers.entry.objects.now (map (λ n. n.now) makers.entry.names.now) name.now info user) }
 {
     let name = name.text().as_bytes();
-    let target = target_name(makers.infos, info);
+    let target = target_name(makers.names, info);
     let user = maker_text(alloc, user, makers)?;
     joined(alloc, &[name, b" of ", target, b" in ", &user])
 }
 
 /// Who makes a file.
 fn maker_text(alloc: Global, maker: Maker, makers: Makers) -> Result<Vec<u8>, AllocError>
-    ensures { IfOk result (λ text.
-        text.items ≡ maker_text makers.entry.objects.now makers.entry.infos.now maker) }
+    ensures { IfOk result (λ text. text.items ≡ maker_text
+        makers.entry.objects.now (map (λ n. n.now) makers.entry.names.now) maker) }
 {
     match maker {
         Maker::Object(number) => joined(alloc, &[b"object ", object_path(makers.objects, number)]),
-        Maker::Info(number) => joined(alloc, &[b"info ", target_name(makers.infos, number)]),
+        Maker::Info(number) => joined(alloc, &[b"info ", target_name(makers.names, number)]),
     }
 }
 
@@ -156,11 +157,11 @@ pub fn object_path(objects: &[Rule], number: usize) -> &[u8]
 }
 
 /// The name of the target of the info of that number.
-fn target_name(infos: &[Info], number: usize) -> &[u8]
-    ensures { result.now ≡ target_name infos.now number }
+fn target_name<'t>(names: &[&'t TargetName], number: usize) -> &'t [u8]
+    ensures { result.now ≡ target_name (map (λ n. n.now) names.now) number }
 {
-    match infos.get(number) {
-        Some(info) => info.target.text().as_bytes(),
+    match names.get(number) {
+        Some(name) => name.text().as_bytes(),
         None => b"",
     }
 }
