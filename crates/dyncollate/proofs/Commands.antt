@@ -5,51 +5,21 @@ use Rattle.std.specs.List.{AllZip}
 use Rattle.std.proofs.lemmas.List.Elements.{All-nil, All-cons, All-append, All-map}
 use Rattle.scan_docs.specs.Scan.{SettingValue, RuleValue, IsRule}
 use Rattle.scan_docs.specs.Target as document
-use Rattle.scan_docs.specs.Values.{rules_of, info_of}
-use Rattle.module_table.specs.Outcomes.{IsSameFault, same, same_ring}
-use Rattle.module_table.specs.declared.fault.TableFault.{TableFault}
+use Rattle.scan_docs.specs.Values.{rules_of}
 use Rattle.collate_core.specs.Values.{TargetValue, CollatedValue}
 use Rattle.collate_core.specs.Documents.{all_rules, table_of, IsScanAccepted}
 use Rattle.collate_core.specs.Maps.{Written}
 use Rattle.collate_core.specs.Collation.{Collates}
-use Rattle.collate_core.specs.Refusals.{IsRefusal}
-use Rattle.collate_core.specs.Laws.{CollatedIsNotRefused, OneRefusal, IsSameRefusal, same_refusal, same_fault}
-use Rattle.collate_core.specs.declared.fault.Refusal.{Refusal}
 use Rattle.dyncollate.specs.declared.answer.Answer.{Answer}
-use Rattle.dyncollate.specs.Answers.{Refuses, Fails}
-use Rattle.dyncollate.specs.TableFaults.{fault_text, ring_text}
-use Rattle.dyncollate.specs.RefusalTexts.{refusal_text}
-use Rattle.dyncollate.specs.CollateCommand.{Reading, first_unread, listing_of, names_in, target_in, dyndep_path, style_of, files_of, AnswersTarget, AnswersSpec}
+use Rattle.dyncollate.specs.Answers.{Fails}
+use Rattle.dyncollate.specs.CollateCommand.{Reading, first_unread, listing_of, names_in, target_in, AnswersTargetOf, AnswersSpec}
 use Rattle.dyncollate.specs.EdgeChecks.{AnswersEdges}
 
--- ---- the target
-
--- one refusal has one text
-fault_same : (objects : List RuleValue) (names : List (List ℕ)) (fault other : TableFault) → IsSameFault fault other → fault_text objects names fault ≡ fault_text objects names other
-fault_same objects names fault other same = refl
-fault_same objects names fault other (same_ring e) = ap (λ ring. codes "M8 ImportCycle" ++ codes " " ++ ring_text objects ring) e
-
-pub refusal_same : (target : TargetValue) (refusal other : Refusal) → IsSameRefusal refusal other → refusal_text target refusal ≡ refusal_text target other
-refusal_same target refusal other same_refusal = refl
-refusal_same target refusal other (same_fault s) = fault_same (all_rules target.setting target.scans) (map (λ info. (info_of info).target) target.infos) _ _ s
+-- ---- the edges
 
 -- the path under another spelling
 pub at_path : {listing : Option (List ℕ)} {p q dyndep : List ℕ} {files : List (List ℕ × List ℕ)} {answer : Answer} → p ≡ q → AnswersEdges listing p dyndep files answer → AnswersEdges listing q dyndep files answer
 at_path {listing} {p} {q} {dyndep} {files} {answer} e h = subst (λ x. AnswersEdges listing x dyndep files answer) e h
-
--- what is answered to what the target collates to is the answer
-pub collated : CollatedIsNotRefused → (spec : document.TargetValue) (listing : Option (List ℕ)) (target : TargetValue) (answer : Answer) (c : CollatedValue) → Collates target (style_of spec.map_form) c → AnswersEdges listing (dyndep_path spec) c.dyndep (files_of spec c) answer → AnswersTarget spec listing target answer
-collated not_refused spec listing target answer c collates answers = record {
-  collated = λ none. record { collated = c; collates = collates; answers = answers };
-  refused = λ refusal is. absurd (not_refused target (style_of spec.map_form) c refusal collates is);
-}
-
--- the line of a refusal that the target has is the answer
-pub refused : OneRefusal → (spec : document.TargetValue) (listing : Option (List ℕ)) (target : TargetValue) (answer : Answer) (refusal : Refusal) → IsRefusal target (style_of spec.map_form) refusal → Refuses (refusal_text target refusal) answer → AnswersTarget spec listing target answer
-refused one spec listing target answer refusal is line = record {
-  collated = λ none. absurd (none refusal is);
-  refused = λ other is_other. subst (λ text. Refuses text answer) (refusal_same target refusal other (one target (style_of spec.map_form) refusal other is is_other)) line;
-}
 
 -- ---- objects are text
 
@@ -81,7 +51,7 @@ zip_map f g (x ∷ xs) (y ∷ ys) = ap (λ l. (f x, g y) ∷ l) (zip_map f g xs 
 -- ---- the target document
 
 -- all files are there, and this is the answer to the target
-pub read : (reading : Reading) (spec : document.TargetValue) (answer : Answer) → first_unread reading (names_in spec) ≡ None → AnswersTarget spec (listing_of reading spec.edges) (target_in reading spec) answer → AnswersSpec reading spec answer
+pub read : (reading : Reading) (spec : document.TargetValue) (answer : Answer) → first_unread reading (names_in spec) ≡ None → AnswersTargetOf spec (listing_of reading spec.edges) (target_in reading spec) answer → AnswersSpec reading spec answer
 read reading spec answer complete h = record {
   unread = λ name e. let no : Some name ≡ None = sym e ∙ complete in cc;
   read = λ e. h;

@@ -1,7 +1,6 @@
 -- The definitions on examples whose answers are known.
-use Rattle.std.proofs.Common.{◌≡◌, ℕ, List, [], ◌∷◌, ◌++◌, Some, None, true, false, codes, refl}
+use Rattle.std.proofs.Common.{◌≡◌, ℕ, List, [], ◌∷◌, ◌++◌, Some, None, false, codes, refl}
 use Rattle.scan_docs.specs.Scan.{RuleValue}
-use Rattle.scan_docs.specs.Info.{InfoValue}
 use Rattle.module_table.specs.declared.fault.Maker.TheVariants.{Object, Info}
 use Rattle.module_table.specs.declared.fault.TableFault.TheVariants.{InfoTwice, ProvidedTwice, InfoUnknown, InfoDisagrees, ModulePrivate, PrivateUnknown}
 use Rattle.dyncollate.specs.TableFaults.{fault_text, ring_text}
@@ -11,7 +10,7 @@ use Rattle.build_effect.specs.declared.fault.GraphFault.TheVariants.{DyndepNotIn
 use Rattle.build_effect.specs.declared.listing_faults.ListingFault.TheVariants.{NoGraph}
 use Rattle.dyncollate.specs.EdgeFaults.{listing_fault_text, effect_text, cycle_text}
 use Rattle.dyncollate.specs.Order.{order_text}
-use Rattle.dyncollate.specs.Tasks.{one, show, effect, order, file_of, task_in}
+use Rattle.dyncollate.specs.Tasks.{one, show, effect, order, project, file_of, task_in}
 use Rattle.dyncollate.specs.Answers.{line}
 
 -- `a.o` provides `A` and requires `B`, which `b.o` provides
@@ -21,9 +20,9 @@ two_rules =
     ∷ record { object = codes "b.o"; provided = (codes "B", codes "mod/B.bmi") ∷ []; required = [] }
     ∷ []
 
--- the target `l` is linked
-abbrev linked : List InfoValue
-linked = record { target = codes "l"; modules = [] } ∷ []
+-- the target of this name is linked
+abbrev linked : List (List ℕ)
+linked = codes "l" ∷ []
 
 own_twice : fault_text two_rules linked (ProvidedTwice (codes "A") (Object 0) (Object 1)) ≡ codes "M3 ProvidedTwice A by object a.o and object b.o"
 own_twice = refl
@@ -95,3 +94,6 @@ listing_read_first = refl
 
 one_argument : task_in (codes "order" ∷ codes "e" ∷ []) ≡ Some (order (codes "e"))
 one_argument = refl
+
+project_document : task_in (codes "project" ∷ codes "p.json" ∷ []) ≡ Some (project (codes "p.json"))
+project_document = refl

@@ -1,5 +1,5 @@
 -- The files that a project reads for one target document more.
-use Rattle.std.proofs.Common.{◌≡◌, ℕ, List, [], ◌∷◌, ◌++◌, ap, sym, ◌∙◌, append_assoc, append-nil, refl}
+use Rattle.std.proofs.Common.{ℕ, List, [], ◌∷◌, ◌++◌, ap, sym, ◌∙◌, append_assoc, append-nil, refl}
 use Rattle.dyncollate.specs.CollateCommand.{FileValue}
 use Rattle.dyncollate.specs.Files.{NamesInTarget, NamesInTargets}
 

@@ -7,6 +7,8 @@ pub mod Examples
 pub mod FileCalls
 pub mod FileNames
 pub mod Listings
+pub mod ProjectRuns
+pub mod ProjectTargets
 pub mod Readings
 pub mod Results
 pub mod TargetDocuments

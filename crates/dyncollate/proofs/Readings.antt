@@ -11,7 +11,7 @@ use Rattle.std.specs.Prelude.{Result, Ok, Err, IfErr}
 use Rattle.ninja_text.specs.Failure.{ForFault}
 use Rattle.ninja_text.specs.declared.failure.Failure.{Failure}
 use Rattle.ninja_text.specs.declared.failure.Failure.TheVariants.{Memory, Fault}
-use Rattle.dyncollate.specs.CollateCommand.{FileValue, Reading, first_of, unread_or, first_unread, bytes_of, listing_of}
+use Rattle.dyncollate.specs.CollateCommand.{FileValue, Reading, first_of, unread_or, first_unread, bytes_of}
 use Rattle.dyncollate.specs.inner.Readings.{reading_of}
 use Rattle.dyncollate.proofs.Arguments.{drop_item}
 
@@ -120,34 +120,19 @@ pub split_at : {X Y : Type 0} (f : X → Y) (xs : List X) (i : ℕ) (x : X) → 
 split_at f xs i x within is =
     sym (ap (map f) (take-append-drop i xs)) ∙ map-append f (take i xs) (drop i xs) ∙ ap (λ z. map f (take i xs) ++ map f z) (drop_item xs i x within is)
 
--- ---- two ways of reading that agree
+-- ---- two lists of names
 
-pub unread_same : (f g : Reading) → ((name : List ℕ) → f name ≡ g name) → (names : List (List ℕ)) → first_unread f names ≡ first_unread g names
-unread_same f g same [] = refl
-unread_same f g same (name ∷ names) = ap₂ (unread_or name) (same name) (unread_same f g same names)
-
-pub bytes_same : (f g : Reading) → ((name : List ℕ) → f name ≡ g name) → (names : List (List ℕ)) → bytes_of f names ≡ bytes_of g names
-bytes_same f g same [] = refl
-bytes_same f g same (name ∷ names) = ap₂ (λ b bs. unwrap_or b [] ∷ bs) (same name) (bytes_same f g same names)
-
-pub listing_same : (f g : Reading) → ((name : List ℕ) → f name ≡ g name) → (name : Option (List ℕ)) → listing_of f name ≡ listing_of g name
-listing_same f g same None = refl
-listing_same f g same (Some name) = ap (λ b. Some (unwrap_or b [])) (same name)
-
--- the files of two lists are all there
-pub none_in_both : (f g : Reading) → ((name : List ℕ) → f name ≡ g name) → (xs ys : List (List ℕ)) → first_unread f xs ≡ None → first_unread f ys ≡ None → first_unread g (xs ++ ys) ≡ None
-none_in_both f g same xs ys first second =
-    unread_append g xs ys ∙ ap₂ or_later (sym (unread_same f g same xs) ∙ first) (sym (unread_same f g same ys) ∙ second)
+-- the files of both are all there
+pub none_in_both : (f : Reading) → (xs ys : List (List ℕ)) → first_unread f xs ≡ None → first_unread f ys ≡ None → first_unread f (xs ++ ys) ≡ None
+none_in_both f xs ys first second = unread_append f xs ys ∙ ap₂ or_later first second
 
 -- one of the first list is not there
-pub some_in_first : (f g : Reading) → ((name : List ℕ) → f name ≡ g name) → (xs ys : List (List ℕ)) (name : List ℕ) → first_unread f xs ≡ Some name → first_unread g (xs ++ ys) ≡ Some name
-some_in_first f g same xs ys name first =
-    unread_append g xs ys ∙ ap (λ a. or_later a (first_unread g ys)) (sym (unread_same f g same xs) ∙ first)
+pub some_in_first : (f : Reading) → (xs ys : List (List ℕ)) (name : List ℕ) → first_unread f xs ≡ Some name → first_unread f (xs ++ ys) ≡ Some name
+some_in_first f xs ys name first = unread_append f xs ys ∙ ap (λ a. or_later a (first_unread f ys)) first
 
 -- one of the second
-pub some_in_second : (f g : Reading) → ((name : List ℕ) → f name ≡ g name) → (xs ys : List (List ℕ)) (name : List ℕ) → first_unread f xs ≡ None → first_unread f ys ≡ Some name → first_unread g (xs ++ ys) ≡ Some name
-some_in_second f g same xs ys name first second =
-    unread_append g xs ys ∙ ap₂ or_later (sym (unread_same f g same xs) ∙ first) (sym (unread_same f g same ys) ∙ second)
+pub some_in_second : (f : Reading) → (xs ys : List (List ℕ)) (name : List ℕ) → first_unread f xs ≡ None → first_unread f ys ≡ Some name → first_unread f (xs ++ ys) ≡ Some name
+some_in_second f xs ys name first second = unread_append f xs ys ∙ ap₂ or_later first second
 
 -- what holds of the name of a fault
 pub fault_weaker : {T : Type 0} (r : Result T (Failure (Bor (List ℕ)))) (P Q : List ℕ → Type 0) → ((name : List ℕ) → P name → Q name) → IfErr r (ForFault (λ name. P name.now)) → IfErr r (ForFault (λ name. Q name.now))

@@ -1,16 +1,35 @@
 -- What a run answers to a target, by what it answers to what the target collates to.
-use Rattle.std.proofs.Common.{Option, subst}
+use Rattle.std.proofs.Common.{◌≡◌, ℕ, List, ◌++◌, map, Option, refl, ap, subst, codes}
+use Rattle.scan_docs.specs.Scan.{RuleValue}
+use Rattle.scan_docs.specs.Values.{info_of}
+use Rattle.module_table.specs.Outcomes.{IsSameFault, same, same_ring}
+use Rattle.module_table.specs.declared.fault.TableFault.{TableFault}
 use Rattle.collate_core.specs.Values.{TargetValue, CollatedValue}
+use Rattle.collate_core.specs.Documents.{all_rules}
 use Rattle.collate_core.specs.Maps.{Written}
 use Rattle.collate_core.specs.Collation.{Collates}
 use Rattle.collate_core.specs.Refusals.{IsRefusal}
-use Rattle.collate_core.specs.Laws.{CollatedIsNotRefused, OneRefusal}
+use Rattle.collate_core.specs.Laws.{CollatedIsNotRefused, OneRefusal, IsSameRefusal, same_refusal, same_fault}
 use Rattle.collate_core.specs.declared.fault.Refusal.{Refusal}
 use Rattle.dyncollate.specs.declared.answer.Answer.{Answer}
 use Rattle.dyncollate.specs.Answers.{Refuses}
 use Rattle.dyncollate.specs.RefusalTexts.{refusal_text}
+use Rattle.dyncollate.specs.TableFaults.{fault_text, ring_text}
 use Rattle.dyncollate.specs.Targets.{AnswersTarget}
-use Rattle.dyncollate.proofs.Commands.{refusal_same}
+
+-- one refusal has one text
+fault_same : (objects : List RuleValue) (names : List (List ℕ)) (fault other : TableFault) →
+    IsSameFault fault other → fault_text objects names fault ≡ fault_text objects names other
+fault_same objects names fault other same = refl
+fault_same objects names fault other (same_ring e) =
+    ap (λ ring. codes "M8 ImportCycle" ++ codes " " ++ ring_text objects ring) e
+
+refusal_same : (target : TargetValue) (refusal other : Refusal) → IsSameRefusal refusal other →
+    refusal_text target refusal ≡ refusal_text target other
+refusal_same target refusal other same_refusal = refl
+refusal_same target refusal other (same_fault s) =
+    fault_same (all_rules target.setting target.scans)
+    (map (λ info. (info_of info).target) target.infos) _ _ s
 
 -- what is answered to what the target collates to is the answer
 pub collated : CollatedIsNotRefused → (Answers : CollatedValue → Answer → Type 0)

@@ -15,13 +15,10 @@ use Rattle.collate_core.specs.Values.{TargetValue, CollatedValue}
 use Rattle.collate_core.specs.Maps.{Written}
 use Rattle.collate_core.specs.GccMaps.{gcc_written}
 use Rattle.collate_core.specs.ClangMaps.{clang_written}
-use Rattle.collate_core.specs.Collation.{Collates}
-use Rattle.collate_core.specs.Refusals.{IsRefusal}
-use Rattle.collate_core.specs.declared.fault.Refusal.{Refusal}
 use Rattle.dyncollate.specs.declared.answer.Answer.{Answer}
 use Rattle.dyncollate.specs.Answers.{Fails, Refuses}
 use Rattle.dyncollate.specs.EdgeChecks.{AnswersEdges}
-use Rattle.dyncollate.specs.RefusalTexts.{refusal_text}
+use Rattle.dyncollate.specs.Targets.{AnswersTarget}
 
 -- ---- files that are read
 
@@ -107,23 +104,16 @@ abbrev pub files_of : document.TargetValue → CollatedValue → List FileValue
 files_of spec c =
     zip (map map_name c.objects) c.maps ++ (spec.info, c.info) ∷ (spec.dyndep, c.dyndep) ∷ []
 
--- The target collates to this, and the run writes its files, or tells what is wrong with the edges
--- that its document names, if any.
-pub record AnswersCollated (spec : document.TargetValue) (listing : Option (List ℕ))
-    (target : TargetValue) (answer : Answer) : Type 0 where
-  pub collated : CollatedValue
-  pub collates : Collates target (style_of spec.map_form) collated
-  pub answers : AnswersEdges listing (dyndep_path spec) collated.dyndep (files_of spec collated) answer
+-- what a run answers to what the target of a document collates to: its files, or what is wrong with
+-- the edges that the document names, if any
+abbrev pub WritesCollated : document.TargetValue → Option (List ℕ) → CollatedValue → Answer → Type 0
+WritesCollated spec listing c answer =
+    AnswersEdges listing (dyndep_path spec) c.dyndep (files_of spec c) answer
 
--- What a run answers to a target whose files were read: the line of its refusal, or, where it has
--- none, what it answers to what the target collates to.
-pub record AnswersTarget (spec : document.TargetValue) (listing : Option (List ℕ))
-    (target : TargetValue) (answer : Answer) : Type 0 where
-  pub collated :
-      ((refusal : Refusal) → IsRefusal target (style_of spec.map_form) refusal → ⊥) →
-      AnswersCollated spec listing target answer
-  pub refused : (refusal : Refusal) → IsRefusal target (style_of spec.map_form) refusal →
-      Refuses (refusal_text target refusal) answer
+-- what a run answers to the target of a document whose files were read
+abbrev pub AnswersTargetOf : document.TargetValue → Option (List ℕ) → TargetValue → Answer → Type 0
+AnswersTargetOf spec listing target answer =
+    AnswersTarget (WritesCollated spec listing) target (style_of spec.map_form) answer
 
 -- What a run answers to a target document: the name of the first file that can't be read, or what
 -- it answers to the target.
@@ -132,7 +122,7 @@ pub record AnswersSpec (reading : Reading) (spec : document.TargetValue)
   pub unread : (name : List ℕ) → first_unread reading (names_in spec) ≡ Some name →
       Fails 3 (codes "cannot read " ++ name) answer
   pub read : first_unread reading (names_in spec) ≡ None →
-      AnswersTarget spec (listing_of reading spec.edges) (target_in reading spec) answer
+      AnswersTargetOf spec (listing_of reading spec.edges) (target_in reading spec) answer
 
 -- the document is accepted, and these are its members
 abbrev pub HasSpec : List ℕ → document.TargetValue → Type 0

@@ -9,6 +9,7 @@ pub mod Listings
 pub mod One
 pub mod Order
 pub mod Printing
+pub mod ProjectCommand
 pub mod RefusalTexts
 pub mod Runs
 pub mod Show

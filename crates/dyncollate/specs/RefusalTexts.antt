@@ -26,8 +26,8 @@ map_text objects object (MapPath path) = codes "K1 MapPath " ++ path
 map_text objects object TwoProvided = codes "K2 TwoProvided " ++ object_path objects object
 map_text objects object (BadMapLine line) = codes "K4 BadMapLine line " ++ decimal line
 
--- Why a target is refused, with its setting, its scan documents and the names of the targets that it
--- links. Objects are told by the paths that the scan documents give, and infos by those names.
+-- Why a target with this setting and these scan documents is refused, which links targets of these
+-- names. Objects are told by the paths that the scan documents give, and infos by those names.
 abbrev pub refusal_by_names : SettingValue → List (List ℕ) → List (List ℕ) → Refusal → List ℕ
 refusal_by_names setting scans names (Scan index fault) = numbered_text (codes "scan") index fault
 refusal_by_names setting scans names (Info index fault) = numbered_text (codes "info") index fault

@@ -1,4 +1,5 @@
 pub mod EdgeChecks
+pub mod ProjectTargets
 pub mod Readings
 pub mod Refusals
 pub mod TargetDocuments

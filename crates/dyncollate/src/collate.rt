@@ -5,17 +5,17 @@ ghost use Rattle.ninja_text.specs.Failure.{ForFault};
 ghost use Rattle.collate_core.specs.Collation.{Collates};
 ghost use Rattle.collate_core.specs.Refusals.{IsRefusal};
 ghost use Rattle.dyncollate.specs.Answers.{file_value, Refuses};
-ghost use Rattle.dyncollate.specs.CollateCommand.{first_of, first_unread, bytes_of, listing_of, names_in, dyndep_path, setting_in, target_in, style_of, map_name, files_of, AnswersTarget, AnswersSpec, AnswersCollate, spec_text};
+ghost use Rattle.dyncollate.specs.CollateCommand.{first_of, first_unread, bytes_of, listing_of, names_in, dyndep_path, setting_in, style_of, map_name, files_of, AnswersTargetOf, AnswersSpec, AnswersCollate, spec_text};
 ghost use Rattle.dyncollate.specs.EdgeChecks.{PassesEdges, FailsEdges, AnswersEdges};
-ghost use Rattle.dyncollate.specs.inner.TargetDocuments.{IsPlaced};
 
 use crate::answer::Answer;
 use crate::edges::{EdgesFault, edges_check, edges_text};
-use crate::reading::{first_files, read_each, read_named};
+use crate::reading::{Files, read_each, read_named};
 use crate::refusal::refusal_text;
+use crate::target_document::TargetDocument;
 use collate_core::{Clang, Collated, CollatedParts, Gcc, Refusal, Target, collate, one_outcome};
-use ninja_text::{Failure, Path, place};
-use scan_docs::{DocFault, MapForm, Setting, TargetSpec, spec_read};
+use ninja_text::{Failure, Path};
+use scan_docs::{DocFault, MapForm, TargetSpec};
 use std::alloc::{AllocError, Global};
 
 /// Runs `collate TARGETFILE` on the bytes of the target document, and on files by name. Of a name that is there twice the
@@ -29,8 +29,8 @@ pub fn collate_run(
 ) -> Result<Answer, AllocError>
     ensures { IfOk result (AnswersCollate spec.now (first_of (map file_value files.now))) }
 {
-    match spec_read(alloc, spec) {
-        Ok(spec) => spec_run(alloc, spec, files),
+    match TargetDocument::read(alloc, spec) {
+        Ok(document) => document_run(alloc, &document, &Files::of(alloc, files)?),
         Err(Failure::Memory) => Err(AllocError),
         Err(Failure::Fault(fault)) => spec_refused(alloc, &fault),
     }
@@ -44,17 +44,16 @@ fn spec_refused(alloc: Global, fault: &DocFault) -> Result<Answer, AllocError>
     Answer::failed(alloc, 1, message.as_bytes())
 }
 
-/// The answer to a target document with these members.
-fn spec_run(
+/// The answer to an accepted target document.
+fn document_run(
     alloc: Global,
-    spec: TargetSpec,
-    files: &[(String, Vec<u8>)],
+    document: &TargetDocument,
+    files: &Files,
 ) -> Result<Answer, AllocError>
-    requires { IsPlaced spec }
-    ensures { IfOk result (AnswersSpec (first_of (map file_value files.now)) spec) }
+    ensures { IfOk result (AnswersSpec (first_of files.now) document.now) }
 {
-    match documents_of(alloc, &spec, files) {
-        Ok((scans, infos, listing)) => documents_run(alloc, &spec, &scans, &infos, listing),
+    match documents_of(alloc, document.spec(), files) {
+        Ok((scans, infos, listing)) => documents_run(alloc, document, &scans, &infos, listing),
         Err(Failure::Memory) => Err(AllocError),
         Err(Failure::Fault(name)) => Answer::unread(alloc, name),
     }
@@ -65,68 +64,64 @@ fn spec_run(
 fn documents_of<'s, 'f>(
     alloc: Global,
     spec: &'s TargetSpec,
-    files: &'f [(String, Vec<u8>)],
+    files: &Files<'f>,
 ) -> Result<(Vec<&'f [u8]>, Vec<&'f [u8]>, Option<&'f [u8]>), Failure<&'s str>>
     ensures scans { IfOk result (λ documents. map (λ d. d.now) documents.0.items
-        ≡ bytes_of (first_of (map file_value files.now)) spec.now.scans) }
+        ≡ bytes_of (first_of files.now) spec.now.scans) }
     ensures infos { IfOk result (λ documents. map (λ d. d.now) documents.1.items
-        ≡ bytes_of (first_of (map file_value files.now)) spec.now.linked) }
+        ≡ bytes_of (first_of files.now) spec.now.linked) }
     ensures listing { IfOk result (λ documents. option_copied documents.2
-        ≡ listing_of (first_of (map file_value files.now)) spec.now.edges) }
+        ≡ listing_of (first_of files.now) spec.now.edges) }
     ensures complete { IfOk result (λ _.
-        first_unread (first_of (map file_value files.now)) (names_in spec.now) ≡ None) }
+        first_unread (first_of files.now) (names_in spec.now) ≡ None) }
     ensures unread { IfErr result (ForFault (λ name.
-        first_unread (first_of (map file_value files.now)) (names_in spec.now) ≡ Some name.now)) }
+        first_unread (first_of files.now) (names_in spec.now) ≡ Some name.now)) }
 {
-    let found = first_files(alloc, files)?;
-    let scans = read_each(alloc, &found, &spec.scans)?;
-    let infos = read_each(alloc, &found, &spec.linked)?;
-    let listing = read_named(&found, &spec.edges)?;
+    let scans = read_each(alloc, files, &spec.scans)?;
+    let infos = read_each(alloc, files, &spec.linked)?;
+    let listing = read_named(files, &spec.edges)?;
     Ok((scans, infos, listing))
 }
 
 /// The answer to a target document whose files were read.
 fn documents_run(
     alloc: Global,
-    spec: &TargetSpec,
+    document: &TargetDocument,
     scans: &[&[u8]],
     infos: &[&[u8]],
     listing: Option<&[u8]>,
 ) -> Result<Answer, AllocError>
-    requires { IsPlaced spec.now }
-    ensures { IfOk result (AnswersTarget spec.now (option_copied listing.entry) (record {
-      name = spec.now.target;
-      setting = setting_in spec.now;
+    ensures { IfOk result (AnswersTargetOf document.now (option_copied listing.entry) (record {
+      name = document.now.target;
+      setting = setting_in document.now;
       scans = map (λ d. d.now) scans.now;
       infos = map (λ d. d.now) infos.now;
-      kept = spec.now.kept;
+      kept = document.now.kept;
     })) }
 {
-    let setting = setting_in(alloc, spec)?;
+    let spec = document.spec();
     let target = Target {
         name: &spec.target,
-        setting: &setting,
+        setting: document.setting(),
         scans,
         infos,
         kept: &spec.kept,
     };
-    target_run(alloc, &target, spec, listing)
+    target_run(alloc, &target, document, listing)
 }
 
 /// The answer to the target of a target document.
 fn target_run(
     alloc: Global,
     target: &Target<'_>,
-    spec: &TargetSpec,
+    document: &TargetDocument,
     listing: Option<&[u8]>,
 ) -> Result<Answer, AllocError>
-    requires { IsPlaced spec.now }
-    ensures { IfOk result (AnswersTarget spec.now (option_copied listing.entry) target.now) }
+    ensures { IfOk result (AnswersTargetOf document.now (option_copied listing.entry) target.now) }
 {
     one_outcome();
-    let path = dyndep_path(alloc, spec)?;
-    match collate_in(alloc, target, spec) {
-        Ok(collated) => collated_run(alloc, collated, spec, &path, listing),
+    match collate_in(alloc, target, document.spec().map) {
+        Ok(collated) => collated_run(alloc, collated, document, listing),
         Err(Failure::Memory) => Err(AllocError),
         Err(Failure::Fault(refusal)) => {
             let message = refusal_text(alloc, target, &refusal)?;
@@ -135,37 +130,9 @@ fn target_run(
     }
 }
 
-/// Where the target's modules are compiled to, and where Ninja runs.
-fn setting_in(alloc: Global, spec: &TargetSpec) -> Result<Setting, AllocError>
-    ensures { IfOk result (λ setting. setting ≡ setting_in spec.now) }
-{
-    let build_dir = match &spec.build_dir {
-        Some(path) => Some(path.copy(alloc)?),
-        None => None,
-    };
-    Ok(Setting {
-        module_dir: String::from_str(alloc, &spec.module_dir)?,
-        module_ext: String::from_str(alloc, &spec.module_ext)?,
-        build_dir,
-    })
-}
-
-/// The dyndep file of a target document, as Ninja sees it.
-#[tactic(auto, using(crate::proofs::TargetDocuments::path_known))]
-fn dyndep_path(alloc: Global, spec: &TargetSpec) -> Result<Path, AllocError>
-    requires { IsPlaced spec.now }
-    ensures { IfOk result (λ path. path ≡ dyndep_path spec.now) }
-{
-    match place(alloc, None, spec.build_dir.as_ref(), spec.dyndep.as_bytes()) {
-        Ok(path) => Ok(path),
-        Err(Failure::Memory) => Err(AllocError),
-        Err(Failure::Fault(_)) => unreachable!(),
-    }
-}
-
 /// Whether the edges of a listing, if there is one, can be put in order after the effect of a collated target's dyndep
 /// file, which has that name.
-fn edges_pass(
+pub fn edges_pass(
     alloc: Global,
     listing: Option<&[u8]>,
     name: &Path,
@@ -186,17 +153,16 @@ fn edges_pass(
 fn collated_run(
     alloc: Global,
     collated: Collated,
-    spec: &TargetSpec,
-    path: &Path,
+    document: &TargetDocument,
     listing: Option<&[u8]>,
 ) -> Result<Answer, AllocError>
     requires { All IsUtf8 collated.objects }
-    ensures { IfOk result (AnswersEdges (option_copied listing.entry) path.now collated.dyndep
-        (files_of spec.now collated)) }
+    ensures { IfOk result (AnswersEdges (option_copied listing.entry) (dyndep_path document.now)
+        collated.dyndep (files_of document.now collated)) }
 {
-    match edges_pass(alloc, listing, path, &collated) {
+    match edges_pass(alloc, listing, document.path(), &collated) {
         Ok(()) => {
-            let files = files_of(alloc, collated, spec)?;
+            let files = files_of(alloc, collated, document.spec())?;
             Ok(Answer::writes(alloc, files))
         }
         Err(Failure::Memory) => Err(AllocError),
@@ -207,16 +173,16 @@ fn collated_run(
     }
 }
 
-/// Collates the target of a target document, with maps of the form that this asks for.
+/// Collates a target, with maps of this form, if one is asked for.
 fn collate_in(
     alloc: Global,
     target: &Target<'_>,
-    spec: &TargetSpec,
+    form: Option<MapForm>,
 ) -> Result<Collated, Failure<Refusal>>
-    ensures collated { IfOk result (Collates target.now (style_of spec.now.map_form)) }
-    ensures refused { IfErr result (ForFault (IsRefusal target.now (style_of spec.now.map_form))) }
+    ensures collated { IfOk result (Collates target.now (style_of form)) }
+    ensures refused { IfErr result (ForFault (IsRefusal target.now (style_of form))) }
 {
-    match spec.map {
+    match form {
         None => collate(alloc, target, None::<&Gcc>),
         Some(MapForm::Gcc) => collate(alloc, target, Some(&Gcc)),
         Some(MapForm::Clang) => collate(alloc, target, Some(&Clang)),
@@ -224,7 +190,7 @@ fn collate_in(
 }
 
 /// The files of a collated target, whose texts are given up and not copied.
-fn files_of(
+pub fn files_of(
     alloc: Global,
     collated: Collated,
     spec: &TargetSpec,

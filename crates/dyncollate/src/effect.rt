@@ -11,7 +11,7 @@ use crate::answer::Answer;
 use crate::dyndep_text::{dyndep_read, dyndep_refused};
 use crate::edge_fault::{effect_text, first_output};
 use crate::listing::{is_graph, listing_read, listing_refused};
-use crate::reading::first_files;
+use crate::reading::Files;
 use crate::table_fault::joined;
 use build_effect::{Graph, ListingWriteFault, apply, listing_write, one_listing};
 use dyndep_file::{Dyndep, laws};
@@ -30,8 +30,8 @@ pub fn effect_files(
     ensures { IfOk result (AnswersFiles name.now edges.now dyndep.now
         (first_of (map file_value files.now) dyndep.now)) }
 {
-    let found = first_files(alloc, files)?;
-    match found.get(&dyndep) {
+    let files = Files::of(alloc, files)?;
+    match files.get(dyndep) {
         Some(text) => effect_run(alloc, name, edges, text),
         None => Answer::unread(alloc, dyndep),
     }

@@ -43,11 +43,13 @@ mod one;
 mod order;
 mod print;
 mod project;
+mod project_targets;
 mod reading;
 mod refusal;
 mod run;
 mod show;
 mod table_fault;
+mod target_document;
 mod words;
 
 fn main(rt: HostRuntime) -> ExitCode {

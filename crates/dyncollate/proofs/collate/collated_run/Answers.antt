@@ -3,13 +3,15 @@ use Rattle.std.proofs.lemmas.Result.{IfOk-weaker}
 use Rattle.ninja_text.specs.Failure.{ForFault}
 use Rattle.dyncollate.specs.Answers.{Fails, Refuses}
 use Rattle.dyncollate.specs.EdgeChecks.{FailsEdges, AnswersEdges, fails}
+use Rattle.dyncollate.specs.CollateCommand.{dyndep_path}
+use Rattle.dyncollate.proofs.Commands.{at_path}
 use Rattle.dyncollate.proofs.collate.collated_run.Goals as goal
 
 -- the edges are faulty
 pub returns : goal.returns
 returns c =
-    IfOk-weaker c.failed.result (Fails 1 c.deref.result.now) (AnswersEdges _ _ _ _)
-    (λ answer h. fails c.in-Err-Fault.fault
+    IfOk-weaker c.failed.result (Fails 1 c.deref.result.now) (AnswersEdges _ (dyndep_path c.args.document.now) _ _)
+    (λ answer h. at_path c.path.ensures (fails c.in-Err-Fault.fault
     (subst (ForFault (FailsEdges _ _ _)) c.in-Err-Fault.field-0-is c.in-Err-Fault.ensures.fails)
-    (subst (λ text. Refuses text answer) (c.deref.ensures.value ∙ c.in_ok-message-in-Err-Fault.ensures) h))
+    (subst (λ text. Refuses text answer) (c.deref.ensures.value ∙ c.in_ok-message-in-Err-Fault.ensures) h)))
     c.failed.ensures

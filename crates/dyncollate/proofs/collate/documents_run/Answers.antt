@@ -1,11 +1,11 @@
-use Rattle.std.proofs.Common.{◌≡◌, ℕ, List, Option, map, subst}
+use Rattle.std.proofs.Common.{◌≡◌, ℕ, List, Option, map, subst, ◌∙◌}
 use Rattle.std.specs.Prelude.{option_copied}
 use Rattle.std.specs.Borrow.{Bor}
 use Rattle.std.proofs.lemmas.Result.{IfOk-weaker}
 use Rattle.scan_docs.specs.Scan.{SettingValue}
 use Rattle.scan_docs.specs.Target as document
 use Rattle.collate_core.specs.Values.{TargetValue}
-use Rattle.dyncollate.specs.CollateCommand.{setting_in, AnswersTarget}
+use Rattle.dyncollate.specs.CollateCommand.{setting_in, AnswersTargetOf}
 use Rattle.dyncollate.specs.declared.answer.Answer.{Answer}
 use Rattle.dyncollate.proofs.collate.documents_run.Goals as goal
 
@@ -16,11 +16,11 @@ target_with scans infos spec setting kept = record { name = spec.target; setting
 -- what is answered to the target that was made is what is answered to the document's
 of_spec : (scans infos : List (List ℕ)) (listing : Option (List ℕ)) (answer : Answer) (seen spec : document.TargetValue) (setting : SettingValue) (kept : List (List ℕ)) →
     seen ≡ spec → setting ≡ setting_in spec → kept ≡ seen.kept →
-    AnswersTarget spec listing (target_with scans infos seen setting kept) answer → AnswersTarget spec listing (target_with scans infos spec (setting_in spec) spec.kept) answer
+    AnswersTargetOf spec listing (target_with scans infos seen setting kept) answer → AnswersTargetOf spec listing (target_with scans infos spec (setting_in spec) spec.kept) answer
 of_spec scans infos listing answer seen spec setting kept is e f h =
-    subst (λ (s : document.TargetValue). AnswersTarget spec listing (target_with scans infos s (setting_in spec) s.kept) answer) is
-    (subst (λ (k : List (List ℕ)). AnswersTarget spec listing (target_with scans infos seen (setting_in spec) k) answer) f
-    (subst (λ (s : SettingValue). AnswersTarget spec listing (target_with scans infos seen s kept) answer) e h))
+    subst (λ (s : document.TargetValue). AnswersTargetOf spec listing (target_with scans infos s (setting_in spec) s.kept) answer) is
+    (subst (λ (k : List (List ℕ)). AnswersTargetOf spec listing (target_with scans infos seen (setting_in spec) k) answer) f
+    (subst (λ (s : SettingValue). AnswersTargetOf spec listing (target_with scans infos seen s kept) answer) e h))
 
 -- the target that is made is the document's
 pub returns : goal.returns
@@ -28,5 +28,5 @@ returns c =
     let scans = map (λ (d : Bor (List ℕ)). d.now) c.args.scans.now in
     let infos = map (λ (d : Bor (List ℕ)). d.now) c.args.infos.now in
     IfOk-weaker c.target_run.result _ _
-    (λ answer h. of_spec scans infos (option_copied c.args.listing) answer _ _ _ _ c.spec.view_is c.in_ok-setting.ensures c.deref.ensures.value h)
+    (λ answer h. of_spec scans infos (option_copied c.args.listing) answer _ _ _ _ (c.spec.view_is ∙ c.spec-spec.ensures) c.setting.ensures c.deref.ensures.value h)
     c.target_run.ensures

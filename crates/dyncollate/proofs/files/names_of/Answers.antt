@@ -1,5 +1,5 @@
 use Rattle.std.proofs.Common.{map, string_bytes, sym, subst}
-use Rattle.std.specs.Prelude.{IfOk, Ok}
+use Rattle.std.specs.Prelude.{IfOk}
 use Rattle.dyncollate.specs.Tasks.{task_value, project}
 use Rattle.dyncollate.specs.Files.{NamesInProject, NamesOf}
 use Rattle.dyncollate.proofs.files.names_of.Goals as goal

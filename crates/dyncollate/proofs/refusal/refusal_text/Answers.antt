@@ -1,7 +1,5 @@
-use Rattle.std.proofs.Common.{◌≡◌, ℕ, List, [], ◌∷◌, map, refl, ap, ap₂, sym, subst, ◌∙◌}
-use Rattle.std.specs.Borrow.{Bor}
+use Rattle.std.proofs.Common.{◌≡◌, ℕ, List, [], ◌∷◌, map, refl, ap, ap₂, sym, ◌∙◌}
 use Rattle.std.proofs.lemmas.Result.{IfOk-weaker}
-use Rattle.scan_docs.specs.Scan.{SettingValue}
 use Rattle.scan_docs.specs.Info.{InfoValue}
 use Rattle.scan_docs.specs.Values.{info_of}
 use Rattle.module_table.specs.declared.fault.TableFault.{TableFault}
