@@ -2,7 +2,7 @@
 import re
 from collections import namedtuple
 
-from .lines import LINE_LIMIT, assignment_of, is_word, lexical_fault, lines_of, tokens_of, value_of
+from .lines import LINE_LIMIT, assignment_of, is_word, sound_lines, value_of
 from .paths import Refused, spelled
 
 VERSION = b"ninja_dyndep_version = 1\n"
@@ -63,20 +63,14 @@ def statement_of(tokens, where):
 def dyndep_of(text):
     """The statements of a dyndep file, or the refusal of its first faulty line."""
     statements, is_versioned, is_open = [], False, False
-    for line in lines_of(text):
-        if line.is_comment:
-            continue
-        where = b"line %d: " % line.number
-        fault = lexical_fault(line.text)
-        if fault:
-            raise Refused(where + fault)
-        tokens, assigned = tokens_of(line.text), assignment_of(line.text)
+    for where, line, tokens in sound_lines(text):
+        assigned = assignment_of(line)
         if not tokens:
             is_open = False
         elif not is_versioned:
             version_checked(assigned, where)
             is_versioned = True
-        elif line.text.startswith(b" "):
+        elif line.startswith(b" "):
             statements[-1:] = [bound(statements[-1:], is_open, assigned, where)]
             is_open = False
         elif assigned and assigned[:2] == (0, b"ninja_dyndep_version"):

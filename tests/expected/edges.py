@@ -3,7 +3,7 @@ import re
 
 from .digraphs import least_cycle, least_order, repeated
 from .dyndeps import Statement
-from .lines import LINE_LIMIT, assignment_of, lexical_fault, lines_of, tokens_of, value_of
+from .lines import LINE_LIMIT, assignment_of, sound_lines, value_of
 from .paths import PathFault, Refused, path_of, spelled
 
 
@@ -78,18 +78,11 @@ PARTS = ("outputs", "implicit", "inputs", "implicit inputs", "order only")
 def listing_of(text):
     """The edges of a listing, or the refusal of its first faulty line, or why they are no graph."""
     edges, taken = [], None
-    for line in lines_of(text, b"edges: "):
-        if line.is_comment:
-            continue
-        where = b"edges: line %d: " % line.number
-        fault = lexical_fault(line.text)
-        if fault:
-            raise Refused(where + fault)
-        tokens = tokens_of(line.text)
+    for where, line, tokens in sound_lines(text, b"edges: "):
         if not tokens:
             taken = None
-        elif line.text.startswith(b" "):
-            edge_bound(edges, taken, assignment_of(line.text), where)
+        elif line.startswith(b" "):
+            edge_bound(edges, taken, assignment_of(line), where)
         elif tokens[0] == (0, b"build"):
             edges.append(edge_placed(edge_read([it for _, it in tokens]), where))
             taken = set()

@@ -45,6 +45,18 @@ def lines_of(text, where=b""):
         start, number = end, number + line.count(b"\n")
 
 
+def sound_lines(text, prefix=b""):
+    """Of each line that is no comment: where it stands, its bytes and its tokens. A line with a lexical fault is refused."""
+    for line in lines_of(text, prefix):
+        if line.is_comment:
+            continue
+        where = b"%sline %d: " % (prefix, line.number)
+        fault = lexical_fault(line.text)
+        if fault:
+            raise Refused(where + fault)
+        yield where, line.text, tokens_of(line.text)
+
+
 def lexical_fault(line):
     """The first lexical fault of a line that is no comment, or None."""
     at = 0

@@ -6,10 +6,11 @@
 //!
 //! - `words` tells what the words ask for.
 //! - `run` answers a task by what reading its files gave, and `print` writes an answer and gives the status. `files` reads
-//!   the files that a target document names, and writes those of an answer, by calls that `main` hands to it. What is left
-//!   to `main` is to ask for the words, to make these calls of the system, and to end with the status.
+//!   the files that target and project documents name, and writes those of an answer, by calls that `main` hands to it.
+//!   What is left to `main` is to ask for the words, to make these calls of the system, and to end with the status.
 //! - `one`, `collate`, `project`, `effect`, `order` and `show` are the commands of these names. Their promises are the
 //!   contracts of `one_run`, `collate_run`, `project_run`, `effect_run`, `order_run` and `show_run`.
+//! - `target_document` is an accepted target document, and `project_targets` the targets of a project that were read.
 //! - `reading` finds files by their names, `listing` and `dyndep_text` read listings and dyndep files, and `edges` checks
 //!   the edges that a target document names.
 //! - `refusal` tells why a target is refused, `table_fault` why its modules have no table, and `edge_fault` what is wrong
