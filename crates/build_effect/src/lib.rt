@@ -70,8 +70,6 @@ mod listing_writing;
 mod makers;
 mod needs;
 mod statement_edges;
-#[cfg(test)]
-mod tests;
 
 pub use edge::Edge;
 pub use effect::apply;

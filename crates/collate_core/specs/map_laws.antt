@@ -1,4 +1,3 @@
 pub mod LineLemmas
 pub mod GccLemmas
 pub mod ClangLemmas
-pub mod BareLemmas

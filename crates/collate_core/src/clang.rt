@@ -2,10 +2,12 @@
 ghost use Rattle.std.specs.Prelude.{◌≡◌, ◌++◌, ◌-◌, map, length, slice_get, option_copied, IfOk, OnOk};
 ghost use Rattle.std.specs.List.{flat_map};
 ghost use Rattle.ninja_text.specs.Failure.{Gives};
-ghost use Rattle.collate_core.specs.MapLines.{nameless, ended, behind, lines_of};
+ghost use Rattle.collate_core.specs.MapLines.{ended, behind, lines_of};
 ghost use Rattle.collate_core.specs.ClangMaps.{file_flag, file_line, file_pair, output_flag, output_path, output_text, clang_text, rises_behind, read_provided};
 
-use crate::map_lines::{LineForm, cut_line, first_unfit, pair_in, path_in, push_named, read_lines};
+use crate::map_lines::{
+    LineForm, cut_line, first_unfit, pair_in, path_in, push_named, push_nameless, read_lines,
+};
 use crate::map_style::MapStyle;
 use crate::module_map::{MapEntry, MapFault, ModuleMap};
 use ninja_text::{Failure, Path};
@@ -195,21 +197,6 @@ fn push_files(text: &mut Vec<u8>, pairs: &[(Name, Path)]) -> Result<(), AllocErr
         text.push(b'=')?;
         text.extend_from_slice(pair.1.bytes())?;
         text.push(b'\n')?;
-    }
-    Ok(())
-}
-
-/// The entries of modules, without their names.
-pub(crate) fn push_nameless(
-    alloc: Global,
-    entries: &mut Vec<MapEntry>,
-    pairs: &[(Name, Path)],
-) -> Result<(), AllocError>
-    ensures { OnOk result (entries.new.items ≡ entries.old.items ++ map nameless pairs.now) }
-{
-    for pair in pairs {
-        let path = pair.1.copy(alloc)?;
-        entries.push(MapEntry { name: None, path })?;
     }
     Ok(())
 }

@@ -9,8 +9,9 @@
 //!   which adds to each object's edge exactly what the object provides and requires.
 //! - [`rehearse`] reads any text in any pieces and applies it to a build, and [`check_edges`] puts the edges after the effect
 //!   in order, or answers the least cycle (`specs/Rehearsal.antt`).
-//! - [`Gcc`] and [`Clang`] are styles of module maps; a caller may have a [`MapStyle`] of its own. A style's contract says
-//!   what it writes of a map, and what it reads of a text (`specs/Maps.antt`, `GccMaps`, `ClangMaps`).
+//! - [`Gcc`] and [`Clang`] are styles of module maps; a caller may have a [`MapStyle`] of its own, for which [`map_lines`] has
+//!   what the two share. A style's contract says what it writes of a map, and what it reads of a text (`specs/Maps.antt`,
+//!   `GccMaps`, `ClangMaps`).
 //! - [`project`] collates targets that link earlier ones (`specs/Projects.antt`). Their dyndep files may be applied in any
 //!   order (`ProjectOrders.antt`), and the maps tell what each object needs over the whole project (`ProjectNeeds.antt`).
 //!
@@ -29,7 +30,7 @@ mod fault;
 mod gcc;
 mod info;
 mod laws;
-mod map_lines;
+pub mod map_lines;
 mod map_style;
 mod module_map;
 mod object_maps;
@@ -39,8 +40,6 @@ mod rehearsal;
 mod statements;
 mod table;
 mod target;
-#[cfg(test)]
-mod tests;
 
 pub use check::check_edges;
 pub use clang::Clang;

@@ -1,8 +1,9 @@
-//! What the styles of module maps share: the paths that stand in a map, and how its lines are read.
+//! What the styles of module maps share, and what helps to write another: the paths that stand in a map, and how its lines are
+//! read.
 ghost use Rattle.std.specs.Prelude.{◌≡◌, ◌<◌, ◌≤◌, ◌==◌, ◌++◌, List, ℕ, [], ◌∷◌, length, map, Some, None, IfOk, OnOk, IfSome, MatchOption, option_copied, position};
 ghost use Rattle.ninja_text.specs.Failure.{Gives};
 ghost use Rattle.collate_core.specs.Maps.{pairs_of};
-ghost use Rattle.collate_core.specs.MapLines.{LineForm, is_map_byte, is_fit, first_unfit, named, lines_of, cut, path_in, name_in, pair_in, read_lines};
+ghost use Rattle.collate_core.specs.MapLines.{LineForm, is_map_byte, is_fit, first_unfit, named, nameless, lines_of, cut, path_in, name_in, pair_in, read_lines};
 
 use crate::module_map::{MapEntry, MapFault, ModuleMap};
 use ninja_text::{Failure, Path};
@@ -11,11 +12,11 @@ use std::alloc::{AllocError, Global};
 use std::str;
 
 /// The form of a style's lines.
-pub(crate) trait LineForm {
+pub trait LineForm {
     /// How a line is read, without its end, behind the entries of the lines before it.
     ghost form: { Self → LineForm };
 
-    /// The entry of a line, if it is of the form.
+    /// The entry of a line, if it is of the form. `AllocError`: want of memory.
     fn entry(
         &self,
         alloc: Global,
@@ -25,8 +26,9 @@ pub(crate) trait LineForm {
         ensures { IfOk result (λ entry. entry ≡ form self.now entries.now line.now) };
 }
 
-/// The entries that there are, and those of the lines of a text, which are numbered on.
-pub(crate) fn read_lines<F: LineForm>(
+/// The entries that there are, and those of the lines of a text, which are numbered on; or K4 with the first line that is not
+/// of the form, or has no end. `Memory`: want of memory.
+pub fn read_lines<F: LineForm>(
     alloc: Global,
     form: &F,
     earlier: Vec<MapEntry>,
@@ -83,12 +85,8 @@ fn index_of(text: &[u8], mark: u8) -> Option<usize>
     text.iter().position(|b| *b == mark)
 }
 
-/// The module in a text: a name, the first byte that is the mark, and a path.
-pub(crate) fn pair_in(
-    alloc: Global,
-    mark: u8,
-    text: &[u8],
-) -> Result<Option<(Name, Path)>, AllocError>
+/// The module in a text: a name, the first byte that is the mark, and a path of a map. `AllocError`: want of memory.
+pub fn pair_in(alloc: Global, mark: u8, text: &[u8]) -> Result<Option<(Name, Path)>, AllocError>
     ensures { IfOk result (λ pair. pair ≡ pair_in mark text.now) }
 {
     match cut(text, mark) {
@@ -114,9 +112,9 @@ fn name_in(alloc: Global, text: &[u8]) -> Result<Option<Name>, AllocError>
     }
 }
 
-/// The text as a path of a map.
+/// The text as a path of a map: the canonical text of a path, with no byte that needs quotes. `AllocError`: want of memory.
 #[tactic(auto, unfolding(crate::specs::MapLines::path_in))]
-pub(crate) fn path_in(alloc: Global, text: &[u8]) -> Result<Option<Path>, AllocError>
+pub fn path_in(alloc: Global, text: &[u8]) -> Result<Option<Path>, AllocError>
     ensures { IfOk result (λ path. path ≡ path_in text.now) }
 {
     if !is_fit(text) {
@@ -148,8 +146,8 @@ fn is_map_byte(byte: u8) -> bool
     byte >= 33 && byte != 127 && byte != b'\'' && byte != b'"' && byte != b'\\'
 }
 
-/// The first path of a map that cannot stand in it.
-pub(crate) fn first_unfit(map: &ModuleMap) -> Option<&Path>
+/// The first path of a map that cannot stand in it, since a byte of it needs quotes.
+pub fn first_unfit(map: &ModuleMap) -> Option<&Path>
     ensures { option_copied result ≡ first_unfit (pairs_of map.now) }
 {
     match unfit_in(map.provided()) {
@@ -169,8 +167,8 @@ fn unfit_in(pairs: &[(Name, Path)]) -> Option<&Path>
     None
 }
 
-/// The entries of modules, with their names.
-pub(crate) fn push_named(
+/// Adds the entries of modules, with their names. `AllocError`: want of memory.
+pub fn push_named(
     alloc: Global,
     entries: &mut Vec<MapEntry>,
     pairs: &[(Name, Path)],
@@ -184,6 +182,21 @@ pub(crate) fn push_named(
             name: Some(name),
             path,
         })?;
+    }
+    Ok(())
+}
+
+/// Adds the entries of modules, without their names. `AllocError`: want of memory.
+pub fn push_nameless(
+    alloc: Global,
+    entries: &mut Vec<MapEntry>,
+    pairs: &[(Name, Path)],
+) -> Result<(), AllocError>
+    ensures { OnOk result (entries.new.items ≡ entries.old.items ++ map nameless pairs.now) }
+{
+    for pair in pairs {
+        let path = pair.1.copy(alloc)?;
+        entries.push(MapEntry { name: None, path })?;
     }
     Ok(())
 }

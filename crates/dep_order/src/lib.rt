@@ -56,8 +56,6 @@ mod marking;
 mod placing;
 mod reaching;
 mod rows;
-#[cfg(test)]
-mod tests;
 mod users;
 
 ghost use Rattle.std.specs.Prelude.{◌≡◌, ◌<◌, All, length, IfOk};

@@ -21,11 +21,7 @@ pub mod laws;
 mod line;
 mod progress;
 mod reader;
-#[cfg(test)]
-mod reader_tests;
 pub mod statement;
-#[cfg(test)]
-mod tests;
 mod writing;
 
 pub use faults::{LineFault, ReadFault};

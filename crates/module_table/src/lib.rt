@@ -56,8 +56,6 @@ mod provided;
 mod ranks;
 mod repetition;
 mod table;
-#[cfg(test)]
-mod tests;
 
 pub use fault::{Maker, TableFault};
 pub use laws::{added_files, one_fault, sound_tables};

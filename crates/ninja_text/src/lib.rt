@@ -25,30 +25,22 @@
 #![tactic(auto)]
 
 mod assigning;
-#[cfg(test)]
-mod assigning_tests;
 mod assignments;
 mod calls;
 mod checking;
 mod counting;
 mod cutter;
-#[cfg(test)]
-mod cutter_tests;
 mod escapes;
 mod failure;
 pub mod faults;
 pub mod laws;
 mod lexing;
-#[cfg(test)]
-mod lexing_tests;
 mod line;
 mod line_reader;
 mod meaning;
 mod paths;
 mod reduction;
 mod scan;
-#[cfg(test)]
-mod tests;
 mod token;
 mod unit;
 

@@ -51,5 +51,3 @@ pub use setting::Setting;
 pub use target_document::{TargetSpec, spec_read};
 pub use target_name::TargetName;
 
-#[cfg(test)]
-mod tests;

@@ -1,0 +1,35 @@
+-- A style of a caller's own: a path a line, and no names.
+use Rattle.std.specs.Prelude.{ℕ, List, [], map, Option, Some, None, Result, Ok, Err}
+use Rattle.std.specs.List.{flat_map}
+use Rattle.collate_core.specs.Values.{ModuleMapValue}
+use Rattle.collate_core.specs.Maps.{pairs_of}
+use Rattle.collate_core.specs.MapLines.{first_unfit, nameless, ended, path_in, LineForm, read_lines, lines_of}
+use Rattle.collate_core.specs.declared.module_map.MapEntry.{MapEntry}
+use Rattle.collate_core.specs.declared.module_map.MapFault.{MapFault}
+use Rattle.collate_core.specs.declared.module_map.MapFault.TheVariants.{MapPath}
+
+-- the lines, unless a path is unfit
+abbrev pub bare_text : List (List ℕ × List ℕ) → Option (List ℕ) → Result (List ℕ) MapFault
+bare_text pairs (Some path) = Err (MapPath path)
+bare_text pairs None = Ok (flat_map (λ pair. ended pair.1) pairs)
+
+-- what is written for a map
+abbrev pub bare_written : ModuleMapValue → Result (List ℕ) MapFault
+bare_written m = bare_text (pairs_of m) (first_unfit (pairs_of m))
+
+-- what is kept: the paths
+abbrev pub bare_kept : ModuleMapValue → List MapEntry
+bare_kept m = map nameless (pairs_of m)
+
+-- the entry of a path
+abbrev pub bare_entry : Option (List ℕ) → Option MapEntry
+bare_entry None = None
+bare_entry (Some path) = Some (record { name = None; path = path })
+
+-- how a line is read, whatever lines are before it
+abbrev pub bare_form : LineForm
+bare_form entries line = bare_entry (path_in line)
+
+-- what is read in a text
+abbrev pub bare_entries : List ℕ → Result (List MapEntry) MapFault
+bare_entries text = read_lines bare_form [] 1 (lines_of text)

@@ -1,0 +1,2 @@
+pub mod BareMaps
+pub mod BareLemmas

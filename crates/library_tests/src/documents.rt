@@ -1,0 +1,8 @@
+//! What no clause says: that each call succeeds where memory is ample. What documents are answered is a table of
+//! tests/rows, whose rows are given to the built program.
+
+mod infos;
+mod names;
+mod projects;
+mod scans;
+mod targets;

@@ -1,0 +1,22 @@
+//! Tests of the libraries, as their callers see them: worked examples, that each call succeeds where memory is ample, and
+//! readers, writers and growths of memory that fail.
+//!
+//! They stand here since the prover proves a crate a second time where it has tests of its own.
+#![tactic(auto)]
+
+#[cfg(test)]
+mod common;
+#[cfg(test)]
+mod documents;
+#[cfg(test)]
+mod dyndeps;
+#[cfg(test)]
+mod effects;
+#[cfg(test)]
+mod orders;
+#[cfg(test)]
+mod tables;
+#[cfg(test)]
+mod targets;
+#[cfg(test)]
+mod text;

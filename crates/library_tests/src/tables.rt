@@ -1,0 +1,134 @@
+//! What no clause says: that calls succeed where memory is ample. Which targets have a table, and what it says, is a table
+//! of tests/rows, whose rows are given to the built program.
+
+use crate::common::setting;
+use module_table::{Maker, Table, TableFault};
+use ninja_text::{Failure, Path};
+use scan_docs::{Info, Name, Rule, info_read, scan};
+use std::alloc::{AllocError, Global};
+use std::test::Fail;
+
+/// `main.o` requires `A` of `a.o`, which requires `K`.
+fn objects(alloc: Global) -> Result<Vec<Rule>, AllocError> {
+    let document =
+        br#"{"version":1,"rules":[{"primary-output":"main.o","requires":[{"logical-name":"A"}]},{"primary-output":"a.o","provides":[{"logical-name":"A"}],"requires":[{"logical-name":"K"}]}]}"#;
+    match scan(alloc, document, &setting(alloc)?) {
+        Ok(objects) => Ok(objects),
+        Err(_failure) => Err(AllocError),
+    }
+}
+
+fn info_of(alloc: Global, document: &[u8]) -> Result<Info, AllocError> {
+    match info_read(alloc, document) {
+        Ok(info) => Ok(info),
+        Err(_failure) => Err(AllocError),
+    }
+}
+
+/// Whether these are the modules and their files.
+fn are_pairs(pairs: &[(Name, Path)], wanted: &[(&str, &str)]) -> bool {
+    for (pair, (name, file)) in pairs.iter().zip(wanted) {
+        if pair.0.text() != *name || pair.1.bytes() != file.as_bytes() {
+            return false;
+        }
+    }
+    pairs.len() == wanted.len()
+}
+
+/// Whether the table tells both objects as they are.
+fn has_both_objects(table: &Table) -> bool {
+    table.objects().len() == 2
+        && are_pairs(table.provided(0), &[])
+        && are_pairs(table.required(0), &[("A", "mod/A.bmi")])
+        && are_pairs(table.provided(1), &[("A", "mod/A.bmi")])
+        && are_pairs(table.required(1), &[("K", "k/K.bmi")])
+}
+
+/// Whether the name is found with this file and this maker.
+fn is_found(
+    alloc: Global,
+    table: &Table,
+    text: &str,
+    wanted: (&str, Maker),
+) -> Result<bool, AllocError> {
+    let Some(name) = Name::of(alloc, text)? else {
+        return Ok(false);
+    };
+    Ok(match table.lookup(&name) {
+        Some((file, maker)) => file.bytes() == wanted.0.as_bytes() && maker == wanted.1,
+        None => false,
+    })
+}
+
+/// The info of the target `k`: `K` requires `J`, which is private.
+const K_INFO: &[u8] =
+    br#"{"modules":[{"bmi":"k/K.bmi","name":"K","requires":[{"bmi":"k/J.bmi","name":"J"}],"visibility":"public"},{"bmi":"k/J.bmi","name":"J","requires":[],"visibility":"private"}],"target":"k","version":2}"#;
+
+/// The table of both objects and this info.
+fn table_of(alloc: Global) -> Result<Table, AllocError> {
+    let infos = vec![in alloc; info_of(alloc, K_INFO)?]?;
+    match Table::build(alloc, objects(alloc)?, infos, &[]) {
+        Ok(table) => Ok(table),
+        Err(_failure) => Err(AllocError),
+    }
+}
+
+/// Whether a module of an object, one of an info and no other is found.
+fn finds_both(alloc: Global, table: &Table) -> Result<bool, AllocError> {
+    Ok(
+        is_found(alloc, table, "A", ("mod/A.bmi", Maker::Object(1)))?
+            && is_found(alloc, table, "J", ("k/J.bmi", Maker::Info(0)))?
+            && !is_found(alloc, table, "X", ("x", Maker::Info(0)))?,
+    )
+}
+
+#[test]
+fn a_table_tells_what_objects_provide_and_require(rt: HostRuntime) -> Result<(), Fail> {
+    let table = table_of(rt.alloc())?;
+    assert!(rt; has_both_objects(&table));
+    assert!(rt; finds_both(rt.alloc(), &table)?);
+    Ok(())
+}
+
+/// Whether the first object needs the three modules in byte order.
+fn needs_all_three(alloc: Global, table: &Table) -> Result<bool, AllocError> {
+    if table.objects().is_empty() {
+        return Ok(false);
+    }
+    let needed = table.needed(alloc, 0)?;
+    let wanted = [("A", "mod/A.bmi"), ("J", "k/J.bmi"), ("K", "k/K.bmi")];
+    Ok(are_pairs(&needed, &wanted))
+}
+
+#[test]
+fn modules_that_others_require_are_needed(rt: HostRuntime) -> Result<(), Fail> {
+    let table = table_of(rt.alloc())?;
+    assert!(rt; needs_all_three(rt.alloc(), &table)?);
+    Ok(())
+}
+
+/// Whether `A` is provided by the second object and the first info.
+fn is_a_twice(answer: Result<Table, Failure<TableFault>>) -> bool {
+    match answer {
+        Err(
+            Failure::Fault(
+                TableFault::ProvidedTwice {
+                    name,
+                    first,
+                    second,
+                },
+            ),
+        ) => name.text() == "A" && first == Maker::Object(1) && second == Maker::Info(0),
+        _ => false,
+    }
+}
+
+#[test]
+fn a_fault_tells_makers_by_index(rt: HostRuntime) -> Result<(), Fail> {
+    let alloc = rt.alloc();
+    let info =
+        br#"{"modules":[{"bmi":"lib/A.bmi","name":"A","requires":[],"visibility":"public"}],"target":"l","version":2}"#;
+    let infos = vec![in alloc; info_of(alloc, info)?]?;
+    assert!(rt; is_a_twice(Table::build(alloc, objects(alloc)?, infos, &[])));
+    Ok(())
+}

@@ -1,0 +1,188 @@
+//! What the styles write and read.
+
+use super::bare::Bare;
+use super::{map_fault_text, push_line};
+use crate::common::{name, path};
+use collate_core::{Clang, Gcc, MapEntry, MapStyle, ModuleMap};
+use ninja_text::{Failure, Path};
+use scan_docs::Name;
+use std::alloc::{AllocError, Global};
+use std::test::Fail;
+
+/// Modules with these names and paths.
+fn pairs(alloc: Global, texts: &[(&str, &str)]) -> Result<Vec<(Name, Path)>, AllocError> {
+    let mut pairs = Vec::new(alloc);
+    for text in texts {
+        pairs.push((name(alloc, text.0)?, path(alloc, text.1)?))?;
+    }
+    Ok(pairs)
+}
+
+/// The map of these modules, whose needed names rise.
+fn map_of(
+    alloc: Global,
+    provided: &[(&str, &str)],
+    needed: &[(&str, &str)],
+) -> Result<ModuleMap, AllocError> {
+    match ModuleMap::new(pairs(alloc, provided)?, pairs(alloc, needed)?) {
+        Some(map) => Ok(map),
+        None => Err(AllocError),
+    }
+}
+
+/// The entries, one a line.
+fn entries_text(alloc: Global, entries: &[MapEntry]) -> Result<Vec<u8>, AllocError> {
+    let mut out = Vec::new(alloc);
+    for entry in entries {
+        match &entry.name {
+            Some(name) => out.extend_from_slice(name.text().as_bytes())?,
+            None => out.push(b'-')?,
+        }
+        out.push(b' ')?;
+        push_line(&mut out, entry.path.bytes())?;
+    }
+    Ok(out)
+}
+
+/// The text that the style writes, or why it writes none.
+fn written<M: MapStyle>(alloc: Global, style: &M, map: &ModuleMap) -> Result<Vec<u8>, AllocError> {
+    match style.write(alloc, map) {
+        Ok(text) => Ok(text),
+        Err(Failure::Memory) => Err(AllocError),
+        Err(Failure::Fault(fault)) => map_fault_text(alloc, &fault),
+    }
+}
+
+/// The entries that the style reads, or the first bad line.
+fn read<M: MapStyle>(alloc: Global, style: &M, text: &[u8]) -> Result<Vec<u8>, AllocError> {
+    match style.read(alloc, text) {
+        Ok(entries) => entries_text(alloc, &entries),
+        Err(Failure::Memory) => Err(AllocError),
+        Err(Failure::Fault(fault)) => map_fault_text(alloc, &fault),
+    }
+}
+
+/// Whether the style writes this text of the map, and reads these entries of the text.
+fn is_written<M: MapStyle>(
+    alloc: Global,
+    style: &M,
+    map: &ModuleMap,
+    text: &str,
+    entries: &str,
+) -> Result<bool, AllocError> {
+    Ok(
+        written(alloc, style, map)?.as_slice() == text.as_bytes()
+            && read(alloc, style, text.as_bytes())?.as_slice() == entries.as_bytes(),
+    )
+}
+
+#[test]
+fn each_style_writes_its_lines_and_reads_them_back(rt: HostRuntime) -> Result<(), Fail> {
+    let alloc = rt.alloc();
+    let map = map_of(alloc, &[("A", "mod/A.bmi")], &[("B", "mod/B.bmi")])?;
+    let gcc = "A mod/A.bmi\nB mod/B.bmi\n";
+    let clang = "-x c++-module\n-fmodule-output=mod/A.bmi\n-fmodule-file=B=mod/B.bmi\n";
+    let nameless = "- mod/A.bmi\nB mod/B.bmi\n";
+    let bare = "mod/A.bmi\nmod/B.bmi\n";
+    assert!(rt; is_written(alloc, &Gcc, &map, gcc, gcc)?);
+    assert!(rt; is_written(alloc, &Clang, &map, clang, nameless)?);
+    assert!(rt; is_written(alloc, &Bare, &map, bare, "- mod/A.bmi\n- mod/B.bmi\n")?);
+    let kept = entries_text(alloc, &Clang.keeps(alloc, &map)?)?;
+    assert!(rt; kept.as_slice() == nameless.as_bytes());
+    Ok(())
+}
+
+/// Whether the style writes this text, or reports this fault where the map does not fit.
+fn answers<M: MapStyle>(
+    alloc: Global,
+    style: &M,
+    map: &ModuleMap,
+    fits: bool,
+    text: &str,
+) -> Result<bool, AllocError> {
+    Ok(style.fits(map) == fits && written(alloc, style, map)?.as_slice() == text.as_bytes())
+}
+
+/// K1 comes before K2.
+#[test]
+fn a_map_fits_where_the_style_writes_it(rt: HostRuntime) -> Result<(), Fail> {
+    let alloc = rt.alloc();
+    let two = map_of(alloc, &[("A", "a"), ("B", "b")], &[])?;
+    assert!(rt; answers(alloc, &Gcc, &two, true, "A a\nB b\n")?);
+    assert!(rt; answers(alloc, &Clang, &two, false, "K2 TwoProvided")?);
+    let spaced = map_of(
+        alloc,
+        &[("A", "a"), ("B", "b")],
+        &[("C", "my mods/C"), ("D", "it's")],
+    )?;
+    let unfit = "K1 MapPath my mods/C";
+    assert!(rt; answers(alloc, &Gcc, &spaced, false, unfit)?);
+    assert!(rt; answers(alloc, &Bare, &spaced, false, unfit)?);
+    assert!(rt; answers(alloc, &Clang, &spaced, false, unfit)?);
+    assert!(rt; answers(alloc, &Clang, &map_of(alloc, &[], &[])?, true, "")?);
+    Ok(())
+}
+
+#[test]
+fn needed_names_rise_strictly(rt: HostRuntime) -> Result<(), Fail> {
+    let alloc = rt.alloc();
+    let falling = ModuleMap::new(Vec::new(alloc), pairs(alloc, &[("C", "c"), ("B", "b")])?);
+    assert!(rt; falling.is_none());
+    let twice = ModuleMap::new(Vec::new(alloc), pairs(alloc, &[("B", "b"), ("B", "b")])?);
+    assert!(rt; twice.is_none());
+    Ok(())
+}
+
+#[test]
+fn a_text_that_is_no_map_of_gcc_is_refused_at_its_first_bad_line(
+    rt: HostRuntime,
+) -> Result<(), Fail> {
+    let mut found = Vec::new(rt.alloc());
+    for text in [
+        "",
+        "A mod/A.bmi",
+        "A ./a\n",
+        "A a\n a\n",
+        "A a\n\n",
+        "A a b\n",
+    ] {
+        push_line(&mut found, &read(rt.alloc(), &Gcc, text.as_bytes())?)?;
+    }
+    let wanted =
+        "\nK4 BadMapLine 1\nK4 BadMapLine 1\nK4 BadMapLine 2\nK4 BadMapLine 2\nK4 BadMapLine 1\n";
+    assert!(rt; found.as_slice() == wanted.as_bytes());
+    Ok(())
+}
+
+#[test]
+fn a_text_that_is_no_map_of_clang_is_refused_at_its_first_bad_line(
+    rt: HostRuntime,
+) -> Result<(), Fail> {
+    let mut found = Vec::new(rt.alloc());
+    for text in [
+        "",
+        "-x c++-module\n",
+        "-x c++-module\n-fmodule-output=a",
+        "-x c++-module\n-fmodule-output=a\n-x c++-module\n",
+        "-fmodule-output=a\n",
+        "-fmodule-file=C=c\n-fmodule-file=B=b\n",
+        "-fmodule-file=B=a=b\n",
+        "-x c++-module\n-fmodule-output=a\n-fmodule-file=B=b\n",
+    ] {
+        push_line(&mut found, &read(rt.alloc(), &Clang, text.as_bytes())?)?;
+    }
+    let wanted = "
+K4 BadMapLine 2
+K4 BadMapLine 2
+K4 BadMapLine 3
+K4 BadMapLine 1
+K4 BadMapLine 2
+B a=b
+
+- a
+B b
+
+";
+    assert!(rt; found.as_slice() == wanted.as_bytes());
+    Ok(())
+}

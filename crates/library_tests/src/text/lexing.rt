@@ -1,0 +1,192 @@
+//! Rows of words: tokens with their spans and values, and the lexical faults.
+use ninja_text::{Line, LineCutter, Token, Words, assignment, words};
+use std::alloc::{AllocError, Global};
+use std::test::Fail;
+
+/// Appends the kind, the start and the end of a token.
+fn push_span(alloc: Global, token: &Token, out: &mut Vec<u8>) -> Result<(), AllocError> {
+    let span = format!(in alloc; "{:?} {} {} ", token.kind(), token.start(), token.end())?;
+    out.extend_from_slice(span.as_bytes())
+}
+
+/// Appends the kind, the start, the end and the value of a token.
+fn push_token(alloc: Global, token: &Token, out: &mut Vec<u8>) -> Result<(), AllocError> {
+    push_span(alloc, token, out)?;
+    token.value_into(out)?;
+    out.extend_from_slice(b"\n")
+}
+
+/// Appends the tokens of a line, or its fault.
+fn push_words(alloc: Global, line: Line<'_>, out: &mut Vec<u8>) -> Result<(), AllocError> {
+    if line.is_comment() {
+        return out.extend_from_slice(b"comment\n");
+    }
+    match words(line) {
+        Ok(tokens) => push_tokens(alloc, tokens, out),
+        Err(fault) => {
+            let text = format!(in alloc; "{fault}\n")?;
+            out.extend_from_slice(text.as_bytes())
+        }
+    }
+}
+
+fn push_tokens(alloc: Global, tokens: Words<'_>, out: &mut Vec<u8>) -> Result<(), AllocError> {
+    for token in tokens {
+        push_token(alloc, &token, out)?;
+    }
+    Ok(())
+}
+
+/// Appends the fault that `assignment` answers of a line, or `none`.
+fn push_fault(alloc: Global, line: Line<'_>, out: &mut Vec<u8>) -> Result<(), AllocError> {
+    if line.is_comment() {
+        return out.extend_from_slice(b"comment\n");
+    }
+    match assignment(line) {
+        Ok(_) => out.extend_from_slice(b"none\n"),
+        Err(fault) => {
+            let text = format!(in alloc; "{fault}\n")?;
+            out.extend_from_slice(text.as_bytes())
+        }
+    }
+}
+
+/// The tokens of a line, its end included, or its fault.
+fn words_of(alloc: Global, text: &[u8]) -> Result<Vec<u8>, Fail> {
+    let mut out = Vec::new(alloc);
+    let mut cutter = LineCutter::new(alloc);
+    cutter.feed(text)?;
+    if let Some(line) = cutter.next_line()? {
+        push_words(alloc, line, &mut out)?;
+    }
+    Ok(out)
+}
+
+/// The fault of a line, its end included, as `words` and `assignment` both answer it.
+fn faults_of(alloc: Global, text: &[u8]) -> Result<Vec<u8>, Fail> {
+    let mut out = Vec::new(alloc);
+    let mut cutter = LineCutter::new(alloc);
+    cutter.feed(text)?;
+    if let Some(line) = cutter.next_line()? {
+        push_words(alloc, line, &mut out)?;
+        push_fault(alloc, line, &mut out)?;
+    }
+    Ok(out)
+}
+
+#[test]
+fn a_word_goes_on_over_a_continuation(rt: HostRuntime) -> Result<(), Fail> {
+    let found = words_of(rt.alloc(), b"build a$\n  b.o: dyndep\n")?;
+    let wanted = "Word 0 5 build\nWord 6 14 ab.o\nColon 14 15 :\nWord 16 22 dyndep\n";
+    assert!(rt; found.as_slice() == wanted.as_bytes());
+    let found = words_of(rt.alloc(), b"build a$\r\n  b.o: dyndep\r\n")?;
+    let wanted = "Word 0 5 build\nWord 6 15 ab.o\nColon 15 16 :\nWord 17 23 dyndep\n";
+    assert!(rt; found.as_slice() == wanted.as_bytes());
+    Ok(())
+}
+
+#[test]
+fn a_space_before_a_continuation_ends_the_word(rt: HostRuntime) -> Result<(), Fail> {
+    let found = words_of(rt.alloc(), b"a $\n b\n")?;
+    assert!(rt; found.as_slice() == "Word 0 1 a\nWord 5 6 b\n".as_bytes());
+    let found = words_of(rt.alloc(), b"build a.o $\n: dyndep\n")?;
+    let wanted = "Word 0 5 build\nWord 6 9 a.o\nColon 12 13 :\nWord 14 20 dyndep\n";
+    assert!(rt; found.as_slice() == wanted.as_bytes());
+    Ok(())
+}
+
+#[test]
+fn of_the_bars_the_longest_is_the_token(rt: HostRuntime) -> Result<(), Fail> {
+    let found = words_of(rt.alloc(), b"a|||@b| |\n")?;
+    let wanted = "Word 0 1 a\nDoubleBar 1 3 ||\nBarAt 3 5 |@\nWord 5 6 b\nBar 6 7 |\nBar 8 9 |\n";
+    assert!(rt; found.as_slice() == wanted.as_bytes());
+    Ok(())
+}
+
+#[test]
+fn an_escape_stands_for_its_second_byte(rt: HostRuntime) -> Result<(), Fail> {
+    let found = words_of(rt.alloc(), b"my$ mods/$$x$:y/A.bmi: dyndep\n")?;
+    let wanted = "Word 0 21 my mods/$x:y/A.bmi\nColon 21 22 :\nWord 23 29 dyndep\n";
+    assert!(rt; found.as_slice() == wanted.as_bytes());
+    Ok(())
+}
+
+#[test]
+fn a_tab_is_an_ordinary_byte_and_spaces_alone_have_no_token(rt: HostRuntime) -> Result<(), Fail> {
+    let found = words_of(rt.alloc(), b"\ta b\n")?;
+    assert!(rt; found.as_slice() == "Word 0 2 \ta\nWord 3 4 b\n".as_bytes());
+    let found = faults_of(rt.alloc(), b" $\n  \n")?;
+    assert!(rt; found.as_slice() == "none\n".as_bytes());
+    Ok(())
+}
+
+#[test]
+fn faults_are_found_at_their_places(rt: HostRuntime) -> Result<(), Fail> {
+    let mut found = Vec::new(rt.alloc());
+    for text in [
+        b"build a\0b: dyndep\n".as_slice(),
+        b"build a\rb: dyndep\n",
+        b"build a$\rb: dyndep\n",
+        b"build a: dyndep\r\r\n",
+        b"build $x: dyndep\n",
+        b"build ${x}: dyndep\n",
+        b"build a$.b: dyndep\n",
+        b"a$\0\r\n",
+        b"build a: dyndep\r\n",
+    ] {
+        found.extend_from_slice(&faults_of(rt.alloc(), text)?)?;
+    }
+    let wanted = "N7 Nul at 7
+N7 Nul at 7
+N8 LoneCr at 7
+N8 LoneCr at 7
+N10 BadEscape at 7
+N10 BadEscape at 7
+N8 LoneCr at 15
+N8 LoneCr at 15
+N9 Variable at 6
+N9 Variable at 6
+N9 Variable at 6
+N9 Variable at 6
+N10 BadEscape at 7
+N10 BadEscape at 7
+N10 BadEscape at 1
+N10 BadEscape at 1
+Word 0 5 build
+Word 6 7 a
+Colon 7 8 :
+Word 9 15 dyndep
+none
+";
+    assert!(rt; found.as_slice() == wanted.as_bytes());
+    Ok(())
+}
+
+/// Appends the value of each token, a second time where memory was refused. Then the vector is as before.
+fn push_values(line: Line<'_>, out: &mut Vec<u8>) -> Result<bool, Fail> {
+    if line.is_comment() {
+        return Ok(false);
+    }
+    for token in words(line)? {
+        if token.value_into(out).is_err() {
+            if out.as_slice() != b"was ".as_slice() {
+                return Ok(false);
+            }
+            token.value_into(out)?;
+        }
+    }
+    Ok(true)
+}
+
+/// With each allocation refused in turn (`rt try --test --fail-alloc N`): the vector is as before.
+#[test]
+fn a_value_that_found_no_memory_leaves_the_vector(rt: HostRuntime) -> Result<(), Fail> {
+    let mut cutter = LineCutter::new(rt.alloc());
+    let mut out = Vec::from_slice(rt.alloc(), b"was ")?;
+    cutter.feed(b"a-word-of-some-length\n")?;
+    if let Some(line) = cutter.next_line()? {
+        assert!(rt; push_values(line, &mut out)?);
+    }
+    assert!(rt; out.as_slice() == b"was a-word-of-some-length".as_slice());
+    Ok(())
+}
