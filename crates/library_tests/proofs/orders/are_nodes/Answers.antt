@@ -8,7 +8,7 @@ use Rattle.library_tests.proofs.orders.are_nodes.Goals as goal
 -- what these rows hold is below their count
 rows_are_below : (vectors : List (Vec ℕ Global)) → All (λ (row : Vec ℕ Global). All (λ needed. needed < length vectors) row.items) vectors → All (λ row. All (λ needed. needed < length (rows vectors)) row) (rows vectors)
 rows_are_below vectors below =
-    subst (λ count. All (λ row. All (λ needed. needed < count) row) (rows vectors)) (sym (length-map (λ (row : Vec ℕ Global). row.items) vectors))
+    subst (λ count. All (λ row. All (λ needed. needed < count) row) (rows vectors)) (sym (length-map vectors (λ (row : Vec ℕ Global). row.items)))
     (All-map (λ row. All (λ needed. needed < length vectors) row) (λ (row : Vec ℕ Global). row.items) vectors below)
 
 pub returns : goal.returns
