@@ -1,7 +1,27 @@
 //! What several tests make: paths and names that are well formed, and the setting of a target.
-use ninja_text::Path;
+use ninja_text::{Failure, Path};
 use scan_docs::{Name, Setting, TargetName};
 use std::alloc::{AllocError, Global};
+use std::fmt::Debug;
+use std::test::Fail;
+
+/// What a call gave. Where memory was refused the error is `AllocError`, and else the fault.
+pub(crate) fn granted<T, F: Debug + Drop>(answer: Result<T, Failure<F>>) -> Result<T, Fail> {
+    match answer {
+        Ok(value) => Ok(value),
+        Err(Failure::Memory) => Err(Fail::from(AllocError)),
+        Err(Failure::Fault(fault)) => Err(Fail::from(fault)),
+    }
+}
+
+/// The fault that a call answered, if it answered one. The error is that memory was refused.
+pub(crate) fn fault_of<T: Drop, F>(answer: Result<T, Failure<F>>) -> Result<Option<F>, AllocError> {
+    match answer {
+        Ok(_value) => Ok(None),
+        Err(Failure::Memory) => Err(AllocError),
+        Err(Failure::Fault(fault)) => Ok(Some(fault)),
+    }
+}
 
 pub(crate) fn path(alloc: Global, text: &str) -> Result<Path, AllocError> {
     match Path::of(alloc, text.as_bytes()) {

@@ -1,15 +1,23 @@
+use ninja_text::Failure;
 use scan_docs::{Info, info_read, info_write};
-use std::alloc::Global;
+use std::alloc::{AllocError, Global};
 use std::test::Fail;
 
-/// Whether a document is written again as this text.
-fn is_written_as(alloc: Global, document: &[u8], wanted: &[u8]) -> Result<bool, Fail> {
-    let info = info_read(alloc, document)?;
-    Ok(info_write(alloc, &info)?.as_slice() == wanted)
+/// Whether a document is written again as this text. The error is that memory was refused.
+pub(super) fn is_written_as(
+    alloc: Global,
+    document: &[u8],
+    wanted: &[u8],
+) -> Result<bool, AllocError> {
+    match info_read(alloc, document) {
+        Ok(info) => Ok(info_write(alloc, &info)?.as_slice() == wanted),
+        Err(Failure::Memory) => Err(AllocError),
+        Err(Failure::Fault(_fault)) => Ok(false),
+    }
 }
 
 /// Whether this is the info of the document: a public module that requires one, and a private one.
-fn is_of_both_modules(info: &Info) -> bool {
+pub(super) fn is_of_both_modules(info: &Info) -> bool {
     let [first, second] = info.modules.as_slice() else {
         return false;
     };
@@ -26,11 +34,13 @@ fn is_of_both_modules(info: &Info) -> bool {
         && second.name.text() == "B"
 }
 
+/// The info of a public module and a private one.
+pub(super) const TWO_MODULES: &[u8] =
+    br#"{"modules":[{"bmi":"./lib//A.bmi","name":"A","requires":[{"bmi":"b","name":"B"}],"visibility":"public"},{"bmi":"b","name":"B","requires":[],"visibility":"private"}],"target":"t","version":2}"#;
+
 #[test]
 fn modules_of_version_2_tell_their_visibility(rt: HostRuntime) -> Result<(), Fail> {
-    let document =
-        br#"{"modules":[{"bmi":"./lib//A.bmi","name":"A","requires":[{"bmi":"b","name":"B"}],"visibility":"public"},{"bmi":"b","name":"B","requires":[],"visibility":"private"}],"target":"t","version":2}"#;
-    assert!(rt; is_of_both_modules(&info_read(rt.alloc(), document)?));
+    assert!(rt; is_of_both_modules(&info_read(rt.alloc(), TWO_MODULES)?));
     Ok(())
 }
 

@@ -4,7 +4,11 @@ use std::alloc::{AllocError, Global};
 use std::test::Fail;
 
 /// Appends what a document is answered: its target documents, each behind a space, or the printed fault.
-fn push_answer(out: &mut Vec<u8>, alloc: Global, document: &[u8]) -> Result<(), AllocError> {
+pub(super) fn push_answer(
+    out: &mut Vec<u8>,
+    alloc: Global,
+    document: &[u8],
+) -> Result<(), AllocError> {
     match project_read(alloc, document) {
         Ok(project) => push_targets(out, &project.targets),
         Err(Failure::Memory) => Err(AllocError),

@@ -4,7 +4,7 @@ use std::alloc::{AllocError, Global};
 use std::test::Fail;
 
 /// Modules go to `mod` and end in `.bmi`; the build directory is `/w`.
-fn setting(alloc: Global) -> Result<Setting, AllocError> {
+pub(super) fn setting(alloc: Global) -> Result<Setting, AllocError> {
     let build_dir = match Path::of(alloc, b"/w") {
         Ok(path) if path.is_rooted() => Some(path),
         Err(Failure::Memory) => return Err(AllocError),
@@ -18,7 +18,7 @@ fn setting(alloc: Global) -> Result<Setting, AllocError> {
 }
 
 /// Whether these are the two rules of the document: all that is read of the first, and nothing but an object of the second.
-fn are_both_rules(rules: &[Rule]) -> bool {
+pub(super) fn are_both_rules(rules: &[Rule]) -> bool {
     let [first, second] = rules else {
         return false;
     };
@@ -34,12 +34,14 @@ fn are_both_rules(rules: &[Rule]) -> bool {
         && second.required.is_empty()
 }
 
+/// Two rules, the first of which has every member that is read.
+pub(super) const TWO_RULES: &[u8] =
+    br#"{"version":1,"rules":[{"primary-output":"../o/a.o","work-directory":"/w/b","provides":[{"logical-name":"M:P"}],"requires":[{"logical-name":"B"}]},{"primary-output":"/w/b.o"}]}"#;
+
 #[test]
 fn a_scan_document_in_the_setting_of_a_target(rt: HostRuntime) -> Result<(), Fail> {
     let alloc = rt.alloc();
-    let document =
-        br#"{"version":1,"rules":[{"primary-output":"../o/a.o","work-directory":"/w/b","provides":[{"logical-name":"M:P"}],"requires":[{"logical-name":"B"}]},{"primary-output":"/w/b.o"}]}"#;
-    let rules = scan(alloc, document, &setting(alloc)?)?;
+    let rules = scan(alloc, TWO_RULES, &setting(alloc)?)?;
     assert!(rt; are_both_rules(&rules));
     Ok(())
 }
