@@ -1,28 +1,20 @@
 //! What no clause says: that calls succeed where memory is ample. Which targets have a table, and what it says, is a table
 //! of tests/rows, whose rows are given to the built program.
 
-use crate::common::setting;
+mod growths;
+
+use crate::common::{granted, setting};
 use module_table::{Maker, Table, TableFault};
 use ninja_text::{Failure, Path};
-use scan_docs::{Info, Name, Rule, info_read, scan};
+use scan_docs::{Name, Rule, info_read, scan};
 use std::alloc::{AllocError, Global};
 use std::test::Fail;
 
 /// `main.o` requires `A` of `a.o`, which requires `K`.
-fn objects(alloc: Global) -> Result<Vec<Rule>, AllocError> {
+fn objects(alloc: Global) -> Result<Vec<Rule>, Fail> {
     let document =
         br#"{"version":1,"rules":[{"primary-output":"main.o","requires":[{"logical-name":"A"}]},{"primary-output":"a.o","provides":[{"logical-name":"A"}],"requires":[{"logical-name":"K"}]}]}"#;
-    match scan(alloc, document, &setting(alloc)?) {
-        Ok(objects) => Ok(objects),
-        Err(_failure) => Err(AllocError),
-    }
-}
-
-fn info_of(alloc: Global, document: &[u8]) -> Result<Info, AllocError> {
-    match info_read(alloc, document) {
-        Ok(info) => Ok(info),
-        Err(_failure) => Err(AllocError),
-    }
+    granted(scan(alloc, document, &setting(alloc)?))
 }
 
 /// Whether these are the modules and their files.
@@ -65,12 +57,9 @@ const K_INFO: &[u8] =
     br#"{"modules":[{"bmi":"k/K.bmi","name":"K","requires":[{"bmi":"k/J.bmi","name":"J"}],"visibility":"public"},{"bmi":"k/J.bmi","name":"J","requires":[],"visibility":"private"}],"target":"k","version":2}"#;
 
 /// The table of both objects and this info.
-fn table_of(alloc: Global) -> Result<Table, AllocError> {
-    let infos = vec![in alloc; info_of(alloc, K_INFO)?]?;
-    match Table::build(alloc, objects(alloc)?, infos, &[]) {
-        Ok(table) => Ok(table),
-        Err(_failure) => Err(AllocError),
-    }
+fn table_of(alloc: Global) -> Result<Table, Fail> {
+    let infos = vec![in alloc; granted(info_read(alloc, K_INFO))?]?;
+    granted(Table::build(alloc, objects(alloc)?, infos, &[]))
 }
 
 /// Whether a module of an object, one of an info and no other is found.
@@ -128,7 +117,7 @@ fn a_fault_tells_makers_by_index(rt: HostRuntime) -> Result<(), Fail> {
     let alloc = rt.alloc();
     let info =
         br#"{"modules":[{"bmi":"lib/A.bmi","name":"A","requires":[],"visibility":"public"}],"target":"l","version":2}"#;
-    let infos = vec![in alloc; info_of(alloc, info)?]?;
+    let infos = vec![in alloc; granted(info_read(alloc, info))?]?;
     assert!(rt; is_a_twice(Table::build(alloc, objects(alloc)?, infos, &[])));
     Ok(())
 }
