@@ -1,6 +1,7 @@
 //! What no clause says: worked examples, that a call succeeds where memory is left, and writers that fail.
 //!
 //! Where a growth is refused, a test ends with an error and no assertion fails.
+mod growths;
 mod reading;
 
 use dyndep_file::{Dyndep, Statement, WriteFault, write};

@@ -41,7 +41,7 @@ fn list_paths(mark: &[u8], paths: &[Vec<u8>], text: &mut Vec<u8>) -> Result<(), 
 }
 
 /// The statements of a file, or its printed fault.
-fn answered(
+pub(super) fn answered(
     alloc: Global,
     read: Result<Dyndep, Failure<ReadFault>>,
 ) -> Result<Vec<u8>, AllocError> {
@@ -74,7 +74,7 @@ fn read_in_two(alloc: Global, text: &[u8], cut: usize) -> Result<Vec<u8>, AllocE
     }
 }
 
-fn read_bytewise(alloc: Global, text: &[u8]) -> Result<Vec<u8>, AllocError> {
+pub(super) fn read_bytewise(alloc: Global, text: &[u8]) -> Result<Vec<u8>, AllocError> {
     let mut reader = DyndepReader::new(alloc);
     for byte in text {
         if let Err(failure) = reader.feed(&[*byte]) {
