@@ -4,6 +4,8 @@ ghost use Rattle.std.specs.Prelude.{◌<◌, ◌↔◌, length, All, IsTrue};
 ghost use Rattle.dep_order.specs.Needs.{NeedsAreNodes};
 ghost use Rattle.dep_order.specs.Rows.{rows};
 
+mod growths;
+
 use dep_order::{Digraph, Reaching, Sorting, order, reach};
 use std::alloc::{AllocError, Global};
 
