@@ -5,11 +5,11 @@ ghost use Rattle.std.specs.Prelude.{◌≡◌};
 
 mod assigning;
 mod cutter;
+mod growths;
 mod lexing;
 
-use ninja_text::{
-    Counted, Failure, Path, PathFault, ReadCall, Stopped, escape_into, is_writable, place,
-};
+use crate::common::granted;
+use ninja_text::{Counted, Failure, Path, PathFault, ReadCall, Stopped, is_writable, place};
 use std::alloc::{AllocError, Global};
 use std::io;
 use std::io::{ErrorKind, Read, Write};
@@ -159,7 +159,7 @@ fn push_built(
     work: Option<&[u8]>,
     path: &[u8],
 ) -> Result<(), Fail> {
-    let build = Path::of(alloc, directory)?;
+    let build = granted(Path::of(alloc, directory))?;
     if build.is_rooted() {
         push_answer(alloc, out, place(alloc, work, Some(&build), path))?;
     }
@@ -252,19 +252,6 @@ fn a_fault_is_turned_and_memory_stays(rt: HostRuntime) {
     assert!(rt; fault == Failure::Fault((7, PathFault::TooLong)));
     let memory = Failure::<PathFault>::Memory.map(turn);
     assert!(rt; memory == Failure::Memory);
-}
-
-#[test]
-fn a_path_is_spelled_behind_what_is_there(rt: HostRuntime) -> Result<(), Fail> {
-    let mut out = Vec::from_slice(rt.alloc(), b"build ")?;
-    match escape_into(b"my mods/$x:y/A.bmi", &mut out) {
-        Ok(()) => assert!(rt; out.as_slice() == b"build my$ mods/$$x$:y/A.bmi".as_slice()),
-        Err(e) => {
-            assert!(rt; out.as_slice() == b"build ".as_slice());
-            return Err(Fail::from(e));
-        }
-    }
-    Ok(())
 }
 
 #[test]

@@ -142,30 +142,3 @@ fn a_comment_holds_anything_up_to_its_first_line_feed(rt: HostRuntime) -> Result
     assert!(rt; lends(&mut cutter, b"  #\0$x$\r", 1, true));
     Ok(())
 }
-
-/// Feeds a piece, a second time where memory was refused, and says whether all of it was taken.
-fn takes_all(cutter: &mut LineCutter, piece: &[u8]) -> bool {
-    let mut taken = cutter.feed(piece);
-    if taken == Err(Failure::Memory) {
-        taken = cutter.feed(piece);
-    }
-    taken == Ok(piece.len())
-}
-
-/// With each allocation refused in turn (`rt try --test --fail-alloc N`): the cutter is as before, and goes on.
-#[test]
-fn a_piece_that_found_no_memory_is_fed_again(rt: HostRuntime) -> Result<(), Fail> {
-    let mut cutter = LineCutter::new(rt.alloc());
-    assert!(rt; takes_all(&mut cutter, b"build a$"));
-    assert!(rt; takes_all(&mut cutter, b"\r\n  b: dynd"));
-    assert!(rt; takes_all(&mut cutter, b"ep |@ a-longer-word\n"));
-    assert!(rt;
-        lends(
-            &mut cutter,
-            b"build a$\r\n  b: dyndep |@ a-longer-word",
-            1,
-            false
-        )
-    );
-    Ok(())
-}

@@ -161,32 +161,3 @@ none
     assert!(rt; found.as_slice() == wanted.as_bytes());
     Ok(())
 }
-
-/// Appends the value of each token, a second time where memory was refused. Then the vector is as before.
-fn push_values(line: Line<'_>, out: &mut Vec<u8>) -> Result<bool, Fail> {
-    if line.is_comment() {
-        return Ok(false);
-    }
-    for token in words(line)? {
-        if token.value_into(out).is_err() {
-            if out.as_slice() != b"was ".as_slice() {
-                return Ok(false);
-            }
-            token.value_into(out)?;
-        }
-    }
-    Ok(true)
-}
-
-/// With each allocation refused in turn (`rt try --test --fail-alloc N`): the vector is as before.
-#[test]
-fn a_value_that_found_no_memory_leaves_the_vector(rt: HostRuntime) -> Result<(), Fail> {
-    let mut cutter = LineCutter::new(rt.alloc());
-    let mut out = Vec::from_slice(rt.alloc(), b"was ")?;
-    cutter.feed(b"a-word-of-some-length\n")?;
-    if let Some(line) = cutter.next_line()? {
-        assert!(rt; push_values(line, &mut out)?);
-    }
-    assert!(rt; out.as_slice() == b"was a-word-of-some-length".as_slice());
-    Ok(())
-}
