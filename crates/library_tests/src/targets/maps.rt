@@ -19,7 +19,7 @@ fn pairs(alloc: Global, texts: &[(&str, &str)]) -> Result<Vec<(Name, Path)>, All
 }
 
 /// The map of these modules, whose needed names rise.
-fn map_of(
+pub(super) fn map_of(
     alloc: Global,
     provided: &[(&str, &str)],
     needed: &[(&str, &str)],
@@ -31,7 +31,7 @@ fn map_of(
 }
 
 /// The entries, one a line.
-fn entries_text(alloc: Global, entries: &[MapEntry]) -> Result<Vec<u8>, AllocError> {
+pub(super) fn entries_text(alloc: Global, entries: &[MapEntry]) -> Result<Vec<u8>, AllocError> {
     let mut out = Vec::new(alloc);
     for entry in entries {
         match &entry.name {
@@ -45,7 +45,11 @@ fn entries_text(alloc: Global, entries: &[MapEntry]) -> Result<Vec<u8>, AllocErr
 }
 
 /// The text that the style writes, or why it writes none.
-fn written<M: MapStyle>(alloc: Global, style: &M, map: &ModuleMap) -> Result<Vec<u8>, AllocError> {
+pub(super) fn written<M: MapStyle>(
+    alloc: Global,
+    style: &M,
+    map: &ModuleMap,
+) -> Result<Vec<u8>, AllocError> {
     match style.write(alloc, map) {
         Ok(text) => Ok(text),
         Err(Failure::Memory) => Err(AllocError),
@@ -63,7 +67,7 @@ fn read<M: MapStyle>(alloc: Global, style: &M, text: &[u8]) -> Result<Vec<u8>, A
 }
 
 /// Whether the style writes this text of the map, and reads these entries of the text.
-fn is_written<M: MapStyle>(
+pub(super) fn is_written<M: MapStyle>(
     alloc: Global,
     style: &M,
     map: &ModuleMap,

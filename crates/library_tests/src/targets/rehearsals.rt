@@ -11,18 +11,18 @@ use std::alloc::{AllocError, Global};
 use std::test::Fail;
 
 /// The compilations of two objects, which name `t.dd`, and a library of both.
-const LIBRARY: &[u8] =
+pub(super) const LIBRARY: &[u8] =
     b"build a.o: cxx a.cpp || t.dd\n  dyndep = t.dd\nbuild b.o: cxx b.cpp || t.dd\n  dyndep = t.dd\nbuild lib: ar a.o b.o\n";
 
-const LIBRARY_AFTER: &[u8] =
+pub(super) const LIBRARY_AFTER: &[u8] =
     b"build a.o | mod/A.bmi: cxx a.cpp | mod/B.bmi || t.dd\n  dyndep = t.dd\n  restat = 1\nbuild b.o | mod/B.bmi: cxx b.cpp || t.dd\n  dyndep = t.dd\n  restat = 1\nbuild lib: ar a.o b.o\n";
 
 /// The compilations of two objects, of which the second one also needs a file that is made of the first one.
-const GENERATED: &[u8] =
+pub(super) const GENERATED: &[u8] =
     b"build a.o: cxx a.cpp || t.dd\n  dyndep = t.dd\nbuild b.o: cxx b.cpp gen.h || t.dd\n  dyndep = t.dd\nbuild gen.h: gen a.o\n";
 
 /// The listing after the rehearsal, or why there is none.
-fn rehearsed(
+pub(super) fn rehearsed(
     alloc: Global,
     text: &[u8],
     name: &str,
@@ -52,7 +52,7 @@ fn read_fault_text(alloc: Global, fault: &ReadFault) -> Result<String, AllocErro
 }
 
 /// Pieces of one byte, and empty ones between them.
-fn bytewise(alloc: Global, count: usize) -> Result<Vec<usize>, AllocError> {
+pub(super) fn bytewise(alloc: Global, count: usize) -> Result<Vec<usize>, AllocError> {
     let mut cuts = Vec::new(alloc);
     for _ in 0..count {
         cuts.push(1)?;
@@ -113,7 +113,7 @@ fn statements_without_an_effect_are_refused(rt: HostRuntime) -> Result<(), Fail>
 }
 
 /// What the two objects collate to.
-fn two_objects(alloc: Global) -> Result<Collated, AllocError> {
+pub(super) fn two_objects(alloc: Global) -> Result<Collated, AllocError> {
     let name = target_name(alloc, "t")?;
     let setting = setting(alloc)?;
     let target = Target {
@@ -130,7 +130,7 @@ fn two_objects(alloc: Global) -> Result<Collated, AllocError> {
 }
 
 /// The edges in order or on the least cycle, or why there is no effect.
-fn checked(
+pub(super) fn checked(
     alloc: Global,
     collated: &Collated,
     name: &str,
