@@ -50,4 +50,3 @@ pub use scan_document::{COUNT_LIMIT, scan};
 pub use setting::Setting;
 pub use target_document::{TargetSpec, spec_read};
 pub use target_name::TargetName;
-
