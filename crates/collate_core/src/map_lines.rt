@@ -26,8 +26,9 @@ pub trait LineForm {
         ensures { IfOk result (λ entry. entry ≡ form self.now entries.now line.now) };
 }
 
-/// The entries that there are, and those of the lines of a text, which are numbered on; or K4 with the first line that is not
-/// of the form, or has no end. `Memory`: want of memory.
+/// The entries that there are, and those of the lines of a text, which are numbered on from `number`, 3 at most: what stands
+/// before them is no more than two lines. Or K4 with the first line that is not of the form, or has no end. `Memory`: want of
+/// memory.
 pub fn read_lines<F: LineForm>(
     alloc: Global,
     form: &F,
