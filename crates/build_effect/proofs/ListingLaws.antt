@@ -5,7 +5,7 @@ use Rattle.std.specs.List.{flat_map}
 use Rattle.std.proofs.lemmas.Grind.{flat_map-append}
 use Rattle.ninja_text.specs.Lines.{IsLine, Divides, text_of, is_comment}
 use Rattle.ninja_text.specs.declared.paths.PathFault.{PathFault}
-use Rattle.ninja_text.proofs.LinesForCallers.{AllByRecursion-append, divides_one, divides_some}
+use Rattle.ninja_text.proofs.ForCallers.{AllByRecursion-append, divides_one, divides_some}
 use Rattle.build_effect.specs.EdgeValue.{EdgeValue}
 use Rattle.build_effect.specs.ListingLines.{Row, Class, TextIsOfClass, IsOfClass, class_of_row}
 use Rattle.build_effect.specs.ListingGrammar.{IsListing}

@@ -10,7 +10,7 @@ use Rattle.ninja_text.specs.Lines.{line_limit, LineEnd, line_end, IsLine, Logica
 use Rattle.ninja_text.specs.LineReading.{LeadTo, BeginsWith, IsTooLong, IsTruncated, IsNextFault, HasFailureBehind, HasLentAll, FeedsLines, EndsLines}
 use Rattle.ninja_text.specs.declared.failure.Failure.{Failure}
 use Rattle.ninja_text.specs.declared.failure.Failure.TheVariants.{Fault, Memory}
-use Rattle.ninja_text.proofs.LinesForCallers.{end_fits, front_is_line, AllByRecursion-append, too_long}
+use Rattle.ninja_text.proofs.ForCallers.{end_fits, front_is_line, AllByRecursion-append, too_long}
 use Rattle.build_effect.specs.EdgeValue.{EdgeValue}
 use Rattle.build_effect.specs.ListingLines.{Class, IsOfClass, TextIsOfClass}
 use Rattle.build_effect.specs.ListingFaults.{line_cause, text_cause, open_from}

@@ -12,10 +12,7 @@ use Rattle.ninja_text.specs.Tokens.{is_blank, tokens_from, tokens, raw}
 use Rattle.ninja_text.specs.Assignments.{SeenAssignment, after_run, begins_with_equals, tail_units, with_bytes, assignment_of}
 use Rattle.ninja_text.specs.Escapes.{is_unwritable, IsWritable, is_escaped, escaped_byte, escaped}
 use Rattle.ninja_text.specs.Paths.{IsPath}
-use Rattle.ninja_text.proofs.Shape.{shape}
-use Rattle.ninja_text.proofs.SpelledPaths.{path_unit, path_units, value_of_escaped}
-use Rattle.ninja_text.proofs.SpelledTokens.{word_and, word_token}
-use Rattle.ninja_text.proofs.SpelledLines.{lexical_none, is_line, text_is}
+use Rattle.ninja_text.proofs.ForCallers.{shape, path_unit, path_units, value_of_escaped, word_and, word_token, lexical_none, is_line, text_is}
 use Rattle.dyndep_file.specs.Classes.{Symbol, WordSymbol, symbol, symbols, begins_at_start}
 use Rattle.dyndep_file.specs.Faults.{is_empty, after_build}
 use Rattle.dyndep_file.specs.Writing.{spaced}

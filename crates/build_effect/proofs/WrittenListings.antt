@@ -8,7 +8,7 @@ use Rattle.std.proofs.lemmas.Bool.{cases_Bool, ltb-false}
 use Rattle.std.proofs.lemmas.Grind.{flat_map-append}
 use Rattle.ninja_text.specs.Lines.{line_limit, IsLine}
 use Rattle.ninja_text.specs.Paths.{IsPath}
-use Rattle.ninja_text.proofs.LinesForCallers.{AllByRecursion-append, joined}
+use Rattle.ninja_text.proofs.ForCallers.{AllByRecursion-append, joined}
 use Rattle.dyndep_file.specs.Faults.{is_empty}
 use Rattle.build_effect.specs.EdgeValue.{EdgeValue}
 use Rattle.build_effect.specs.Graphs.{made_by, inputs_of, Reads, IsGraph}

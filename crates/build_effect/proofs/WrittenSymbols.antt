@@ -13,10 +13,7 @@ use Rattle.ninja_text.specs.Units.{units}
 use Rattle.ninja_text.specs.Tokens.{is_piece, goes_on, tokens_from}
 use Rattle.ninja_text.specs.Assignments.{is_name_byte}
 use Rattle.ninja_text.specs.Escapes.{is_unwritable, IsWritable, escaped_byte, escaped}
-use Rattle.ninja_text.proofs.SpelledUnits.{is_sound, text_of_units, unit_text, units_read}
-use Rattle.ninja_text.proofs.SpelledPaths.{path_unit, path_units, path_text, path_sound, path_pieces, has_spelling, value_of_escaped}
-use Rattle.ninja_text.proofs.SpelledTokens.{Yields, viewed, no_units, goes_on_piece, space_yields, colon_yields, bar_yields, path_yields}
-use Rattle.ninja_text.proofs.SpelledLines.{units_are}
+use Rattle.ninja_text.proofs.ForCallers.{is_sound, text_of_units, unit_text, units_read, path_unit, path_units, path_text, path_sound, path_pieces, has_spelling, value_of_escaped, Yields, viewed, no_units, goes_on_piece, space_yields, colon_yields, bar_yields, path_yields, units_are}
 use Rattle.dyndep_file.specs.Classes.{Symbol, WordSymbol, SignSymbol, symbol}
 use Rattle.dyndep_file.specs.Faults.{is_empty}
 use Rattle.dyndep_file.specs.Writing.{spaced}

@@ -6,8 +6,8 @@ use Rattle.std.proofs.lemmas.Bool.{cases_Bool}
 use Rattle.ninja_text.specs.Lines.{line_limit, line_end, LogicalLine, Divides, logical_lines}
 use Rattle.ninja_text.specs.Cutting.{CutterState}
 use Rattle.ninja_text.specs.LineReading.{BeginsWith, IsTruncated}
-pub use Rattle.ninja_text.proofs.LinesForCallers.{working}
-use Rattle.ninja_text.proofs.LinesForCallers.{is_working}
+pub use Rattle.ninja_text.proofs.ForCallers.{working}
+use Rattle.ninja_text.proofs.ForCallers.{is_working}
 use Rattle.dyndep_file.specs.Classes.{Class}
 use Rattle.dyndep_file.specs.Faults.{is_version, is_open, stage_after}
 use Rattle.dyndep_file.specs.Steps.{ProgressValue, run}

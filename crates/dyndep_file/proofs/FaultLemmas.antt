@@ -10,7 +10,7 @@ use Rattle.ninja_text.specs.Lines.{line_limit, LineEnd, line_end, IsLine, Logica
 use Rattle.ninja_text.specs.LineReading.{LeadTo, BeginsWith, IsTooLong, IsNextFault, HasFailureBehind, LinesRead, HasLentAll, FeedsLines, EndsLines}
 use Rattle.ninja_text.specs.declared.failure.Failure.{Failure}
 use Rattle.ninja_text.specs.declared.failure.Failure.TheVariants.{Fault, Memory}
-use Rattle.ninja_text.proofs.LinesForCallers.{end_fits, front_is_line, AllByRecursion-append, too_long}
+use Rattle.ninja_text.proofs.ForCallers.{end_fits, front_is_line, AllByRecursion-append, too_long}
 use Rattle.dyndep_file.specs.Classes.{Class, IsOfClass, TextIsOfClass}
 use Rattle.dyndep_file.specs.Faults.{line_fault, text_line_fault, stage_after}
 use Rattle.dyndep_file.specs.Steps.{ProgressValue, step, run}

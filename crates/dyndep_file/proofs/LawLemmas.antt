@@ -7,7 +7,7 @@ use Rattle.std.proofs.lemmas.List.{append-nil}
 use Rattle.std.proofs.lemmas.Grind.{flat_map-append}
 use Rattle.std.proofs.lemmas.Bool.{cases_lt, lt-ltb, le-ltb, le-leb, lt-leb}
 use Rattle.ninja_text.specs.Lines.{line_end, IsLine, Divides, text_of, is_comment, number_after}
-use Rattle.ninja_text.proofs.LinesForCallers.{AllByRecursion-append, divides_one, divides_some}
+use Rattle.ninja_text.proofs.ForCallers.{AllByRecursion-append, divides_one, divides_some}
 use Rattle.dyndep_file.specs.StatementValue.{StatementValue}
 use Rattle.dyndep_file.specs.Classes.{Class, IsOfClass}
 use Rattle.ninja_text.specs.Lines.{line_limit}

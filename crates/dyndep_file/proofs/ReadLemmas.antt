@@ -24,7 +24,7 @@ use Rattle.dyndep_file.specs.StatementValue.{StatementValue}
 use Rattle.dyndep_file.proofs.Runs.{runs_begin}
 use Rattle.dyndep_file.proofs.EndLemmas.{working, working_state, classed_lines, divided_lines}
 use Rattle.dyndep_file.proofs.LawLemmas.{line_not_begun}
-use Rattle.ninja_text.proofs.LinesForCallers.{divides_one}
+use Rattle.ninja_text.proofs.ForCallers.{divides_one}
 use Rattle.dyndep_file.specs.Reading.{IsEndFault}
 
 -- known bytes that are consumed in several reads

@@ -7,7 +7,7 @@ use Rattle.std.proofs.lemmas.List.{take-append-drop, take-append-le, append-nil}
 use Rattle.std.proofs.lemmas.Grind.{flat_map-append}
 use Rattle.std.proofs.lemmas.Bool.{cases_lt}
 use Rattle.ninja_text.specs.Lines.{line_limit, LineEnd, line_end, IsLine, Divides, text_of, is_comment}
-use Rattle.ninja_text.proofs.LinesForCallers.{line_end-append, divides_some, AllByRecursion-append}
+use Rattle.ninja_text.proofs.ForCallers.{line_end-append, divides_some, AllByRecursion-append}
 use Rattle.dyndep_file.specs.Faults.{text_line_fault, stage_after}
 use Rattle.dyndep_file.specs.Reading.{FaultAt, FaultyLine, FaultyEnd, IsRefused}
 use Rattle.dyndep_file.specs.Reader.{IsFaultIn}

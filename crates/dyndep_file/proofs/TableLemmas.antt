@@ -7,7 +7,7 @@ use Rattle.ninja_text.specs.Tokens.{TokenAt, tokens, raw, value_of}
 use Rattle.ninja_text.specs.declared.token.TokenKind.{TokenKind}
 use Rattle.ninja_text.specs.declared.token.TokenKind.TheVariants.{Word, Bar, DoubleBar, BarAt, Colon}
 use Rattle.ninja_text.specs.Assignments.{SeenAssignment, assignment_of}
-use Rattle.ninja_text.proofs.LinesForCallers.{token_indented, name_indented, assignment_parts, slice_first}
+use Rattle.ninja_text.proofs.ForCallers.{token_indented, name_indented, assignment_parts, slice_first}
 use Rattle.dyndep_file.specs.StatementValue.{StatementValue}
 use Rattle.dyndep_file.specs.Classes.{Class, Comment, Blank, Version, Build, Binding, Symbol, WordSymbol, SignSymbol, symbol, symbols, begins_at_start, IsPart, IsBuild, Assigns}
 use Rattle.dyndep_file.specs.Classes.{begins_with_space, is_version_one, TextIsOfClass}

@@ -8,7 +8,7 @@ use Rattle.ninja_text.specs.Lines.{IsLine, is_comment, text_of}
 use Rattle.ninja_text.specs.Tokens.{value_of}
 use Rattle.ninja_text.specs.Escapes.{IsWritable, escaped}
 use Rattle.ninja_text.specs.declared.token.TokenKind.TheVariants.{Bar, Colon}
-use Rattle.ninja_text.proofs.SpelledTexts.{value_of_escaped, Written, written_none, written_word, written_path, written_space, written_colon, written_bar, written_tokens, written_sound, written_line, written_text, written_first}
+use Rattle.ninja_text.proofs.ForCallers.{value_of_escaped, Written, written_none, written_word, written_path, written_space, written_colon, written_bar, written_tokens, written_sound, written_line, written_text, written_first}
 use Rattle.dyndep_file.specs.StatementValue.{StatementValue}
 use Rattle.dyndep_file.specs.Classes.{Class, Build, Symbol, WordSymbol, SignSymbol, symbol, IsPart, IsBuild, TextIsOfClass, IsOfClass}
 use Rattle.dyndep_file.specs.Writing.{part_text, build_line}

@@ -7,7 +7,7 @@ use Rattle.std.proofs.lemmas.List.Elements.{recursion_from_All}
 use Rattle.std.proofs.lemmas.Grind.{flat_map-append}
 use Rattle.ninja_text.specs.Lines.{IsLine, Divides}
 use Rattle.ninja_text.specs.Assignments.{SeenAssignment}
-use Rattle.ninja_text.proofs.LinesForCallers.{AllByRecursion-append, joined}
+use Rattle.ninja_text.proofs.ForCallers.{AllByRecursion-append, joined}
 use Rattle.dyndep_file.specs.StatementValue.{StatementValue}
 use Rattle.dyndep_file.specs.Classes.{Class, Version, Build, Binding, Assigns, IsOfClass}
 use Rattle.dyndep_file.specs.Grammar.{IsDyndepBody, IsDyndepFile, binding_here, body_end, body_build, body_build_binding, version_line}

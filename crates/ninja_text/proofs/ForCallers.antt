@@ -1,8 +1,64 @@
--- What crates above cite of this one, besides its contracts.
+-- What other crates cite: the lemmas behind the promises of this crate, for needs of their own. They
+-- are as settled as the public contracts; the other lemmas may change.
 use Rattle.std.proofs.Common.{IsTrue, ◌↔◌, ℕ, List}
 use Rattle.ninja_text.specs.Escapes.{is_writable, IsWritable}
 use Rattle.ninja_text.proofs.Writable.{writable}
+-- A canonical path has the shape that its name promises.
+pub use Rattle.ninja_text.proofs.Shape.{shape}
+-- What holds of each element of two lists holds of each element of both, one behind the other.
+pub use Rattle.ninja_text.proofs.CutLemmas.{AllByRecursion-append}
+-- Lines put one behind another.
+pub use Rattle.ninja_text.proofs.CutLemmas.{joined}
+-- The end of a line is within the bytes, and past their first.
+pub use Rattle.ninja_text.proofs.CutLemmas.{end_fits}
+-- What follows a line changes nothing of its end, and the bytes up to the end are a line.
+pub use Rattle.ninja_text.proofs.CutLemmas.{line_end-append, front_is_line}
+-- Every text is divided into lines and a rest, and in one way only.
+pub use Rattle.ninja_text.proofs.CutLemmas.{divides_some, divides_one}
+-- A cutter where no line waits, and that has not failed, is a working one.
+pub use Rattle.ninja_text.proofs.FeedLemmas.{working, is_working}
+-- A line whose end is not within the limit is longer than the limit.
+pub use Rattle.ninja_text.proofs.FeedLemmas.{too_long}
+-- In a text that begins with a space, neither a token nor an assignment's name begins at the first byte.
+pub use Rattle.ninja_text.proofs.PlaceLemmas.{token_indented, name_indented}
+-- The name of an assignment is a slice of the text, and begins behind the first blank run.
+pub use Rattle.ninja_text.proofs.PlaceLemmas.{Parts, assignment_parts}
+-- A slice from the front of a text begins with the text's first byte.
+pub use Rattle.ninja_text.proofs.PlaceLemmas.{slice_first}
+-- A text that is an assignment has a token.
+pub use Rattle.ninja_text.proofs.AssignmentLemmas.{assignment_has_token}
+-- A unit is sound where it is an escape that a path may need, or a byte by itself that neither ends a
+-- line nor is a fault.
+pub use Rattle.ninja_text.proofs.SpelledUnits.{is_sound}
+-- The bytes of a unit, and those of units one after another; sound units are read back from them.
+pub use Rattle.ninja_text.proofs.SpelledUnits.{unit_text, text_of_units, units_read}
+-- The units of a text made of sound units are those, and it has no lexical fault.
+pub use Rattle.ninja_text.proofs.SpelledLines.{units_are, lexical_none}
+-- With an LF behind it, such a text is a line, whose text it is.
+pub use Rattle.ninja_text.proofs.SpelledLines.{is_line, text_is}
+-- The units that a path is spelled by: they are its spelling, are sound, and are pieces of a word.
+pub use Rattle.ninja_text.proofs.SpelledPaths.{path_unit, path_units, path_text, path_sound, path_pieces}
+-- Of a path that can be spelled, each byte has a spelling.
+pub use Rattle.ninja_text.proofs.SpelledPaths.{has_spelling}
+-- What is read of a spelled path is the path.
+pub use Rattle.ninja_text.proofs.SpelledPaths.{value_of_escaped}
+-- A word goes on where a piece follows; pieces behind which no piece follows are one word.
+pub use Rattle.ninja_text.proofs.SpelledTokens.{goes_on_piece, word_and, word_token}
+-- Units yield tokens, seen by their kinds and bytes, where those are their tokens wherever the units stand.
+pub use Rattle.ninja_text.proofs.SpelledTokens.{viewed, Yields}
+-- What no units yield, and what a space, a `:`, a `|` and a path yield in front of others.
+pub use Rattle.ninja_text.proofs.SpelledTokens.{no_units, space_yields, colon_yields, bar_yields, path_yields}
+-- A text without a fault, an end or a continuation, whose tokens are these; and bytes that are a word.
+pub use Rattle.ninja_text.proofs.SpelledTexts.{Written, is_word}
+-- The empty text is one, and stays one with a word, a path, a space, a `:` or a `|` in front of it.
+pub use Rattle.ninja_text.proofs.SpelledTexts.{written_none, written_word, written_path, written_space, written_colon, written_bar}
+-- Such a text has its tokens and no lexical fault.
+pub use Rattle.ninja_text.proofs.SpelledTexts.{written_tokens, written_sound}
+-- With an LF behind it, it is a line, whose text it is, unless it is a comment.
+pub use Rattle.ninja_text.proofs.SpelledTexts.{written_line, written_text}
+-- The first token of one that begins with a word stands at its beginning.
+pub use Rattle.ninja_text.proofs.SpelledTexts.{First, written_first}
 
--- the test of what can be spelled means what the record says
+-- The test of what can be spelled means what the record says.
 pub is_writable-meaning : (path : List ℕ) → IsTrue (is_writable path) ↔ IsWritable path
 is_writable-meaning path = writable path

@@ -22,7 +22,6 @@ pub mod PlaceLemmas
 pub mod SpanLemmas
 pub mod ListLemmas
 pub mod AssignmentLemmas
-pub mod LinesForCallers
 pub mod SpelledUnits
 pub mod SpelledPaths
 pub mod SpelledTokens
