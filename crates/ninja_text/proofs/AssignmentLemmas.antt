@@ -23,15 +23,15 @@ goes_on_piece (Byte b ∷ us) h = rw h refl
 none_added : {t : TokenAt} {ts : List TokenAt} {A : Type 0} → t ∷ ts ≡ [] → A
 none_added h = absurd (cc)
 
-none_widened : (place : ℕ) (ts : List TokenAt) → with_first_start place ts ≡ [] → ts ≡ []
-none_widened place [] h = refl
-none_widened place (t ∷ ts) h = none_added h
+none_widened : (index : ℕ) (ts : List TokenAt) → with_first_start index ts ≡ [] → ts ≡ []
+none_widened index [] h = refl
+none_widened index (t ∷ ts) h = none_added h
 
 -- no token and a piece: never
-none_with : (place : ℕ) (u : LineUnit) (us : List LineUnit) (later : List TokenAt) → (later ≡ [] → list_any is_piece us ≡ true → ⊥) → with_unit place u us later ≡ [] → list_any is_piece (u ∷ us) ≡ true → ⊥
-none_with place u us later none h piece = elim (cases_Bool (is_piece u)) [
+none_with : (index : ℕ) (u : LineUnit) (us : List LineUnit) (later : List TokenAt) → (later ≡ [] → list_any is_piece us ≡ true → ⊥) → with_unit index u us later ≡ [] → list_any is_piece (u ∷ us) ≡ true → ⊥
+none_with index u us later none h piece = elim (cases_Bool (is_piece u)) [
   | inl p ↦ elim (cases_Bool (goes_on us)) [
-    | inl g ↦ none (none_widened place later (rw (p, g) at h)) (goes_on_piece us g)
+    | inl g ↦ none (none_widened index later (rw (p, g) at h)) (goes_on_piece us g)
     | inr g ↦ none_added (rw (p, g) at h)
   ]
   | inr p ↦ elim (cases_Bool (is_byte 58 u)) [
@@ -44,8 +44,8 @@ none_with place u us later none h piece = elim (cases_Bool (is_piece u)) [
 ]
 
 -- a `|` is a token, or begins one
-bar_added : (place : ℕ) (v : LineUnit) (us : List LineUnit) → tokens_from place (Byte 124 ∷ v ∷ us) ≡ [] → ⊥
-bar_added place v us h = elim (cases_Bool (is_byte 124 v)) [
+bar_added : (index : ℕ) (v : LineUnit) (us : List LineUnit) → tokens_from index (Byte 124 ∷ v ∷ us) ≡ [] → ⊥
+bar_added index v us h = elim (cases_Bool (is_byte 124 v)) [
   | inl d ↦ none_added (rw d at h)
   | inr d ↦ elim (cases_Bool (is_byte 64 v)) [
     | inl a ↦ none_added (rw (d, a) at h)
@@ -54,19 +54,19 @@ bar_added place v us h = elim (cases_Bool (is_byte 124 v)) [
 ]
 
 -- a text without tokens has no piece of a word
-no_piece : (us : List LineUnit) (place : ℕ) → tokens_from place us ≡ [] → list_any is_piece us ≡ true → ⊥
-no_piece [] place h piece = let x : false ≡ true = piece in cc
-no_piece (u ∷ []) place h piece = none_with place u [] [] (λ e p. let x : false ≡ true = p in cc) h piece
-no_piece (u ∷ v ∷ us) place h piece = elim (cases_Bool (is_byte 124 u)) [
-  | inr n ↦ none_with place u (v ∷ us) (tokens_from (place + unit_len u) (v ∷ us)) (λ e p. no_piece (v ∷ us) (place + unit_len u) e p) (sym (tokens_with place u (v ∷ us) n) ∙ h) piece
-  | inl b ↦ bar_added place v us (subst (λ w. tokens_from place (w ∷ v ∷ us) ≡ []) (byte_is 124 u b) h)
+no_piece : (us : List LineUnit) (index : ℕ) → tokens_from index us ≡ [] → list_any is_piece us ≡ true → ⊥
+no_piece [] index h piece = let x : false ≡ true = piece in cc
+no_piece (u ∷ []) index h piece = none_with index u [] [] (λ e p. let x : false ≡ true = p in cc) h piece
+no_piece (u ∷ v ∷ us) index h piece = elim (cases_Bool (is_byte 124 u)) [
+  | inr n ↦ none_with index u (v ∷ us) (tokens_from (index + unit_len u) (v ∷ us)) (λ e p. no_piece (v ∷ us) (index + unit_len u) e p) (sym (tokens_with index u (v ∷ us) n) ∙ h) piece
+  | inl b ↦ bar_added index v us (subst (λ w. tokens_from index (w ∷ v ∷ us) ≡ []) (byte_is 124 u b) h)
 ]
 
 -- what is left after a run is a part of all
-run_any : (test : LineUnit → Bool) (place : ℕ) (us : List LineUnit) → list_any is_piece (after_run test place us).units ≡ true → list_any is_piece us ≡ true
-run_any test place [] h = h
-run_any test place (u ∷ us) h = elim (cases_Bool (test u)) [
-  | inl t ↦ any_later is_piece u us (run_any test (place + unit_len u) us (rw t at h))
+run_any : (test : LineUnit → Bool) (index : ℕ) (us : List LineUnit) → list_any is_piece (after_run test index us).units ≡ true → list_any is_piece us ≡ true
+run_any test index [] h = h
+run_any test index (u ∷ us) h = elim (cases_Bool (test u)) [
+  | inl t ↦ any_later is_piece u us (run_any test (index + unit_len u) us (rw t at h))
   | inr f ↦ rw f at h
 ]
 
@@ -87,9 +87,9 @@ name_piece (Byte b) h = elim (cases_Bool (b == 32)) [
   apart : (c : ℕ) → (b == c) ≡ true → is_name_unit (Byte c) ≡ false → is_piece (Byte b) ≡ true
   apart c same none = absurd (let x : false ≡ true = sym none ∙ subst (λ n. is_name_unit (Byte n) ≡ true) (eqb-true b c same) h in cc)
 
-run_first : (place : ℕ) (us : List LineUnit) → place < (after_run is_name_unit place us).place → list_any is_piece us ≡ true
-run_first place [] h = absurd (omega arith)
-run_first place (u ∷ us) h = elim (cases_Bool (is_name_unit u)) [
+run_first : (index : ℕ) (us : List LineUnit) → index < (after_run is_name_unit index us).place → list_any is_piece us ≡ true
+run_first index [] h = absurd (omega arith)
+run_first index (u ∷ us) h = elim (cases_Bool (is_name_unit u)) [
   | inl t ↦ rw (name_piece u t) refl
   | inr f ↦ absurd (let x = rw f at h in omega arith)
 ]

@@ -6,7 +6,7 @@ use Rattle.ninja_text.specs.declared.paths.PathFault.TheVariants.{Empty, AboveRo
 use Rattle.ninja_text.specs.Escapes.{is_unwritable}
 use Rattle.ninja_text.specs.Reduction.{is_parent, reduced, components}
 use Rattle.ninja_text.specs.Paths.{path_text, below, relative_or, seen_from, checked, is_empty, is_rooted, canonical_of, IsPath}
-use Rattle.ninja_text.specs.ComponentLists.{list_text, LacksSlash, EachLacksSlash}
+use Rattle.ninja_text.specs.inner.ComponentLists.{list_text, LacksSlash, EachLacksSlash}
 use Rattle.ninja_text.proofs.ReducedList.{IsFixed, reduced-fixed, reduced-each, fixed-reduced, fixed-tail, in_front-current}
 use Rattle.ninja_text.proofs.Components.{components-lack, components-list, below-some, below-is, below-not}
 
@@ -33,7 +33,7 @@ checked_ok : (o : Option ℕ) (last p : List ℕ) → checked o last ≡ Ok p �
 checked_ok None last p h = let k = long_or (nat_lt 4096 (length last)) last p h in (refl, k.1, ap (λ l. nat_lt 4096 (length l)) (sym k.1) ∙ k.0)
 checked_ok (Some n) last p h = cc
 
--- the path of a text tells these facts
+-- where a text has a path, these facts hold
 pub facts : (build : Option (List ℕ)) (text p : List ℕ) → canonical_of build text ≡ Ok p → Facts build text p
 unfolding canonical_of
 facts build text p h =
@@ -42,7 +42,7 @@ facts build text p h =
     let k = checked_ok (position is_unwritable text) (seen_from build (is_rooted text) (reduced (components text))) p b.1 in
     record { some = a.0; inside = b.0; clean = k.0; made = k.1; short = k.2 }
 
--- and they tell the path
+-- and where they hold, it has that path
 pub from_facts : (build : Option (List ℕ)) (text p : List ℕ) → Facts build text p → canonical_of build text ≡ Ok p
 unfolding canonical_of
 from_facts build text p f =
@@ -187,7 +187,7 @@ some-list : (list : List (List ℕ)) → list ≢ [] → is_empty list ≡ false
 some-list [] n = absurd (n refl)
 some-list (x ∷ xs) n = refl
 
--- what is seen is a whole list, written out
+-- what is seen from the build directory is a whole list, written out
 pub record Seen (path : List ℕ) : Type 0 where
   pub rooted : Bool
   pub list : List (List ℕ)
@@ -319,8 +319,8 @@ go-last : (build : Option (List ℕ)) (text : List ℕ) → is_empty (reduced (c
 go-last build text h k = go-on build text h ∙ ap (λ b. cond b (Err AboveRoot) (last_tests build text)) k
 
 -- a byte of the text has no spelling
-pub is-unwritable : (build : Option (List ℕ)) (text : List ℕ) (place : ℕ) → is_empty (reduced (components text)) ≡ false → (is_rooted text && list_any is_parent (reduced (components text))) ≡ false → position is_unwritable text ≡ Some place → canonical_of build text ≡ Err (Unwritable place)
-is-unwritable build text place h k m = go-last build text h k ∙ ap (λ o. checked o (seen_from build (is_rooted text) (reduced (components text)))) m
+pub is-unwritable : (build : Option (List ℕ)) (text : List ℕ) (index : ℕ) → is_empty (reduced (components text)) ≡ false → (is_rooted text && list_any is_parent (reduced (components text))) ≡ false → position is_unwritable text ≡ Some index → canonical_of build text ≡ Err (Unwritable index)
+is-unwritable build text index h k m = go-last build text h k ∙ ap (λ o. checked o (seen_from build (is_rooted text) (reduced (components text)))) m
 
 -- each byte has one, and the length decides
 go-checked : (build : Option (List ℕ)) (text last : List ℕ) → is_empty (reduced (components text)) ≡ false → (is_rooted text && list_any is_parent (reduced (components text))) ≡ false → position is_unwritable text ≡ None → last ≡ seen_from build (is_rooted text) (reduced (components text)) → canonical_of build text ≡ checked None last

@@ -7,7 +7,7 @@ use Rattle.std.proofs.Common.{bytes_eq, Option, Some, None, option_map, ◌≢�
 use Rattle.std.specs.List.{list_any}
 use Rattle.ninja_text.specs.Reduction.{is_parent, components}
 use Rattle.ninja_text.specs.Paths.{below}
-use Rattle.ninja_text.specs.ComponentLists.{list_text, LacksSlash, EachLacksSlash}
+use Rattle.ninja_text.specs.inner.ComponentLists.{list_text, LacksSlash, EachLacksSlash}
 
 -- a byte that is no slash in front of the first component
 lacks-onto : (b : ℕ) (parts : List (List ℕ)) → (b == 47) ≡ false → EachLacksSlash parts → EachLacksSlash (onto_first b parts)

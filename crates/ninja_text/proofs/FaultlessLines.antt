@@ -22,29 +22,29 @@ is_inner (Continuation len) = true
 is_inner (Escape b) = true
 is_inner (Byte b) = not (b == 36) && not (b == 10)
 
--- The units up to the end, which is past this place, are such.
-record InnerUpTo (place : ℕ) (end : LineEnd) (bytes : List ℕ) : Type 0 where
+-- The units up to the end, which is past this index, are such.
+record InnerUpTo (index : ℕ) (end : LineEnd) (bytes : List ℕ) : Type 0 where
   count : ℕ
-  at : end.text_len ≡ place + count
+  at : end.text_len ≡ index + count
   inner : list_all is_inner (units (take count bytes)) ≡ true
 
 none_some : {e : LineEnd} {A : Type 0} → ◌≡◌ {A = Option LineEnd} None (Some e) → A
 none_some h = absurd (cc)
 
--- the end is at this place
-here : (place len : ℕ) (end : LineEnd) (bytes : List ℕ) → ◌≡◌ {A = Option LineEnd} (Some (record { text_len = place; line_len = len })) (Some end) → InnerUpTo place end bytes
-here place len end bytes h =
-    let same : ◌≡◌ {A = LineEnd} (record { text_len = place; line_len = len }) end = cc in
+-- the end is at this index
+here : (index len : ℕ) (end : LineEnd) (bytes : List ℕ) → ◌≡◌ {A = Option LineEnd} (Some (record { text_len = index; line_len = len })) (Some end) → InnerUpTo index end bytes
+here index len end bytes h =
+    let same : ◌≡◌ {A = LineEnd} (record { text_len = index; line_len = len }) end = cc in
     record { count = 0; at = sym (ap (λ e. e.text_len) same) ∙ zero_more; inner = refl } where
-      zero_more : place ≡ place + 0
+      zero_more : index ≡ index + 0
       zero_more = omega arith
 
-past_byte : (b : ℕ) (bytes : List ℕ) (place : ℕ) (end : LineEnd) → (b == 36) ≡ false → (end_from (place + 1) (units bytes) ≡ Some end → InnerUpTo (place + 1) end bytes)
-    → end_from place (Byte b ∷ units bytes) ≡ Some end → InnerUpTo place end (b ∷ bytes)
-past_byte b bytes place end d later h = elim (cases_Bool (b == 10)) [
-  | inl f ↦ here place (place + 1) end (b ∷ bytes) (rw f at h)
+past_byte : (b : ℕ) (bytes : List ℕ) (index : ℕ) (end : LineEnd) → (b == 36) ≡ false → (end_from (index + 1) (units bytes) ≡ Some end → InnerUpTo (index + 1) end bytes)
+    → end_from index (Byte b ∷ units bytes) ≡ Some end → InnerUpTo index end (b ∷ bytes)
+past_byte b bytes index end d later h = elim (cases_Bool (b == 10)) [
+  | inl f ↦ here index (index + 1) end (b ∷ bytes) (rw f at h)
   | inr f ↦ elim (cases_Bool ((b == 13) && begins_with_line_feed (units bytes))) [
-    | inl r ↦ here place (place + 2) end (b ∷ bytes) (rw (f, r) at h)
+    | inl r ↦ here index (index + 2) end (b ∷ bytes) (rw (f, r) at h)
     | inr r ↦
         let rest = later (rw (f, r) at h) in
         record {
@@ -54,7 +54,7 @@ past_byte b bytes place end d later h = elim (cases_Bool (b == 10)) [
         }
   ]
 ] where
-  moved : (n : ℕ) → place + 1 + n ≡ place + suc n
+  moved : (n : ℕ) → index + 1 + n ≡ index + suc n
   moved n = omega arith
 
 abbrev begins_feed : List ℕ → Bool
@@ -70,13 +70,13 @@ less_feed b zero bytes r = elim (cases_Bool (b == 13)) [ inl h ↦ rw h refl | i
 less_feed b (suc n) [] r = r
 less_feed b (suc n) (c ∷ bytes) r = r
 
-past_escape : (b : ℕ) (bytes : List ℕ) (place : ℕ) (end : LineEnd) → (b == 10) ≡ false → ((b == 13) && begins_feed bytes) ≡ false → InnerUpTo (place + 2) end bytes → InnerUpTo place end (36 ∷ b ∷ bytes)
-past_escape b bytes place end f r rest = record {
+past_escape : (b : ℕ) (bytes : List ℕ) (index : ℕ) (end : LineEnd) → (b == 10) ≡ false → ((b == 13) && begins_feed bytes) ≡ false → InnerUpTo (index + 2) end bytes → InnerUpTo index end (36 ∷ b ∷ bytes)
+past_escape b bytes index end f r rest = record {
   count = suc (suc rest.count);
   at = rest.at ∙ moved rest.count;
   inner = ap (list_all is_inner) (escape_units b (take rest.count bytes) f (less_feed b rest.count bytes r)) ∙ rest.inner;
 } where
-  moved : (n : ℕ) → place + 2 + n ≡ place + suc (suc n)
+  moved : (n : ℕ) → index + 2 + n ≡ index + suc (suc n)
   moved n = omega arith
 
 inner_continued : (len : ℕ) (us : List LineUnit) → list_all is_inner us ≡ true → list_all is_inner (with_continuation len us) ≡ true
@@ -88,57 +88,57 @@ inner_continued len (Byte b ∷ us) h = elim (cases_Bool (b == 32)) [
 inner_continued len (Escape b ∷ us) h = h
 inner_continued len (Continuation more ∷ us) h = h
 
-past_feed : (bytes : List ℕ) (place : ℕ) (end : LineEnd) → InnerUpTo (place + 2) end bytes → InnerUpTo place end (36 ∷ 10 ∷ bytes)
-past_feed bytes place end rest = record {
+past_feed : (bytes : List ℕ) (index : ℕ) (end : LineEnd) → InnerUpTo (index + 2) end bytes → InnerUpTo index end (36 ∷ 10 ∷ bytes)
+past_feed bytes index end rest = record {
   count = suc (suc rest.count);
   at = rest.at ∙ moved rest.count;
   inner = ap (list_all is_inner) (units_feed (take rest.count bytes)) ∙ inner_continued 2 (units (take rest.count bytes)) rest.inner;
 } where
-  moved : (n : ℕ) → place + 2 + n ≡ place + suc (suc n)
+  moved : (n : ℕ) → index + 2 + n ≡ index + suc (suc n)
   moved n = omega arith
 
-past_return : (bytes : List ℕ) (place : ℕ) (end : LineEnd) → InnerUpTo (place + 3) end bytes → InnerUpTo place end (36 ∷ 13 ∷ 10 ∷ bytes)
-past_return bytes place end rest = record {
+past_return : (bytes : List ℕ) (index : ℕ) (end : LineEnd) → InnerUpTo (index + 3) end bytes → InnerUpTo index end (36 ∷ 13 ∷ 10 ∷ bytes)
+past_return bytes index end rest = record {
   count = suc (suc (suc rest.count));
   at = rest.at ∙ moved rest.count;
   inner = inner_continued 3 (units (take rest.count bytes)) rest.inner;
 } where
-  moved : (n : ℕ) → place + 3 + n ≡ place + suc (suc (suc n))
+  moved : (n : ℕ) → index + 3 + n ≡ index + suc (suc (suc n))
   moved n = omega arith
 
 -- what `$` begins, by the bytes behind it
-module _ (b c : ℕ) (bytes : List ℕ) (place : ℕ) (end : LineEnd) where
-  by_feed : (b == 10) ≡ true → InnerUpTo (place + 2) end (c ∷ bytes) → InnerUpTo place end (36 ∷ b ∷ c ∷ bytes)
-  by_feed f rest = subst (λ n. InnerUpTo place end (36 ∷ n ∷ c ∷ bytes)) (sym (eqb-true b 10 f)) (past_feed (c ∷ bytes) place end rest)
+module _ (b c : ℕ) (bytes : List ℕ) (index : ℕ) (end : LineEnd) where
+  by_feed : (b == 10) ≡ true → InnerUpTo (index + 2) end (c ∷ bytes) → InnerUpTo index end (36 ∷ b ∷ c ∷ bytes)
+  by_feed f rest = subst (λ n. InnerUpTo index end (36 ∷ n ∷ c ∷ bytes)) (sym (eqb-true b 10 f)) (past_feed (c ∷ bytes) index end rest)
 
-  by_return : ((b == 13) && (c == 10)) ≡ true → InnerUpTo (place + 3) end bytes → InnerUpTo place end (36 ∷ b ∷ c ∷ bytes)
+  by_return : ((b == 13) && (c == 10)) ≡ true → InnerUpTo (index + 3) end bytes → InnerUpTo index end (36 ∷ b ∷ c ∷ bytes)
   by_return r rest =
       let p = and_parts (b == 13) (c == 10) r in
-      subst (λ n. InnerUpTo place end (36 ∷ n ∷ c ∷ bytes)) (sym (eqb-true b 13 p.0))
-      (subst (λ n. InnerUpTo place end (36 ∷ 13 ∷ n ∷ bytes)) (sym (eqb-true c 10 p.1)) (past_return bytes place end rest))
+      subst (λ n. InnerUpTo index end (36 ∷ n ∷ c ∷ bytes)) (sym (eqb-true b 13 p.0))
+      (subst (λ n. InnerUpTo index end (36 ∷ 13 ∷ n ∷ bytes)) (sym (eqb-true c 10 p.1)) (past_return bytes index end rest))
 
-inner_units : (bytes : List ℕ) (place : ℕ) (end : LineEnd) → end_from place (units bytes) ≡ Some end → InnerUpTo place end bytes
-inner_units [] place end h = none_some h
-inner_units (a ∷ []) place end h = elim (cases_Bool (a == 36)) [
-  | inl d ↦ none_some (subst (λ n. end_from place (Byte n ∷ []) ≡ Some end) (eqb-true a 36 d) h)
-  | inr d ↦ past_byte a [] place end d none_some h
+inner_units : (bytes : List ℕ) (index : ℕ) (end : LineEnd) → end_from index (units bytes) ≡ Some end → InnerUpTo index end bytes
+inner_units [] index end h = none_some h
+inner_units (a ∷ []) index end h = elim (cases_Bool (a == 36)) [
+  | inl d ↦ none_some (subst (λ n. end_from index (Byte n ∷ []) ≡ Some end) (eqb-true a 36 d) h)
+  | inr d ↦ past_byte a [] index end d none_some h
 ]
-inner_units (a ∷ b ∷ []) place end h = elim (cases_Bool (a == 36)) [
+inner_units (a ∷ b ∷ []) index end h = elim (cases_Bool (a == 36)) [
   | inl d ↦ elim (cases_Bool (b == 10)) [
     | inl f ↦ none_some (rw (d, f) at h)
     | inr f ↦ none_some (rw (d, f) at h)
   ]
-  | inr d ↦ past_byte a (b ∷ []) place end d (inner_units (b ∷ []) (place + 1) end) (rw d at h)
+  | inr d ↦ past_byte a (b ∷ []) index end d (inner_units (b ∷ []) (index + 1) end) (rw d at h)
 ]
-inner_units (a ∷ b ∷ c ∷ bytes) place end h = elim (cases_Bool (a == 36)) [
-  | inl d ↦ subst (λ n. InnerUpTo place end (n ∷ b ∷ c ∷ bytes)) (sym (eqb-true a 36 d)) (elim (cases_Bool (b == 10)) [
-    | inl f ↦ by_feed b c bytes place end f (inner_units (c ∷ bytes) (place + 2) end (sym (end_continued place 2 (units (c ∷ bytes))) ∙ (rw (d, f) at h)))
+inner_units (a ∷ b ∷ c ∷ bytes) index end h = elim (cases_Bool (a == 36)) [
+  | inl d ↦ subst (λ n. InnerUpTo index end (n ∷ b ∷ c ∷ bytes)) (sym (eqb-true a 36 d)) (elim (cases_Bool (b == 10)) [
+    | inl f ↦ by_feed b c bytes index end f (inner_units (c ∷ bytes) (index + 2) end (sym (end_continued index 2 (units (c ∷ bytes))) ∙ (rw (d, f) at h)))
     | inr f ↦ elim (cases_Bool ((b == 13) && (c == 10))) [
-      | inl r ↦ by_return b c bytes place end r (inner_units bytes (place + 3) end (sym (end_continued place 3 (units bytes)) ∙ (rw (d, f, r) at h)))
-      | inr r ↦ past_escape b (c ∷ bytes) place end f r (inner_units (c ∷ bytes) (place + 2) end (rw (d, f, r) at h))
+      | inl r ↦ by_return b c bytes index end r (inner_units bytes (index + 3) end (sym (end_continued index 3 (units bytes)) ∙ (rw (d, f, r) at h)))
+      | inr r ↦ past_escape b (c ∷ bytes) index end f r (inner_units (c ∷ bytes) (index + 2) end (rw (d, f, r) at h))
     ]
   ])
-  | inr d ↦ past_byte a (b ∷ c ∷ bytes) place end d (inner_units (b ∷ c ∷ bytes) (place + 1) end) (rw d at h)
+  | inr d ↦ past_byte a (b ∷ c ∷ bytes) index end d (inner_units (b ∷ c ∷ bytes) (index + 1) end) (rw d at h)
 ]
 
 -- ---- and none has a fault
@@ -154,8 +154,8 @@ regrouped : (x y z : Bool) → ((x || y) || z) ≡ true → (x || (y || z)) ≡ 
 regrouped true y z h = refl
 regrouped false y z h = h
 
-escape_proper : (place b : ℕ) → unit_fault place (Escape b) ≡ None → is_escaped b ≡ true
-escape_proper place b h = elim (cases_Bool (begins_variable b)) [
+escape_proper : (index b : ℕ) → unit_fault index (Escape b) ≡ None → is_escaped b ≡ true
+escape_proper index b h = elim (cases_Bool (begins_variable b)) [
   | inl v ↦ some_fault (rw v at h)
   | inr v ↦ elim (cases_Bool (is_escapable b)) [
     | inl e ↦ regrouped (b == 36) (b == 32) (b == 58) e
@@ -163,8 +163,8 @@ escape_proper place b h = elim (cases_Bool (begins_variable b)) [
   ]
 ]
 
-byte_proper : (place b : ℕ) → unit_fault place (Byte b) ≡ None → is_inner (Byte b) ≡ true → is_plain b ≡ true
-byte_proper place b h i =
+byte_proper : (index b : ℕ) → unit_fault index (Byte b) ≡ None → is_inner (Byte b) ≡ true → is_plain b ≡ true
+byte_proper index b h i =
     let p = and_parts (not (b == 36)) (not (b == 10)) i in
     elim (cases_Bool (b == 0)) [
       | inl n ↦ some_fault (rw n at h)
@@ -174,17 +174,17 @@ byte_proper place b h i =
       ]
     ]
 
-unit_proper : (place : ℕ) (u : LineUnit) → unit_fault place u ≡ None → is_inner u ≡ true → is_proper u ≡ true
-unit_proper place (Continuation len) h i = refl
-unit_proper place (Escape b) h i = escape_proper place b h
-unit_proper place (Byte b) h i = byte_proper place b h i
+unit_proper : (index : ℕ) (u : LineUnit) → unit_fault index u ≡ None → is_inner u ≡ true → is_proper u ≡ true
+unit_proper index (Continuation len) h i = refl
+unit_proper index (Escape b) h i = escape_proper index b h
+unit_proper index (Byte b) h i = byte_proper index b h i
 
-all_proper : (us : List LineUnit) (place : ℕ) → first_fault place us ≡ None → list_all is_inner us ≡ true → list_all is_proper us ≡ true
-all_proper [] place h i = refl
-all_proper (u ∷ us) place h i =
-    let f = earlier_none (unit_fault place u) (first_fault (place + unit_len u) us) h in
+all_proper : (us : List LineUnit) (index : ℕ) → first_fault index us ≡ None → list_all is_inner us ≡ true → list_all is_proper us ≡ true
+all_proper [] index h i = refl
+all_proper (u ∷ us) index h i =
+    let f = earlier_none (unit_fault index u) (first_fault (index + unit_len u) us) h in
     let p = and_parts (is_inner u) (list_all is_inner us) i in
-    and_from _ _ (unit_proper place u f.0 p.0) (all_proper us (place + unit_len u) f.1 p.1)
+    and_from _ _ (unit_proper index u f.0 p.0) (all_proper us (index + unit_len u) f.1 p.1)
 
 -- the units of the text of a line that has no fault
 pub faultless_units : (line : List ℕ) → IsFaultless line → list_all is_proper (units (text_of line)) ≡ true

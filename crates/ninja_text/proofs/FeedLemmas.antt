@@ -67,7 +67,7 @@ lends_some h new is works waits = (ap (λ k. k.waits) it, ap (λ k. k.failed) it
   next : (p q : Bool) → p ≡ true → q ≡ false → (if q then [] else if p then waiting_line h ∷ [] else []) ≡ waiting_line h ∷ []
   next p q i j = rw (i, j) refl
 
--- the bytes from a place on are all that there are from there
+-- the bytes from an index on are all that there are from there
 pub to_the_end : (i : ℕ) (bytes : List ℕ) → take (length bytes - i) (drop i bytes) ≡ drop i bytes
 to_the_end i bytes = take_all (length bytes - i) (drop i bytes) (omega (arith, length-drop i bytes))
 
@@ -154,7 +154,7 @@ pub never_failed : (h : CutterState) (piece : List ℕ) (n : ℕ) (new : CutterS
 never_failed h piece n new is failed = let x : false ≡ true = sym (works_fed h.number h.bytes h.waits h.failed piece n new is) ∙ failed in cc
 
 module _ (h : CutterState) (works : h.failed ≡ false) where
-  -- a cutter that has not failed and refuses the end holds bytes, and tells them truncated
+  -- a cutter that has not failed and refuses the end holds bytes, and reports them as truncated
   pub finish_err : (e : CutFault) → Finishes h (Err e) → (length h.bytes ≡ 0 → ⊥) × (e ≡ Truncated h.number)
   finish_err e f = elim (cases_Bool (nat_le (length h.bytes) 0)) [
     | inl t ↦ absurd (let x : ◌≡◌ {A = Result Unit CutFault} (Err e) (Ok tt) = rw (works, t) at f in cc)

@@ -20,11 +20,11 @@ pub use Rattle.ninja_text.proofs.FeedLemmas.{working, is_working}
 -- A line whose end is not within the limit is longer than the limit.
 pub use Rattle.ninja_text.proofs.FeedLemmas.{too_long}
 -- In a text that begins with a space, neither a token nor an assignment's name begins at the first byte.
-pub use Rattle.ninja_text.proofs.PlaceLemmas.{token_indented, name_indented}
+pub use Rattle.ninja_text.proofs.StartLemmas.{token_indented, name_indented}
 -- The name of an assignment is a slice of the text, and begins behind the first blank run.
-pub use Rattle.ninja_text.proofs.PlaceLemmas.{Parts, assignment_parts}
+pub use Rattle.ninja_text.proofs.StartLemmas.{Parts, assignment_parts}
 -- A slice from the front of a text begins with the text's first byte.
-pub use Rattle.ninja_text.proofs.PlaceLemmas.{slice_first}
+pub use Rattle.ninja_text.proofs.StartLemmas.{slice_first}
 -- A text that is an assignment has a token.
 pub use Rattle.ninja_text.proofs.AssignmentLemmas.{assignment_has_token}
 -- A unit is sound where it is an escape that a path may need, or a byte by itself that neither ends a

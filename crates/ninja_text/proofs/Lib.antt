@@ -18,7 +18,7 @@ pub mod CutLemmas
 pub mod FeedLemmas
 pub mod PieceLemmas
 pub mod TokenLemmas
-pub mod PlaceLemmas
+pub mod StartLemmas
 pub mod SpanLemmas
 pub mod ListLemmas
 pub mod AssignmentLemmas

@@ -7,7 +7,7 @@ use Rattle.ninja_text.specs.Lexical.{lexical_fault}
 use Rattle.ninja_text.specs.declared.faults.LexFault.TheVariants.{Nul, LoneCr, Variable, BadEscape}
 use Rattle.ninja_text.specs.declared.token.TokenKind.TheVariants.{Word, Bar, DoubleBar, BarAt, Colon}
 use Rattle.ninja_text.specs.Tokens.{tokens, value_of, raw}
-use Rattle.ninja_text.specs.Assignments.{assignment_places, raw_value_of}
+use Rattle.ninja_text.specs.Assignments.{assignment_indexes, raw_value_of}
 
 -- `build a$` LF `  b: dyndep` LF
 abbrev joined : List ℕ
@@ -106,25 +106,25 @@ return_pair : option_map (λ e. e.line_len) (line_end (codes "a$" ++ 13 ∷ 13 �
 return_pair = refl
 
 -- assignments
-binding : assignment_places (codes "  restat = 1") ≡ Some (record { name_start = 2; name_end = 8; value_start = 11 })
+binding : assignment_indexes (codes "  restat = 1") ≡ Some (record { name_start = 2; name_end = 8; value_start = 11 })
 binding = refl
 
-binding_empty : assignment_places (codes "  restat =") ≡ Some (record { name_start = 2; name_end = 8; value_start = 10 })
+binding_empty : assignment_indexes (codes "  restat =") ≡ Some (record { name_start = 2; name_end = 8; value_start = 10 })
 binding_empty = refl
 
-binding_over : assignment_places (codes " $" ++ 10 ∷ codes " a.b-c_1$" ++ 10 ∷ codes " =$" ++ 13 ∷ 10 ∷ codes " x $" ++ 10 ∷ codes " y ") ≡ Some (record { name_start = 4; name_end = 11; value_start = 19 })
+binding_over : assignment_indexes (codes " $" ++ 10 ∷ codes " a.b-c_1$" ++ 10 ∷ codes " =$" ++ 13 ∷ 10 ∷ codes " x $" ++ 10 ∷ codes " y ") ≡ Some (record { name_start = 4; name_end = 11; value_start = 19 })
 binding_over = refl
 
 binding_value : value_of (raw_value_of (codes "a = x | $: $$ ") (record { name_start = 0; name_end = 1; value_start = 4 })) ≡ codes "x | : $ "
 binding_value = refl
 
-no_name : assignment_places (codes "= 1") ≡ None
+no_name : assignment_indexes (codes "= 1") ≡ None
 no_name = refl
 
-no_sign : assignment_places (codes "build a: dyndep = 1") ≡ None
+no_sign : assignment_indexes (codes "build a: dyndep = 1") ≡ None
 no_sign = refl
 
-version : assignment_places (codes "ninja_dyndep_version = 1") ≡ Some (record { name_start = 0; name_end = 20; value_start = 23 })
+version : assignment_indexes (codes "ninja_dyndep_version = 1") ≡ Some (record { name_start = 0; name_end = 20; value_start = 23 })
 version = refl
 
 -- numbers

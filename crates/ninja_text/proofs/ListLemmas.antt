@@ -12,14 +12,14 @@ use Rattle.ninja_text.specs.TokenLists.{total_len, may_follow, is_word, begins_w
 use Rattle.ninja_text.proofs.TokenLemmas.{tokens_with, tokens_blank, tokens_piece, piece_else, goes_on_piece, continuation_blank, byte_is, byte_len}
 
 -- blank units add no token
-blank_first : (gap us : List LineUnit) (place : ℕ) → AreBlank gap → tokens_from place (gap ++ us) ≡ tokens_from (place + total_len gap) us
-blank_first [] us place h = ap (λ n. tokens_from n us) {x = place} {y = place + 0} (omega arith)
-blank_first (u ∷ gap) us place h = tokens_blank place u (gap ++ us) h.0 ∙ blank_first gap us (place + unit_len u) h.1
-    ∙ ap (λ n. tokens_from n us) {x = place + unit_len u + total_len gap} {y = place + (unit_len u + total_len gap)} (omega arith)
+blank_first : (gap us : List LineUnit) (index : ℕ) → AreBlank gap → tokens_from index (gap ++ us) ≡ tokens_from (index + total_len gap) us
+blank_first [] us index h = ap (λ n. tokens_from n us) {x = index} {y = index + 0} (omega arith)
+blank_first (u ∷ gap) us index h = tokens_blank index u (gap ++ us) h.0 ∙ blank_first gap us (index + unit_len u) h.1
+    ∙ ap (λ n. tokens_from n us) {x = index + unit_len u + total_len gap} {y = index + (unit_len u + total_len gap)} (omega arith)
 
-blank_alone : (us : List LineUnit) (place : ℕ) → AreBlank us → tokens_from place us ≡ []
-blank_alone [] place h = refl
-blank_alone (u ∷ us) place h = tokens_blank place u us h.0 ∙ blank_alone us (place + unit_len u) h.1
+blank_alone : (us : List LineUnit) (index : ℕ) → AreBlank us → tokens_from index us ≡ []
+blank_alone [] index h = refl
+blank_alone (u ∷ us) index h = tokens_blank index u us h.0 ∙ blank_alone us (index + unit_len u) h.1
 
 -- a word from start, and the tokens after it
 abbrev word_then : ℕ → ℕ → List LineUnit → List TokenAt
@@ -28,14 +28,14 @@ word_then start end after = record { kind = Word; start = start; end = end } ∷
 word_at : (start m n : ℕ) (after : List LineUnit) → m ≡ n → word_then start m after ≡ word_then start n after
 word_at start m n after e = ap (λ k. word_then start k after) e
 
--- a word goes on in these units, which begin at a place
-record GoesOn (start place : ℕ) (us after : List LineUnit) : Type 0 where
+-- a word goes on in these units, which begin at an index
+record GoesOn (start index : ℕ) (us after : List LineUnit) : Type 0 where
   on : goes_on (us ++ after) ≡ true
-  word : with_first_start start (tokens_from place (us ++ after)) ≡ word_then start (place + total_len us) after
+  word : with_first_start start (tokens_from index (us ++ after)) ≡ word_then start (index + total_len us) after
 
 -- it ends here, or goes on
 abbrev Follows : Bool → ℕ → ℕ → List LineUnit → List LineUnit → Type 0
-Follows may_end start place us after = ((us ≡ []) × (may_end ≡ true)) ⊎ GoesOn start place us after
+Follows may_end start index us after = ((us ≡ []) × (may_end ≡ true)) ⊎ GoesOn start index us after
 
 -- the word that a piece begins
 word_first : (s : ℕ) (u : LineUnit) (us after : List LineUnit) → is_piece u ≡ true → goes_on after ≡ false → Follows true s (s + unit_len u) us after
@@ -62,24 +62,24 @@ both_true true false h = absurd (cc)
 both_true false b h = absurd (cc)
 
 -- a continuation in a word is passed over
-passed_over : (u : LineUnit) (us after : List LineUnit) (may_end : Bool) (start place : ℕ) → is_continuation u ≡ true → Follows false start (place + unit_len u) us after → Follows may_end start place (u ∷ us) after
-passed_over u us after may_end start place h (inl none) = absurd (let x : false ≡ true = none.1 in cc)
-passed_over u us after may_end start place h (inr goes) = inr (record {
+passed_over : (u : LineUnit) (us after : List LineUnit) (may_end : Bool) (start index : ℕ) → is_continuation u ≡ true → Follows false start (index + unit_len u) us after → Follows may_end start index (u ∷ us) after
+passed_over u us after may_end start index h (inl none) = absurd (let x : false ≡ true = none.1 in cc)
+passed_over u us after may_end start index h (inr goes) = inr (record {
   on = goes_over u (us ++ after) h ∙ goes.on;
-  word = ap (with_first_start start) (tokens_blank place u (us ++ after) (continuation_blank u h)) ∙ goes.word
-      ∙ word_at start (place + unit_len u + total_len us) (place + (unit_len u + total_len us)) after (omega arith);
+  word = ap (with_first_start start) (tokens_blank index u (us ++ after) (continuation_blank u h)) ∙ goes.word
+      ∙ word_at start (index + unit_len u + total_len us) (index + (unit_len u + total_len us)) after (omega arith);
 })
 
 -- what follows in a word, to its end
-follows : (us after : List LineUnit) (may_end : Bool) (start place : ℕ) → goes_on after ≡ false → may_follow may_end us ≡ true → Follows may_end start place us after
-follows [] after may_end start place stop h = inl (refl, h)
-follows (u ∷ us) after may_end start place stop h = elim (cases_Bool (is_piece u)) [
+follows : (us after : List LineUnit) (may_end : Bool) (start index : ℕ) → goes_on after ≡ false → may_follow may_end us ≡ true → Follows may_end start index us after
+follows [] after may_end start index stop h = inl (refl, h)
+follows (u ∷ us) after may_end start index stop h = elim (cases_Bool (is_piece u)) [
   | inl p ↦ inr (record {
     on = goes_on_piece u (us ++ after) p;
-    word = ap (with_first_start start) (word_first place u us after p stop (follows us after true place (place + unit_len u) stop (rw p at h)));
+    word = ap (with_first_start start) (word_first index u us after p stop (follows us after true index (index + unit_len u) stop (rw p at h)));
   })
   | inr p ↦ let both = both_true (is_continuation u) (may_follow false us) (rw p at h) in
-      passed_over u us after may_end start place both.0 (follows us after false start (place + unit_len u) stop both.1)
+      passed_over u us after may_end start index both.0 (follows us after false start (index + unit_len u) stop both.1)
 ]
 
 -- the token at the front
@@ -98,12 +98,12 @@ token_first BarAt s own after h = subst (λ xs. tokens_from s (xs ++ after) ≡ 
 token_first Colon s own after h = subst (λ xs. tokens_from s (xs ++ after) ≡ record { kind = Colon; start = s; end = s + total_len xs } ∷ tokens_from (s + total_len xs) after) (sym h) (tokens_with s (Byte 58) after refl)
 
 -- units are divided into one list of tokens only
-one_list : (ts : List TokenAt) (place : ℕ) (us : List LineUnit) → LexesAs place us ts → tokens_from place us ≡ ts
-one_list [] place us h = blank_alone us place h
-one_list (t ∷ ts) place us h =
+one_list : (ts : List TokenAt) (index : ℕ) (us : List LineUnit) → LexesAs index us ts → tokens_from index us ≡ ts
+one_list [] index us h = blank_alone us index h
+one_list (t ∷ ts) index us h =
     let leads = h.1 in
-    let front : tokens_from place us ≡ record { kind = t.kind; start = t.start; end = t.end } ∷ tokens_from t.end h.0 =
-    ap (tokens_from place) leads.whole ∙ blank_first leads.gap (leads.own ++ h.0) place leads.blank
+    let front : tokens_from index us ≡ record { kind = t.kind; start = t.start; end = t.end } ∷ tokens_from t.end h.0 =
+    ap (tokens_from index) leads.whole ∙ blank_first leads.gap (leads.own ++ h.0) index leads.blank
     ∙ ap (λ n. tokens_from n (leads.own ++ h.0)) (sym leads.start) ∙ token_first t.kind t.start leads.own h.0 leads.token
     ∙ ap (λ n. record { kind = t.kind; start = t.start; end = n } ∷ tokens_from n h.0) (sym leads.end) in
     front ∙ ap (λ xs. t ∷ xs) (one_list ts t.end h.0 h.2)
@@ -152,9 +152,9 @@ word_over [] (u ∷ us) may_end g w = let both = both_true (is_piece u) (may_fol
 word_over (u ∷ gap) own may_end g w = rw (no_piece u g.0, g.0) (word_over gap own false g.1 w)
 
 -- a piece in front of the word that goes on after it
-piece_joins : (place : ℕ) (u : LineUnit) (us : List LineUnit) (rest : List TokenAt) → is_piece u ≡ true → goes_on us ≡ true → LexesAs (place + unit_len u) us rest → LexesAs place (u ∷ us) (with_first_start place rest)
-piece_joins place u us [] p g h = absurd (let x : true ≡ false = sym g ∙ blank_stops us h in cc)
-piece_joins place u us (t ∷ ts) p g h =
+piece_joins : (index : ℕ) (u : LineUnit) (us : List LineUnit) (rest : List TokenAt) → is_piece u ≡ true → goes_on us ≡ true → LexesAs (index + unit_len u) us rest → LexesAs index (u ∷ us) (with_first_start index rest)
+piece_joins index u us [] p g h = absurd (let x : true ≡ false = sym g ∙ blank_stops us h in cc)
+piece_joins index u us (t ∷ ts) p g h =
     let leads = h.1 in
     let gap = gap_continues leads.gap (leads.own ++ h.0) leads.blank (ap goes_on (sym leads.whole) ∙ g) in
     let word = goes_on_in t.kind leads.own h.0 leads.token gap.1 in
@@ -173,13 +173,13 @@ piece_joins place u us (t ∷ ts) p g h =
     )
 
 -- a unit that is a token by itself
-alone : (place : ℕ) (u : LineUnit) (us : List LineUnit) (kind : TokenKind) (end : ℕ) → end ≡ place + unit_len u → IsToken kind (u ∷ []) us → Leads place (u ∷ us) (record { kind = kind; start = place; end = end }) us
-alone place u us kind end e token = record { gap = []; own = u ∷ []; whole = refl; blank = tt; start = omega arith; end = omega arith; token = token }
+alone : (index : ℕ) (u : LineUnit) (us : List LineUnit) (kind : TokenKind) (end : ℕ) → end ≡ index + unit_len u → IsToken kind (u ∷ []) us → Leads index (u ∷ us) (record { kind = kind; start = index; end = end }) us
+alone index u us kind end e token = record { gap = []; own = u ∷ []; whole = refl; blank = tt; start = omega arith; end = omega arith; token = token }
 
 -- a blank unit in front
-blank_joins : (place : ℕ) (u : LineUnit) (us : List LineUnit) (rest : List TokenAt) → is_blank u ≡ true → LexesAs (place + unit_len u) us rest → LexesAs place (u ∷ us) rest
-blank_joins place u us [] b h = (b, h)
-blank_joins place u us (t ∷ ts) b h = let leads = h.1 in (
+blank_joins : (index : ℕ) (u : LineUnit) (us : List LineUnit) (rest : List TokenAt) → is_blank u ≡ true → LexesAs (index + unit_len u) us rest → LexesAs index (u ∷ us) rest
+blank_joins index u us [] b h = (b, h)
+blank_joins index u us (t ∷ ts) b h = let leads = h.1 in (
   h.0,
   record {
     gap = u ∷ leads.gap;
@@ -200,41 +200,41 @@ blank_else u p colon bar = elim (cases_Bool (is_blank u)) [
 ]
 
 -- what a unit adds in front is a list of tokens again, where a `|` in front is one alone
-with_unit_lexes : (place : ℕ) (u : LineUnit) (us : List LineUnit) (rest : List TokenAt) → (is_byte 124 u ≡ true → (begins_with 124 us ≡ false) × (begins_with 64 us ≡ false))
-    → LexesAs (place + unit_len u) us rest → LexesAs place (u ∷ us) (with_unit place u us rest)
-with_unit_lexes place u us rest longest h = elim (cases_Bool (is_piece u)) [
+with_unit_lexes : (index : ℕ) (u : LineUnit) (us : List LineUnit) (rest : List TokenAt) → (is_byte 124 u ≡ true → (begins_with 124 us ≡ false) × (begins_with 64 us ≡ false))
+    → LexesAs (index + unit_len u) us rest → LexesAs index (u ∷ us) (with_unit index u us rest)
+with_unit_lexes index u us rest longest h = elim (cases_Bool (is_piece u)) [
   | inl p ↦ elim (cases_Bool (goes_on us)) [
-    | inl g ↦ rw (p, g) (piece_joins place u us rest p g h)
-    | inr g ↦ rw (p, g) (us, alone place u us Word (place + unit_len u) refl (rw p refl, g), h)
+    | inl g ↦ rw (p, g) (piece_joins index u us rest p g h)
+    | inr g ↦ rw (p, g) (us, alone index u us Word (index + unit_len u) refl (rw p refl, g), h)
   ]
   | inr p ↦ elim (cases_Bool (is_byte 58 u)) [
-    | inl c ↦ rw (p, c) (us, alone place u us Colon (place + 1) (omega (arith, byte_len 58 u c)) (ap (λ v. v ∷ []) (byte_is 58 u c)), subst (λ n. LexesAs (place + n) us rest) (byte_len 58 u c) h)
+    | inl c ↦ rw (p, c) (us, alone index u us Colon (index + 1) (omega (arith, byte_len 58 u c)) (ap (λ v. v ∷ []) (byte_is 58 u c)), subst (λ n. LexesAs (index + n) us rest) (byte_len 58 u c) h)
     | inr c ↦ elim (cases_Bool (is_byte 124 u)) [
-      | inl b ↦ rw (p, c, b) (us, alone place u us Bar (place + 1) (omega (arith, byte_len 124 u b)) (ap (λ v. v ∷ []) (byte_is 124 u b), (longest b).0, (longest b).1), subst (λ n. LexesAs (place + n) us rest) (byte_len 124 u b) h)
-      | inr b ↦ rw (p, c, b) (blank_joins place u us rest (blank_else u p c b) h)
+      | inl b ↦ rw (p, c, b) (us, alone index u us Bar (index + 1) (omega (arith, byte_len 124 u b)) (ap (λ v. v ∷ []) (byte_is 124 u b), (longest b).0, (longest b).1), subst (λ n. LexesAs (index + n) us rest) (byte_len 124 u b) h)
+      | inr b ↦ rw (p, c, b) (blank_joins index u us rest (blank_else u p c b) h)
     ]
   ]
 ]
 
 -- two units that are a token
-pair_leads : (place : ℕ) (u v : LineUnit) (us : List LineUnit) (kind : TokenKind) → unit_len u ≡ 1 → unit_len v ≡ 1 → IsToken kind (u ∷ v ∷ []) us → Leads place (u ∷ v ∷ us) (record { kind = kind; start = place; end = place + 2 }) us
-pair_leads place u v us kind one other token = record { gap = []; own = u ∷ v ∷ []; whole = refl; blank = tt; start = omega arith; end = omega arith; token = token }
+pair_leads : (index : ℕ) (u v : LineUnit) (us : List LineUnit) (kind : TokenKind) → unit_len u ≡ 1 → unit_len v ≡ 1 → IsToken kind (u ∷ v ∷ []) us → Leads index (u ∷ v ∷ us) (record { kind = kind; start = index; end = index + 2 }) us
+pair_leads index u v us kind one other token = record { gap = []; own = u ∷ v ∷ []; whole = refl; blank = tt; start = omega arith; end = omega arith; token = token }
 
 two_units : {u v a b : LineUnit} → u ≡ a → v ≡ b → ◌≡◌ {A = List LineUnit} (u ∷ v ∷ []) (a ∷ b ∷ [])
 two_units p q = rw (p, q) refl
 
-lexes : (us : List LineUnit) (place : ℕ) → LexesAs place us (tokens_from place us)
-lexes [] place = tt
-lexes (u ∷ []) place = with_unit_lexes place u [] [] (λ _. (refl, refl)) tt
-lexes (u ∷ v ∷ us) place = elim (cases_Bool (is_byte 124 u)) [
-  | inr n ↦ subst (LexesAs place (u ∷ v ∷ us)) (sym (tokens_with place u (v ∷ us) n))
-      (with_unit_lexes place u (v ∷ us) _ (λ b. absurd (let x : true ≡ false = sym b ∙ n in cc)) (lexes (v ∷ us) (place + unit_len u)))
+lexes : (us : List LineUnit) (index : ℕ) → LexesAs index us (tokens_from index us)
+lexes [] index = tt
+lexes (u ∷ []) index = with_unit_lexes index u [] [] (λ _. (refl, refl)) tt
+lexes (u ∷ v ∷ us) index = elim (cases_Bool (is_byte 124 u)) [
+  | inr n ↦ subst (LexesAs index (u ∷ v ∷ us)) (sym (tokens_with index u (v ∷ us) n))
+      (with_unit_lexes index u (v ∷ us) _ (λ b. absurd (let x : true ≡ false = sym b ∙ n in cc)) (lexes (v ∷ us) (index + unit_len u)))
   | inl b ↦ elim (cases_Bool (is_byte 124 v)) [
-    | inl d ↦ rw (b, d) (us, pair_leads place u v us DoubleBar (byte_len 124 u b) (byte_len 124 v d) (two_units (byte_is 124 u b) (byte_is 124 v d)), lexes us (place + 2))
+    | inl d ↦ rw (b, d) (us, pair_leads index u v us DoubleBar (byte_len 124 u b) (byte_len 124 v d) (two_units (byte_is 124 u b) (byte_is 124 v d)), lexes us (index + 2))
     | inr d ↦ elim (cases_Bool (is_byte 64 v)) [
-      | inl a ↦ rw (b, d, a) (us, pair_leads place u v us BarAt (byte_len 124 u b) (byte_len 64 v a) (two_units (byte_is 124 u b) (byte_is 64 v a)), lexes us (place + 2))
-      | inr a ↦ subst (λ w. LexesAs place (w ∷ v ∷ us) (tokens_from place (w ∷ v ∷ us))) (sym (byte_is 124 u b))
-          (rw (d, a) (with_unit_lexes place (Byte 124) (v ∷ us) (tokens_from (place + 1) (v ∷ us)) (λ _. (d, a)) (lexes (v ∷ us) (place + 1))))
+      | inl a ↦ rw (b, d, a) (us, pair_leads index u v us BarAt (byte_len 124 u b) (byte_len 64 v a) (two_units (byte_is 124 u b) (byte_is 64 v a)), lexes us (index + 2))
+      | inr a ↦ subst (λ w. LexesAs index (w ∷ v ∷ us) (tokens_from index (w ∷ v ∷ us))) (sym (byte_is 124 u b))
+          (rw (d, a) (with_unit_lexes index (Byte 124) (v ∷ us) (tokens_from (index + 1) (v ∷ us)) (λ _. (d, a)) (lexes (v ∷ us) (index + 1))))
     ]
   ]
 ]

@@ -6,7 +6,7 @@ use Rattle.std.specs.List.{AllByRecursion}
 use Rattle.ninja_text.proofs.ReducedList.{IsFixed, reduced-fixed, reduced-each, behind-pair, behind-none, behind-stays, parent-not-name}
 use Rattle.ninja_text.proofs.KnownBytes.{rest-is}
 use Rattle.ninja_text.specs.Reduction.{is_current, is_parent, is_name, reduced}
-use Rattle.ninja_text.specs.ComponentLists.{list_text, appended, LacksSlash, EachLacksSlash}
+use Rattle.ninja_text.specs.inner.ComponentLists.{list_text, appended, LacksSlash, EachLacksSlash}
 
 -- the last component, or none
 pub ends : (l : List (List ℕ)) → (l ≡ []) ⊎ ((init : List (List ℕ)) × (last : List ℕ) × (l ≡ init ++ last ∷ []))
@@ -50,7 +50,7 @@ pub list_text-last : (init : List (List ℕ)) (last : List ℕ) → list_text (i
 list_text-last [] last = refl
 list_text-last (x ∷ xs) last = list_text-behind x xs last ∙ sym (append_assoc (list_text (x ∷ xs)) (47 ∷ []) last)
 
--- the place behind the last slash is where the last component begins
+-- the index behind the last slash is where the last component begins
 not-after : (p last : List ℕ) (start : ℕ) → LacksSlash last → start ≤ length (p ++ last) → (0 < start → get_or (p ++ last) (start - 1) 0 ≡ 47) → length p < start → ⊥
 not-after p last start h bound slash lt =
     let k : ℕ = start - 1 - length p in

@@ -4,7 +4,8 @@ use Rattle.std.specs.List.{flat_map, AllByRecursion}
 use Rattle.std.proofs.lemmas.List.{append-nil}
 use Rattle.ninja_text.specs.Lines.{line_limit, IsLine, LogicalLine, text_of, is_comment}
 use Rattle.ninja_text.specs.Cutting.{CutterState, Cuts, feed_outcome, Feeds, waiting_line, Finishes}
-use Rattle.ninja_text.specs.LineReading.{LeadTo, HasLent, BeginsWith, IsNextFault, HasFailureBehind, ReadsLine, EndsLines, failure_of}
+use Rattle.ninja_text.specs.LineReading.{LeadTo, HasLent, BeginsWith, IsNextFault, HasFailureBehind, ReadsLine, EndsLines}
+use Rattle.ninja_text.specs.inner.PieceReading.{failure_of}
 use Rattle.ninja_text.specs.declared.faults.CutFault.{CutFault}
 use Rattle.ninja_text.specs.declared.faults.CutFault.TheVariants.{LineTooLong, Truncated}
 use Rattle.ninja_text.specs.declared.failure.Failure.{Failure}

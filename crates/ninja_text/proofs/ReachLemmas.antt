@@ -7,7 +7,8 @@ use Rattle.ninja_text.specs.Lines.{line_limit, line_end}
 use Rattle.ninja_text.specs.Scanning.{scan_from}
 use Rattle.ninja_text.specs.Cutting.{CutterState, feed_outcome}
 use Rattle.ninja_text.specs.declared.faults.CutFault.{CutFault}
-use Rattle.ninja_text.specs.Reaching.{Reaches, bytes_in}
+use Rattle.ninja_text.specs.inner.Reaching.{Reaches}
+use Rattle.ninja_text.specs.Phases.{bytes_in}
 use Rattle.ninja_text.specs.CutterViews.{state_in}
 use Rattle.ninja_text.specs.declared.cutter.Phase.{Phase}
 use Rattle.ninja_text.specs.declared.cutter.Reach.TheVariants.{Whole, Part, TooLong}

@@ -16,7 +16,7 @@ use Rattle.ninja_text.specs.Tokens.{TokenAt, is_blank, is_piece, unit_value, val
 use Rattle.ninja_text.specs.TokenLists.{total_len, begins_with, may_follow, is_word, IsToken, LexesAs}
 use Rattle.ninja_text.specs.Escapes.{is_escaped, is_unwritable, IsPiece, IsContinuation, IsGap, Spells}
 use Rattle.ninja_text.specs.Assignments.{after_run, is_name_unit, begins_with_equals, tail_units, SeenAssignment, with_bytes, assignment_of}
-use Rattle.ninja_text.specs.declared.assigning.AssignmentPlaces.{AssignmentPlaces}
+use Rattle.ninja_text.specs.declared.assigning.AssignmentIndexes.{AssignmentIndexes}
 use Rattle.ninja_text.specs.Meanings.{IsFaultless, IsReadAsSpelled, is_value_byte, IsValuePiece, SpellsValue, IsValueAsSpelled}
 use Rattle.ninja_text.proofs.ReducedList.{is_true}
 use Rattle.ninja_text.proofs.Spelling.{head-of, dollar-space}
@@ -130,12 +130,12 @@ part_spells text start us w part raw is =
 is_word_of : (kind : TokenKind) (own after : List LineUnit) → kind ≡ Word → IsToken kind own after → is_word own ≡ true
 is_word_of kind own after e h = (subst (λ k. IsToken k own after) e h).0
 
-tokens_read : (text : List ℕ) (ts : List TokenAt) (place : ℕ) (us : List LineUnit) → Remains text place us → LexesAs place us ts → AllByRecursion IsReadAsSpelled (map (with_raw text) ts)
-tokens_read text [] place us r h = tt
-tokens_read text (t ∷ ts) place us r h =
+tokens_read : (text : List ℕ) (ts : List TokenAt) (index : ℕ) (us : List LineUnit) → Remains text index us → LexesAs index us ts → AllByRecursion IsReadAsSpelled (map (with_raw text) ts)
+tokens_read text [] index us r h = tt
+tokens_read text (t ∷ ts) index us r h =
     let leads = h.1 in
     let own : Remains text t.start (leads.own ++ h.0) =
-    subst (λ n. Remains text n (leads.own ++ h.0)) (sym leads.start) (past_units text place leads.gap (leads.own ++ h.0) (subst (Remains text place) leads.whole r)) in
+    subst (λ n. Remains text n (leads.own ++ h.0)) (sym leads.start) (past_units text index leads.gap (leads.own ++ h.0) (subst (Remains text index) leads.whole r)) in
     let after : Remains text t.end h.0 = subst (λ n. Remains text n h.0) (sym leads.end) (past_units text t.start leads.own h.0 own) in (
       λ word. part_spells text t.start leads.own (is_word_of t.kind leads.own h.0 word leads.token) (first_part text t.start leads.own h.0 own) _ (ap (slice_range text t.start) leads.end),
       tokens_read text ts t.end h.0 after h.2,
@@ -190,23 +190,23 @@ value_spells (Byte b ∷ us) bytes p h =
     ([], h.0, h.1, ([], tt, refl), subst (λ xs. IsValuePiece xs b) (sym h.2) (refl, value_byte b q.0), (λ e. refl), value_spells us h.1 q.1 h.4, h.5)
 
 -- what remains of a text after a run of units, and after `=`
-past_run : (text : List ℕ) (test : LineUnit → Bool) (us : List LineUnit) (place : ℕ) → Remains text place us → Remains text (after_run test place us).place (after_run test place us).units
-past_run text test [] place r = r
-past_run text test (u ∷ us) place r = elim (cases_Bool (test u)) [
-  | inl t ↦ rw t (past_run text test us (place + unit_len u) (past_unit text place u us r))
+past_run : (text : List ℕ) (test : LineUnit → Bool) (us : List LineUnit) (index : ℕ) → Remains text index us → Remains text (after_run test index us).place (after_run test index us).units
+past_run text test [] index r = r
+past_run text test (u ∷ us) index r = elim (cases_Bool (test u)) [
+  | inl t ↦ rw t (past_run text test us (index + unit_len u) (past_unit text index u us r))
   | inr f ↦ rw f r
 ]
 
-past_equals : (text : List ℕ) (us : List LineUnit) (place : ℕ) → begins_with_equals us ≡ true → Remains text place us → Remains text (place + 1) (tail_units us)
-past_equals text [] place e r = absurd (let x : false ≡ true = e in cc)
-past_equals text (u ∷ us) place e r = subst (λ n. Remains text (place + n) us) (byte_len 61 u e) (past_unit text place u us r)
+past_equals : (text : List ℕ) (us : List LineUnit) (index : ℕ) → begins_with_equals us ≡ true → Remains text index us → Remains text (index + 1) (tail_units us)
+past_equals text [] index e r = absurd (let x : false ≡ true = e in cc)
+past_equals text (u ∷ us) index e r = subst (λ n. Remains text (index + n) us) (byte_len 61 u e) (past_unit text index u us r)
 
-rest_read : (text : List ℕ) (place : ℕ) (us : List LineUnit) → Remains text place us → SpellsValue (drop place text) (value_of (drop place text))
-rest_read text place us r =
-    subst (λ xs. SpellsValue xs (value_of xs)) (sym (rest_is text place us r))
+rest_read : (text : List ℕ) (index : ℕ) (us : List LineUnit) → Remains text index us → SpellsValue (drop index text) (value_of (drop index text))
+rest_read text index us r =
+    subst (λ xs. SpellsValue xs (value_of xs)) (sym (rest_is text index us r))
     (subst (SpellsValue r.bytes) (sym (ap (flat_map unit_value) (read_back us r.bytes r.proper r.texts))) (value_spells us r.bytes r.proper r.texts))
 
-value_is : (text : List ℕ) (p : AssignmentPlaces) (a : SeenAssignment) → SpellsValue (drop p.value_start text) (value_of (drop p.value_start text)) → ◌≡◌ {A = Option SeenAssignment} (Some (with_bytes text p)) (Some a) → IsValueAsSpelled a
+value_is : (text : List ℕ) (p : AssignmentIndexes) (a : SeenAssignment) → SpellsValue (drop p.value_start text) (value_of (drop p.value_start text)) → ◌≡◌ {A = Option SeenAssignment} (Some (with_bytes text p)) (Some a) → IsValueAsSpelled a
 value_is text p a h e = let same : with_bytes text p ≡ a = cc in subst IsValueAsSpelled same h
 
 -- of the value of a line without fault that is an assignment

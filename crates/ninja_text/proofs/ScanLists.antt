@@ -7,25 +7,25 @@ use Rattle.ninja_text.specs.declared.scan.ScanState.TheVariants.{Start, Comment,
 use Rattle.ninja_text.specs.declared.scan.Scanned.{Scanned}
 use Rattle.ninja_text.specs.declared.scan.Scanned.TheVariants.{End, Open}
 
--- the end at a place: its line is one byte longer, and its text no longer than the place
-record EndsAt (place : ℕ) (r : Scanned) : Type 0 where
+-- the end at an index: its line is one byte longer, and its text no longer than the index
+record EndsAt (index : ℕ) (r : Scanned) : Type 0 where
   text : ℕ
-  text_fits : text ≤ place
-  is : r ≡ End text (place + 1)
+  text_fits : text ≤ index
+  is : r ≡ End text (index + 1)
 
-ends_at : (place : ℕ) (s : ScanState) → EndsAt place (scan_end place s)
-ends_at place Return = record { text = place - 1; text_fits = omega arith; is = refl }
-ends_at place CommentReturn = record { text = place - 1; text_fits = omega arith; is = refl }
-ends_at place Start = record { text = place; text_fits = omega arith; is = refl }
-ends_at place Comment = record { text = place; text_fits = omega arith; is = refl }
-ends_at place Plain = record { text = place; text_fits = omega arith; is = refl }
-ends_at place Dollar = record { text = place; text_fits = omega arith; is = refl }
-ends_at place DollarReturn = record { text = place; text_fits = omega arith; is = refl }
+ends_at : (index : ℕ) (s : ScanState) → EndsAt index (scan_end index s)
+ends_at index Return = record { text = index - 1; text_fits = omega arith; is = refl }
+ends_at index CommentReturn = record { text = index - 1; text_fits = omega arith; is = refl }
+ends_at index Start = record { text = index; text_fits = omega arith; is = refl }
+ends_at index Comment = record { text = index; text_fits = omega arith; is = refl }
+ends_at index Plain = record { text = index; text_fits = omega arith; is = refl }
+ends_at index Dollar = record { text = index; text_fits = omega arith; is = refl }
+ends_at index DollarReturn = record { text = index; text_fits = omega arith; is = refl }
 
 -- an open scan goes on
-open_more : (place : ℕ) (s s' : ScanState) (k : ScanState → Scanned) (o : Option ScanState) → goes_on_from (scan_end place s) k o ≡ Open s' → (next : ScanState) × (o ≡ Some next) × (k next ≡ Open s')
-open_more place s s' k None h = let e : Open s' ≡ End (ends_at place s).text (place + 1) = sym h ∙ (ends_at place s).is in cc
-open_more place s s' k (Some next) h = (next, refl, h)
+open_more : (index : ℕ) (s s' : ScanState) (k : ScanState → Scanned) (o : Option ScanState) → goes_on_from (scan_end index s) k o ≡ Open s' → (next : ScanState) × (o ≡ Some next) × (k next ≡ Open s')
+open_more index s s' k None h = let e : Open s' ≡ End (ends_at index s).text (index + 1) = sym h ∙ (ends_at index s).is in cc
+open_more index s s' k (Some next) h = (next, refl, h)
 
 pub scan_open_append : (xs ys : List ℕ) (n : ℕ) (s s' : ScanState) → scan_from n s xs ≡ Open s' → scan_from n s (xs ++ ys) ≡ scan_from (n + length xs) s' ys
 scan_open_append [] ys n s s' h = let e : s ≡ s' = cc in rw (e, add-zero) refl

@@ -11,7 +11,7 @@ use Rattle.ninja_text.specs.Escapes.{is_unwritable, IsWritable}
 use Rattle.ninja_text.specs.Reduction.{is_current, is_parent, is_name, reduced, ReducesTo, components}
 use Rattle.ninja_text.specs.Paths.{path_text, below, relative_or, seen_from, is_empty, is_rooted, canonical_of, path_of, IsPath}
 use Rattle.ninja_text.specs.PathShape.{parts, names, IsShaped}
-use Rattle.ninja_text.specs.ComponentLists.{list_text}
+use Rattle.ninja_text.specs.inner.ComponentLists.{list_text}
 use Rattle.ninja_text.proofs.ReducedList.{IsFixed, either_way, reduced-fixed, reduced-each, reaches, reaches-only}
 use Rattle.ninja_text.proofs.Components.{below-some}
 use Rattle.ninja_text.proofs.Canonical.{facts, none-clean, whole-list, rooted-text, reduced-text, is-empty, some-not-empty}

@@ -6,7 +6,7 @@ use Rattle.std.proofs.lemmas.Bool.{cases_Bool}
 use Rattle.std.proofs.lemmas.List.{take-append-drop, length-take}
 use Rattle.std.proofs.lemmas.List.Folds.{drop_split}
 use Rattle.ninja_text.specs.Assignments.{LiesIn, with_bytes}
-use Rattle.ninja_text.specs.declared.assigning.AssignmentPlaces.{AssignmentPlaces}
+use Rattle.ninja_text.specs.declared.assigning.AssignmentIndexes.{AssignmentIndexes}
 use Rattle.ninja_text.specs.Units.{units, with_continuation, unit_len, is_byte}
 use Rattle.ninja_text.specs.declared.unit.LineUnit.{LineUnit}
 use Rattle.ninja_text.specs.declared.unit.LineUnit.TheVariants.{Continuation, Escape, Byte}
@@ -46,54 +46,54 @@ total_units (a ∷ b ∷ c ∷ bytes) = elim (cases_Bool (a == 36)) [
   | inr d ↦ rw d (let later = total_units (b ∷ c ∷ bytes) in omega arith)
 ]
 
--- from a place up to a limit each token has at least one byte, and begins where the one before it ends, or after that
+-- from an index up to a limit each token has at least one byte, and begins where the one before it ends, or after that
 abbrev Rise : ℕ → ℕ → List TokenAt → Type 0
-Rise place limit [] = place ≤ limit
-Rise place limit (t ∷ ts) = (place ≤ t.start) × (t.start < t.end) × Rise t.end limit ts
+Rise index limit [] = index ≤ limit
+Rise index limit (t ∷ ts) = (index ≤ t.start) × (t.start < t.end) × Rise t.end limit ts
 
-rise_within : (place limit : ℕ) (ts : List TokenAt) → Rise place limit ts → place ≤ limit
-rise_within place limit [] h = h
-rise_within place limit (t ∷ ts) h = omega (arith, h.0, h.1, rise_within t.end limit ts h.2)
+rise_within : (index limit : ℕ) (ts : List TokenAt) → Rise index limit ts → index ≤ limit
+rise_within index limit [] h = h
+rise_within index limit (t ∷ ts) h = omega (arith, h.0, h.1, rise_within t.end limit ts h.2)
 
-rise_earlier : (from place limit : ℕ) (ts : List TokenAt) → from ≤ place → Rise place limit ts → Rise from limit ts
-rise_earlier from place limit [] le h = omega (arith, h)
-rise_earlier from place limit (t ∷ ts) le h = (omega (arith, h.0), h.1, h.2)
+rise_earlier : (from index limit : ℕ) (ts : List TokenAt) → from ≤ index → Rise index limit ts → Rise from limit ts
+rise_earlier from index limit [] le h = omega (arith, h)
+rise_earlier from index limit (t ∷ ts) le h = (omega (arith, h.0), h.1, h.2)
 
-rise_first : (from place limit : ℕ) (ts : List TokenAt) → from < place → Rise place limit ts → Rise from limit (with_first_start from ts)
-rise_first from place limit [] lt h = omega (arith, h)
-rise_first from place limit (t ∷ ts) lt h = (omega arith, omega (arith, h.0, h.1), h.2)
+rise_first : (from index limit : ℕ) (ts : List TokenAt) → from < index → Rise index limit ts → Rise from limit (with_first_start from ts)
+rise_first from index limit [] lt h = omega (arith, h)
+rise_first from index limit (t ∷ ts) lt h = (omega arith, omega (arith, h.0, h.1), h.2)
 
 piece_len : (u : LineUnit) → is_piece u ≡ true → 0 < unit_len u
 piece_len (Continuation len) h = absurd (let x : false ≡ true = h in cc)
 piece_len (Escape b) h = omega arith
 piece_len (Byte b) h = omega arith
 
-rise_with : (place limit : ℕ) (u : LineUnit) (us : List LineUnit) (rest : List TokenAt) → Rise (place + unit_len u) limit rest → Rise place limit (with_unit place u us rest)
-rise_with place limit u us rest h = elim (cases_Bool (is_piece u)) [
+rise_with : (index limit : ℕ) (u : LineUnit) (us : List LineUnit) (rest : List TokenAt) → Rise (index + unit_len u) limit rest → Rise index limit (with_unit index u us rest)
+rise_with index limit u us rest h = elim (cases_Bool (is_piece u)) [
   | inl p ↦ elim (cases_Bool (goes_on us)) [
-    | inl g ↦ rw (p, g) (rise_first place (place + unit_len u) limit rest (omega (arith, piece_len u p)) h)
+    | inl g ↦ rw (p, g) (rise_first index (index + unit_len u) limit rest (omega (arith, piece_len u p)) h)
     | inr g ↦ rw (p, g) (omega arith, omega (arith, piece_len u p), h)
   ]
   | inr p ↦ elim (cases_Bool (is_byte 58 u)) [
-    | inl c ↦ rw (p, c) (omega arith, omega arith, subst (λ n. Rise (place + n) limit rest) (byte_len 58 u c) h)
+    | inl c ↦ rw (p, c) (omega arith, omega arith, subst (λ n. Rise (index + n) limit rest) (byte_len 58 u c) h)
     | inr c ↦ elim (cases_Bool (is_byte 124 u)) [
-      | inl b ↦ rw (p, c, b) (omega arith, omega arith, subst (λ n. Rise (place + n) limit rest) (byte_len 124 u b) h)
-      | inr b ↦ rw (p, c, b) (rise_earlier place (place + unit_len u) limit rest (omega arith) h)
+      | inl b ↦ rw (p, c, b) (omega arith, omega arith, subst (λ n. Rise (index + n) limit rest) (byte_len 124 u b) h)
+      | inr b ↦ rw (p, c, b) (rise_earlier index (index + unit_len u) limit rest (omega arith) h)
     ]
   ]
 ]
 
-rise_from : (us : List LineUnit) (place limit : ℕ) → place + total us ≤ limit → Rise place limit (tokens_from place us)
-rise_from [] place limit h = omega arith
-rise_from (u ∷ []) place limit h = rise_with place limit u [] [] (omega arith)
-rise_from (u ∷ v ∷ us) place limit h = elim (cases_Bool (is_byte 124 u)) [
-  | inr n ↦ subst (Rise place limit) (sym (tokens_with place u (v ∷ us) n)) (rise_with place limit u (v ∷ us) _ (rise_from (v ∷ us) (place + unit_len u) limit (omega arith)))
+rise_from : (us : List LineUnit) (index limit : ℕ) → index + total us ≤ limit → Rise index limit (tokens_from index us)
+rise_from [] index limit h = omega arith
+rise_from (u ∷ []) index limit h = rise_with index limit u [] [] (omega arith)
+rise_from (u ∷ v ∷ us) index limit h = elim (cases_Bool (is_byte 124 u)) [
+  | inr n ↦ subst (Rise index limit) (sym (tokens_with index u (v ∷ us) n)) (rise_with index limit u (v ∷ us) _ (rise_from (v ∷ us) (index + unit_len u) limit (omega arith)))
   | inl b ↦ elim (cases_Bool (is_byte 124 v)) [
-    | inl d ↦ rw (b, d) (omega arith, omega arith, rise_from us (place + 2) limit (omega (arith, byte_len 124 u b, byte_len 124 v d)))
+    | inl d ↦ rw (b, d) (omega arith, omega arith, rise_from us (index + 2) limit (omega (arith, byte_len 124 u b, byte_len 124 v d)))
     | inr d ↦ elim (cases_Bool (is_byte 64 v)) [
-      | inl a ↦ rw (b, d, a) (omega arith, omega arith, rise_from us (place + 2) limit (omega (arith, byte_len 124 u b, byte_len 64 v a)))
-      | inr a ↦ subst (λ w. Rise place limit (tokens_from place (w ∷ v ∷ us))) (sym (byte_is 124 u b))
-          (rw (d, a) (omega arith, omega arith, rise_from (v ∷ us) (place + 1) limit (omega (arith, byte_len 124 u b))))
+      | inl a ↦ rw (b, d, a) (omega arith, omega arith, rise_from us (index + 2) limit (omega (arith, byte_len 124 u b, byte_len 64 v a)))
+      | inr a ↦ subst (λ w. Rise index limit (tokens_from index (w ∷ v ∷ us))) (sym (byte_is 124 u b))
+          (rw (d, a) (omega arith, omega arith, rise_from (v ∷ us) (index + 1) limit (omega (arith, byte_len 124 u b))))
     ]
   ]
 ]
@@ -102,13 +102,13 @@ rise_from (u ∷ v ∷ us) place limit h = elim (cases_Bool (is_byte 124 u)) [
 rise_all : (text : List ℕ) → Rise 0 (length text) (tokens text)
 rise_all text = rise_from (units text) 0 (length text) (omega (arith, total_units text))
 
-slices_of : (text : List ℕ) (place : ℕ) (ts : List TokenAt) → Rise place (length text) ts → AllByRecursion (IsSlice text) (map (with_raw text) ts)
-slices_of text place [] h = tt
-slices_of text place (t ∷ ts) h = (record { some = h.1; within = rise_within t.end (length text) ts h.2; raw = refl }, slices_of text t.end ts h.2)
+slices_of : (text : List ℕ) (index : ℕ) (ts : List TokenAt) → Rise index (length text) ts → AllByRecursion (IsSlice text) (map (with_raw text) ts)
+slices_of text index [] h = tt
+slices_of text index (t ∷ ts) h = (record { some = h.1; within = rise_within t.end (length text) ts h.2; raw = refl }, slices_of text t.end ts h.2)
 
-rising : (text : List ℕ) (place limit : ℕ) (ts : List TokenAt) → Rise place limit ts → RiseFrom place (map (with_raw text) ts)
-rising text place limit [] h = tt
-rising text place limit (t ∷ ts) h = (h.0, rising text t.end limit ts h.2)
+rising : (text : List ℕ) (index limit : ℕ) (ts : List TokenAt) → Rise index limit ts → RiseFrom index (map (with_raw text) ts)
+rising text index limit [] h = tt
+rising text index limit (t ∷ ts) h = (h.0, rising text t.end limit ts h.2)
 
 pub tokens_are_slices : (text : List ℕ) → AllByRecursion (IsSlice text) (seen_tokens text)
 tokens_are_slices text = slices_of text 0 (tokens text) (rise_all text)
@@ -116,8 +116,8 @@ tokens_are_slices text = slices_of text 0 (tokens text) (rise_all text)
 pub tokens_rise : (text : List ℕ) → RiseFrom 0 (seen_tokens text)
 tokens_rise text = rising text 0 (length text) (tokens text) (rise_all text)
 
--- the parts of an assignment, by their places
-pub lies_in : (text : List ℕ) (a : AssignmentPlaces) → a.name_start < a.name_end → a.name_end ≤ a.value_start → a.name_end ≤ length text → LiesIn text (with_bytes text a)
+-- the parts of an assignment, by their indexes
+pub lies_in : (text : List ℕ) (a : AssignmentIndexes) → a.name_start < a.name_end → a.name_end ≤ a.value_start → a.name_end ≤ length text → LiesIn text (with_bytes text a)
 lies_in text a some past within = record {
   some = rw (length-take (a.name_end - a.name_start) (drop a.name_start text), length-drop a.name_start text) (omega arith);
   between = slice_range text a.name_end a.value_start;

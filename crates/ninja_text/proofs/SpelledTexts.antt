@@ -110,11 +110,11 @@ module _ {X : Type 0} (view : TokenKind → List ℕ → X) where
     written_text said = ap (λ t. text_of (t ++ 10 ∷ [])) (sym w.text_is) ∙ text_is w.units w.sound (ap (λ t. is_comment (t ++ 10 ∷ [])) w.text_is ∙ said) ∙ w.text_is
 
 -- a first token, and where it stands
-pub record First (place : ℕ) (ts : List TokenAt) : Type 0 where
+pub record First (index : ℕ) (ts : List TokenAt) : Type 0 where
   pub token : TokenAt
   pub rest : List TokenAt
   pub are : ts ≡ token ∷ rest
-  pub at : token.start ≡ place
+  pub at : token.start ≡ index
 
 -- the first token of what begins with a word stands at its beginning
 word_first : (us : List LineUnit) (n : ℕ) → list_all is_sound us ≡ true → goes_on us ≡ true → First n (tokens_from n us)

@@ -7,7 +7,8 @@ use Rattle.ninja_text.specs.Units.{units, unit_len, is_byte, is_continuation}
 use Rattle.ninja_text.specs.declared.unit.LineUnit.{LineUnit}
 use Rattle.ninja_text.specs.declared.unit.LineUnit.TheVariants.{Continuation, Escape, Byte}
 use Rattle.ninja_text.specs.declared.token.TokenKind.TheVariants.{Word, Bar, DoubleBar, BarAt, Colon}
-use Rattle.ninja_text.specs.Tokens.{TokenAt, is_blank, is_piece, goes_on, with_first_start, with_unit, tokens_from, tokens_at, BeginsToken, BeginsPiece, BeginsBar}
+use Rattle.ninja_text.specs.Tokens.{TokenAt, is_blank, is_piece, goes_on, with_first_start, with_unit, tokens_from, tokens_at}
+use Rattle.ninja_text.specs.inner.TokenStarts.{BeginsToken, BeginsPiece, BeginsBar}
 
 -- all but a bar add to the tokens of what follows
 pub tokens_with : (s : ℕ) (u : LineUnit) (us : List LineUnit) → is_byte 124 u ≡ false → tokens_from s (u ∷ us) ≡ with_unit s u us (tokens_from (s + unit_len u) us)
@@ -61,61 +62,61 @@ module _ (text : List ℕ) (s : ℕ) where
 
 -- the word from start that ends here so far, and goes on where a piece follows
 abbrev pub word_so_far : List ℕ → ℕ → ℕ → ℕ → List TokenAt
-word_so_far text start end place = if goes_on (units (drop place text)) then with_first_start start (tokens_at text place) else (record { kind = Word; start = start; end = end } ∷ tokens_at text place)
+word_so_far text start end index = if goes_on (units (drop index text)) then with_first_start start (tokens_at text index) else (record { kind = Word; start = start; end = end } ∷ tokens_at text index)
 
 pub goes_on_piece : (u : LineUnit) (us : List LineUnit) → is_piece u ≡ true → goes_on (u ∷ us) ≡ true
 goes_on_piece (Continuation len) us h = absurd (let x : false ≡ true = h in cc)
 goes_on_piece (Escape b) us h = refl
 goes_on_piece (Byte b) us h = h
 
-widened_again : (start place : ℕ) (ts : List TokenAt) → with_first_start start (with_first_start place ts) ≡ with_first_start start ts
-widened_again start place [] = refl
-widened_again start place (t ∷ ts) = refl
+widened_again : (start index : ℕ) (ts : List TokenAt) → with_first_start start (with_first_start index ts) ≡ with_first_start start ts
+widened_again start index [] = refl
+widened_again start index (t ∷ ts) = refl
 
 pub continuation_blank : (u : LineUnit) → is_continuation u ≡ true → is_blank u ≡ true
 continuation_blank (Continuation len) h = refl
 continuation_blank (Escape b) h = absurd (let x : false ≡ true = h in cc)
 continuation_blank (Byte b) h = absurd (let x : false ≡ true = h in cc)
 
--- a unit that stands at a place, and its length
-pub record Stands (text : List ℕ) (place n : ℕ) (u : LineUnit) : Type 0 where
+-- a unit that stands at an index, and its length
+pub record Stands (text : List ℕ) (index n : ℕ) (u : LineUnit) : Type 0 where
   pub len : n ≡ unit_len u
-  pub first : units (drop place text) ≡ u ∷ units (drop (place + n) text)
+  pub first : units (drop index text) ≡ u ∷ units (drop (index + n) text)
 
-pub stands : (text : List ℕ) (place n : ℕ) (u : LineUnit) → n ≡ unit_len u → units (drop place text) ≡ u ∷ units (drop (place + unit_len u) text) → Stands text place n u
-stands text place n u len first = record { len = len; first = rw len first }
+pub stands : (text : List ℕ) (index n : ℕ) (u : LineUnit) → n ≡ unit_len u → units (drop index text) ≡ u ∷ units (drop (index + unit_len u) text) → Stands text index n u
+stands text index n u len first = record { len = len; first = rw len first }
 
-module _ (text : List ℕ) (place n : ℕ) (u : LineUnit) (unit : Stands text place n u) where
-  pub blank_adds_none : is_blank u ≡ true → tokens_at text (place + n) ≡ tokens_at text place
-  blank_adds_none h = sym (ap (tokens_from place) unit.first ∙ tokens_blank place u _ h ∙ ap (λ k. tokens_from (place + k) (units (drop (place + n) text))) (sym unit.len))
+module _ (text : List ℕ) (index n : ℕ) (u : LineUnit) (unit : Stands text index n u) where
+  pub blank_adds_none : is_blank u ≡ true → tokens_at text (index + n) ≡ tokens_at text index
+  blank_adds_none h = sym (ap (tokens_from index) unit.first ∙ tokens_blank index u _ h ∙ ap (λ k. tokens_from (index + k) (units (drop (index + n) text))) (sym unit.len))
 
-  pub word_begins : is_piece u ≡ true → word_so_far text place (place + n) (place + n) ≡ tokens_at text place
-  word_begins h = sym (ap (tokens_from place) unit.first ∙ tokens_piece place u _ h ∙ ap (λ k. if goes_on (units (drop (place + n) text)) then with_first_start place (tokens_from (place + k) (units (drop (place + n) text)))
-      else (record { kind = Word; start = place; end = place + k } ∷ tokens_from (place + k) (units (drop (place + n) text)))) (sym unit.len))
+  pub word_begins : is_piece u ≡ true → word_so_far text index (index + n) (index + n) ≡ tokens_at text index
+  word_begins h = sym (ap (tokens_from index) unit.first ∙ tokens_piece index u _ h ∙ ap (λ k. if goes_on (units (drop (index + n) text)) then with_first_start index (tokens_from (index + k) (units (drop (index + n) text)))
+      else (record { kind = Word; start = index; end = index + k } ∷ tokens_from (index + k) (units (drop (index + n) text)))) (sym unit.len))
 
-  pub word_goes_on : (start end : ℕ) → is_piece u ≡ true → word_so_far text start end place ≡ tokens_at text start → word_so_far text start (place + n) (place + n) ≡ tokens_at text start
+  pub word_goes_on : (start end : ℕ) → is_piece u ≡ true → word_so_far text start end index ≡ tokens_at text start → word_so_far text start (index + n) (index + n) ≡ tokens_at text start
   word_goes_on start end h so_far =
-      let on : goes_on (units (drop place text)) ≡ true = ap goes_on unit.first ∙ goes_on_piece u _ h in
-      let before : with_first_start start (tokens_at text place) ≡ tokens_at text start = rw on at so_far in
+      let on : goes_on (units (drop index text)) ≡ true = ap goes_on unit.first ∙ goes_on_piece u _ h in
+      let before : with_first_start start (tokens_at text index) ≡ tokens_at text start = rw on at so_far in
       sym (sym before ∙ ap (with_first_start start) (sym (word_begins h)) ∙ inside) where
-        inside : with_first_start start (word_so_far text place (place + n) (place + n)) ≡ word_so_far text start (place + n) (place + n)
-        inside = elim (cases_Bool (goes_on (units (drop (place + n) text)))) [
-          | inl g ↦ rw g (widened_again start place (tokens_at text (place + n)))
+        inside : with_first_start start (word_so_far text index (index + n) (index + n)) ≡ word_so_far text start (index + n) (index + n)
+        inside = elim (cases_Bool (goes_on (units (drop (index + n) text)))) [
+          | inl g ↦ rw g (widened_again start index (tokens_at text (index + n)))
           | inr g ↦ rw g refl
         ]
 
-  pub word_waits : (start end : ℕ) → is_continuation u ≡ true → word_so_far text start end place ≡ tokens_at text start → word_so_far text start end (place + n) ≡ tokens_at text start
+  pub word_waits : (start end : ℕ) → is_continuation u ≡ true → word_so_far text start end index ≡ tokens_at text start → word_so_far text start end (index + n) ≡ tokens_at text start
   word_waits start end h so_far =
-      ap (λ ts. if goes_on (units (drop (place + n) text)) then with_first_start start ts else (record { kind = Word; start = start; end = end } ∷ ts)) (blank_adds_none (continuation_blank u h))
-      ∙ ap (λ b. if b then with_first_start start (tokens_at text place) else (record { kind = Word; start = start; end = end } ∷ tokens_at text place)) (sym (ap goes_on unit.first ∙ continuation_hides u h)) ∙ so_far where
-        continuation_hides : (u : LineUnit) → is_continuation u ≡ true → goes_on (u ∷ units (drop (place + n) text)) ≡ goes_on (units (drop (place + n) text))
+      ap (λ ts. if goes_on (units (drop (index + n) text)) then with_first_start start ts else (record { kind = Word; start = start; end = end } ∷ ts)) (blank_adds_none (continuation_blank u h))
+      ∙ ap (λ b. if b then with_first_start start (tokens_at text index) else (record { kind = Word; start = start; end = end } ∷ tokens_at text index)) (sym (ap goes_on unit.first ∙ continuation_hides u h)) ∙ so_far where
+        continuation_hides : (u : LineUnit) → is_continuation u ≡ true → goes_on (u ∷ units (drop (index + n) text)) ≡ goes_on (units (drop (index + n) text))
         continuation_hides (Continuation len) h = refl
         continuation_hides (Escape b) h = absurd (let x : false ≡ true = h in cc)
         continuation_hides (Byte b) h = absurd (let x : false ≡ true = h in cc)
 
--- two readings of the unit at one place are one
-pub piece_at : (text : List ℕ) (place : ℕ) (u : LineUnit) (us : List LineUnit) → BeginsPiece text place → units (drop place text) ≡ u ∷ us → is_piece u ≡ true
-piece_at text place u us begins e =
+-- two readings of the unit at one index are one
+pub piece_at : (text : List ℕ) (index : ℕ) (u : LineUnit) (us : List LineUnit) → BeginsPiece text index → units (drop index text) ≡ u ∷ us → is_piece u ≡ true
+piece_at text index u us begins e =
     let both : begins.0 ∷ begins.1 ≡ u ∷ us = sym begins.2 ∙ e in
     let same : begins.0 ≡ u = cc in
     ap is_piece (sym same) ∙ begins.3

@@ -3,13 +3,13 @@ use Rattle.std.proofs.Common.{ℕ, ◌<◌, ◌+◌, List, [], ◌∷◌, ◌++�
 use Rattle.ninja_text.specs.Counting.{Call, TakesInTurn, IsTakenInTurn}
 
 -- one more call behind the others
-takes-one-more : {W : Type 0} (writes : Call W) (text : List ℕ) (out : W) (place : ℕ) (turns : List (W × ℕ)) (last : W) (end : ℕ) (next : W) (n : ℕ)
-    → TakesInTurn writes text out place turns last end → 0 < n → writes last next (Ok n) (drop end text)
-    → TakesInTurn writes text out place (turns ++ (next, n) ∷ []) next (end + n)
-takes-one-more writes text out place [] last end next n h some call =
+takes-one-more : {W : Type 0} (writes : Call W) (text : List ℕ) (out : W) (index : ℕ) (turns : List (W × ℕ)) (last : W) (end : ℕ) (next : W) (n : ℕ)
+    → TakesInTurn writes text out index turns last end → 0 < n → writes last next (Ok n) (drop end text)
+    → TakesInTurn writes text out index (turns ++ (next, n) ∷ []) next (end + n)
+takes-one-more writes text out index [] last end next n h some call =
     rw (h.0, h.1) (some, call, (refl, refl))
-takes-one-more writes text out place (turn ∷ turns) last end next n h some call =
-    (h.0, h.1, takes-one-more writes text turn.0 (place + turn.1) turns last end next n h.2 some call)
+takes-one-more writes text out index (turn ∷ turns) last end next n h some call =
+    (h.0, h.1, takes-one-more writes text turn.0 (index + turn.1) turns last end next n h.2 some call)
 
 pub taken-one-more : {W : Type 0} (writes : Call W) (text : List ℕ) (out last next : W) (taken n : ℕ)
     → IsTakenInTurn writes out last text taken → 0 < n → writes last next (Ok n) (drop taken text)

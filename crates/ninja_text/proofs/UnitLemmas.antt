@@ -1,7 +1,8 @@
 -- The first unit of a text, by its first bytes.
 use Rattle.std.proofs.Common.{take_all, take, length-drop, ◌-◌, get_or, ◌≤◌, inl, inr, suc, subst, ◌≡◌, ℕ, ◌+◌, List, [], ◌∷◌, length, drop, refl, sym, ap, ◌∙◌, false, ◌==◌, ◌&&◌, arith}
 use Rattle.std.proofs.lemmas.Bool.{cases_Bool, eqb-true}
-use Rattle.ninja_text.specs.Units.{units, with_continuation, spaces_at}
+use Rattle.ninja_text.specs.Units.{units, with_continuation}
+use Rattle.ninja_text.specs.inner.Runs.{spaces_at}
 use Rattle.ninja_text.specs.declared.unit.LineUnit.{LineUnit}
 use Rattle.ninja_text.specs.declared.unit.LineUnit.TheVariants.{Continuation, Escape, Byte}
 use Rattle.ninja_text.specs.Lines.{begins_with_line_feed, end_from}

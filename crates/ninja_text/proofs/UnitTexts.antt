@@ -164,12 +164,12 @@ read_back (Byte b ∷ us) bytes p h =
     let q = and_parts (is_plain b) (list_all is_proper us) p in
     ap units (h.5 ∙ ap (λ xs. xs ++ h.1) h.2) ∙ units_byte b h.1 (plain b q.0).no_dollar ∙ ap (λ vs. Byte b ∷ vs) (read_back us h.1 q.1 h.4)
 
--- The text from a place on is these units, all of them proper.
-pub record Remains (text : List ℕ) (place : ℕ) (us : List LineUnit) : Type 0 where
+-- The text from an index on is these units, all of them proper.
+pub record Remains (text : List ℕ) (index : ℕ) (us : List LineUnit) : Type 0 where
   pub front : List ℕ
   pub bytes : List ℕ
   pub whole : text ≡ front ++ bytes
-  pub at : length front ≡ place
+  pub at : length front ≡ index
   pub texts : AreUnitTexts us bytes
   pub proper : list_all is_proper us ≡ true
 
@@ -177,23 +177,23 @@ pub remains_all : (text : List ℕ) → list_all is_proper (units text) ≡ true
 remains_all text proper = record { front = []; bytes = text; whole = refl; at = refl; texts = unit_texts text; proper = proper }
 
 -- past the first of them, and past more
-pub past_unit : (text : List ℕ) (place : ℕ) (u : LineUnit) (us : List LineUnit) → Remains text place (u ∷ us) → Remains text (place + unit_len u) us
-past_unit text place u us r =
+pub past_unit : (text : List ℕ) (index : ℕ) (u : LineUnit) (us : List LineUnit) → Remains text index (u ∷ us) → Remains text (index + unit_len u) us
+past_unit text index u us r =
     let h = r.texts in
     record {
       front = r.front ++ h.0;
       bytes = h.1;
       whole = r.whole ∙ ap (λ xs. r.front ++ xs) h.5 ∙ sym (append_assoc r.front h.0 h.1);
-      at = length-append r.front h.0 ∙ ap (λ n. n + length h.0) r.at ∙ ap (λ n. place + n) (unit_length u h.0 h.2);
+      at = length-append r.front h.0 ∙ ap (λ n. n + length h.0) r.at ∙ ap (λ n. index + n) (unit_length u h.0 h.2);
       texts = h.4;
       proper = (and_parts (is_proper u) (list_all is_proper us) r.proper).1;
     }
 
-pub past_units : (text : List ℕ) (place : ℕ) (us vs : List LineUnit) → Remains text place (us ++ vs) → Remains text (place + total_len us) vs
-past_units text place [] vs r = subst (λ n. Remains text n vs) {x = place} {y = place + 0} (omega arith) r
-past_units text place (u ∷ us) vs r =
-    subst (λ n. Remains text n vs) {x = place + unit_len u + total_len us} {y = place + (unit_len u + total_len us)} (omega arith)
-    (past_units text (place + unit_len u) us vs (past_unit text place u (us ++ vs) r))
+pub past_units : (text : List ℕ) (index : ℕ) (us vs : List LineUnit) → Remains text index (us ++ vs) → Remains text (index + total_len us) vs
+past_units text index [] vs r = subst (λ n. Remains text n vs) {x = index} {y = index + 0} (omega arith) r
+past_units text index (u ∷ us) vs r =
+    subst (λ n. Remains text n vs) {x = index + unit_len u + total_len us} {y = index + (unit_len u + total_len us)} (omega arith)
+    (past_units text (index + unit_len u) us vs (past_unit text index u (us ++ vs) r))
 
 -- the bytes of the first of them
 pub record Part (text : List ℕ) (start : ℕ) (us : List LineUnit) : Type 0 where
@@ -214,5 +214,5 @@ first_part text start us vs r =
     }
 
 -- the rest of the text
-pub rest_is : (text : List ℕ) (place : ℕ) (us : List LineUnit) (r : Remains text place us) → drop place text ≡ r.bytes
-rest_is text place us r = ap (drop place) r.whole ∙ drop_at r.front r.bytes place r.at
+pub rest_is : (text : List ℕ) (index : ℕ) (us : List LineUnit) (r : Remains text index us) → drop index text ≡ r.bytes
+rest_is text index us r = ap (drop index) r.whole ∙ drop_at r.front r.bytes index r.at

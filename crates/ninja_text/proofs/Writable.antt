@@ -23,12 +23,12 @@ not-false : (b : Bool) → IsTrue (not b) → b ≡ false
 not-false true h = cc
 not-false false h = refl
 
--- the test tells the record
+-- where the test holds, the record does
 writable_record : (path : List ℕ) → IsTrue (is_writable path) → IsWritable path
 writable_record [] h = cc
 writable_record (b ∷ bs) h = record { some = λ e. cc; each = none_passes is_unwritable (b ∷ bs) (not-false (list_any is_unwritable (b ∷ bs)) h) }
 
--- the record tells the test
+-- where the record holds, the test does
 writable_test : (path : List ℕ) → IsWritable path → IsTrue (is_writable path)
 writable_test [] w = absurd (w.some refl)
 writable_test (b ∷ bs) w = ap not (list_any_none is_unwritable (b ∷ bs) w.each)

@@ -3,14 +3,18 @@ use Rattle.std.specs.Prelude.{◌≡◌, Option, None, Some, Result, Ok, Err}
 use Rattle.std.specs.Option.{option_map}
 use Rattle.ninja_text.specs.Lines.{LogicalLine}
 use Rattle.ninja_text.specs.Lexical.{lexical_fault}
-use Rattle.ninja_text.specs.Assignments.{SeenAssignment, assignment_places, with_bytes}
+use Rattle.ninja_text.specs.Assignments.{SeenAssignment, assignment_of}
 use Rattle.ninja_text.specs.declared.assignments.Assignment.{Assignment}
 use Rattle.ninja_text.specs.declared.faults.LexFault.{LexFault}
 
 abbrev pub seen_assignment : Assignment → SeenAssignment
-seen_assignment a = record { name_start = a.name_start; name = a.name.now; raw_value = a.raw_value.now }
+seen_assignment a =
+    record { name_start = a.name_start; name = a.name.now; raw_value = a.raw_value.now }
 
--- the assignment that the line is, or None where it is none; where the line has a lexical fault, the first one
+-- the assignment that the line is, or None where it is none; where the line has a lexical fault,
+-- the first one
 abbrev pub IsAssignment : LogicalLine → Result (Option Assignment) LexFault → Type 0
-IsAssignment line (Ok a) = (lexical_fault line.text ≡ None) × (option_map seen_assignment a ≡ option_map (with_bytes line.text) (assignment_places line.text))
+IsAssignment line (Ok a) =
+    (lexical_fault line.text ≡ None)
+    × (option_map seen_assignment a ≡ assignment_of line.text)
 IsAssignment line (Err fault) = lexical_fault line.text ≡ Some fault

@@ -6,7 +6,7 @@ use Rattle.ninja_text.specs.Units.{unit_len, is_byte, units, is_digit, is_letter
 use Rattle.ninja_text.specs.declared.unit.LineUnit.{LineUnit}
 use Rattle.ninja_text.specs.declared.unit.LineUnit.TheVariants.{Continuation, Escape, Byte}
 use Rattle.ninja_text.specs.Tokens.{is_blank}
-use Rattle.ninja_text.specs.declared.assigning.AssignmentPlaces.{AssignmentPlaces}
+use Rattle.ninja_text.specs.declared.assigning.AssignmentIndexes.{AssignmentIndexes}
 
 -- letters, digits, `_`, `.`, `-`
 abbrev pub is_name_byte : ℕ → Bool
@@ -17,15 +17,17 @@ is_name_unit (Continuation len) = false
 is_name_unit (Escape b) = false
 is_name_unit (Byte b) = is_name_byte b
 
--- units, and the place where they begin
+-- units, and the index where they begin
 pub record Rest : Type 0 where
   pub place : ℕ
   pub units : List LineUnit
 
 -- what is left after the longest run of units that pass the test
 abbrev pub after_run : (LineUnit → Bool) → ℕ → List LineUnit → Rest
-after_run test place [] = record { place = place; units = [] }
-after_run test place (u ∷ us) = if test u then after_run test (place + unit_len u) us else record { place = place; units = u ∷ us }
+after_run test index [] = record { place = index; units = [] }
+after_run test index (u ∷ us) =
+    if test u then after_run test (index + unit_len u) us
+    else record { place = index; units = u ∷ us }
 
 abbrev pub begins_with_equals : List LineUnit → Bool
 begins_with_equals [] = false
@@ -35,10 +37,11 @@ abbrev pub tail_units : List LineUnit → List LineUnit
 tail_units [] = []
 tail_units (u ∷ us) = us
 
--- The places of the name and the value, where the text is: a blank run, a name, a blank run, `=`, a blank run, a value. Each run
--- is the longest at its place, the name has at least one byte, and the value is all that is left.
-abbrev pub assignment_places : List ℕ → Option AssignmentPlaces
-assignment_places text =
+-- The indexes of the name and the value, where the text is: a blank run, a name, a blank run, `=`,
+-- a blank run, a value. Each run is the longest at its index, the name has at least one byte, and
+-- the value is all that is left.
+abbrev pub assignment_indexes : List ℕ → Option AssignmentIndexes
+assignment_indexes text =
     let name = after_run is_blank 0 (units text) in
     let past_name = after_run is_name_unit name.place name.units in
     let sign = after_run is_blank past_name.place past_name.units in
@@ -47,10 +50,10 @@ assignment_places text =
     Some (record { name_start = name.place; name_end = past_name.place; value_start = value.place })
     else None
 
-abbrev pub name_of : List ℕ → AssignmentPlaces → List ℕ
+abbrev pub name_of : List ℕ → AssignmentIndexes → List ℕ
 name_of text a = slice_range text a.name_start a.name_end
 
-abbrev pub raw_value_of : List ℕ → AssignmentPlaces → List ℕ
+abbrev pub raw_value_of : List ℕ → AssignmentIndexes → List ℕ
 raw_value_of text a = drop a.value_start text
 
 -- an assignment as its readers see it, with its bytes
@@ -59,19 +62,17 @@ pub record SeenAssignment : Type 0 where
   pub name : List ℕ
   pub raw_value : List ℕ
 
-abbrev pub with_bytes : List ℕ → AssignmentPlaces → SeenAssignment
-with_bytes text a = record { name_start = a.name_start; name = name_of text a; raw_value = raw_value_of text a }
+abbrev pub with_bytes : List ℕ → AssignmentIndexes → SeenAssignment
+with_bytes text a =
+    record { name_start = a.name_start; name = name_of text a; raw_value = raw_value_of text a }
 
 -- the assignment that a text is, if it is one
 abbrev pub assignment_of : List ℕ → Option SeenAssignment
-assignment_of text = option_map (with_bytes text) (assignment_places text)
+assignment_of text = option_map (with_bytes text) (assignment_indexes text)
 
--- The name has at least one byte and stands at its place in the text, and the value is what the text ends with, after the name.
+-- The name has at least one byte and stands at its index in the text, and the value is what the
+-- text ends with, after the name.
 pub record LiesIn (text : List ℕ) (a : SeenAssignment) : Type 0 where
   pub some : 0 < length a.name
   pub between : List ℕ
   pub whole : text ≡ take a.name_start text ++ (a.name ++ (between ++ a.raw_value))
-
--- The longest run of units that pass the test goes from a place to another.
-abbrev pub Run : (LineUnit → Bool) → List ℕ → ℕ → ℕ → Type 0
-Run test text from to = after_run test from (units (drop from text)) ≡ record { place = to; units = units (drop to text) }

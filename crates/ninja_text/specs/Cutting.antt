@@ -1,4 +1,5 @@
--- What a cutter holds, what its calls do to that, and how it stands to all bytes taken and all lines lent.
+-- What a cutter holds, what its calls do to that, and how it stands to all bytes taken and all
+-- lines lent.
 use Rattle.std.specs.Prelude.{◌≡◌, ℕ, ◌+◌, ◌-◌, ◌≤◌, Bool, true, false, nat_le, if◌then◌else◌, min, List, [], ◌∷◌, ◌++◌, length, take, Option, Some, None, Result, Ok, Err}
 use Rattle.std.specs.List.{flat_map, AllByRecursion}
 use Rattle.ninja_text.specs.Lines.{line_limit, LineEnd, line_end, text_of, is_comment, Divides, LogicalLine, logical_lines, number_after, line_feeds_in}
@@ -7,7 +8,8 @@ use Rattle.ninja_text.specs.declared.failure.Failure.TheVariants.{Memory, Fault}
 use Rattle.ninja_text.specs.declared.faults.CutFault.{CutFault}
 use Rattle.ninja_text.specs.declared.faults.CutFault.TheVariants.{LineTooLong, Truncated}
 
--- The line at hand: its number, and its bytes, the whole line where it waits to be lent. A cutter that has failed stays so.
+-- The line at hand: its number, and its bytes, the whole line where it waits to be lent. A cutter
+-- that has failed stays so.
 pub record CutterState : Type 0 where
   pub number : ℕ
   pub bytes : List ℕ
@@ -21,11 +23,16 @@ new_cutter = record { number = 1; bytes = []; waits = false; failed = false }
 abbrev pub waiting_line : CutterState → LogicalLine
 waiting_line h = record { text = text_of h.bytes; number = h.number; comment = is_comment h.bytes }
 
--- what `feed` answers and leaves where no line waits, by the first end in what there is of the line within the limit
+-- what `feed` answers and leaves where no line waits, by the first end in what there is of the line
+-- within the limit
 abbrev pub feed_outcome_at : CutterState → List ℕ → Option LineEnd → Result ℕ CutFault × CutterState
-feed_outcome_at h piece (Some end) = (Ok (end.line_len - length h.bytes), record h { bytes = take end.line_len (h.bytes ++ piece); waits = true })
+feed_outcome_at h piece (Some end) = (
+  Ok (end.line_len - length h.bytes),
+  record h { bytes = take end.line_len (h.bytes ++ piece); waits = true },
+)
 feed_outcome_at h piece None =
-    if nat_le line_limit (length (h.bytes ++ piece)) then (Err (LineTooLong h.number), record h { failed = true })
+    if nat_le line_limit (length (h.bytes ++ piece)) then
+    (Err (LineTooLong h.number), record h { failed = true })
     else (Ok (length piece), record h { bytes = h.bytes ++ piece })
 
 -- what `feed` answers and leaves, where memory is there
@@ -35,8 +42,8 @@ feed_outcome h piece =
     else if h.waits then (Ok 0, h)
     else feed_outcome_at h piece (line_end (take line_limit (h.bytes ++ piece)))
 
--- `feed` answers and leaves just that, unless memory was refused: then it took nothing. It asks for memory only where it may take
--- bytes, that is where the cutter has not failed and no line waits.
+-- `feed` answers and leaves just that, unless memory was refused: then it took nothing. It asks for
+-- memory only where it may take bytes, that is where the cutter has not failed and no line waits.
 abbrev pub Feeds : CutterState → List ℕ → Result ℕ (Failure CutFault) → CutterState → Type 0
 Feeds old piece (Ok n) new = feed_outcome old piece ≡ (Ok n, new)
 Feeds old piece (Err Memory) new = (old.failed ≡ false) × (old.waits ≡ false) × (new ≡ old)
@@ -46,7 +53,12 @@ Feeds old piece (Err (Fault fault)) new = feed_outcome old piece ≡ (Err fault,
 abbrev pub after_lending : CutterState → CutterState
 after_lending h =
     if h.failed then h
-    else if h.waits then record { number = min 18446744073709551615 (h.number + line_feeds_in h.bytes); bytes = []; waits = false; failed = false }
+    else if h.waits then record {
+      number = min 18446744073709551615 (h.number + line_feeds_in h.bytes);
+      bytes = [];
+      waits = false;
+      failed = false;
+    }
     else h
 
 -- the line that the next call lends, if any
@@ -55,17 +67,30 @@ lent_next h = if h.failed then [] else if h.waits then waiting_line h ∷ [] els
 
 -- `finish` answers the fault of a cutter that has failed, or `Truncated` where bytes are left.
 abbrev pub Finishes : CutterState → Result Unit CutFault → Type 0
-Finishes h r = r ≡ (if h.failed then Err (LineTooLong h.number) else if nat_le (length h.bytes) 0 then Ok tt else Err (Truncated h.number))
+Finishes h r =
+    r ≡ (if h.failed then Err (LineTooLong h.number)
+    else if nat_le (length h.bytes) 0 then Ok tt
+    else Err (Truncated h.number))
 
--- The bytes taken are divided into the lines lent, the line that waits, and what there is of the next; none is too long.
+-- the line that waits, as a list, and what there is of the next
+abbrev pub waiting_bytes : CutterState → List (List ℕ)
+waiting_bytes h = if h.waits then h.bytes ∷ [] else []
+
+abbrev pub rest_bytes : CutterState → List ℕ
+rest_bytes h = if h.waits then [] else h.bytes
+
+-- The bytes taken are divided into the lines lent, the line that waits, and what there is of the
+-- next; none is too long.
 pub record Cuts (taken : List ℕ) (lent : List LogicalLine) (h : CutterState) : Type 0 where
   pub lines : List (List ℕ)
-  pub divided : Divides taken (lines ++ (if h.waits then h.bytes ∷ [] else [])) (if h.waits then [] else h.bytes)
-  pub short : AllByRecursion (λ line. length line ≤ line_limit) (lines ++ (if h.waits then h.bytes ∷ [] else []))
+  pub divided : Divides taken (lines ++ waiting_bytes h) (rest_bytes h)
+  pub short : AllByRecursion (λ line. length line ≤ line_limit) (lines ++ waiting_bytes h)
   pub lent_are : lent ≡ logical_lines [] lines
   pub number : h.number ≡ number_after (flat_map (λ line. line) lines)
 
--- A cutter that had taken these bytes has taken what the call answers beside; where it refused, nothing.
-abbrev pub FeedsAll : List ℕ → List LogicalLine → List ℕ → Result ℕ (Failure CutFault) → CutterState → Type 0
+-- A cutter that had taken these bytes has taken what the call answers beside; where it refused,
+-- nothing.
+abbrev pub FeedsAll : List ℕ → List LogicalLine → List ℕ → Result ℕ (Failure CutFault)
+    → CutterState → Type 0
 FeedsAll taken lent piece (Ok n) new = Cuts (taken ++ take n piece) lent new
 FeedsAll taken lent piece (Err failure) new = Cuts taken lent new

@@ -1,4 +1,5 @@
--- How a path is spelled in a Ninja file, and what a spelling stands for (Ninja 1.11 manual, "Lexical syntax").
+-- How a path is spelled in a Ninja file, and what a spelling stands for (Ninja 1.11 manual,
+-- "Lexical syntax").
 use Rattle.std.specs.Prelude.{◌≡◌, ◌≢◌, ℕ, Bool, false, not, ◌||◌, ◌==◌, if◌then◌else◌, IsTrue, ◌⊎◌, List, [], ◌∷◌, ◌++◌, replicate, All}
 use Rattle.std.specs.List.{flat_map, concat, list_any, AllByRecursion}
 use Rattle.ninja_text.specs.Bytes.{nul, line_feed, carriage_return, space, dollar, colon, vertical_bar}
@@ -29,7 +30,8 @@ escaped_byte b = if is_escaped b then dollar ∷ b ∷ [] else b ∷ []
 abbrev pub escaped : List ℕ → List ℕ
 escaped path = flat_map escaped_byte path
 
--- one piece of a word, and the byte that it stands for: an ordinary byte, or `$` and a byte that is escaped
+-- one piece of a word, and the byte that it stands for: an ordinary byte, or `$` and a byte that is
+-- escaped
 abbrev pub IsPiece : List ℕ → ℕ → Type 0
 IsPiece [] value = ⊥
 IsPiece (b ∷ []) value = (b ≡ value) × IsTrue (not (is_escaped b || is_unwritable b))
@@ -38,14 +40,18 @@ IsPiece (d ∷ b ∷ c ∷ more) value = ⊥
 
 -- a continuation: `$`, the end of the line, and the spaces that the next line begins with
 abbrev pub IsContinuation : List ℕ → Type 0
-IsContinuation bytes = (spaces : ℕ) × ((bytes ≡ dollar ∷ line_feed ∷ replicate spaces space) ⊎ (bytes ≡ dollar ∷ carriage_return ∷ line_feed ∷ replicate spaces space))
+IsContinuation bytes =
+    (spaces : ℕ) × ((bytes ≡ dollar ∷ line_feed ∷ replicate spaces space)
+    ⊎ (bytes ≡ dollar ∷ carriage_return ∷ line_feed ∷ replicate spaces space))
 
 -- continuations, one after another, or none
 abbrev pub IsGap : List ℕ → Type 0
 IsGap bytes = (parts : List (List ℕ)) × AllByRecursion IsContinuation parts × (bytes ≡ concat parts)
 
--- The raw text of a word stands for this value: it is a piece for each byte of the value, and between two pieces a gap.
+-- The raw text of a word stands for this value: it is a piece for each byte of the value, and
+-- between two pieces a gap.
 abbrev pub Spells : List ℕ → List ℕ → Type 0
 Spells raw [] = ⊥
 Spells raw (b ∷ []) = IsPiece raw b
-Spells raw (b ∷ c ∷ cs) = (piece : List ℕ) × (gap : List ℕ) × (rest : List ℕ) × IsPiece piece b × IsGap gap × Spells rest (c ∷ cs) × (raw ≡ piece ++ (gap ++ rest))
+Spells raw (b ∷ c ∷ cs) = (piece : List ℕ) × (gap : List ℕ) × (rest : List ℕ)
+    × IsPiece piece b × IsGap gap × Spells rest (c ∷ cs) × (raw ≡ piece ++ (gap ++ rest))

@@ -9,7 +9,8 @@ Gives view (Ok value) meaning = meaning ≡ Ok (view value)
 Gives view (Err Memory) meaning = ⊤
 Gives view (Err (Fault fault)) meaning = meaning ≡ Err fault
 
--- Memory stays memory, and the fault is turned into another one by what a call of the closure ensures.
+-- Memory stays memory, and the fault is turned into another one by what a call of the closure
+-- ensures.
 abbrev pub Turns : {F G : Type 0} → (F → G → Type 0) → Failure F → Failure G → Type 0
 Turns {F} {G} turned Memory new = new ≡ Memory
 Turns {F} {G} turned (Fault fault) new = (other : G) × turned fault other × (new ≡ Fault other)

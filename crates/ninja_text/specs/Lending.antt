@@ -10,7 +10,8 @@ use Rattle.ninja_text.specs.contracts.cutter.LineCutter.{the_row}
 pub record AfterLending (old new : CutterState) : Type 0 where
   pub value : new ≡ after_lending old
   pub none_waits : new.waits ≡ false
-  pub all : (taken : List ℕ) (lent : List LogicalLine) → Cuts taken lent old → Cuts taken (lent ++ lent_next old) new
+  pub all : (taken : List ℕ) (lent : List LogicalLine) → Cuts taken lent old →
+      Cuts taken (lent ++ lent_next old) new
 
 -- Where the loan ends, the cutter is as after lending.
 abbrev pub EndsLent : MutBor CutterState → Fml

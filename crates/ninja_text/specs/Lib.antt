@@ -5,7 +5,6 @@ pub mod Escapes
 pub mod Reduction
 pub mod Paths
 pub mod PathShape
-pub mod ComponentLists
 pub mod Units
 pub mod Lines
 pub mod Lexical
@@ -19,7 +18,8 @@ pub mod Scanning
 pub mod Cutting
 pub mod LineViews
 pub mod LineReading
-pub mod Reaching
+pub mod Phases
 pub mod CutterViews
 pub mod Lending
 pub mod Counting
+pub mod inner

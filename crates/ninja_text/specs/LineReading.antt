@@ -127,18 +127,3 @@ EndsLines of_cutter bytes lent state (Err (Fault fault)) =
     (number : ℕ) × (rest : List ℕ) × BeginsWith bytes lent number rest × IsTruncated rest
     × (fault ≡ of_cutter (Truncated number))
 EndsLines of_cutter bytes lent state (Err Memory) = ⊥
-
--- ---- inside the reader
-
--- What reading a piece answers, and which cutter and state it leaves.
-abbrev pub ReadsPiece : {S F : Type 0} → Passes S → Refuses S F → (CutFault → F)
-    → List ℕ → List LogicalLine → S → Result Unit (Failure F) → CutterState → S → Type 0
-ReadsPiece passes refuses of_cutter bytes lent old (Ok u) cutter new =
-    (more : List LogicalLine) × HasLent bytes (lent ++ more) cutter × LeadTo passes old more new
-ReadsPiece passes refuses of_cutter bytes lent old (Err failure) cutter new =
-    HasFailureBehind passes refuses of_cutter bytes lent old failure
-
--- the cutter's failure as one of the lines
-abbrev pub failure_of : {F : Type 0} → (CutFault → F) → Failure CutFault → Failure F
-failure_of of_cutter Memory = Memory
-failure_of of_cutter (Fault fault) = Fault (of_cutter fault)

@@ -6,11 +6,12 @@ use Rattle.ninja_text.specs.declared.line.Line.{Line}
 use Rattle.ninja_text.specs.declared.faults.CutFault.{CutFault}
 use Rattle.ninja_text.specs.declared.faults.CutFault.TheVariants.{LineTooLong}
 
--- what a `Line` shows
+-- the view of a `Line`
 abbrev pub seen_line : Line → LogicalLine
 seen_line line = record { text = line.text.now; number = line.number; comment = line.is_comment }
 
--- `next_line` lends the line that waits, answers None only where none waits, and the fault of a cutter that has failed.
+-- `next_line` lends the line that waits, answers None only where none waits, and the fault of a
+-- cutter that has failed.
 abbrev pub Lends : CutterState → Result (Option Line) CutFault → Type 0
 Lends h (Ok (Some line)) = (h.failed ≡ false) × (h.waits ≡ true) × (seen_line line ≡ waiting_line h)
 Lends h (Ok None) = (h.failed ≡ false) × (h.waits ≡ false)

@@ -1,4 +1,5 @@
--- Logical lines (Ninja 1.11 manual, "Lexical syntax"): a text is lines, each up to and with its end, and a rest that has none.
+-- Logical lines (Ninja 1.11 manual, "Lexical syntax"): a text is lines, each up to and with its
+-- end, and a rest that has none.
 use Rattle.std.specs.Prelude.{◌≡◌, ℕ, ◌+◌, Bool, false, ◌==◌, ◌&&◌, if◌then◌else◌, List, [], ◌∷◌, ◌++◌, length, take, map, count_by, min, Option, Some, None}
 use Rattle.std.specs.List.{flat_map, AllByRecursion}
 use Rattle.ninja_text.specs.Bytes.{line_feed, carriage_return, space}
@@ -28,13 +29,15 @@ abbrev pub begins_with_line_feed : List LineUnit → Bool
 begins_with_line_feed [] = false
 begins_with_line_feed (u ∷ us) = is_byte line_feed u
 
--- The first end among units that begin at a place: an LF that is a unit by itself, with the CR directly before it if that is one too.
+-- The first end among units that begin at an index: an LF that is a unit by itself, with the CR
+-- directly before it if that is one too.
 abbrev pub end_from : ℕ → List LineUnit → Option LineEnd
-end_from place [] = None
-end_from place (u ∷ us) =
-    if is_byte line_feed u then Some (record { text_len = place; line_len = place + 1 })
-    else if is_byte carriage_return u && begins_with_line_feed us then Some (record { text_len = place; line_len = place + 2 })
-    else end_from (place + unit_len u) us
+end_from index [] = None
+end_from index (u ∷ us) =
+    if is_byte line_feed u then Some (record { text_len = index; line_len = index + 1 })
+    else if is_byte carriage_return u && begins_with_line_feed us then
+    Some (record { text_len = index; line_len = index + 2 })
+    else end_from (index + unit_len u) us
 
 -- the end of the line at the front, if there is one
 abbrev pub line_end : List ℕ → Option LineEnd
@@ -42,7 +45,9 @@ line_end bytes = end_from 0 (line_units bytes)
 
 -- The bytes are one line, its end included.
 abbrev pub IsLine : List ℕ → Type 0
-IsLine bytes = (text_len : ℕ) × (line_end bytes ≡ Some (record { text_len = text_len; line_len = length bytes }))
+IsLine bytes =
+    (text_len : ℕ)
+    × (line_end bytes ≡ Some (record { text_len = text_len; line_len = length bytes }))
 
 -- The bytes are these lines, one after another, and a rest without an end.
 pub record Divides (bytes : List ℕ) (lines : List (List ℕ)) (rest : List ℕ) : Type 0 where
@@ -62,7 +67,8 @@ text_of line = text_before line (line_end line)
 abbrev pub line_feeds_in : List ℕ → ℕ
 line_feeds_in bytes = count_by (λ b. b == line_feed) bytes
 
--- the number of the line that begins after these bytes: one more than their LF bytes, at most 2 ^ 64 - 1
+-- the number of the line that begins after these bytes: one more than their LF bytes, at most 2 ^
+-- 64 - 1
 abbrev pub number_after : List ℕ → ℕ
 number_after bytes = min 18446744073709551615 (1 + line_feeds_in bytes)
 
@@ -74,9 +80,11 @@ pub record LogicalLine : Type 0 where
 
 -- a line that stands after these bytes
 abbrev pub logical_line : List ℕ → List ℕ → LogicalLine
-logical_line before line = record { text = text_of line; number = number_after before; comment = is_comment line }
+logical_line before line =
+    record { text = text_of line; number = number_after before; comment = is_comment line }
 
 -- lines that stand one after another, after these bytes
 abbrev pub logical_lines : List ℕ → List (List ℕ) → List LogicalLine
 logical_lines before [] = []
-logical_lines before (line ∷ lines) = logical_line before line ∷ logical_lines (before ++ line) lines
+logical_lines before (line ∷ lines) =
+    logical_line before line ∷ logical_lines (before ++ line) lines

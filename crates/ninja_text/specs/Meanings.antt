@@ -22,15 +22,17 @@ IsReadAsSpelled t = t.kind ≡ Word → Spells t.raw (value_of t.raw)
 abbrev pub is_value_byte : ℕ → Bool
 is_value_byte b = not (b == dollar || (b == nul || (b == carriage_return || b == line_feed)))
 
--- one piece of a value, and the byte that it stands for: a byte that stands for itself, or `$` and a byte that is escaped
+-- one piece of a value, and the byte that it stands for: a byte that stands for itself, or `$` and
+-- a byte that is escaped
 abbrev pub IsValuePiece : List ℕ → ℕ → Type 0
 IsValuePiece [] value = ⊥
 IsValuePiece (b ∷ []) value = (b ≡ value) × IsTrue (is_value_byte b)
 IsValuePiece (d ∷ b ∷ []) value = (d ≡ dollar) × (b ≡ value) × IsTrue (is_escaped b)
 IsValuePiece (d ∷ b ∷ c ∷ more) value = ⊥
 
--- The raw text of a value stands for these bytes: it is a piece for each of them, with a gap before each piece and at the end.
--- The spaces behind a continuation are the gap's, so that a space is a piece only where there is no gap before it.
+-- The raw text of a value stands for these bytes: it is a piece for each of them, with a gap before
+-- each piece and at the end. The spaces behind a continuation are the gap's, so that a space is a
+-- piece only where there is no gap before it.
 abbrev pub SpellsValue : List ℕ → List ℕ → Type 0
 SpellsValue raw [] = IsGap raw
 SpellsValue raw (b ∷ bs) = (gap : List ℕ) × (piece : List ℕ) × (rest : List ℕ)

@@ -19,14 +19,16 @@ is_rooted (b ∷ bs) = b == slash
 
 -- a list of components, written out
 abbrev pub path_text : Bool → List (List ℕ) → List ℕ
-path_text rooted list = if rooted then slash ∷ join_with_byte slash list else join_with_byte slash list
+path_text rooted list =
+    if rooted then slash ∷ join_with_byte slash list else join_with_byte slash list
 
 -- the text that is read: a relative path is taken from the work directory, where there is one
 abbrev pub read_from : Option (List ℕ) → List ℕ → List ℕ
 read_from None path = path
 read_from (Some work) path = if is_empty work || is_rooted path then path else work ++ slash ∷ path
 
--- the list without those of its first components that are the directory's, where these are not all of it
+-- the list without those of its first components that are the directory's, where these are not all
+-- of it
 abbrev pub below : List (List ℕ) → List (List ℕ) → Option (List (List ℕ))
 below [] [] = None
 below [] (c ∷ cs) = Some (c ∷ cs)
@@ -41,7 +43,9 @@ relative_or list (Some rest) = path_text false rest
 -- a canonical list, written out as it is seen from a build directory
 abbrev pub seen_from : Option (List ℕ) → Bool → List (List ℕ) → List ℕ
 seen_from None rooted list = path_text rooted list
-seen_from (Some build) rooted list = if rooted then relative_or list (below (reduced (components build)) list) else path_text false list
+seen_from (Some build) rooted list =
+    if rooted then relative_or list (below (reduced (components build)) list)
+    else path_text false list
 
 -- the most bytes that a canonical path has
 abbrev pub path_limit : ℕ
@@ -52,7 +56,8 @@ abbrev pub checked : Option ℕ → List ℕ → Result (List ℕ) PathFault
 checked (Some place) path = Err (Unwritable place)
 checked None path = if nat_lt path_limit (length path) then Err TooLong else Ok path
 
--- the canonical path of a text, as seen from a build directory, or the first of the faults in the order of their codes
+-- the canonical path of a text, as seen from a build directory, or the first of the faults in the
+-- order of their codes
 unfoldable pub canonical_of : Option (List ℕ) → List ℕ → Result (List ℕ) PathFault
 canonical_of build text =
     let list = reduced (components text) in
@@ -66,7 +71,8 @@ path_of text = canonical_of None text
 
 -- the path that is named in a work directory, as seen from a build directory
 unfoldable pub placed : Option (List ℕ) → Option (List ℕ) → List ℕ → Result (List ℕ) PathFault
-placed work build path = if is_empty path then Err Empty else canonical_of build (read_from work path)
+placed work build path =
+    if is_empty path then Err Empty else canonical_of build (read_from work path)
 
 -- a canonical path: the text means itself
 abbrev pub IsPath : List ℕ → Type 0

@@ -53,7 +53,9 @@ pub record ReducesTo (old new : List (List ℕ)) : Type 0 where
 -- a component in front of a list to which no step applies: one step applies then, or none
 abbrev pub in_front : List ℕ → List (List ℕ) → List (List ℕ)
 in_front c [] = if is_current c then [] else c ∷ []
-in_front c (d ∷ ds) = if is_current c then d ∷ ds else (if is_name c && is_parent d then ds else c ∷ d ∷ ds)
+in_front c (d ∷ ds) =
+    if is_current c then d ∷ ds
+    else (if is_name c && is_parent d then ds else c ∷ d ∷ ds)
 
 -- the list that is left when no step applies any more
 abbrev pub reduced : List (List ℕ) → List (List ℕ)

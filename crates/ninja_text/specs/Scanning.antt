@@ -1,4 +1,5 @@
--- How a line's end is found byte by byte. The line's units say where it is; this says what is remembered on the way.
+-- How a line's end is found byte by byte. The line's units say where it is; this says what is
+-- remembered on the way.
 use Rattle.std.specs.Prelude.{ℕ, ◌+◌, ◌-◌, ◌==◌, if◌then◌else◌, List, [], ◌∷◌, Option, Some, None}
 use Rattle.ninja_text.specs.Bytes.{line_feed, carriage_return, dollar, space}
 use Rattle.ninja_text.specs.Units.{hash}
@@ -17,11 +18,17 @@ plain_step b =
 
 -- the same in a comment
 abbrev pub comment_step : ℕ → Option ScanState
-comment_step b = if b == line_feed then None else if b == carriage_return then Some CommentReturn else Some Comment
+comment_step b =
+    if b == line_feed then None
+    else if b == carriage_return then Some CommentReturn
+    else Some Comment
 
 -- the same in any state
 abbrev pub step_of : ScanState → ℕ → Option ScanState
-step_of Start b = if b == space then Some Start else if b == hash then Some Comment else plain_step b
+step_of Start b =
+    if b == space then Some Start
+    else if b == hash then Some Comment
+    else plain_step b
 step_of Comment b = comment_step b
 step_of CommentReturn b = comment_step b
 step_of Plain b = plain_step b
@@ -29,22 +36,23 @@ step_of Return b = plain_step b
 step_of Dollar b = if b == carriage_return then Some DollarReturn else Some Plain
 step_of DollarReturn b = if b == line_feed then Some Plain else plain_step b
 
--- the end of a line whose LF stands at this place
+-- the end of a line whose LF stands at this index
 abbrev pub scan_end : ℕ → ScanState → Scanned
-scan_end place Return = End (place - 1) (place + 1)
-scan_end place CommentReturn = End (place - 1) (place + 1)
-scan_end place Start = End place (place + 1)
-scan_end place Comment = End place (place + 1)
-scan_end place Plain = End place (place + 1)
-scan_end place Dollar = End place (place + 1)
-scan_end place DollarReturn = End place (place + 1)
+scan_end index Return = End (index - 1) (index + 1)
+scan_end index CommentReturn = End (index - 1) (index + 1)
+scan_end index Start = End index (index + 1)
+scan_end index Comment = End index (index + 1)
+scan_end index Plain = End index (index + 1)
+scan_end index Dollar = End index (index + 1)
+scan_end index DollarReturn = End index (index + 1)
 
 -- goes on from the next state, if there is one
 abbrev pub goes_on_from : Scanned → (ScanState → Scanned) → Option ScanState → Scanned
 goes_on_from ended later None = ended
 goes_on_from ended later (Some next) = later next
 
--- where a scan comes to whose bytes begin at a place of the line
+-- where a scan comes to whose bytes begin at an index of the line
 abbrev pub scan_from : ℕ → ScanState → List ℕ → Scanned
-scan_from place state [] = Open state
-scan_from place state (b ∷ bytes) = goes_on_from (scan_end place state) (λ next. scan_from (place + 1) next bytes) (step_of state b)
+scan_from index state [] = Open state
+scan_from index state (b ∷ bytes) =
+    goes_on_from (scan_end index state) (λ next. scan_from (index + 1) next bytes) (step_of state b)

@@ -8,13 +8,15 @@ use Rattle.ninja_text.specs.declared.token.Words.{Words}
 use Rattle.ninja_text.specs.declared.faults.LexFault.{LexFault}
 
 abbrev pub seen_token : Token → SeenToken
-seen_token token = record { kind = token.kind; start = token.start; end = token.end; raw = token.raw.now }
+seen_token token =
+    record { kind = token.kind; start = token.start; end = token.end; raw = token.raw.now }
 
 -- the tokens that are still to come
 abbrev pub tokens_left : Words → List SeenToken
-tokens_left words = map (with_raw words.text.now) (tokens_at words.text.now words.place)
+tokens_left words = map (with_raw words.text.now) (tokens_at words.text.now words.index)
 
 -- all tokens of the line, where it has no lexical fault, and else the first fault
 abbrev pub IsWords : LogicalLine → Result Words LexFault → Type 0
-IsWords line (Ok words) = (lexical_fault line.text ≡ None) × (tokens_left words ≡ seen_tokens line.text)
+IsWords line (Ok words) =
+    (lexical_fault line.text ≡ None) × (tokens_left words ≡ seen_tokens line.text)
 IsWords line (Err fault) = lexical_fault line.text ≡ Some fault

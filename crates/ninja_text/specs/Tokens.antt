@@ -33,32 +33,37 @@ goes_on (Continuation len ∷ us) = goes_on us
 goes_on (Escape b ∷ us) = true
 goes_on (Byte b ∷ us) = is_piece (Byte b)
 
--- these tokens, the first of which begins at this place instead
+-- these tokens, the first of which begins at this index instead
 abbrev pub with_first_start : ℕ → List TokenAt → List TokenAt
-with_first_start place [] = []
-with_first_start place (t ∷ ts) = record t { start = place } ∷ ts
+with_first_start index [] = []
+with_first_start index (t ∷ ts) = record t { start = index } ∷ ts
 
--- What a unit at a place adds in front of the tokens of the units after it. A piece belongs to the word that goes on after it,
--- or else it is the end of a word, here the whole of it; a blank unit adds none.
+-- a token of this kind that begins at this index and has this length
+abbrev pub token_of : TokenKind → ℕ → ℕ → TokenAt
+token_of kind index len = record { kind = kind; start = index; end = index + len }
+
+-- What a unit at an index adds in front of the tokens of the units after it. A piece belongs to the
+-- word that goes on after it, or else it is the end of a word, here the whole of it; a blank unit
+-- adds none.
 abbrev pub with_unit : ℕ → LineUnit → List LineUnit → List TokenAt → List TokenAt
-with_unit place u us ts =
+with_unit index u us ts =
     if is_piece u then
-    (if goes_on us then with_first_start place ts
-    else record { kind = Word; start = place; end = place + unit_len u } ∷ ts)
-    else if is_byte colon u then record { kind = Colon; start = place; end = place + 1 } ∷ ts
-    else if is_byte vertical_bar u then record { kind = Bar; start = place; end = place + 1 } ∷ ts
+    (if goes_on us then with_first_start index ts
+    else token_of Word index (unit_len u) ∷ ts)
+    else if is_byte colon u then token_of Colon index 1 ∷ ts
+    else if is_byte vertical_bar u then token_of Bar index 1 ∷ ts
     else ts
 
--- the tokens of units that begin at a place: of `||`, `|@` and `|` the longest that fits
+-- the tokens of units that begin at an index: of `||`, `|@` and `|` the longest that fits
 abbrev pub tokens_from : ℕ → List LineUnit → List TokenAt
-tokens_from place [] = []
-tokens_from place (u ∷ []) = with_unit place u [] []
-tokens_from place (u ∷ v ∷ us) =
+tokens_from index [] = []
+tokens_from index (u ∷ []) = with_unit index u [] []
+tokens_from index (u ∷ v ∷ us) =
     if is_byte vertical_bar u then
-    (if is_byte vertical_bar v then record { kind = DoubleBar; start = place; end = place + 2 } ∷ tokens_from (place + 2) us
-    else if is_byte at_sign v then record { kind = BarAt; start = place; end = place + 2 } ∷ tokens_from (place + 2) us
-    else with_unit place u (v ∷ us) (tokens_from (place + 1) (v ∷ us)))
-    else with_unit place u (v ∷ us) (tokens_from (place + unit_len u) (v ∷ us))
+    (if is_byte vertical_bar v then token_of DoubleBar index 2 ∷ tokens_from (index + 2) us
+    else if is_byte at_sign v then token_of BarAt index 2 ∷ tokens_from (index + 2) us
+    else with_unit index u (v ∷ us) (tokens_from (index + 1) (v ∷ us)))
+    else with_unit index u (v ∷ us) (tokens_from (index + unit_len u) (v ∷ us))
 
 -- all tokens of a text
 abbrev pub tokens : List ℕ → List TokenAt
@@ -78,9 +83,9 @@ unit_value (Byte b) = b ∷ []
 abbrev pub value_of : List ℕ → List ℕ
 value_of bytes = flat_map unit_value (units bytes)
 
--- the tokens that begin at a place of the text or after it, where a unit begins at that place
+-- the tokens that begin at an index of the text or after it, where a unit begins at that index
 abbrev pub tokens_at : List ℕ → ℕ → List TokenAt
-tokens_at text place = tokens_from place (units (drop place text))
+tokens_at text index = tokens_from index (units (drop index text))
 
 -- a token as its readers see it, with its bytes
 pub record SeenToken : Type 0 where
@@ -96,25 +101,15 @@ with_raw text t = record { kind = t.kind; start = t.start; end = t.end; raw = ra
 abbrev pub seen_tokens : List ℕ → List SeenToken
 seen_tokens text = map (with_raw text) (tokens text)
 
--- The token has at least one byte, it ends within the text, and its raw bytes are those of the text from its start to its end.
+-- The token has at least one byte, it ends within the text, and its raw bytes are those of the text
+-- from its start to its end.
 pub record IsSlice (text : List ℕ) (t : SeenToken) : Type 0 where
   pub some : t.start < t.end
   pub within : t.end ≤ length text
   pub raw : t.raw ≡ slice_range text t.start t.end
 
--- Each token begins where the one before it ends, or after that; the first one, at this place or after it.
+-- Each token begins where the one before it ends, or after that; the first one, at this index or
+-- after it.
 abbrev pub RiseFrom : ℕ → List SeenToken → Type 0
-RiseFrom place [] = Unit {0}
-RiseFrom place (t ∷ ts) = (place ≤ t.start) × RiseFrom t.end ts
-
--- At this place a token begins, or the text ends.
-abbrev pub BeginsToken : List ℕ → ℕ → Type 0
-BeginsToken text place = place < length text → (u : LineUnit) × (us : List LineUnit) × (units (drop place text) ≡ u ∷ us) × (is_blank u ≡ false)
-
--- At this place a word's first piece stands.
-abbrev pub BeginsPiece : List ℕ → ℕ → Type 0
-BeginsPiece text place = (u : LineUnit) × (us : List LineUnit) × (units (drop place text) ≡ u ∷ us) × (is_piece u ≡ true)
-
--- At this place a `|` stands.
-abbrev pub BeginsBar : List ℕ → ℕ → Type 0
-BeginsBar text place = units (drop place text) ≡ Byte vertical_bar ∷ units (drop (place + 1) text)
+RiseFrom index [] = Unit {0}
+RiseFrom index (t ∷ ts) = (index ≤ t.start) × RiseFrom t.end ts

@@ -1,4 +1,5 @@
--- The units that a line is made of (Ninja 1.11 manual, "Lexical syntax"): line continuations, escapes, and single bytes.
+-- The units that a line is made of (Ninja 1.11 manual, "Lexical syntax"): line continuations,
+-- escapes, and single bytes.
 use Rattle.std.specs.Prelude.{ℕ, ◌+◌, Bool, true, false, ◌==◌, ◌&&◌, ◌||◌, if◌then◌else◌, nat_le, List, [], ◌∷◌}
 use Rattle.ninja_text.specs.Bytes.{line_feed, carriage_return, space, dollar}
 use Rattle.ninja_text.specs.declared.unit.LineUnit.{LineUnit}
@@ -48,12 +49,14 @@ is_continuation (Byte b) = false
 -- A continuation of so many bytes, in front of units: it takes the spaces that they begin with.
 abbrev pub with_continuation : ℕ → List LineUnit → List LineUnit
 with_continuation len [] = Continuation len ∷ []
-with_continuation len (Byte b ∷ us) = if b == space then with_continuation (len + 1) us else Continuation len ∷ Byte b ∷ us
+with_continuation len (Byte b ∷ us) =
+    if b == space then with_continuation (len + 1) us else Continuation len ∷ Byte b ∷ us
 with_continuation len (Escape b ∷ us) = Continuation len ∷ Escape b ∷ us
 with_continuation len (Continuation more ∷ us) = Continuation len ∷ Continuation more ∷ us
 
--- The units of a text, from its first byte on: `$` LF and `$` CR LF continue the line, with all spaces after them; `$` and any
--- other byte are an escape; each other byte is a unit by itself, and so is a `$` at the very end.
+-- The units of a text, from its first byte on: `$` LF and `$` CR LF continue the line, with all
+-- spaces after them; `$` and any other byte are an escape; each other byte is a unit by itself, and
+-- so is a `$` at the very end.
 abbrev pub units : List ℕ → List LineUnit
 units [] = []
 units (a ∷ []) = Byte a ∷ []
@@ -68,8 +71,3 @@ units (a ∷ b ∷ c ∷ bytes) =
     else if (b == carriage_return) && (c == line_feed) then with_continuation 3 (units bytes)
     else Escape b ∷ units (c ∷ bytes))
     else Byte a ∷ units (b ∷ c ∷ bytes)
-
--- how many spaces stand at the front
-abbrev pub spaces_at : List ℕ → ℕ
-spaces_at [] = 0
-spaces_at (b ∷ bytes) = if b == space then 1 + spaces_at bytes else 0

@@ -3,7 +3,8 @@ ghost use Rattle.std.specs.Prelude.{◌≡◌, ◌<◌, ◌≤◌, length, drop,
 ghost use Rattle.ninja_text.specs.LineViews.{seen_line};
 ghost use Rattle.ninja_text.specs.AssignmentViews.{IsAssignment, seen_assignment};
 ghost use Rattle.ninja_text.specs.Tokens.{is_blank};
-ghost use Rattle.ninja_text.specs.Assignments.{LiesIn, assignment_places, is_name_unit, Run};
+ghost use Rattle.ninja_text.specs.Assignments.{LiesIn, assignment_indexes, is_name_unit};
+ghost use Rattle.ninja_text.specs.inner.Runs.{Run};
 
 use crate::assignments::Assignment;
 use crate::checking::fault_in;
@@ -13,40 +14,43 @@ use crate::unit::unit_at;
 
 /// Where the parts of an assignment stand: the name, and the value, which goes to the end.
 #[derive(Clone, Copy, Debug)]
-pub(crate) struct AssignmentPlaces {
+pub(crate) struct AssignmentIndexes {
     pub(crate) name_start: usize,
     pub(crate) name_end: usize,
     pub(crate) value_start: usize,
 }
 
-/// The assignment that a line is that is no comment, `None` where it is none, or the line's first lexical fault.
+/// The assignment that a line is that is no comment, `None` where it is none, or the line's first
+/// lexical fault.
 ///
-/// The name begins at the line's first byte that is not blank, `=` follows it, and the value goes to the line's end; spaces
-/// and continuations may stand between them.
+/// The name begins at the line's first byte that is not blank, `=` follows it, and the value goes
+/// to the line's end; spaces and continuations may stand between them.
 pub fn assignment(line: Line<'_>) -> Result<Option<Assignment<'_>>, LexFault>
     requires { (seen_line line).comment ≡ false }
     ensures found { IsAssignment (seen_line line.entry) result }
     // The name and the value are slices of the text, the name before the value.
-    ensures slices { IfOk result (λ a. IfSome a (λ b. LiesIn (seen_line line.entry).text (seen_assignment b))) }
+    ensures slices { IfOk result (λ found. IfSome found
+        (λ a. LiesIn (seen_line line.entry).text (seen_assignment a))) }
 {
     let text = line.text();
     if let Some(fault) = fault_in(text) {
         return Err(fault);
     }
-    match places_in(text) {
+    match indexes_in(text) {
         None => Ok(None),
-        Some(places) => Ok(Some(Assignment {
-            name_start: places.name_start,
-            name: &text[places.name_start..places.name_end],
-            raw_value: &text[places.value_start..],
+        Some(indexes) => Ok(Some(Assignment {
+            name_start: indexes.name_start,
+            name: &text[indexes.name_start..indexes.name_end],
+            raw_value: &text[indexes.value_start..],
         })),
     }
 }
 
 /// Where the parts of the assignment stand that a text is.
-fn places_in(text: &[u8]) -> Option<AssignmentPlaces>
-    ensures value { result ≡ assignment_places text.now }
-    ensures within { IfSome result (λ a. (a.name_start < a.name_end) × (a.name_end < a.value_start) × (a.value_start ≤ length text.now)) }
+fn indexes_in(text: &[u8]) -> Option<AssignmentIndexes>
+    ensures value { result ≡ assignment_indexes text.now }
+    ensures within { IfSome result (λ a. (a.name_start < a.name_end)
+        × (a.name_end < a.value_start) × (a.value_start ≤ length text.now)) }
 {
     let name_start = blank_end(text, 0);
     let name_end = name_end(text, name_start);
@@ -61,43 +65,43 @@ fn places_in(text: &[u8]) -> Option<AssignmentPlaces>
         return None;
     }
     let value_start = blank_end(text, sign + 1);
-    Some(AssignmentPlaces {
+    Some(AssignmentIndexes {
         name_start,
         name_end,
         value_start,
     })
 }
 
-/// Where the blank run ends that begins at a place.
+/// Where the blank run ends that begins at an index.
 fn blank_end(text: &[u8], from: usize) -> usize
     requires { from ≤ length text.now }
     ensures within { (from ≤ result) × (result ≤ length text.now) }
     ensures run { Run is_blank text.now from result }
 {
-    let mut place = from;
-    while place < text.len() {
-        let unit = unit_at(text, place);
+    let mut index = from;
+    while index < text.len() {
+        let unit = unit_at(text, index);
         if !unit.is_blank() {
-            return place;
+            return index;
         }
-        place += unit.len();
+        index += unit.len();
     }
-    place
+    index
 }
 
-/// Where the name ends that begins at a place.
+/// Where the name ends that begins at an index.
 fn name_end(text: &[u8], from: usize) -> usize
     requires { from ≤ length text.now }
     ensures within { (from ≤ result) × (result ≤ length text.now) }
     ensures run { Run is_name_unit text.now from result }
 {
-    let mut place = from;
-    while place < text.len() {
-        let unit = unit_at(text, place);
+    let mut index = from;
+    while index < text.len() {
+        let unit = unit_at(text, index);
         if !unit.is_name_part() {
-            return place;
+            return index;
         }
-        place += unit.len();
+        index += unit.len();
     }
-    place
+    index
 }

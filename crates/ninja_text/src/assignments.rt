@@ -17,7 +17,7 @@ impl<'a> Assignment<'a> {
     ghost use Rattle.ninja_text.specs.Tokens.{value_of};
     ghost use Rattle.ninja_text.specs.AssignmentViews.{seen_assignment};
 
-    /// The place of the name's first byte in the line's text: 0 where the line is not indented.
+    /// The index of the name's first byte in the line's text: 0 where the line is not indented.
     pub fn name_start(&self) -> usize
         ensures { result ≡ (seen_assignment self.now).name_start }
     {
@@ -31,17 +31,20 @@ impl<'a> Assignment<'a> {
         self.name
     }
 
-    /// The rest of the line after `=` and what is blank behind it, escapes and continuations included.
+    /// The rest of the line after `=` and what is blank behind it, escapes and continuations
+    /// included.
     pub fn raw_value(&self) -> &'a [u8]
         ensures { result.now ≡ (seen_assignment self.now).raw_value }
     {
         self.raw_value
     }
 
-    /// Appends what the value's bytes stand for: an escape stands for its second byte, a continuation for nothing, and any
-    /// other byte for itself, spaces at the end included. Where the vector cannot grow, it is left as it was.
+    /// Appends what the value's bytes stand for: an escape stands for its second byte, a
+    /// continuation for nothing, and any other byte for itself, spaces at the end included. Where
+    /// the vector cannot grow, it is left as it was.
     pub fn value_into(&self, out: &mut Vec<u8>) -> Result<(), AllocError>
-        ensures ok { OnOk result (out.new.items ≡ out.old.items ++ value_of (seen_assignment self.now).raw_value) }
+        ensures ok { OnOk result
+            (out.new.items ≡ out.old.items ++ value_of (seen_assignment self.now).raw_value) }
         ensures err { OnErr result (out.new.items ≡ out.old.items) }
     {
         append_meaning(self.raw_value, out)

@@ -9,9 +9,9 @@ use std::io::{Read, Write};
 
 /// What has a `read` that can be called.
 ///
-/// Every `Read` has, and no more is known of its calls than the library says of all readers. Where more is known of a
-/// source, it can say so: `reads` relates the source before a call, the source after it, the call's answer, and what then
-/// stands in the buffer.
+/// Every `Read` has, and no more is known of its calls than the library says of all readers. Where
+/// more is known of a source, it can say so: `reads` relates the source before a call, the source
+/// after it, the call's answer, and what then stands in the buffer.
 pub trait ReadCall {
     // the bytes that calls will give from here on, where they are known
     ghost remaining: { Self → Option (List ℕ) };
@@ -37,8 +37,9 @@ impl<R: Read> ReadCall for R {
 
 /// What has a `write` that can be called.
 ///
-/// Every `Write` has, and no more is known of its calls than the library says of all writers. Where more is known of a
-/// sink, it can say so: `writes` relates the sink before a call, the sink after it, the call's answer, and the piece.
+/// Every `Write` has, and no more is known of its calls than the library says of all writers. Where
+/// more is known of a sink, it can say so: `writes` relates the sink before a call, the sink after
+/// it, the call's answer, and the piece.
 pub trait WriteCall {
     // the bytes that calls wrote, where they are known
     ghost contents: { Self → Option (List ℕ) };

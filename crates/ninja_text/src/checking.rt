@@ -9,31 +9,31 @@ use crate::unit::{LineUnit, unit_at};
 pub(crate) fn fault_in(text: &[u8]) -> Option<LexFault>
     ensures { result ≡ lexical_fault text.now }
 {
-    let mut place = 0;
-    while place < text.len() {
-        let unit = unit_at(text, place);
-        let fault = fault_at(place, unit);
+    let mut index = 0;
+    while index < text.len() {
+        let unit = unit_at(text, index);
+        let fault = fault_at(index, unit);
         if fault.is_some() {
             return fault;
         }
-        place += unit.len();
+        index += unit.len();
     }
     None
 }
 
-/// The fault of a unit that stands at a place.
-fn fault_at(place: usize, unit: LineUnit) -> Option<LexFault>
-    ensures { result ≡ unit_fault place unit }
+/// The fault of a unit that stands at an index.
+fn fault_at(index: usize, unit: LineUnit) -> Option<LexFault>
+    ensures { result ≡ unit_fault index unit }
 {
     match unit {
         LineUnit::Continuation(_) => None,
         LineUnit::Escape(b'{' | b'_' | b'-' | b'a'..=b'z' | b'A'..=b'Z' | b'0'..=b'9') => Some(
-            LexFault::Variable { place },
+            LexFault::Variable { place: index },
         ),
         LineUnit::Escape(b'$' | b' ' | b':') => None,
-        LineUnit::Escape(_) => Some(LexFault::BadEscape { place }),
-        LineUnit::Byte(0) => Some(LexFault::Nul { place }),
-        LineUnit::Byte(b'\r') => Some(LexFault::LoneCr { place }),
+        LineUnit::Escape(_) => Some(LexFault::BadEscape { place: index }),
+        LineUnit::Byte(0) => Some(LexFault::Nul { place: index }),
+        LineUnit::Byte(b'\r') => Some(LexFault::LoneCr { place: index }),
         LineUnit::Byte(_) => None,
     }
 }

@@ -1,7 +1,8 @@
 //! Bytes that come in pieces, cut into logical lines.
 ghost use Rattle.std.specs.Prelude.{◌≡◌, ℕ, ◌+◌, ◌^◌, ◌<◌, ◌≤◌, List, [], ◌++◌, length, take, false, IfOk};
 ghost use Rattle.ninja_text.specs.Lines.{is_comment, line_feeds_in};
-ghost use Rattle.ninja_text.specs.Reaching.{IsGoing, PhaseFits, bytes_in, Reaches};
+ghost use Rattle.ninja_text.specs.inner.Reaching.{IsGoing, Reaches};
+ghost use Rattle.ninja_text.specs.Phases.{PhaseFits, bytes_in};
 
 use crate::failure::Failure;
 use crate::faults::CutFault;
@@ -10,11 +11,13 @@ use crate::scan::{ScanState, Scanned, scan_bytes};
 use std::alloc::Global;
 use std::marker::Model;
 
-/// Cuts bytes that come in pieces of any size into logical lines (Ninja 1.11 manual, "Lexical syntax").
+/// Cuts bytes that come in pieces of any size into logical lines (Ninja 1.11 manual, "Lexical
+/// syntax").
 ///
-/// Feed it a piece; while a line waits, take it by `next_line` and feed the rest of the piece. A line ends at its first LF
-/// that no `$` before it escapes; in a comment, at its first LF. Of an unfinished line the cutter holds the bytes, at most
-/// [`LINE_LIMIT`] of them, and one small state, so that the search for its end goes on where it stopped.
+/// Feed it a piece; while a line waits, take it by `next_line` and feed the rest of the piece. A
+/// line ends at its first LF that no `$` before it escapes; in a comment, at its first LF. Of an
+/// unfinished line the cutter holds the bytes, at most [`LINE_LIMIT`] of them, and one small state,
+/// so that the search for its end goes on where it stopped.
 #[derive(Drop)]
 pub struct LineCutter {
     buffer: Vec<u8>,
@@ -64,23 +67,26 @@ impl LineCutter {
         }
     }
 
-    /// Takes a beginning of the piece, up to and with the end of the next line, else the whole piece, and answers how many
-    /// bytes it took. While a line waits it takes none.
+    /// Takes a beginning of the piece, up to and with the end of the next line, else the whole
+    /// piece, and answers how many bytes it took. While a line waits it takes none.
     ///
-    /// `LineTooLong` as soon as the line's first [`LINE_LIMIT`] bytes are there and hold no end; every later `feed`,
-    /// `next_line` and `finish` answers the same. `Memory` where the line's bytes found no room, and never while a line
-    /// waits: then nothing was taken, and the same piece can be fed again.
+    /// `LineTooLong` as soon as the line's first [`LINE_LIMIT`] bytes are there and hold no end;
+    /// every later `feed`, `next_line` and `finish` answers the same. `Memory` where the line's
+    /// bytes found no room, and never while a line waits: then nothing was taken, and the same
+    /// piece can be fed again.
     pub fn feed(&mut self, piece: &[u8]) -> Result<usize, Failure<CutFault>>
         ensures exact { Feeds self.old piece.now result self.new }
         ensures within { IfOk result (λ n. n ≤ length piece.now) }
         ensures some { self.old.waits ≡ false → 0 < length piece.now → IfOk result (λ n. 0 < n) }
         // Whatever was taken and lent before, this call takes what it answers.
-        ensures all { (taken : List ℕ) (lent : List LogicalLine) → Cuts taken lent self.old → FeedsAll taken lent piece.now result self.new }
+        ensures all { (taken : List ℕ) (lent : List LogicalLine) → Cuts taken lent self.old
+            → FeedsAll taken lent piece.now result self.new }
     {
         self.take_from(piece)
     }
 
-    /// Lends the line that waits, once; `None` only where none waits. After a line that is too long: that fault again.
+    /// Lends the line that waits, once; `None` only where none waits. After a line that is too
+    /// long: that fault again.
     pub fn next_line(&mut self) -> Result<Option<Line<'_>>, CutFault>
         ensures line { Lends self.old result }
         // Once the line is no longer borrowed, it has been lent.
@@ -137,7 +143,8 @@ impl LineCutter {
         }
     }
 
-    /// Takes from the piece where no line waits. The bytes are looked at before room is asked for them.
+    /// Takes from the piece where no line waits. The bytes are looked at before room is asked for
+    /// them.
     fn gather(&mut self, piece: &[u8]) -> Result<usize, Failure<CutFault>>
         requires { (self.old.waits ≡ false) × (self.old.failed ≡ false) }
         ensures exact { Feeds self.old piece.now result self.new }

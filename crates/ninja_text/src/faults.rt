@@ -28,14 +28,16 @@ impl fmt::Display for CutFault {
 
 impl Error for CutFault {}
 
-/// What no token and no value can hold, with its place in the line's text (Ninja 1.11 manual, "Lexical syntax").
+/// What no token and no value can hold, with its place in the line's text (Ninja 1.11 manual,
+/// "Lexical syntax").
 #[derive(Clone, Copy, Debug, PartialEq, Eq)]
 pub enum LexFault {
     /// A NUL.
     Nul { place: usize },
     /// A CR that is no part of the line's end.
     LoneCr { place: usize },
-    /// `$` and a letter, a digit, `_`, `-` or `{`: a reference to a variable, and there are none here.
+    /// `$` and a letter, a digit, `_`, `-` or `{`: a reference to a variable, and there are none
+    /// here.
     Variable { place: usize },
     /// `$` and any other byte but `$`, space and `:`.
     BadEscape { place: usize },

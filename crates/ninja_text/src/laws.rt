@@ -9,20 +9,24 @@ ghost use Rattle.ninja_text.specs.Meanings.{IsFaultless, IsReadAsSpelled, Spells
 
 /// A text is divided into lines and a rest, and in one way only.
 pub fn one_division()
-    ensures some { (bytes : List ℕ) → (lines : List (List ℕ)) × (rest : List ℕ) × Divides bytes lines rest }
-    ensures one { (bytes : List ℕ) (lines others : List (List ℕ)) (rest left : List ℕ) → Divides bytes lines rest → Divides bytes others left → (lines ≡ others) × (rest ≡ left) }
+    ensures some { (bytes : List ℕ)
+        → (lines : List (List ℕ)) × (rest : List ℕ) × Divides bytes lines rest }
+    ensures one { (bytes : List ℕ) (lines others : List (List ℕ)) (rest left : List ℕ)
+        → Divides bytes lines rest → Divides bytes others left
+        → (lines ≡ others) × (rest ≡ left) }
 {}
 
-/// The tokens that [`words`](crate::words) gives divide the text, with nothing but spaces and continuations between them, and
-/// no other list of tokens does.
+/// The tokens that [`words`](crate::words) gives divide the text, with nothing but spaces and
+/// continuations between them, and no other list of tokens does.
 pub fn one_list_of_tokens()
     ensures some { (text : List ℕ) → AreTokens text (tokens text) }
     ensures one { (text : List ℕ) (ts : List TokenAt) → AreTokens text ts → ts ≡ tokens text }
 {}
 
-/// What is read of a word is what its bytes spell, so that a reader and a writer mean the same by it; and so is what is read
-/// of an assignment's value. Both are said of each line that a cutter can lend, that is no comment and has no lexical fault.
-/// The bytes of a value spell one value only; of a word [`one_meaning`](crate::one_meaning) says that.
+/// What is read of a word is what its bytes spell, so that a reader and a writer mean the same by
+/// it; and so is what is read of an assignment's value. Both are said of each line that a cutter
+/// can lend, that is no comment and has no lexical fault. The bytes of a value spell one value
+/// only; of a word [`one_meaning`](crate::one_meaning) says that.
 pub fn read_as_spelled()
     ensures words { (line : List ℕ) → IsFaultless line
         → All IsReadAsSpelled (seen_tokens (text_of line)) }

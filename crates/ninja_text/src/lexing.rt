@@ -3,7 +3,8 @@ ghost use Rattle.std.specs.Prelude.{◌≡◌, ◌≢◌, ℕ, ◌+◌, ◌<◌,
 ghost use Rattle.ninja_text.specs.LineViews.{seen_line};
 ghost use Rattle.ninja_text.specs.TokenViews.{IsWords, tokens_left};
 ghost use Rattle.std.specs.List.{AllByRecursion};
-ghost use Rattle.ninja_text.specs.Tokens.{IsSlice, RiseFrom, tokens_at, BeginsToken, BeginsPiece, BeginsBar};
+ghost use Rattle.ninja_text.specs.Tokens.{IsSlice, RiseFrom, tokens_at};
+ghost use Rattle.ninja_text.specs.inner.TokenStarts.{BeginsToken, BeginsPiece, BeginsBar, IsFirstToken};
 
 use crate::checking::fault_in;
 use crate::faults::LexFault;
@@ -11,20 +12,21 @@ use crate::line::Line;
 use crate::token::{TokenKind, Words};
 use crate::unit::unit_at;
 
-/// The tokens of a line that is no comment, in order, or the line's first lexical fault (Ninja 1.11 manual, "Lexical
-/// syntax").
+/// The tokens of a line that is no comment, in order, or the line's first lexical fault (Ninja 1.11
+/// manual, "Lexical syntax").
 pub fn words(line: Line<'_>) -> Result<Words<'_>, LexFault>
     requires { (seen_line line).comment ≡ false }
     ensures tokens { IsWords (seen_line line.entry) result }
     // The tokens' bytes are slices of the text, and their spans rise.
-    ensures slices { IfOk result (λ words. AllByRecursion (IsSlice (seen_line line.entry).text) (tokens_left words)) }
+    ensures slices { IfOk result
+        (λ words. AllByRecursion (IsSlice (seen_line line.entry).text) (tokens_left words)) }
     ensures rise { IfOk result (λ words. RiseFrom 0 (tokens_left words)) }
 {
     match fault_in(line.text()) {
         Some(fault) => Err(fault),
         None => Ok(Words {
             text: line.text(),
-            place: 0,
+            index: 0,
         }),
     }
 }
@@ -36,23 +38,23 @@ pub(crate) fn token_start(text: &[u8], from: usize) -> usize
     ensures same { tokens_at text.now result ≡ tokens_at text.now from }
     ensures begins { BeginsToken text.now result }
 {
-    let mut place = from;
-    while place < text.len() {
-        let unit = unit_at(text, place);
+    let mut index = from;
+    while index < text.len() {
+        let unit = unit_at(text, index);
         if !unit.is_blank() {
-            return place;
+            return index;
         }
-        place += unit.len();
+        index += unit.len();
     }
-    place
+    index
 }
 
-/// The kind of the token that begins at a place, and its end.
+/// The kind of the token that begins at an index, and its end.
 pub(crate) fn token_at(text: &[u8], start: usize) -> (TokenKind, usize)
     requires in_text { start < length text.now }
     requires begins { BeginsToken text.now start }
     ensures within { (start < result.1) × (result.1 ≤ length text.now) }
-    ensures first { tokens_at text.now start ≡ record { kind = result.0; start = start; end = result.1 } ∷ tokens_at text.now result.1 }
+    ensures first { IsFirstToken text.now start result.0 result.1 }
 {
     let unit = unit_at(text, start);
     if unit.is_byte(b':') {
@@ -69,7 +71,7 @@ fn bar_at(text: &[u8], start: usize) -> (TokenKind, usize)
     requires in_text { start < length text.now }
     requires is_bar { BeginsBar text.now start }
     ensures within { (start < result.1) × (result.1 ≤ length text.now) }
-    ensures first { tokens_at text.now start ≡ record { kind = result.0; start = start; end = result.1 } ∷ tokens_at text.now result.1 }
+    ensures first { IsFirstToken text.now start result.0 result.1 }
 {
     if start + 1 == text.len() {
         return (TokenKind::Bar, start + 1);
@@ -84,23 +86,24 @@ fn bar_at(text: &[u8], start: usize) -> (TokenKind, usize)
     (TokenKind::Bar, start + 1)
 }
 
-/// Where the word ends whose first piece stands at a place: after its last piece, and before the continuations behind it.
+/// Where the word ends whose first piece stands at an index: after its last piece, and before the
+/// continuations behind it.
 fn word_end(text: &[u8], start: usize) -> usize
     requires in_text { start < length text.now }
     requires begins { BeginsPiece text.now start }
     ensures within { (start < result) × (result ≤ length text.now) }
-    ensures first { tokens_at text.now start ≡ record { kind = TokenKind.Word; start = start; end = result } ∷ tokens_at text.now result }
+    ensures first { IsFirstToken text.now start TokenKind.Word result }
 {
     let first = unit_at(text, start);
-    let mut place = start + first.len();
-    let mut end = place;
-    while place < text.len() {
-        let unit = unit_at(text, place);
+    let mut index = start + first.len();
+    let mut end = index;
+    while index < text.len() {
+        let unit = unit_at(text, index);
         if unit.is_piece() {
-            place += unit.len();
-            end = place;
+            index += unit.len();
+            end = index;
         } else if unit.is_continuation() {
-            place += unit.len();
+            index += unit.len();
         } else {
             break;
         }

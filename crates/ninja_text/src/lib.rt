@@ -1,27 +1,32 @@
-//! The text of Ninja files: paths and their spellings, lines and words, and readers and writers whose failed calls are
-//! counted.
+//! The text of Ninja files: paths and their spellings, lines and words, and readers and writers
+//! whose failed calls are counted.
 //!
-//! - [`Path`] is a canonical path. [`Path::of`] and [`place`] answer the path that a text means, or the first fault that
-//!   keeps it from being one. What a text means is stated by rewriting steps, in `specs/Reduction.antt` and
-//!   `specs/Paths.antt`; [`one_canonical_list`] proves that the choice of steps does not matter.
-//! - [`escape_into`] spells a path as Ninja reads it, and [`one_meaning`] proves that a spelling stands for one value
-//!   (`specs/Escapes.antt`).
-//! - [`LineCutter`] cuts bytes that come in pieces of any size into logical lines. Whatever the pieces are, the lines lent are
-//!   those of the bytes taken, in order and numbered (`specs/Lines.antt`, `specs/Cutting.antt`), and its buffer never passes
-//!   [`LINE_LIMIT`] bytes.
-//! - [`LineReader`] reads bytes that come so into a [`LineState`], line by line: it answers the state that all lines lead to, or
-//!   the first line that is refused (`specs/LineReading.antt`).
-//! - [`words`] gives all tokens of a line in order (`specs/Tokens.antt`), and [`assignment`] its name and value
-//!   (`specs/Assignments.antt`), or the line's first lexical fault (`specs/Lexical.antt`). The rules are those of the Ninja 1.11
-//!   manual, "Lexical syntax"; these definitions state them on whole texts, and know nothing of the pieces in which a text came.
-//! - [`laws`] proves that there is one division of a text into lines, and one list of tokens, and no other; and that what is
-//!   read of a word or a value is what its bytes spell (`specs/Meanings.antt`), so that reader and writer mean the same.
-//! - [`Counted`] counts the failed calls of a reader or a writer, and writes a text up to the first one
-//!   (`specs/Counting.antt`).
+//! - [`Path`] is a canonical path. [`Path::of`] and [`place`] answer the path that a text means, or
+//!   the first fault that keeps it from being one. What a text means is stated by rewriting steps,
+//!   in `specs/Reduction.antt` and `specs/Paths.antt`; [`one_canonical_list`] proves that the
+//!   choice of steps does not matter.
+//! - [`escape_into`] spells a path as Ninja reads it, and [`one_meaning`] proves that a spelling
+//!   stands for one value (`specs/Escapes.antt`).
+//! - [`LineCutter`] cuts bytes that come in pieces of any size into logical lines. Whatever the
+//!   pieces are, the lines lent are those of the bytes taken, in order and numbered
+//!   (`specs/Lines.antt`, `specs/Cutting.antt`), and its buffer never passes [`LINE_LIMIT`] bytes.
+//! - [`LineReader`] reads bytes that come so into a [`LineState`], line by line: it answers the
+//!   state that all lines lead to, or the first line that is refused (`specs/LineReading.antt`).
+//! - [`words`] gives all tokens of a line in order (`specs/Tokens.antt`), and [`assignment`] its
+//!   name and value (`specs/Assignments.antt`), or the line's first lexical fault
+//!   (`specs/Lexical.antt`). The rules are those of the Ninja 1.11 manual, "Lexical syntax"; these
+//!   definitions state them on whole texts, and know nothing of the pieces in which a text came.
+//! - [`laws`] proves that there is one division of a text into lines, and one list of tokens, and
+//!   no other; and that what is read of a word or a value is what its bytes spell
+//!   (`specs/Meanings.antt`), so that reader and writer mean the same.
+//! - [`Counted`] counts the failed calls of a reader or a writer, and writes a text up to the first
+//!   one (`specs/Counting.antt`).
 //! - [`Failure`] is what a call answers that may want memory (`specs/Failure.antt`).
-//! - How [`PathFault`], [`CutFault`] and [`LexFault`] are printed is proved too (`specs/FaultTexts.antt`).
+//! - How [`PathFault`], [`CutFault`] and [`LexFault`] are printed is proved too
+//!   (`specs/FaultTexts.antt`).
 //!
-//! It stands on `std` alone.
+//! Definitions that private clauses alone speak of stand below `specs/inner/`, and what other crates
+//! cite of the proofs in `proofs/ForCallers.antt`. The crate stands on `std` alone.
 #![tactic(auto)]
 
 mod assigning;

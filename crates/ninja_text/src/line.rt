@@ -6,7 +6,8 @@ pub const LINE_LIMIT: usize = 1_048_576;
 
 /// A logical line, lent by the cutter that holds its bytes.
 ///
-/// Continuations stand in its text as they were read: they belong to the line, and its end does not.
+/// Continuations stand in its text as they were read: they belong to the line, and its end does
+/// not.
 #[derive(Clone, Copy, Debug)]
 pub struct Line<'a> {
     pub(crate) text: &'a [u8],
@@ -31,7 +32,8 @@ impl<'a> Line<'a> {
         self.number
     }
 
-    /// Whether its first byte other than space is `#`. A comment may hold any bytes, and has neither tokens nor faults.
+    /// Whether its first byte other than space is `#`. A comment may hold any bytes, and has
+    /// neither tokens nor faults.
     pub fn is_comment(&self) -> bool
         ensures { result ≡ (seen_line self.now).comment }
     {

@@ -2,7 +2,8 @@
 ghost use Rattle.std.specs.Prelude.{◌≡◌, ℕ, List, ◌++◌, false};
 ghost use Rattle.ninja_text.specs.Lines.{LogicalLine};
 ghost use Rattle.ninja_text.specs.LineViews.{seen_line};
-ghost use Rattle.ninja_text.specs.LineReading.{ReadsLine, HasLent, ReadsPiece, failure_of};
+ghost use Rattle.ninja_text.specs.LineReading.{ReadsLine, HasLent};
+ghost use Rattle.ninja_text.specs.inner.PieceReading.{ReadsPiece, failure_of};
 ghost use Rattle.ninja_text.specs.declared.faults.CutFault.{CutFault};
 
 use crate::cutter::LineCutter;
@@ -14,7 +15,8 @@ use std::marker::Model;
 
 /// What the lines of a file so far amount to, and what one more line does to it.
 ///
-/// `passes` relates the state before a line, the line, and the state after it; `refuses` the state, the line, and its fault.
+/// `passes` relates the state before a line, the line, and the state after it; `refuses` the state,
+/// the line, and its fault.
 pub trait LineState {
     /// Why a line is refused.
     type Fault;
@@ -37,7 +39,8 @@ pub trait LineState {
 
 /// Reads a text that comes in pieces into a state, line by line.
 ///
-/// A piece may end anywhere, within a continuation or between CR and LF too: the answer is that for the whole text.
+/// A piece may end anywhere, within a continuation or between CR and LF too: the answer is that for
+/// the whole text.
 #[derive(Drop)]
 pub struct LineReader<S, F> {
     alloc: Global,
@@ -78,14 +81,15 @@ impl<F: Copy, S: LineState<Fault = F> + Drop> LineReader<S, F> {
 
     /// Takes the next piece of the text, all of it.
     ///
-    /// The first line that the state refuses is answered as soon as its end is there, and `LineTooLong` as soon as
-    /// [`LINE_LIMIT`](crate::LINE_LIMIT) bytes hold no end. A reader that refused, for want of memory too, answers the same
-    /// from then on.
+    /// The first line that the state refuses is answered as soon as its end is there, and
+    /// `LineTooLong` as soon as [`LINE_LIMIT`](crate::LINE_LIMIT) bytes hold no end. A reader that
+    /// refused, for want of memory too, answers the same from then on.
     pub fn feed(&mut self, piece: &[u8]) -> Result<(), Failure<F>>
         ensures failed { StaysRefused self.old result self.new }
         // Whatever bytes it was fed before this piece, and whatever lines they were.
         ensures all { (bytes : List ℕ) (lent : List LogicalLine) → HasLentAll bytes lent self.old
-            → FeedsLines S.passes S.refuses S.of_cutter (bytes ++ piece.now) lent self.old.state result self.new }
+            → FeedsLines S.passes S.refuses S.of_cutter (bytes ++ piece.now) lent
+            self.old.state result self.new }
     {
         if let Some(failure) = self.failed {
             return Err(failure);
@@ -99,9 +103,11 @@ impl<F: Copy, S: LineState<Fault = F> + Drop> LineReader<S, F> {
         }
     }
 
-    /// The state that the lines led to, and the number of the line that would come next, once all of the text was fed.
+    /// The state that the lines led to, and the number of the line that would come next, once all
+    /// of the text was fed.
     ///
-    /// `Truncated` where the last line has no end. A reader that refused answers the same once more.
+    /// `Truncated` where the last line has no end. A reader that refused answers the same once
+    /// more.
     pub fn finish(self) -> Result<(S, u64), Failure<F>>
         ensures failed { (failure : Failure F) → self.failed ≡ Some failure → result ≡ Err failure }
         ensures all { (bytes : List ℕ) (lent : List LogicalLine) → HasLentAll bytes lent self
@@ -133,7 +139,8 @@ fn read_piece<S: LineState>(
     requires { cutter.old.waits ≡ false }
     ensures waits_not { cutter.new.waits ≡ false }
     ensures all { (bytes : List ℕ) (lent : List LogicalLine) → HasLent bytes lent cutter.old
-        → ReadsPiece S.passes S.refuses S.of_cutter (bytes ++ piece.now) lent state.old result cutter.new state.new }
+        → ReadsPiece S.passes S.refuses S.of_cutter (bytes ++ piece.now) lent
+        state.old result cutter.new state.new }
 {
     let mut rest = piece;
     while !rest.is_empty() {

@@ -5,20 +5,21 @@ ghost use Rattle.ninja_text.specs.Tokens.{unit_value, value_of};
 use crate::unit::{LineUnit, unit_at};
 use std::alloc::AllocError;
 
-/// Appends what the bytes of a word or a value stand for. Where the vector cannot grow, it is left as it was.
+/// Appends what the bytes of a word or a value stand for. Where the vector cannot grow, it is left
+/// as it was.
 pub(crate) fn append_meaning(raw: &[u8], out: &mut Vec<u8>) -> Result<(), AllocError>
     ensures ok { OnOk result (out.new.items ≡ out.old.items ++ value_of raw.now) }
     ensures err { OnErr result (out.new.items ≡ out.old.items) }
 {
     let before = out.len();
-    let mut place = 0;
-    while place < raw.len() {
-        let unit = unit_at(raw, place);
+    let mut index = 0;
+    while index < raw.len() {
+        let unit = unit_at(raw, index);
         if append_unit(unit, out).is_err() {
             out.truncate(before);
             return Err(AllocError);
         }
-        place += unit.len();
+        index += unit.len();
     }
     Ok(())
 }

@@ -6,7 +6,7 @@ ghost use Rattle.ninja_text.specs.Escapes.{IsWritable};
 ghost use Rattle.ninja_text.specs.Reduction.{ReducesTo, components, reduced};
 ghost use Rattle.ninja_text.specs.Paths.{path_of, IsPath, is_rooted, below, seen_from, canonical_of, placed};
 ghost use Rattle.ninja_text.specs.PathShape.{parts, IsShaped};
-ghost use Rattle.ninja_text.specs.ComponentLists.{list_text};
+ghost use Rattle.ninja_text.specs.inner.ComponentLists.{list_text, reduced_text};
 ghost use Rattle.ninja_text.specs.declared.paths.PathFault.TheVariants.{Empty};
 
 use crate::failure::Failure;
@@ -28,8 +28,8 @@ pub enum PathFault {
     Empty,
     /// The path is absolute, and a `..` is left.
     AboveRoot,
-    /// The text that was read has a byte that no spelling in a Ninja file stands for: `|`, NUL, CR or LF.
-    /// The place is that of the first one, from 0, before anything is deleted.
+    /// The text that was read has a byte that no spelling in a Ninja file stands for: `|`, NUL, CR
+    /// or LF. The place is that of the first one, from 0, before anything is deleted.
     Unwritable { place: usize },
     /// The canonical path has more than 4,096 bytes.
     TooLong,
@@ -53,9 +53,10 @@ impl fmt::Display for PathFault {
 
 impl Error for PathFault {}
 
-/// A canonical path: the text that is left when empty components and `.` are deleted, and a name together with a `..`
-/// behind it, until neither can be done. An absolute path keeps the slash that it begins with, and a relative one the `..`
-/// that it begins with. Nothing is looked up in a file system.
+/// A canonical path: the text that is left when empty components and `.` are deleted, and a name
+/// together with a `..` behind it, until neither can be done. An absolute path keeps the slash that
+/// it begins with, and a relative one the `..` that it begins with. Nothing is looked up in a file
+/// system.
 ///
 /// A contract sees a path as its text. It has 1 to 4,096 bytes, none of them `|`, NUL, CR or LF.
 #[derive(Drop)]
@@ -75,7 +76,8 @@ impl Model for Path {
 }
 
 impl Path {
-    /// The canonical path of a text. The fault is the first one that is present, in the order of [`PathFault`].
+    /// The canonical path of a text. The fault is the first one that is present, in the order of
+    /// [`PathFault`].
     pub fn of(alloc: Global, text: &[u8]) -> Result<Path, Failure<PathFault>>
         ensures meaning { Gives (λ path. path) result (path_of text.now) }
         ensures text { IsUtf8 text.now → IfOk result IsUtf8 }
@@ -108,13 +110,16 @@ impl Path {
     }
 }
 
-/// The canonical path that a text names in a work directory, as seen from a build directory, which has to be absolute.
+/// The canonical path that a text names in a work directory, as seen from a build directory, which
+/// has to be absolute.
 ///
-/// An empty text has no path (N1). A relative text is read behind the work directory and a slash, unless there is no
-/// work directory or it is empty; an absolute one is read as it is. Where the build directory's components are a proper
-/// beginning of an absolute result's components, they are taken off and the result is relative.
+/// An empty text has no path (N1). A relative text is read behind the work directory and a slash,
+/// unless there is no work directory or it is empty; an absolute one is read as it is. Where the
+/// build directory's components are a proper beginning of an absolute result's components, they are
+/// taken off and the result is relative.
 ///
-/// The place of N3 is one in the text that was read, work directory included, and N4 counts the last result.
+/// The place of N3 is one in the text that was read, work directory included, and N4 counts the
+/// last result.
 #[tactic(auto, unfolding(crate::specs::Paths::placed))]
 pub fn place(
     alloc: Global,
@@ -123,8 +128,10 @@ pub fn place(
     path: &[u8],
 ) -> Result<Path, Failure<PathFault>>
     requires { ForSome (option_copied build) (λ b. is_rooted b ≡ true) }
-    ensures meaning { Gives (λ path. path) result (placed (option_copied work.entry) (option_copied build.entry) path.now) }
-    ensures text { ForSome (option_copied work.entry) IsUtf8 → IsUtf8 path.now → IfOk result IsUtf8 }
+    ensures meaning { Gives (λ path. path) result
+        (placed (option_copied work.entry) (option_copied build.entry) path.now) }
+    ensures text { ForSome (option_copied work.entry) IsUtf8 → IsUtf8 path.now
+        → IfOk result IsUtf8 }
 {
     if path.is_empty() {
         return Err(Failure::Fault(PathFault::Empty));
@@ -144,9 +151,9 @@ pub fn one_canonical_list()
     ensures only { (list other : List (List ℕ)) → ReducesTo list other → other ≡ reduced list }
 {}
 
-/// A law: the path of a text has the components that the text's components come to, whatever the choice of steps, and is
-/// absolute where the text is; a text whose components come to none has no path; and each path has the shape that its
-/// name promises.
+/// A law: the path of a text has the components that the text's components come to, whatever the
+/// choice of steps, and is absolute where the text is; a text whose components come to none has no
+/// path; and each path has the shape that its name promises.
 pub fn path_meaning()
     ensures path { (text path : List ℕ) → path_of text ≡ Ok path
         → (is_rooted path ≡ is_rooted text) × ReducesTo (components text) (parts path) }
@@ -167,7 +174,8 @@ fn joined(alloc: Global, work: &[u8], path: &[u8]) -> Result<Vec<u8>, AllocError
 /// The canonical path of a text, as seen from a build directory.
 fn canonical(alloc: Global, build: Option<&Path>, text: &[u8]) -> Result<Path, Failure<PathFault>>
     requires { ForSome (option_copied build) (λ b. is_rooted b ≡ true) }
-    ensures meaning { Gives (λ path. path) result (canonical_of (option_copied build.entry) text.now) }
+    ensures meaning { Gives (λ path. path) result
+        (canonical_of (option_copied build.entry) text.now) }
     ensures text { IsUtf8 text.now → IfOk result IsUtf8 }
 {
     let list = reduction::reduce(alloc, text)?;
@@ -195,8 +203,8 @@ fn seen(
     list: Vec<u8>,
 ) -> Result<Vec<u8>, AllocError>
     requires { ForSome (option_copied build) (λ b. is_rooted b ≡ true) }
-    ensures { IfOk result (λ seen. (text : List ℕ) → list.items ≡ list_text (reduced (components text))
-        → seen.items ≡ seen_from (option_copied build.entry) rooted (reduced (components text))) }
+    ensures { IfOk result (λ seen. (text : List ℕ) → list.items ≡ reduced_text text
+        → seen.items ≡ seen_from (option_copied build.entry) rooted (parts text)) }
 {
     if !rooted {
         return Ok(list);
@@ -210,11 +218,13 @@ fn seen(
     }
 }
 
-/// What of an absolute path's list stands below a build directory, where the directory is a proper beginning of it.
+/// What of an absolute path's list stands below a build directory, where the directory is a proper
+/// beginning of it.
 fn below<'t>(build: &Path, list: &'t [u8]) -> Option<&'t [u8]>
     requires { is_rooted build.now ≡ true }
-    ensures { (text : List ℕ) → list.now ≡ list_text (reduced (components text))
-        → option_map list_text (below (reduced (components build.now)) (reduced (components text))) ≡ option_map (λ r. r.now) result }
+    ensures { (text : List ℕ) → list.now ≡ reduced_text text
+        → option_map list_text (below (parts build.now) (parts text))
+        ≡ option_map (λ rest. rest.now) result }
 {
     let directory = build.bytes().strip_prefix(b"/")?;
     list.strip_prefix(directory)?.strip_prefix(b"/")
@@ -278,7 +288,8 @@ impl PartialOrd for Path {
 
     ghost partial_cmp = { as_partial_cmp (slice_cmp nat_cmp) };
 
-    ghost laws = { partial_order_from_own_ties (Prim.search (comparing, rules)) (Prim.search (comparing, rules)) };
+    ghost laws = { partial_order_from_own_ties
+        (Prim.search (comparing, rules)) (Prim.search (comparing, rules)) };
 
     fn partial_cmp(&self, other: &Path) -> Option<Ordering> {
         Some(self.cmp(other))

@@ -1,19 +1,20 @@
 //! From a text to its canonical list of components, in one pass.
 //!
-//! The list is kept as a text, its components joined by slashes and without the slash that an absolute path begins
-//! with. It is never longer than the text that is read.
+//! The list is kept as a text, its components joined by slashes and without the slash that an
+//! absolute path begins with. It is never longer than the text that is read.
 ghost use Rattle.std.specs.Prelude.{◌≡◌, ◌≢◌, ℕ, ◌+◌, ◌-◌, ◌<◌, ◌≤◌, ◌&&◌, List, [], ◌∷◌, ◌++◌, length, slice_index, take, MatchOption, IfOk, OnOk, true, false, position};
 ghost use Rattle.std.specs.List.{list_any};
 ghost use Rattle.ninja_text.specs.Escapes.{is_unwritable};
-ghost use Rattle.ninja_text.specs.Reduction.{components, is_current, is_parent, reduced};
+ghost use Rattle.ninja_text.specs.Reduction.{is_current, is_parent, reduced};
+ghost use Rattle.ninja_text.specs.PathShape.{parts};
 ghost use Rattle.ninja_text.specs.Paths.{is_empty, is_rooted};
-ghost use Rattle.ninja_text.specs.ComponentLists.{list_text, LacksSlash, EachLacksSlash, appended};
+ghost use Rattle.ninja_text.specs.inner.ComponentLists.{list_text, reduced_text, LacksSlash, EachLacksSlash, appended};
 
 use std::alloc::{AllocError, Global};
 
 /// The canonical list of a text's components.
 pub(crate) fn reduce(alloc: Global, text: &[u8]) -> Result<Vec<u8>, AllocError>
-    ensures { IfOk result (λ list. list.items ≡ list_text (reduced (components text.now))) }
+    ensures { IfOk result (λ list. list.items ≡ reduced_text text.now) }
 {
     let mut list = Vec::new(alloc);
     for component in text.split(|b| *b == b'/') {
@@ -24,20 +25,20 @@ pub(crate) fn reduce(alloc: Global, text: &[u8]) -> Result<Vec<u8>, AllocError>
 
 /// Whether a text's canonical list is empty.
 pub(crate) fn is_nothing(list: &[u8]) -> bool
-    ensures { (text : List ℕ) → list.now ≡ list_text (reduced (components text)) → result ≡ is_empty (reduced (components text)) }
+    ensures { (text : List ℕ) → list.now ≡ reduced_text text → result ≡ is_empty (parts text) }
 {
     list.is_empty()
 }
 
 /// Whether a text is absolute and its canonical list leads above the root.
 pub(crate) fn is_above_root(text: &[u8], list: &[u8]) -> bool
-    requires { list.now ≡ list_text (reduced (components text.now)) }
-    ensures { result ≡ (is_rooted text.now && list_any is_parent (reduced (components text.now))) }
+    requires { list.now ≡ reduced_text text.now }
+    ensures { result ≡ (is_rooted text.now && list_any is_parent (parts text.now)) }
 {
     is_rooted(text) && has_parent(list)
 }
 
-/// The place of the first byte of a text that has no spelling in a Ninja file.
+/// The index of the first byte of a text that has no spelling in a Ninja file.
 pub(crate) fn first_unwritable(text: &[u8]) -> Option<usize>
     ensures { result ≡ position is_unwritable text.now }
 {
@@ -95,9 +96,10 @@ fn append(list: &mut Vec<u8>, component: &[u8]) -> Result<(), AllocError>
 /// The length of a list without its last component, where that is a name.
 fn len_without_name(list: &[u8]) -> Option<usize>
     ensures empty { list.now ≡ [] → result ≡ None }
-    ensures last { (init : List (List ℕ)) (last : List ℕ) → LacksSlash last → is_current last ≡ false
-        → list.now ≡ list_text (init ++ last ∷ [])
-        → MatchOption result (is_parent last ≡ true) (λ n. (is_parent last ≡ false) × (take n list.now ≡ list_text init)) }
+    ensures last { (init : List (List ℕ)) (last : List ℕ)
+        → LacksSlash last → is_current last ≡ false → list.now ≡ list_text (init ++ last ∷ [])
+        → MatchOption result (is_parent last ≡ true)
+        (λ n. (is_parent last ≡ false) × (take n list.now ≡ list_text init)) }
 {
     let start = last_start(list);
     if start == list.len() || is_parent(&list[start..]) {
@@ -118,8 +120,8 @@ fn last_start(list: &[u8]) -> usize
 
 /// Whether a component of a canonical list is `..`.
 fn has_parent(list: &[u8]) -> bool
-    ensures { (text : List ℕ) → list.now ≡ list_text (reduced (components text))
-        → result ≡ list_any is_parent (reduced (components text)) }
+    ensures { (text : List ℕ) → list.now ≡ reduced_text text
+        → result ≡ list_any is_parent (parts text) }
 {
     list.split(|b| *b == b'/').any(is_parent)
 }

@@ -1,4 +1,5 @@
-//! The scan for a line's end, byte by byte: what is remembered between two pieces is one small state.
+//! The scan for a line's end, byte by byte: what is remembered between two pieces is one small
+//! state.
 ghost use Rattle.std.specs.Prelude.{◌≡◌, ℕ, ◌+◌, ◌^◌, ◌<◌, length};
 ghost use Rattle.ninja_text.specs.Scanning.{step_of, scan_from, scan_end};
 
@@ -28,14 +29,14 @@ pub(crate) enum Scanned {
     Open(ScanState),
 }
 
-/// Scans bytes that stand at a place of the line, up to its end.
-pub(crate) fn scan_bytes(place: usize, from: ScanState, bytes: &[u8]) -> Scanned
-    requires { place + length bytes.now < 2 ^ 64 }
-    ensures { result ≡ scan_from place from bytes.now }
+/// Scans bytes that stand at an index of the line, up to its end.
+pub(crate) fn scan_bytes(index: usize, from: ScanState, bytes: &[u8]) -> Scanned
+    requires { index + length bytes.now < 2 ^ 64 }
+    ensures { result ≡ scan_from index from bytes.now }
 {
     let mut state = from;
     for (i, byte) in bytes.iter().enumerate() {
-        let at = place + i;
+        let at = index + i;
         match next_state(state, *byte) {
             Some(next) => state = next,
             None => return line_ended(at, state),
@@ -83,17 +84,17 @@ fn plain_state(byte: u8) -> Option<ScanState>
     }
 }
 
-/// The end of a line whose LF stands at a place: a CR just before it belongs to the end.
-fn line_ended(place: usize, before: ScanState) -> Scanned
-    requires { place + 1 < 2 ^ 64 }
-    ensures { result ≡ scan_end place before }
+/// The end of a line whose LF stands at an index: a CR just before it belongs to the end.
+fn line_ended(index: usize, before: ScanState) -> Scanned
+    requires { index + 1 < 2 ^ 64 }
+    ensures { result ≡ scan_end index before }
 {
     let text_len = match before {
-        ScanState::Return | ScanState::CommentReturn => place.saturating_sub(1),
-        _ => place,
+        ScanState::Return | ScanState::CommentReturn => index.saturating_sub(1),
+        _ => index,
     };
     Scanned::End {
         text_len,
-        line_len: place + 1,
+        line_len: index + 1,
     }
 }

@@ -39,14 +39,14 @@ impl<'a> Token<'a> {
         self.kind
     }
 
-    /// The place of its first byte in the line's text.
+    /// The index of its first byte in the line's text.
     pub fn start(&self) -> usize
         ensures { result ≡ (seen_token self.now).start }
     {
         self.start
     }
 
-    /// The place after its last byte.
+    /// The index after its last byte.
     pub fn end(&self) -> usize
         ensures { result ≡ (seen_token self.now).end }
     {
@@ -60,10 +60,11 @@ impl<'a> Token<'a> {
         self.raw
     }
 
-    /// Appends what its bytes stand for: an escape stands for its second byte, and a continuation for nothing. Where the
-    /// vector cannot grow, it is left as it was.
+    /// Appends what its bytes stand for: an escape stands for its second byte, and a continuation
+    /// for nothing. Where the vector cannot grow, it is left as it was.
     pub fn value_into(&self, out: &mut Vec<u8>) -> Result<(), AllocError>
-        ensures ok { OnOk result (out.new.items ≡ out.old.items ++ value_of (seen_token self.now).raw) }
+        ensures ok { OnOk result
+            (out.new.items ≡ out.old.items ++ value_of (seen_token self.now).raw) }
         ensures err { OnErr result (out.new.items ≡ out.old.items) }
     {
         append_meaning(self.raw, out)
@@ -74,8 +75,8 @@ impl<'a> Token<'a> {
 #[derive(Clone, Copy, Debug)]
 pub struct Words<'a> {
     pub(crate) text: &'a [u8],
-    pub(crate) place: usize,
-    ghost in_text: { place ≤ length text.now },
+    pub(crate) index: usize,
+    ghost in_text: { index ≤ length text.now },
 }
 
 impl<'a> Iterator for Words<'a> {
@@ -90,13 +91,13 @@ impl<'a> Iterator for Words<'a> {
 
     fn next(&mut self) -> Option<Token<'a>> {
         let text = self.text;
-        let start = token_start(text, self.place);
-        self.place = start;
+        let start = token_start(text, self.index);
+        self.index = start;
         if start == text.len() {
             return None;
         }
         let (kind, end) = token_at(text, start);
-        self.place = end;
+        self.index = end;
         Some(Token {
             kind,
             start,

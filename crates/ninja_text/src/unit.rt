@@ -1,6 +1,7 @@
 //! The units that a line is made of, and what each may be.
 ghost use Rattle.std.specs.Prelude.{◌≡◌, ◌∷◌, ◌+◌, ◌<◌, ◌≤◌, length, drop};
-ghost use Rattle.ninja_text.specs.Units.{units, unit_len, spaces_at};
+ghost use Rattle.ninja_text.specs.Units.{units, unit_len};
+ghost use Rattle.ninja_text.specs.inner.Runs.{spaces_at};
 
 /// A unit of a line that is no comment.
 #[derive(Clone, Copy, Debug, PartialEq, Eq)]
@@ -70,14 +71,14 @@ impl LineUnit {
     }
 }
 
-/// The unit that begins at a place.
-pub(crate) fn unit_at(text: &[u8], place: usize) -> LineUnit
-    requires { place < length text.now }
-    ensures within { place + unit_len result ≤ length text.now }
+/// The unit that begins at an index.
+pub(crate) fn unit_at(text: &[u8], index: usize) -> LineUnit
+    requires { index < length text.now }
+    ensures within { index + unit_len result ≤ length text.now }
     ensures some { 0 < unit_len result }
-    ensures first { units (drop place text.now) ≡ result ∷ units (drop (place + unit_len result) text.now) }
+    ensures first { units (drop index text.now) ≡ result ∷ units (drop (index + unit_len result) text.now) }
 {
-    first_unit(&text[place..])
+    first_unit(&text[index..])
 }
 
 /// The unit at the front.

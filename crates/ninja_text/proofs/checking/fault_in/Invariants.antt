@@ -4,11 +4,11 @@ use Rattle.ninja_text.specs.Lexical.{first_fault, lexical_fault}
 use Rattle.ninja_text.proofs.checking.fault_in.Given as goal
 
 -- the fault of what is left is that of the text
-abbrev pub invariant-loop-place : goal.invariant-loop-place
-invariant-loop-place l = record {
-  within : l.place ≤ length l.text;
-  fault : first_fault l.place (units (drop l.place l.text)) ≡ lexical_fault l.text;
+abbrev pub invariant-loop-index : goal.invariant-loop-index
+invariant-loop-index l = record {
+  within : l.index ≤ length l.text;
+  fault : first_fault l.index (units (drop l.index l.text)) ≡ lexical_fault l.text;
 }
 
-abbrev pub decreases-loop-place : goal.decreases-loop-place
-decreases-loop-place l = length l.text - l.place
+abbrev pub decreases-loop-index : goal.decreases-loop-index
+decreases-loop-index l = length l.text - l.index

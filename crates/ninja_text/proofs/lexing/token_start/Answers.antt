@@ -4,13 +4,13 @@ use Rattle.ninja_text.specs.Tokens.{is_blank}
 use Rattle.ninja_text.proofs.TokenLemmas.{stands, blank_adds_none}
 use Rattle.ninja_text.proofs.lexing.token_start.Goals as goal
 
-blank_known : (c : goal.After-len-place) → is_blank c.unit_at-unit.result ≡ true
+blank_known : (c : goal.After-len-index) → is_blank c.unit_at-unit.result ≡ true
 blank_known c = sym c.is_blank.ensures ∙ c.if-not-is_blank.false
 
-pub loop-place-preserved : goal.loop-place-preserved
-loop-place-preserved c =
-    let unit = stands c.args.text.now c.loop-place.place c.len-place.result c.unit_at-unit.result c.len-place.ensures c.unit_at-unit.ensures.first in
+pub loop-index-preserved : goal.loop-index-preserved
+loop-index-preserved c =
+    let unit = stands c.args.text.now c.loop-index.index c.len-index.result c.unit_at-unit.result c.len-index.ensures c.unit_at-unit.ensures.first in
     record {
-      within = omega (arith, c.len-place.ensures, c.unit_at-unit.ensures.within);
-      same = blank_adds_none c.args.text.now c.loop-place.place c.len-place.result c.unit_at-unit.result unit (blank_known c) ∙ c.loop-place.invariant.same;
+      within = omega (arith, c.len-index.ensures, c.unit_at-unit.ensures.within);
+      same = blank_adds_none c.args.text.now c.loop-index.index c.len-index.result c.unit_at-unit.result unit (blank_known c) ∙ c.loop-index.invariant.same;
     }

@@ -3,7 +3,7 @@ use Rattle.std.proofs.lemmas.Slice.Eq.{strip_prefix_is}
 use Rattle.std.proofs.lemmas.Bool.Decides.{Decides-eqb}
 use Rattle.ninja_text.specs.Reduction.{reduced, components}
 use Rattle.ninja_text.specs.Paths.{below, path_of, IsPath}
-use Rattle.ninja_text.specs.ComponentLists.{list_text}
+use Rattle.ninja_text.specs.inner.ComponentLists.{list_text}
 use Rattle.ninja_text.proofs.Canonical.{directory-is, below-found, below-missed}
 use Rattle.ninja_text.proofs.paths.below.Goals as goal
 

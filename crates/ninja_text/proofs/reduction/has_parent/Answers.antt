@@ -4,7 +4,7 @@ use Rattle.std.specs.List.{list_any}
 use Rattle.std.proofs.lemmas.Iterator.Search.{any_from_yields_List}
 use Rattle.std.proofs.lemmas.Iterator.Splits.{YieldsList-from_slice_split}
 use Rattle.ninja_text.specs.Reduction.{reduced, is_parent, components}
-use Rattle.ninja_text.specs.ComponentLists.{LacksSlash}
+use Rattle.ninja_text.specs.inner.ComponentLists.{LacksSlash}
 use Rattle.ninja_text.proofs.Components.{components-lack, any-parent}
 use Rattle.ninja_text.proofs.ReducedList.{reduced-each}
 use Rattle.ninja_text.proofs.reduction.has_parent.Goals as goal

@@ -1,5 +1,5 @@
 use Rattle.std.proofs.Common.{rules, ◌≡◌, take, sym, ap, ◌∙◌, OnOk, Result, inl, inr}
-use Rattle.ninja_text.specs.ComponentLists.{list_text}
+use Rattle.ninja_text.specs.inner.ComponentLists.{list_text}
 use Rattle.ninja_text.proofs.ReducedList.{behind-current}
 use Rattle.ninja_text.proofs.ListText.{put-parent, put-behind}
 use Rattle.ninja_text.proofs.reduction.put.Goals as goal
@@ -17,8 +17,8 @@ returns-then-not-is_parent c = on_ok c.append.result (λ made before each e. put
 pub returns-in-Some : goal.returns-in-Some
 returns-in-Some c before each e =
     let same : c.deref.result.now ≡ c.args.list.now.items = c.deref.ensures.value in
-    let told = c.in-Some.ensures in
-    c.truncate.ensures.items ∙ put-parent before c.args.component.now c.args.list.now.items c.in-Some.len each e (sym c.is_parent.ensures ∙ c.if-not-is_parent.false) (λ h. told.empty (same ∙ h)) (λ init last lacks not_current k. let p = told.last init last lacks not_current (same ∙ k) in (p.0, ap (take c.in-Some.len) (sym same) ∙ p.1))
+    let found = c.in-Some.ensures in
+    c.truncate.ensures.items ∙ put-parent before c.args.component.now c.args.list.now.items c.in-Some.len each e (sym c.is_parent.ensures ∙ c.if-not-is_parent.false) (λ h. found.empty (same ∙ h)) (λ init last lacks not_current k. let p = found.last init last lacks not_current (same ∙ k) in (p.0, ap (take c.in-Some.len) (sym same) ∙ p.1))
 
 pub returns-in-None : goal.returns-in-None
 returns-in-None c =

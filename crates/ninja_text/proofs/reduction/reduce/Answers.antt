@@ -3,7 +3,7 @@ use borrow.Author.Tests.{tests}
 use Rattle.std.proofs.lemmas.Iterator.Splits.{YieldsList-from_slice_split}
 use Rattle.std.proofs.lemmas.Iterator.Consumers.{YieldsList-at, YieldsList-end, YieldsList-so_far}
 use Rattle.ninja_text.specs.Reduction.{reduced, components}
-use Rattle.ninja_text.specs.ComponentLists.{list_text, LacksSlash, EachLacksSlash}
+use Rattle.ninja_text.specs.inner.ComponentLists.{list_text, LacksSlash, EachLacksSlash}
 use Rattle.ninja_text.proofs.Components.{components-lack, each-take, map-snoc}
 use Rattle.ninja_text.proofs.reduction.reduce.Goals as goal
 

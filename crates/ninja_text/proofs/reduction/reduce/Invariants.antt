@@ -1,6 +1,6 @@
 use Rattle.std.proofs.Common.{◌≡◌, map}
 use Rattle.ninja_text.specs.Reduction.{reduced}
-use Rattle.ninja_text.specs.ComponentLists.{list_text}
+use Rattle.ninja_text.specs.inner.ComponentLists.{list_text}
 use Rattle.ninja_text.proofs.reduction.reduce.Given as goal
 
 -- the list of the components so far

@@ -4,4 +4,4 @@ use Rattle.ninja_text.proofs.scan.scan_bytes.Given as goal
 
 -- what is left to scan gives the whole scan's answer
 abbrev pub invariant-loop-i : goal.invariant-loop-i
-invariant-loop-i l = scan_from (l.place + l.i) l.state (drop l.i l.bytes) ≡ scan_from l.fn.place l.fn.from l.bytes
+invariant-loop-i l = scan_from (l.index + l.i) l.state (drop l.i l.bytes) ≡ scan_from l.fn.index l.fn.from l.bytes

@@ -2,7 +2,7 @@ use Rattle.std.proofs.Common.{◌≡◌, ◌+◌, min, length, take, arith, leng
 use Rattle.ninja_text.specs.Lines.{text_of, is_comment, LogicalLine, line_feeds_in}
 use Rattle.ninja_text.specs.Cutting.{CutterState, after_lending, Cuts, lent_next, waiting_line}
 use Rattle.ninja_text.specs.Scanning.{scan_from}
-use Rattle.ninja_text.specs.Reaching.{PhaseFits}
+use Rattle.ninja_text.specs.Phases.{PhaseFits}
 use Rattle.ninja_text.specs.CutterViews.{state_in}
 use Rattle.ninja_text.specs.declared.scan.ScanState.TheVariants.{Start}
 use Rattle.ninja_text.specs.declared.scan.Scanned.TheVariants.{End}

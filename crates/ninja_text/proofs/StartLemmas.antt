@@ -1,20 +1,20 @@
--- Where tokens and names may stand: places only grow, so nothing of an indented text stands at its first byte.
+-- Where tokens and names may begin: indexes only grow, so nothing of an indented text stands at its first byte.
 use Rattle.std.proofs.Common.{inl, inr, ◌≡◌, ℕ, ◌+◌, ◌-◌, ◌<◌, ◌≤◌, Bool, List, [], ◌∷◌, take, get_or, refl, sym, ap, ◌∙◌, subst, Some, None, arith, zero, suc}
 use Rattle.std.specs.Prelude.{Option, nat_lt, ◌&&◌, slice_range}
 use Rattle.std.proofs.lemmas.Bool.{cases_Bool}
 use Rattle.ninja_text.specs.Units.{units, unit_len, is_byte}
 use Rattle.ninja_text.specs.declared.unit.LineUnit.{LineUnit}
 use Rattle.ninja_text.specs.declared.unit.LineUnit.TheVariants.{Byte}
-use Rattle.ninja_text.specs.declared.assigning.AssignmentPlaces.{AssignmentPlaces}
+use Rattle.ninja_text.specs.declared.assigning.AssignmentIndexes.{AssignmentIndexes}
 use Rattle.ninja_text.specs.Tokens.{TokenAt, is_blank, is_piece, goes_on, with_first_start, with_unit, tokens_from, tokens}
 use Rattle.ninja_text.specs.Assignments.{after_run, is_name_unit, begins_with_equals, with_bytes, SeenAssignment, assignment_of}
 use Rattle.ninja_text.proofs.UnitLemmas.{units_byte}
 use Rattle.ninja_text.proofs.TokenLemmas.{tokens_blank, byte_is, tokens_with}
 
-run_past : (test : LineUnit → Bool) (place : ℕ) (us : List LineUnit) → place ≤ (after_run test place us).place
-run_past test place [] = omega arith
-run_past test place (u ∷ us) = elim (cases_Bool (test u)) [
-  | inl t ↦ rw t (omega (arith, run_past test (place + unit_len u) us))
+run_past : (test : LineUnit → Bool) (index : ℕ) (us : List LineUnit) → index ≤ (after_run test index us).place
+run_past test index [] = omega arith
+run_past test index (u ∷ us) = elim (cases_Bool (test u)) [
+  | inl t ↦ rw t (omega (arith, run_past test (index + unit_len u) us))
   | inr f ↦ rw f (omega arith)
 ]
 
@@ -24,14 +24,14 @@ first_start {a} {b} h = let same : a ≡ b = cc in ap (λ t. t.start) same
 none_first : {b : TokenAt} {bs : List TokenAt} {A : Type 0} → ◌≡◌ {A = List TokenAt} [] (b ∷ bs) → A
 none_first h = absurd (cc)
 
-widened_starts : (place : ℕ) (rest : List TokenAt) (t : TokenAt) (ts : List TokenAt) → with_first_start place rest ≡ t ∷ ts → place ≤ t.start
-widened_starts place [] t ts h = none_first h
-widened_starts place (x ∷ xs) t ts h = omega (arith, first_start h)
+widened_starts : (index : ℕ) (rest : List TokenAt) (t : TokenAt) (ts : List TokenAt) → with_first_start index rest ≡ t ∷ ts → index ≤ t.start
+widened_starts index [] t ts h = none_first h
+widened_starts index (x ∷ xs) t ts h = omega (arith, first_start h)
 
-with_unit_past : (place : ℕ) (u : LineUnit) (us : List LineUnit) (rest : List TokenAt) (t : TokenAt) (ts : List TokenAt) → (rest ≡ t ∷ ts → place ≤ t.start) → with_unit place u us rest ≡ t ∷ ts → place ≤ t.start
-with_unit_past place u us rest t ts later h = elim (cases_Bool (is_piece u)) [
+with_unit_past : (index : ℕ) (u : LineUnit) (us : List LineUnit) (rest : List TokenAt) (t : TokenAt) (ts : List TokenAt) → (rest ≡ t ∷ ts → index ≤ t.start) → with_unit index u us rest ≡ t ∷ ts → index ≤ t.start
+with_unit_past index u us rest t ts later h = elim (cases_Bool (is_piece u)) [
   | inl p ↦ elim (cases_Bool (goes_on us)) [
-    | inl g ↦ widened_starts place rest t ts (rw (p, g) at h)
+    | inl g ↦ widened_starts index rest t ts (rw (p, g) at h)
     | inr g ↦ omega (arith, first_start (rw (p, g) at h))
   ]
   | inr p ↦ elim (cases_Bool (is_byte 58 u)) [
@@ -43,16 +43,16 @@ with_unit_past place u us rest t ts later h = elim (cases_Bool (is_piece u)) [
   ]
 ]
 
-tokens_past : (us : List LineUnit) (place : ℕ) (t : TokenAt) (ts : List TokenAt) → tokens_from place us ≡ t ∷ ts → place ≤ t.start
-tokens_past [] place t ts h = none_first h
-tokens_past (u ∷ []) place t ts h = with_unit_past place u [] [] t ts none_first h
-tokens_past (u ∷ v ∷ us) place t ts h = elim (cases_Bool (is_byte 124 u)) [
-  | inr n ↦ with_unit_past place u (v ∷ us) (tokens_from (place + unit_len u) (v ∷ us)) t ts (λ e. omega (arith, tokens_past (v ∷ us) (place + unit_len u) t ts e)) (sym (tokens_with place u (v ∷ us) n) ∙ h)
+tokens_past : (us : List LineUnit) (index : ℕ) (t : TokenAt) (ts : List TokenAt) → tokens_from index us ≡ t ∷ ts → index ≤ t.start
+tokens_past [] index t ts h = none_first h
+tokens_past (u ∷ []) index t ts h = with_unit_past index u [] [] t ts none_first h
+tokens_past (u ∷ v ∷ us) index t ts h = elim (cases_Bool (is_byte 124 u)) [
+  | inr n ↦ with_unit_past index u (v ∷ us) (tokens_from (index + unit_len u) (v ∷ us)) t ts (λ e. omega (arith, tokens_past (v ∷ us) (index + unit_len u) t ts e)) (sym (tokens_with index u (v ∷ us) n) ∙ h)
   | inl b ↦ elim (cases_Bool (is_byte 124 v)) [
     | inl d ↦ omega (arith, first_start (rw (b, d) at h))
     | inr d ↦ elim (cases_Bool (is_byte 64 v)) [
       | inl a ↦ omega (arith, first_start (rw (b, d, a) at h))
-      | inr a ↦ let h' : tokens_from place (Byte 124 ∷ v ∷ us) ≡ t ∷ ts = subst (λ w. tokens_from place (w ∷ v ∷ us) ≡ t ∷ ts) (byte_is 124 u b) h in omega (arith, first_start (rw (d, a) at h'))
+      | inr a ↦ let h' : tokens_from index (Byte 124 ∷ v ∷ us) ≡ t ∷ ts = subst (λ w. tokens_from index (w ∷ v ∷ us) ≡ t ∷ ts) (byte_is 124 u b) h in omega (arith, first_start (rw (d, a) at h'))
     ]
   ]
 ]
@@ -69,7 +69,7 @@ pub record Parts (text : List ℕ) (a : SeenAssignment) : Type 0 where
   pub end : ℕ
   pub name : a.name ≡ slice_range text a.name_start end
 
-parts_from : (text : List ℕ) (p : AssignmentPlaces) (a : SeenAssignment) → p.name_start ≡ (after_run is_blank 0 (units text)).place → ◌≡◌ {A = Option SeenAssignment} (Some (with_bytes text p)) (Some a) → Parts text a
+parts_from : (text : List ℕ) (p : AssignmentIndexes) (a : SeenAssignment) → p.name_start ≡ (after_run is_blank 0 (units text)).place → ◌≡◌ {A = Option SeenAssignment} (Some (with_bytes text p)) (Some a) → Parts text a
 parts_from text p a start h =
     let same : with_bytes text p ≡ a = cc in
     subst (Parts text) same (record { start = start; end = p.name_end; name = refl })

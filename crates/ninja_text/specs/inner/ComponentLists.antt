@@ -1,7 +1,9 @@
--- Lists of components and the texts that they are written as, for the functions that make a text canonical.
+-- Lists of components and the texts that they are written as, for the functions that make a text
+-- canonical.
 use Rattle.std.specs.Prelude.{◌≡◌, ℕ, false, ◌==◌, List, [], ◌∷◌, ◌++◌}
 use Rattle.std.specs.List.{join_with_byte, AllByRecursion}
 use Rattle.ninja_text.specs.Bytes.{slash}
+use Rattle.ninja_text.specs.PathShape.{parts}
 
 -- no slash
 abbrev pub LacksSlash : List ℕ → Type 0
@@ -14,6 +16,10 @@ EachLacksSlash list = AllByRecursion LacksSlash list
 -- a list of components, written out
 abbrev pub list_text : List (List ℕ) → List ℕ
 list_text list = join_with_byte slash list
+
+-- the canonical list of a text's components, written out
+abbrev pub reduced_text : List ℕ → List ℕ
+reduced_text text = list_text (parts text)
 
 -- a component written behind a list
 abbrev pub appended : List ℕ → List ℕ → List ℕ

@@ -1,0 +1,6 @@
+-- Definitions that private clauses alone speak of.
+pub mod ComponentLists
+pub mod TokenStarts
+pub mod Runs
+pub mod Reaching
+pub mod PieceReading
