@@ -1,7 +1,7 @@
 -- The units of a path as it is spelled, and what they stand for.
 use Rattle.std.proofs.Common.{inl, inr, ◌≡◌, ℕ, true, false, List, [], ◌∷◌, map, refl, sym, ap, ◌∙◌, ◌==◌}
 use Rattle.std.specs.Prelude.{if◌then◌else◌}
-use Rattle.std.specs.List.{flat_map, list_all, AllByRecursion}
+use Rattle.std.specs.List.{flat_map, list_all, list_any, AllByRecursion}
 use Rattle.std.proofs.lemmas.List.{append-nil}
 use Rattle.std.proofs.lemmas.List.Elements.{recursion_from_All}
 use Rattle.std.proofs.lemmas.Bool.{cases_Bool, and_from, or_parts}
@@ -79,6 +79,13 @@ byte_piece b u = elim (cases_Bool (is_escaped b)) [
 pub path_pieces : (path : List ℕ) → HasSpelling path → list_all is_piece (path_units path) ≡ true
 path_pieces [] can = refl
 path_pieces (b ∷ path) can = and_from _ _ (byte_piece b can.0) (path_pieces path can.1)
+
+-- a path without such a byte is spelled as it is
+pub escaped_none : (path : List ℕ) → list_any is_escaped path ≡ false → escaped path ≡ path
+escaped_none [] none = refl
+escaped_none (b ∷ path) none =
+    let p = or_parts (is_escaped b) (list_any is_escaped path) none in
+    rw p.0 (ap (λ bytes. b ∷ bytes) (escaped_none path p.1))
 
 -- what is read of a spelled path is the path
 pub value_of_escaped : (path : List ℕ) → IsWritable path → value_of (escaped path) ≡ path

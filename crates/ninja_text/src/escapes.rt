@@ -1,7 +1,7 @@
 //! Spellings of paths in Ninja files.
 ghost use Rattle.std.specs.Prelude.{◌≡◌, ◌≢◌, ◌↔◌, ℕ, List, [], ◌++◌, IsTrue, OnOk, OnErr};
 ghost use Rattle.std.specs.List.{list_any};
-ghost use Rattle.ninja_text.specs.Escapes.{is_unwritable, is_writable, IsWritable, escaped, escaped_byte, Spells};
+ghost use Rattle.ninja_text.specs.Escapes.{is_unwritable, is_writable, IsWritable, is_escaped, escaped, escaped_byte, Spells};
 
 use crate::reduction::is_unwritable;
 use std::alloc::AllocError;
@@ -32,6 +32,13 @@ fn has_unwritable(path: &[u8]) -> bool
     path.iter().any(|b| is_unwritable(*b))
 }
 
+/// Whether a byte of a path needs a `$` before it.
+fn has_escaped(path: &[u8]) -> bool
+    ensures { result ≡ list_any is_escaped path.now }
+{
+    path.iter().any(|b| matches!(*b, b'$' | b' ' | b':'))
+}
+
 /// Appends a path as it is spelled in a Ninja file. An `Err` leaves the vector as it was.
 pub fn escape_into(path: &[u8], out: &mut Vec<u8>) -> Result<(), AllocError>
     requires { IsWritable path.now }
@@ -40,6 +47,9 @@ pub fn escape_into(path: &[u8], out: &mut Vec<u8>) -> Result<(), AllocError>
     // The spelling stands for the path, and for nothing else.
     ensures meaning { (value : List ℕ) → Spells (escaped path.now) value ↔ (value ≡ path.now) }
 {
+    if !has_escaped(path) {
+        return out.extend_from_slice(path);
+    }
     let start = out.len();
     for byte in path {
         if let Err(e) = push_escaped(out, *byte) {
