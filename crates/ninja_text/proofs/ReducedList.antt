@@ -1,6 +1,7 @@
 -- The rewriting of components ends in one list, whatever the choice of steps.
 use Rattle.std.proofs.Common.{◌≡◌, ℕ, zero, suc, Bool, true, false, not, ◌||◌, ◌&&◌, ◌==◌, cond, IsTrue, List, [], ◌∷◌, ◌++◌, refl, sym, ◌∙◌, ap, subst, append_assoc, rules, ◌⊎◌, inl, inr}
-use Rattle.std.specs.List.{AllByRecursion}
+use Rattle.std.specs.List.{AllByRecursion, list_any}
+use Rattle.std.proofs.lemmas.Bool.{or_parts}
 use Rattle.ninja_text.specs.Reduction.{is_current, is_parent, is_name, IsDeletable, Step, Steps, IsReduced, ReducesTo, in_front, reduced}
 
 -- a test is true or false
@@ -68,6 +69,22 @@ pub fixed-reduced : (xs : List (List ℕ)) → IsFixed xs → reduced xs ≡ xs
 fixed-reduced [] f = refl
 fixed-reduced (c ∷ []) f = in_front-alone c f
 fixed-reduced (c ∷ d ∷ ds) f = ap (in_front c) (fixed-reduced (d ∷ ds) f.2) ∙ in_front-stays c d ds f.0 f.1
+
+-- no step applies to a list of names
+pub names-fixed : (xs : List (List ℕ)) → list_any (λ c. is_current c || is_parent c) xs ≡ false → IsFixed xs
+names-fixed [] none = tt
+names-fixed (c ∷ []) none = (or_parts (is_current c) (is_parent c) (or_parts (is_current c || is_parent c) false none).0).0
+names-fixed (c ∷ d ∷ ds) none =
+    let p = or_parts (is_current c || is_parent c) (list_any (λ c. is_current c || is_parent c) (d ∷ ds)) none in
+    let q = or_parts (is_current d || is_parent d) (list_any (λ c. is_current c || is_parent c) ds) p.1 in (
+      (or_parts (is_current c) (is_parent c) p.0).0,
+      and-none (is_name c) (is_parent d) (or_parts (is_current d) (is_parent d) q.0).1,
+      names-fixed (d ∷ ds) p.1,
+    )
+  where
+    and-none : (n u : Bool) → u ≡ false → (n && u) ≡ false
+    and-none true u h = h
+    and-none false u h = refl
 
 -- ---- a step leaves what the list comes to
 

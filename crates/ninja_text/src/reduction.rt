@@ -1,11 +1,12 @@
-//! From a text to its canonical list of components, in one pass.
+//! From a text to its canonical list of components.
 //!
 //! The list is kept as a text, its components joined by slashes and without the slash that an
-//! absolute path begins with. It is never longer than the text that is read.
-ghost use Rattle.std.specs.Prelude.{◌≡◌, ◌≢◌, ℕ, ◌+◌, ◌-◌, ◌<◌, ◌≤◌, ◌&&◌, List, [], ◌∷◌, ◌++◌, length, slice_index, take, MatchOption, IfOk, OnOk, true, false, position};
+//! absolute path begins with. It is never longer than the text that is read. A text whose components
+//! are all names is its own list, and is copied whole; of any other the list is made in one pass.
+ghost use Rattle.std.specs.Prelude.{◌≡◌, ◌≢◌, ℕ, ◌+◌, ◌-◌, ◌<◌, ◌≤◌, ◌&&◌, ◌||◌, List, [], ◌∷◌, ◌++◌, length, slice_index, take, MatchOption, IfOk, OnOk, true, false, position};
 ghost use Rattle.std.specs.List.{list_any};
 ghost use Rattle.ninja_text.specs.Escapes.{is_unwritable};
-ghost use Rattle.ninja_text.specs.Reduction.{is_current, is_parent, reduced};
+ghost use Rattle.ninja_text.specs.Reduction.{components, is_current, is_parent, reduced};
 ghost use Rattle.ninja_text.specs.PathShape.{parts};
 ghost use Rattle.ninja_text.specs.Paths.{is_empty, is_rooted};
 ghost use Rattle.ninja_text.specs.inner.ComponentLists.{list_text, reduced_text, LacksSlash, EachLacksSlash, appended};
@@ -16,11 +17,29 @@ use std::alloc::{AllocError, Global};
 pub(crate) fn reduce(alloc: Global, text: &[u8]) -> Result<Vec<u8>, AllocError>
     ensures { IfOk result (λ list. list.items ≡ reduced_text text.now) }
 {
-    let mut list = Vec::new(alloc);
+    if is_reduced(text) {
+        return Vec::from_slice(alloc, text);
+    }
+    let mut list = Vec::with_capacity(alloc, text.len())?;
     for component in text.split(|b| *b == b'/') {
         put(&mut list, component)?;
     }
     Ok(list)
+}
+
+/// Whether no step applies to a text's components, since each of them is a name. Nearly every text
+/// is so, and is copied whole.
+fn is_reduced(text: &[u8]) -> bool
+    ensures { result ≡ true → parts text.now ≡ components text.now }
+{
+    !text.split(|b| *b == b'/').any(is_no_name)
+}
+
+/// Whether a component is empty, `.` or `..`.
+fn is_no_name(component: &[u8]) -> bool
+    ensures { result ≡ (is_current component.now || is_parent component.now) }
+{
+    is_current(component) || is_parent(component)
 }
 
 /// Whether a text's canonical list is empty.

@@ -1,11 +1,17 @@
-use Rattle.std.proofs.Common.{rules, map, ap, sym, subst, ◌∙◌, eqb}
+use Rattle.std.proofs.Common.{rules, ◌≡◌, IfOk, map, ap, sym, subst, ◌∙◌, eqb}
 use borrow.Author.Tests.{tests}
 use Rattle.std.proofs.lemmas.Iterator.Splits.{YieldsList-from_slice_split}
 use Rattle.std.proofs.lemmas.Iterator.Consumers.{YieldsList-at, YieldsList-end, YieldsList-so_far}
+use Rattle.std.proofs.lemmas.List.Splits.{join_with_byte-slice_split}
 use Rattle.ninja_text.specs.Reduction.{reduced, components}
 use Rattle.ninja_text.specs.inner.ComponentLists.{list_text, LacksSlash, EachLacksSlash}
 use Rattle.ninja_text.proofs.Components.{components-lack, each-take, map-snoc}
 use Rattle.ninja_text.proofs.reduction.reduce.Goals as goal
+
+pub returns-then-is_reduced : goal.returns-then-is_reduced
+returns-then-is_reduced c =
+    let same : list_text (reduced (components c.args.text.now)) ≡ c.args.text.now = ap list_text (c.is_reduced.ensures c.if-is_reduced.true) ∙ join_with_byte-slice_split 47 c.args.text.now in
+    subst (λ text. IfOk c.from_slice.result (λ list. list.items ≡ text)) (sym same) (search rules)
 
 pub returns : goal.returns
 returns c =
