@@ -1,14 +1,17 @@
 -- The tokens of units, by the first unit.
-use Rattle.std.proofs.Common.{inl, inr, subst, ◌≡◌, ℕ, ◌+◌, ◌<◌, ◌≤◌, Bool, true, false, List, [], ◌∷◌, length, drop, refl, sym, ap, ◌∙◌, arith, ◌==◌, ◌||◌, not}
+use Rattle.std.proofs.Common.{inl, inr, subst, ◌≡◌, ℕ, ◌+◌, ◌<◌, ◌≤◌, Bool, true, false, List, [], ◌∷◌, length, drop, refl, sym, ap, ◌∙◌, arith, ◌==◌, ◌||◌, not, get_or, add-one}
+use Rattle.std.proofs.Math.Seq.{drop-cons}
 use Rattle.std.specs.Prelude.{if◌then◌else◌}
 use Rattle.std.proofs.lemmas.List.{drop_all}
-use Rattle.std.proofs.lemmas.Bool.{cases_Bool, eqb-true}
+use Rattle.std.proofs.lemmas.Bool.{cases_Bool, eqb-true, or_parts, not-true}
 use Rattle.ninja_text.specs.Units.{units, unit_len, is_byte, is_continuation}
 use Rattle.ninja_text.specs.declared.unit.LineUnit.{LineUnit}
 use Rattle.ninja_text.specs.declared.unit.LineUnit.TheVariants.{Continuation, Escape, Byte}
 use Rattle.ninja_text.specs.declared.token.TokenKind.TheVariants.{Word, Bar, DoubleBar, BarAt, Colon}
 use Rattle.ninja_text.specs.Tokens.{TokenAt, is_blank, is_piece, goes_on, with_first_start, with_unit, tokens_from, tokens_at}
 use Rattle.ninja_text.specs.inner.TokenStarts.{BeginsToken, BeginsPiece, BeginsBar}
+use Rattle.ninja_text.specs.inner.PlainTexts.{is_plain_piece}
+use Rattle.ninja_text.proofs.UnitLemmas.{units_byte}
 
 -- all but a bar add to the tokens of what follows
 pub tokens_with : (s : ℕ) (u : LineUnit) (us : List LineUnit) → is_byte 124 u ≡ false → tokens_from s (u ∷ us) ≡ with_unit s u us (tokens_from (s + unit_len u) us)
@@ -113,6 +116,22 @@ module _ (text : List ℕ) (index n : ℕ) (u : LineUnit) (unit : Stands text in
         continuation_hides (Continuation len) h = refl
         continuation_hides (Escape b) h = absurd (let x : false ≡ true = h in cc)
         continuation_hides (Byte b) h = absurd (let x : false ≡ true = h in cc)
+
+-- the unit that a byte is that is a piece of a word by itself
+pub plain_stands : (text : List ℕ) (index : ℕ) → index < length text → is_plain_piece (get_or text index 0) ≡ true → Stands text index 1 (Byte (get_or text index 0))
+plain_stands text index in_text plain =
+    let b = get_or text index 0 in
+    let own = or_parts (b == 36) _ (not-true _ plain) in
+    stands text index 1 (Byte b) refl (ap units (drop_at_index) ∙ units_byte b (drop (index + 1) text) own.0) where
+      drop_at_index : drop index text ≡ get_or text index 0 ∷ drop (index + 1) text
+      drop_at_index = rw (add-one, drop-cons text index 0) refl
+
+pub plain_piece : (b : ℕ) → is_plain_piece b ≡ true → is_piece (Byte b) ≡ true
+plain_piece b plain =
+    let own = or_parts (b == 36) _ (not-true _ plain) in
+    let space = or_parts (b == 32) _ own.1 in
+    let colon = or_parts (b == 58) (b == 124) space.1 in
+    rw (space.0, colon.0, colon.1) refl
 
 -- two readings of the unit at one index are one
 pub piece_at : (text : List ℕ) (index : ℕ) (u : LineUnit) (us : List LineUnit) → BeginsPiece text index → units (drop index text) ≡ u ∷ us → is_piece u ≡ true

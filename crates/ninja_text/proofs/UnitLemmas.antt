@@ -1,16 +1,57 @@
 -- The first unit of a text, by its first bytes.
-use Rattle.std.proofs.Common.{take_all, take, length-drop, ◌-◌, get_or, ◌≤◌, inl, inr, suc, subst, ◌≡◌, ℕ, ◌+◌, List, [], ◌∷◌, length, drop, refl, sym, ap, ◌∙◌, false, ◌==◌, ◌&&◌, arith}
-use Rattle.std.proofs.lemmas.Bool.{cases_Bool, eqb-true}
+use Rattle.std.proofs.Common.{take_all, take, length-drop, ◌-◌, get_or, ◌≤◌, inl, inr, suc, subst, ◌≡◌, ℕ, ◌+◌, List, [], ◌∷◌, length, drop, refl, sym, ap, ◌∙◌, false, ◌==◌, ◌&&◌, ◌||◌, arith, map, None}
+use Rattle.std.specs.List.{flat_map, list_any}
+use Rattle.std.proofs.lemmas.Bool.{cases_Bool, eqb-true, or_parts}
 use Rattle.ninja_text.specs.Units.{units, with_continuation}
 use Rattle.ninja_text.specs.inner.Runs.{spaces_at}
 use Rattle.ninja_text.specs.declared.unit.LineUnit.{LineUnit}
 use Rattle.ninja_text.specs.declared.unit.LineUnit.TheVariants.{Continuation, Escape, Byte}
 use Rattle.ninja_text.specs.Lines.{begins_with_line_feed, end_from}
+use Rattle.ninja_text.specs.Tokens.{unit_value, value_of}
+use Rattle.ninja_text.specs.Lexical.{first_fault, lexical_fault}
+use Rattle.ninja_text.specs.inner.PlainTexts.{is_dollar, is_suspect}
 
 pub units_byte : (b : ℕ) (bytes : List ℕ) → (b == 36) ≡ false → units (b ∷ bytes) ≡ Byte b ∷ units bytes
 units_byte b [] h = refl
 units_byte b (c ∷ []) h = rw h refl
 units_byte b (c ∷ d ∷ bytes) h = rw h refl
+
+-- where there is no `$`, each byte is a unit by itself
+pub units_bytes : (bytes : List ℕ) → list_any is_dollar bytes ≡ false → units bytes ≡ map Byte bytes
+units_bytes [] none = refl
+units_bytes (b ∷ bytes) none =
+    let p = or_parts (is_dollar b) (list_any is_dollar bytes) none in
+    units_byte b bytes p.0 ∙ ap (λ us. Byte b ∷ us) (units_bytes bytes p.1)
+
+-- and it stands for itself
+pub bytes_meant : (bytes : List ℕ) → flat_map unit_value (map Byte bytes) ≡ bytes
+bytes_meant [] = refl
+bytes_meant (b ∷ bytes) = ap (λ bs. b ∷ bs) (bytes_meant bytes)
+
+-- so its value is itself
+pub plain_value : (bytes : List ℕ) → list_any is_dollar bytes ≡ false → value_of bytes ≡ bytes
+plain_value bytes none = ap (flat_map unit_value) (units_bytes bytes none) ∙ bytes_meant bytes
+
+-- a text without a suspect byte has no `$`
+pub no_dollar : (bytes : List ℕ) → list_any is_suspect bytes ≡ false → list_any is_dollar bytes ≡ false
+no_dollar [] none = refl
+no_dollar (b ∷ bytes) none =
+    let p = or_parts (is_suspect b) (list_any is_suspect bytes) none in
+    let d = or_parts (is_dollar b) (b == 0 || b == 13) p.0 in
+    rw d.0 (no_dollar bytes p.1)
+
+-- nor is any of its bytes a fault
+pub no_fault_among : (index : ℕ) (bytes : List ℕ) → list_any is_suspect bytes ≡ false → first_fault index (map Byte bytes) ≡ None
+no_fault_among index [] none = refl
+no_fault_among index (b ∷ bytes) none =
+    let p = or_parts (is_suspect b) (list_any is_suspect bytes) none in
+    let d = or_parts (is_dollar b) (b == 0 || b == 13) p.0 in
+    let n = or_parts (b == 0) (b == 13) d.1 in
+    rw (n.0, n.1) (no_fault_among (index + 1) bytes p.1)
+
+-- so it has no lexical fault
+pub no_suspect : (bytes : List ℕ) → list_any is_suspect bytes ≡ false → lexical_fault bytes ≡ None
+no_suspect bytes none = ap (first_fault 0) (units_bytes bytes (no_dollar bytes none)) ∙ no_fault_among 0 bytes none
 
 pub units_feed : (bytes : List ℕ) → units (36 ∷ 10 ∷ bytes) ≡ with_continuation 2 (units bytes)
 units_feed [] = refl

@@ -2,5 +2,6 @@
 pub mod ComponentLists
 pub mod TokenStarts
 pub mod Runs
+pub mod PlainTexts
 pub mod Reaching
 pub mod PieceReading

@@ -1,6 +1,8 @@
 //! The lexical faults of a line's text.
 ghost use Rattle.std.specs.Prelude.{◌≡◌};
+ghost use Rattle.std.specs.List.{list_any};
 ghost use Rattle.ninja_text.specs.Lexical.{unit_fault, lexical_fault};
+ghost use Rattle.ninja_text.specs.inner.PlainTexts.{is_suspect};
 
 use crate::faults::LexFault;
 use crate::unit::{LineUnit, unit_at};
@@ -9,6 +11,9 @@ use crate::unit::{LineUnit, unit_at};
 pub(crate) fn fault_in(text: &[u8]) -> Option<LexFault>
     ensures { result ≡ lexical_fault text.now }
 {
+    if !has_suspect(text) {
+        return None;
+    }
     let mut index = 0;
     while index < text.len() {
         let unit = unit_at(text, index);
@@ -19,6 +24,14 @@ pub(crate) fn fault_in(text: &[u8]) -> Option<LexFault>
         index += unit.len();
     }
     None
+}
+
+/// Whether a text has a byte that a fault begins with, or the `$` of a unit of several bytes. Nearly
+/// no text has.
+fn has_suspect(text: &[u8]) -> bool
+    ensures { result ≡ list_any is_suspect text.now }
+{
+    text.iter().any(|b| matches!(*b, b'$' | 0 | b'\r'))
 }
 
 /// The fault of a unit that stands at an index.

@@ -5,6 +5,7 @@ ghost use Rattle.ninja_text.specs.TokenViews.{IsWords, tokens_left};
 ghost use Rattle.std.specs.List.{AllByRecursion};
 ghost use Rattle.ninja_text.specs.Tokens.{IsSlice, RiseFrom, tokens_at};
 ghost use Rattle.ninja_text.specs.inner.TokenStarts.{BeginsToken, BeginsPiece, BeginsBar, IsFirstToken};
+ghost use Rattle.ninja_text.specs.inner.PlainTexts.{is_plain_piece};
 
 use crate::checking::fault_in;
 use crate::faults::LexFault;
@@ -98,15 +99,27 @@ fn word_end(text: &[u8], start: usize) -> usize
     let mut index = start + first.len();
     let mut end = index;
     while index < text.len() {
-        let unit = unit_at(text, index);
-        if unit.is_piece() {
-            index += unit.len();
+        if is_plain(text[index]) {
+            index += 1;
             end = index;
-        } else if unit.is_continuation() {
-            index += unit.len();
         } else {
-            break;
+            let unit = unit_at(text, index);
+            if unit.is_piece() {
+                index += unit.len();
+                end = index;
+            } else if unit.is_continuation() {
+                index += unit.len();
+            } else {
+                break;
+            }
         }
     }
     end
+}
+
+/// Whether a byte is a piece of a word by itself, as nearly every byte of a word is.
+fn is_plain(byte: u8) -> bool
+    ensures { result ≡ is_plain_piece byte }
+{
+    !matches!(byte, b'$' | b' ' | b':' | b'|')
 }

@@ -1,6 +1,6 @@
 //! The scan for a line's end, byte by byte: what is remembered between two pieces is one small
 //! state.
-ghost use Rattle.std.specs.Prelude.{◌≡◌, ℕ, ◌+◌, ◌^◌, ◌<◌, length};
+ghost use Rattle.std.specs.Prelude.{◌≡◌, ℕ, ◌+◌, ◌^◌, ◌<◌, length, true, Some};
 ghost use Rattle.ninja_text.specs.Scanning.{step_of, scan_from, scan_end};
 
 /// What is known of an unfinished line at its last byte.
@@ -36,6 +36,9 @@ pub(crate) fn scan_bytes(index: usize, from: ScanState, bytes: &[u8]) -> Scanned
 {
     let mut state = from;
     for (i, byte) in bytes.iter().enumerate() {
+        if stays_plain(state, *byte) {
+            continue;
+        }
         let at = index + i;
         match next_state(state, *byte) {
             Some(next) => state = next,
@@ -43,6 +46,16 @@ pub(crate) fn scan_bytes(index: usize, from: ScanState, bytes: &[u8]) -> Scanned
         }
     }
     Scanned::Open(state)
+}
+
+/// Whether a byte leaves the state as it is, plain, as nearly every byte of a line does.
+fn stays_plain(state: ScanState, byte: u8) -> bool
+    ensures { result ≡ true → step_of state byte ≡ Some state }
+{
+    match state {
+        ScanState::Plain => !matches!(byte, b'\n' | b'\r' | b'$'),
+        _ => false,
+    }
 }
 
 /// The next state, or `None` where the byte ends the line.

@@ -1,7 +1,9 @@
 //! The units that a line is made of, and what each may be.
 ghost use Rattle.std.specs.Prelude.{◌≡◌, ◌∷◌, ◌+◌, ◌<◌, ◌≤◌, length, drop};
+ghost use Rattle.std.specs.List.{list_any};
 ghost use Rattle.ninja_text.specs.Units.{units, unit_len};
 ghost use Rattle.ninja_text.specs.inner.Runs.{spaces_at};
+ghost use Rattle.ninja_text.specs.inner.PlainTexts.{is_dollar};
 
 /// A unit of a line that is no comment.
 #[derive(Clone, Copy, Debug, PartialEq, Eq)]
@@ -69,6 +71,13 @@ impl LineUnit {
     {
         matches!(self, LineUnit::Byte(b'_' | b'.' | b'-' | b'a'..=b'z' | b'A'..=b'Z' | b'0'..=b'9'))
     }
+}
+
+/// Whether a text has a `$`. Where it has none, each byte is a unit by itself.
+pub(crate) fn has_dollar(text: &[u8]) -> bool
+    ensures { result ≡ list_any is_dollar text.now }
+{
+    text.iter().any(|b| *b == b'$')
 }
 
 /// The unit that begins at an index.

@@ -1,5 +1,7 @@
-use Rattle.std.proofs.Common.{arith, ◌∙◌, sym, refl}
-use Rattle.ninja_text.proofs.TokenLemmas.{stands, blank_adds_none, word_begins, word_goes_on, word_waits, piece_at, continuation_blank}
+use Rattle.std.proofs.Common.{arith, ◌≡◌, ◌∙◌, sym, refl, true, get_or}
+use Rattle.ninja_text.specs.inner.PlainTexts.{is_plain_piece}
+use Rattle.ninja_text.specs.declared.unit.LineUnit.TheVariants.{Byte}
+use Rattle.ninja_text.proofs.TokenLemmas.{stands, blank_adds_none, word_begins, word_goes_on, word_waits, piece_at, continuation_blank, plain_stands, plain_piece}
 use Rattle.ninja_text.proofs.lexing.word_end.Goals as goal
 
 pub loop-index-init : goal.loop-index-init
@@ -10,6 +12,19 @@ loop-index-init c =
       ordered = omega arith;
       some = omega (arith, c.len.ensures, c.unit_at-first.ensures.some);
       word = word_begins c.args.text.now c.args.start c.len.result c.unit_at-first.result unit (piece_at c.args.text.now c.args.start c.unit_at-first.result _ c.requires.begins c.unit_at-first.ensures.first);
+      same = refl;
+    }
+
+pub loop-index-preserved-then-is_plain : goal.loop-index-preserved-then-is_plain
+loop-index-preserved-then-is_plain c =
+    let text = c.args.text.now in
+    let index = c.loop-index.index in
+    let plain : is_plain_piece (get_or text index 0) ≡ true = sym c.if-is_plain.ensures in
+    record {
+      within = omega arith;
+      ordered = omega arith;
+      some = omega (arith, c.loop-index.invariant.ordered, c.loop-index.invariant.some);
+      word = word_goes_on text index 1 (Byte (get_or text index 0)) (plain_stands text index c.loop-index-test.true plain) c.args.start c.loop-index.end (plain_piece (get_or text index 0) plain) c.loop-index.invariant.word;
       same = refl;
     }
 
