@@ -11,7 +11,8 @@ use Rattle.ninja_text.specs.declared.token.Words.{Words}
 use Rattle.dyndep_file.specs.StatementValue.{StatementValue}
 use Rattle.dyndep_file.specs.Classes.{Symbol, WordSymbol, SignSymbol, IsPart}
 use Rattle.dyndep_file.specs.Faults.{same_bytes, implicit_inputs_fault, after_rule_fault, rule_fault, implicit_outputs_fault, after_output_fault, output_fault}
-use Rattle.dyndep_file.specs.BuildTokens.{symbol_of, symbols_left, words_before_colon, after_colon, Names, IsNamed}
+use Rattle.dyndep_file.specs.BuildTokens.{symbol_of, symbols_left}
+use Rattle.dyndep_file.specs.inner.BuildLines.{words_before_colon, after_colon, Names, IsNamed}
 use Rattle.dyndep_file.specs.declared.faults.LineFault.{LineFault}
 use Rattle.dyndep_file.proofs.TableLemmas.{same_bytes-true, symbol_is_word}
 

@@ -15,8 +15,8 @@ use Rattle.dyndep_file.specs.Classes.{Class, IsOfClass, TextIsOfClass}
 use Rattle.dyndep_file.specs.Faults.{line_fault, text_line_fault, stage_after}
 use Rattle.dyndep_file.specs.Steps.{ProgressValue, step, run}
 use Rattle.dyndep_file.specs.Reading.{IsFaultyAfter}
-use Rattle.dyndep_file.specs.Reader.{Reader, HasRead, Reads, Ends, IsFaultAtEnd, IsFaultIn, IsFailureIn, fault_of_cutter, AreTextsOfClasses}
-use Rattle.dyndep_file.specs.LineStates.{PassesLine, RefusesLine, answer_at_end}
+use Rattle.dyndep_file.specs.Reader.{Reader, HasRead, Reads, Ends, IsFaultAtEnd, IsFaultIn, IsFailureIn, AreTextsOfClasses}
+use Rattle.dyndep_file.specs.inner.LineStates.{fault_of_cutter, PassesLine, RefusesLine, answer_at_end}
 use Rattle.dyndep_file.specs.StatementValue.{StatementValue}
 use Rattle.dyndep_file.specs.ProgressViews.{progress_value}
 use Rattle.dyndep_file.specs.declared.progress.Progress.{Progress}

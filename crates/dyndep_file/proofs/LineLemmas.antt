@@ -13,8 +13,9 @@ use Rattle.dyndep_file.specs.Classes.{Class, Blank, Build, Binding, Symbol, Word
 use Rattle.dyndep_file.specs.Faults.{same_bytes, is_empty, after_build, value_assigned, indented_fault, version_fault, build_fault, build_or_other_fault, unindented_fault}
 use Rattle.dyndep_file.specs.Faults.{text_fault, lexical_fault_or}
 use Rattle.dyndep_file.specs.Steps.{ProgressValue, step, with_last_restat}
-use Rattle.dyndep_file.specs.BuildTokens.{symbol_of, is_word, IsNamed}
-use Rattle.dyndep_file.specs.LineReading.{PassesOr, IsBuildOf, with_name, IsBindingOf, IsVersionLineOf}
+use Rattle.dyndep_file.specs.BuildTokens.{symbol_of, is_word}
+use Rattle.dyndep_file.specs.inner.BuildLines.{IsNamed}
+use Rattle.dyndep_file.specs.inner.LineReading.{PassesOr, IsBuildOf, with_name, IsBindingOf, IsVersionLineOf}
 use Rattle.dyndep_file.specs.declared.faults.LineFault.{LineFault}
 use Rattle.dyndep_file.specs.declared.progress.Stage.{Stage}
 use Rattle.dyndep_file.specs.declared.progress.Stage.TheVariants.{NoneOpen, Open}

@@ -7,11 +7,10 @@ pub mod Grammar
 pub mod Faults
 pub mod BuildTokens
 pub mod Steps
-pub mod LineReading
-pub mod LineStates
 pub mod Reading
 pub mod ReadingAll
 pub mod Laws
 pub mod Reader
 pub mod ProgressViews
 pub mod ReaderViews
+pub mod inner

@@ -4,15 +4,13 @@ use Rattle.ninja_text.specs.Lines.{line_limit, LogicalLine}
 use Rattle.ninja_text.specs.Cutting.{CutterState, Cuts}
 use Rattle.ninja_text.specs.declared.failure.Failure.{Failure}
 use Rattle.ninja_text.specs.declared.failure.Failure.TheVariants.{Memory, Fault}
-use Rattle.ninja_text.specs.declared.faults.CutFault.{CutFault}
-use Rattle.ninja_text.specs.declared.faults.CutFault.TheVariants as cut
 use Rattle.dyndep_file.specs.StatementValue.{StatementValue}
 use Rattle.dyndep_file.specs.Classes.{Class, TextIsOfClass}
 use Rattle.dyndep_file.specs.Steps.{ProgressValue, run}
 use Rattle.dyndep_file.specs.Reading.{StandsFor, FaultyLine, FaultyEnd}
 use Rattle.dyndep_file.specs.declared.faults.ReadFault.{ReadFault}
 use Rattle.dyndep_file.specs.declared.faults.ReadFault.TheVariants.{AtLine, Io}
-use Rattle.dyndep_file.specs.declared.faults.LineFault.TheVariants.{LineTooLong, Truncated}
+use Rattle.dyndep_file.specs.declared.faults.LineFault.TheVariants.{LineTooLong}
 use Rattle.dyndep_file.specs.declared.progress.Stage.TheVariants.{BeforeVersion}
 
 -- a reader: its cutter of lines, the statements so far, and what it refused with, if it did
@@ -71,10 +69,3 @@ IsFaultAtEnd bytes Memory = ⊥
 abbrev pub Ends : List ℕ → Result (List StatementValue) (Failure ReadFault) → Type 0
 Ends bytes (Ok statements) = StandsFor bytes statements
 Ends bytes (Err failure) = IsFaultAtEnd bytes failure
-
--- ---- inside the reader
-
--- the cutter's fault as the reader's
-abbrev pub fault_of_cutter : CutFault → ReadFault
-fault_of_cutter (cut.LineTooLong line) = AtLine line LineTooLong
-fault_of_cutter (cut.Truncated line) = AtLine line Truncated

@@ -4,7 +4,8 @@ ghost use Rattle.ninja_text.specs.Tokens.{value_of};
 ghost use Rattle.ninja_text.specs.TokenViews.{seen_token};
 ghost use Rattle.dyndep_file.specs.Classes.{Symbol, symbol};
 ghost use Rattle.dyndep_file.specs.Faults.{same_bytes, output_fault, after_output_fault, implicit_outputs_fault, rule_fault, after_rule_fault, implicit_inputs_fault};
-ghost use Rattle.dyndep_file.specs.BuildTokens.{is_word, symbol_of, symbols_left, position_fault, fault_from, words_before_colon, after_colon, IsNamed};
+ghost use Rattle.dyndep_file.specs.BuildTokens.{is_word, symbol_of, symbols_left};
+ghost use Rattle.dyndep_file.specs.inner.BuildLines.{position_fault, fault_from, words_before_colon, after_colon, IsNamed};
 
 use crate::faults::LineFault;
 use crate::statement::Statement;

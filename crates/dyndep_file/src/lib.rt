@@ -11,6 +11,8 @@
 //! - How [`LineFault`], [`ReadFault`] and [`WriteFault`] are printed is proved too (`specs/FaultTexts.antt`).
 //! - [`laws`] proves of those definitions that a text has one list of statements or a fault, and not both.
 //!
+//! Definitions that only private clauses speak of stand in `specs/inner/`.
+//!
 //! It stands on `ninja_text`, which cuts the lines, tells their tokens, spells paths and counts failed calls.
 #![tactic(auto)]
 

@@ -7,7 +7,7 @@ ghost use Rattle.ninja_text.specs.TokenViews.{seen_token, tokens_left};
 ghost use Rattle.dyndep_file.specs.Classes.{TextIsOfClass, begins_with_space};
 ghost use Rattle.dyndep_file.specs.Faults.{text_line_fault};
 ghost use Rattle.dyndep_file.specs.BuildTokens.{symbol_of, is_word};
-ghost use Rattle.dyndep_file.specs.LineReading.{PassesOr, ReadsLine};
+ghost use Rattle.dyndep_file.specs.inner.LineReading.{PassesOr, ReadsLine};
 ghost use Rattle.dyndep_file.specs.ProgressViews.{progress_value};
 
 use crate::build_line::is_keyword;

@@ -6,7 +6,7 @@ ghost use Rattle.dyndep_file.specs.Classes.{Blank, is_version_one, ends_number};
 ghost use Rattle.dyndep_file.specs.Faults.{value_assigned, indented_fault, version_fault, build_fault, other_fault, unindented_fault};
 ghost use Rattle.dyndep_file.specs.Steps.{step, with_last_restat};
 ghost use Rattle.dyndep_file.specs.BuildTokens.{symbols_left};
-ghost use Rattle.dyndep_file.specs.LineReading.{PassesOr, IsBuildOf, IsBindingOf, IsVersionOf, IsVersionLineOf, with_name};
+ghost use Rattle.dyndep_file.specs.inner.LineReading.{PassesOr, IsBuildOf, IsBindingOf, IsVersionOf, IsVersionLineOf, with_name};
 ghost use Rattle.dyndep_file.specs.ProgressViews.{progress_value};
 
 use crate::build_line::{is_same, statement_named, tokens_fault};

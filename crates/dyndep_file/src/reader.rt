@@ -1,6 +1,6 @@
 //! The reader of dyndep files that come in pieces: lines are read one by one into the statements so far.
 ghost use Rattle.std.specs.Prelude.{◌≡◌, ℕ, ◌++◌, List, [], Some};
-ghost use Rattle.dyndep_file.specs.LineStates.{answer_at_end};
+ghost use Rattle.dyndep_file.specs.inner.LineStates.{answer_at_end};
 
 use crate::faults::{LineFault, ReadFault};
 use crate::line::read_line;
@@ -90,8 +90,7 @@ impl LineState for Progress {
     type Fault = ReadFault;
 
     ghost use Rattle.dyndep_file.specs.ProgressViews.{progress_value};
-    ghost use Rattle.dyndep_file.specs.LineStates.{PassesLine, RefusesLine};
-    ghost use Rattle.dyndep_file.specs.Reader.{fault_of_cutter};
+    ghost use Rattle.dyndep_file.specs.inner.LineStates.{PassesLine, RefusesLine, fault_of_cutter};
 
     ghost passes = { λ old line new. PassesLine (progress_value old) line (progress_value new) };
 

@@ -6,7 +6,8 @@ ghost use Rattle.ninja_text.specs.Escapes.{escaped, is_escaped, is_writable, IsW
 ghost use Rattle.dyndep_file.specs.StatementValue.{StatementValue};
 ghost use Rattle.dyndep_file.specs.Reading.{StandsForOnly};
 ghost use Rattle.dyndep_file.specs.Writing.{part_text, build_line, statement_text, dyndep_text};
-ghost use Rattle.dyndep_file.specs.WriteFaults.{text_or_fault, capped, paths_of, statement_fault, fault_from, write_fault, CanBeWritten, LeavesWriter, WritesInTurn, AnswersFault};
+ghost use Rattle.dyndep_file.specs.WriteFaults.{text_or_fault, paths_of, statement_fault, fault_from, write_fault, CanBeWritten, LeavesWriter, WritesInTurn, AnswersFault};
+ghost use Rattle.dyndep_file.specs.inner.Lengths.{capped};
 
 use crate::statement::{Dyndep, Statement};
 use ninja_text::{Counted, Failure, LINE_LIMIT, WriteCall, escape_into, is_writable};

@@ -1,6 +1,7 @@
 use Rattle.std.proofs.Common.{◌≡◌}
 use Rattle.dyndep_file.specs.Faults.{output_fault}
-use Rattle.dyndep_file.specs.BuildTokens.{symbols_left, position_fault}
+use Rattle.dyndep_file.specs.BuildTokens.{symbols_left}
+use Rattle.dyndep_file.specs.inner.BuildLines.{position_fault}
 use Rattle.dyndep_file.proofs.build_line.tokens_fault.Given as goal
 
 -- the tokens to come, at this position, have the fault of all

@@ -1,6 +1,7 @@
 use Rattle.std.proofs.Common.{◌≡◌, ◌++◌, map}
 use Rattle.ninja_text.specs.Tokens.{value_of}
-use Rattle.dyndep_file.specs.BuildTokens.{symbols_left, words_before_colon, after_colon}
+use Rattle.dyndep_file.specs.BuildTokens.{symbols_left}
+use Rattle.dyndep_file.specs.inner.BuildLines.{words_before_colon, after_colon}
 use Rattle.dyndep_file.proofs.build_line.values_to_colon.Given as goal
 
 -- the values so far and those to come are all, and the `:` is the same one

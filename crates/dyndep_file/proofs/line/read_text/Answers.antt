@@ -2,7 +2,7 @@ use Rattle.std.proofs.Common.{◌≡◌, ◌∙◌, sym, subst, Bool, false}
 use Rattle.ninja_text.specs.LineViews.{seen_line}
 use Rattle.dyndep_file.specs.Classes.{TextIsOfClass}
 use Rattle.dyndep_file.specs.Faults.{text_line_fault}
-use Rattle.dyndep_file.specs.LineReading.{PassesOr}
+use Rattle.dyndep_file.specs.inner.LineReading.{PassesOr}
 use Rattle.dyndep_file.specs.ProgressViews.{progress_value}
 use Rattle.dyndep_file.proofs.line.read_text.Goals as goal
 

@@ -6,7 +6,7 @@ use Rattle.ninja_text.specs.TokenViews.{seen_token, tokens_left}
 use Rattle.dyndep_file.specs.Classes.{Blank, TextIsOfClass, begins_with_space}
 use Rattle.dyndep_file.specs.Faults.{value_assigned, indented_fault, unindented_fault}
 use Rattle.dyndep_file.specs.BuildTokens.{symbols_left}
-use Rattle.dyndep_file.specs.LineReading.{PassesOr, IsBuildOf, IsBindingOf, IsVersionLineOf}
+use Rattle.dyndep_file.specs.inner.LineReading.{PassesOr, IsBuildOf, IsBindingOf, IsVersionLineOf}
 use Rattle.dyndep_file.specs.ProgressViews.{progress_value}
 use Rattle.dyndep_file.proofs.LineLemmas.{passes_as, blank, keyword_text, keyword_class, indented_text, binding_class, other_text, version_class}
 use Rattle.dyndep_file.proofs.line.read_tokens.Goals as goal

@@ -2,7 +2,7 @@ use Rattle.std.proofs.Common.{◌≡◌, ◌∙◌, sym, None}
 use Rattle.std.specs.Prelude.{codes, option_map}
 use Rattle.ninja_text.specs.Tokens.{value_of}
 use Rattle.ninja_text.specs.AssignmentViews.{seen_assignment}
-use Rattle.dyndep_file.specs.LineReading.{IsVersionOf, IsVersionLineOf}
+use Rattle.dyndep_file.specs.inner.LineReading.{IsVersionOf, IsVersionLineOf}
 use Rattle.dyndep_file.specs.ProgressViews.{progress_value}
 use Rattle.dyndep_file.proofs.LineLemmas.{has_name, unindented_version, passes_as}
 use Rattle.dyndep_file.proofs.progress.version_or_other_line.Goals as goal

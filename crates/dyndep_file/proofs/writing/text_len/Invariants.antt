@@ -1,7 +1,7 @@
 use Rattle.std.proofs.Common.{◌≡◌, ◌++◌, length, take}
 use Rattle.std.specs.List.{flat_map}
 use Rattle.dyndep_file.specs.Writing.{version_line, statement_text}
-use Rattle.dyndep_file.specs.WriteFaults.{capped}
+use Rattle.dyndep_file.specs.inner.Lengths.{capped}
 use Rattle.dyndep_file.proofs.writing.text_len.Given as goal
 
 -- the length of the text of the statements so far

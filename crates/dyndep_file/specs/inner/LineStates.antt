@@ -1,14 +1,16 @@
--- What a line does to the statements so far, as the reader of lines wants it told.
+-- What a line does to the statements so far, as `LineState` of `ninja_text` asks for it, and what is answered at the end.
 use Rattle.std.specs.Prelude.{ℕ, List, Result, Ok, Err}
 use Rattle.ninja_text.specs.Lines.{LogicalLine}
 use Rattle.ninja_text.specs.declared.failure.Failure.{Failure}
 use Rattle.ninja_text.specs.declared.failure.Failure.TheVariants.{Fault}
+use Rattle.ninja_text.specs.declared.faults.CutFault.{CutFault}
+use Rattle.ninja_text.specs.declared.faults.CutFault.TheVariants as cut
 use Rattle.dyndep_file.specs.StatementValue.{StatementValue}
 use Rattle.dyndep_file.specs.Steps.{ProgressValue}
-use Rattle.dyndep_file.specs.LineReading.{ReadsLine}
+use Rattle.dyndep_file.specs.inner.LineReading.{ReadsLine}
 use Rattle.dyndep_file.specs.declared.faults.ReadFault.{ReadFault}
 use Rattle.dyndep_file.specs.declared.faults.ReadFault.TheVariants.{AtLine}
-use Rattle.dyndep_file.specs.declared.faults.LineFault.TheVariants.{NoVersion}
+use Rattle.dyndep_file.specs.declared.faults.LineFault.TheVariants.{LineTooLong, Truncated, NoVersion}
 use Rattle.dyndep_file.specs.declared.progress.Stage.{Stage}
 use Rattle.dyndep_file.specs.declared.progress.Stage.TheVariants.{BeforeVersion, NoneOpen, Open}
 
@@ -19,6 +21,11 @@ PassesLine old line new = ReadsLine old line (Ok tt) new
 -- The line has this fault.
 abbrev pub RefusesLine : ProgressValue → LogicalLine → ReadFault → Type 0
 RefusesLine old line fault = ReadsLine old line (Err (Fault fault)) old
+
+-- the cutter's fault as the reader's
+abbrev pub fault_of_cutter : CutFault → ReadFault
+fault_of_cutter (cut.LineTooLong line) = AtLine line LineTooLong
+fault_of_cutter (cut.Truncated line) = AtLine line Truncated
 
 -- what is answered once all lines were read: the statements, or that no version line came before
 -- this line

@@ -8,7 +8,7 @@ use Rattle.ninja_text.specs.declared.failure.Failure.TheVariants.{Memory, Fault}
 use Rattle.dyndep_file.specs.Classes.{Class, Version, Build, Binding, Symbol, TextIsOfClass, is_version_one}
 use Rattle.dyndep_file.specs.Steps.{ProgressValue, step}
 use Rattle.dyndep_file.specs.Faults.{same_bytes, text_line_fault}
-use Rattle.dyndep_file.specs.BuildTokens.{Names}
+use Rattle.dyndep_file.specs.inner.BuildLines.{Names}
 use Rattle.dyndep_file.specs.declared.faults.LineFault.{LineFault}
 use Rattle.dyndep_file.specs.declared.faults.ReadFault.{ReadFault}
 use Rattle.dyndep_file.specs.declared.faults.ReadFault.TheVariants.{AtLine, Io}

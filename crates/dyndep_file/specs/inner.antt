@@ -1,0 +1,5 @@
+-- Definitions that private clauses alone speak of.
+pub mod Lengths
+pub mod BuildLines
+pub mod LineReading
+pub mod LineStates
