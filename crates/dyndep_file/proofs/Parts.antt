@@ -1,13 +1,10 @@
 -- The paths of a part, as vectors and as lists, and what is written of the first of them.
-use Rattle.std.proofs.Common.{◌≡◌, ℕ, suc, ◌+◌, ◌<◌, List, [], ◌∷◌, ◌++◌, length, get_or, take, map, Vec, Global, ap, sym, ◌∙◌, subst, arith, append_assoc, length-append}
+use Rattle.std.proofs.Common.{◌≡◌, ℕ, suc, ◌+◌, ◌<◌, List, [], ◌∷◌, ◌++◌, length, get_or, take, Vec, Global, ap, sym, ◌∙◌, subst, arith, append_assoc, length-append}
 use Rattle.std.specs.Prelude.{All}
 use Rattle.std.specs.List.{flat_map}
 use Rattle.std.proofs.lemmas.List.{take_more, get_or-map, length-map, append-nil, get_or_append_left, get_or-append-add}
 use Rattle.std.proofs.lemmas.Grind.{flat_map-append}
-
--- the bytes of the paths
-abbrev pub texts : List (Vec ℕ Global) → List (List ℕ)
-texts paths = map (λ path. path.items) paths
+use Rattle.dyndep_file.specs.inner.Paths.{texts}
 
 -- the bytes of the path at a place
 pub text_at : (paths : List (Vec ℕ Global)) (i : ℕ) (path : Vec ℕ Global) (d : List ℕ) → i < length paths → path ≡ get_or paths i path → get_or (texts paths) i d ≡ path.items

@@ -1,4 +1,5 @@
--- The lines of a dyndep file, by what they are (Ninja 1.11 manual, "Dyndep file reference" and "Lexical syntax").
+-- The lines of a dyndep file, by what they are (Ninja 1.11 manual, "Dyndep file reference" and
+-- "Lexical syntax").
 use Rattle.std.specs.Prelude.{◌≡◌, ℕ, ◌≤◌, Bool, true, false, ◌==◌, ◌&&◌, ◌||◌, not, nat_lt, IsTrue, List, [], ◌∷◌, ◌++◌, length, map, codes, ◌⊎◌, Some, None}
 use Rattle.ninja_text.specs.Units.{is_digit}
 use Rattle.ninja_text.specs.Bytes.{space}
@@ -9,8 +10,9 @@ use Rattle.ninja_text.specs.declared.token.TokenKind.{TokenKind}
 use Rattle.ninja_text.specs.declared.token.TokenKind.TheVariants.{Word, Bar, DoubleBar, BarAt, Colon}
 use Rattle.ninja_text.specs.Assignments.{SeenAssignment, assignment_of}
 
--- What a line is: a comment, a blank line, the version line, a build line with its explicit output, its implicit outputs and its
--- implicit inputs, or a binding of `restat`, which sets the flag or does not.
+-- What a line is: a comment, a blank line, the version line, a build line with its explicit output,
+-- its implicit outputs and its implicit inputs, or a binding of `restat`, which sets the flag or
+-- does not.
 pub data Class : Type 0 where
   Comment : Class
   Blank : Class
@@ -18,7 +20,8 @@ pub data Class : Type 0 where
   Build : List ℕ → List (List ℕ) → List (List ℕ) → Class
   Binding : Bool → Class
 
--- a token of a build line: a word with its bytes as they are spelled, or one of the signs `|`, `||`, `|@` and `:`
+-- a token of a build line: a word with its bytes as they are spelled, or one of the signs `|`,
+-- `||`, `|@` and `:`
 pub data Symbol : Type 0 where
   WordSymbol : List ℕ → Symbol
   SignSymbol : TokenKind → Symbol
@@ -40,20 +43,27 @@ abbrev pub begins_at_start : List TokenAt → Bool
 begins_at_start [] = false
 begins_at_start (t ∷ ts) = t.start == 0
 
--- Implicit outputs or implicit inputs: nothing at all, or `|` and these words, of which there may be none.
+-- Implicit outputs or implicit inputs: nothing at all, or `|` and these words, of which there may
+-- be none.
 abbrev pub IsPart : List Symbol → List (List ℕ) → Type 0
-IsPart part words = ((part ≡ []) × (words ≡ [])) ⊎ (part ≡ SignSymbol Bar ∷ map WordSymbol words)
+IsPart part words =
+    ((part ≡ []) × (words ≡ [])) ⊎ (part ≡ SignSymbol Bar ∷ map WordSymbol words)
 
--- The line is `build output | outputs : dyndep | inputs`, and begins at its first byte; the words are given as they are spelled.
+-- The line is `build output | outputs : dyndep | inputs`, and begins at its first byte; the words
+-- are given as they are spelled.
 abbrev pub IsBuild : List ℕ → List ℕ → List (List ℕ) → List (List ℕ) → Type 0
 IsBuild text output outputs inputs =
-    (before after : List Symbol) × IsPart before outputs × IsPart after inputs × IsTrue (begins_at_start (tokens text))
-    × (symbols text ≡ WordSymbol (codes "build") ∷ WordSymbol output ∷ before ++ SignSymbol Colon ∷ WordSymbol (codes "dyndep") ∷ after)
+    (before after : List Symbol) × IsPart before outputs × IsPart after inputs
+    × IsTrue (begins_at_start (tokens text))
+    × (symbols text ≡ WordSymbol (codes "build") ∷ WordSymbol output ∷ before
+    ++ SignSymbol Colon ∷ WordSymbol (codes "dyndep") ∷ after)
 
--- The line is an assignment to this name, which begins at this byte, of this value, without escapes.
+-- The line is an assignment to this name, which begins at this byte, of this value, without
+-- escapes.
 abbrev pub Assigns : List ℕ → List ℕ → ℕ → List ℕ → Type 0
 Assigns text name start value =
-    (a : SeenAssignment) × (assignment_of text ≡ Some a) × (a.name_start ≡ start) × (a.name ≡ name) × (value_of a.raw_value ≡ value)
+    (a : SeenAssignment) × (assignment_of text ≡ Some a) × (a.name_start ≡ start) × (a.name ≡ name)
+    × (value_of a.raw_value ≡ value)
 
 -- whether the line is indented: its first byte is a space
 abbrev pub begins_with_space : List ℕ → Bool
@@ -65,7 +75,8 @@ abbrev pub ends_number : Bool → List ℕ → Bool
 ends_number dots [] = true
 ends_number dots (b ∷ bytes) = not (is_digit b) && (dots || not (b == 46))
 
--- whether a version is one that Ninja 1.11 reads: `1` and then neither a digit nor `.`, or `1.0` and then no digit
+-- whether a version is one that Ninja 1.11 reads: `1` and then neither a digit nor `.`, or `1.0`
+-- and then no digit
 abbrev pub is_version_one : List ℕ → Bool
 is_version_one [] = false
 is_version_one (a ∷ rest) = (a == 49) && (ends_number false rest || dot_zero rest) where
@@ -74,20 +85,29 @@ is_version_one (a ∷ rest) = (a == 49) && (ends_number false rest || dot_zero r
   dot_zero (a ∷ []) = false
   dot_zero (a ∷ b ∷ rest) = (a == 46) && (b == 48) && ends_number true rest
 
--- A line is of this class, told by its text without the end, and by whether it is a comment: one holds any bytes, every other
--- line has no lexical fault. A blank line has no token. A version line assigns a version that is read, and its name stands at the
--- first byte. The paths of a build line are the values of its words, without escapes. A binding is an indented assignment to
--- `restat`, and sets the flag where the value is not empty.
+-- A line is of this class, told by its text without the end, and by whether it is a comment: one
+-- holds any bytes, every other line has no lexical fault. A blank line has no token. A version line
+-- assigns a version that is read, and its name stands at the first byte. The paths of a build line
+-- are the values of its words, without escapes. A binding is an indented assignment to `restat`,
+-- and sets the flag where the value is not empty.
 abbrev pub TextIsOfClass : List ℕ → Bool → Class → Type 0
 TextIsOfClass text comment Comment = comment ≡ true
-TextIsOfClass text comment Blank = (comment ≡ false) × (lexical_fault text ≡ None) × (tokens text ≡ [])
-TextIsOfClass text comment Version = (comment ≡ false) × (lexical_fault text ≡ None)
-    × (value : List ℕ) × Assigns text (codes "ninja_dyndep_version") 0 value × IsTrue (is_version_one value)
-TextIsOfClass text comment (Build output outputs inputs) = (comment ≡ false) × (lexical_fault text ≡ None)
-    × (raw_output : List ℕ) × (raw_outputs raw_inputs : List (List ℕ)) × IsBuild text raw_output raw_outputs raw_inputs
-    × (output ≡ value_of raw_output) × (outputs ≡ map value_of raw_outputs) × (inputs ≡ map value_of raw_inputs)
-TextIsOfClass text comment (Binding flag) = (comment ≡ false) × (lexical_fault text ≡ None) × IsTrue (begins_with_space text)
-    × (start : ℕ) × (value : List ℕ) × Assigns text (codes "restat") start value × (flag ≡ nat_lt 0 (length value))
+TextIsOfClass text comment Blank =
+    (comment ≡ false) × (lexical_fault text ≡ None) × (tokens text ≡ [])
+TextIsOfClass text comment Version =
+    (comment ≡ false) × (lexical_fault text ≡ None)
+    × (value : List ℕ) × Assigns text (codes "ninja_dyndep_version") 0 value
+    × IsTrue (is_version_one value)
+TextIsOfClass text comment (Build output outputs inputs) =
+    (comment ≡ false) × (lexical_fault text ≡ None)
+    × (raw_output : List ℕ) × (raw_outputs raw_inputs : List (List ℕ))
+    × IsBuild text raw_output raw_outputs raw_inputs
+    × (output ≡ value_of raw_output) × (outputs ≡ map value_of raw_outputs)
+    × (inputs ≡ map value_of raw_inputs)
+TextIsOfClass text comment (Binding flag) =
+    (comment ≡ false) × (lexical_fault text ≡ None) × IsTrue (begins_with_space text)
+    × (start : ℕ) × (value : List ℕ) × Assigns text (codes "restat") start value
+    × (flag ≡ nat_lt 0 (length value))
 
 -- The line, its end included, keeps the limit and is of this class.
 abbrev pub IsOfClass : List ℕ → Class → Type 0

@@ -1,5 +1,5 @@
--- The fault of a line of a dyndep file, by the lines before it: a table of lines, and one of the tokens of a build line. Both
--- follow the Ninja 1.11 manual, "Dyndep file reference".
+-- The fault of a line of a dyndep file, by the lines before it: a table of lines, and one of the
+-- tokens of a build line. Both follow the Ninja 1.11 manual, "Dyndep file reference".
 use Rattle.std.specs.Prelude.{ℕ, Bool, true, false, ◌==◌, ◌&&◌, ◌||◌, not, nat_lt, if◌then◌else◌, is_some, List, [], ◌∷◌, length, codes, Option, Some, None}
 use Rattle.std.specs.List.{list_any, list_all}
 use Rattle.ninja_text.specs.Lines.{line_limit, is_comment, text_of}
@@ -49,14 +49,16 @@ abbrev pub is_open : List Class → Bool
 is_open [] = false
 is_open (c ∷ classes) = (is_build c && list_all is_comment_class classes) || is_open classes
 
--- the column for a line after lines of these classes: before the version, no statement open, or a statement open
+-- the column for a line after lines of these classes: before the version, no statement open, or a
+-- statement open
 abbrev pub stage_after : List Class → Stage
 stage_after classes =
     if not (list_any is_version classes) then BeforeVersion
     else if is_open classes then Open
     else NoneOpen
 
--- ---- the table of build lines: the tokens after the keyword `build`, told by the first that may not stand where it does
+-- ---- the table of build lines: the tokens after the keyword `build`, by the first that may not
+-- ---- stand where it does
 
 -- the fault of what comes among the implicit inputs
 abbrev pub implicit_inputs_fault : List Symbol → Option LineFault
@@ -78,7 +80,8 @@ after_rule_fault (SignSymbol other ∷ more) = Some BadLine
 -- the fault of what comes after `:`, where the rule stands, which is `dyndep`, spelled so
 abbrev pub rule_fault : List Symbol → Option LineFault
 rule_fault [] = Some BadRule
-rule_fault (WordSymbol word ∷ more) = if same_bytes word (codes "dyndep") then after_rule_fault more else Some BadRule
+rule_fault (WordSymbol word ∷ more) =
+    if same_bytes word (codes "dyndep") then after_rule_fault more else Some BadRule
 rule_fault (SignSymbol other ∷ more) = Some BadRule
 
 -- the fault of what comes among the implicit outputs: `:` ends them
@@ -90,7 +93,8 @@ implicit_outputs_fault (SignSymbol DoubleBar ∷ more) = Some OrderOnly
 implicit_outputs_fault (SignSymbol BarAt ∷ more) = Some Validation
 implicit_outputs_fault (SignSymbol other ∷ more) = Some BadLine
 
--- the fault of what comes after the explicit output: `|` begins the implicit outputs, and `:` stands before the rule
+-- the fault of what comes after the explicit output: `|` begins the implicit outputs, and `:`
+-- stands before the rule
 abbrev pub after_output_fault : List Symbol → Option LineFault
 after_output_fault [] = Some BadLine
 after_output_fault (WordSymbol word ∷ more) = Some SecondOutput
@@ -134,32 +138,43 @@ other_fault Open = BadLine
 
 -- ---- the row of a line, and its fault
 
--- the tokens after the keyword `build`, where the line begins with it at its first byte; None for any other line
+-- the tokens after the keyword `build`, where the line begins with it at its first byte; None for
+-- any other line
 abbrev pub after_build : Bool → List Symbol → Option (List Symbol)
 after_build at_start [] = None
-after_build at_start (WordSymbol word ∷ more) = if at_start && same_bytes word (codes "build") then Some more else None
+after_build at_start (WordSymbol word ∷ more) =
+    if at_start && same_bytes word (codes "build") then Some more else None
 after_build at_start (SignSymbol other ∷ more) = None
 
--- where the name begins and what is assigned, where a line is an assignment to this name; None for any other line
+-- where the name begins and what is assigned, where a line is an assignment to this name; None for
+-- any other line
 abbrev pub value_assigned : List ℕ → Option SeenAssignment → Option (ℕ × List ℕ)
 value_assigned name None = None
-value_assigned name (Some a) = if same_bytes a.name name then Some (a.name_start, value_of a.raw_value) else None
+value_assigned name (Some a) =
+    if same_bytes a.name name then Some (a.name_start, value_of a.raw_value) else None
 
--- a line that is neither indented nor a version line, told by its tokens after `build`, if it is a build line
+-- a line that is neither indented nor a version line, told by its tokens after `build`, if it is a
+-- build line
 abbrev pub build_or_other_fault : Stage → Option (List Symbol) → Option LineFault
 build_or_other_fault stage (Some more) = build_fault stage more
 build_or_other_fault stage None = Some (other_fault stage)
 
--- a line that is not indented, told by what it assigns to the version, if that, and by its tokens after `build`, if it is a build line
-abbrev pub unindented_fault : Stage → Option (ℕ × List ℕ) → Option (List Symbol) → Option LineFault
-unindented_fault stage (Some version) build = if version.0 == 0 then version_fault stage version.1 else build_or_other_fault stage build
+-- a line that is not indented, told by what it assigns to the version, if that, and by its tokens
+-- after `build`, if it is a build line
+abbrev pub unindented_fault : Stage → Option (ℕ × List ℕ) → Option (List Symbol)
+    → Option LineFault
+unindented_fault stage (Some version) build =
+    if version.0 == 0 then version_fault stage version.1
+    else build_or_other_fault stage build
 unindented_fault stage None build = build_or_other_fault stage build
 
--- a line's text without lexical fault that is no comment; a blank line, which has no token, has no fault
+-- a line's text without lexical fault that is no comment; a blank line, which has no token, has no
+-- fault
 abbrev pub text_fault : Stage → List ℕ → Option LineFault
 text_fault stage text =
     if is_empty (tokens text) then None
-    else if begins_with_space text then indented_fault stage (is_some (value_assigned (codes "restat") (assignment_of text)))
+    else if begins_with_space text then
+    indented_fault stage (is_some (value_assigned (codes "restat") (assignment_of text)))
     else unindented_fault stage (value_assigned (codes "ninja_dyndep_version") (assignment_of text))
     (after_build (begins_at_start (tokens text)) (symbols text))
 
@@ -170,7 +185,8 @@ lexical_fault_or None otherwise = otherwise
 
 -- the fault of a line's text without its end, told by whether the line is a comment, which has none
 abbrev pub text_line_fault : Stage → List ℕ → Bool → Option LineFault
-text_line_fault stage text comment = if comment then None else lexical_fault_or (lexical_fault text) (text_fault stage text)
+text_line_fault stage text comment =
+    if comment then None else lexical_fault_or (lexical_fault text) (text_fault stage text)
 
 -- the fault of a line, its end included; None where it has none
 abbrev pub line_fault : Stage → List ℕ → Option LineFault

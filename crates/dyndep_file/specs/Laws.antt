@@ -13,19 +13,24 @@ use Rattle.dyndep_file.specs.declared.writing.WriteFault.TheVariants.{StatementT
 
 -- A text stands for one list of statements at most.
 abbrev pub OneList : Type 0
-OneList = (bytes : List ℕ) (statements others : List StatementValue) → StandsFor bytes statements → StandsFor bytes others → statements ≡ others
+OneList = (bytes : List ℕ) (statements others : List StatementValue)
+    → StandsFor bytes statements → StandsFor bytes others → statements ≡ others
 
 -- A text that stands for a list of statements has no fault.
 abbrev pub NotBoth : Type 0
-NotBoth = (bytes : List ℕ) (statements : List StatementValue) (found : FaultAt) → StandsFor bytes statements → IsRefused bytes found → ⊥
+NotBoth = (bytes : List ℕ) (statements : List StatementValue) (found : FaultAt)
+    → StandsFor bytes statements → IsRefused bytes found → ⊥
 
 -- A text stands for a list of statements, or has a fault.
 abbrev pub OneOfBoth : Type 0
-OneOfBoth = (bytes : List ℕ) → ((statements : List StatementValue) × StandsFor bytes statements) ⊎ ((found : FaultAt) × IsRefused bytes found)
+OneOfBoth = (bytes : List ℕ)
+    → ((statements : List StatementValue) × StandsFor bytes statements)
+    ⊎ ((found : FaultAt) × IsRefused bytes found)
 
 -- A text has one fault at most: the first faulty line, its number and what is wrong with it.
 abbrev pub OneFault : Type 0
-OneFault = (bytes : List ℕ) (found other : FaultAt) → IsRefused bytes found → IsRefused bytes other → found ≡ other
+OneFault = (bytes : List ℕ) (found other : FaultAt)
+    → IsRefused bytes found → IsRefused bytes other → found ≡ other
 
 -- What was fed to a reader that goes on has no fault but what its end may bring.
 abbrev pub GoesOnUnrefused : Type 0

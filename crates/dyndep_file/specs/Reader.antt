@@ -1,4 +1,5 @@
--- What a reader of dyndep files answers, by all bytes that it was fed, however they were cut into pieces.
+-- What a reader of dyndep files answers, by all bytes that it was fed, however they were cut into
+-- pieces.
 use Rattle.std.specs.Prelude.{◌≡◌, ℕ, ◌<◌, false, List, [], ◌∷◌, length, Option, Some, None, Result, Ok, Err, ◌⊎◌}
 use Rattle.ninja_text.specs.Lines.{line_limit, LogicalLine}
 use Rattle.ninja_text.specs.Cutting.{CutterState, Cuts}
@@ -22,12 +23,15 @@ pub record Reader : Type 0 where
 -- The lines are of these classes, one by one.
 abbrev pub AreTextsOfClasses : List LogicalLine → List Class → Type 0
 AreTextsOfClasses [] [] = Unit {0}
-AreTextsOfClasses (line ∷ lines) (c ∷ classes) = TextIsOfClass line.text line.comment c × AreTextsOfClasses lines classes
+AreTextsOfClasses (line ∷ lines) (c ∷ classes) =
+    TextIsOfClass line.text line.comment c × AreTextsOfClasses lines classes
 AreTextsOfClasses [] (c ∷ classes) = ⊥
 AreTextsOfClasses (line ∷ lines) [] = ⊥
 
--- After these bytes the cutter has lent all whole lines, and holds a rest below the limit; the lines gave these statements so far.
-pub record IsStateAfter (bytes : List ℕ) (cutter : CutterState) (progress : ProgressValue) : Type 0 where
+-- After these bytes the cutter has lent all whole lines, and holds a rest below the limit; the
+-- lines gave these statements so far.
+pub record IsStateAfter (bytes : List ℕ) (cutter : CutterState) (progress : ProgressValue)
+    : Type 0 where
   pub lent : List LogicalLine
   pub classes : List Class
   pub cuts : Cuts bytes lent cutter
@@ -42,11 +46,12 @@ pub record HasRead (bytes : List ℕ) (r : Reader) : Type 0 where
   pub state : IsStateAfter bytes r.cutter r.progress
   pub works : r.failed ≡ None
 
--- The fault is in the bytes: a line of them is the first faulty one, or their end has reached the limit of a line. It is the fault
--- of every text that begins with them.
+-- The fault is in the bytes: a line of them is the first faulty one, or their end has reached the
+-- limit of a line. It is the fault of every text that begins with them.
 abbrev pub IsFaultIn : List ℕ → ReadFault → Type 0
 IsFaultIn bytes (AtLine line fault) =
-    FaultyLine bytes (record { line = line; fault = fault }) ⊎ (FaultyEnd bytes (record { line = line; fault = fault }) × (fault ≡ LineTooLong))
+    FaultyLine bytes (record { line = line; fault = fault })
+    ⊎ (FaultyEnd bytes (record { line = line; fault = fault }) × (fault ≡ LineTooLong))
 IsFaultIn bytes Io = ⊥
 
 -- Memory was refused, or the fault is in the bytes.
@@ -54,14 +59,16 @@ abbrev pub IsFailureIn : List ℕ → Failure ReadFault → Type 0
 IsFailureIn bytes Memory = Unit {0}
 IsFailureIn bytes (Fault fault) = IsFaultIn bytes fault
 
--- What `feed` answers, and what the reader is then; by all bytes fed, this call's with them, to a reader that had refused none.
+-- What `feed` answers, and what the reader is then; by all bytes fed, this call's with them, to a
+-- reader that had refused none.
 abbrev pub Reads : List ℕ → Result Unit (Failure ReadFault) → Reader → Type 0
 Reads bytes (Ok u) new = HasRead bytes new
 Reads bytes (Err failure) new = (new.failed ≡ Some failure) × IsFailureIn bytes failure
 
 -- No line of the bytes is faulty, and their end has this fault.
 abbrev pub IsFaultAtEnd : List ℕ → Failure ReadFault → Type 0
-IsFaultAtEnd bytes (Fault (AtLine line fault)) = FaultyEnd bytes (record { line = line; fault = fault })
+IsFaultAtEnd bytes (Fault (AtLine line fault)) =
+    FaultyEnd bytes (record { line = line; fault = fault })
 IsFaultAtEnd bytes (Fault Io) = ⊥
 IsFaultAtEnd bytes Memory = ⊥
 

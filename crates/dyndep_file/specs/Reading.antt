@@ -1,4 +1,5 @@
--- Which statements a text stands for as a dyndep file, and which fault a text has that stands for none.
+-- Which statements a text stands for as a dyndep file, and which fault a text has that stands for
+-- none.
 use Rattle.std.specs.Prelude.{◌≡◌, ℕ, ◌<◌, ◌≤◌, false, List, [], ◌∷◌, ◌++◌, length, Some, ◌⊎◌}
 use Rattle.std.specs.List.{flat_map, list_any, AllByRecursion}
 use Rattle.ninja_text.specs.Lines.{line_limit, IsLine, Divides, number_after}
@@ -16,7 +17,8 @@ AreOfClasses (line ∷ lines) (c ∷ classes) = IsOfClass line c × AreOfClasses
 AreOfClasses [] (c ∷ classes) = ⊥
 AreOfClasses (line ∷ lines) [] = ⊥
 
--- The text stands for the statements: it is divided into lines, with no bytes left over, and the lines are a dyndep file with them.
+-- The text stands for the statements: it is divided into lines, with no bytes left over, and the
+-- lines are a dyndep file with them.
 pub record StandsFor (bytes : List ℕ) (statements : List StatementValue) : Type 0 where
   pub lines : List (List ℕ)
   pub classes : List Class
@@ -38,8 +40,9 @@ pub record FaultAt : Type 0 where
 abbrev pub IsFaultyAfter : List Class → List ℕ → Type 0
 IsFaultyAfter classes line = (c : Class) → IsOfClass line c → Begins (classes ++ c ∷ []) → ⊥
 
--- A line of the text is the first faulty one: some dyndep file begins with the lines before it, and none goes on with this line.
--- The fault is that of the tables, and the number that of the line's first physical line. Any bytes may come after the line.
+-- A line of the text is the first faulty one: some dyndep file begins with the lines before it, and
+-- none goes on with this line. The fault is that of the tables, and the number that of the line's
+-- first physical line. Any bytes may come after the line.
 pub record FaultyLine (bytes : List ℕ) (found : FaultAt) : Type 0 where
   pub before : List (List ℕ)
   pub line : List ℕ
@@ -53,15 +56,16 @@ pub record FaultyLine (bytes : List ℕ) (found : FaultAt) : Type 0 where
   pub number : found.line ≡ number_after (flat_map (λ line. line) before)
   pub reason : line_fault (stage_after classes) line ≡ Some found.fault
 
--- What is wrong at the end of a text without a faulty line: the bytes left over hold no end and reach the limit, or they are fewer
--- but some, or there are none and no version line came.
+-- What is wrong at the end of a text without a faulty line: the bytes left over hold no end and
+-- reach the limit, or they are fewer but some, or there are none and no version line came.
 abbrev pub IsEndFault : List ℕ → List Class → LineFault → Type 0
 IsEndFault rest classes LineTooLong = line_limit ≤ length rest
 IsEndFault rest classes Truncated = (0 < length rest) × (length rest < line_limit)
 IsEndFault rest classes NoVersion = (rest ≡ []) × (list_any is_version classes ≡ false)
 IsEndFault rest classes other = ⊥
 
--- No line of the text is faulty, and its end is; the number is that of the line which would begin behind the last whole line.
+-- No line of the text is faulty, and its end is; the number is that of the line which would begin
+-- behind the last whole line.
 pub record FaultyEnd (bytes : List ℕ) (found : FaultAt) : Type 0 where
   pub lines : List (List ℕ)
   pub rest : List ℕ

@@ -13,7 +13,8 @@ use Rattle.dyndep_file.specs.declared.faults.LineFault.{LineFault}
 use Rattle.dyndep_file.specs.declared.faults.ReadFault.{ReadFault}
 use Rattle.dyndep_file.specs.declared.faults.ReadFault.TheVariants.{AtLine, Io}
 
--- No line of the bytes is faulty, and the rest without an end is below the limit: whatever follows, a reader goes on.
+-- No line of the bytes is faulty, and the rest without an end is below the limit: whatever follows,
+-- a reader goes on.
 abbrev pub IsUnrefused : List ℕ → Type 0
 IsUnrefused bytes = (line : ℕ) (fault : LineFault) → IsFaultIn bytes (AtLine line fault) → ⊥
 

@@ -7,3 +7,12 @@ pub record StatementValue : Type 0 where
   pub implicit_outputs : List (List ℕ)
   pub implicit_inputs : List (List ℕ)
   pub restat : Bool
+
+-- the statement of these paths and this flag
+abbrev pub statement_of : List ℕ → List (List ℕ) → List (List ℕ) → Bool → StatementValue
+statement_of output outputs inputs flag = record {
+  output = output;
+  implicit_outputs = outputs;
+  implicit_inputs = inputs;
+  restat = flag;
+}

@@ -1,12 +1,13 @@
 -- The statements of the lines so far, and what one more line does to them.
 use Rattle.std.specs.Prelude.{ℕ, Bool, false, List, [], ◌∷◌, ◌++◌, Option, Some, None}
 use Rattle.std.specs.Option.{option_and_then}
-use Rattle.dyndep_file.specs.StatementValue.{StatementValue}
+use Rattle.dyndep_file.specs.StatementValue.{StatementValue, statement_of}
 use Rattle.dyndep_file.specs.Classes.{Class, Comment, Blank, Version, Build, Binding}
 use Rattle.dyndep_file.specs.declared.progress.Stage.{Stage}
 use Rattle.dyndep_file.specs.declared.progress.Stage.TheVariants.{BeforeVersion, NoneOpen, Open}
 
--- the statements so far, and the stage: before the version line, or after it, with the last statement open for a binding or none
+-- the statements so far, and the stage: before the version line, or after it, with the last
+-- statement open for a binding or none
 pub record ProgressValue : Type 0 where
   pub stage : Stage
   pub statements : List StatementValue
@@ -18,15 +19,16 @@ with_last_restat flag (s ∷ []) = record s { restat = flag } ∷ []
 with_last_restat flag (s ∷ t ∷ ss) = s ∷ with_last_restat flag (t ∷ ss)
 
 -- one more statement, which is open, and whose flag is off as yet
-abbrev pub open_statement : List StatementValue → List ℕ → List (List ℕ) → List (List ℕ) → ProgressValue
+abbrev pub open_statement : List StatementValue → List ℕ → List (List ℕ) → List (List ℕ)
+    → ProgressValue
 open_statement statements output outputs inputs = record {
   stage = Open;
-  statements = statements ++ record { output = output; implicit_outputs = outputs; implicit_inputs = inputs; restat = false } ∷ [];
+  statements = statements ++ statement_of output outputs inputs false ∷ [];
 }
 
--- What a line of this class does, where it may stand. A comment changes nothing. A blank line closes the open statement. The
--- version line comes once, before all build lines. A build line opens a statement. A binding sets the open statement's flag and
--- closes the statement.
+-- What a line of this class does, where it may stand. A comment changes nothing. A blank line
+-- closes the open statement. The version line comes once, before all build lines. A build line
+-- opens a statement. A binding sets the open statement's flag and closes the statement.
 abbrev pub step : Stage → List StatementValue → Class → Option ProgressValue
 step BeforeVersion ss Comment = Some (record { stage = BeforeVersion; statements = ss })
 step BeforeVersion ss Blank = Some (record { stage = BeforeVersion; statements = ss })
@@ -42,9 +44,11 @@ step Open ss Comment = Some (record { stage = Open; statements = ss })
 step Open ss Blank = Some (record { stage = NoneOpen; statements = ss })
 step Open ss Version = None
 step Open ss (Build o outs ins) = Some (open_statement ss o outs ins)
-step Open ss (Binding flag) = Some (record { stage = NoneOpen; statements = with_last_restat flag ss })
+step Open ss (Binding flag) =
+    Some (record { stage = NoneOpen; statements = with_last_restat flag ss })
 
 -- what lines of these classes do, one after another
 abbrev pub run : Stage → List StatementValue → List Class → Option ProgressValue
 run stage ss [] = Some (record { stage = stage; statements = ss })
-run stage ss (c ∷ classes) = option_and_then (λ s. run s.stage s.statements classes) (step stage ss c)
+run stage ss (c ∷ classes) =
+    option_and_then (λ s. run s.stage s.statements classes) (step stage ss c)

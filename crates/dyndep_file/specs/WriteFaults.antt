@@ -16,10 +16,12 @@ use Rattle.dyndep_file.specs.declared.writing.WriteFault.TheVariants.{Unwritable
 abbrev pub paths_of : StatementValue → List (List ℕ)
 paths_of s = s.output ∷ (s.implicit_outputs ++ s.implicit_inputs)
 
--- the fault of a statement, told by its number: the first path that has no spelling, else too long a build line
+-- the fault of a statement, told by its number: the first path that has no spelling, else too long
+-- a build line
 abbrev pub statement_fault : ℕ → StatementValue → Option WriteFault
 statement_fault number s = option_or
-    (option_map (λ path. Unwritable number path) (position (λ path. not (is_writable path)) (paths_of s)))
+    (option_map (λ path. Unwritable number path)
+    (position (λ path. not (is_writable path)) (paths_of s)))
     (if nat_lt line_limit (length (build_line s)) then Some (StatementTooLong number) else None)
 
 -- the fault of the first statement that has one, where the first of the list has this number
@@ -45,8 +47,10 @@ pub record CanBeWritten (s : StatementValue) : Type 0 where
   pub paths : All IsWritable (paths_of s)
   pub line : length (build_line s) ≤ line_limit
 
--- what stands after a call that failed: before the first byte nothing has changed, and an `Io` comes of a failed call
-abbrev pub LeavesWriter : {W : Type 0} → (W → Option (List ℕ)) → Counted W → Counted W → List ℕ → Failure WriteFault → Type 0
+-- what stands after a call that failed: before the first byte nothing has changed, and an `Io`
+-- comes of a failed call
+abbrev pub LeavesWriter : {W : Type 0} → (W → Option (List ℕ)) → Counted W → Counted W → List ℕ
+    → Failure WriteFault → Type 0
 LeavesWriter contents old new text Memory = new ≡ old
 LeavesWriter contents old new text (Fault (Unwritable statement path)) = new ≡ old
 LeavesWriter contents old new text (Fault (StatementTooLong statement)) = new ≡ old
@@ -70,6 +74,8 @@ WritesInTurn writes old new text (Err failure) = StopsInTurn writes old new text
 abbrev pub AnswersFault : {T : Type 0} → Option WriteFault → Result T (Failure WriteFault) → Type 0
 AnswersFault fault (Ok done) = fault ≡ None
 AnswersFault fault (Err Memory) = ⊤
-AnswersFault fault (Err (Fault (Unwritable statement path))) = fault ≡ Some (Unwritable statement path)
-AnswersFault fault (Err (Fault (StatementTooLong statement))) = fault ≡ Some (StatementTooLong statement)
+AnswersFault fault (Err (Fault (Unwritable statement path))) =
+    fault ≡ Some (Unwritable statement path)
+AnswersFault fault (Err (Fault (StatementTooLong statement))) =
+    fault ≡ Some (StatementTooLong statement)
 AnswersFault fault (Err (Fault (Io written))) = fault ≡ None

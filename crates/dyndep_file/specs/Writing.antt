@@ -16,7 +16,9 @@ part_text (path ∷ paths) = codes " |" ++ flat_map spaced (path ∷ paths)
 
 -- the build line of a statement, its end included
 abbrev pub build_line : StatementValue → List ℕ
-build_line s = codes "build " ++ escaped s.output ++ part_text s.implicit_outputs ++ codes ": dyndep" ++ part_text s.implicit_inputs ++ line_feed ∷ []
+build_line s =
+    codes "build " ++ escaped s.output ++ part_text s.implicit_outputs
+    ++ codes ": dyndep" ++ part_text s.implicit_inputs ++ line_feed ∷ []
 
 -- the line of a binding, where the flag is set
 abbrev pub binding_line : StatementValue → List ℕ

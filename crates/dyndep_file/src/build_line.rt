@@ -1,4 +1,5 @@
-//! A build line's tokens after its keyword: which may stand where, and the statement that they name.
+//! A build line's tokens after its keyword: which may stand where, and the statement that they
+//! name.
 ghost use Rattle.std.specs.Prelude.{◌≡◌, ℕ, List, [], ◌∷◌, map, None, IfOk, OnOk};
 ghost use Rattle.ninja_text.specs.Tokens.{value_of};
 ghost use Rattle.ninja_text.specs.TokenViews.{seen_token};
@@ -6,6 +7,7 @@ ghost use Rattle.dyndep_file.specs.Classes.{Symbol, symbol};
 ghost use Rattle.dyndep_file.specs.Faults.{same_bytes, output_fault, after_output_fault, implicit_outputs_fault, rule_fault, after_rule_fault, implicit_inputs_fault};
 ghost use Rattle.dyndep_file.specs.BuildTokens.{is_word, symbol_of, symbols_left};
 ghost use Rattle.dyndep_file.specs.inner.BuildLines.{position_fault, fault_from, words_before_colon, after_colon, IsNamed};
+ghost use Rattle.dyndep_file.specs.inner.Paths.{texts};
 
 use crate::faults::LineFault;
 use crate::statement::Statement;
@@ -39,7 +41,9 @@ pub(crate) fn tokens_fault(words: Words<'_>) -> Option<LineFault>
 
 /// The position after a token, or the token's fault.
 fn after(position: Position, token: Token<'_>) -> Result<Position, LineFault>
-    ensures { (more : List Symbol) → position_fault position (symbol_of (seen_token token.entry) ∷ more) ≡ fault_from result more }
+    ensures { (more : List Symbol) →
+        position_fault position (symbol_of (seen_token token.entry) ∷ more)
+        ≡ fault_from result more }
 {
     match position {
         Position::Output => at_output(token.kind()),
@@ -53,7 +57,8 @@ fn after(position: Position, token: Token<'_>) -> Result<Position, LineFault>
 
 /// Before the output: a word is the output.
 fn at_output(kind: TokenKind) -> Result<Position, LineFault>
-    ensures { (bytes : List ℕ) (more : List Symbol) → output_fault (symbol kind bytes ∷ more) ≡ fault_from result more }
+    ensures { (bytes : List ℕ) (more : List Symbol) →
+        output_fault (symbol kind bytes ∷ more) ≡ fault_from result more }
 {
     match kind {
         TokenKind::Word => Ok(Position::AfterOutput),
@@ -65,7 +70,8 @@ fn at_output(kind: TokenKind) -> Result<Position, LineFault>
 
 /// After the output: `|` begins the implicit outputs, and `:` the rule.
 fn after_output(kind: TokenKind) -> Result<Position, LineFault>
-    ensures { (bytes : List ℕ) (more : List Symbol) → after_output_fault (symbol kind bytes ∷ more) ≡ fault_from result more }
+    ensures { (bytes : List ℕ) (more : List Symbol) →
+        after_output_fault (symbol kind bytes ∷ more) ≡ fault_from result more }
 {
     match kind {
         TokenKind::Word => Err(LineFault::SecondOutput),
@@ -78,7 +84,8 @@ fn after_output(kind: TokenKind) -> Result<Position, LineFault>
 
 /// Among the implicit outputs: a word is one more, and `:` begins the rule.
 fn in_implicit_outputs(kind: TokenKind) -> Result<Position, LineFault>
-    ensures { (bytes : List ℕ) (more : List Symbol) → implicit_outputs_fault (symbol kind bytes ∷ more) ≡ fault_from result more }
+    ensures { (bytes : List ℕ) (more : List Symbol) →
+        implicit_outputs_fault (symbol kind bytes ∷ more) ≡ fault_from result more }
 {
     match kind {
         TokenKind::Word => Ok(Position::ImplicitOutputs),
@@ -91,7 +98,8 @@ fn in_implicit_outputs(kind: TokenKind) -> Result<Position, LineFault>
 
 /// At the rule: the keyword `dyndep`.
 fn at_rule(token: Token<'_>) -> Result<Position, LineFault>
-    ensures { (more : List Symbol) → rule_fault (symbol_of (seen_token token.entry) ∷ more) ≡ fault_from result more }
+    ensures { (more : List Symbol) →
+        rule_fault (symbol_of (seen_token token.entry) ∷ more) ≡ fault_from result more }
 {
     if is_keyword(token, b"dyndep") {
         Ok(Position::AfterRule)
@@ -102,7 +110,8 @@ fn at_rule(token: Token<'_>) -> Result<Position, LineFault>
 
 /// After the rule: `|` begins the implicit inputs.
 fn after_rule(kind: TokenKind) -> Result<Position, LineFault>
-    ensures { (bytes : List ℕ) (more : List Symbol) → after_rule_fault (symbol kind bytes ∷ more) ≡ fault_from result more }
+    ensures { (bytes : List ℕ) (more : List Symbol) →
+        after_rule_fault (symbol kind bytes ∷ more) ≡ fault_from result more }
 {
     match kind {
         TokenKind::Word => Err(LineFault::ExplicitInput),
@@ -115,7 +124,8 @@ fn after_rule(kind: TokenKind) -> Result<Position, LineFault>
 
 /// Among the implicit inputs: a word is one more.
 fn in_implicit_inputs(kind: TokenKind) -> Result<Position, LineFault>
-    ensures { (bytes : List ℕ) (more : List Symbol) → implicit_inputs_fault (symbol kind bytes ∷ more) ≡ fault_from result more }
+    ensures { (bytes : List ℕ) (more : List Symbol) →
+        implicit_inputs_fault (symbol kind bytes ∷ more) ≡ fault_from result more }
 {
     match kind {
         TokenKind::Word => Ok(Position::ImplicitInputs),
@@ -174,7 +184,8 @@ pub(crate) fn statement_named(alloc: Global, words: Words<'_>) -> Result<Stateme
 
 /// The values of the words up to the next `:`, which is passed over, or to the end.
 fn values_to_colon(alloc: Global, words: &mut Words<'_>) -> Result<Vec<Vec<u8>>, AllocError>
-    ensures values { IfOk result (λ values. map (λ v. v.items) values.items ≡ map value_of (words_before_colon (symbols_left words.old))) }
+    ensures values { IfOk result (λ values.
+        texts values.items ≡ map value_of (words_before_colon (symbols_left words.old))) }
     ensures rest { OnOk result (symbols_left words.new ≡ after_colon (symbols_left words.old)) }
 {
     let mut values = Vec::new(alloc);

@@ -4,7 +4,8 @@ use ninja_text::LexFault;
 use std::error::Error;
 use std::fmt;
 
-/// What is wrong with a line of a dyndep file (Ninja 1.11 manual, "Dyndep file reference" and "Lexical syntax").
+/// What is wrong with a line of a dyndep file (Ninja 1.11 manual, "Dyndep file reference" and
+/// "Lexical syntax").
 #[derive(Clone, Copy, Debug, PartialEq, Eq)]
 pub enum LineFault {
     /// The first 1,048,576 bytes of the line hold no end.
@@ -13,16 +14,18 @@ pub enum LineFault {
     Truncated,
     /// A byte or a `$` that the lexical syntax does not allow; N7 to N10.
     Lexical(LexFault),
-    /// A line that is neither a comment nor blank comes before the version line, or no version line comes at all.
+    /// A line that is neither a comment nor blank comes before the version line, or no version line
+    /// comes at all.
     NoVersion,
     /// The version is neither `1` nor `1.0`, or goes on as another number would.
     BadVersion,
     /// A second version line.
     SecondVersion,
-    /// An indented line under no statement: no build line stands before it, or a blank line or a binding came in between.
+    /// An indented line under no statement: no build line stands before it, or a blank line or a
+    /// binding came in between.
     Indent,
-    /// The line is neither a version line, a build line, a binding, a comment nor blank, or it is a build line that breaks off or
-    /// has a `|` or `:` out of place.
+    /// The line is neither a version line, a build line, a binding, a comment nor blank, or it is a
+    /// build line that breaks off or has a `|` or `:` out of place.
     BadLine,
     /// No explicit output follows `build`.
     NoOutput,
@@ -72,10 +75,11 @@ impl Error for LineFault {}
 /// Why a dyndep file was not read.
 #[derive(Clone, Copy, Debug, PartialEq, Eq)]
 pub enum ReadFault {
-    /// The first faulty line, or the end of the file, and what is wrong there. Lines are counted from 1, and a line with
-    /// continuations has the number of its first one.
+    /// The first faulty line, or the end of the file, and what is wrong there. Lines are counted
+    /// from 1, and a line with continuations has the number of its first one.
     AtLine { line: u64, fault: LineFault },
-    /// A call of the reader answered an error, or 2^64 - 1 bytes were read and neither an end nor a fault came.
+    /// A call of the reader answered an error, or 2^64 - 1 bytes were read and neither an end nor a
+    /// fault came.
     Io,
 }
 

@@ -9,9 +9,10 @@ use std::alloc::Global;
 
 /// Reads a dyndep file up to the reader's end, at most 4,096 bytes a call.
 ///
-/// `Io` where a call of the reader answered an error, or 2^64 - 1 bytes were read and neither an end nor a fault came. Any
-/// other answer is that of a [`DyndepReader`] for the bytes read, `finish`'s only at the reader's end. After the end, an
-/// error or the first refusal no call is made.
+/// `Io` where a call of the reader answered an error, or 2^64 - 1 bytes were read and neither an
+/// end nor a fault came. Any other answer is that of a [`DyndepReader`] for the bytes read,
+/// `finish`'s only at the reader's end. After the end, an error or the first refusal no call is
+/// made.
 pub fn read_all<R: ReadCall>(
     alloc: Global,
     input: &mut Counted<R>,

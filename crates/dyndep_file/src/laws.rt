@@ -27,7 +27,8 @@ pub fn unrefused()
     ensures { GoesOnUnrefused }
 {}
 
-/// A fault in the bytes so far, as `feed` answers it, is the fault of every text that begins with them.
+/// A fault in the bytes so far, as `feed` answers it, is the fault of every text that begins with
+/// them.
 pub fn fault_stays()
     ensures { FaultStays }
 {}
@@ -39,5 +40,6 @@ pub fn long_lines()
 
 /// The grammar relates the text of statements that can be written to them, and to no other list.
 pub fn written_text()
-    ensures { (statements : List StatementValue) → All CanBeWritten statements → StandsForOnly (dyndep_text statements) statements }
+    ensures { (statements : List StatementValue) →
+        All CanBeWritten statements → StandsForOnly (dyndep_text statements) statements }
 {}

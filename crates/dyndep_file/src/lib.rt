@@ -1,19 +1,25 @@
-//! Dyndep files of Ninja (Ninja 1.11 manual, "Dynamic dependencies"): their statements, the reader and the writer.
+//! Dyndep files of Ninja (Ninja 1.11 manual, "Dynamic dependencies"): their statements, the reader
+//! and the writer.
 //!
 //! - A [`Dyndep`] is a list of [`Statement`]s.
-//! - [`DyndepReader`] reads a text that comes in pieces of any size, and [`read_all`] reads one from any `Read`. For every
-//!   cutting the answer is the list that the grammar of `specs/Grammar.antt` gives the whole text, or the first faulty line
-//!   and its fault (`specs/Reading.antt`, `specs/Faults.antt`).
-//! - [`Dyndep::to_text`] makes the text of the statements, byte for byte as `specs/Writing.antt` states it, and [`write`] writes
-//!   it, or the first fault of `specs/WriteFaults.antt` is told before the first byte. The grammar relates the text to the
-//!   statements, and to no other list. [`writable_statements`] proves that there is no such fault exactly where each path has a
+//! - [`DyndepReader`] reads a text that comes in pieces of any size, and [`read_all`] reads one
+//!   from any `Read`. For every cutting the answer is the list that the grammar of
+//!   `specs/Grammar.antt` gives the whole text, or the first faulty line and its fault
+//!   (`specs/Reading.antt`, `specs/Faults.antt`).
+//! - [`Dyndep::to_text`] makes the text of the statements, byte for byte as `specs/Writing.antt`
+//!   states it, and [`write`] writes it, or the first fault of `specs/WriteFaults.antt` is told
+//!   before the first byte. The grammar relates the text to the statements, and to no other list.
+//!   [`writable_statements`] proves that there is no such fault exactly where each path has a
 //!   spelling and each build line keeps the limit.
-//! - How [`LineFault`], [`ReadFault`] and [`WriteFault`] are printed is proved too (`specs/FaultTexts.antt`).
-//! - [`laws`] proves of those definitions that a text has one list of statements or a fault, and not both.
+//! - How [`LineFault`], [`ReadFault`] and [`WriteFault`] are printed is proved too
+//!   (`specs/FaultTexts.antt`).
+//! - [`laws`] proves of those definitions that a text has one list of statements or a fault, and
+//!   not both.
 //!
 //! Definitions that only private clauses speak of stand in `specs/inner/`.
 //!
-//! It stands on `ninja_text`, which cuts the lines, tells their tokens, spells paths and counts failed calls.
+//! It stands on `ninja_text`, which cuts the lines, tells their tokens, spells paths and counts
+//! failed calls.
 #![tactic(auto)]
 
 mod build_line;

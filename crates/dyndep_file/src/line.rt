@@ -22,7 +22,8 @@ pub(crate) fn read_line(
     progress: &mut Progress,
     line: Line<'_>,
 ) -> Result<(), Failure<ReadFault>>
-    ensures { ReadsLine (progress_value progress.old) (seen_line line.entry) result (progress_value progress.new) }
+    ensures { ReadsLine (progress_value progress.old) (seen_line line.entry) result
+        (progress_value progress.new) }
 {
     match read_text(alloc, progress, line) {
         Ok(()) => Ok(()),
@@ -40,8 +41,10 @@ fn read_text(
     progress: &mut Progress,
     line: Line<'_>,
 ) -> Result<(), Failure<LineFault>>
-    ensures { PassesOr (text_line_fault progress.old.stage (seen_line line.entry).text (seen_line line.entry).comment)
-        (TextIsOfClass (seen_line line.entry).text (seen_line line.entry).comment) (progress_value progress.old) result (progress_value progress.new) }
+    ensures { let view = seen_line line.entry in
+        PassesOr (text_line_fault progress.old.stage view.text view.comment)
+        (TextIsOfClass view.text view.comment)
+        (progress_value progress.old) result (progress_value progress.new) }
 {
     if line.is_comment() {
         return Ok(());
@@ -63,7 +66,8 @@ fn read_tokens(
     requires sound { lexical_fault (seen_line line).text ≡ None }
     requires all { tokens_left tokens ≡ seen_tokens (seen_line line).text }
     ensures { PassesOr (text_line_fault progress.old.stage (seen_line line.entry).text false)
-        (TextIsOfClass (seen_line line.entry).text false) (progress_value progress.old) result (progress_value progress.new) }
+        (TextIsOfClass (seen_line line.entry).text false)
+        (progress_value progress.old) result (progress_value progress.new) }
 {
     let mut tokens = tokens;
     let Some(first) = tokens.next() else {
@@ -87,7 +91,8 @@ fn read_tokens(
 
 /// Whether a line whose first token this is is a build line.
 fn begins_build_line(first: Token<'_>) -> bool
-    ensures { result ≡ ((seen_token first.entry).start == 0) && is_word (codes "build") (symbol_of (seen_token first.entry)) }
+    ensures { result ≡ ((seen_token first.entry).start == 0)
+        && is_word (codes "build") (symbol_of (seen_token first.entry)) }
 {
     first.start() == 0 && is_keyword(first, b"build")
 }

@@ -1,4 +1,5 @@
-//! The statements of the lines so far, and what a line of each kind does to them: the table of lines, row by row.
+//! The statements of the lines so far, and what a line of each kind does to them: the table of
+//! lines, row by row.
 ghost use Rattle.std.specs.Prelude.{◌≡◌, codes, is_some, option_map, IfOk, Some};
 ghost use Rattle.ninja_text.specs.Tokens.{value_of};
 ghost use Rattle.ninja_text.specs.AssignmentViews.{seen_assignment};
@@ -35,7 +36,8 @@ pub(crate) struct Progress {
 
 /// A blank line: it closes the open statement.
 pub(crate) fn blank_line(progress: &mut Progress)
-    ensures { step progress.old.stage (progress_value progress.old).statements Blank ≡ Some (progress_value progress.new) }
+    ensures { step progress.old.stage (progress_value progress.old).statements Blank
+        ≡ Some (progress_value progress.new) }
 {
     match progress.stage {
         Stage::BeforeVersion | Stage::NoneOpen => {}
@@ -49,8 +51,10 @@ pub(crate) fn indented_line(
     progress: &mut Progress,
     assignment: Option<Assignment<'_>>,
 ) -> Result<(), Failure<LineFault>>
-    ensures { PassesOr (indented_fault progress.old.stage (is_some (value_assigned (codes "restat") (option_map seen_assignment assignment.entry))))
-        (IsBindingOf (option_map seen_assignment assignment.entry)) (progress_value progress.old) result (progress_value progress.new) }
+    ensures { let view = option_map seen_assignment assignment.entry in
+        let restat = is_some (value_assigned (codes "restat") view) in
+        PassesOr (indented_fault progress.old.stage restat)
+        (IsBindingOf view) (progress_value progress.old) result (progress_value progress.new) }
 {
     match progress.stage {
         Stage::BeforeVersion => return Err(Failure::Fault(LineFault::NoVersion)),
@@ -72,7 +76,9 @@ pub(crate) fn build_line(
     progress: &mut Progress,
     words: Words<'_>,
 ) -> Result<(), Failure<LineFault>>
-    ensures { PassesOr (build_fault progress.old.stage (symbols_left words.entry)) (IsBuildOf (symbols_left words.entry)) (progress_value progress.old) result (progress_value progress.new) }
+    ensures { PassesOr (build_fault progress.old.stage (symbols_left words.entry))
+        (IsBuildOf (symbols_left words.entry))
+        (progress_value progress.old) result (progress_value progress.new) }
 {
     match progress.stage {
         Stage::BeforeVersion => return Err(Failure::Fault(LineFault::NoVersion)),
@@ -93,8 +99,10 @@ pub(crate) fn version_or_other_line(
     progress: &mut Progress,
     assignment: Option<Assignment<'_>>,
 ) -> Result<(), Failure<LineFault>>
-    ensures { PassesOr (unindented_fault progress.old.stage (value_assigned (codes "ninja_dyndep_version") (option_map seen_assignment assignment.entry)) None)
-        (IsVersionLineOf (option_map seen_assignment assignment.entry)) (progress_value progress.old) result (progress_value progress.new) }
+    ensures { let view = option_map seen_assignment assignment.entry in
+        let version = value_assigned (codes "ninja_dyndep_version") view in
+        PassesOr (unindented_fault progress.old.stage version None)
+        (IsVersionLineOf view) (progress_value progress.old) result (progress_value progress.new) }
 {
     let Some(version) = named(assignment, b"ninja_dyndep_version") else {
         return Err(Failure::Fault(other_line(progress.stage)));
@@ -111,8 +119,9 @@ fn version_line(
     progress: &mut Progress,
     version: Assignment<'_>,
 ) -> Result<(), Failure<LineFault>>
-    ensures { PassesOr (version_fault progress.old.stage (value_of (seen_assignment version.entry).raw_value))
-        (IsVersionOf (value_of (seen_assignment version.entry).raw_value)) (progress_value progress.old) result (progress_value progress.new) }
+    ensures { let value = value_of (seen_assignment version.entry).raw_value in
+        PassesOr (version_fault progress.old.stage value)
+        (IsVersionOf value) (progress_value progress.old) result (progress_value progress.new) }
 {
     match progress.stage {
         Stage::BeforeVersion => {}
@@ -138,7 +147,8 @@ fn other_line(stage: Stage) -> LineFault
 
 /// The assignment, if it is to this name.
 fn named<'a>(assignment: Option<Assignment<'a>>, name: &[u8]) -> Option<Assignment<'a>>
-    ensures { option_map seen_assignment result ≡ with_name name.now (option_map seen_assignment assignment.entry) }
+    ensures { option_map seen_assignment result
+        ≡ with_name name.now (option_map seen_assignment assignment.entry) }
 {
     match assignment {
         Some(found) if is_same(found.name(), name) => Some(found),
@@ -148,7 +158,8 @@ fn named<'a>(assignment: Option<Assignment<'a>>, name: &[u8]) -> Option<Assignme
 
 /// What is assigned.
 fn value(alloc: Global, assignment: Assignment<'_>) -> Result<Vec<u8>, AllocError>
-    ensures { IfOk result (λ value. value.items ≡ value_of (seen_assignment assignment.entry).raw_value) }
+    ensures { IfOk result (λ value.
+        value.items ≡ value_of (seen_assignment assignment.entry).raw_value) }
 {
     let mut value = Vec::with_capacity(alloc, assignment.raw_value().len())?;
     assignment.value_into(&mut value)?;
@@ -175,7 +186,8 @@ fn is_version_one(value: &[u8]) -> bool
     }
 }
 
-/// Whether a number ends before these bytes: no digit comes next and, where dots are refused, no `.`.
+/// Whether a number ends before these bytes: no digit comes next and, where dots are refused, no
+/// `.`.
 fn ends_number(dots: bool, rest: &[u8]) -> bool
     ensures { result ≡ ends_number dots rest.now }
 {

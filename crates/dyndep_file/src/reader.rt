@@ -1,4 +1,5 @@
-//! The reader of dyndep files that come in pieces: lines are read one by one into the statements so far.
+//! The reader of dyndep files that come in pieces: lines are read one by one into the statements so
+//! far.
 ghost use Rattle.std.specs.Prelude.{◌≡◌, ℕ, ◌++◌, List, [], Some};
 ghost use Rattle.dyndep_file.specs.inner.LineStates.{answer_at_end};
 
@@ -12,7 +13,8 @@ use std::marker::Model;
 
 /// Reads a dyndep file that comes in pieces (Ninja 1.11 manual, "Dyndep file reference").
 ///
-/// A piece may end anywhere, within a continuation or between CR and LF too: the answer is that for the whole text.
+/// A piece may end anywhere, within a continuation or between CR and LF too: the answer is that for
+/// the whole text.
 #[derive(Drop)]
 pub struct DyndepReader {
     lines: LineReader<Progress, ReadFault>,
@@ -47,22 +49,26 @@ impl DyndepReader {
 
     /// Takes the next piece of the text, all of it.
     ///
-    /// The first faulty line is answered as soon as its end is there, and `LineTooLong` as soon as 1,048,576 bytes hold no end;
-    /// `Io` never. A reader that refused, for want of memory too, answers the same from then on.
+    /// The first faulty line is answered as soon as its end is there, and `LineTooLong` as soon as
+    /// 1,048,576 bytes hold no end; `Io` never. A reader that refused, for want of memory too,
+    /// answers the same from then on.
     pub fn feed(&mut self, piece: &[u8]) -> Result<(), Failure<ReadFault>>
-        ensures failed { (failure : Failure ReadFault) → self.old.failed ≡ Some failure → (result ≡ Err failure) × (self.new ≡ self.old) }
+        ensures failed { (failure : Failure ReadFault) → self.old.failed ≡ Some failure →
+            (result ≡ Err failure) × (self.new ≡ self.old) }
         // Whatever bytes it was fed before this piece.
-        ensures all { (bytes : List ℕ) → HasRead bytes self.old → Reads (bytes ++ piece.now) result self.new }
+        ensures all { (bytes : List ℕ) → HasRead bytes self.old →
+            Reads (bytes ++ piece.now) result self.new }
     {
         self.lines.feed(piece)
     }
 
     /// The statements of the text, once all of it was fed.
     ///
-    /// `Truncated` where the last line has no end, and `NoVersion` where no version line came. A reader that refused answers the
-    /// same once more.
+    /// `Truncated` where the last line has no end, and `NoVersion` where no version line came. A
+    /// reader that refused answers the same once more.
     pub fn finish(self) -> Result<Dyndep, Failure<ReadFault>>
-        ensures failed { (failure : Failure ReadFault) → self.failed ≡ Some failure → result ≡ Err failure }
+        ensures failed { (failure : Failure ReadFault) → self.failed ≡ Some failure →
+            result ≡ Err failure }
         ensures all { (bytes : List ℕ) → HasRead bytes self → Ends bytes result }
     {
         match self.lines.finish() {
@@ -72,7 +78,8 @@ impl DyndepReader {
     }
 }
 
-/// The statements of a text whose lines were all read, if a version line was among them; else the fault, at the next line.
+/// The statements of a text whose lines were all read, if a version line was among them; else the
+/// fault, at the next line.
 fn answer_at_end(progress: Progress, next_line: u64) -> Result<Dyndep, Failure<ReadFault>>
     ensures { result ≡ answer_at_end progress.stage progress.statements.items next_line }
 {

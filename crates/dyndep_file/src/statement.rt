@@ -1,7 +1,8 @@
 //! The statements of a dyndep file.
 use std::marker::Model;
 
-/// What a dyndep file adds to one build statement of the manifest (Ninja 1.11 manual, "Dyndep file reference").
+/// What a dyndep file adds to one build statement of the manifest (Ninja 1.11 manual, "Dyndep file
+/// reference").
 ///
 /// A path is the bytes that its spelling stands for, without escapes. It need not be canonical.
 #[derive(Debug, Drop)]

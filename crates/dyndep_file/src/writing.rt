@@ -1,13 +1,14 @@
 //! The writer of dyndep files.
-ghost use Rattle.std.specs.Prelude.{◌≡◌, ◌↔◌, ◌++◌, List, length, map, not, count_by, All, position, MatchResult, IfOk, OnOk, None};
+ghost use Rattle.std.specs.Prelude.{◌≡◌, ◌↔◌, ◌++◌, List, length, not, count_by, All, position, MatchResult, IfOk, OnOk, None};
 ghost use Rattle.ninja_text.specs.Counting.{held, IsWritten};
 ghost use Rattle.ninja_text.specs.Failure.{Gives};
 ghost use Rattle.ninja_text.specs.Escapes.{escaped, is_escaped, is_writable, IsWritable};
 ghost use Rattle.dyndep_file.specs.StatementValue.{StatementValue};
 ghost use Rattle.dyndep_file.specs.Reading.{StandsForOnly};
 ghost use Rattle.dyndep_file.specs.Writing.{part_text, build_line, statement_text, dyndep_text};
-ghost use Rattle.dyndep_file.specs.WriteFaults.{text_or_fault, paths_of, statement_fault, fault_from, write_fault, CanBeWritten, LeavesWriter, WritesInTurn, AnswersFault};
+ghost use Rattle.dyndep_file.specs.WriteFaults.{text_or_fault, paths_of, statement_fault, write_fault, CanBeWritten, LeavesWriter, WritesInTurn, AnswersFault};
 ghost use Rattle.dyndep_file.specs.inner.Lengths.{capped};
+ghost use Rattle.dyndep_file.specs.inner.Paths.{texts};
 
 use crate::statement::{Dyndep, Statement};
 use ninja_text::{Counted, Failure, LINE_LIMIT, WriteCall, escape_into, is_writable};
@@ -19,15 +20,17 @@ const VERSION_LINE: &[u8] = b"ninja_dyndep_version = 1\n";
 
 const BINDING_LINE: &[u8] = b"  restat = 1\n";
 
-/// Why a list of statements was not written. The first statement with a fault counts, and in it a path before the line.
+/// Why a list of statements was not written. The first statement with a fault counts, and in it a
+/// path before the line.
 #[derive(Clone, Copy, Debug, PartialEq, Eq)]
 pub enum WriteFault {
-    /// A path is empty or holds `|`, NUL, CR or LF, which no spelling stands for. Paths are counted from 0: the output,
-    /// the implicit outputs, the implicit inputs.
+    /// A path is empty or holds `|`, NUL, CR or LF, which no spelling stands for. Paths are counted
+    /// from 0: the output, the implicit outputs, the implicit inputs.
     Unwritable { statement: usize, path: usize },
     /// The build line has more than 1,048,576 bytes, its end included.
     StatementTooLong { statement: usize },
-    /// A call of the writer answered an error or took no byte. This many bytes went out before, from the text's beginning.
+    /// A call of the writer answered an error or took no byte. This many bytes went out before,
+    /// from the text's beginning.
     Io { written: u128 },
 }
 
@@ -55,8 +58,9 @@ impl fmt::Display for WriteFault {
 impl Error for WriteFault {}
 
 impl Dyndep {
-    /// The text of the statements: the version line, and for each statement its build line and, where its flag is set, a
-    /// `restat` binding. Lines end in LF, and paths are escaped. The buffer is grown once, to the text's length.
+    /// The text of the statements: the version line, and for each statement its build line and,
+    /// where its flag is set, a `restat` binding. Lines end in LF, and paths are escaped. The
+    /// buffer is grown once, to the text's length.
     ///
     /// A path without a spelling and too long a build line are told before memory is asked for.
     pub fn to_text(&self, alloc: Global) -> Result<Vec<u8>, Failure<WriteFault>>
@@ -75,9 +79,10 @@ impl Dyndep {
 
 /// Writes the text of a dyndep file.
 ///
-/// A path without a spelling and too long a build line are told before the first byte, as is want of memory: the writer is
-/// as it was then. After an `Io` exactly so many bytes went out, and they are a beginning of the text. Each call of the
-/// writer is given what is left of the text, and after a call that failed none is made.
+/// A path without a spelling and too long a build line are told before the first byte, as is want
+/// of memory: the writer is as it was then. After an `Io` exactly so many bytes went out, and they
+/// are a beginning of the text. Each call of the writer is given what is left of the text, and
+/// after a call that failed none is made.
 pub fn write<W: WriteCall>(
     alloc: Global,
     dyndep: &Dyndep,
@@ -106,7 +111,8 @@ pub fn write<W: WriteCall>(
 
 /// A law: a list of statements has no fault exactly where each of them can be written.
 pub fn writable_statements()
-    ensures { (statements : List StatementValue) → write_fault statements ≡ None ↔ All CanBeWritten statements }
+    ensures { (statements : List StatementValue) →
+        write_fault statements ≡ None ↔ All CanBeWritten statements }
 {}
 
 /// The first fault of the statements.
@@ -154,7 +160,7 @@ fn unwritable_path(statement: &Statement) -> Option<usize>
 
 /// The place of the first path that has no spelling.
 fn first_unwritable(paths: &[Vec<u8>]) -> Option<usize>
-    ensures { result ≡ position (λ path. not (is_writable path)) (map (λ path. path.items) paths.now) }
+    ensures { result ≡ position (λ path. not (is_writable path)) (texts paths.now) }
 {
     for (place, path) in paths.iter().enumerate() {
         if !is_writable(path) {
@@ -179,7 +185,7 @@ fn build_line_len(statement: &Statement) -> usize
 
 /// The length of a part of a build line, or the greatest number where it is greater.
 fn part_len(paths: &[Vec<u8>]) -> usize
-    ensures { result ≡ capped (length (part_text (map (λ path. path.items) paths.now))) }
+    ensures { result ≡ capped (length (part_text (texts paths.now))) }
 {
     if paths.is_empty() {
         return 0;
@@ -266,8 +272,8 @@ fn push_build_line(statement: &Statement, text: &mut Vec<u8>) -> Result<(), Allo
 
 /// Appends a part of a build line.
 fn push_part(paths: &[Vec<u8>], text: &mut Vec<u8>) -> Result<(), AllocError>
-    requires { All IsWritable (map (λ path. path.items) paths.now) }
-    ensures { OnOk result (text.new.items ≡ text.old.items ++ part_text (map (λ path. path.items) paths.now)) }
+    requires { All IsWritable (texts paths.now) }
+    ensures { OnOk result (text.new.items ≡ text.old.items ++ part_text (texts paths.now)) }
 {
     if paths.is_empty() {
         return Ok(());

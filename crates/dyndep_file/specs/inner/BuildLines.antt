@@ -1,8 +1,9 @@
--- A build line's tokens after its keyword: the fault of those to come at a position, and the paths that they name.
+-- A build line's tokens after its keyword: the fault of those to come at a position, and the paths
+-- that they name.
 use Rattle.std.specs.Prelude.{◌≡◌, ℕ, false, List, [], ◌∷◌, ◌++◌, map, codes, Option, Some, Result, Ok, Err}
 use Rattle.ninja_text.specs.Tokens.{value_of}
 use Rattle.ninja_text.specs.declared.token.TokenKind.TheVariants.{Colon}
-use Rattle.dyndep_file.specs.StatementValue.{StatementValue}
+use Rattle.dyndep_file.specs.StatementValue.{StatementValue, statement_of}
 use Rattle.dyndep_file.specs.Classes.{Symbol, WordSymbol, SignSymbol, IsPart}
 use Rattle.dyndep_file.specs.Faults.{output_fault, after_output_fault, implicit_outputs_fault, rule_fault, after_rule_fault, implicit_inputs_fault}
 use Rattle.dyndep_file.specs.declared.faults.LineFault.{LineFault}
@@ -37,15 +38,19 @@ after_colon (WordSymbol word ∷ more) = after_colon more
 after_colon (SignSymbol Colon ∷ more) = more
 after_colon (SignSymbol other ∷ more) = after_colon more
 
--- The tokens after the keyword are `output | outputs : dyndep | inputs`, by the raw bytes of the words.
-pub record Names (symbols : List Symbol) (output : List ℕ) (outputs inputs : List (List ℕ)) : Type 0 where
+-- The tokens after the keyword are `output | outputs : dyndep | inputs`, by the raw bytes of the
+-- words.
+pub record Names (symbols : List Symbol) (output : List ℕ) (outputs inputs : List (List ℕ))
+    : Type 0 where
   pub before : List Symbol
   pub after : List Symbol
   pub is_before : IsPart before outputs
   pub is_after : IsPart after inputs
-  pub are : symbols ≡ WordSymbol output ∷ before ++ SignSymbol Colon ∷ WordSymbol (codes "dyndep") ∷ after
+  pub are : symbols ≡
+      WordSymbol output ∷ before ++ SignSymbol Colon ∷ WordSymbol (codes "dyndep") ∷ after
 
 -- The statement has the values of the words named, and its flag is off.
 abbrev pub IsNamed : List Symbol → StatementValue → Type 0
-IsNamed symbols s = (output : List ℕ) × (outputs inputs : List (List ℕ)) × Names symbols output outputs inputs
-    × (s ≡ record { output = value_of output; implicit_outputs = map value_of outputs; implicit_inputs = map value_of inputs; restat = false })
+IsNamed symbols s =
+    (output : List ℕ) × (outputs inputs : List (List ℕ)) × Names symbols output outputs inputs
+    × (s ≡ statement_of (value_of output) (map value_of outputs) (map value_of inputs) false)

@@ -1,4 +1,5 @@
--- What a line does to the statements so far, as `LineState` of `ninja_text` asks for it, and what is answered at the end.
+-- What a line does to the statements so far, as `LineState` of `ninja_text` asks for it, and what
+-- is answered at the end.
 use Rattle.std.specs.Prelude.{ℕ, List, Result, Ok, Err}
 use Rattle.ninja_text.specs.Lines.{LogicalLine}
 use Rattle.ninja_text.specs.declared.failure.Failure.{Failure}

@@ -1,7 +1,8 @@
 use Rattle.std.proofs.Common.{◌<◌, not, [], ap, sym, ◌∙◌, subst, length, below_more, arith}
 use Rattle.ninja_text.specs.Escapes.{is_writable}
 use Rattle.dyndep_file.proofs.Positions.{position_is, position_none}
-use Rattle.dyndep_file.proofs.Parts.{texts, text_at, same_length}
+use Rattle.dyndep_file.specs.inner.Paths.{texts}
+use Rattle.dyndep_file.proofs.Parts.{text_at, same_length}
 use Rattle.dyndep_file.proofs.writing.first_unwritable.Goals as goal
 
 pub returns-then-not-is_writable : goal.returns-then-not-is_writable

@@ -4,7 +4,8 @@ use Rattle.ninja_text.specs.Escapes.{escaped}
 use Rattle.dyndep_file.specs.Writing.{spaced}
 use Rattle.dyndep_file.specs.inner.Lengths.{capped}
 use Rattle.dyndep_file.proofs.Numbers.{capped_path, length-longer}
-use Rattle.dyndep_file.proofs.Parts.{texts, flat_map_next_path}
+use Rattle.dyndep_file.specs.inner.Paths.{texts}
+use Rattle.dyndep_file.proofs.Parts.{flat_map_next_path}
 use Rattle.dyndep_file.proofs.writing.part_len.Goals as goal
 
 pub loop-path-preserved : goal.loop-path-preserved

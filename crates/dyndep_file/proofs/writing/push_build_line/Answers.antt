@@ -2,7 +2,8 @@ use Rattle.std.proofs.Common.{subst, sym}
 use Rattle.std.specs.Prelude.{All}
 use Rattle.ninja_text.specs.Escapes.{IsWritable}
 use Rattle.dyndep_file.specs.WriteFaults.{paths_of}
-use Rattle.dyndep_file.proofs.Parts.{texts, first_part, second_part}
+use Rattle.dyndep_file.specs.inner.Paths.{texts}
+use Rattle.dyndep_file.proofs.Parts.{first_part, second_part}
 use Rattle.dyndep_file.proofs.writing.push_build_line.Goals as goal
 
 pub push_part-requires : goal.push_part-requires

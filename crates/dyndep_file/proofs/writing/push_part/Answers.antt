@@ -2,7 +2,8 @@ use Rattle.std.proofs.Common.{◌<◌, ◌∷◌, [], ◌++◌, take, codes, ap,
 use Rattle.std.specs.List.{flat_map}
 use Rattle.ninja_text.specs.Escapes.{escaped, IsWritable}
 use Rattle.dyndep_file.specs.Writing.{spaced}
-use Rattle.dyndep_file.proofs.Parts.{texts, text_at, same_length, flat_map_next_path, written_next}
+use Rattle.dyndep_file.specs.inner.Paths.{texts}
+use Rattle.dyndep_file.proofs.Parts.{text_at, same_length, flat_map_next_path, written_next}
 use Rattle.dyndep_file.proofs.writing.push_part.Goals as goal
 
 pub escape_into-requires : goal.escape_into-requires

@@ -2,7 +2,8 @@ use Rattle.std.proofs.Common.{◌≡◌, List, ℕ, ◌+◌, false, Bool, not, a
 use Rattle.std.specs.Prelude.{position}
 use Rattle.ninja_text.specs.Escapes.{is_writable}
 use Rattle.dyndep_file.specs.WriteFaults.{paths_of}
-use Rattle.dyndep_file.proofs.Parts.{texts, same_length}
+use Rattle.dyndep_file.specs.inner.Paths.{texts}
+use Rattle.dyndep_file.proofs.Parts.{same_length}
 use Rattle.dyndep_file.proofs.Positions.{in_first, in_second, in_none}
 use Rattle.dyndep_file.proofs.writing.unwritable_path.Goals as goal
 
