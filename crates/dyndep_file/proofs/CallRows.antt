@@ -10,9 +10,9 @@ use Rattle.dyndep_file.specs.StatementValue.{StatementValue}
 use Rattle.dyndep_file.specs.ReadingAll.{ReadTurn, ReadsInTurn, LastCall, AtEnd, Failed, Refused, NotMade, IsLastCall, AnswersAfter, bytes_read, IsReadFrom}
 use Rattle.dyndep_file.specs.declared.faults.ReadFault.{ReadFault}
 
--- the number that an answer tells
-told : (n m : ℕ) → ◌≡◌ {A = Result ℕ Error} (Ok n) (Ok m) → n ≡ m
-told n m h = cc
+-- the count that a call answered
+same_count : (n m : ℕ) → ◌≡◌ {A = Result ℕ Error} (Ok n) (Ok m) → n ≡ m
+same_count n m h = cc
 
 -- ---- the reader
 
@@ -23,10 +23,10 @@ counts old new answer buffer = (new ≡ old + 1) × (answer ≡ Ok 0)
 -- the last call of it is the first one
 last_is_first : (old now new : ℕ) (turns : List (ReadTurn ℕ)) (last : LastCall ℕ) (result : Result (List StatementValue) (Failure ReadFault))
     → ReadsInTurn counts old turns now → IsLastCall counts now new last → AnswersAfter (bytes_read turns) last result → new ≡ old + 1
-last_is_first old now new (turn ∷ turns) last result h ended answer = absurd (omega (arith, told turn.count 0 h.0.call.1, h.0.some))
+last_is_first old now new (turn ∷ turns) last result h ended answer = absurd (omega (arith, same_count turn.count 0 h.0.call.1, h.0.some))
 last_is_first old now new [] AtEnd result h ended answer = omega (arith, h, ended.2.0)
 last_is_first old now new [] Failed result h ended answer = absurd (let wrong : ◌≡◌ {A = Result ℕ Error} (Err ended.1) (Ok 0) = ended.3.1 in cc)
-last_is_first old now new [] (Refused turn) result h ended answer = absurd (omega (arith, told turn.count 0 ended.0.call.1, ended.0.some))
+last_is_first old now new [] (Refused turn) result h ended answer = absurd (omega (arith, same_count turn.count 0 ended.0.call.1, ended.0.some))
 last_is_first old now new [] NotMade result h ended answer = absurd (omega (arith, answer.0))
 
 -- a reader that has nothing is called once
@@ -40,14 +40,14 @@ abbrev takes_all : Call ℕ
 takes_all old new answer piece = (new ≡ old + 1) × (answer ≡ Ok (length piece))
 
 -- after the whole text no call is made
-none_after : (text : List ℕ) (old new place end : ℕ) (turns : List (ℕ × ℕ)) → length text ≤ place → TakesInTurn takes_all text old place turns new end → old ≡ new
-none_after text old new place end [] past h = h.0
-none_after text old new place end (turn ∷ turns) past h =
-    absurd (omega (arith, h.0, told turn.1 (length (drop place text)) h.1.1, length-drop place text, past))
+none_after : (text : List ℕ) (old new index end : ℕ) (turns : List (ℕ × ℕ)) → length text ≤ index → TakesInTurn takes_all text old index turns new end → old ≡ new
+none_after text old new index end [] past h = h.0
+none_after text old new index end (turn ∷ turns) past h =
+    absurd (omega (arith, h.0, same_count turn.1 (length (drop index text)) h.1.1, length-drop index text, past))
 
 -- a text that has some bytes is written by one call
 written_once : (old new : ℕ) (text : List ℕ) (turns : List (ℕ × ℕ)) → 0 < length text → TakesInTurn takes_all text old 0 turns new (length text) → new ≡ old + 1
 written_once old new text [] some h = absurd (omega (arith, some, h.1))
 written_once old new text (turn ∷ turns) some h =
-    let all : length text ≤ 0 + turn.1 = omega (arith, told turn.1 (length (drop 0 text)) h.1.1, length-drop 0 text) in
+    let all : length text ≤ 0 + turn.1 = omega (arith, same_count turn.1 (length (drop 0 text)) h.1.1, length-drop 0 text) in
     omega (arith, h.1.0, none_after text turn.0 new (0 + turn.1) (length text) turns all h.2)

@@ -23,21 +23,21 @@ use Rattle.ninja_text.specs.declared.token.TokenKind.TheVariants.{Colon}
 use Rattle.dyndep_file.proofs.TableLemmas.{same_bytes-true, symbol_is_word, no_indent_at_token, no_indent_at_name, names_apart}
 use Rattle.dyndep_file.proofs.BuildLemmas.{parts}
 
--- the class's place in this list: comment, blank, build line, binding, version line
-abbrev number : Class → ℕ
-number Comment = 0
-number Blank = 1
-number (Build output outputs inputs) = 2
-number (Binding flag) = 3
-number Version = 4
+-- the class's index in this list: comment, blank, build line, binding, version line
+abbrev class_index : Class → ℕ
+class_index Comment = 0
+class_index Blank = 1
+class_index (Build output outputs inputs) = 2
+class_index (Binding flag) = 3
+class_index Version = 4
 
 -- whether the text begins with the keyword `build` at its first byte
 abbrev is_keyword_line : List ℕ → Bool
 is_keyword_line text = is_some (after_build (begins_at_start (tokens text)) (symbols text))
 
--- a text's place there, by tests that exclude one another
-abbrev kind : List ℕ → Bool → ℕ
-kind text comment =
+-- a text's index there, by tests that exclude one another
+abbrev index_of : List ℕ → Bool → ℕ
+index_of text comment =
     if comment then 0
     else if is_empty (tokens text) then 1
     else if begins_with_space text then 3
@@ -83,14 +83,14 @@ no_keyword text a h start name = elim (cases_Bool (is_keyword_line text)) [
   | inl t ↦ let k = keyword_token text t in absurd (names_apart text k.token a h start name k.start k.bytes)
 ]
 
--- the tests tell the class of each text
-kind_of : (text : List ℕ) (comment : Bool) (c : Class) → TextIsOfClass text comment c → kind text comment ≡ number c
-kind_of text comment Comment is = rw is refl
-kind_of text comment Blank is = rw is.0 (rw (ap is_empty is.2) refl)
-kind_of text comment Version is =
+-- the tests find the class of each text
+index_of_class : (text : List ℕ) (comment : Bool) (c : Class) → TextIsOfClass text comment c → index_of text comment ≡ class_index c
+index_of_class text comment Comment is = rw is refl
+index_of_class text comment Blank is = rw is.0 (rw (ap is_empty is.2) refl)
+index_of_class text comment Version is =
     let a = is.3.0 in
     rw (is.0, not_empty text a is.3.1, no_indent_at_name text a is.3.1 is.3.2, no_keyword text a is.3.1 is.3.2 is.3.3) refl
-kind_of text comment (Build o os ins) is =
+index_of_class text comment (Build o os ins) is =
     let b = is.5 in
     rw (is.0, some (tokens text) b.4, no_indent_at_token text b.4, ap is_some (ap (after_build (begins_at_start (tokens text))) b.5 ∙ kept (begins_at_start (tokens text)) b.4)) refl where
       some : (ts : List TokenAt) → IsTrue (begins_at_start ts) → is_empty ts ≡ false
@@ -99,11 +99,11 @@ kind_of text comment (Build o os ins) is =
 
       kept : (at : Bool) → at ≡ true → {more : List Symbol} → after_build at (WordSymbol (codes "build") ∷ more) ≡ Some more
       kept at h = rw h refl
-kind_of text comment (Binding flag) is =
+index_of_class text comment (Binding flag) is =
     let indent : begins_with_space text ≡ true = is.2 in
     rw (is.0, not_empty text (is.5).0 (is.5).1, indent) refl
 
--- the parts of a build line are told by its symbols
+-- the parts of a build line follow from its symbols
 words_before : (words : List (List ℕ)) (more : List Symbol) → words_before_colon (map WordSymbol words ++ SignSymbol Colon ∷ more) ≡ words
 words_before [] more = refl
 words_before (w ∷ words) more = ap (λ l. w ∷ l) (words_before words more)
@@ -167,7 +167,7 @@ class_one text comment (Binding flag) (Binding other) p q =
     let same : a.0 ≡ b.0 = cc in
     let value : p.4 ≡ q.4 = sym a.4 ∙ ap (λ (s : SeenAssignment). value_of s.raw_value) same ∙ b.4 in
     ap Binding (p.6 ∙ ap (λ (v : List ℕ). nat_lt 0 (length v)) value ∙ sym q.6)
-class_one text comment c d p q = absurd (let e : number c ≡ number d = sym (kind_of text comment c p) ∙ kind_of text comment d q in omega arith)
+class_one text comment c d p q = absurd (let e : class_index c ≡ class_index d = sym (index_of_class text comment c p) ∙ index_of_class text comment d q in omega arith)
 
 -- lines are of one list of classes
 pub classes_one : (lines : List (List ℕ)) (cs ds : List Class) → AreOfClasses lines cs → AreOfClasses lines ds → cs ≡ ds

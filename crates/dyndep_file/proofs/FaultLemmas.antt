@@ -93,9 +93,9 @@ module _ (bytes : List ℕ) (lent : List LogicalLine) (number : ℕ) (rest : Lis
         refused line past = rw (lt-ltb line_limit (length line) past) refl
 
   -- a line that is refused is the first faulty one
-  fault_of_line : (line after : List ℕ) (seen : LogicalLine) (n : ℕ) (f : LineFault) → rest ≡ line ++ after → IsLine line → length line ≤ line_limit
-      → seen ≡ record (logical_line [] line) { number = number } → n ≡ seen.number → text_line_fault progress.stage seen.text seen.comment ≡ Some f → IsFaultIn bytes (AtLine n f)
-  fault_of_line line after seen n f split is short same at fault =
+  fault_of_line : (line after : List ℕ) (view : LogicalLine) (n : ℕ) (f : LineFault) → rest ≡ line ++ after → IsLine line → length line ≤ line_limit
+      → view ≡ record (logical_line [] line) { number = number } → n ≡ view.number → text_line_fault progress.stage view.text view.comment ≡ Some f → IsFaultIn bytes (AtLine n f)
+  fault_of_line line after view n f split is short same at fault =
       let faulty : text_line_fault progress.stage (text_of line) (is_comment line) ≡ Some f = subst (λ l. text_line_fault progress.stage l.text l.comment ≡ Some f) same fault in
       inl (record {
         before = begins.lines;
@@ -120,9 +120,9 @@ fault_of_next : (bytes : List ℕ) (lent : List LogicalLine) (classes : List Cla
     → IsNextFault (λ (s : Progress) line fault. RefusesLine (progress_value s) line fault) fault_of_cutter bytes lent state f → IsFaultIn bytes f
 fault_of_next bytes lent classes state f texts ran (number, rest, begins, inl t) =
     subst (IsFaultIn bytes) (sym t.1) (fault_at_limit bytes lent number rest classes (progress_value state) begins texts ran t.0 (line_end rest) refl)
-fault_of_next bytes lent classes state (AtLine n f) texts ran (number, rest, begins, inr (line, after, split, is, short, seen, same, refused)) =
-    fault_of_line bytes lent number rest classes (progress_value state) begins texts ran line after seen n f split is short same refused.0 refused.1
-fault_of_next bytes lent classes state Io texts ran (number, rest, begins, inr (line, after, split, is, short, seen, same, refused)) = absurd refused
+fault_of_next bytes lent classes state (AtLine n f) texts ran (number, rest, begins, inr (line, after, split, is, short, view, same, refused)) =
+    fault_of_line bytes lent number rest classes (progress_value state) begins texts ran line after view n f split is short same refused.0 refused.1
+fault_of_next bytes lent classes state Io texts ran (number, rest, begins, inr (line, after, split, is, short, view, same, refused)) = absurd refused
 
 -- the classes of lines that led on, and the statements that they gave
 pub record Led (lent : List LogicalLine) (progress : ProgressValue) : Type 0 where

@@ -125,13 +125,13 @@ module _ (bytes : List ℕ) (lines : List (List ℕ)) (classes : List Class) (pr
     }),
   )
 
-  -- with no bytes left over, the stage tells whether there is a list of statements or no version
+  -- with no bytes left over, it depends on the stage whether there is a list of statements or no version
   listed : Divides bytes lines [] → (stage : Stage) → progress.stage ≡ stage → Outcome bytes
   listed divided BeforeVersion at = ended NoVersion [] divided (refl, no_version classes (sym (stage_runs classes progress ran) ∙ at))
   listed divided NoneOpen at = inl (progress.statements, record { lines = lines; classes = classes; divided = divided; classed = classed; grammar = run_is_file classes progress ran (ap is_past at) })
   listed divided Open at = inl (progress.statements, record { lines = lines; classes = classes; divided = divided; classed = classed; grammar = run_is_file classes progress ran (ap is_past at) })
 
-  -- the bytes left over tell the fault of the end, if there are any
+  -- the fault of the end depends on the bytes left over, if there are any
   at_end : (rest : List ℕ) → Divides bytes lines rest → Outcome bytes
   at_end [] divided = listed divided progress.stage refl
   at_end (b ∷ rest) divided = elim (cases_lt (length (b ∷ rest)) line_limit) [
@@ -226,7 +226,7 @@ fault_same h = cc
 abbrev Beyond : List (List ℕ) → List ℕ → List (List ℕ) → Type 0
 Beyond before line others = (more : List (List ℕ)) × (others ≡ (before ++ line ∷ []) ++ more)
 
--- of two places in the same lines, either both are the same or one is beyond the other
+-- of two beginnings of the same lines, either both are the same or one is beyond the other
 meet : (xs ys : List (List ℕ)) (a b : List ℕ) (ms ns : List (List ℕ)) → (xs ++ a ∷ []) ++ ms ≡ (ys ++ b ∷ []) ++ ns → ((xs ≡ ys) × (a ≡ b)) ⊎ (Beyond xs a ys ⊎ Beyond ys b xs)
 meet [] [] a b ms ns h =
     let k : a ∷ ms ≡ b ∷ ns = h in
@@ -294,7 +294,7 @@ one_line bytes a b f g =
 abbrev fault_of_end : List ℕ → LineFault
 fault_of_end rest = if nat_le line_limit (length rest) then LineTooLong else if nat_lt 0 (length rest) then Truncated else NoVersion
 
--- the fault of the end is told by the bytes left over
+-- the fault of the end depends on the bytes left over alone
 end_fault_is : (rest : List ℕ) (classes : List Class) (fault : LineFault) → IsEndFault rest classes fault → fault ≡ fault_of_end rest
 end_fault_is rest classes LineTooLong h = rw (le-leb line_limit (length rest) h) refl
 end_fault_is rest classes Truncated h = rw (lt-leb line_limit (length rest) h.1, lt-ltb 0 (length rest) h.0) refl

@@ -6,7 +6,7 @@ use Rattle.std.proofs.lemmas.List.{take_more, get_or-map, length-map, append-nil
 use Rattle.std.proofs.lemmas.Grind.{flat_map-append}
 use Rattle.dyndep_file.specs.inner.Paths.{texts}
 
--- the bytes of the path at a place
+-- the bytes of the path at an index
 pub text_at : (paths : List (Vec ℕ Global)) (i : ℕ) (path : Vec ℕ Global) (d : List ℕ) → i < length paths → path ≡ get_or paths i path → get_or (texts paths) i d ≡ path.items
 text_at paths i path d lt is = get_or-map (λ p. p.items) paths i path d lt ∙ ap (λ p. p.items) (sym is)
 
@@ -21,7 +21,7 @@ flat_map_next f xs i x lt is =
     ∙ flat_map-append f (take i xs) (x ∷ [])
     ∙ ap (λ t. flat_map f (take i xs) ++ t) (append-nil (f x))
 
--- the same of a path, told by its vector
+-- the same of a path, given by its vector
 pub flat_map_next_path : (f : List ℕ → List ℕ) (paths : List (Vec ℕ Global)) (i : ℕ) (path : Vec ℕ Global) → i < length paths → path ≡ get_or paths i path → flat_map f (take (i + 1) (texts paths)) ≡ flat_map f (take i (texts paths)) ++ f path.items
 flat_map_next_path f paths i path lt is =
     flat_map_next f (texts paths) i path.items (subst (λ n. i < n) (sym (same_length paths)) lt) (text_at paths i path path.items lt is)

@@ -208,7 +208,7 @@ record Stages (classes : List Class) : Type 0 where
 stage_same : {stage : Stage} {start : List StatementValue} {end : ProgressValue} → ◌≡◌ {A = Option ProgressValue} (Some (record { stage = stage; statements = start })) (Some end) → end.stage ≡ stage
 stage_same h = sym (ap (λ s. s.stage) (progress_same h))
 
--- the stage is told by the classes alone
+-- the stage depends on the classes alone
 stages : (classes : List Class) → Stages classes
 stages [] = record { none = λ start end h. stage_same h; one = λ start end h. stage_same h }
 stages (Comment ∷ classes) = let later = stages classes in record { none = λ start end h. later.none start end h; one = λ start end h. later.one start end h }

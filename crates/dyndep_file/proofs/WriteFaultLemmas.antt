@@ -60,20 +60,20 @@ not_longer : (n : ℕ) → nat_lt line_limit n ≡ false → n ≤ line_limit
 not_longer n h = grind (arith, h)
 
 -- a statement without a fault can be written
-statement_written : (number : ℕ) (s : StatementValue) → statement_fault number s ≡ None → CanBeWritten s
-statement_written number s h =
-    let both = or_none (option_map (λ path. Unwritable number path) (position (λ path. not (is_writable path)) (paths_of s))) (cond (nat_lt line_limit (length (build_line s))) (Some (StatementTooLong number)) None) h in
+statement_written : (index : ℕ) (s : StatementValue) → statement_fault index s ≡ None → CanBeWritten s
+statement_written index s h =
+    let both = or_none (option_map (λ path. Unwritable index path) (position (λ path. not (is_writable path)) (paths_of s))) (cond (nat_lt line_limit (length (build_line s))) (Some (StatementTooLong index)) None) h in
     record {
-      paths = paths_written (paths_of s) (map_none (λ path. Unwritable number path) (position (λ path. not (is_writable path)) (paths_of s)) both.0);
-      line = not_longer (length (build_line s)) (cond_none (nat_lt line_limit (length (build_line s))) (StatementTooLong number) None both.1).0;
+      paths = paths_written (paths_of s) (map_none (λ path. Unwritable index path) (position (λ path. not (is_writable path)) (paths_of s)) both.0);
+      line = not_longer (length (build_line s)) (cond_none (nat_lt line_limit (length (build_line s))) (StatementTooLong index) None both.1).0;
     }
 
 -- so can each statement of a list without a fault
-pub all_written : (number : ℕ) (statements : List StatementValue) → fault_from number statements ≡ None → All CanBeWritten statements
-all_written number [] h = All-nil CanBeWritten
-all_written number (s ∷ ss) h =
-    let both = or_none (statement_fault number s) (fault_from (number + 1) ss) h in
-    All-cons CanBeWritten s ss (statement_written number s both.0) (all_written (number + 1) ss both.1)
+pub all_written : (index : ℕ) (statements : List StatementValue) → fault_from index statements ≡ None → All CanBeWritten statements
+all_written index [] h = All-nil CanBeWritten
+all_written index (s ∷ ss) h =
+    let both = or_none (statement_fault index s) (fault_from (index + 1) ss) h in
+    All-cons CanBeWritten s ss (statement_written index s both.0) (all_written (index + 1) ss both.1)
 
 -- ---- to no fault
 
@@ -92,22 +92,22 @@ all_found paths w =
     position_none (λ path. not (is_writable path)) paths [] (λ k lt. test_of (is_writable (get_or paths k [])) ((is_writable-meaning (get_or paths k [])).1 (w k [] lt)))
 
 -- a statement that can be written has no fault
-statement_unfaulty : (number : ℕ) (s : StatementValue) → CanBeWritten s → statement_fault number s ≡ None
-statement_unfaulty number s w =
-    ap (λ o. option_or (option_map (λ path. Unwritable number path) o) (cond (nat_lt line_limit (length (build_line s))) (Some (StatementTooLong number)) None))
+statement_unfaulty : (index : ℕ) (s : StatementValue) → CanBeWritten s → statement_fault index s ≡ None
+statement_unfaulty index s w =
+    ap (λ o. option_or (option_map (λ path. Unwritable index path) o) (cond (nat_lt line_limit (length (build_line s))) (Some (StatementTooLong index)) None))
     (all_found (paths_of s) w.paths)
-    ∙ ap (λ b. cond b (Some (StatementTooLong number)) None) (no_longer (length (build_line s)) w.line)
+    ∙ ap (λ b. cond b (Some (StatementTooLong index)) None) (no_longer (length (build_line s)) w.line)
 
 -- what can be written of a list can be written of its rest
 tail_of : (s : StatementValue) (ss : List StatementValue) → All CanBeWritten (s ∷ ss) → All CanBeWritten ss
 tail_of s ss a k d lt = a (suc k) d (omega (arith, lt))
 
 -- a list of statements that can be written has no fault
-pub none_faulty : (number : ℕ) (statements : List StatementValue) → All CanBeWritten statements → fault_from number statements ≡ None
-none_faulty number [] a = refl
-none_faulty number (s ∷ ss) a =
-    ap (λ o. option_or o (fault_from (number + 1) ss)) (statement_unfaulty number s (a 0 s (omega arith)))
-    ∙ none_faulty (number + 1) ss (tail_of s ss a)
+pub none_faulty : (index : ℕ) (statements : List StatementValue) → All CanBeWritten statements → fault_from index statements ≡ None
+none_faulty index [] a = refl
+none_faulty index (s ∷ ss) a =
+    ap (λ o. option_or o (fault_from (index + 1) ss)) (statement_unfaulty index s (a 0 s (omega arith)))
+    ∙ none_faulty (index + 1) ss (tail_of s ss a)
 
 -- the first of two answers, or else the second
 or_some : {X : Type 0} (a b : Option X) (x : X) → option_or a b ≡ Some x → (a ≡ Some x) ⊎ (b ≡ Some x)
@@ -122,18 +122,18 @@ cond_some true x y h = cc
 cond_some false x y h = absurd (cc)
 
 -- the fault of such a statement is a build line that is too long
-one_too_long : (number : ℕ) (s : StatementValue) (fault : WriteFault) → All IsWritable (paths_of s) → statement_fault number s ≡ Some fault → fault ≡ StatementTooLong number
-one_too_long number s fault w h =
-    let long = cond (nat_lt line_limit (length (build_line s))) (Some (StatementTooLong number)) None in
-    cond_some (nat_lt line_limit (length (build_line s))) (StatementTooLong number) fault
-    (ap (λ (found : Option ℕ). option_or (option_map (λ path. Unwritable number path) found) long) (sym (all_found (paths_of s) w)) ∙ h)
+one_too_long : (index : ℕ) (s : StatementValue) (fault : WriteFault) → All IsWritable (paths_of s) → statement_fault index s ≡ Some fault → fault ≡ StatementTooLong index
+one_too_long index s fault w h =
+    let long = cond (nat_lt line_limit (length (build_line s))) (Some (StatementTooLong index)) None in
+    cond_some (nat_lt line_limit (length (build_line s))) (StatementTooLong index) fault
+    (ap (λ (found : Option ℕ). option_or (option_map (λ path. Unwritable index path) found) long) (sym (all_found (paths_of s) w)) ∙ h)
 
-too_long_from : (number : ℕ) (ss : List StatementValue) (fault : WriteFault) → AllByRecursion (λ s. All IsWritable (paths_of s)) ss → fault_from number ss ≡ Some fault
+too_long_from : (index : ℕ) (ss : List StatementValue) (fault : WriteFault) → AllByRecursion (λ s. All IsWritable (paths_of s)) ss → fault_from index ss ≡ Some fault
     → (k : ℕ) × (fault ≡ StatementTooLong k)
-too_long_from number [] fault w h = absurd (cc)
-too_long_from number (s ∷ ss) fault w h = elim (or_some (statement_fault number s) (fault_from (number + 1) ss) fault h) [
-  | inl here ↦ (number, one_too_long number s fault w.0 here)
-  | inr later ↦ too_long_from (number + 1) ss fault w.1 later
+too_long_from index [] fault w h = absurd (cc)
+too_long_from index (s ∷ ss) fault w h = elim (or_some (statement_fault index s) (fault_from (index + 1) ss) fault h) [
+  | inl here ↦ (index, one_too_long index s fault w.0 here)
+  | inr later ↦ too_long_from (index + 1) ss fault w.1 later
 ]
 
 -- so is the fault of a list of them
@@ -143,25 +143,25 @@ only_too_long ss fault w h = too_long_from 0 ss fault (recursion_from_All (λ s.
 -- ---- the fault of the statements is never one of the writer
 
 -- the fault of one statement is never one of the writer
-one_io : (number : ℕ) (place : Option ℕ) (long : Bool) (count : ℕ) → option_or (option_map (λ path. Unwritable number path) place) (cond long (Some (StatementTooLong number)) None) ≡ Some (Io count) → ⊥
-one_io number (Some place) long count h = cc
-one_io number None true count h = cc
-one_io number None false count h = cc
+one_io : (index : ℕ) (path : Option ℕ) (long : Bool) (count : ℕ) → option_or (option_map (λ path. Unwritable index path) path) (cond long (Some (StatementTooLong index)) None) ≡ Some (Io count) → ⊥
+one_io index (Some path) long count h = cc
+one_io index None true count h = cc
+one_io index None false count h = cc
 
 -- nor is the fault of a list
-never_io : (number : ℕ) (statements : List StatementValue) (count : ℕ) → fault_from number statements ≡ Some (Io count) → ⊥
-never_io number [] count h = cc
-never_io number (s ∷ ss) count h = elim (or_some (statement_fault number s) (fault_from (number + 1) ss) (Io count) h) [
-  | inl here ↦ one_io number (position (λ path. not (is_writable path)) (paths_of s)) (nat_lt line_limit (length (build_line s))) count here
-  | inr later ↦ never_io (number + 1) ss count later
+never_io : (index : ℕ) (statements : List StatementValue) (count : ℕ) → fault_from index statements ≡ Some (Io count) → ⊥
+never_io index [] count h = cc
+never_io index (s ∷ ss) count h = elim (or_some (statement_fault index s) (fault_from (index + 1) ss) (Io count) h) [
+  | inl here ↦ one_io index (position (λ path. not (is_writable path)) (paths_of s)) (nat_lt line_limit (length (build_line s))) count here
+  | inr later ↦ never_io (index + 1) ss count later
 ]
 
--- the fault that is told in place of a text
-told : (fault : Option WriteFault) (statements : List StatementValue) (answer : WriteFault) → text_unless fault statements ≡ Err answer → fault ≡ Some answer
-told None statements answer h = cc
-told (Some fault) statements answer h = cc
+-- the fault that is reported instead of a text
+reported : (fault : Option WriteFault) (statements : List StatementValue) (answer : WriteFault) → text_unless fault statements ≡ Err answer → fault ≡ Some answer
+reported None statements answer h = cc
+reported (Some fault) statements answer h = cc
 
--- the text that is told in place of a fault
+-- the text that is made where there is no fault
 given : (fault : Option WriteFault) (statements : List StatementValue) (text : List ℕ) → text_unless fault statements ≡ Ok text → (fault ≡ None) × (text ≡ dyndep_text statements)
 given None statements text h = (refl, let same : dyndep_text statements ≡ text = cc in sym same)
 given (Some fault) statements text h = cc
@@ -171,9 +171,9 @@ pub failed : {W : Type 0} (contents : W → Option (List ℕ)) (out : Counted W)
     → Gives {T = Vec ℕ Global} (λ made. made.items) (Err failure) (text_or_fault statements)
     → LeavesWriter contents out out text failure × AnswersFault {T = Unit {0}} (write_fault statements) (Err failure)
 failed contents out text statements Memory h = (refl, tt)
-failed contents out text statements (Fault (Unwritable statement path)) h = (refl, told (write_fault statements) statements (Unwritable statement path) h)
-failed contents out text statements (Fault (StatementTooLong statement)) h = (refl, told (write_fault statements) statements (StatementTooLong statement) h)
-failed contents out text statements (Fault (Io count)) h = absurd (never_io 0 statements count (told (write_fault statements) statements (Io count) h))
+failed contents out text statements (Fault (Unwritable statement path)) h = (refl, reported (write_fault statements) statements (Unwritable statement path) h)
+failed contents out text statements (Fault (StatementTooLong statement)) h = (refl, reported (write_fault statements) statements (StatementTooLong statement) h)
+failed contents out text statements (Fault (Io count)) h = absurd (never_io 0 statements count (reported (write_fault statements) statements (Io count) h))
 
 -- No call of the writer was made then.
 pub uncalled : {W : Type 0} (writes : Call W) (out : W) (text : List ℕ) (statements : List StatementValue) (failure : Failure WriteFault)
@@ -181,7 +181,7 @@ pub uncalled : {W : Type 0} (writes : Call W) (out : W) (text : List ℕ) (state
 uncalled writes out text statements Memory h = refl
 uncalled writes out text statements (Fault (Unwritable statement path)) h = refl
 uncalled writes out text statements (Fault (StatementTooLong statement)) h = refl
-uncalled writes out text statements (Fault (Io count)) h = absurd (never_io 0 statements count (told (write_fault statements) statements (Io count) h))
+uncalled writes out text statements (Fault (Io count)) h = absurd (never_io 0 statements count (reported (write_fault statements) statements (Io count) h))
 
 -- A text that was made is the text of the statements, which have no fault.
 pub made : (statements : List StatementValue) (text : Vec ℕ Global) → Gives {T = Vec ℕ Global} (λ made. made.items) (Ok text) (text_or_fault statements) → (write_fault statements ≡ None) × (text.items ≡ dyndep_text statements)

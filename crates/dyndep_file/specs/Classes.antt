@@ -85,8 +85,8 @@ is_version_one (a ∷ rest) = (a == 49) && (ends_number false rest || dot_zero r
   dot_zero (a ∷ []) = false
   dot_zero (a ∷ b ∷ rest) = (a == 46) && (b == 48) && ends_number true rest
 
--- A line is of this class, told by its text without the end, and by whether it is a comment: one
--- holds any bytes, every other line has no lexical fault. A blank line has no token. A version line
+-- A line is of this class, by its text without the end, and by whether it is a comment: one holds
+-- any bytes, every other line has no lexical fault. A blank line has no token. A version line
 -- assigns a version that is read, and its name stands at the first byte. The paths of a build line
 -- are the values of its words, without escapes. A binding is an indented assignment to `restat`,
 -- and sets the flag where the value is not empty.

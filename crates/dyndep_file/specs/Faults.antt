@@ -112,19 +112,19 @@ output_fault (SignSymbol other ∷ more) = Some NoOutput
 
 -- ---- the rows of the table of lines: the fault of such a line, by its column
 
--- an indented line, told by whether it is an assignment to `restat`
+-- an indented line, by whether it is an assignment to `restat`
 abbrev pub indented_fault : Stage → Bool → Option LineFault
 indented_fault BeforeVersion restat = Some NoVersion
 indented_fault NoneOpen restat = Some Indent
 indented_fault Open restat = if restat then None else Some BadBinding
 
--- a version line, told by its value
+-- a version line, by its value
 abbrev pub version_fault : Stage → List ℕ → Option LineFault
 version_fault BeforeVersion value = if is_version_one value then None else Some BadVersion
 version_fault NoneOpen value = Some SecondVersion
 version_fault Open value = Some SecondVersion
 
--- a build line, told by the tokens after its keyword
+-- a build line, by the tokens after its keyword
 abbrev pub build_fault : Stage → List Symbol → Option LineFault
 build_fault BeforeVersion more = Some NoVersion
 build_fault NoneOpen more = output_fault more
@@ -153,14 +153,14 @@ value_assigned name None = None
 value_assigned name (Some a) =
     if same_bytes a.name name then Some (a.name_start, value_of a.raw_value) else None
 
--- a line that is neither indented nor a version line, told by its tokens after `build`, if it is a
--- build line
+-- a line that is neither indented nor a version line, by its tokens after `build`, if it is a build
+-- line
 abbrev pub build_or_other_fault : Stage → Option (List Symbol) → Option LineFault
 build_or_other_fault stage (Some more) = build_fault stage more
 build_or_other_fault stage None = Some (other_fault stage)
 
--- a line that is not indented, told by what it assigns to the version, if that, and by its tokens
--- after `build`, if it is a build line
+-- a line that is not indented, by what it assigns to the version, if that, and by its tokens after
+-- `build`, if it is a build line
 abbrev pub unindented_fault : Stage → Option (ℕ × List ℕ) → Option (List Symbol)
     → Option LineFault
 unindented_fault stage (Some version) build =
@@ -172,9 +172,9 @@ unindented_fault stage None build = build_or_other_fault stage build
 -- fault
 abbrev pub text_fault : Stage → List ℕ → Option LineFault
 text_fault stage text =
+    let restat = is_some (value_assigned (codes "restat") (assignment_of text)) in
     if is_empty (tokens text) then None
-    else if begins_with_space text then
-    indented_fault stage (is_some (value_assigned (codes "restat") (assignment_of text)))
+    else if begins_with_space text then indented_fault stage restat
     else unindented_fault stage (value_assigned (codes "ninja_dyndep_version") (assignment_of text))
     (after_build (begins_at_start (tokens text)) (symbols text))
 
@@ -183,7 +183,7 @@ abbrev pub lexical_fault_or : Option LexFault → Option LineFault → Option Li
 lexical_fault_or (Some fault) otherwise = Some (Lexical fault)
 lexical_fault_or None otherwise = otherwise
 
--- the fault of a line's text without its end, told by whether the line is a comment, which has none
+-- the fault of a line's text without its end, by whether the line is a comment, which has none
 abbrev pub text_line_fault : Stage → List ℕ → Bool → Option LineFault
 text_line_fault stage text comment =
     if comment then None else lexical_fault_or (lexical_fault text) (text_fault stage text)

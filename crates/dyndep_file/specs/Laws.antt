@@ -46,4 +46,4 @@ FaultStays = (bytes more : List ℕ) (line : ℕ) (fault : LineFault)
 abbrev pub OnlyTooLong : Type 0
 OnlyTooLong = (statements : List StatementValue) (fault : WriteFault)
     → All (λ s. All IsWritable (paths_of s)) statements → write_fault statements ≡ Some fault
-    → (number : ℕ) × (fault ≡ StatementTooLong number)
+    → (index : ℕ) × (fault ≡ StatementTooLong index)

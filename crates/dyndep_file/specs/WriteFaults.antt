@@ -16,20 +16,20 @@ use Rattle.dyndep_file.specs.declared.writing.WriteFault.TheVariants.{Unwritable
 abbrev pub paths_of : StatementValue → List (List ℕ)
 paths_of s = s.output ∷ (s.implicit_outputs ++ s.implicit_inputs)
 
--- the fault of a statement, told by its number: the first path that has no spelling, else too long
--- a build line
+-- the fault of the statement at an index: the first path that has no spelling, else too long a
+-- build line
 abbrev pub statement_fault : ℕ → StatementValue → Option WriteFault
-statement_fault number s = option_or
-    (option_map (λ path. Unwritable number path)
+statement_fault index s = option_or
+    (option_map (λ path. Unwritable index path)
     (position (λ path. not (is_writable path)) (paths_of s)))
-    (if nat_lt line_limit (length (build_line s)) then Some (StatementTooLong number) else None)
+    (if nat_lt line_limit (length (build_line s)) then Some (StatementTooLong index) else None)
 
--- the fault of the first statement that has one, where the first of the list has this number
+-- the fault of the first statement that has one, where the first of the list has this index
 abbrev pub fault_from : ℕ → List StatementValue → Option WriteFault
-fault_from number [] = None
-fault_from number (s ∷ ss) = option_or (statement_fault number s) (fault_from (number + 1) ss)
+fault_from index [] = None
+fault_from index (s ∷ ss) = option_or (statement_fault index s) (fault_from (index + 1) ss)
 
--- the fault of a list of statements, numbered from 0
+-- the fault of a list of statements, counted from 0
 abbrev pub write_fault : List StatementValue → Option WriteFault
 write_fault statements = fault_from 0 statements
 

@@ -25,7 +25,7 @@ pub enum LineFault {
     /// binding came in between.
     Indent,
     /// The line is neither a version line, a build line, a binding, a comment nor blank, or it is a
-    /// build line that breaks off or has a `|` or `:` out of place.
+    /// build line that breaks off or has a `|` or `:` where none may stand.
     BadLine,
     /// No explicit output follows `build`.
     NoOutput,

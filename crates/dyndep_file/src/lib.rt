@@ -7,7 +7,7 @@
 //!   `specs/Grammar.antt` gives the whole text, or the first faulty line and its fault
 //!   (`specs/Reading.antt`, `specs/Faults.antt`).
 //! - [`Dyndep::to_text`] makes the text of the statements, byte for byte as `specs/Writing.antt`
-//!   states it, and [`write`] writes it, or the first fault of `specs/WriteFaults.antt` is told
+//!   states it, and [`write`] writes it, or the first fault of `specs/WriteFaults.antt` is reported
 //!   before the first byte. The grammar relates the text to the statements, and to no other list.
 //!   [`writable_statements`] proves that there is no such fault exactly where each path has a
 //!   spelling and each build line keeps the limit.
@@ -18,7 +18,7 @@
 //!
 //! Definitions that only private clauses speak of stand in `specs/inner/`.
 //!
-//! It stands on `ninja_text`, which cuts the lines, tells their tokens, spells paths and counts
+//! It stands on `ninja_text`, which cuts the lines, finds their tokens, spells paths and counts
 //! failed calls.
 #![tactic(auto)]
 

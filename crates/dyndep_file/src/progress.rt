@@ -70,7 +70,7 @@ pub(crate) fn indented_line(
     Ok(())
 }
 
-/// A build line, told by the tokens after its keyword: it opens a statement.
+/// A build line, by the tokens after its keyword: it opens a statement.
 pub(crate) fn build_line(
     alloc: Global,
     progress: &mut Progress,

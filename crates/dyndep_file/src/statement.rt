@@ -7,7 +7,7 @@ use std::marker::Model;
 /// A path is the bytes that its spelling stands for, without escapes. It need not be canonical.
 #[derive(Debug, Drop)]
 pub struct Statement {
-    /// The explicit output, which tells the build statement.
+    /// The explicit output, by which the build statement is found.
     pub output: Vec<u8>,
     /// The implicit outputs that are added.
     pub implicit_outputs: Vec<Vec<u8>>,

@@ -62,7 +62,7 @@ impl Dyndep {
     /// where its flag is set, a `restat` binding. Lines end in LF, and paths are escaped. The
     /// buffer is grown once, to the text's length.
     ///
-    /// A path without a spelling and too long a build line are told before memory is asked for.
+    /// A path without a spelling and too long a build line are reported before memory is asked for.
     pub fn to_text(&self, alloc: Global) -> Result<Vec<u8>, Failure<WriteFault>>
         ensures text { Gives (λ text. text.items) result (text_or_fault self.now) }
         ensures unfaulted { IfOk result (λ _. write_fault self.now ≡ None) }
@@ -79,9 +79,9 @@ impl Dyndep {
 
 /// Writes the text of a dyndep file.
 ///
-/// A path without a spelling and too long a build line are told before the first byte, as is want
-/// of memory: the writer is as it was then. After an `Io` exactly so many bytes went out, and they
-/// are a beginning of the text. Each call of the writer is given what is left of the text, and
+/// A path without a spelling and too long a build line are reported before the first byte, as is
+/// want of memory: the writer is as it was then. After an `Io` exactly so many bytes went out, and
+/// they are a beginning of the text. Each call of the writer is given what is left of the text, and
 /// after a call that failed none is made.
 pub fn write<W: WriteCall>(
     alloc: Global,
@@ -119,8 +119,8 @@ pub fn writable_statements()
 fn first_fault(statements: &[Statement]) -> Option<WriteFault>
     ensures { result ≡ write_fault statements.now }
 {
-    for (number, statement) in statements.iter().enumerate() {
-        let fault = statement_fault(number, statement);
+    for (index, statement) in statements.iter().enumerate() {
+        let fault = statement_fault(index, statement);
         if fault.is_some() {
             return fault;
         }
@@ -128,43 +128,43 @@ fn first_fault(statements: &[Statement]) -> Option<WriteFault>
     None
 }
 
-/// The fault of a statement, told by its number.
-fn statement_fault(number: usize, statement: &Statement) -> Option<WriteFault>
-    ensures { result ≡ statement_fault number statement.now }
+/// The fault of the statement at an index.
+fn statement_fault(index: usize, statement: &Statement) -> Option<WriteFault>
+    ensures { result ≡ statement_fault index statement.now }
 {
     if let Some(path) = unwritable_path(statement) {
         return Some(WriteFault::Unwritable {
-            statement: number,
+            statement: index,
             path,
         });
     }
     if build_line_len(statement) > LINE_LIMIT {
-        return Some(WriteFault::StatementTooLong { statement: number });
+        return Some(WriteFault::StatementTooLong { statement: index });
     }
     None
 }
 
-/// The number of the first path that has no spelling.
+/// The index of the first path that has no spelling.
 fn unwritable_path(statement: &Statement) -> Option<usize>
     ensures { result ≡ position (λ path. not (is_writable path)) (paths_of statement.now) }
 {
     if !is_writable(&statement.output) {
         return Some(0);
     }
-    if let Some(place) = first_unwritable(&statement.implicit_outputs) {
-        return Some(1 + place);
+    if let Some(index) = first_unwritable(&statement.implicit_outputs) {
+        return Some(1 + index);
     }
-    let place = first_unwritable(&statement.implicit_inputs)?;
-    Some(1 + statement.implicit_outputs.len() + place)
+    let index = first_unwritable(&statement.implicit_inputs)?;
+    Some(1 + statement.implicit_outputs.len() + index)
 }
 
-/// The place of the first path that has no spelling.
+/// The index of the first path that has no spelling.
 fn first_unwritable(paths: &[Vec<u8>]) -> Option<usize>
     ensures { result ≡ position (λ path. not (is_writable path)) (texts paths.now) }
 {
-    for (place, path) in paths.iter().enumerate() {
+    for (index, path) in paths.iter().enumerate() {
         if !is_writable(path) {
-            return Some(place);
+            return Some(index);
         }
     }
     None
