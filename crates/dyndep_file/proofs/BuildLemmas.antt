@@ -1,20 +1,27 @@
 -- The tokens of a build line that has no fault, by its parts.
-use Rattle.std.proofs.Common.{inl, inr, ◌≡◌, ℕ, false, List, [], ◌∷◌, ◌++◌, map, refl, sym, ap, ◌∙◌, subst, Some, None}
+use Rattle.std.proofs.Common.{inl, inr, ◌≡◌, ℕ, false, List, [], ◌∷◌, ◌++◌, map, refl, ap, ◌∙◌, Some, None}
 use Rattle.std.specs.Prelude.{Option, codes}
 use Rattle.std.proofs.lemmas.Bool.{cases_Bool}
 use Rattle.ninja_text.specs.declared.token.TokenKind.TheVariants.{Word, Bar, DoubleBar, BarAt, Colon}
-use Rattle.std.specs.Iterator.{YieldsFirstBy}
-use Rattle.ninja_text.specs.Tokens.{SeenToken, value_of}
-use Rattle.ninja_text.specs.TokenViews.{seen_token, tokens_left}
-use Rattle.ninja_text.specs.declared.token.Token.{Token}
-use Rattle.ninja_text.specs.declared.token.Words.{Words}
-use Rattle.dyndep_file.specs.StatementValue.{StatementValue}
 use Rattle.dyndep_file.specs.Classes.{Symbol, WordSymbol, SignSymbol, IsPart}
 use Rattle.dyndep_file.specs.Faults.{same_bytes, implicit_inputs_fault, after_rule_fault, rule_fault, implicit_outputs_fault, after_output_fault, output_fault}
-use Rattle.dyndep_file.specs.BuildTokens.{symbol_of, symbols_left}
-use Rattle.dyndep_file.specs.inner.BuildLines.{words_before_colon, after_colon, Names, IsNamed}
+use Rattle.dyndep_file.specs.inner.BuildLines.{Names}
 use Rattle.dyndep_file.specs.declared.faults.LineFault.{LineFault}
-use Rattle.dyndep_file.proofs.TableLemmas.{same_bytes-true, symbol_is_word}
+use Rattle.dyndep_file.proofs.TableLemmas.{same_bytes-true}
+
+-- the words up to the first `:`
+abbrev pub words_before_colon : List Symbol → List (List ℕ)
+words_before_colon [] = []
+words_before_colon (WordSymbol word ∷ more) = word ∷ words_before_colon more
+words_before_colon (SignSymbol Colon ∷ more) = []
+words_before_colon (SignSymbol other ∷ more) = words_before_colon more
+
+-- what follows the first `:`
+abbrev pub after_colon : List Symbol → List Symbol
+after_colon [] = []
+after_colon (WordSymbol word ∷ more) = after_colon more
+after_colon (SignSymbol Colon ∷ more) = more
+after_colon (SignSymbol other ∷ more) = after_colon more
 
 -- a fault is there, and is not
 faulty : {fault : LineFault} {A : Type 0} → ◌≡◌ {A = Option LineFault} (Some fault) None → A
@@ -80,7 +87,7 @@ divided (SignSymbol DoubleBar ∷ more) h = faulty h
 divided (SignSymbol BarAt ∷ more) h = faulty h
 divided (SignSymbol Word ∷ more) h = faulty h
 
--- the parts of a build line without fault, as the reader takes them
+-- the parts of a build line without fault
 pub record Parts (symbols : List Symbol) : Type 0 where
   pub output : List ℕ
   pub more : List Symbol
@@ -110,37 +117,3 @@ parts (WordSymbol output ∷ more) h =
       };
     }
 parts (SignSymbol other ∷ more) h = faulty h
-
--- a call of `next` passes over one token
-pub passed_over : (r : Option Token) (old new : Words) → YieldsFirstBy seen_token tokens_left old r new → (head : Symbol) (more : List Symbol) → symbols_left old ≡ head ∷ more
-    → symbols_left new ≡ more
-passed_over None old new gives head more h = absurd (let x : [] ≡ head ∷ more = sym (ap (map symbol_of) gives.0) ∙ h in cc)
-passed_over (Some token) old new gives head more h = let x : symbol_of (seen_token token) ∷ symbols_left new ≡ head ∷ more = sym (ap (map symbol_of) gives) ∙ h in cc
-
--- tokens without fault are at least one
-pub begins_somehow : (symbols : List Symbol) → symbols ≡ [] → output_fault symbols ≡ None → ⊥
-begins_somehow symbols h none = faulty (subst (λ s. output_fault s ≡ None) h none)
-
--- what the reader takes from a build line without fault is the statement that it names
-pub named : (symbols more rule after : List Symbol) (head : SeenToken) (output : List ℕ) (outputs inputs : List (List ℕ))
-    → symbols ≡ symbol_of head ∷ more → output_fault symbols ≡ None → output ≡ value_of head.raw
-    → outputs ≡ map value_of (words_before_colon more) → rule ≡ after_colon more
-    → ((first : Symbol) (others : List Symbol) → rule ≡ first ∷ others → after ≡ others)
-    → inputs ≡ map value_of (words_before_colon after)
-    → IsNamed symbols (record { output = output; implicit_outputs = outputs; implicit_inputs = inputs; restat = false })
-named symbols more rule after head output outputs inputs first none is_output are_outputs is_rule passed are_inputs =
-    let p = parts symbols none in
-    let same : symbol_of head ∷ more ≡ WordSymbol p.output ∷ p.more = sym first ∙ p.is_first in
-    let rest : more ≡ p.more = cc in
-    let raw : head.raw ≡ p.output = symbol_is_word head.kind head.raw p.output (cc) in
-    let past : after ≡ p.after = passed (WordSymbol (codes "dyndep")) p.after (is_rule ∙ ap after_colon rest ∙ p.rule) in (
-      p.output,
-      words_before_colon p.more,
-      words_before_colon p.after,
-      p.names,
-      parts_same (is_output ∙ ap value_of raw) (are_outputs ∙ ap (λ s. map value_of (words_before_colon s)) rest) (are_inputs ∙ ap (λ s. map value_of (words_before_colon s)) past),
-    ) where
-      parts_same : {o p : List ℕ} {os ps is qs : List (List ℕ)} → o ≡ p → os ≡ ps → is ≡ qs
-          → ◌≡◌ {A = StatementValue} (record { output = o; implicit_outputs = os; implicit_inputs = is; restat = false })
-          (record { output = p; implicit_outputs = ps; implicit_inputs = qs; restat = false })
-      parts_same a b c = rw (a, b, c) refl

@@ -15,13 +15,12 @@ use Rattle.dyndep_file.specs.Faults.{same_bytes, is_empty, after_build, value_as
 use Rattle.dyndep_file.specs.Faults.{text_fault, text_line_fault, lexical_fault_or}
 use Rattle.dyndep_file.specs.Steps.{ProgressValue, step}
 use Rattle.dyndep_file.specs.Reading.{AreOfClasses}
-use Rattle.dyndep_file.specs.inner.BuildLines.{words_before_colon, after_colon}
 use Rattle.dyndep_file.specs.declared.faults.LineFault.{LineFault}
 use Rattle.dyndep_file.specs.declared.progress.Stage.{Stage}
 use Rattle.dyndep_file.specs.declared.progress.Stage.TheVariants.{BeforeVersion, NoneOpen, Open}
 use Rattle.ninja_text.specs.declared.token.TokenKind.TheVariants.{Colon}
 use Rattle.dyndep_file.proofs.TableLemmas.{same_bytes-true, symbol_is_word, no_indent_at_token, no_indent_at_name, names_apart}
-use Rattle.dyndep_file.proofs.BuildLemmas.{parts}
+use Rattle.dyndep_file.proofs.BuildLemmas.{words_before_colon, after_colon, parts}
 
 -- the class's index in this list: comment, blank, build line, binding, version line
 abbrev class_index : Class → ℕ

@@ -9,6 +9,8 @@ pub mod EndLemmas
 pub mod FaultLemmas
 pub mod TableLemmas
 pub mod BuildLemmas
+pub mod PartLemmas
+pub mod Values
 pub mod LineLemmas
 pub mod ClassLemmas
 pub mod LawLemmas

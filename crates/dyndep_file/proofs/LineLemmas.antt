@@ -19,7 +19,7 @@ use Rattle.dyndep_file.specs.inner.LineReading.{PassesOr, IsBuildOf, with_name, 
 use Rattle.dyndep_file.specs.declared.faults.LineFault.{LineFault}
 use Rattle.dyndep_file.specs.declared.progress.Stage.{Stage}
 use Rattle.dyndep_file.specs.declared.progress.Stage.TheVariants.{NoneOpen, Open}
-use Rattle.dyndep_file.proofs.TableLemmas.{same_bytes-refl, same_bytes-true, symbol_is_word, no_indent_at_token, no_version}
+use Rattle.dyndep_file.proofs.TableLemmas.{same_bytes-refl, same_bytes-true, is_word-true, symbol_is_word, no_indent_at_token, no_version}
 
 -- the same answer, under another reading of the fault and the class
 pub passes_as : {fault other : Option LineFault} (is as_is : Class → Type 0) (old : ProgressValue) (r : Result Unit (Failure LineFault)) (new : ProgressValue)
@@ -135,10 +135,7 @@ module _ (text : List ℕ) (sound : lexical_fault text ≡ None) where
       both = and_parts (head.start == 0) (is_word (codes "build") (symbol_of head)) begins
 
       keyword : symbol_of head ≡ WordSymbol (codes "build")
-      keyword = word_is (symbol_of head) both.1 where
-        word_is : (s : Symbol) → is_word (codes "build") s ≡ true → s ≡ WordSymbol (codes "build")
-        word_is (WordSymbol word) h = ap WordSymbol (same_bytes-true word (codes "build") h)
-        word_is (SignSymbol kind) h = absurd (let x : false ≡ true = h in cc)
+      keyword = is_word-true (codes "build") (symbol_of head) both.1
 
       at_start : begins_at_start (tokens text) ≡ true
       at_start = starts_as ∙ both.0

@@ -1,6 +1,7 @@
 -- A line of a class that may stand at a stage has no fault there: the tables of faults agree with the classes of lines.
 use Rattle.std.proofs.Common.{inl, inr, ◌≡◌, ℕ, Bool, true, false, List, [], ◌∷◌, ◌++◌, map, get_or, refl, sym, ap, ◌∙◌, subst, Some, None, arith, ◌==◌, eq-eqb}
 use Rattle.std.specs.Prelude.{Option, IsTrue, if◌then◌else◌, codes, slice_range, is_some}
+use Rattle.std.proofs.lemmas.List.{append-nil}
 use Rattle.std.proofs.lemmas.Bool.{cases_Bool, eqb-true, and_parts, and_from}
 use Rattle.ninja_text.specs.Lexical.{lexical_fault}
 use Rattle.ninja_text.specs.Tokens.{TokenAt, tokens, raw, value_of}
@@ -13,6 +14,7 @@ use Rattle.dyndep_file.specs.Classes.{Class, Comment, Blank, Version, Build, Bin
 use Rattle.dyndep_file.specs.Classes.{begins_with_space, is_version_one, TextIsOfClass}
 use Rattle.dyndep_file.specs.Faults.{same_bytes, is_empty, implicit_inputs_fault, after_rule_fault, rule_fault, implicit_outputs_fault, after_output_fault, output_fault}
 use Rattle.dyndep_file.specs.Faults.{after_build, value_assigned, indented_fault, build_fault, build_or_other_fault, unindented_fault, text_fault, text_line_fault}
+use Rattle.dyndep_file.specs.BuildTokens.{is_word}
 use Rattle.dyndep_file.specs.Steps.{ProgressValue, step}
 use Rattle.dyndep_file.specs.declared.progress.Stage.{Stage}
 use Rattle.dyndep_file.specs.declared.progress.Stage.TheVariants.{BeforeVersion, NoneOpen, Open}
@@ -29,25 +31,30 @@ same_bytes-true (x ∷ xs) (y ∷ ys) h = let p = and_parts (x == y) (same_bytes
 same_bytes-true [] (y ∷ ys) h = absurd (let x : false ≡ true = h in cc)
 same_bytes-true (x ∷ xs) [] h = absurd (let x : false ≡ true = h in cc)
 
--- implicit inputs have no fault
-inputs_pass : (words : List (List ℕ)) → implicit_inputs_fault (map WordSymbol words) ≡ None
-inputs_pass [] = refl
-inputs_pass (w ∷ words) = inputs_pass words
+-- only the word of these bytes passes the test for it
+pub is_word-true : (bytes : List ℕ) (s : Symbol) → is_word bytes s ≡ true → s ≡ WordSymbol bytes
+is_word-true bytes (WordSymbol word) h = ap WordSymbol (same_bytes-true word bytes h)
+is_word-true bytes (SignSymbol kind) h = absurd (let x : false ≡ true = h in cc)
+
+-- words among the implicit inputs have no fault
+pub inputs_pass : (words : List (List ℕ)) (more : List Symbol) → implicit_inputs_fault (map WordSymbol words ++ more) ≡ implicit_inputs_fault more
+inputs_pass [] more = refl
+inputs_pass (w ∷ words) more = inputs_pass words more
 
 -- nor has what comes after the rule, where it is a part of implicit inputs
 after_rule_passes : (after : List Symbol) (words : List (List ℕ)) → IsPart after words → after_rule_fault after ≡ None
 after_rule_passes after words (inl h) = ap after_rule_fault h.0
-after_rule_passes after words (inr h) = ap after_rule_fault h ∙ inputs_pass words
+after_rule_passes after words (inr h) = ap after_rule_fault (h ∙ ap (λ s. SignSymbol Bar ∷ s) (sym (append-nil (map WordSymbol words)))) ∙ inputs_pass words []
 
--- implicit outputs have no fault but one of the rule
-outputs_pass : (words : List (List ℕ)) (more : List Symbol) → implicit_outputs_fault (map WordSymbol words ++ SignSymbol Colon ∷ more) ≡ rule_fault more
+-- words among the implicit outputs have no fault
+pub outputs_pass : (words : List (List ℕ)) (more : List Symbol) → implicit_outputs_fault (map WordSymbol words ++ more) ≡ implicit_outputs_fault more
 outputs_pass [] more = refl
 outputs_pass (w ∷ words) more = outputs_pass words more
 
 -- nor has what comes after the output, where it is a part of implicit outputs
-after_output_passes : (before : List Symbol) (words : List (List ℕ)) (more : List Symbol) → IsPart before words → after_output_fault (before ++ SignSymbol Colon ∷ more) ≡ rule_fault more
+pub after_output_passes : (before : List Symbol) (words : List (List ℕ)) (more : List Symbol) → IsPart before words → after_output_fault (before ++ SignSymbol Colon ∷ more) ≡ rule_fault more
 after_output_passes before words more (inl h) = ap (λ b. after_output_fault (b ++ SignSymbol Colon ∷ more)) h.0
-after_output_passes before words more (inr h) = ap (λ b. after_output_fault (b ++ SignSymbol Colon ∷ more)) h ∙ outputs_pass words more
+after_output_passes before words more (inr h) = ap (λ b. after_output_fault (b ++ SignSymbol Colon ∷ more)) h ∙ outputs_pass words (SignSymbol Colon ∷ more)
 
 -- the tokens of a build line that keeps the grammar have no fault
 build_passes : (before after : List Symbol) (o : List ℕ) (os is : List (List ℕ)) → IsPart before os → IsPart after is

@@ -1,150 +1,152 @@
-//! A build line's tokens after its keyword: which may stand where, and the statement that they
-//! name.
-ghost use Rattle.std.specs.Prelude.{◌≡◌, ℕ, List, [], ◌∷◌, map, None, IfOk, OnOk};
+//! A build line's tokens after its keyword, from the left to the right: the statement that they
+//! name, or the fault of the first that may not stand where it does.
+ghost use Rattle.std.specs.Prelude.{◌≡◌, ◌==◌, [], ◌∷◌, codes, IfOk};
+ghost use Rattle.std.specs.List.{list_any};
+ghost use Rattle.ninja_text.specs.Bytes.{dollar};
 ghost use Rattle.ninja_text.specs.Tokens.{value_of};
 ghost use Rattle.ninja_text.specs.TokenViews.{seen_token};
-ghost use Rattle.dyndep_file.specs.Classes.{Symbol, symbol};
+ghost use Rattle.dyndep_file.specs.Classes.{WordSymbol, SignSymbol};
 ghost use Rattle.dyndep_file.specs.Faults.{same_bytes, output_fault, after_output_fault, implicit_outputs_fault, rule_fault, after_rule_fault, implicit_inputs_fault};
 ghost use Rattle.dyndep_file.specs.BuildTokens.{is_word, symbol_of, symbols_left};
-ghost use Rattle.dyndep_file.specs.inner.BuildLines.{position_fault, fault_from, words_before_colon, after_colon, IsNamed};
+ghost use Rattle.dyndep_file.specs.inner.BuildLines.{TakesOr, TakesOutput, TakesOutputs, TakesInputs, TakesWords, IsNamed};
 ghost use Rattle.dyndep_file.specs.inner.Paths.{texts};
 
 use crate::faults::LineFault;
 use crate::statement::Statement;
-use ninja_text::{Token, TokenKind, Words};
+use ninja_text::{Failure, Token, TokenKind, Words};
 use std::alloc::{AllocError, Global};
 
-/// What may come next in a build line, after its keyword.
-#[derive(Clone, Copy, Debug, PartialEq, Eq)]
-pub(crate) enum Position {
-    Output,
-    AfterOutput,
-    ImplicitOutputs,
-    Rule,
-    AfterRule,
-    ImplicitInputs,
+/// The statement that the tokens name.
+pub(crate) fn statement(alloc: Global, words: Words<'_>) -> Result<Statement, Failure<LineFault>>
+    ensures { TakesOr (output_fault (symbols_left words.entry))
+        (λ statement. IsNamed (symbols_left words.entry) statement) result }
+{
+    let mut words = words;
+    let output = output(alloc, &mut words)?;
+    let implicit_outputs = implicit_outputs(alloc, &mut words)?;
+    rule(&mut words)?;
+    let implicit_inputs = implicit_inputs(alloc, words)?;
+    Ok(Statement {
+        output,
+        implicit_outputs,
+        implicit_inputs,
+        restat: false,
+    })
 }
 
-/// The fault of the first token that may not stand where it does, or of the end.
-pub(crate) fn tokens_fault(words: Words<'_>) -> Option<LineFault>
-    ensures { result ≡ output_fault (symbols_left words.entry) }
+/// The explicit output: a word.
+fn output(alloc: Global, words: &mut Words<'_>) -> Result<Vec<u8>, Failure<LineFault>>
+    ensures { TakesOr (output_fault (symbols_left words.old)) (λ output.
+        TakesOutput (symbols_left words.old) output.items (symbols_left words.new)) result }
 {
-    let mut position = Position::Output;
-    for token in words {
-        match after(position, token) {
-            Ok(next) => position = next,
-            Err(fault) => return Some(fault),
-        }
-    }
-    fault_at_end(position)
-}
-
-/// The position after a token, or the token's fault.
-fn after(position: Position, token: Token<'_>) -> Result<Position, LineFault>
-    ensures { (more : List Symbol) →
-        position_fault position (symbol_of (seen_token token.entry) ∷ more)
-        ≡ fault_from result more }
-{
-    match position {
-        Position::Output => at_output(token.kind()),
-        Position::AfterOutput => after_output(token.kind()),
-        Position::ImplicitOutputs => in_implicit_outputs(token.kind()),
-        Position::Rule => at_rule(token),
-        Position::AfterRule => after_rule(token.kind()),
-        Position::ImplicitInputs => in_implicit_inputs(token.kind()),
-    }
-}
-
-/// Before the output: a word is the output.
-fn at_output(kind: TokenKind) -> Result<Position, LineFault>
-    ensures { (bytes : List ℕ) (more : List Symbol) →
-        output_fault (symbol kind bytes ∷ more) ≡ fault_from result more }
-{
-    match kind {
-        TokenKind::Word => Ok(Position::AfterOutput),
+    let Some(token) = words.next() else {
+        return Err(Failure::Fault(LineFault::NoOutput));
+    };
+    match token.kind() {
+        TokenKind::Word => Ok(value(alloc, token)?),
         TokenKind::Bar | TokenKind::Colon | TokenKind::DoubleBar | TokenKind::BarAt => Err(
-            LineFault::NoOutput,
+            Failure::Fault(LineFault::NoOutput),
         ),
     }
 }
 
-/// After the output: `|` begins the implicit outputs, and `:` the rule.
-fn after_output(kind: TokenKind) -> Result<Position, LineFault>
-    ensures { (bytes : List ℕ) (more : List Symbol) →
-        after_output_fault (symbol kind bytes ∷ more) ≡ fault_from result more }
+/// The implicit outputs, which `|` begins, and the `:` before the rule.
+fn implicit_outputs(
+    alloc: Global,
+    words: &mut Words<'_>,
+) -> Result<Vec<Vec<u8>>, Failure<LineFault>>
+    ensures { TakesOr (after_output_fault (symbols_left words.old)) (λ outputs.
+        TakesOutputs (symbols_left words.old) (texts outputs.items) (symbols_left words.new))
+        result }
 {
-    match kind {
-        TokenKind::Word => Err(LineFault::SecondOutput),
-        TokenKind::Bar => Ok(Position::ImplicitOutputs),
-        TokenKind::Colon => Ok(Position::Rule),
-        TokenKind::DoubleBar => Err(LineFault::OrderOnly),
-        TokenKind::BarAt => Err(LineFault::Validation),
-    }
+    let Some(token) = words.next() else {
+        return Err(Failure::Fault(LineFault::BadLine));
+    };
+    let fault = match token.kind() {
+        TokenKind::Bar => return words_to_colon(alloc, words),
+        TokenKind::Colon => return Ok(Vec::new(alloc)),
+        TokenKind::Word => LineFault::SecondOutput,
+        TokenKind::DoubleBar => LineFault::OrderOnly,
+        TokenKind::BarAt => LineFault::Validation,
+    };
+    Err(Failure::Fault(fault))
 }
 
-/// Among the implicit outputs: a word is one more, and `:` begins the rule.
-fn in_implicit_outputs(kind: TokenKind) -> Result<Position, LineFault>
-    ensures { (bytes : List ℕ) (more : List Symbol) →
-        implicit_outputs_fault (symbol kind bytes ∷ more) ≡ fault_from result more }
+/// What the words stand for up to the `:`, which is taken too.
+fn words_to_colon(alloc: Global, words: &mut Words<'_>) -> Result<Vec<Vec<u8>>, Failure<LineFault>>
+    ensures { TakesOr (implicit_outputs_fault (symbols_left words.old)) (λ outputs.
+        TakesWords (symbols_left words.old) (texts outputs.items)
+        (SignSymbol TokenKind.Colon ∷ symbols_left words.new)) result }
 {
-    match kind {
-        TokenKind::Word => Ok(Position::ImplicitOutputs),
-        TokenKind::Bar => Err(LineFault::BadLine),
-        TokenKind::Colon => Ok(Position::Rule),
-        TokenKind::DoubleBar => Err(LineFault::OrderOnly),
-        TokenKind::BarAt => Err(LineFault::Validation),
+    let mut values = Vec::new(alloc);
+    while let Some(token) = words.next() {
+        let fault = match token.kind() {
+            TokenKind::Word => {
+                values.push(value(alloc, token)?)?;
+                continue;
+            }
+            TokenKind::Colon => return Ok(values),
+            TokenKind::Bar => LineFault::BadLine,
+            TokenKind::DoubleBar => LineFault::OrderOnly,
+            TokenKind::BarAt => LineFault::Validation,
+        };
+        return Err(Failure::Fault(fault));
     }
+    Err(Failure::Fault(LineFault::BadLine))
 }
 
-/// At the rule: the keyword `dyndep`.
-fn at_rule(token: Token<'_>) -> Result<Position, LineFault>
-    ensures { (more : List Symbol) →
-        rule_fault (symbol_of (seen_token token.entry) ∷ more) ≡ fault_from result more }
+/// The rule: the keyword `dyndep`.
+fn rule(words: &mut Words<'_>) -> Result<(), Failure<LineFault>>
+    ensures { TakesOr (rule_fault (symbols_left words.old)) (λ _.
+        symbols_left words.old ≡ WordSymbol (codes "dyndep") ∷ symbols_left words.new) result }
 {
-    if is_keyword(token, b"dyndep") {
-        Ok(Position::AfterRule)
-    } else {
-        Err(LineFault::BadRule)
+    let Some(token) = words.next() else {
+        return Err(Failure::Fault(LineFault::BadRule));
+    };
+    if !is_keyword(token, b"dyndep") {
+        return Err(Failure::Fault(LineFault::BadRule));
     }
+    Ok(())
 }
 
-/// After the rule: `|` begins the implicit inputs.
-fn after_rule(kind: TokenKind) -> Result<Position, LineFault>
-    ensures { (bytes : List ℕ) (more : List Symbol) →
-        after_rule_fault (symbol kind bytes ∷ more) ≡ fault_from result more }
+/// The implicit inputs, which `|` begins.
+fn implicit_inputs(alloc: Global, words: Words<'_>) -> Result<Vec<Vec<u8>>, Failure<LineFault>>
+    ensures { TakesOr (after_rule_fault (symbols_left words.entry)) (λ inputs.
+        TakesInputs (symbols_left words.entry) (texts inputs.items)) result }
 {
-    match kind {
-        TokenKind::Word => Err(LineFault::ExplicitInput),
-        TokenKind::Bar => Ok(Position::ImplicitInputs),
-        TokenKind::Colon => Err(LineFault::BadLine),
-        TokenKind::DoubleBar => Err(LineFault::OrderOnly),
-        TokenKind::BarAt => Err(LineFault::Validation),
-    }
+    let mut words = words;
+    let Some(token) = words.next() else {
+        return Ok(Vec::new(alloc));
+    };
+    let fault = match token.kind() {
+        TokenKind::Bar => return words_to_end(alloc, words),
+        TokenKind::Word => LineFault::ExplicitInput,
+        TokenKind::Colon => LineFault::BadLine,
+        TokenKind::DoubleBar => LineFault::OrderOnly,
+        TokenKind::BarAt => LineFault::Validation,
+    };
+    Err(Failure::Fault(fault))
 }
 
-/// Among the implicit inputs: a word is one more.
-fn in_implicit_inputs(kind: TokenKind) -> Result<Position, LineFault>
-    ensures { (bytes : List ℕ) (more : List Symbol) →
-        implicit_inputs_fault (symbol kind bytes ∷ more) ≡ fault_from result more }
+/// What the words stand for up to the end.
+fn words_to_end(alloc: Global, words: Words<'_>) -> Result<Vec<Vec<u8>>, Failure<LineFault>>
+    ensures { TakesOr (implicit_inputs_fault (symbols_left words.entry)) (λ inputs.
+        TakesWords (symbols_left words.entry) (texts inputs.items) []) result }
 {
-    match kind {
-        TokenKind::Word => Ok(Position::ImplicitInputs),
-        TokenKind::Bar | TokenKind::Colon => Err(LineFault::BadLine),
-        TokenKind::DoubleBar => Err(LineFault::OrderOnly),
-        TokenKind::BarAt => Err(LineFault::Validation),
+    let mut values = Vec::new(alloc);
+    for token in words {
+        let fault = match token.kind() {
+            TokenKind::Word => {
+                values.push(value(alloc, token)?)?;
+                continue;
+            }
+            TokenKind::Bar | TokenKind::Colon => LineFault::BadLine,
+            TokenKind::DoubleBar => LineFault::OrderOnly,
+            TokenKind::BarAt => LineFault::Validation,
+        };
+        return Err(Failure::Fault(fault));
     }
-}
-
-/// The fault of a line that ends at a position.
-fn fault_at_end(position: Position) -> Option<LineFault>
-    ensures { result ≡ position_fault position [] }
-{
-    match position {
-        Position::Output => Some(LineFault::NoOutput),
-        Position::AfterOutput | Position::ImplicitOutputs => Some(LineFault::BadLine),
-        Position::Rule => Some(LineFault::BadRule),
-        Position::AfterRule | Position::ImplicitInputs => None,
-    }
+    Ok(values)
 }
 
 /// Whether a token is the word of just these bytes.
@@ -161,49 +163,23 @@ pub(crate) fn is_same(bytes: &[u8], other: &[u8]) -> bool
     bytes == other
 }
 
-/// The statement that the tokens name, which have no fault.
-pub(crate) fn statement_named(alloc: Global, words: Words<'_>) -> Result<Statement, AllocError>
-    requires { output_fault (symbols_left words) ≡ None }
-    ensures { IfOk result (λ s. IsNamed (symbols_left words.entry) s) }
-{
-    let mut words = words;
-    let output = match words.next() {
-        Some(token) => value(alloc, token)?,
-        None => Vec::new(alloc),
-    };
-    let implicit_outputs = values_to_colon(alloc, &mut words)?;
-    words.next();
-    let implicit_inputs = values_to_colon(alloc, &mut words)?;
-    Ok(Statement {
-        output,
-        implicit_outputs,
-        implicit_inputs,
-        restat: false,
-    })
-}
-
-/// The values of the words up to the next `:`, which is passed over, or to the end.
-fn values_to_colon(alloc: Global, words: &mut Words<'_>) -> Result<Vec<Vec<u8>>, AllocError>
-    ensures values { IfOk result (λ values.
-        texts values.items ≡ map value_of (words_before_colon (symbols_left words.old))) }
-    ensures rest { OnOk result (symbols_left words.new ≡ after_colon (symbols_left words.old)) }
-{
-    let mut values = Vec::new(alloc);
-    while let Some(token) = words.next() {
-        match token.kind() {
-            TokenKind::Word => values.push(value(alloc, token)?)?,
-            TokenKind::Colon => return Ok(values),
-            TokenKind::Bar | TokenKind::DoubleBar | TokenKind::BarAt => {}
-        }
-    }
-    Ok(values)
-}
-
-/// What a word stands for.
+/// What a word stands for. One without `$` stands for its own bytes.
 fn value(alloc: Global, token: Token<'_>) -> Result<Vec<u8>, AllocError>
     ensures { IfOk result (λ bytes. bytes.items ≡ value_of (seen_token token.entry).raw) }
 {
-    let mut bytes = Vec::with_capacity(alloc, token.raw().len())?;
-    token.value_into(&mut bytes)?;
+    let raw = token.raw();
+    let mut bytes = Vec::with_capacity(alloc, raw.len())?;
+    if has_dollar(raw) {
+        token.value_into(&mut bytes)?;
+    } else {
+        bytes.extend_from_slice(raw)?;
+    }
     Ok(bytes)
+}
+
+/// Whether a byte is a `$`.
+fn has_dollar(bytes: &[u8]) -> bool
+    ensures { result ≡ list_any (λ b. b == dollar) bytes.now }
+{
+    bytes.iter().any(|b| *b == b'$')
 }

@@ -10,7 +10,7 @@ ghost use Rattle.dyndep_file.specs.BuildTokens.{symbols_left};
 ghost use Rattle.dyndep_file.specs.inner.LineReading.{PassesOr, IsBuildOf, IsBindingOf, IsVersionOf, IsVersionLineOf, with_name};
 ghost use Rattle.dyndep_file.specs.ProgressViews.{progress_value};
 
-use crate::build_line::{is_same, statement_named, tokens_fault};
+use crate::build_line::{is_same, statement};
 use crate::faults::LineFault;
 use crate::statement::Statement;
 use ninja_text::{Assignment, Failure, Words};
@@ -84,10 +84,7 @@ pub(crate) fn build_line(
         Stage::BeforeVersion => return Err(Failure::Fault(LineFault::NoVersion)),
         Stage::NoneOpen | Stage::Open => {}
     }
-    if let Some(fault) = tokens_fault(words) {
-        return Err(Failure::Fault(fault));
-    }
-    let statement = statement_named(alloc, words)?;
+    let statement = statement(alloc, words)?;
     progress.statements.push(statement)?;
     progress.stage = Stage::Open;
     Ok(())

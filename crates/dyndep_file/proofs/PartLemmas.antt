@@ -1,0 +1,113 @@
+-- What reading the parts of a build line, one after another, comes to.
+use Rattle.std.proofs.Common.{inr, ◌≡◌, ℕ, List, [], ◌∷◌, ◌++◌, map, false, Vec, Global, Ok, Err, refl, sym, ap, ◌∙◌, subst, append_assoc}
+use Rattle.std.specs.Prelude.{Option, Result, codes}
+use Rattle.std.specs.Result.{IsErrAnd}
+use Rattle.std.proofs.lemmas.List.{map-append}
+use Rattle.ninja_text.specs.Tokens.{value_of}
+use Rattle.ninja_text.specs.TokenViews.{seen_token, tokens_left}
+use Rattle.ninja_text.specs.declared.failure.Failure.{Failure}
+use Rattle.ninja_text.specs.declared.token.Token.{Token}
+use Rattle.ninja_text.specs.declared.token.TokenKind.{TokenKind}
+use Rattle.ninja_text.specs.declared.token.TokenKind.TheVariants.{Word, Bar, Colon}
+use Rattle.ninja_text.specs.declared.token.Words.{Words}
+use Rattle.dyndep_file.specs.StatementValue.{StatementValue, statement_of}
+use Rattle.dyndep_file.specs.Classes.{Symbol, WordSymbol, SignSymbol, symbol}
+use Rattle.dyndep_file.specs.Faults.{output_fault, after_output_fault, implicit_outputs_fault, rule_fault, after_rule_fault, implicit_inputs_fault}
+use Rattle.dyndep_file.specs.BuildTokens.{symbol_of, symbols_left}
+use Rattle.dyndep_file.specs.inner.BuildLines.{IsNamed, IsFailureOf, TakesOr, TakesOutput, TakesWords, TakesOutputs, TakesInputs}
+use Rattle.dyndep_file.specs.inner.Paths.{texts}
+use Rattle.dyndep_file.specs.declared.faults.LineFault.{LineFault}
+use Rattle.dyndep_file.proofs.TableLemmas.{inputs_pass, outputs_pass, after_output_passes}
+
+-- one more word behind words that were read
+pub takes_more : (old : List Symbol) (values : List (List ℕ)) (word value : List ℕ) (new : List Symbol)
+    → TakesWords old values (WordSymbol word ∷ new) → value ≡ value_of word → TakesWords old (values ++ value ∷ []) new
+takes_more old values word value new t is = record {
+  words = t.words ++ word ∷ [];
+  are = t.are
+      ∙ sym (append_assoc (map WordSymbol t.words) (WordSymbol word ∷ []) new)
+      ∙ ap (λ s. s ++ new) (sym (map-append WordSymbol t.words (word ∷ [])));
+  is = ap (λ vs. vs ++ value ∷ []) t.is
+      ∙ ap (λ v. map value_of t.words ++ v ∷ []) is
+      ∙ sym (map-append value_of t.words (word ∷ []));
+}
+
+-- statements of equal parts are equal
+same_statement : {o p : List ℕ} {os ps is qs : List (List ℕ)} → o ≡ p → os ≡ ps → is ≡ qs
+    → ◌≡◌ {A = StatementValue} (statement_of o os is false) (statement_of p ps qs false)
+same_statement a b c = rw (a, b, c) refl
+
+-- the tokens of a build line, and what is left after the output, the implicit outputs and the rule
+module _ (all : List Symbol) (output : List ℕ) (after_output : List Symbol) (takes_output : TakesOutput all output after_output) where
+  -- the fault after the output is that of all
+  pub fault_after_output : after_output_fault after_output ≡ output_fault all
+  fault_after_output = sym (ap output_fault takes_output.are)
+
+  module _ (outputs : List (List ℕ)) (at_rule : List Symbol) (takes_outputs : TakesOutputs after_output outputs at_rule) where
+    -- so is the fault after the `:`
+    pub fault_at_rule : rule_fault at_rule ≡ output_fault all
+    fault_at_rule = sym (ap after_output_fault takes_outputs.are ∙ after_output_passes takes_outputs.part takes_outputs.words at_rule takes_outputs.is_part) ∙ fault_after_output
+
+    module _ (after_rule : List Symbol) (takes_rule : at_rule ≡ WordSymbol (codes "dyndep") ∷ after_rule) where
+      -- and the fault after the rule
+      pub fault_after_rule : after_rule_fault after_rule ≡ output_fault all
+      fault_after_rule = sym (ap rule_fault takes_rule) ∙ fault_at_rule
+
+      -- the parts are those of the statement that the tokens name
+      pub named : (inputs : List (List ℕ)) → TakesInputs after_rule inputs → IsNamed all (statement_of output outputs inputs false)
+      named inputs takes_inputs = (
+        takes_output.word,
+        takes_outputs.words,
+        takes_inputs.words,
+        record {
+          before = takes_outputs.part;
+          after = after_rule;
+          is_before = takes_outputs.is_part;
+          is_after = takes_inputs.is_part;
+          are = takes_output.are
+              ∙ ap (λ s. WordSymbol takes_output.word ∷ s) (takes_outputs.are ∙ ap (λ s. takes_outputs.part ++ SignSymbol Colon ∷ s) takes_rule);
+        },
+        same_statement takes_output.is takes_outputs.is takes_inputs.is,
+      )
+
+-- the symbols to come begin with that of the token that was taken
+pub next_is : (words new : Words) (token : Token) (kind : TokenKind) → tokens_left words ≡ seen_token token ∷ tokens_left new → kind ≡ token.kind
+    → symbols_left words ≡ symbol kind token.raw.now ∷ symbols_left new
+next_is words new token kind steps is = ap (map symbol_of) steps ∙ ap (λ k. symbol k token.raw.now ∷ symbols_left new) (sym is)
+
+-- one more word's value behind those of the words before it
+pub takes_next : (all : List Symbol) (values new_values : List (Vec ℕ Global)) (value : Vec ℕ Global) (words new : Words) (token : Token)
+    → TakesWords all (texts values) (symbols_left words) → tokens_left words ≡ seen_token token ∷ tokens_left new → Word ≡ token.kind
+    → value.items ≡ value_of token.raw.now → new_values ≡ values ++ value ∷ [] → TakesWords all (texts new_values) (symbols_left new)
+takes_next all values new_values value words new token taken steps is_word is pushed =
+    subst (λ vs. TakesWords all vs (symbols_left new))
+    (sym (ap texts pushed ∙ map-append (λ (v : Vec ℕ Global). v.items) values (value ∷ [])))
+    (takes_more all (texts values) token.raw.now value.items (symbols_left new)
+    (subst (TakesWords all (texts values)) (next_is words new token Word steps is_word) taken) is)
+
+-- the fault behind words among the implicit outputs is that of all
+pub fault_in_outputs : (all : List Symbol) (values : List (List ℕ)) (left : List Symbol) → TakesWords all values left → implicit_outputs_fault all ≡ implicit_outputs_fault left
+fault_in_outputs all values left taken = ap implicit_outputs_fault taken.are ∙ outputs_pass taken.words left
+
+-- the same among the implicit inputs
+pub fault_in_inputs : (all : List Symbol) (values : List (List ℕ)) (left : List Symbol) → TakesWords all values left → implicit_inputs_fault all ≡ implicit_inputs_fault left
+fault_in_inputs all values left taken = ap implicit_inputs_fault taken.are ∙ inputs_pass taken.words left
+
+-- what a reading fails with, another fails with that has the same fault
+pub refuses : {T : Type 0} (fault other : Option LineFault) (is : T → Type 0) (failure : Failure LineFault) (result : Result T (Failure LineFault))
+    → IsErrAnd result (λ e. e ≡ failure) → fault ≡ other → IsFailureOf fault failure → TakesOr other is result
+refuses fault other is failure (Ok value) e same h = absurd e
+refuses fault other is failure (Err reason) e same h = subst (IsFailureOf other) (sym e) (subst (λ f. IsFailureOf f failure) same h)
+
+-- `|`, the words behind it and a `:` are a part of implicit outputs and that `:`
+pub takes_bar : (old between new : List Symbol) (result : Result (Vec (Vec ℕ Global) Global) (Failure LineFault)) → old ≡ SignSymbol Bar ∷ between
+    → TakesOr (implicit_outputs_fault between) (λ outputs. TakesWords between (texts outputs.items) (SignSymbol Colon ∷ new)) result
+    → TakesOr (after_output_fault old) (λ outputs. TakesOutputs old (texts outputs.items) new) result
+takes_bar old between new (Ok outputs) e t = record {
+  part = SignSymbol Bar ∷ map WordSymbol t.words;
+  words = t.words;
+  is_part = inr refl;
+  are = e ∙ ap (λ s. SignSymbol Bar ∷ s) t.are;
+  is = t.is;
+}
+takes_bar old between new (Err failure) e t = subst (λ f. IsFailureOf f failure) (sym (ap after_output_fault e)) t
