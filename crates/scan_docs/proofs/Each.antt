@@ -72,7 +72,7 @@ AllZip-push R (a ∷ xs) (b ∷ ys) x y h r = (h.0, AllZip-push R xs ys x y h.1 
 
 -- i entries have passed their checks and were read
 pub record SoFar {T : Type 0} (checks : ℕ → Data → List Check) (means : Data → T → Type 0) (ds : List Data) (i : ℕ) (found : List T) : Type 0 where
-  pub told : first_failure (each_from checks i (drop i ds)) ≡ first_failure (each_from checks 0 ds)
+  pub reported : first_failure (each_from checks i (drop i ds)) ≡ first_failure (each_from checks 0 ds)
   pub read : AllZip means (take i ds) found
 
 module _ {V D : Type 0} (g : V → D) (vs : List V) where
@@ -91,7 +91,7 @@ module _ {V T : Type 0} (g : V → Data) (checks : ℕ → Data → List Check) 
   pub one_more : (i : ℕ) (v : V) (x : T) (found : List T) → i < length vs → v ≡ get_or vs i v → first_failure (checks i (g v)) ≡ None → means (g v) x
       → SoFar checks means (map g vs) i found → SoFar checks means (map g vs) (i + 1) (found ++ x ∷ [])
   one_more i v x found lt is passes m so_far = record {
-    told = sym (ap (λ ds. first_failure (each_from checks i ds)) (front g vs i v lt is) ∙ failure_after (checks i (g v)) (each_from checks (i + 1) (drop (i + 1) (map g vs))) passes) ∙ so_far.told;
+    reported = sym (ap (λ ds. first_failure (each_from checks i ds)) (front g vs i v lt is) ∙ failure_after (checks i (g v)) (each_from checks (i + 1) (drop (i + 1) (map g vs))) passes) ∙ so_far.reported;
     read = let P : List Data → Type 0 = λ ds. AllZip means ds (found ++ x ∷ []) in
         subst P (sym (last g vs i v lt is)) (AllZip-push means (take i (map g vs)) found (g v) x so_far.read m);
   }
@@ -99,4 +99,4 @@ module _ {V T : Type 0} (g : V → Data) (checks : ℕ → Data → List Check) 
   pub refused_at : (i : ℕ) (v : V) (f : Failure DocFault) (found : List T) → i < length vs → v ≡ get_or vs i v → first_failure (checks i (g v)) ≡ Some f
       → SoFar checks means (map g vs) i found → first_failure (each_from checks 0 (map g vs)) ≡ Some f
   refused_at i v f found lt is stops so_far =
-      sym so_far.told ∙ ap (λ ds. first_failure (each_from checks i ds)) (front g vs i v lt is) ∙ failure_before (checks i (g v)) (each_from checks (i + 1) (drop (i + 1) (map g vs))) f stops
+      sym so_far.reported ∙ ap (λ ds. first_failure (each_from checks i ds)) (front g vs i v lt is) ∙ failure_before (checks i (g v)) (each_from checks (i + 1) (drop (i + 1) (map g vs))) f stops

@@ -96,14 +96,14 @@ visibility_reads false = refl
 module_passes : (v : ModuleValue) (j : ℕ) → IsSoundModule v → first_refusal (module_checks true j (module_tree v)) ≡ None
 unfolding module_checks entry_shape_checks requires_check visibility_check named_file_checks all_requirement_checks module_tree requirements_tree key
 module_passes v j h =
-    rw (visibility_reads v.is_private, h.own.accepted, h.own.canonical, elements_items_of (map requirement_tree v.required))
+    rw (visibility_reads v.is_private, h.named.accepted, h.named.canonical, elements_items_of (map requirement_tree v.required))
     (requirements_pass v.required j 0 (recursion_from_All (λ p. IsSound p.0 p.1) v.required h.required))
 
 module_means : (v : ModuleValue) → IsSoundModule v → IsModuleText v → IsModule true (module_tree v) v
 unfolding module_tree requirements_tree key
 module_means v h w = record {
   name = refl;
-  file = h.own.canonical;
+  file = h.named.canonical;
   is_text = w.file;
   required = rw (elements_items_of (map requirement_tree v.required)) (requirements_mean v.required (recursion_from_All (λ p. IsSound p.0 p.1) v.required h.required) (recursion_from_All (λ p. IsText p.1) v.required w.required));
   visibility = visibility_reads v.is_private;

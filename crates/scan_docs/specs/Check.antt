@@ -31,6 +31,6 @@ abbrev pub path_checks : Place → Result (List ℕ) PathFault → List Check
 path_checks place (Ok path) = []
 path_checks place (Err fault) = (false otherwise BadPath place fault) ∷ []
 
--- the checks of each entry of a list, by its number
+-- the checks of each entry of a list, by its index
 abbrev pub each_from : (ℕ → Data → List Check) → ℕ → List Data → List Check
-each_from checks number ds = flat_map (λ e. checks e.0 e.1) (enumerate_from number ds)
+each_from checks index ds = flat_map (λ e. checks e.0 e.1) (enumerate_from index ds)

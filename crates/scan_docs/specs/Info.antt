@@ -9,7 +9,7 @@ use Rattle.scan_docs.specs.Shape.{text, text_of, entries_of, whole_number}
 use Rattle.scan_docs.specs.Scan.{IsText}
 
 -- a module, its file, the modules that it requires, each with the file that it was found in, and
--- whether the target keeps it to itself
+-- whether it is private
 pub record ModuleValue : Type 0 where
   pub name : List ℕ
   pub file : List ℕ
@@ -27,7 +27,7 @@ pub record InfoValue : Type 0 where
 abbrev pub has_visibility : Data → Bool
 has_visibility d = option_map_or (λ version. version == 2) (whole_number m.Version d) false
 
--- whether this word means private
+-- whether this text means private
 abbrev pub visibility_meaning : List ℕ → Option Bool
 visibility_meaning text =
     if bytes_eq text (codes "private") then Some true

@@ -63,17 +63,17 @@ requirement_checks place d =
 
 -- the entries of a module's `requires`, in order
 unfoldable pub all_requirement_checks : ℕ → List Data → List Check
-all_requirement_checks owner ds =
-    each_from (λ entry d. requirement_checks (place.ModuleRequires owner entry) d) 0 ds
+all_requirement_checks index ds =
+    each_from (λ entry d. requirement_checks (place.ModuleRequires index entry) d) 0 ds
 
 -- all checks of a module
 unfoldable pub module_checks : Bool → ℕ → Data → List Check
-module_checks with_visibility number d =
-    entry_shape_checks (place.Module number) d
-    ++ (requires_check (place.Module number) d
-    ++ (visibility_check with_visibility (place.Module number) d
-    ++ (named_file_checks (place.Module number) (text_of m.Name d) (text_of m.Bmi d)
-    ++ all_requirement_checks number (entries_of m.Requires d))))
+module_checks with_visibility index d =
+    entry_shape_checks (place.Module index) d
+    ++ (requires_check (place.Module index) d
+    ++ (visibility_check with_visibility (place.Module index) d
+    ++ (named_file_checks (place.Module index) (text_of m.Name d) (text_of m.Bmi d)
+    ++ all_requirement_checks index (entries_of m.Requires d))))
 
 -- the modules, in order
 unfoldable pub all_module_checks : Bool → List Data → List Check

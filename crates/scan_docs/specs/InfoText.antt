@@ -22,7 +22,7 @@ requirement_tree pair =
 unfoldable pub requirements_tree : List (List ℕ × List ℕ) → Data
 requirements_tree pairs = array (items_of (map requirement_tree pairs))
 
--- the word for a private module, and for a public one
+-- the text for a private module, and for a public one
 abbrev pub visibility_text : Bool → List ℕ
 visibility_text true = codes "private"
 visibility_text false = codes "public"

@@ -3,7 +3,7 @@ use Rattle.std.specs.Prelude.{ℕ, List, codes}
 use Rattle.scan_docs.specs.declared.member.Member.{Member}
 use Rattle.scan_docs.specs.declared.member.Member.TheVariants as m
 
--- The key of a member, and a word for a value that is no member: the document, a rule, an entry of
+-- The key of a member, and a name for a value that is no member: the document, a rule, an entry of
 -- a list.
 unfoldable pub key : Member → List ℕ
 key m.Document = codes "document"

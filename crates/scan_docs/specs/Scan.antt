@@ -61,7 +61,7 @@ abbrev pub is_method : Option (List ℕ) → Bool
 is_method None = false
 is_method (Some method) = bytes_eq method (codes "by-name") || names_header (Some method)
 
--- an entry of a header unit, which is told by its source path
+-- an entry of a header unit, which its source path identifies
 abbrev pub is_unique_on_source : Data → Bool
 is_unique_on_source entry = unwrap_or (flag m.UniqueOnSourcePath entry) false
 

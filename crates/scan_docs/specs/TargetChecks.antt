@@ -49,7 +49,7 @@ list_checks d =
     ∷ shape_check place.Document m.Linked (fits texts m.Linked d)
     ∷ []
 
--- the modules that the target keeps to itself
+-- the target's private modules
 unfoldable pub kept_checks : Data → List Check
 kept_checks d =
     shape_check place.Document m.Private (fits texts m.Private d)

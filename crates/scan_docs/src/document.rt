@@ -20,7 +20,8 @@ pub const DOCUMENT_LIMIT: usize = 16_777_216;
 /// How deep arrays and objects may nest.
 const DEPTH_LIMIT: usize = 127;
 
-/// The tree that the bytes are read as. It borrows its texts from the bytes, and those with escapes from the scratch.
+/// The tree that the bytes are read as. It borrows its texts from the bytes, and those with escapes
+/// from the scratch.
 pub(crate) fn read_tree<'a>(
     alloc: Global,
     bytes: &'a [u8],

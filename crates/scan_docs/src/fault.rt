@@ -8,7 +8,8 @@ use ninja_text::{Failure, PathFault};
 use std::error::Error;
 use std::fmt;
 
-/// Where in a document a fault is. Rules, modules and entries are numbered from 0.
+/// Where in a document a fault is. Rules, modules and entries have the index that they have in
+/// their list.
 #[derive(Clone, Copy, Debug, PartialEq, Eq)]
 pub enum Place {
     /// The document itself.
@@ -46,12 +47,13 @@ impl fmt::Display for Place {
     }
 }
 
-/// Why a document is refused: the first check of the document that fails. The checks are those of the document's kind, in
-/// the order of its list, and their order has nothing to do with that of the codes.
+/// Why a document is refused: the first check of the document that fails. The checks are those of
+/// the document's kind, in the order of its list, and their order has nothing to do with that of
+/// the codes.
 #[derive(Clone, Copy, Debug, PartialEq, Eq)]
 pub enum DocFault {
-    /// The bytes are not the UTF-8 text of a JSON value (RFC 8259), or of one that `serde_json` reads: it refuses nesting
-    /// deeper than 127 levels and numbers that no float can hold.
+    /// The bytes are not the UTF-8 text of a JSON value (RFC 8259), or of one that `serde_json`
+    /// reads: it refuses nesting deeper than 127 levels and numbers that no float can hold.
     NotJson,
     /// The member `version` is not a whole number that this kind of document may have.
     BadVersion,

@@ -28,8 +28,8 @@ use ninja_text::{Failure, Path};
 use std::alloc::Global;
 use std::marker::Model;
 
-/// A module that a target provides: its file, the modules that it requires, each with the file that it was found in, and
-/// whether the target keeps it to itself.
+/// A module that a target provides: its file, the modules that it requires, each with the file that
+/// it was found in, and whether it is private.
 #[derive(Drop)]
 pub struct InfoModule {
     pub name: Name,
@@ -68,8 +68,8 @@ impl Model for Info {
 
 /// The info of an info document, or the refusal of the first check that fails.
 ///
-/// Versions 1 and 2 are read. In version 1 every module is public, and `visibility` is not looked at. One name may stand
-/// for several modules here.
+/// Versions 1 and 2 are read. In version 1 every module is public, and `visibility` is not looked
+/// at. One name may stand for several modules here.
 pub fn info_read(alloc: Global, bytes: &[u8]) -> Result<Info, Failure<DocFault>>
     ensures accepted { IfOk result (λ info. IsAccepted info_checks IsInfo bytes.now info) }
     ensures refused { IfErr result (ForFault (IsRefused info_checks bytes.now)) }
@@ -132,8 +132,8 @@ fn read_all_modules(
         (λ found. AllZip (IsModule with_visibility) (map view values.now) found.items) result }
 {
     let mut found = Vec::new(alloc);
-    for (number, value) in values.iter().enumerate() {
-        let entry = read_module(alloc, with_visibility, number, value)?;
+    for (index, value) in values.iter().enumerate() {
+        let entry = read_module(alloc, with_visibility, index, value)?;
         found.push(entry)?;
     }
     Ok(found)
@@ -143,18 +143,18 @@ fn read_all_modules(
 fn read_module(
     alloc: Global,
     with_visibility: bool,
-    number: usize,
+    index: usize,
     value: &Value<'_>,
 ) -> Result<InfoModule, Failure<DocFault>>
-    ensures { Answers (module_checks with_visibility number (view value.now))
+    ensures { Answers (module_checks with_visibility index (view value.now))
         (λ found. IsModule with_visibility (view value.now) found) result }
 {
-    let place = Place::Module { number };
+    let place = Place::Module { number: index };
     let (name, path) = read_entry_shape(place, value)?;
     let requirements = read_requires(place, value)?;
     let is_private = read_visibility(with_visibility, place, value)?;
     let (name, file) = read_named_file(alloc, place, name, path)?;
-    let required = read_all_requirements(alloc, number, requirements)?;
+    let required = read_all_requirements(alloc, index, requirements)?;
     Ok(InfoModule {
         name,
         file,
@@ -234,16 +234,16 @@ fn read_path(alloc: Global, place: Place, path: &str) -> Result<Path, Failure<Do
 #[tactic(auto, unfolding(crate::specs::InfoChecks::all_requirement_checks))]
 fn read_all_requirements(
     alloc: Global,
-    owner: usize,
+    index: usize,
     values: &[Value<'_>],
 ) -> Result<Vec<(Name, Path)>, Failure<DocFault>>
-    ensures { Answers (all_requirement_checks owner (map view values.now))
+    ensures { Answers (all_requirement_checks index (map view values.now))
         (λ found. AllZip IsRequirement (map view values.now) found.items) result }
 {
     let mut found = Vec::new(alloc);
     for (entry, value) in values.iter().enumerate() {
         let place = Place::ModuleRequires {
-            number: owner,
+            number: index,
             entry,
         };
         let pair = read_requirement(alloc, place, value)?;

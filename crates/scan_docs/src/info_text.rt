@@ -19,8 +19,9 @@ use std::str;
 
 /// The info as a document of version 2: compact JSON with keys in byte order, and no line end.
 ///
-/// What is written is read as the same info; past 16,777,216 bytes it is refused for its length. Each path has to be
-/// text, as the paths are that a document gives. Want of memory is the only error.
+/// What is written is read as the same info; past 16,777,216 bytes it is refused for its length.
+/// Each path has to be text, as the paths are that a document gives. Want of memory is the only
+/// error.
 pub fn info_write(alloc: Global, info: &Info) -> Result<Vec<u8>, AllocError>
     requires { IsInfoText info.now }
     ensures text { IfOk result (λ text. text.items ≡ info_text info.now) }

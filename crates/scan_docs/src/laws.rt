@@ -11,8 +11,8 @@ ghost use Rattle.scan_docs.specs.Project.{ProjectValue, IsProject};
 ghost use Rattle.scan_docs.specs.ProjectChecks.{project_checks};
 ghost use Rattle.scan_docs.specs.Values.{rules_of, info_of, spec_of, project_of};
 
-/// Whatever the bytes are, as a document of each kind they have one answer at most: one value, or one fault, and never
-/// both.
+/// Whatever the bytes are, as a document of each kind they have one answer at most: one value, or
+/// one fault, and never both.
 pub fn one_answer()
     ensures scan { (setting : SettingValue) (bytes : List ℕ)
         → HasOneAnswer (scan_checks setting) (AreRules setting) bytes }

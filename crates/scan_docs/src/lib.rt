@@ -1,22 +1,24 @@
-//! The documents of a module collator: scan documents of P1689R5, the info and target documents of targets, and the
-//! documents of projects.
+//! The documents of a module collator: scan documents of P1689R5, the info and target documents of
+//! targets, and the documents of projects.
 //!
-//! - [`scan`] reads the rules of a scan document, [`info_read`] what a target tells the targets that link it,
-//!   [`spec_read`] what a target is made of, and [`project_read`] which target documents a project has. Each answers what
-//!   the document means exactly where all checks hold, and else the refusal of the first check that fails. The checks
-//!   stand as lists in `specs/ScanChecks.antt`, `specs/InfoChecks.antt`, `specs/TargetChecks.antt` and
-//!   `specs/ProjectChecks.antt`, the meanings in `specs/Scan.antt`, `specs/Info.antt`, `specs/Target.antt` and
-//!   `specs/Project.antt`; `specs/Document.antt` puts them together. `specs/Values.antt` gives the meaning as a function
-//!   of the bytes.
-//! - [`laws`] proves of all bytes that they have one answer at most, and that the value of an accepted document is that of
-//!   the function.
-//! - [`info_write`] gives the one text of an info (`specs/InfoText.antt`), which is read as the same info.
+//! - [`scan`] reads the rules of a scan document, [`info_read`] what a target tells the targets
+//!   that link it, [`spec_read`] what a target is made of, and [`project_read`] which target
+//!   documents a project has. Each answers what the document means exactly where all checks hold,
+//!   and else the refusal of the first check that fails. The checks stand as lists in
+//!   `specs/ScanChecks.antt`, `specs/InfoChecks.antt`, `specs/TargetChecks.antt` and
+//!   `specs/ProjectChecks.antt`, the meanings in `specs/Scan.antt`, `specs/Info.antt`,
+//!   `specs/Target.antt` and `specs/Project.antt`; `specs/Document.antt` puts them together.
+//!   `specs/Values.antt` gives the meaning as a function of the bytes.
+//! - [`laws`] proves of all bytes that they have one answer at most, and that the value of an
+//!   accepted document is that of the function.
+//! - [`info_write`] gives the one text of an info (`specs/InfoText.antt`), which is read as the
+//!   same info.
 //! - [`Name`] and [`TargetName`] hold texts that are names (`specs/Name.antt`).
-//! - [`DocFault`], [`Place`] and [`Member`] print themselves (`specs/FaultTexts.antt`, `specs/Place.antt`,
-//!   `specs/Member.antt`).
+//! - [`DocFault`], [`Place`] and [`Member`] print themselves (`specs/FaultTexts.antt`,
+//!   `specs/Place.antt`, `specs/Member.antt`).
 //!
-//! It stands on `ninja_text` for paths, on `json` for reading and writing JSON (RFC 8259), on `serde_json` for what a JSON
-//! text means, and on `fast_float` for numbers.
+//! It stands on `ninja_text` for paths, on `json` for reading and writing JSON (RFC 8259), on
+//! `serde_json` for what a JSON text means, and on `fast_float` for numbers.
 #![tactic(auto)]
 
 mod document;

@@ -4,7 +4,8 @@ ghost use Rattle.std.specs.Prelude.{◌≡◌};
 
 use std::fmt;
 
-/// A member of a document's objects, or a value that is no member: the document, a rule, an entry of a list.
+/// A member of a document's objects, or a value that is no member: the document, a rule, an entry
+/// of a list.
 #[derive(Clone, Copy, Debug, PartialEq, Eq)]
 pub enum Member {
     Document,
@@ -42,7 +43,7 @@ pub enum Member {
 impl Member {
     ghost use Rattle.scan_docs.specs.Member.{key};
 
-    /// The member's key in a document, or the word for a value that is no member.
+    /// The member's key in a document, or a name for a value that is no member.
     #[tactic(auto, unfolding(crate::specs::Member::key))]
     pub fn key(self) -> &'static str
         ensures { result.now ≡ key self }

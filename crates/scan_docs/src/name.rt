@@ -15,8 +15,9 @@ pub const NAME_LIMIT: usize = 1024;
 
 /// The name of a module, or of a module's partition: the logical name of P1689R5.
 ///
-/// It has 1 to 1,024 bytes and one `:` at most, no part between the separators `.` and `:` is empty, and no byte is a
-/// control byte, a space, 127 or one of `/ \ " ' = | $`. A contract sees a name as its text.
+/// It has 1 to 1,024 bytes and one `:` at most, no part between the separators `.` and `:` is
+/// empty, and no byte is a control byte, a space, 127 or one of `/ \ " ' = | $`. A contract sees a
+/// name as its text.
 #[derive(Debug, Drop)]
 pub struct Name {
     text: String,
@@ -79,7 +80,7 @@ fn has_few_colons(text: &[u8]) -> bool
     text.iter().filter(|b| **b == b':').count() <= 1
 }
 
-/// Whether no part is empty. `is_empty` is kept of the part that is being read.
+/// Whether no part is empty. `is_empty` speaks of the part that is being read.
 #[tactic(auto, using(crate::proofs::Parts::full_parts))]
 fn has_full_parts(text: &[u8]) -> bool
     ensures { result ≡ list_all is_not_empty (slice_split is_separator text.now) }
@@ -165,7 +166,8 @@ impl PartialOrd for Name {
 
     ghost partial_cmp = { as_partial_cmp (slice_cmp nat_cmp) };
 
-    ghost laws = { partial_order_from_own_ties (Prim.search (comparing, rules)) (Prim.search (comparing, rules)) };
+    ghost laws = { partial_order_from_own_ties
+        (Prim.search (comparing, rules)) (Prim.search (comparing, rules)) };
 
     fn partial_cmp(&self, other: &Name) -> Option<Ordering> {
         Some(self.cmp(other))

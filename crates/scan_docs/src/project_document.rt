@@ -39,8 +39,8 @@ impl Model for ProjectSpec {
 
 /// The target documents of a project, in its order, or the refusal of the first check that fails.
 ///
-/// `version` has to be 1, and `targets` a list of texts, which may be empty. Whether these are files, and which targets
-/// they link, is not looked at.
+/// `version` has to be 1, and `targets` a list of texts, which may be empty. Whether these are
+/// files, and which targets they link, is not looked at.
 pub fn project_read(alloc: Global, bytes: &[u8]) -> Result<ProjectSpec, Failure<DocFault>>
     ensures accepted { IfOk result
         (λ project. IsAccepted project_checks IsProject bytes.now project) }

@@ -24,8 +24,8 @@ use ninja_text::{Failure, Path, place};
 use std::alloc::{AllocError, Global};
 use std::marker::Model;
 
-/// A rule of a scan document: an object file, the modules that its source provides, each with its file, and the names
-/// of the modules that it requires, both in the order of the document.
+/// A rule of a scan document: an object file, the modules that its source provides, each with its
+/// file, and the names of the modules that it requires, both in the order of the document.
 #[derive(Drop)]
 pub struct Rule {
     pub object: Path,

@@ -25,11 +25,13 @@ use std::alloc::Global;
 /// The most rules of a document, and entries of one of a rule's lists.
 pub const COUNT_LIMIT: usize = 65536;
 
-/// The rules of a scan document (P1689R5), in its order, or the refusal of the first check that fails.
+/// The rules of a scan document (P1689R5), in its order, or the refusal of the first check that
+/// fails.
 ///
-/// `version` has to be 0, which some producers write, or 1. A rule's object file and the named files of its modules are
-/// placed with the rule's work directory; a module's file that is not named is made of the setting and the name. Members
-/// that are not asked for may hold anything, among them `revision`, `outputs` and every `source-path`.
+/// `version` has to be 0, which some producers write, or 1. A rule's object file and the named
+/// files of its modules are placed with the rule's work directory; a module's file that is not
+/// named is made of the setting and the name. Other members may hold anything, among them
+/// `revision`, `outputs` and every `source-path`.
 pub fn scan(alloc: Global, bytes: &[u8], setting: &Setting) -> Result<Vec<Rule>, Failure<DocFault>>
     ensures accepted { IfOk result
         (λ rules.
@@ -91,8 +93,8 @@ fn read_all_rules(
         (λ found. AllZip (IsRule setting.now) (map view rules.now) found.items) result }
 {
     let mut found = Vec::new(alloc);
-    for (number, value) in rules.iter().enumerate() {
-        let rule = read_rule(alloc, setting, number, value)?;
+    for (index, value) in rules.iter().enumerate() {
+        let rule = read_rule(alloc, setting, index, value)?;
         found.push(rule)?;
     }
     Ok(found)

@@ -3,7 +3,8 @@
 use ninja_text::Path;
 use std::marker::Model;
 
-/// Where a target's modules are compiled to, and the directory that Ninja runs in, which is absolute.
+/// Where a target's modules are compiled to, and the directory that Ninja runs in, which is
+/// absolute.
 #[derive(Drop)]
 pub struct Setting {
     pub module_dir: String,

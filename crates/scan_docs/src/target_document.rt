@@ -29,8 +29,8 @@ use ninja_text::{Failure, Path, place};
 use std::alloc::{AllocError, Global};
 use std::marker::Model;
 
-/// The members of a target document. Texts stand as they are in the document; only the build directory, which is
-/// absolute, is made canonical.
+/// The members of a target document. Texts stand as they are in the document; only the build
+/// directory, which is absolute, is made canonical.
 #[derive(Drop)]
 pub struct TargetSpec {
     pub target: TargetName,
@@ -50,7 +50,7 @@ pub struct TargetSpec {
     pub dyndep: String,
     /// The info document to be written.
     pub info: String,
-    /// The form of the module maps, where maps are wanted.
+    /// The form of the module maps, if maps are to be written.
     pub map: Option<MapForm>,
     /// The listing of edges to be checked against, if there is one.
     pub edges: Option<String>,
@@ -102,7 +102,7 @@ fn read_spec(alloc: Global, tree: &Value<'_>) -> Result<TargetSpec, Failure<DocF
     let target = read_target_name(alloc, tree)?;
     let (module_dir, module_ext, build_dir) = read_directories(alloc, tree)?;
     let (scans, linked) = read_lists(alloc, tree)?;
-    let kept = read_kept(alloc, tree)?;
+    let kept = read_private(alloc, tree)?;
     let dyndep = read_dyndep(alloc, tree, build_dir.as_ref())?;
     let (info, map, edges) = read_files(alloc, tree)?;
     Ok(TargetSpec {
@@ -207,7 +207,7 @@ fn read_lists(
 }
 
 #[tactic(auto, unfolding(crate::specs::TargetChecks::kept_checks))]
-fn read_kept(alloc: Global, tree: &Value<'_>) -> Result<Vec<Name>, Failure<DocFault>>
+fn read_private(alloc: Global, tree: &Value<'_>) -> Result<Vec<Name>, Failure<DocFault>>
     ensures { Answers (kept_checks (view tree.now))
         (λ found. texts_of m.Private (view tree.now) ≡ found.items) result }
 {

@@ -11,7 +11,8 @@ use std::cmp::Ordering;
 use std::hash::{Hash, Hasher};
 use std::marker::Model;
 
-/// The name of a target: 1 to 1,024 bytes, none of them a control byte or 127. A contract sees it as its text.
+/// The name of a target: 1 to 1,024 bytes, none of them a control byte or 127. A contract sees it
+/// as its text.
 #[derive(Debug, Drop)]
 pub struct TargetName {
     text: String,
@@ -120,7 +121,8 @@ impl PartialOrd for TargetName {
 
     ghost partial_cmp = { as_partial_cmp (slice_cmp nat_cmp) };
 
-    ghost laws = { partial_order_from_own_ties (Prim.search (comparing, rules)) (Prim.search (comparing, rules)) };
+    ghost laws = { partial_order_from_own_ties
+        (Prim.search (comparing, rules)) (Prim.search (comparing, rules)) };
 
     fn partial_cmp(&self, other: &TargetName) -> Option<Ordering> {
         Some(self.cmp(other))

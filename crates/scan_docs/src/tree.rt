@@ -1,7 +1,8 @@
 //! Looking into a document's tree, which a value of `json` holds.
 //!
-//! The value borrows its texts. It keeps a number as its text, and a key that comes twice as two members, of which the last
-//! one counts. The clauses speak of the tree as `serde_json` defines it (`specs/Tree.antt`).
+//! The value borrows its texts. It keeps a number as its text, and a key that comes twice as two
+//! members, of which the last one counts. The clauses speak of the tree as `serde_json` defines it
+//! (`specs/Tree.antt`).
 
 ghost use Rattle.std.specs.Prelude.{◌≡◌, ◌&&◌, map, Some, option_map, option_and_then, is_some};
 ghost use Rattle.json.specs.Find.{as_array as array_of};

@@ -12,7 +12,7 @@ pub record IsSound (name : List ℕ) (path : List ℕ) : Type 0 where
 
 -- so are those of a module
 pub record IsSoundModule (entry : ModuleValue) : Type 0 where
-  pub own : IsSound entry.name entry.file
+  pub named : IsSound entry.name entry.file
   pub required : All (λ pair. IsSound pair.0 pair.1) entry.required
 
 -- so are those of an info, and the target's name

@@ -10,8 +10,8 @@ pub returns-in_err-entry : goal.returns-in_err-entry
 unfolding all_module_checks
 returns-in_err-entry c =
     let p = err_from_is_err_and c.from_residual.result c.from_residual.ensures.1 in
-    rw (p.1, p.2) (λ ne. refused_at view (module_checks c.args.with_visibility) (IsModule c.args.with_visibility) c.args.values.now c.loop-number.number c.index-values-number.result _ c.loop-number.found.items c.loop-number-test.true c.index-values-number.is (c.in_err-entry.ensures ne) c.loop-number.invariant)
+    rw (p.1, p.2) (λ ne. refused_at view (module_checks c.args.with_visibility) (IsModule c.args.with_visibility) c.args.values.now c.loop-index.index c.index-values-index.result _ c.loop-index.found.items c.loop-index-test.true c.index-values-index.is (c.in_err-entry.ensures ne) c.loop-index.invariant)
 
-pub loop-number-preserved : goal.loop-number-preserved
-loop-number-preserved c =
-    rw c.in_ok-push.ensures.items (one_more view (module_checks c.args.with_visibility) (IsModule c.args.with_visibility) c.args.values.now c.loop-number.number c.index-values-number.result c.in_ok-entry.entry c.loop-number.found.items c.loop-number-test.true c.index-values-number.is c.in_ok-entry.ensures.0 c.in_ok-entry.ensures.1 c.loop-number.invariant)
+pub loop-index-preserved : goal.loop-index-preserved
+loop-index-preserved c =
+    rw c.in_ok-push.ensures.items (one_more view (module_checks c.args.with_visibility) (IsModule c.args.with_visibility) c.args.values.now c.loop-index.index c.index-values-index.result c.in_ok-entry.entry c.loop-index.found.items c.loop-index-test.true c.index-values-index.is c.in_ok-entry.ensures.0 c.in_ok-entry.ensures.1 c.loop-index.invariant)

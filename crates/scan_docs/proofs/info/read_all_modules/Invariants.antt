@@ -5,5 +5,5 @@ use Rattle.scan_docs.specs.InfoChecks.{module_checks}
 use Rattle.scan_docs.proofs.Each.{SoFar}
 use Rattle.scan_docs.proofs.info.read_all_modules.Given as goal
 
-abbrev pub invariant-loop-number : goal.invariant-loop-number
-invariant-loop-number l = SoFar (module_checks l.with_visibility) (IsModule l.with_visibility) (map view l.values) l.number l.found.items
+abbrev pub invariant-loop-index : goal.invariant-loop-index
+invariant-loop-index l = SoFar (module_checks l.with_visibility) (IsModule l.with_visibility) (map view l.values) l.index l.found.items
