@@ -131,7 +131,7 @@ fn read_all_modules(
     ensures { Answers (all_module_checks with_visibility (map view values.now))
         (λ found. AllZip (IsModule with_visibility) (map view values.now) found.items) result }
 {
-    let mut found = Vec::new(alloc);
+    let mut found = Vec::with_capacity(alloc, values.len())?;
     for (index, value) in values.iter().enumerate() {
         let entry = read_module(alloc, with_visibility, index, value)?;
         found.push(entry)?;
@@ -240,7 +240,7 @@ fn read_all_requirements(
     ensures { Answers (all_requirement_checks index (map view values.now))
         (λ found. AllZip IsRequirement (map view values.now) found.items) result }
 {
-    let mut found = Vec::new(alloc);
+    let mut found = Vec::with_capacity(alloc, values.len())?;
     for (entry, value) in values.iter().enumerate() {
         let place = Place::ModuleRequires {
             number: index,

@@ -150,7 +150,7 @@ fn read_all_provided(
         (λ found. AllZip (IsProvided setting.now (option_copied work.entry))
         (map view entries.now) found.items) result }
 {
-    let mut found = Vec::new(alloc);
+    let mut found = Vec::with_capacity(alloc, entries.len())?;
     for (entry, value) in entries.iter().enumerate() {
         let place = Place::Provides { rule, entry };
         let pair = read_provided(alloc, setting, work, place, value)?;
@@ -199,7 +199,7 @@ fn read_all_required(
     ensures { Answers (all_required_checks rule (map view entries.now))
         (λ found. AllZip IsRequired (map view entries.now) found.items) result }
 {
-    let mut found = Vec::new(alloc);
+    let mut found = Vec::with_capacity(alloc, entries.len())?;
     for (entry, value) in entries.iter().enumerate() {
         let place = Place::Requires { rule, entry };
         let name = read_required(alloc, place, value)?;
@@ -283,7 +283,11 @@ fn joined_file(
     ensures { IfOk result
         (λ path. path.items ≡ joined_file module_dir.now name.now module_ext.now) }
 {
-    let mut path = Vec::new(alloc);
+    let room = module_dir
+        .len()
+        .saturating_add(name.len())
+        .saturating_add(module_ext.len());
+    let mut path = Vec::with_capacity(alloc, room.saturating_add(1))?;
     if !module_dir.is_empty() {
         path.extend_from_slice(module_dir.as_bytes())?;
         path.push(b'/')?;

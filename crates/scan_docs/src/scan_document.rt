@@ -92,7 +92,7 @@ fn read_all_rules(
     ensures { Answers (all_rule_checks setting.now (map view rules.now))
         (λ found. AllZip (IsRule setting.now) (map view rules.now) found.items) result }
 {
-    let mut found = Vec::new(alloc);
+    let mut found = Vec::with_capacity(alloc, rules.len())?;
     for (index, value) in rules.iter().enumerate() {
         let rule = read_rule(alloc, setting, index, value)?;
         found.push(rule)?;

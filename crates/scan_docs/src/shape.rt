@@ -167,7 +167,7 @@ fn copy_texts(alloc: Global, values: &[Value<'_>]) -> Result<Option<Vec<String>>
         (λ found. option_map (λ v. map string_bytes v.items) found
         ≡ all_texts (map view values.now)) }
 {
-    let mut found = Vec::new(alloc);
+    let mut found = Vec::with_capacity(alloc, values.len())?;
     for value in values {
         let Some(text) = tree::as_str(value) else {
             return Ok(None);

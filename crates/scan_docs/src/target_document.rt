@@ -221,7 +221,7 @@ fn read_names(alloc: Global, texts: &[String]) -> Result<Vec<Name>, Failure<DocF
         (list_all is_name (map string_bytes texts.now) otherwise DocFault.BadName Place.Document)
         (λ found. map string_bytes texts.now ≡ found.items) result }
 {
-    let mut names = Vec::new(alloc);
+    let mut names = Vec::with_capacity(alloc, texts.len())?;
     for text in texts {
         let name = read_name(alloc, text.as_str(), Place::Document)?;
         names.push(name)?;

@@ -9,7 +9,7 @@ use Rattle.scan_docs.proofs.info.read_all_modules.Goals as goal
 pub returns-in_err-entry : goal.returns-in_err-entry
 unfolding all_module_checks
 returns-in_err-entry c =
-    let p = err_from_is_err_and c.from_residual.result c.from_residual.ensures.1 in
+    let p = err_from_is_err_and c.from_residual-in_err-entry.result c.from_residual-in_err-entry.ensures.1 in
     rw (p.1, p.2) (λ ne. refused_at view (module_checks c.args.with_visibility) (IsModule c.args.with_visibility) c.args.values.now c.loop-index.index c.index-values-index.result _ c.loop-index.found.items c.loop-index-test.true c.index-values-index.is (c.in_err-entry.ensures ne) c.loop-index.invariant)
 
 pub loop-index-preserved : goal.loop-index-preserved

@@ -10,7 +10,7 @@ use Rattle.scan_docs.proofs.info.read_all_requirements.Goals as goal
 pub returns-in_err-pair : goal.returns-in_err-pair
 unfolding all_requirement_checks
 returns-in_err-pair c =
-    let p = err_from_is_err_and c.from_residual.result c.from_residual.ensures.1 in
+    let p = err_from_is_err_and c.from_residual-in_err-pair.result c.from_residual-in_err-pair.ensures.1 in
     rw (p.1, p.2) (λ ne. refused_at view (λ entry d. requirement_checks (place.ModuleRequires c.args.index entry) d) IsRequirement c.args.values.now c.loop-entry.entry c.index-values-entry.result _ c.loop-entry.found.items c.loop-entry-test.true c.index-values-entry.is (c.in_err-pair.ensures ne) c.loop-entry.invariant)
 
 pub loop-entry-preserved : goal.loop-entry-preserved

@@ -11,7 +11,7 @@ use Rattle.scan_docs.proofs.rule.read_all_provided.Goals as goal
 pub returns-in_err-pair : goal.returns-in_err-pair
 unfolding all_provided_checks
 returns-in_err-pair c =
-    let p = err_from_is_err_and c.from_residual.result c.from_residual.ensures.1 in
+    let p = err_from_is_err_and c.from_residual-in_err-pair.result c.from_residual-in_err-pair.ensures.1 in
     rw (p.1, p.2) (λ ne. refused_at view (λ entry d. provided_checks c.args.setting.now (option_copied c.args.work) (place.Provides c.args.rule entry) d) (IsProvided c.args.setting.now (option_copied c.args.work)) c.args.entries.now c.loop-entry.entry c.index-entries-entry.result _ c.loop-entry.found.items c.loop-entry-test.true c.index-entries-entry.is (c.in_err-pair.ensures ne) c.loop-entry.invariant)
 
 pub loop-entry-preserved : goal.loop-entry-preserved

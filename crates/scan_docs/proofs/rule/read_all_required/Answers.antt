@@ -10,7 +10,7 @@ use Rattle.scan_docs.proofs.rule.read_all_required.Goals as goal
 pub returns-in_err-name : goal.returns-in_err-name
 unfolding all_required_checks
 returns-in_err-name c =
-    let p = err_from_is_err_and c.from_residual.result c.from_residual.ensures.1 in
+    let p = err_from_is_err_and c.from_residual-in_err-name.result c.from_residual-in_err-name.ensures.1 in
     rw (p.1, p.2) (λ ne. refused_at view (λ entry d. required_checks (place.Requires c.args.rule entry) d) IsRequired c.args.entries.now c.loop-entry.entry c.index-entries-entry.result _ c.loop-entry.found.items c.loop-entry-test.true c.index-entries-entry.is (c.in_err-name.ensures ne) c.loop-entry.invariant)
 
 pub loop-entry-preserved : goal.loop-entry-preserved

@@ -6,7 +6,7 @@ use Rattle.scan_docs.proofs.target_document.read_names.Goals as goal
 
 pub returns-in_err-name : goal.returns-in_err-name
 returns-in_err-name c =
-    let p = err_from_is_err_and c.from_residual.result c.from_residual.ensures.1 in
+    let p = err_from_is_err_and c.from_residual-in_err-name.result c.from_residual-in_err-name.ensures.1 in
     rw (p.1, p.2) (λ ne.
     let h = c.in_err-name.ensures ne in
     (fails string_bytes is_name c.args.texts.now c.loop-text.text-index c.text-item.result c.loop-text-test.true c.text-item.is (ap is_name (sym c.as_str.ensures.value) ∙ h.0) c.loop-text.invariant.rest, h.1))
