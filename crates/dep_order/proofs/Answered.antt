@@ -10,15 +10,16 @@ use Rattle.std.proofs.lemmas.Map.Steps.{length-le_from_distinct_below, le-length
 use Rattle.dep_order.specs.Needs.{needs_of, NodeNeeds, NeedsAreNodes, IsOrderable, IsChain}
 use Rattle.dep_order.specs.Orders.{IsLeastOrder}
 use Rattle.dep_order.specs.Cycles.{IsCycle, IsLeastCycle, first_of}
-use Rattle.dep_order.specs.Placing.{IsPlacing}
-use Rattle.dep_order.specs.Users.{AreUsers}
-use Rattle.dep_order.specs.Steps.{AreSteps, LeadsBack, IsFewest, IsLeastFrom}
-use Rattle.dep_order.specs.Marks.{mark_of}
+use Rattle.dep_order.specs.inner.Ordering.{AreOrdered}
+use Rattle.dep_order.specs.inner.Users.{AreUsers}
+use Rattle.dep_order.specs.inner.Steps.{AreSteps, LeadsBack, IsFewest}
+use Rattle.dep_order.specs.inner.CyclesFrom.{HasCycle, IsLeastFrom, NoneFrom}
+use Rattle.dep_order.specs.inner.Marks.{mark_of}
 use Rattle.dep_order.proofs.Members.{has_none, has_or_not, has_from_any, any_from_has, count_from_has, has_from_count}
 use Rattle.dep_order.proofs.Chains.{rotated}
 use Rattle.dep_order.proofs.Orders.{AreWithin, orderable, next_on_cycle}
-use Rattle.dep_order.proofs.Placings.{differ, not_more, placed_below}
-use Rattle.dep_order.proofs.Stuck.{IsStuck, HasCycle, not_orderable, has_cycle}
+use Rattle.dep_order.proofs.Orderings.{differ, not_more, ordered_below}
+use Rattle.dep_order.proofs.Stuck.{IsStuck, not_orderable, has_cycle}
 use Rattle.dep_order.proofs.Searches.{none_is_no_some}
 use Rattle.dep_order.proofs.Greedy.{chain_steps}
 
@@ -43,61 +44,61 @@ users_are_nodes needs users u nodes k d lt i e lt' =
     let has : NodeNeeds users k (get_or (get_or users k d) i e) = subst (λ xs. Contains xs (get_or (get_or users k d) i e)) row (Contains-get_or (get_or users k d) i e lt') in
     omega (arith, u.each, (within needs nodes (get_or (get_or users k d) i e) k (uses needs users u k (get_or (get_or users k d) i e) has)).0)
 
--- all are placed
-pub all_placed : (needs : List (List ℕ)) (placed : List ℕ) → NeedsAreNodes needs → length placed ≡ length needs → IsPlacing needs placed → IsOrderable (length needs) (NodeNeeds needs) × IsLeastOrder (length needs) (NodeNeeds needs) placed
-all_placed needs placed nodes e h =
-    let least : IsLeastOrder (length needs) (NodeNeeds needs) placed = record { as_many = e; all = all; each = h.each } in
-    (orderable (length needs) (NodeNeeds needs) placed (within needs nodes) least, least)
+-- all are ordered
+pub all_ordered : (needs : List (List ℕ)) (ordered : List ℕ) → NeedsAreNodes needs → length ordered ≡ length needs → AreOrdered needs ordered → IsOrderable (length needs) (NodeNeeds needs) × IsLeastOrder (length needs) (NodeNeeds needs) ordered
+all_ordered needs ordered nodes e h =
+    let least : IsLeastOrder (length needs) (NodeNeeds needs) ordered = record { as_many = e; all = all; each = h.each } in
+    (orderable (length needs) (NodeNeeds needs) ordered (within needs nodes) least, least)
   where
-    all : (thing : ℕ) → thing < length needs → Contains placed thing
+    all : (thing : ℕ) → thing < length needs → Contains ordered thing
     all thing lt =
         ⊎_elim
         (λ has. has)
         (λ lacks. absurd (omega (
           arith,
           e,
-          length_push placed thing,
-          length-le_from_distinct_below (placed ++ thing ∷ []) (length needs)
-              (IsDistinct-push nat_eq_equiv placed thing (differ (length needs) (NodeNeeds needs) placed h.each) (false_from_ne_true _ (λ a. lacks (has_from_any placed thing a))))
-              (λ q a. ⊎_elim (λ m. placed_below (length needs) (NodeNeeds needs) placed h.each q m) (λ last. subst (λ x. x < length needs) last lt) (Contains-push_cases placed thing q (has_from_any (placed ++ thing ∷ []) q a))),
+          length_push ordered thing,
+          length-le_from_distinct_below (ordered ++ thing ∷ []) (length needs)
+              (IsDistinct-push nat_eq_equiv ordered thing (differ (length needs) (NodeNeeds needs) ordered h.each) (false_from_ne_true _ (λ a. lacks (has_from_any ordered thing a))))
+              (λ q a. ⊎_elim (λ m. ordered_below (length needs) (NodeNeeds needs) ordered h.each q m) (λ last. subst (λ x. x < length needs) last lt) (Contains-push_cases ordered thing q (has_from_any (ordered ++ thing ∷ []) q a))),
         )))
-        (has_or_not placed thing)
+        (has_or_not ordered thing)
 
 -- the nodes that are left
 abbrev pub IsLeft : List (List ℕ) → List ℕ → ℕ → Type 0
-IsLeft needs placed node = (node < length needs) × (¬ Contains placed node)
+IsLeft needs ordered node = (node < length needs) × (¬ Contains ordered node)
 
-stuck : (needs : List (List ℕ)) (placed : List ℕ) → NeedsAreNodes needs → IsPlacing needs placed → IsStuck (IsLeft needs placed) (NodeNeeds needs)
-stuck needs placed nodes h thing left =
+stuck : (needs : List (List ℕ)) (ordered : List ℕ) → NeedsAreNodes needs → AreOrdered needs ordered → IsStuck (IsLeft needs ordered) (NodeNeeds needs)
+stuck needs ordered nodes h thing left =
     let next = h.no_more_ready thing left.0 left.1 in
     (next.0, next.1, ((within needs nodes thing next.0 next.1).1, next.2))
 
--- some node below is left, or all are placed
-pub some_left : (needs : List (List ℕ)) (placed : List ℕ) (k : ℕ) → k ≤ length needs → ((node : ℕ) × IsLeft needs placed node) ⊎ ((node : ℕ) → node < k → Contains placed node)
-some_left needs placed zero le = inr (λ node lt. absurd (omega (arith, lt)))
-some_left needs placed (suc k) le =
+-- some node below is left, or all are ordered
+pub some_left : (needs : List (List ℕ)) (ordered : List ℕ) (k : ℕ) → k ≤ length needs → ((node : ℕ) × IsLeft needs ordered node) ⊎ ((node : ℕ) → node < k → Contains ordered node)
+some_left needs ordered zero le = inr (λ node lt. absurd (omega (arith, lt)))
+some_left needs ordered (suc k) le =
     ⊎_elim
     (λ left. inl left)
     (λ all. ⊎_elim
-    (λ has. inr (λ node lt. ⊎_elim (λ below. all node below) (λ ge. let e : k ≡ node = omega (arith, lt, ge) in subst (Contains placed) e has) (cases_lt node k)))
+    (λ has. inr (λ node lt. ⊎_elim (λ below. all node below) (λ ge. let e : k ≡ node = omega (arith, lt, ge) in subst (Contains ordered) e has) (cases_lt node k)))
     (λ lacks. inl (k, (omega (arith, le), lacks)))
-    (has_or_not placed k))
-    (some_left needs placed k (omega (arith, le)))
+    (has_or_not ordered k))
+    (some_left needs ordered k (omega (arith, le)))
 
--- where not all are placed, some node is left
-pub one_left : (needs : List (List ℕ)) (placed : List ℕ) → length placed ≢ length needs → IsPlacing needs placed → (node : ℕ) × IsLeft needs placed node
-one_left needs placed ne h =
+-- where not all are ordered, some node is left
+pub one_left : (needs : List (List ℕ)) (ordered : List ℕ) → length ordered ≢ length needs → AreOrdered needs ordered → (node : ℕ) × IsLeft needs ordered node
+one_left needs ordered ne h =
     ⊎_elim
     (λ left. left)
-    (λ all. absurd (ne (let e : length placed ≡ length needs = omega (arith, not_more (length needs) (NodeNeeds needs) placed h.each, le-length_from_below placed (length needs) (λ q lt. any_from_has placed q (all q lt))) in e)))
-    (some_left needs placed (length needs) (omega arith))
+    (λ all. absurd (ne (let e : length ordered ≡ length needs = omega (arith, not_more (length needs) (NodeNeeds needs) ordered h.each, le-length_from_below ordered (length needs) (λ q lt. any_from_has ordered q (all q lt))) in e)))
+    (some_left needs ordered (length needs) (omega arith))
 
--- where not all are placed, there is no numbering, and there is a cycle
-pub not_all_placed : (needs : List (List ℕ)) (placed : List ℕ) → NeedsAreNodes needs → length placed ≢ length needs → IsPlacing needs placed → (¬ IsOrderable (length needs) (NodeNeeds needs)) × HasCycle (NodeNeeds needs)
-not_all_placed needs placed nodes ne h =
-    let left = one_left needs placed ne h in (
-      not_orderable (length needs) (IsLeft needs placed) (NodeNeeds needs) left.0 (stuck needs placed nodes h) left.1,
-      has_cycle (length needs) (IsLeft needs placed) (NodeNeeds needs) left.0 (λ x l. l.0) (stuck needs placed nodes h) left.1,
+-- where not all are ordered, there is no numbering, and there is a cycle
+pub not_all_ordered : (needs : List (List ℕ)) (ordered : List ℕ) → NeedsAreNodes needs → length ordered ≢ length needs → AreOrdered needs ordered → (¬ IsOrderable (length needs) (NodeNeeds needs)) × HasCycle (NodeNeeds needs)
+not_all_ordered needs ordered nodes ne h =
+    let left = one_left needs ordered ne h in (
+      not_orderable (length needs) (IsLeft needs ordered) (NodeNeeds needs) left.0 (stuck needs ordered nodes h) left.1,
+      has_cycle (length needs) (IsLeft needs ordered) (NodeNeeds needs) left.0 (λ x l. l.0) (stuck needs ordered nodes h) left.1,
     )
 
 -- steps along users are steps back along needs
@@ -111,7 +112,7 @@ steps_back needs users count first steps u s = record {
 }
 
 -- no cycle begins with a thing that steps never lead back to
-pub no_way_back : (count : ℕ) (graph : List (List ℕ)) (first : ℕ) (steps : List (Option ℕ)) → AreSteps count (LeadsBack (NodeNeeds graph)) first steps → IsFewest (needs_of graph first) steps None → (other : List ℕ) → IsCycle (NodeNeeds graph) other → first_of other ≡ first → ⊥
+pub no_way_back : (count : ℕ) (graph : List (List ℕ)) (first : ℕ) (steps : List (Option ℕ)) → AreSteps count (LeadsBack (NodeNeeds graph)) first steps → IsFewest (needs_of graph first) steps None → NoneFrom (NodeNeeds graph) first
 no_way_back count graph first steps s f [] h e = h
 no_way_back count graph first steps s f (x ∷ []) h e = none_is_no_some (mark_of steps first) 0 (f first (subst (λ z. NodeNeeds graph z z) e h)) s.start
 no_way_back count graph first steps s f (x ∷ next ∷ others) h e =
@@ -141,12 +142,12 @@ first_in_range graph [] nodes h = absurd h
 first_in_range graph (first ∷ others) nodes h = let next = next_on_cycle (NodeNeeds graph) first others h in (within graph nodes first next.0 next.1).0
 
 -- no cycle begins with the node
-pub none_from : (Needs : ℕ → ℕ → Type 0) (first : ℕ) → ((cycle : List ℕ) → IsCycle Needs cycle → first_of cycle ≡ first → ⊥) → ((cycle : List ℕ) → IsCycle Needs cycle → first ≤ first_of cycle) → (cycle : List ℕ) → IsCycle Needs cycle → first + 1 ≤ first_of cycle
+pub none_from : (Needs : ℕ → ℕ → Type 0) (first : ℕ) → NoneFrom Needs first → ((cycle : List ℕ) → IsCycle Needs cycle → first ≤ first_of cycle) → (cycle : List ℕ) → IsCycle Needs cycle → first + 1 ≤ first_of cycle
 none_from Needs first none below cycle h =
     ⊎_elim (λ same. absurd (none cycle h same)) (λ ne. omega (arith, ne, below cycle h)) (cases_eq (first_of cycle) first)
 
 -- no cycle begins with what needs nothing
-pub none_without_needs : (graph : List (List ℕ)) (node : ℕ) → needs_of graph node ≡ [] → (cycle : List ℕ) → IsCycle (NodeNeeds graph) cycle → first_of cycle ≡ node → ⊥
+pub none_without_needs : (graph : List (List ℕ)) (node : ℕ) → needs_of graph node ≡ [] → NoneFrom (NodeNeeds graph) node
 none_without_needs graph node e [] h begins = h
 none_without_needs graph node e (first ∷ others) h begins =
     let next = next_on_cycle (NodeNeeds graph) first others h in
@@ -158,7 +159,7 @@ last_of_chain Needs x [] end h = (x, h)
 last_of_chain Needs x (next ∷ xs) end h = last_of_chain Needs next xs end h.1
 
 -- no cycle begins with what nothing needs
-pub none_without_users : (needs users : List (List ℕ)) (node : ℕ) → AreUsers needs users → needs_of users node ≡ [] → (cycle : List ℕ) → IsCycle (NodeNeeds needs) cycle → first_of cycle ≡ node → ⊥
+pub none_without_users : (needs users : List (List ℕ)) (node : ℕ) → AreUsers needs users → needs_of users node ≡ [] → NoneFrom (NodeNeeds needs) node
 none_without_users needs users node u e [] h begins = h
 none_without_users needs users node u e (first ∷ others) h begins =
     let last = last_of_chain (NodeNeeds needs) first others first h in

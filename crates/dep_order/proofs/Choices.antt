@@ -3,8 +3,8 @@ use Rattle.std.proofs.Common.{◌≡◌, ℕ, ◌+◌, ◌<◌, true, false, Lis
 use Rattle.std.specs.Option.{MatchOption, option_eq}
 use Rattle.std.specs.List.{Contains}
 use Rattle.std.proofs.lemmas.Bool.{cases_lt, false≢true}
-use Rattle.dep_order.specs.Steps.{IsFewest, IsLeastAt}
-use Rattle.dep_order.specs.Marks.{mark_of}
+use Rattle.dep_order.specs.inner.Steps.{IsFewest, IsLeastAt}
+use Rattle.dep_order.specs.inner.Marks.{mark_of}
 use Rattle.dep_order.proofs.Members.{same, same_itself}
 use Rattle.dep_order.proofs.Releases.{has_more, has_more_front, has_more_last}
 use Rattle.dep_order.proofs.Searches.{none_is_no_some, one_value}

@@ -8,11 +8,11 @@ use Rattle.std.proofs.lemmas.List.{get_or_past, get_or_default, get_or-replicate
 use Rattle.std.proofs.lemmas.List.Elements.{All-nil, All-cons, Contains-append_left, Contains-push, Contains-push_cases}
 use Rattle.dep_order.specs.Needs.{needs_of, NodeNeeds, NeedsAreNodes, IsChain, Reaches}
 use Rattle.dep_order.specs.Cycles.{IsCycle, first_of}
-use Rattle.dep_order.specs.Users.{AreUsers}
-use Rattle.dep_order.specs.Marks.{mark_of, AreMarked}
-use Rattle.dep_order.specs.Steps.{LeadsBack}
-use Rattle.dep_order.specs.Postorders.{IsPostorder}
-use Rattle.dep_order.specs.Components.{AreComponents, SharesComponent, AreNumbersFrom, LeadsFree, IsNumberAdded}
+use Rattle.dep_order.specs.inner.Users.{AreUsers}
+use Rattle.dep_order.specs.inner.Marks.{mark_of, AreMarked}
+use Rattle.dep_order.specs.inner.Steps.{LeadsBack}
+use Rattle.dep_order.specs.inner.Postorders.{IsPostorder}
+use Rattle.dep_order.specs.inner.Components.{AreComponents, SharesComponent, AreNumbersFrom, LeadsFree, IsNumberAdded}
 use Rattle.dep_order.proofs.Members.{has_none, has_head, has_cons_cases, has_from_count, same, same_itself}
 use Rattle.dep_order.proofs.Releases.{has_more}
 use Rattle.dep_order.proofs.Searches.{some_or_none, none_is_no_some, one_value, node_in_range}
@@ -170,7 +170,7 @@ pub record AreComponentsSoFar (needs users : List (List ℕ)) (postorder left : 
   pub connected : AreConnected needs numbers
   pub behind : List ℕ
   pub front : postorder ≡ left ++ behind
-  pub numbered : (place : ℕ) → length left ≤ place → place < length postorder → (k : ℕ) × (mark_of numbers (slice_index postorder place) ≡ Some k)
+  pub numbered : (index : ℕ) → length left ≤ index → index < length postorder → (k : ℕ) × (mark_of numbers (slice_index postorder index) ≡ Some k)
 
 -- before the first component
 pub none_so_far : (needs users : List (List ℕ)) (postorder : List ℕ) (numbers : List (Option ℕ)) → numbers ≡ replicate (length users) None → AreComponentsSoFar needs users postorder postorder numbers
@@ -179,7 +179,7 @@ none_so_far needs users postorder numbers e = record {
   connected = λ a b k is. absurd (none_is_no_some (mark_of numbers a) k (unnumbered users numbers e a) is);
   behind = [];
   front = sym (append-nil postorder);
-  numbered = λ place ge lt. absurd (omega (arith, ge, lt));
+  numbered = λ index ge lt. absurd (omega (arith, ge, lt));
 }
 
 -- one more component
@@ -199,13 +199,13 @@ more_so_far needs users postorder left rest root numbers new_numbers u p e h in_
       (added.came a k at);
   behind = root ∷ h.behind;
   front = whole;
-  numbered = λ place ge lt.
+  numbered = λ index ge lt.
       ⊎_elim
-      (λ old. let was = h.numbered place old lt in (was.0, added.kept (slice_index postorder place) was.0 was.1))
+      (λ old. let was = h.numbered index old lt in (was.0, added.kept (slice_index postorder index) was.0 was.1))
       (λ here.
-      let same : length rest ≡ place = omega (arith, ge, here, longer) in
+      let same : length rest ≡ index = omega (arith, ge, here, longer) in
       (added.root_has.0, subst (λ x. mark_of new_numbers x ≡ Some added.root_has.0) (sym (ap (slice_index postorder) (sym same) ∙ root_at)) added.root_has.1))
-      (le_or_lt (length left) place);
+      (le_or_lt (length left) index);
 }
   where
     longer : length left ≡ length rest + 1
@@ -224,12 +224,12 @@ more_so_far needs users postorder left rest root numbers new_numbers u p e h in_
     to_need thing needed used_by = uses needs users u needed thing used_by
 
     -- the nodes without a number stand no further back than the root
-    bound : (place : ℕ) → place < length postorder → mark_of numbers (slice_index postorder place) ≡ None → place ≤ length rest
-    bound place lt none =
+    bound : (index : ℕ) → index < length postorder → mark_of numbers (slice_index postorder index) ≡ None → index ≤ length rest
+    bound index lt none =
         ⊎_elim
-        (λ old. let was = h.numbered place old lt in absurd (none_is_no_some (mark_of numbers (slice_index postorder place)) was.0 none was.1))
+        (λ old. let was = h.numbered index old lt in absurd (none_is_no_some (mark_of numbers (slice_index postorder index)) was.0 none was.1))
         (λ here. omega (arith, here, longer))
-        (le_or_lt (length left) place)
+        (le_or_lt (length left) index)
 
     to_root : (a : ℕ) → LeadsFree users numbers a root → Reaches (NodeNeeds needs) a root
     to_root a f = ⊎_elim (λ same. inl same) (λ c. inr (c.0, chain_same (LeadsBack (NodeNeeds users)) (NodeNeeds needs) to_need (a ∷ c.0) root c.1)) f.1

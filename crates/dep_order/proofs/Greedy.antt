@@ -9,8 +9,9 @@ use Rattle.std.proofs.lemmas.Cmp.{nat_list_cmp_total, nat_cmp_total, tied_itself
 use Rattle.std.proofs.lemmas.List.{append-nil, nil_from_length, length_push}
 use Rattle.dep_order.specs.Needs.{needs_of, NodeNeeds, IsChain}
 use Rattle.dep_order.specs.Cycles.{IsCycle, first_of}
-use Rattle.dep_order.specs.Steps.{AreSteps, LeadsBack, IsFewest, IsLeastAt, IsLeastFrom}
-use Rattle.dep_order.specs.Marks.{mark_of}
+use Rattle.dep_order.specs.inner.Steps.{AreSteps, LeadsBack, IsFewest, IsLeastAt}
+use Rattle.dep_order.specs.inner.CyclesFrom.{IsLeastFrom}
+use Rattle.dep_order.specs.inner.Marks.{mark_of}
 use Rattle.dep_order.proofs.Chains.{chain_append, chain_split}
 use Rattle.dep_order.proofs.Searches.{one_value}
 

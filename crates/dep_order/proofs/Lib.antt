@@ -7,7 +7,7 @@ pub mod Transfers
 pub mod UserCounts
 pub mod Spans
 pub mod Releases
-pub mod Placings
+pub mod Orderings
 pub mod Searches
 pub mod Choices
 pub mod Greedy

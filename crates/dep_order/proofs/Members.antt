@@ -1,7 +1,7 @@
 -- Whether a list has a number: what can be decided, and how a number's count changes.
 use Rattle.std.proofs.Common.{◌≡◌, ◌≢◌, ℕ, ◌+◌, ◌<◌, true, false, List, [], ◌∷◌, ◌++◌, eqb, refl, sym, ◌∙◌, ap, subst, inl, inr, ◌⊎◌, ⊎_elim, arith, suc}
 use Rattle.std.specs.List.{Contains, list_any}
-use Rattle.dep_order.specs.Users.{one_if, count_of}
+use Rattle.dep_order.specs.inner.Users.{one_if, count_of}
 use Rattle.std.proofs.lemmas.Bool.{cases_Bool, cases_eq, false≢true}
 use Rattle.std.proofs.lemmas.Bool.Decides.{nat_tests}
 use Rattle.std.proofs.lemmas.Cmp.{nat_eq_equiv}

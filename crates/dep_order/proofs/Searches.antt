@@ -8,9 +8,9 @@ use Rattle.std.proofs.lemmas.List.{get_or-set_same, get_or-set_other, get_or_pas
 use Rattle.std.proofs.lemmas.List.Elements.{Contains-append_left, Contains-push, Contains-push_cases, Contains-get_or}
 use Rattle.std.proofs.lemmas.List.Sums.{sum_by-set}
 use Rattle.dep_order.specs.Needs.{needs_of, NodeNeeds}
-use Rattle.dep_order.specs.Users.{one_if}
-use Rattle.dep_order.specs.Steps.{AreSteps, AreAdvanced}
-use Rattle.dep_order.specs.Marks.{mark_of, unmarked, AreMarked}
+use Rattle.dep_order.specs.inner.Users.{one_if}
+use Rattle.dep_order.specs.inner.Steps.{AreSteps, AreAdvanced}
+use Rattle.dep_order.specs.inner.Marks.{mark_of, unmarked, AreMarked}
 use Rattle.dep_order.proofs.Members.{has_none, same, same_itself}
 use Rattle.dep_order.proofs.Releases.{has_more, has_more_front, has_more_last}
 

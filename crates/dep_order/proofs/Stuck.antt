@@ -8,7 +8,7 @@ use Rattle.std.proofs.lemmas.List.{length_push}
 use Rattle.std.proofs.lemmas.Map.Keys.{IsDistinct-push}
 use Rattle.std.proofs.lemmas.Map.Steps.{length-le_from_distinct_below}
 use Rattle.dep_order.specs.Needs.{IsNumbering, IsOrderable, IsChain}
-use Rattle.dep_order.specs.Cycles.{IsCycle}
+use Rattle.dep_order.specs.inner.CyclesFrom.{HasCycle}
 use Rattle.dep_order.proofs.Members.{has_or_not, has_from_any}
 use Rattle.dep_order.proofs.Chains.{chain_append, chain_split, split_at}
 
@@ -26,10 +26,6 @@ no_number count IsLeft Needs numbers n stuck (suc k) thing left lt =
 pub not_orderable : (count : ℕ) (IsLeft : ℕ → Type 0) (Needs : ℕ → ℕ → Type 0) (thing : ℕ) → IsStuck IsLeft Needs → IsLeft thing → ¬ IsOrderable count Needs
 not_orderable count IsLeft Needs thing stuck left o =
     no_number count IsLeft Needs o.0 o.1 stuck (suc (slice_index o.0 thing)) thing left (omega arith)
-
--- there is a cycle
-abbrev pub HasCycle : (ℕ → ℕ → Type 0) → Type 0
-HasCycle Needs = (cycle : List ℕ) × IsCycle Needs cycle
 
 -- a chain of different things that are left
 record Walk (IsLeft : ℕ → Type 0) (Needs : ℕ → ℕ → Type 0) (steps : ℕ) : Type 0 where

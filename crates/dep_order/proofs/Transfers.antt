@@ -40,11 +40,11 @@ pub order_same : (count : ℕ) (Needs Other : ℕ → ℕ → Type 0) (order : L
 order_same count Needs Other order to from h = record {
   as_many = h.as_many;
   all = h.all;
-  each = λ place in'. record {
-    in_range = (h.each place in').in_range;
-    fresh = (h.each place in').fresh;
-    ready = λ needed need. (h.each place in').ready needed (from _ needed need);
-    smallest = λ other lt none ready. (h.each place in').smallest other lt none (λ needed need. ready needed (to other needed need));
+  each = λ index in'. record {
+    in_range = (h.each index in').in_range;
+    fresh = (h.each index in').fresh;
+    ready = λ needed need. (h.each index in').ready needed (from _ needed need);
+    smallest = λ other lt none ready. (h.each index in').smallest other lt none (λ needed need. ready needed (to other needed need));
   };
 }
 

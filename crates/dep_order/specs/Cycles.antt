@@ -14,9 +14,17 @@ IsCycle Needs (first ∷ others) = IsChain Needs (first ∷ others) first
 abbrev pub first_of : List ℕ → ℕ
 first_of cycle = slice_index cycle 0
 
--- The first thing is the least on any cycle, no cycle through it is shorter, and of the cycles of that length that begin with it this list is least.
+-- the list is at most the other, compared number by number from the front
+abbrev pub IsAtMost : List ℕ → List ℕ → Type 0
+IsAtMost list other = slice_cmp nat_cmp list other ≢ Greater
+
+-- The first thing is the least on any cycle, no cycle through it is shorter, and of the cycles of
+-- that length that begin with it this list is least.
 pub record IsLeastCycle (Needs : ℕ → ℕ → Type 0) (cycle : List ℕ) : Type 0 where
   pub is_cycle : IsCycle Needs cycle
-  pub least_first : (other : List ℕ) → IsCycle Needs other → All (λ thing. first_of cycle ≤ thing) other
-  pub shortest : (other : List ℕ) → IsCycle Needs other → Contains other (first_of cycle) → length cycle ≤ length other
-  pub least_list : (other : List ℕ) → IsCycle Needs other → first_of other ≡ first_of cycle → length other ≡ length cycle → slice_cmp nat_cmp cycle other ≢ Greater
+  pub least_first : (other : List ℕ) → IsCycle Needs other →
+      All (λ thing. first_of cycle ≤ thing) other
+  pub shortest : (other : List ℕ) → IsCycle Needs other → Contains other (first_of cycle) →
+      length cycle ≤ length other
+  pub least_list : (other : List ℕ) → IsCycle Needs other → first_of other ≡ first_of cycle →
+      length other ≡ length cycle → IsAtMost cycle other

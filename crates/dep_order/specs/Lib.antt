@@ -3,11 +3,4 @@ pub mod Orders
 pub mod Cycles
 pub mod Rows
 pub mod Sortings
-pub mod Users
-pub mod Spans
-pub mod Placing
-pub mod Marks
-pub mod Steps
-pub mod Postorders
-pub mod Components
 pub mod inner

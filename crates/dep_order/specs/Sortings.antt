@@ -8,5 +8,7 @@ use Rattle.dep_order.specs.Cycles.{IsLeastCycle}
 
 -- the order by smallest numbers where the needs are orderable, else the least cycle
 abbrev pub IsSortingOf : ℕ → (ℕ → ℕ → Type 0) → Sorting → Type 0
-IsSortingOf count Needs (Order order) = IsOrderable count Needs × IsLeastOrder count Needs order.items
-IsSortingOf count Needs (Cycle cycle) = ¬ IsOrderable count Needs × IsLeastCycle Needs cycle.items
+IsSortingOf count Needs (Order order) =
+    IsOrderable count Needs × IsLeastOrder count Needs order.items
+IsSortingOf count Needs (Cycle cycle) =
+    ¬ IsOrderable count Needs × IsLeastCycle Needs cycle.items

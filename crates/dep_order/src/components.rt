@@ -1,10 +1,10 @@
 //! The strongly connected components of a digraph, in linear time (M. Sharir, A strong-connectivity
-//! algorithm and its applications in data flow analysis, Computers and Mathematics with Applications
-//! 7, 1981).
+//! algorithm and its applications in data flow analysis, Computers and Mathematics with
+//! Applications 7, 1981).
 ghost use Rattle.std.specs.Prelude.{◌≡◌, ◌<◌, ◌+◌, ◌↔◌, All, IfOk, IsTrue, OnOk, length};
 ghost use Rattle.dep_order.specs.Needs.{NeedsAreNodes};
-ghost use Rattle.dep_order.specs.Users.{AreUsers};
-ghost use Rattle.dep_order.specs.Components.{AreComponents, AreNumbersFrom, IsNumberAdded, SharesComponent};
+ghost use Rattle.dep_order.specs.inner.Users.{AreUsers};
+ghost use Rattle.dep_order.specs.inner.Components.{AreComponents, AreNumbersFrom, IsNumberAdded, SharesComponent};
 ghost use Rattle.dep_order.specs.Rows.{lists};
 
 use crate::depth_first::postorder_of;
@@ -30,7 +30,8 @@ pub fn components_of(
     Ok(components)
 }
 
-/// Gives the number to the root and to all that users lead to from it, but for the nodes that have one.
+/// Gives the number to the root and to all that users lead to from it, but for the nodes that have
+/// one.
 fn add_component(
     alloc: Global,
     users: &[&[usize]],

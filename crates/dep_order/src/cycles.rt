@@ -1,12 +1,12 @@
-//! The least cycle: its first node by a search or by components, its length by levels, and its nodes
-//! one by one.
-ghost use Rattle.std.specs.Prelude.{◌≡◌, ◌<◌, ◌≤◌, ℕ, All, IfOk, length, slice_index, Contains, List, Some};
+//! The least cycle: its first node by a search or by components, its length by levels, and its
+//! nodes one by one.
+ghost use Rattle.std.specs.Prelude.{◌<◌, ◌≤◌, ℕ, All, IfOk, length, List, Some};
 ghost use Rattle.dep_order.specs.Needs.{NodeNeeds, NeedsAreNodes, needs_of};
 ghost use Rattle.dep_order.specs.Cycles.{IsCycle, IsLeastCycle, first_of};
-ghost use Rattle.dep_order.specs.Users.{AreUsers};
+ghost use Rattle.dep_order.specs.inner.Users.{AreUsers};
 ghost use Rattle.dep_order.specs.Rows.{lists};
-ghost use Rattle.dep_order.specs.Steps.{AreSteps, IsFewest, IsLeastAt, IsLeastFrom, IsLeastFromIfAny, LeadsBack};
-ghost use Rattle.dep_order.specs.Marks.{mark_of};
+ghost use Rattle.dep_order.specs.inner.Steps.{AreSteps, IsFewest, IsLeastAt, LeadsBack, SomeIsAway};
+ghost use Rattle.dep_order.specs.inner.CyclesFrom.{HasCycle, IsLeastFrom, IsLeastFromIfAny};
 
 use crate::components::{components_of, shares_component};
 use crate::levels::steps_from;
@@ -21,10 +21,11 @@ pub fn least_cycle(
 ) -> Result<Vec<usize>, AllocError>
     requires nodes { NeedsAreNodes (lists needs.now) }
     requires users { AreUsers (lists needs.now) (lists users.now) }
-    requires cycle { (cycle : List ℕ) × IsCycle (NodeNeeds (lists needs.now)) cycle }
+    requires cycle { HasCycle (NodeNeeds (lists needs.now)) }
     ensures { IfOk result (λ cycle. IsLeastCycle (NodeNeeds (lists needs.now)) cycle.items) }
 {
-    // where many nodes lie on cycles the first suspect mostly does, and one search saves the components
+    // where many nodes lie on cycles the first suspect mostly does, and one search saves the
+    // components
     let suspect = first_suspect(needs, users);
     match cycle_through(alloc, needs, users, suspect)? {
         Some(cycle) => Ok(cycle),
@@ -36,7 +37,7 @@ pub fn least_cycle(
 fn first_suspect(needs: &[&[usize]], users: &[&[usize]]) -> usize
     requires nodes { NeedsAreNodes (lists needs.now) }
     requires users { AreUsers (lists needs.now) (lists users.now) }
-    requires cycle { (cycle : List ℕ) × IsCycle (NodeNeeds (lists needs.now)) cycle }
+    requires cycle { HasCycle (NodeNeeds (lists needs.now)) }
     ensures node { result < length needs.now }
     ensures none_lower { (cycle : List ℕ)
         → IsCycle (NodeNeeds (lists needs.now)) cycle
@@ -58,7 +59,7 @@ fn cycle_by_components(
 ) -> Result<Vec<usize>, AllocError>
     requires nodes { NeedsAreNodes (lists needs.now) }
     requires users { AreUsers (lists needs.now) (lists users.now) }
-    requires cycle { (cycle : List ℕ) × IsCycle (NodeNeeds (lists needs.now)) cycle }
+    requires cycle { HasCycle (NodeNeeds (lists needs.now)) }
     ensures { IfOk result (λ cycle. IsLeastCycle (NodeNeeds (lists needs.now)) cycle.items) }
 {
     let components = components_of(alloc, needs, users)?;
@@ -122,7 +123,11 @@ fn cycle_from(
 ) -> Result<Vec<usize>, AllocError>
     requires nodes { NeedsAreNodes (lists needs.now) }
     requires first { first < length needs.now }
-    requires steps { AreSteps (length needs.now) (LeadsBack (NodeNeeds (lists needs.now))) first steps.now }
+    requires steps { AreSteps
+        (length needs.now)
+        (LeadsBack (NodeNeeds (lists needs.now)))
+        first
+        steps.now }
     requires fewest { IsFewest (needs_of (lists needs.now) first) steps.now (Some count) }
     ensures { IfOk result (λ cycle. IsLeastFrom (NodeNeeds (lists needs.now)) first cycle.items) }
 {
@@ -138,7 +143,7 @@ fn cycle_from(
 /// The least node of the row that is so many steps away, where one is.
 fn least_at(row: &[usize], steps: &[Option<usize>], count: usize) -> usize
     requires nodes { All (λ node. node < length steps.now) row.now }
-    requires some { (node : ℕ) × Contains row.now node × (mark_of steps.now node ≡ Some count) }
+    requires some { SomeIsAway row.now steps.now count }
     ensures { IsLeastAt row.now steps.now count result }
 {
     let mut least: Option<usize> = None;

@@ -1,7 +1,7 @@
 //! The order in which a search in depth leaves the nodes.
 ghost use Rattle.std.specs.Prelude.{◌≡◌, ◌<◌, All, IfOk, OnOk, length, true, []};
 ghost use Rattle.dep_order.specs.Needs.{NeedsAreNodes};
-ghost use Rattle.dep_order.specs.Postorders.{IsPostorder, IsInDepth, IsFirstUnseen, SeesMore, is_seen};
+ghost use Rattle.dep_order.specs.inner.Postorders.{IsPostorder, IsInDepth, IsFirstUnseen, SeesMore, is_seen};
 ghost use Rattle.dep_order.specs.Rows.{lists};
 
 use crate::rows::row_of;
@@ -13,10 +13,10 @@ pub fn postorder_of(alloc: Global, needs: &[&[usize]]) -> Result<Vec<usize>, All
     ensures { IfOk result (λ postorder. IsPostorder (lists needs.now) postorder.items) }
 {
     let mut seen = vec![in alloc; false; needs.len()]?;
-    let mut places = vec![in alloc; 0; needs.len()]?;
+    let mut scanned = vec![in alloc; 0; needs.len()]?;
     let mut left = Vec::new(alloc);
     for root in 0..needs.len() {
-        search_from(alloc, needs, root, &mut seen, &mut places, &mut left)?;
+        search_from(alloc, needs, root, &mut seen, &mut scanned, &mut left)?;
     }
     Ok(left)
 }
@@ -27,14 +27,19 @@ fn search_from(
     needs: &[&[usize]],
     root: usize,
     seen: &mut Vec<bool>,
-    places: &mut Vec<usize>,
+    scanned: &mut Vec<usize>,
     left: &mut Vec<usize>,
 ) -> Result<(), AllocError>
     requires nodes { NeedsAreNodes (lists needs.now) }
     requires root { root < length needs.now }
-    requires so_far { IsInDepth (lists needs.now) seen.old.items places.old.items [] left.old.items }
+    requires so_far { IsInDepth
+        (lists needs.now)
+        seen.old.items
+        scanned.old.items
+        []
+        left.old.items }
     ensures searched { OnOk result
-        (IsInDepth (lists needs.now) seen.new.items places.new.items [] left.new.items) }
+        (IsInDepth (lists needs.now) seen.new.items scanned.new.items [] left.new.items) }
     ensures root { OnOk result (is_seen seen.new.items root ≡ true) }
     ensures kept { OnOk result (SeesMore seen.old.items seen.new.items) }
 {
@@ -45,12 +50,12 @@ fn search_from(
     let mut path = vec![in alloc; root]?;
     while let Some(node) = path.pop() {
         let row = row_of(needs, node);
-        match first_unseen(row, places[node], seen.as_slice()) {
-            Some(place) => {
-                places[node] = place + 1;
-                seen[row[place]] = true;
+        match first_unseen(row, scanned[node], seen.as_slice()) {
+            Some(index) => {
+                scanned[node] = index + 1;
+                seen[row[index]] = true;
                 path.push(node)?;
-                path.push(row[place])?;
+                path.push(row[index])?;
             }
             None => left.push(node)?,
         }
@@ -58,14 +63,14 @@ fn search_from(
     Ok(())
 }
 
-/// The first place of the row from there on whose node isn't seen.
+/// The first index of the row from this one on whose node isn't seen.
 fn first_unseen(row: &[usize], from: usize, seen: &[bool]) -> Option<usize>
     requires { All (λ node. node < length seen.now) row.now }
     ensures { IsFirstUnseen row.now seen.now from result }
 {
-    for place in from..row.len() {
-        if !seen[row[place]] {
-            return Some(place);
+    for index in from..row.len() {
+        if !seen[row[index]] {
+            return Some(index);
         }
     }
     None

@@ -1,4 +1,5 @@
-//! Laws of orders and cycles: functions that do nothing, and whose contracts callers' proofs may cite.
+//! Laws of orders and cycles: functions that do nothing, and whose contracts callers' proofs may
+//! cite.
 ghost use Rattle.std.specs.Prelude.{◌≡◌, ℕ, List, length};
 ghost use Rattle.dep_order.specs.Needs.{NodeNeeds, NeedsAreNodes, IsOrderable};
 ghost use Rattle.dep_order.specs.Orders.{IsLeastOrder};

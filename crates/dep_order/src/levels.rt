@@ -2,7 +2,7 @@
 ghost use Rattle.std.specs.Prelude.{◌≡◌, ◌<◌, All, IfOk, OnOk, length};
 ghost use Rattle.dep_order.specs.Needs.{NodeNeeds, NeedsAreNodes};
 ghost use Rattle.dep_order.specs.Rows.{lists};
-ghost use Rattle.dep_order.specs.Steps.{AreSteps, AreAdvanced};
+ghost use Rattle.dep_order.specs.inner.Steps.{AreSteps, AreAdvanced};
 
 use crate::marking::mark_row;
 use crate::rows::row_of;
@@ -42,8 +42,13 @@ fn advance(
     requires frontier { All (λ node. node < length slices.now) frontier.now }
     requires as_many { length steps.old.items ≡ length slices.now }
     ensures { IfOk result
-        (λ next.
-        AreAdvanced (lists slices.now) frontier.now count steps.old.items steps.new.items next.items) }
+        (λ next. AreAdvanced
+        (lists slices.now)
+        frontier.now
+        count
+        steps.old.items
+        steps.new.items
+        next.items) }
 {
     let mut next = Vec::new(alloc);
     for node in frontier {

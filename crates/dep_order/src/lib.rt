@@ -2,44 +2,49 @@
 //! node reaches.
 //!
 //! Nodes are numbered from 0. `order` answers all nodes, each after what it needs, by smallest
-//! numbers, or else the least cycle; `reach` answers what chains of needs lead to, and `Reaching` the
-//! same from one node after the other. One clause says all of each: `IsSortingOf` of
-//! `specs/Sortings.antt`, which stands on `specs/Orders.antt` and `specs/Cycles.antt`, and `IsReach`
-//! and `AreReached` of `specs/Needs.antt`. The only error is want of memory. The module `laws` has the
-//! laws of these definitions: there is at most one order and one least cycle, and an order exactly
-//! where there is no cycle.
+//! numbers, or else the least cycle; `reach` answers what chains of needs lead to, and `Reaching`
+//! the same from one node after the other. One clause says all of each: `IsSortingOf` of
+//! `specs/Sortings.antt`, which stands on `specs/Orders.antt` and `specs/Cycles.antt`, and
+//! `IsReach` and `AreReached` of `specs/Needs.antt`. The only error is want of memory. The module
+//! `laws` has the laws of these definitions: there is at most one order and one least cycle, and an
+//! order exactly where there is no cycle.
 //!
-//! The definitions speak of any relation between numbered things. A caller with needs of its own makes
-//! the digraph of the same needs, and carries the answer over with the lemmas of
+//! The definitions speak of any relation between numbered things. A caller with needs of its own
+//! makes the digraph of the same needs, and carries the answer over with the lemmas of
 //! `proofs/ForCallers.antt`.
 //!
 //! # How it works
 //!
-//! - `users_of` reads the needs backwards, by a counting sort into one flat list. `place_all` counts
-//!   the missing needs of each node and keeps the ready ones in an ordered set.
-//! - Where not all are placed, one search from the first node that has needs and users tries whether
-//!   it lies on a cycle; then it is the least that does. Where it does not, `components_of` numbers
-//!   the strongly connected components: a search in depth with a path of its own gives a postorder
-//!   (`depth_first.rt`), and from its end on each root takes what leads to it. The least node that
-//!   needs a node of its own component is the least on any cycle.
+//! - `users_of` reads the needs backwards, by a counting sort into one flat list. `order_ready`
+//!   counts the missing needs of each node and keeps the ready ones in an ordered set.
+//! - Where not all are in order, one search from the first node that has needs and users tries
+//!   whether it lies on a cycle; then it is the least that does. Where it does not, `components_of`
+//!   numbers the strongly connected components: a search in depth with a path of its own gives a
+//!   postorder (`depth_first.rt`), and from its end on each root takes what leads to it. The least
+//!   node that needs a node of its own component is the least on any cycle.
 //! - From that node `steps_from` finds by levels how far each node is from it, along users;
 //!   `cycle_from` then takes at each step the least node that is one step nearer.
-//! - `Reaching` keeps the nodes that it finds in a sparse set, so that a search costs what it finds,
-//!   and nothing has to be cleared before the next.
+//! - `Reaching` keeps the nodes that it finds in a sparse set, so that a search costs what it
+//!   finds, and nothing has to be cleared before the next.
+//! - What the clauses of these functions speak of is defined below `specs/inner`: a file each for
+//!   users, spans, steps and so on. No public clause speaks of it.
 //!
-//! Work grows linearly with the nodes and needs, but for a logarithm in placing nodes, and no call
+//! Work grows linearly with the nodes and needs, but for a logarithm in ordering nodes, and no call
 //! recurses. The crate stands on `std` alone.
 //!
 //! # Needs of a caller's own
 //!
 //! A caller makes the digraph so that `NodeNeeds` holds of it exactly where its own relation does
-//! (`rows_are_nodes` of `proofs/ForCallers.antt` gives what `Digraph::new` requires), calls `order`,
-//! and carries the clause over by `sorting_same`, to which it gives that the one relation holds where
-//! the other does. That file has all that other crates cite:
+//! (`rows_are_nodes` of `proofs/ForCallers.antt` gives what `Digraph::new` requires), calls
+//! `order`, and carries the clause over by `sorting_same`, to which it gives that the one relation
+//! holds where the other does. That file has all that other crates cite:
 //!
-//! - `sorting_same`, `orderable_same`, `order_same`, `least_cycle_same`, `cycle_same`, `chain_same`,
-//!   `reaches_same`: the same of needs that hold of the same things;
-//! - `no_cycle`: what is orderable has no cycle;
+//! - `sorting_same`, `orderable_same`, `order_same`, `least_cycle_same`, `cycle_same`,
+//!   `chain_same`, `reaches_same`: the same of needs that hold of the same things;
+//! - `no_cycle`, `orderable_or_cycle`: what is orderable has no cycle, and a digraph is orderable or
+//!   has one;
+//! - `least_is_short`, `no_cycle_without_least`: the least cycle has no more things than there are,
+//!   and where there is no least cycle there is none;
 //! - `orderable`, `AreWithin`, `within`: what has an order is orderable, where needs are among the
 //!   things, as a digraph's are;
 //! - `layered`: numbers that put needed things lower or level, and inner numbers for those that are
@@ -53,7 +58,7 @@ mod depth_first;
 pub mod laws;
 mod levels;
 mod marking;
-mod placing;
+mod ordering;
 mod reaching;
 mod rows;
 mod users;
@@ -64,7 +69,7 @@ ghost use Rattle.dep_order.specs.Rows.{rows, lists};
 ghost use Rattle.dep_order.specs.Sortings.{IsSortingOf};
 
 use cycles::least_cycle;
-use placing::place_all;
+use ordering::order_ready;
 pub use reaching::Reaching;
 use rows::{lend_parts, lend_rows};
 use std::alloc::{AllocError, Global};
@@ -120,16 +125,17 @@ impl Digraph {
 /// The nodes of a digraph in order, or a cycle where they have none.
 #[derive(Debug, PartialEq, Eq, Drop)]
 pub enum Sorting {
-    /// All nodes, each once and after all that it needs. At each place stands the smallest number
+    /// All nodes, each once and after all that it needs. At each index stands the smallest number
     /// that may stand there.
     Order(Vec<usize>),
-    /// A cycle: each node needs the next, and the last needs the first. The first is the least number
-    /// on any cycle, no cycle through it is shorter, and of those that are as short this list is least.
+    /// A cycle: each node needs the next, and the last needs the first. The first is the least
+    /// number on any cycle, no cycle through it is shorter, and of those that are as short this
+    /// list is least.
     Cycle(Vec<usize>),
 }
 
-/// The order by smallest numbers, or the least cycle where the needs have no order. The error is want
-/// of memory alone.
+/// The order by smallest numbers, or the least cycle where the needs have no order. The error is
+/// want of memory alone.
 pub fn order(alloc: Global, graph: &Digraph) -> Result<Sorting, AllocError>
     ensures { IfOk result (IsSortingOf (length graph.now) (NodeNeeds graph.now)) }
 {
@@ -156,9 +162,9 @@ fn sort_nodes(alloc: Global, needs: &[&[usize]]) -> Result<Sorting, AllocError>
 {
     let user_parts = users_of(alloc, needs)?;
     let users = lend_parts(alloc, &user_parts)?;
-    let placed = place_all(alloc, needs, users.as_slice())?;
-    if placed.len() == needs.len() {
-        Ok(Sorting::Order(placed))
+    let ordered = order_ready(alloc, needs, users.as_slice())?;
+    if ordered.len() == needs.len() {
+        Ok(Sorting::Order(ordered))
     } else {
         let cycle = least_cycle(alloc, needs, users.as_slice())?;
         Ok(Sorting::Cycle(cycle))

@@ -8,15 +8,15 @@ use std::alloc::{AllocError, Global};
 use std::marker::Model;
 
 /// A search for what nodes of a digraph reach. It keeps its workspace from one node to the next, so
-/// that the work for a node grows with what it reaches and what that needs, and not with the digraph.
-/// A contract sees it as the digraph.
+/// that the work for a node grows with what it reaches and what that needs, and not with the
+/// digraph. A contract sees it as the digraph.
 #[derive(Drop)]
 pub struct Reaching<'g> {
     graph: &'g Digraph,
     /// The index of each node among those that are found. A node is found where it stands at its
     /// index, so what an earlier search left need not be cleared (P. Briggs and L. Torczon, An
-    /// efficient representation for sparse sets, ACM Letters on Programming Languages and Systems 2,
-    /// 1993).
+    /// efficient representation for sparse sets, ACM Letters on Programming Languages and Systems
+    /// 2, 1993).
     indexes: Vec<usize>,
 }
 
@@ -39,12 +39,13 @@ impl<'g> Reaching<'g> {
         Ok(Reaching { graph, indexes })
     }
 
-    /// The node itself and all that chains of needs lead to from it, each once, in no set order. The
-    /// error is want of memory alone, and the search may go on after it.
+    /// The node itself and all that chains of needs lead to from it, each once, in no set order.
+    /// The error is want of memory alone, and the search may go on after it.
     pub fn from(&mut self, alloc: Global, node: usize) -> Result<Vec<usize>, AllocError>
         requires { node < length self.old }
         ensures same { self.new ≡ self.old }
-        ensures reached { IfOk result (λ reached. AreReached (NodeNeeds self.old) node reached.items) }
+        ensures reached { IfOk result
+            (λ reached. AreReached (NodeNeeds self.old) node reached.items) }
     {
         let graph = self.graph;
         search(alloc, graph, node, &mut self.indexes)

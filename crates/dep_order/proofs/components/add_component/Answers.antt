@@ -4,7 +4,7 @@ use Rattle.std.proofs.lemmas.Bool.{false≢true}
 use Rattle.std.proofs.lemmas.List.Elements.{Contains-push}
 use Rattle.dep_order.specs.Needs.{needs_of}
 use Rattle.dep_order.specs.Rows.{lists}
-use Rattle.dep_order.specs.Marks.{AreMarked}
+use Rattle.dep_order.specs.inner.Marks.{AreMarked}
 use Rattle.dep_order.proofs.UserCounts.{length_lists}
 use Rattle.dep_order.proofs.Searches.{node_in_range, emptied_by}
 use Rattle.dep_order.proofs.Connected.{numbers_begun, numbers_more, numbers_ended, added_begun, added_more}

@@ -1,7 +1,7 @@
 use Rattle.std.proofs.Common.{◌+◌, length}
 use Rattle.dep_order.specs.Rows.{lists}
-use Rattle.dep_order.specs.Marks.{unmarked}
-use Rattle.dep_order.specs.Components.{IsNumberAdded}
+use Rattle.dep_order.specs.inner.Marks.{unmarked}
+use Rattle.dep_order.specs.inner.Components.{IsNumberAdded}
 use Rattle.dep_order.proofs.Connected.{AreNumbersSoFar}
 use Rattle.dep_order.proofs.components.add_component.Given as goal
 

@@ -4,7 +4,7 @@ use Rattle.std.proofs.lemmas.Bool.{false≢true}
 use Rattle.std.proofs.lemmas.List.{length_push}
 use Rattle.std.proofs.lemmas.List.Elements.{All-contains, Contains-append_left, Contains-push}
 use Rattle.dep_order.specs.Rows.{lists}
-use Rattle.dep_order.specs.Components.{AreNumbersFrom, IsNumberAdded}
+use Rattle.dep_order.specs.inner.Components.{AreNumbersFrom, IsNumberAdded}
 use Rattle.dep_order.proofs.UserCounts.{length_lists}
 use Rattle.dep_order.proofs.Searches.{emptied_by}
 use Rattle.dep_order.proofs.Answered.{users_are_nodes}

@@ -1,8 +1,8 @@
 use Rattle.std.proofs.Common.{sym, subst, ◌∙◌, slice_index, arith}
 use Rattle.std.proofs.lemmas.Bool.{false≢true}
 use Rattle.std.proofs.lemmas.List.{take_all}
-use Rattle.dep_order.specs.Marks.{mark_of}
-use Rattle.dep_order.specs.Components.{SharesComponent}
+use Rattle.dep_order.specs.inner.Marks.{mark_of}
+use Rattle.dep_order.specs.inner.Components.{SharesComponent}
 use Rattle.dep_order.proofs.Connected.{none_shared_more, other_marks}
 use Rattle.dep_order.proofs.components.shares_component.Goals as goal
 

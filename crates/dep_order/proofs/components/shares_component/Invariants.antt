@@ -1,5 +1,5 @@
 use Rattle.std.proofs.Common.{take}
-use Rattle.dep_order.specs.Components.{SharesComponent}
+use Rattle.dep_order.specs.inner.Components.{SharesComponent}
 use Rattle.dep_order.proofs.components.shares_component.Given as goal
 
 -- none of the row so far is in the node's component

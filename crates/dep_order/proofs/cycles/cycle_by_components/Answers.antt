@@ -2,8 +2,8 @@ use Rattle.std.proofs.Common.{arith, sym, subst, None, ◌∷◌, refl}
 use Rattle.std.proofs.lemmas.Bool.{false≢true}
 use Rattle.dep_order.specs.Rows.{lists}
 use Rattle.dep_order.specs.Needs.{NodeNeeds, needs_of}
-use Rattle.dep_order.specs.Components.{SharesComponent}
-use Rattle.dep_order.specs.Steps.{IsLeastFromIfAny}
+use Rattle.dep_order.specs.inner.Components.{SharesComponent}
+use Rattle.dep_order.specs.inner.CyclesFrom.{IsLeastFromIfAny}
 use Rattle.dep_order.proofs.UserCounts.{length_lists}
 use Rattle.dep_order.proofs.Answered.{least_of_all, none_from, first_in_range}
 use Rattle.dep_order.proofs.Connected.{shared_from, cycle_from_shared}

@@ -3,7 +3,7 @@ use Rattle.std.specs.List.{All}
 use Rattle.std.proofs.lemmas.List.Elements.{All-contains}
 use Rattle.dep_order.specs.Rows.{lists}
 use Rattle.dep_order.specs.Needs.{NodeNeeds, needs_of}
-use Rattle.dep_order.specs.Steps.{AreSteps, LeadsBack, IsLeastAt}
+use Rattle.dep_order.specs.inner.Steps.{AreSteps, LeadsBack, IsLeastAt}
 use Rattle.dep_order.proofs.UserCounts.{length_lists}
 use Rattle.dep_order.proofs.Answered.{row_nodes}
 use Rattle.dep_order.proofs.Greedy.{IsChosen, first_chosen, next_chosen, all_chosen}

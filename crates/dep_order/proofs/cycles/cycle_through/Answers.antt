@@ -1,7 +1,7 @@
 use Rattle.std.proofs.Common.{arith, ◌≡◌, sym, ◌∙◌, subst, length, Some, None}
 use Rattle.dep_order.specs.Rows.{lists}
 use Rattle.dep_order.specs.Needs.{NodeNeeds, needs_of}
-use Rattle.dep_order.specs.Steps.{AreSteps, LeadsBack, IsFewest}
+use Rattle.dep_order.specs.inner.Steps.{AreSteps, LeadsBack, IsFewest}
 use Rattle.dep_order.proofs.UserCounts.{length_lists}
 use Rattle.dep_order.proofs.Answered.{users_are_nodes, steps_back, no_way_back}
 use Rattle.dep_order.proofs.cycles.cycle_through.Goals as goal

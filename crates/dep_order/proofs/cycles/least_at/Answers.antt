@@ -1,5 +1,5 @@
 use Rattle.std.proofs.Common.{◌+◌, sym, ap, ◌∙◌, subst, take, slice_index, Some}
-use Rattle.dep_order.specs.Marks.{mark_of}
+use Rattle.dep_order.specs.inner.Marks.{mark_of}
 use Rattle.dep_order.proofs.Choices.{IsLeastIfAny, least_skip, least_first, least_less, some_equal, some_differs}
 use Rattle.dep_order.proofs.cycles.least_at.Goals as goal
 use Rattle.dep_order.proofs.cycles.least_at.Goals.{then-eq+in-None, then-eq+in-Some, else-eq}

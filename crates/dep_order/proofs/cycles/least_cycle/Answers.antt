@@ -1,7 +1,7 @@
 use Rattle.std.proofs.Common.{subst}
 use Rattle.dep_order.specs.Rows.{lists}
 use Rattle.dep_order.specs.Needs.{NodeNeeds}
-use Rattle.dep_order.specs.Steps.{IsLeastFromIfAny}
+use Rattle.dep_order.specs.inner.CyclesFrom.{IsLeastFromIfAny}
 use Rattle.dep_order.proofs.Answered.{least_of_all}
 use Rattle.dep_order.proofs.cycles.least_cycle.Goals as goal
 

@@ -4,7 +4,7 @@ use Rattle.std.proofs.lemmas.List.{get_or_read, get_or-set_same}
 use Rattle.std.proofs.lemmas.List.Elements.{Contains-push}
 use Rattle.dep_order.specs.Needs.{needs_of}
 use Rattle.dep_order.specs.Rows.{lists}
-use Rattle.dep_order.specs.Postorders.{is_seen, IsInDepth, IsFirstUnseen}
+use Rattle.dep_order.specs.inner.Postorders.{is_seen, IsInDepth, IsFirstUnseen}
 use Rattle.dep_order.proofs.UserCounts.{length_lists}
 use Rattle.dep_order.proofs.Answered.{row_nodes}
 use Rattle.dep_order.proofs.Postorders.{begun, entered, left_behind, sees_more, path_seen, seen_in_range, first_unseen_at}
@@ -15,7 +15,7 @@ loop-node-init c =
     let lt : c.args.root < length c.args.seen.now.items = omega (arith, c.requires.root, c.requires.so_far.seen_each, length_lists c.args.needs.now) in
     let unseen : is_seen c.args.seen.now.items c.args.root ≡ false = sym (get_or_read c.args.seen.now.items c.args.root c.index.result.now lt c.index.ensures false) ∙ c.if-index.false in
     record {
-      in_depth = begun (lists c.args.needs.now) c.args.seen.now.items c.args.places.now.items c.in_ok-path.path.items c.args.left.now.items c.args.root c.in_ok-path.ensures.items (omega (arith, c.requires.root, length_lists c.args.needs.now)) unseen c.requires.so_far;
+      in_depth = begun (lists c.args.needs.now) c.args.seen.now.items c.args.scanned.now.items c.in_ok-path.path.items c.args.left.now.items c.args.root c.in_ok-path.ensures.items (omega (arith, c.requires.root, length_lists c.args.needs.now)) unseen c.requires.so_far;
       root_seen = get_or-set_same c.args.seen.now.items c.args.root true false lt;
       kept = sees_more c.args.seen.now.items c.args.root lt;
     }
@@ -23,35 +23,35 @@ loop-node-init c =
 pub row_of-row-requires : goal.row_of-row-requires
 row_of-row-requires c =
     let has : Contains c.loop-node.path.items c.in-Some.node = subst (λ xs. Contains xs c.in-Some.node) (sym c.in-Some.ensures.items) (Contains-push c.pop.new.self.items c.in-Some.node) in
-    let seen = path_seen (lists c.args.needs.now) c.loop-node.seen.items c.loop-node.places.items c.loop-node.path.items c.loop-node.left.items c.in-Some.node c.loop-node.invariant.in_depth has in
+    let seen = path_seen (lists c.args.needs.now) c.loop-node.seen.items c.loop-node.scanned.items c.loop-node.path.items c.loop-node.left.items c.in-Some.node c.loop-node.invariant.in_depth has in
     omega (arith, seen_in_range c.loop-node.seen.items c.in-Some.node seen, c.loop-node.invariant.in_depth.seen_each, length_lists c.args.needs.now)
 
 pub index-requires-in-Some : goal.index-requires-in-Some
 index-requires-in-Some c =
     let has : Contains c.loop-node.path.items c.in-Some.node = subst (λ xs. Contains xs c.in-Some.node) (sym c.in-Some.ensures.items) (Contains-push c.pop.new.self.items c.in-Some.node) in
-    let seen = path_seen (lists c.args.needs.now) c.loop-node.seen.items c.loop-node.places.items c.loop-node.path.items c.loop-node.left.items c.in-Some.node c.loop-node.invariant.in_depth has in
-    omega (arith, seen_in_range c.loop-node.seen.items c.in-Some.node seen, c.loop-node.invariant.in_depth.seen_each, c.loop-node.invariant.in_depth.place_each)
+    let seen = path_seen (lists c.args.needs.now) c.loop-node.seen.items c.loop-node.scanned.items c.loop-node.path.items c.loop-node.left.items c.in-Some.node c.loop-node.invariant.in_depth has in
+    omega (arith, seen_in_range c.loop-node.seen.items c.in-Some.node seen, c.loop-node.invariant.in_depth.seen_each, c.loop-node.invariant.in_depth.scanned_each)
 
 -- Rattle's own name of this goal: the search goes on from the node to one that isn't seen.
 pub loop-node-preserved-in-Continue-branch-3 : goal.loop-node-preserved-in-Continue-branch-3
 loop-node-preserved-in-Continue-branch-3 c =
     let has : Contains c.loop-node.path.items c.in-Some.node = subst (λ xs. Contains xs c.in-Some.node) (sym c.in-Some.ensures.items) (Contains-push c.pop.new.self.items c.in-Some.node) in
-    let on_path = path_seen (lists c.args.needs.now) c.loop-node.seen.items c.loop-node.places.items c.loop-node.path.items c.loop-node.left.items c.in-Some.node c.loop-node.invariant.in_depth has in
+    let on_path = path_seen (lists c.args.needs.now) c.loop-node.seen.items c.loop-node.scanned.items c.loop-node.path.items c.loop-node.left.items c.in-Some.node c.loop-node.invariant.in_depth has in
     let node_lt : c.in-Some.node < length (lists c.args.needs.now) = omega (arith, seen_in_range c.loop-node.seen.items c.in-Some.node on_path, c.loop-node.invariant.in_depth.seen_each) in
-    let from_is : c.index-in-Some.result.now ≡ slice_index c.loop-node.places.items c.in-Some.node =
-    get_or_read c.loop-node.places.items c.in-Some.node c.index-in-Some.result.now (omega (arith, node_lt, c.loop-node.invariant.in_depth.place_each)) c.index-in-Some.ensures 0 in
-    let found : IsFirstUnseen (needs_of (lists c.args.needs.now) c.in-Some.node) c.loop-node.seen.items (slice_index c.loop-node.places.items c.in-Some.node) (Some c.in-Some-first_unseen.place) =
-    first_unseen_at c.row_of-row.result.now (needs_of (lists c.args.needs.now) c.in-Some.node) c.as_slice.result.now c.loop-node.seen.items c.index-in-Some.result.now (slice_index c.loop-node.places.items c.in-Some.node) (Some c.in-Some-first_unseen.place) c.row_of-row.ensures c.as_slice.ensures.value from_is c.in-Some-first_unseen.ensures in
-    let at : slice_index (needs_of (lists c.args.needs.now) c.in-Some.node) c.in-Some-first_unseen.place ≡ slice_index c.row_of-row.result.now c.in-Some-first_unseen.place = ap (λ row. slice_index row c.in-Some-first_unseen.place) (sym c.row_of-row.ensures) in
-    let next_lt : slice_index c.row_of-row.result.now c.in-Some-first_unseen.place < length (lists c.args.needs.now) =
-    omega (arith, row_nodes (lists c.args.needs.now) c.in-Some.node (length (lists c.args.needs.now)) (omega arith) node_lt c.requires.nodes c.in-Some-first_unseen.place 0 found.1, at) in
-    let unseen : is_seen c.loop-node.seen.items (slice_index c.row_of-row.result.now c.in-Some-first_unseen.place) ≡ false = subst (λ x. is_seen c.loop-node.seen.items x ≡ false) at found.2 in
-    let kept = sees_more c.loop-node.seen.items (slice_index c.row_of-row.result.now c.in-Some-first_unseen.place) (omega (arith, next_lt, c.loop-node.invariant.in_depth.seen_each)) in
+    let from_is : c.index-in-Some.result.now ≡ slice_index c.loop-node.scanned.items c.in-Some.node =
+    get_or_read c.loop-node.scanned.items c.in-Some.node c.index-in-Some.result.now (omega (arith, node_lt, c.loop-node.invariant.in_depth.scanned_each)) c.index-in-Some.ensures 0 in
+    let found : IsFirstUnseen (needs_of (lists c.args.needs.now) c.in-Some.node) c.loop-node.seen.items (slice_index c.loop-node.scanned.items c.in-Some.node) (Some c.in-Some-first_unseen.index) =
+    first_unseen_at c.row_of-row.result.now (needs_of (lists c.args.needs.now) c.in-Some.node) c.as_slice.result.now c.loop-node.seen.items c.index-in-Some.result.now (slice_index c.loop-node.scanned.items c.in-Some.node) (Some c.in-Some-first_unseen.index) c.row_of-row.ensures c.as_slice.ensures.value from_is c.in-Some-first_unseen.ensures in
+    let at : slice_index (needs_of (lists c.args.needs.now) c.in-Some.node) c.in-Some-first_unseen.index ≡ slice_index c.row_of-row.result.now c.in-Some-first_unseen.index = ap (λ row. slice_index row c.in-Some-first_unseen.index) (sym c.row_of-row.ensures) in
+    let next_lt : slice_index c.row_of-row.result.now c.in-Some-first_unseen.index < length (lists c.args.needs.now) =
+    omega (arith, row_nodes (lists c.args.needs.now) c.in-Some.node (length (lists c.args.needs.now)) (omega arith) node_lt c.requires.nodes c.in-Some-first_unseen.index 0 found.1, at) in
+    let unseen : is_seen c.loop-node.seen.items (slice_index c.row_of-row.result.now c.in-Some-first_unseen.index) ≡ false = subst (λ x. is_seen c.loop-node.seen.items x ≡ false) at found.2 in
+    let kept = sees_more c.loop-node.seen.items (slice_index c.row_of-row.result.now c.in-Some-first_unseen.index) (omega (arith, next_lt, c.loop-node.invariant.in_depth.seen_each)) in
     record {
       in_depth =
-          subst (λ xs. IsInDepth (lists c.args.needs.now) (set c.loop-node.seen.items (slice_index c.row_of-row.result.now c.in-Some-first_unseen.place) true) (set c.loop-node.places.items c.in-Some.node (c.in-Some-first_unseen.place + 1)) xs c.loop-node.left.items)
-          (sym (c.in_ok-push-in-Some-first_unseen-2.ensures.items ∙ ap (λ xs. xs ++ slice_index c.row_of-row.result.now c.in-Some-first_unseen.place ∷ []) c.in_ok-push-in-Some-first_unseen.ensures.items))
-          (entered (lists c.args.needs.now) c.loop-node.seen.items c.loop-node.places.items c.pop.new.self.items c.loop-node.path.items c.loop-node.left.items c.in-Some.node c.in-Some-first_unseen.place (slice_index c.row_of-row.result.now c.in-Some-first_unseen.place)
+          subst (λ xs. IsInDepth (lists c.args.needs.now) (set c.loop-node.seen.items (slice_index c.row_of-row.result.now c.in-Some-first_unseen.index) true) (set c.loop-node.scanned.items c.in-Some.node (c.in-Some-first_unseen.index + 1)) xs c.loop-node.left.items)
+          (sym (c.in_ok-push-in-Some-first_unseen-2.ensures.items ∙ ap (λ xs. xs ++ slice_index c.row_of-row.result.now c.in-Some-first_unseen.index ∷ []) c.in_ok-push-in-Some-first_unseen.ensures.items))
+          (entered (lists c.args.needs.now) c.loop-node.seen.items c.loop-node.scanned.items c.pop.new.self.items c.loop-node.path.items c.loop-node.left.items c.in-Some.node c.in-Some-first_unseen.index (slice_index c.row_of-row.result.now c.in-Some-first_unseen.index)
           c.in-Some.ensures.items node_lt next_lt found.1 at unseen found.3 c.loop-node.invariant.in_depth);
       root_seen = kept c.args.root c.loop-node.invariant.root_seen;
       kept = λ node e. kept node (c.loop-node.invariant.kept node e);
@@ -60,15 +60,15 @@ loop-node-preserved-in-Continue-branch-3 c =
 pub loop-node-preserved : goal.loop-node-preserved
 loop-node-preserved c =
     let has : Contains c.loop-node.path.items c.in-Some.node = subst (λ xs. Contains xs c.in-Some.node) (sym c.in-Some.ensures.items) (Contains-push c.pop.new.self.items c.in-Some.node) in
-    let on_path = path_seen (lists c.args.needs.now) c.loop-node.seen.items c.loop-node.places.items c.loop-node.path.items c.loop-node.left.items c.in-Some.node c.loop-node.invariant.in_depth has in
-    let from_is : c.index-in-Some.result.now ≡ slice_index c.loop-node.places.items c.in-Some.node =
-    get_or_read c.loop-node.places.items c.in-Some.node c.index-in-Some.result.now (omega (arith, seen_in_range c.loop-node.seen.items c.in-Some.node on_path, c.loop-node.invariant.in_depth.seen_each, c.loop-node.invariant.in_depth.place_each)) c.index-in-Some.ensures 0 in
-    let none : IsFirstUnseen (needs_of (lists c.args.needs.now) c.in-Some.node) c.loop-node.seen.items (slice_index c.loop-node.places.items c.in-Some.node) None =
-    first_unseen_at c.row_of-row.result.now (needs_of (lists c.args.needs.now) c.in-Some.node) c.as_slice.result.now c.loop-node.seen.items c.index-in-Some.result.now (slice_index c.loop-node.places.items c.in-Some.node) None c.row_of-row.ensures c.as_slice.ensures.value from_is c.in-None.ensures in
+    let on_path = path_seen (lists c.args.needs.now) c.loop-node.seen.items c.loop-node.scanned.items c.loop-node.path.items c.loop-node.left.items c.in-Some.node c.loop-node.invariant.in_depth has in
+    let from_is : c.index-in-Some.result.now ≡ slice_index c.loop-node.scanned.items c.in-Some.node =
+    get_or_read c.loop-node.scanned.items c.in-Some.node c.index-in-Some.result.now (omega (arith, seen_in_range c.loop-node.seen.items c.in-Some.node on_path, c.loop-node.invariant.in_depth.seen_each, c.loop-node.invariant.in_depth.scanned_each)) c.index-in-Some.ensures 0 in
+    let none : IsFirstUnseen (needs_of (lists c.args.needs.now) c.in-Some.node) c.loop-node.seen.items (slice_index c.loop-node.scanned.items c.in-Some.node) None =
+    first_unseen_at c.row_of-row.result.now (needs_of (lists c.args.needs.now) c.in-Some.node) c.as_slice.result.now c.loop-node.seen.items c.index-in-Some.result.now (slice_index c.loop-node.scanned.items c.in-Some.node) None c.row_of-row.ensures c.as_slice.ensures.value from_is c.in-None.ensures in
     record {
       in_depth =
-          subst (λ xs. IsInDepth (lists c.args.needs.now) c.loop-node.seen.items c.loop-node.places.items c.pop.new.self.items xs) (sym c.in_ok-push-in-None.ensures.items)
-          (left_behind (lists c.args.needs.now) c.loop-node.seen.items c.loop-node.places.items c.pop.new.self.items c.loop-node.path.items c.loop-node.left.items c.in-Some.node c.in-Some.ensures.items none c.loop-node.invariant.in_depth);
+          subst (λ xs. IsInDepth (lists c.args.needs.now) c.loop-node.seen.items c.loop-node.scanned.items c.pop.new.self.items xs) (sym c.in_ok-push-in-None.ensures.items)
+          (left_behind (lists c.args.needs.now) c.loop-node.seen.items c.loop-node.scanned.items c.pop.new.self.items c.loop-node.path.items c.loop-node.left.items c.in-Some.node c.in-Some.ensures.items none c.loop-node.invariant.in_depth);
       root_seen = c.loop-node.invariant.root_seen;
       kept = c.loop-node.invariant.kept;
     }

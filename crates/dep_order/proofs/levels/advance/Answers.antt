@@ -1,6 +1,6 @@
 use Rattle.std.proofs.Common.{subst}
 use Rattle.dep_order.specs.Rows.{lists}
-use Rattle.dep_order.specs.Marks.{AreMarked}
+use Rattle.dep_order.specs.inner.Marks.{AreMarked}
 use Rattle.dep_order.proofs.Searches.{advanced_more}
 use Rattle.dep_order.proofs.levels.advance.Goals as goal
 

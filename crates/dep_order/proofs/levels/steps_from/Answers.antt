@@ -1,7 +1,7 @@
 use Rattle.std.proofs.Common.{◌<◌, sym, subst, length, ◌+◌}
 use Rattle.dep_order.specs.Rows.{lists}
 use Rattle.dep_order.specs.Needs.{NodeNeeds}
-use Rattle.dep_order.specs.Steps.{AreSteps, AreAdvanced}
+use Rattle.dep_order.specs.inner.Steps.{AreSteps, AreAdvanced}
 use Rattle.dep_order.proofs.UserCounts.{length_lists}
 use Rattle.dep_order.proofs.Searches.{next_level, all_levels, nonempty, emptied, frontier_in_range}
 use Rattle.std.specs.List.{All}

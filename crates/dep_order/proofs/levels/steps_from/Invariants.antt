@@ -1,6 +1,6 @@
 use Rattle.std.proofs.Common.{◌+◌, length}
 use Rattle.dep_order.specs.Rows.{lists}
-use Rattle.dep_order.specs.Marks.{unmarked}
+use Rattle.dep_order.specs.inner.Marks.{unmarked}
 use Rattle.dep_order.proofs.Searches.{IsSearching}
 use Rattle.dep_order.proofs.levels.steps_from.Given as goal
 

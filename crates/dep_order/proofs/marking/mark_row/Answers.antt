@@ -1,5 +1,5 @@
 use Rattle.std.proofs.Common.{arith, ℕ, ◌<◌, Vec, Option, Some, sym, ap, ◌∙◌, subst, length, slice_index, take, set, ◌+◌, Global}
-use Rattle.dep_order.specs.Marks.{AreMarked}
+use Rattle.dep_order.specs.inner.Marks.{AreMarked}
 use Rattle.dep_order.proofs.Searches.{visited_old, visited_new, read_none, read_some}
 use Rattle.dep_order.proofs.marking.mark_row.Goals as goal
 use Rattle.dep_order.proofs.marking.mark_row.Goals.{then-is_none+in_ok-push, else-is_none}

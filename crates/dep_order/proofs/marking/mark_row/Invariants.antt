@@ -1,5 +1,5 @@
 use Rattle.std.proofs.Common.{take}
-use Rattle.dep_order.specs.Marks.{AreMarked}
+use Rattle.dep_order.specs.inner.Marks.{AreMarked}
 use Rattle.dep_order.proofs.marking.mark_row.Given as goal
 
 abbrev pub invariant-loop-node : goal.invariant-loop-node

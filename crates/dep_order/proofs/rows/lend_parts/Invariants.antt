@@ -1,6 +1,6 @@
 use Rattle.std.proofs.Common.{◌≡◌, take}
 use Rattle.dep_order.specs.Rows.{lists}
-use Rattle.dep_order.specs.Spans.{parts}
+use Rattle.dep_order.specs.inner.Spans.{parts}
 use Rattle.dep_order.proofs.rows.lend_parts.Given as goal
 
 abbrev pub invariant-loop-span : goal.invariant-loop-span

@@ -1,0 +1,78 @@
+-- The order in which a search in depth leaves the nodes.
+use Rattle.std.specs.Prelude.{◌≡◌, ℕ, ◌+◌, ◌<◌, ◌≤◌, Bool, true, false, List, [], ◌∷◌, length, slice_index, slice_index_or, Contains, All, ◌⊎◌, Option, Some, None}
+use Rattle.dep_order.specs.Needs.{needs_of, NodeNeeds, Reaches}
+use Rattle.dep_order.specs.inner.Users.{one_if, count_of}
+
+-- whether the search has come to a node
+abbrev pub is_seen : List Bool → ℕ → Bool
+is_seen seen node = slice_index_or seen node false
+
+-- the node stands before that index
+abbrev pub StandsBefore : List ℕ → ℕ → ℕ → Type 0
+StandsBefore left index node = (other : ℕ) × (other < index) × (slice_index left other ≡ node)
+
+-- the node stands at that index or behind, and leads to each from the index up to itself
+abbrev pub LeadsUpToItself : List (List ℕ) → List ℕ → ℕ → ℕ → Type 0
+LeadsUpToItself needs left index node =
+    (other : ℕ) × (index ≤ other) × (other < length left) × (slice_index left other ≡ node)
+    × ((k : ℕ) → index ≤ k → k ≤ other → Reaches (NodeNeeds needs) node (slice_index left k))
+
+-- the needed node stands before that index, or leads to each node from there up to itself
+abbrev pub IsBeforeOrLeads : List (List ℕ) → List ℕ → ℕ → ℕ → Type 0
+IsBeforeOrLeads needs left index needed =
+    StandsBefore left index needed ⊎ LeadsUpToItself needs left index needed
+
+-- Each node stands there once, and what a node needs stands before it or leads to it and all
+-- between.
+pub record IsPostorder (needs : List (List ℕ)) (postorder : List ℕ) : Type 0 where
+  pub nodes : All (λ node. node < length needs) postorder
+  pub once : (node : ℕ) → node < length needs → count_of node postorder ≡ 1
+  pub left : (index needed : ℕ) → index < length postorder →
+      NodeNeeds needs (slice_index postorder index) needed →
+      IsBeforeOrLeads needs postorder index needed
+
+-- each of these things needs the next
+abbrev pub IsWalk : (ℕ → ℕ → Type 0) → List ℕ → Type 0
+IsWalk Needs [] = Unit {0}
+IsWalk Needs (thing ∷ []) = Unit {0}
+IsWalk Needs (thing ∷ next ∷ things) = Needs thing next × IsWalk Needs (next ∷ things)
+
+-- the node is on the path, and leads to each that was left from that index on
+abbrev pub IsOnPathAndLeads : List (List ℕ) → List ℕ → List ℕ → ℕ → ℕ → Type 0
+IsOnPathAndLeads needs path left index node =
+    Contains path node
+    × ((k : ℕ) → index ≤ k → k < length left → Reaches (NodeNeeds needs) node (slice_index left k))
+
+-- A search in depth: the nodes that it left, and the path to the node where it is. Of each node's
+-- row the first nodes are scanned, as many as its number says, and these are seen.
+pub record IsInDepth (needs : List (List ℕ)) (seen : List Bool)
+    (scanned path left : List ℕ) : Type 0 where
+  pub seen_each : length seen ≡ length needs
+  pub scanned_each : length scanned ≡ length needs
+  pub counted : (node : ℕ) → count_of node left + count_of node path ≡ one_if (is_seen seen node)
+  pub scanned_seen : (node k : ℕ) → k < slice_index scanned node →
+      k < length (needs_of needs node) →
+      is_seen seen (slice_index (needs_of needs node) k) ≡ true
+  pub walk : IsWalk (NodeNeeds needs) path
+  pub settled : (index needed : ℕ) → index < length left →
+      NodeNeeds needs (slice_index left index) needed →
+      IsBeforeOrLeads needs left index needed ⊎ IsOnPathAndLeads needs path left index needed
+
+-- what was seen is seen
+abbrev pub SeesMore : List Bool → List Bool → Type 0
+SeesMore seen new_seen = (node : ℕ) → is_seen seen node ≡ true → is_seen new_seen node ≡ true
+
+-- the nodes of the row from the one index up to the other are seen
+abbrev pub AreSeen : List ℕ → List Bool → ℕ → ℕ → Type 0
+AreSeen row seen from end =
+    (k : ℕ) → from ≤ k → k < end → is_seen seen (slice_index row k) ≡ true
+
+-- the first index from that one on whose node isn't seen, none exactly where all from there on are;
+-- nothing is said of the nodes before
+abbrev pub IsFirstUnseen : List ℕ → List Bool → ℕ → Option ℕ → Type 0
+IsFirstUnseen row seen from None = AreSeen row seen from (length row)
+IsFirstUnseen row seen from (Some index) =
+    (from ≤ index)
+    × (index < length row)
+    × (is_seen seen (slice_index row index) ≡ false)
+    × AreSeen row seen from index
