@@ -1,7 +1,7 @@
 //! The strongly connected components of a digraph, in linear time (M. Sharir, A strong-connectivity
 //! algorithm and its applications in data flow analysis, Computers and Mathematics with
 //! Applications 7, 1981).
-ghost use Rattle.std.specs.Prelude.{◌≡◌, ◌<◌, ◌+◌, ◌↔◌, All, IfOk, IsTrue, OnOk, length};
+ghost use Rattle.std.specs.Prelude.{◌<◌, ◌+◌, ◌↔◌, All, IfOk, IsTrue, OnOk, length};
 ghost use Rattle.dep_order.specs.Needs.{NeedsAreNodes};
 ghost use Rattle.dep_order.specs.inner.Users.{AreUsers};
 ghost use Rattle.dep_order.specs.inner.Components.{AreComponents, AreNumbersFrom, IsNumberAdded, SharesComponent};

@@ -1,5 +1,5 @@
 //! How many steps lead from a node to each other, found by levels.
-ghost use Rattle.std.specs.Prelude.{◌≡◌, ◌<◌, All, IfOk, OnOk, length};
+ghost use Rattle.std.specs.Prelude.{◌≡◌, ◌<◌, All, IfOk, length};
 ghost use Rattle.dep_order.specs.Needs.{NodeNeeds, NeedsAreNodes};
 ghost use Rattle.dep_order.specs.Rows.{lists};
 ghost use Rattle.dep_order.specs.inner.Steps.{AreSteps, AreAdvanced};
