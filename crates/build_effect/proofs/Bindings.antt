@@ -82,8 +82,8 @@ more_inverse count edge_of i edge statement_of at are within free = record { as_
         elim (nat_decides j edge) [
           | inl same ↦
               let here : get_or (set statement_of edge (Some i)) edge None ≡ Some i = get_or-set_same statement_of edge (Some i) None short in
-              let number : i ≡ k = same_some _ _ (sym here ∙ ap (λ n. get_or (set statement_of edge (Some i)) n None) (sym same) ∙ is) in
-              in_take (i + 1) edge_of k j (omega (arith, number)) (ap (slice_get edge_of) (sym number) ∙ at ∙ ap (λ n. Some n) (sym same))
+              let same_index : i ≡ k = same_some _ _ (sym here ∙ ap (λ n. get_or (set statement_of edge (Some i)) n None) (sym same) ∙ is) in
+              in_take (i + 1) edge_of k j (omega (arith, same_index)) (ap (slice_get edge_of) (sym same_index) ∙ at ∙ ap (λ n. Some n) (sym same))
           | inr other ↦
               let t = from_take i edge_of k j (are.from j k (sym (get_or-set_other statement_of edge j (Some i) None other) ∙ is)) in
               in_take (i + 1) edge_of k j (omega (arith, t.0)) t.1

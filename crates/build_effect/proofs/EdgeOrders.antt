@@ -72,7 +72,7 @@ module _ (files : List NamedFile) (g h new : List EdgeValue) (order ranks : List
             let p = index_of order one.0 (all one.0 (slice_get_within _ _ _ one.2)) in
             let n = gains.named p.0 one.0 one.1 i at.0 p.1 one.2 at.1 one.3 in
             (at.0, at.1, inr (one.0, n.0, n.1, (one.1, one.2, one.3, n.2), same_some _ _ (sym here ∙ n.3)))
-        | inr none ↦ (at.0, at.1, inl (none, same_some _ _ (sym here ∙ gains.others i at.0 at.1 (λ p n f number there. none n f there))))
+        | inr none ↦ (at.0, at.1, inl (none, same_some _ _ (sym here ∙ gains.others i at.0 at.1 (λ p n f listed there. none n f there))))
       ]
 
   -- the edges of h make what those after all files make
@@ -121,11 +121,11 @@ module _ (files : List NamedFile) (g h new : List EdgeValue) (order ranks : List
               λ n k a e here has.
                   let edge : e ≡ at.0 = same_some _ _ (sym here ∙ at.1) in
                   let name : has.0.name ≡ one.1.name = same_some _ _ (sym has.2 ∙ ap (λ (d : EdgeValue). d.dyndep) edge ∙ one.3) in
-                  let number : n ≡ one.0 = meets.names_differ n one.0 has.0 one.1 has.1 one.2 name in
-                  let file : has.0 ≡ one.1 = same_some _ _ (sym has.1 ∙ ap (slice_get files) number ∙ one.2) in
+                  let same_file : n ≡ one.0 = meets.names_differ n one.0 has.0 one.1 has.1 one.2 name in
+                  let file : has.0 ≡ one.1 = same_some _ _ (sym has.1 ∙ ap (slice_get files) same_file ∙ one.2) in
                   let statement : IsTheOneOn one.1.additions at.0 k a = subst (λ (d : EdgeValue). IsTheOneOn one.1.additions d k a) edge (subst (λ (f : NamedFile). IsTheOneOn f.additions e k a) file has.3) in
-                  let place : k ≡ gained.0 = gained.2.only k a statement.is statement.on in
-                  ap (λ m. rank_at added.ranks m gained.0) (sym number) ∙ ap (rank_at added.ranks n) (sym place),
+                  let same_index : k ≡ gained.0 = gained.2.only k a statement.is statement.on in
+                  ap (λ m. rank_at added.ranks m gained.0) (sym same_file) ∙ ap (rank_at added.ranks n) (sym same_index),
             )
         | inr none ↦ (0, λ n k a e here has. absurd (none n has.0 has.1 (subst (λ (d : EdgeValue). Names has.0.name d) (same_some _ _ (sym here ∙ at.1)) has.2)))
       ]
@@ -235,7 +235,7 @@ module _ (f : NamedFile) (g h new : List EdgeValue) (ranks : List ℕ) (meets : 
   one_gains : GainsExactly single g (0 ∷ []) new
   one_gains = record {
     same_edges = gives.same_edges;
-    named = λ p n d i e number at here names.
+    named = λ p n d i e listed at here names.
         let same : f ≡ d = (only f n d at).1 in
         let one = gives.named i e here (subst (λ (z : NamedFile). Names z.name e) (sym same) names) in
         (one.0, one.1, subst (λ (z : NamedFile). IsTheOneOn z.additions e one.0 one.1) same one.2, one.3);

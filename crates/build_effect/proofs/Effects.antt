@@ -48,8 +48,8 @@ same_gives g name xs new other c d =
       | inl names ↦
           let u = c.named i at.0 at.1 names in
           let v = d.named i at.0 at.1 names in
-          let same_place : v.0 ≡ u.0 = u.2.only v.0 v.1 v.2.is v.2.on in
-          let same : u.1 ≡ v.1 = same_some _ _ (sym u.2.is ∙ ap (slice_get xs) (sym same_place) ∙ v.2.is) in
+          let same_index : v.0 ≡ u.0 = u.2.only v.0 v.1 v.2.is v.2.on in
+          let same : u.1 ≡ v.1 = same_some _ _ (sym u.2.is ∙ ap (slice_get xs) (sym same_index) ∙ v.2.is) in
           same_some _ _ (sym ex ∙ u.3 ∙ ap (λ a. Some (extended at.0 a)) same ∙ sym v.3 ∙ ey)
       | inr others ↦ same_some _ _ (sym ex ∙ c.others i at.0 at.1 others ∙ sym (d.others i at.0 at.1 others) ∙ ey)
     ])
@@ -126,11 +126,11 @@ module _ (g : List EdgeValue) (name : List ℕ) (additions : List StatementValue
         let b = each i m.0 m.1 in
         origin_in g name additions i j file b.0 m.0 b.1 m.2 b.2
 
-    one_place : (i j k l : ℕ) (file : List ℕ) → Origin g additions i j file → Origin g additions k l file → (i ≡ k) × (j ≡ l)
-    one_place i j k l file (inl p) (inl q) = meets.made_once i j k l file p q
-    one_place i j k l file (inl p) (inr q) = absurd (meets.fresh q.1 q.3 file (q.2, q.5, q.7) (i, j, p))
-    one_place i j k l file (inr p) (inl q) = absurd (meets.fresh p.1 p.3 file (p.2, p.5, p.7) (k, l, q))
-    one_place i j k l file (inr p) (inr q) =
+    one_index : (i j k l : ℕ) (file : List ℕ) → Origin g additions i j file → Origin g additions k l file → (i ≡ k) × (j ≡ l)
+    one_index i j k l file (inl p) (inl q) = meets.made_once i j k l file p q
+    one_index i j k l file (inl p) (inr q) = absurd (meets.fresh q.1 q.3 file (q.2, q.5, q.7) (i, j, p))
+    one_index i j k l file (inr p) (inl q) = absurd (meets.fresh p.1 p.3 file (p.2, p.5, p.7) (k, l, q))
+    one_index i j k l file (inr p) (inr q) =
         let same = once p.1 p.3 q.1 q.3 file (p.2, p.5, p.7) (q.2, q.5, q.7) in
         let addition : p.2 ≡ q.2 = same_some _ _ (sym p.5 ∙ ap (slice_get additions) same.0 ∙ q.5) in
         let edges = meets.made_once i p.6.0 k q.6.0 q.2.output (p.0, p.4, p.6.1 ∙ ap (λ a. Some a.output) addition) (q.0, q.4, q.6.1) in
@@ -144,7 +144,7 @@ module _ (g : List EdgeValue) (name : List ℕ) (additions : List StatementValue
           others = others;
           named = named;
           bound = λ k a at. meets.names.bound k a.output (to_map (λ (b : StatementValue). b.output) additions k a at);
-          made_once = λ i j k l file p q. one_place i j k l file (origin i j file p) (origin k l file q);
+          made_once = λ i j k l file p q. one_index i j k l file (origin i j file p) (origin k l file q);
         }
 
 pub one_effect : OneEffect

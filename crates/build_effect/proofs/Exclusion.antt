@@ -26,21 +26,21 @@ module _ (g : List EdgeValue) (name : List ℕ) (additions : List StatementValue
       ]
 
   module _ (mentioned : AllMentioned g name additions) (fresh : NoneMadeBefore g additions) where
-    place_of : ℕ → ℕ → ℕ
-    place_of k m = offset (λ (a : StatementValue). a.implicit_outputs) additions k + m
+    index_of : ℕ → ℕ → ℕ
+    index_of k m = offset (λ (a : StatementValue). a.implicit_outputs) additions k + m
 
-    added_at : (k m : ℕ) (file : List ℕ) → AddsAt additions k m file → slice_get (added_outputs additions) (place_of k m) ≡ Some file
-    unfolding place_of
+    added_at : (k m : ℕ) (file : List ℕ) → AddsAt additions k m file → slice_get (added_outputs additions) (index_of k m) ≡ Some file
+    unfolding index_of
     added_at k m file h = in_flat_map (λ (a : StatementValue). a.implicit_outputs) additions k m file h
 
     added_once : AddedOnce additions
-    unfolding place_of
+    unfolding index_of
     added_once k m l n file p q =
-        elim (three_ways (place_of k m) (place_of l n)) [
-          | inl less ↦ absurd (fresh (place_of l n) file (added_at l n file q) (inr (place_of k m, less, added_at k m file p)))
+        elim (three_ways (index_of k m) (index_of l n)) [
+          | inl less ↦ absurd (fresh (index_of l n) file (added_at l n file q) (inr (index_of k m, less, added_at k m file p)))
           | inr rest ↦ elim rest [
             | inl same ↦ same_part (λ (a : StatementValue). a.implicit_outputs) additions k m l n file file p q same
-            | inr more ↦ absurd (fresh (place_of k m) file (added_at k m file p) (inr (place_of l n, more, added_at l n file q)))
+            | inr more ↦ absurd (fresh (index_of k m) file (added_at k m file p) (inr (index_of l n, more, added_at l n file q)))
           ]
         ]
 
@@ -64,7 +64,7 @@ module _ (g : List EdgeValue) (name : List ℕ) (additions : List StatementValue
                 let b = bound o f.0 f.1 in
                 (b.0, b.1, b.2, b.3, (b.4.0, b.4.1 ∙ ap Some f.2));
           };
-          fresh = λ k m file adds made. fresh (place_of k m) file (added_at k m file adds) (inl made);
+          fresh = λ k m file adds made. fresh (index_of k m) file (added_at k m file adds) (inl made);
         }
 
 pub checks_suffice : ChecksSuffice
@@ -95,8 +95,8 @@ module _ (g : List EdgeValue) (name : List ℕ) (additions : List StatementValue
   in_new m n a file at out =
       let p = gives.bound m a at in
       let q = gives.named p.0 p.1 p.2 p.3 in
-      let number : m ≡ q.0 = q.2.only m a at p.4 in
-      let same : q.1 ≡ a = same_some _ _ (sym q.2.is ∙ ap (slice_get additions) (sym number) ∙ at) in
+      let same_index : m ≡ q.0 = q.2.only m a at p.4 in
+      let same : q.1 ≡ a = same_some _ _ (sym q.2.is ∙ ap (slice_get additions) (sym same_index) ∙ at) in
       let joined : slice_get (p.1.outputs ++ (p.1.implicit_outputs ++ a.implicit_outputs)) (length (made_by p.1) + n) ≡ Some file =
       ap (λ xs. slice_get xs (length (made_by p.1) + n)) (sym (append_assoc p.1.outputs p.1.implicit_outputs a.implicit_outputs)) ∙ in_second (made_by p.1) a.implicit_outputs n file out in
       (p.0, p.1, p.2, p.3, p.4, (extended p.1 a, q.3 ∙ ap (λ x. Some (extended p.1 x)) same, joined))
@@ -137,14 +137,14 @@ module _ (g : List EdgeValue) (name : List ℕ) (additions : List StatementValue
       let first : r.0 ≡ one.0 = one.2.only r.0 r.2.0 r.2.1 (subst (IsOn r.2.0) edge m.4) in
       let second : s.0 ≡ one.0 = one.2.only s.0 s.2.0 s.2.1 n.4 in
       let long : length (made_by m.1) ≡ length (made_by n.1) = ap (λ e. length (made_by e)) edge in
-      let place : offset (λ (a : StatementValue). a.implicit_outputs) additions r.0 ≡ offset (λ (a : StatementValue). a.implicit_outputs) additions s.0 = ap (offset (λ (a : StatementValue). a.implicit_outputs) additions) (first ∙ sym second) in
-      omega (arith, less, r.3, s.3, long, place, same.1)
+      let same_index : offset (λ (a : StatementValue). a.implicit_outputs) additions r.0 ≡ offset (λ (a : StatementValue). a.implicit_outputs) additions s.0 = ap (offset (λ (a : StatementValue). a.implicit_outputs) additions) (first ∙ sym second) in
+      omega (arith, less, r.3, s.3, long, same_index, same.1)
 
   not_repeated : (k : ℕ) (a : StatementValue) → AllBound g name additions → slice_get additions k ≡ Some a → IsRepeated g additions k a → ⊥
   not_repeated k a bound at (j, b, i, e, less, jb, here, on, also) =
       let p = bound k a at in
-      let place = once i on.0 p.0 p.4.0 a.output (e, here, on.1) (p.1, p.2, p.4.1) in
-      let edge : p.1 ≡ e = same_edge p.0 i p.1 e p.2 here (sym place.0) in
+      let same_index = once i on.0 p.0 p.4.0 a.output (e, here, on.1) (p.1, p.2, p.4.1) in
+      let edge : p.1 ≡ e = same_edge p.0 i p.1 e p.2 here (sym same_index.0) in
       let one = gives.named i e here (subst (λ d. Names name d) edge p.3) in
       let first = one.2.only k a at on in
       let second = one.2.only j b jb also in

@@ -33,8 +33,8 @@ more_extended g additions statement_of new i e x at are comes =
     count : length (new ++ x ∷ []) ≡ length (take i g ++ e ∷ [])
     count = omega (arith, length-append new (x ∷ []), length-append (take i g) (e ∷ []), are.as_many)
 
-    number : (j : ℕ) → j ≡ length (take i g) → j ≡ i
-    number j same =
+    index_is : (j : ℕ) → j ≡ length (take i g) → j ≡ i
+    index_is j same =
         let here = last_at (take i g) e in
         let within = slice_get_within g i e at in
         let low = from_take (i + 1) g (length (take i g)) e (ap (λ xs. slice_get xs (length (take i g))) (take_next g i e at) ∙ here) in
@@ -46,7 +46,7 @@ more_extended g additions statement_of new i e x at are comes =
         elim (from_push (take i g) e j d at_j) [
           | inl p ↦ in_first new (x ∷ []) j d (are.plain j d p none)
           | inr p ↦
-              let same : x ≡ d = plain_of additions (statement_on statement_of i) e x (ap (statement_on statement_of) (sym (number j p.0)) ∙ none) comes ∙ p.1 in
+              let same : x ≡ d = plain_of additions (statement_on statement_of i) e x (ap (statement_on statement_of) (sym (index_is j p.0)) ∙ none) comes ∙ p.1 in
               ap (slice_get (new ++ x ∷ [])) (p.0 ∙ sym are.as_many) ∙ last_at new x ∙ ap (λ z. Some z) same
         ]
 
@@ -55,7 +55,7 @@ more_extended g additions statement_of new i e x at are comes =
         elim (from_push (take i g) e j d at_j) [
           | inl p ↦ in_first new (x ∷ []) j (extended d a) (are.more j k d a p some at_k)
           | inr p ↦
-              let same : x ≡ extended d a = more_of additions (statement_on statement_of i) k a e x (ap (statement_on statement_of) (sym (number j p.0)) ∙ some) at_k comes ∙ ap (λ z. extended z a) p.1 in
+              let same : x ≡ extended d a = more_of additions (statement_on statement_of i) k a e x (ap (statement_on statement_of) (sym (index_is j p.0)) ∙ some) at_k comes ∙ ap (λ z. extended z a) p.1 in
               ap (slice_get (new ++ x ∷ [])) (p.0 ∙ sym are.as_many) ∙ last_at new x ∙ ap (λ z. Some z) same
         ]
 
@@ -80,8 +80,8 @@ module _ (g : List EdgeValue) (name : List ℕ) (ss additions : List StatementVa
             let edge : p.2.0 ≡ at.0 = same_some _ _ (sym p.2.1 ∙ at.1) in
             let names : Names name at.0 = subst (λ (z : EdgeValue). Names name z) edge p.2.2 in
             let q = gives.named i at.0 at.1 names in
-            let number : some.0 ≡ q.0 = q.2.only some.0 p.0 p.1 (subst (IsOn p.0) edge p.2.3) in
-            let same : p.0 ≡ q.1 = same_some _ _ (sym p.1 ∙ ap (slice_get additions) number ∙ q.2.is) in
+            let same_index : some.0 ≡ q.0 = q.2.only some.0 p.0 p.1 (subst (IsOn p.0) edge p.2.3) in
+            let same : p.0 ≡ q.1 = same_some _ _ (sym p.1 ∙ ap (slice_get additions) same_index ∙ q.2.is) in
             same_some _ _ (sym at_x ∙ q.3 ∙ ap (λ a. Some (extended at.0 a)) (sym same) ∙ sym (are.more i some.0 at.0 p.0 at.1 some.1 p.1) ∙ at_y)
       ])
 

@@ -59,56 +59,56 @@ module _ (g : List EdgeValue) (name : List ℕ) (additions : List StatementValue
 record RestMeets (files : List NamedFile) (g : List EdgeValue) (order : List ℕ) : Type 0 where
   each : (p n : ℕ) (f : NamedFile) → slice_get order p ≡ Some n → slice_get files n ≡ Some f → Meets g f.name f.additions
 
-tail_numbers : (files : List NamedFile) (n : ℕ) (order : List ℕ) → AreFileIndices files (n ∷ order) → AreFileIndices files order
-tail_numbers files n order numbers =
-    record { within = λ p m e. numbers.within (suc p) m e; differ = λ p q m e f. let same : suc p ≡ suc q = numbers.differ (suc p) (suc q) m e f in omega (arith, same) }
+tail_indices : (files : List NamedFile) (n : ℕ) (order : List ℕ) → AreFileIndices files (n ∷ order) → AreFileIndices files order
+tail_indices files n order indices =
+    record { within = λ p m e. indices.within (suc p) m e; differ = λ p q m e f. let same : suc p ≡ suc q = indices.differ (suc p) (suc q) m e f in omega (arith, same) }
 
 -- an index of the rest is not the first
 not_first : (files : List NamedFile) (n : ℕ) (order : List ℕ) → AreFileIndices files (n ∷ order) → (p m : ℕ) → slice_get order p ≡ Some m → n ≡ m → ⊥
-not_first files n order numbers p m e same = let place : 0 ≡ suc p = numbers.differ 0 (suc p) m (ap Some same) e in omega (arith, place)
+not_first files n order indices p m e same = let same_index : 0 ≡ suc p = indices.differ 0 (suc p) m (ap Some same) e in omega (arith, same_index)
 
 module _ (files : List NamedFile) (start : List EdgeValue) (are : AreFiles files) (all : FilesMeet start files) where
   gains_named : (n : ℕ) (order : List ℕ) (g : List EdgeValue) → AreFileIndices files (n ∷ order) → (f : NamedFile) → slice_get files n ≡ Some f →
       (mid : List EdgeValue) → Gives g f.name f.additions mid → (new : List EdgeValue) → GainsExactly files mid order new →
       (p m : ℕ) (h : NamedFile) (i : ℕ) (e : EdgeValue) → slice_get (n ∷ order) p ≡ Some m → slice_get files m ≡ Some h → slice_get g i ≡ Some e → Names h.name e →
       (k : ℕ) × (a : StatementValue) × IsTheOneOn h.additions e k a × (slice_get new i ≡ Some (extended e a))
-  gains_named n order g numbers f at mid first new more zero m h i e number there here names =
-      let same : f ≡ h = same_some _ _ (sym at ∙ ap (slice_get files) (same_some _ _ number) ∙ there) in
+  gains_named n order g indices f at mid first new more zero m h i e listed there here names =
+      let same : f ≡ h = same_some _ _ (sym at ∙ ap (slice_get files) (same_some _ _ listed) ∙ there) in
       let gained = first.named i e here (names ∙ ap (λ (x : NamedFile). Some x.name) (sym same)) in
-      let last = more.others i (extended e gained.1) gained.3 (λ q l x place at_l again.
-      not_first files n order numbers q l place (all.names_differ n l f x at at_l (same_some _ _ (sym (names ∙ ap (λ (x : NamedFile). Some x.name) (sym same)) ∙ again)))) in
+      let last = more.others i (extended e gained.1) gained.3 (λ q l x at_q at_l again.
+      not_first files n order indices q l at_q (all.names_differ n l f x at at_l (same_some _ _ (sym (names ∙ ap (λ (x : NamedFile). Some x.name) (sym same)) ∙ again)))) in
       (gained.0, gained.1, subst (λ (x : NamedFile). IsTheOneOn x.additions e gained.0 gained.1) same gained.2, last)
-  gains_named n order g numbers f at mid first new more (suc p) m h i e number there here names =
-      let unnamed : e.dyndep ≢ Some f.name = λ same. not_first files n order numbers p m number (all.names_differ n m f h at there (same_some _ _ (sym same ∙ names))) in
-      more.named p m h i e number there (first.others i e here unnamed) names
+  gains_named n order g indices f at mid first new more (suc p) m h i e listed there here names =
+      let unnamed : e.dyndep ≢ Some f.name = λ same. not_first files n order indices p m listed (all.names_differ n m f h at there (same_some _ _ (sym same ∙ names))) in
+      more.named p m h i e listed there (first.others i e here unnamed) names
 
   gains_others : (n : ℕ) (order : List ℕ) (g : List EdgeValue) → AreFileIndices files (n ∷ order) → (f : NamedFile) → slice_get files n ≡ Some f →
       (mid : List EdgeValue) → Gives g f.name f.additions mid → (new : List EdgeValue) → GainsExactly files mid order new →
       (i : ℕ) (e : EdgeValue) → slice_get g i ≡ Some e → ((p m : ℕ) (h : NamedFile) → slice_get (n ∷ order) p ≡ Some m → slice_get files m ≡ Some h → e.dyndep ≢ Some h.name) → slice_get new i ≡ Some e
-  gains_others n order g numbers f at mid first new more i e here none =
-      more.others i e (first.others i e here (none 0 n f refl at)) (λ p m h number there. none (suc p) m h number there)
+  gains_others n order g indices f at mid first new more i e here none =
+      more.others i e (first.others i e here (none 0 n f refl at)) (λ p m h listed there. none (suc p) m h listed there)
 
   -- the gains of the first file and those of the rest
   gains : (n : ℕ) (order : List ℕ) (g : List EdgeValue) → AreFileIndices files (n ∷ order) → (f : NamedFile) → slice_get files n ≡ Some f →
       (mid : List EdgeValue) → Gives g f.name f.additions mid → (new : List EdgeValue) → GainsExactly files mid order new → GainsExactly files g (n ∷ order) new
-  gains n order g numbers f at mid first new more =
-      record { same_edges = more.same_edges ∙ first.same_edges; named = gains_named n order g numbers f at mid first new more; others = gains_others n order g numbers f at mid first new more }
+  gains n order g indices f at mid first new more =
+      record { same_edges = more.same_edges ∙ first.same_edges; named = gains_named n order g indices f at mid first new more; others = gains_others n order g indices f at mid first new more }
 
   run : (order : List ℕ) (g : List EdgeValue) → AreFileIndices files order → RestMeets files g order → (new : List EdgeValue) × Applies files g order new × GainsExactly files g order new
-  run [] g numbers rest = (g, refl, record { same_edges = refl; named = λ p n f i e none. cc; others = λ i e here none. here })
-  run (n ∷ order) g numbers rest =
-      let at : (f : NamedFile) × (slice_get files n ≡ Some f) = element_at files n (numbers.within 0 n refl) in
+  run [] g indices rest = (g, refl, record { same_edges = refl; named = λ p n f i e none. cc; others = λ i e here none. here })
+  run (n ∷ order) g indices rest =
+      let at : (f : NamedFile) × (slice_get files n ≡ Some f) = element_at files n (indices.within 0 n refl) in
       let first = one_effect g at.0.name at.0.statements at.0.additions (are.canonical n at.0 at.1) (are.added_once n at.0 at.1) (rest.each 0 n at.0 refl at.1) in
       let left : RestMeets files first.0 order = record {
         each = λ p m h e there. still_meets g at.0.name at.0.additions first.0 first.1 h.name
-            (λ same. not_first files n order numbers p m e (all.names_differ n m at.0 h at.1 there same)) h.additions (rest.each (suc p) m h e there)
-            (λ k l i j file a b. not_first files n order numbers p m e (all.added_apart n m k l i j at.0 h file at.1 there a b));
+            (λ same. not_first files n order indices p m e (all.names_differ n m at.0 h at.1 there same)) h.additions (rest.each (suc p) m h e there)
+            (λ k l i j file a b. not_first files n order indices p m e (all.added_apart n m k l i j at.0 h file at.1 there a b));
       } in
-      let more = run order first.0 (tail_numbers files n order numbers) left in
-      (more.0, (at.0, first.0, at.1, first.2, more.1), gains n order g numbers at.0 at.1 first.0 first.1 more.0 more.2)
+      let more = run order first.0 (tail_indices files n order indices) left in
+      (more.0, (at.0, first.0, at.1, first.2, more.1), gains n order g indices at.0 at.1 first.0 first.1 more.0 more.2)
 
 pub any_order : AnyOrder
-any_order files g order are all numbers = run files g are all order g numbers (record { each = λ p n f e there. all.each n f there })
+any_order files g order are all indices = run files g are all order g indices (record { each = λ p n f e there. all.each n f there })
 
 -- files applied in one order lead to one graph
 same_end : (files : List NamedFile) (order : List ℕ) (g a b : List EdgeValue) → Applies files g order a → Applies files g order b → a ≡ b
@@ -127,16 +127,16 @@ abbrev NamesNone : List NamedFile → List ℕ → EdgeValue → Type 0
 NamesNone files order e = (p n : ℕ) (f : NamedFile) → slice_get order p ≡ Some n → slice_get files n ≡ Some f → e.dyndep ≢ Some f.name
 
 names_none_more : (files : List NamedFile) (n : ℕ) (order : List ℕ) (e : EdgeValue) (f : NamedFile) → slice_get files n ≡ Some f → e.dyndep ≢ Some f.name → NamesNone files order e → NamesNone files (n ∷ order) e
-names_none_more files n order e f at not none zero m h number there = subst (λ (x : NamedFile). e.dyndep ≢ Some x.name) (same_some _ _ (sym at ∙ ap (slice_get files) (same_some _ _ number) ∙ there)) not
-names_none_more files n order e f at not none (suc p) m h number there = none p m h number there
+names_none_more files n order e f at not none zero m h listed there = subst (λ (x : NamedFile). e.dyndep ≢ Some x.name) (same_some _ _ (sym at ∙ ap (slice_get files) (same_some _ _ listed) ∙ there)) not
+names_none_more files n order e f at not none (suc p) m h listed there = none p m h listed there
 
 names_one : (files : List NamedFile) (order : List ℕ) → AreFileIndices files order → (e : EdgeValue) → NamesOne files order e ⊎ NamesNone files order e
-names_one files [] numbers e = inr (λ p n f none. cc)
-names_one files (n ∷ order) numbers e =
-    let at : (f : NamedFile) × (slice_get files n ≡ Some f) = element_at files n (numbers.within 0 n refl) in
+names_one files [] indices e = inr (λ p n f none. cc)
+names_one files (n ∷ order) indices e =
+    let at : (f : NamedFile) × (slice_get files n ≡ Some f) = element_at files n (indices.within 0 n refl) in
     elim (path_option_decides e.dyndep (Some at.0.name)) [
       | inl names ↦ inl (0, n, at.0, refl, at.1, names)
-      | inr not ↦ elim (names_one files order (tail_numbers files n order numbers) e) [
+      | inr not ↦ elim (names_one files order (tail_indices files n order indices) e) [
         | inl h ↦ inl (suc h.0, h.1, h.2, h.3, h.4, h.5)
         | inr none ↦ inr (names_none_more files n order e at.0 at.1 not none)
       ]
@@ -145,24 +145,24 @@ names_one files (n ∷ order) numbers e =
 -- what each edge gains does not depend on the order
 same_gains : (files : List NamedFile) (g : List EdgeValue) (order other : List ℕ) (a b : List EdgeValue) → AreFileIndices files order → SameFiles order other →
     GainsExactly files g order a → GainsExactly files g other b → a ≡ b
-same_gains files g order other a b numbers same p q =
+same_gains files g order other a b indices same p q =
     same_lists a b (p.same_edges ∙ sym q.same_edges) (λ i x y ex ey.
     let within : i < length a = slice_get_within _ _ _ ex in
     let at : (e : EdgeValue) × (slice_get g i ≡ Some e) = element_at g i (omega (arith, p.same_edges)) in
-    elim (names_one files order numbers at.0) [
+    elim (names_one files order indices at.0) [
       | inl h ↦
           let there = same.0 h.0 h.1 h.3 in
           let u = p.named h.0 h.1 h.2 i at.0 h.3 h.4 at.1 h.5 in
           let v = q.named there.0 h.1 h.2 i at.0 there.1 h.4 at.1 h.5 in
-          let place : v.0 ≡ u.0 = u.2.only v.0 v.1 v.2.is v.2.on in
-          let addition : u.1 ≡ v.1 = same_some _ _ (sym u.2.is ∙ ap (slice_get h.2.additions) (sym place) ∙ v.2.is) in
+          let same_index : v.0 ≡ u.0 = u.2.only v.0 v.1 v.2.is v.2.on in
+          let addition : u.1 ≡ v.1 = same_some _ _ (sym u.2.is ∙ ap (slice_get h.2.additions) (sym same_index) ∙ v.2.is) in
           same_some _ _ (sym ex ∙ u.3 ∙ ap (λ z. Some (extended at.0 z)) addition ∙ sym v.3 ∙ ey)
-      | inr none ↦ same_some _ _ (sym ex ∙ p.others i at.0 at.1 none ∙ sym (q.others i at.0 at.1 (λ r n f number there.
-          let back = same.1 r n number in none back.0 n f back.1 there)) ∙ ey)
+      | inr none ↦ same_some _ _ (sym ex ∙ p.others i at.0 at.1 none ∙ sym (q.others i at.0 at.1 (λ r n f listed there.
+          let back = same.1 r n listed in none back.0 n f back.1 there)) ∙ ey)
     ])
 
 pub orders_end_alike : OrdersEndAlike
-orders_end_alike files g order other new last are all numbers more same p q =
-    let a = any_order files g order are all numbers in
+orders_end_alike files g order other new last are all indices more same p q =
+    let a = any_order files g order are all indices in
     let b = any_order files g other are all more in
-    same_end files order g new a.0 p a.1 ∙ same_gains files g order other a.0 b.0 numbers same a.2 b.2 ∙ same_end files other g b.0 last b.1 q
+    same_end files order g new a.0 p a.1 ∙ same_gains files g order other a.0 b.0 indices same a.2 b.2 ∙ same_end files other g b.0 last b.1 q

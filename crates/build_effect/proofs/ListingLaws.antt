@@ -15,7 +15,7 @@ use Rattle.build_effect.specs.declared.listing_faults.LineCause.TheVariants.{Lin
 use Rattle.build_effect.specs.declared.listing_faults.LineFault.{LineFault}
 use Rattle.build_effect.proofs.ListingRuns.{one_list_of_edges}
 
--- a row is told by one line alone
+-- equal answers are of one row, or of one class
 row_same : {r s : Row} → ◌≡◌ {A = Result Row LineCause} (Ok r) (Ok s) → r ≡ s
 row_same h = cc
 

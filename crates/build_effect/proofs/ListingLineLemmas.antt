@@ -22,7 +22,7 @@ symbols_are : (text : List ℕ) (ts : List TokenAt) → map symbol_of (map (with
 symbols_are text [] = refl
 symbols_are text (t ∷ ts) = ap (λ s. symbol t.kind (raw text t) ∷ s) (symbols_are text ts)
 
--- the tokens after the keyword `build`, told by the first symbol
+-- the tokens after the keyword `build`, by the first symbol
 built_by : (kind : TokenKind) (at_start : Bool) (bytes : List ℕ) (more others : List Symbol) → others ≡ more
     → after_build at_start (symbol kind bytes ∷ more) ≡ (if at_start && is_word (codes "build") (symbol kind bytes) then Some others else None)
 built_by Word at_start bytes more others h = rw h refl

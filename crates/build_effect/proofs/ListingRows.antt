@@ -85,7 +85,7 @@ turned_round = refl
 validation : line_cause Closed (line (codes "build a: r |@ b")) ≡ Some Form
 validation = refl
 
--- a binding under no edge; its form is told before its path
+-- a binding under no edge; its form is reported before its path
 no_edge : line_cause Closed (line (codes "  dyndep = a/..")) ≡ Some Form
 no_edge = refl
 

@@ -257,7 +257,7 @@ begins_runs classes b =
 pub runs_begin : (classes : List Class) (end : ListingValue) → run Closed [] classes ≡ Some end → Begins classes
 runs_begin classes end h = ([], end.edges, subst (λ cs. IsListing cs end.edges) (sym (append-nil classes)) (run_is_listing classes end h))
 
--- what a step leaves open is told by the class alone
+-- what a step leaves open depends on the class alone
 left : (binding : Binding) (es : List EdgeValue) (c : Class) (next : ListingValue) → step binding es c ≡ Some next → next.binding ≡ left_open binding c
 left binding es Comment next h = sym (ap (λ s. s.binding) (value_same h))
 left binding es Blank next h = sym (ap (λ s. s.binding) (value_same h))

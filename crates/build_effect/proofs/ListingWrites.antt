@@ -16,19 +16,19 @@ use Rattle.build_effect.specs.declared.listing_writing.ListingWriteFault.{Listin
 use Rattle.build_effect.specs.declared.listing_writing.ListingWriteFault.TheVariants.{ListingTooLong, Io}
 
 -- the fault is that of an edge
-told : (o : Option ℕ) (es : List EdgeValue) (f : ListingWriteFault) → text_unless o es ≡ Err f → (k : ℕ) × (o ≡ Some k) × (f ≡ ListingTooLong k)
-told None es f h = absurd (let x : ◌≡◌ {A = Result (List ℕ) ListingWriteFault} (Ok (listing_text es)) (Err f) = h in cc)
-told (Some k) es f h = (k, refl, (let x : ◌≡◌ {A = Result (List ℕ) ListingWriteFault} (Err (ListingTooLong k)) (Err f) = h in cc))
+reported : (o : Option ℕ) (es : List EdgeValue) (f : ListingWriteFault) → text_unless o es ≡ Err f → (k : ℕ) × (o ≡ Some k) × (f ≡ ListingTooLong k)
+reported None es f h = absurd (let x : ◌≡◌ {A = Result (List ℕ) ListingWriteFault} (Ok (listing_text es)) (Err f) = h in cc)
+reported (Some k) es f h = (k, refl, (let x : ◌≡◌ {A = Result (List ℕ) ListingWriteFault} (Err (ListingTooLong k)) (Err f) = h in cc))
 
 -- no text was made for want of memory, or of this edge
 pub failed : {W : Type 0} (contents : W → Option (List ℕ)) (out : Counted W) (text : List ℕ) (es : List EdgeValue) (failure : Failure ListingWriteFault)
     → Gives {T = Vec ℕ Global} (λ made. made.items) (Err failure) (text_or_fault es) → LeavesWriter contents out out text failure × AnswersFault {T = Unit {0}} (first_too_long es) (Err failure)
 failed contents out text es Memory h = (refl, tt)
 failed contents out text es (Fault (ListingTooLong edge)) h =
-    let t = told (first_too_long es) es (ListingTooLong edge) h in
+    let t = reported (first_too_long es) es (ListingTooLong edge) h in
     (refl, t.1 ∙ (let same : ListingTooLong edge ≡ ListingTooLong t.0 = t.2 in let e : edge ≡ t.0 = cc in ap (λ k. Some k) (sym e)))
 failed contents out text es (Fault (Io written)) h =
-    let t = told (first_too_long es) es (Io written) h in
+    let t = reported (first_too_long es) es (Io written) h in
     absurd (let x : Io written ≡ ListingTooLong t.0 = t.2 in cc)
 
 -- no call of the writer was made then
@@ -37,7 +37,7 @@ pub uncalled : {W : Type 0} (writes : Call W) (out : W) (text : List ℕ) (es : 
 uncalled writes out text es Memory h = refl
 uncalled writes out text es (Fault (ListingTooLong edge)) h = refl
 uncalled writes out text es (Fault (Io written)) h =
-    let t = told (first_too_long es) es (Io written) h in
+    let t = reported (first_too_long es) es (Io written) h in
     absurd (let x : Io written ≡ ListingTooLong t.0 = t.2 in cc)
 
 -- a text is that of the edges

@@ -29,12 +29,12 @@ more_paths texts paths i text path at are ok =
     ∙ sym (map-append {B = Result (List ℕ) PathFault} (λ p. Ok p) paths (path ∷ []))
 
 -- the first text that is none
-pub first_bad : (texts paths : List (List ℕ)) (i number from : ℕ) (text : List ℕ) (fault : EffectFault) → slice_get texts i ≡ Some text → ArePaths (take i texts) paths → IsBadText text number (from + i) fault → IsBadTextFrom texts number from fault
-first_bad texts paths i number from text fault at are bad =
+pub first_bad : (texts paths : List (List ℕ)) (i statement_index from : ℕ) (text : List ℕ) (fault : EffectFault) → slice_get texts i ≡ Some text → ArePaths (take i texts) paths → IsBadText text statement_index (from + i) fault → IsBadTextFrom texts statement_index from fault
+first_bad texts paths i statement_index from text fault at are bad =
     (i, text, record { here = at; holds = (bad.0, bad.1); before = λ j y less at_y refused. none_refused (take i texts) paths are j y (in_take i texts j y less at_y) refused }, bad)
 
-pub bad_before : (xs ys : List (List ℕ)) (number from : ℕ) (fault : EffectFault) → IsBadTextFrom xs number from fault → IsBadTextFrom (xs ++ ys) number from fault
-bad_before xs ys number from fault (j, text, first, bad) =
+pub bad_before : (xs ys : List (List ℕ)) (statement_index from : ℕ) (fault : EffectFault) → IsBadTextFrom xs statement_index from fault → IsBadTextFrom (xs ++ ys) statement_index from fault
+bad_before xs ys statement_index from fault (j, text, first, bad) =
     (j, text, record { here = in_first xs ys j text first.here; holds = first.holds; before = before }, bad)
   where
     before : (k : ℕ) (y : List ℕ) → k < j → slice_get (xs ++ ys) k ≡ Some y → IsRefused y → ⊥
@@ -44,10 +44,10 @@ bad_before xs ys number from fault (j, text, first, bad) =
           | inr h ↦ let within = slice_get_within xs j text first.here in absurd (omega (arith, within, h.1, less))
         ]
 
-pub bad_after : (xs ys : List (List ℕ)) (number from : ℕ) (fault : EffectFault) → from ≡ length xs → NoneRefused xs → IsBadTextFrom ys number from fault → IsBadTextFrom (xs ++ ys) number 0 fault
-bad_after xs ys number from fault same none (j, text, first, bad) =
-    let place : from + j ≡ 0 + (length xs + j) = omega (arith, same) in
-    (length xs + j, text, record { here = in_second xs ys j text first.here; holds = first.holds; before = before }, subst (λ n. IsBadText text number n fault) place bad)
+pub bad_after : (xs ys : List (List ℕ)) (statement_index from : ℕ) (fault : EffectFault) → from ≡ length xs → NoneRefused xs → IsBadTextFrom ys statement_index from fault → IsBadTextFrom (xs ++ ys) statement_index 0 fault
+bad_after xs ys statement_index from fault same none (j, text, first, bad) =
+    let same_index : from + j ≡ 0 + (length xs + j) = omega (arith, same) in
+    (length xs + j, text, record { here = in_second xs ys j text first.here; holds = first.holds; before = before }, subst (λ n. IsBadText text statement_index n fault) same_index bad)
   where
     before : (k : ℕ) (y : List ℕ) → k < length xs + j → slice_get (xs ++ ys) k ≡ Some y → IsRefused y → ⊥
     before k y less at refused =
@@ -64,18 +64,18 @@ more_refused : (xs ys : List (List ℕ)) → NoneRefused xs → NoneRefused ys �
 more_refused xs ys p q j y at refused = elim (in_append xs ys j y at) [ inl h ↦ p j y h refused | inr h ↦ q h.0 y h.2 refused ]
 
 -- which text of a statement is reported
-pub bad_output : (s : StatementValue) (number : ℕ) (fault : EffectFault) → IsBadText s.output number 0 fault → IsBadTextOf s number fault
-bad_output s number fault bad =
+pub bad_output : (s : StatementValue) (statement_index : ℕ) (fault : EffectFault) → IsBadText s.output statement_index 0 fault → IsBadTextOf s statement_index fault
+bad_output s statement_index fault bad =
     (0, s.output, record { here = refl; holds = (bad.0, bad.1); before = λ j y less at refused. omega (arith, less) }, bad)
 
-pub bad_outputs : (s : StatementValue) (number : ℕ) (fault : EffectFault) (path : List ℕ) → path_of s.output ≡ Ok path → IsBadTextFrom s.implicit_outputs number 1 fault → IsBadTextOf s number fault
-bad_outputs s number fault path ok bad =
-    bad_before (s.output ∷ s.implicit_outputs) s.implicit_inputs number 0 fault (bad_after (s.output ∷ []) s.implicit_outputs number 1 fault refl (one_refused s.output path ok) bad)
+pub bad_outputs : (s : StatementValue) (statement_index : ℕ) (fault : EffectFault) (path : List ℕ) → path_of s.output ≡ Ok path → IsBadTextFrom s.implicit_outputs statement_index 1 fault → IsBadTextOf s statement_index fault
+bad_outputs s statement_index fault path ok bad =
+    bad_before (s.output ∷ s.implicit_outputs) s.implicit_inputs statement_index 0 fault (bad_after (s.output ∷ []) s.implicit_outputs statement_index 1 fault refl (one_refused s.output path ok) bad)
 
-pub bad_inputs : (s : StatementValue) (number from : ℕ) (fault : EffectFault) (path : List ℕ) (paths : List (List ℕ)) → path_of s.output ≡ Ok path → ArePaths s.implicit_outputs paths → from ≡ 1 + length s.implicit_outputs → IsBadTextFrom s.implicit_inputs number from fault → IsBadTextOf s number fault
-bad_inputs s number from fault path paths ok are same bad =
-    let place : from ≡ length (s.output ∷ s.implicit_outputs) = omega (arith, same) in
-    bad_after (s.output ∷ s.implicit_outputs) s.implicit_inputs number from fault place
+pub bad_inputs : (s : StatementValue) (statement_index from : ℕ) (fault : EffectFault) (path : List ℕ) (paths : List (List ℕ)) → path_of s.output ≡ Ok path → ArePaths s.implicit_outputs paths → from ≡ 1 + length s.implicit_outputs → IsBadTextFrom s.implicit_inputs statement_index from fault → IsBadTextOf s statement_index fault
+bad_inputs s statement_index from fault path paths ok are same bad =
+    let start : from ≡ length (s.output ∷ s.implicit_outputs) = omega (arith, same) in
+    bad_after (s.output ∷ s.implicit_outputs) s.implicit_inputs statement_index from fault start
     (more_refused (s.output ∷ []) s.implicit_outputs (one_refused s.output path ok) (none_refused s.implicit_outputs paths are)) bad
 
 -- one more statement in a loop

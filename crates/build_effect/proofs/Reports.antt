@@ -19,8 +19,8 @@ use Rattle.build_effect.proofs.Extensions.{on_or_not}
 
 pub reports_bad_path : (g : List EdgeValue) (name : List ℕ) (ss : List StatementValue) (fault : EffectFault) → IsBadStatement ss fault → IsEffectFault g name ss fault
 reports_bad_path g name ss fault (k, s, first, (j, text, inner, bad)) =
-    let place : 0 + j ≡ j = omega arith in
-    let is : fault ≡ BadPath k j bad.0 = bad.2 ∙ ap (λ n. BadPath k n bad.0) place in
+    let same_index : 0 + j ≡ j = omega arith in
+    let is : fault ≡ BadPath k j bad.0 = bad.2 ∙ ap (λ n. BadPath k n bad.0) same_index in
     subst (IsEffectFault g name ss) (sym is) (s, text, first, inner, bad.1)
 
 pub reports_unbound : (g : List EdgeValue) (name : List ℕ) (ss additions : List StatementValue) (fault : EffectFault) → AreCanonical ss additions → IsFirstUnbound g name additions fault → IsEffectFault g name ss fault

@@ -30,7 +30,7 @@ abbrev pub listing_fault_text : ListingFault → List ℕ
 listing_fault_text (AtLine fault) = line_fault_text fault
 listing_fault_text (NoGraph fault) = graph_fault_text fault
 
--- why a graph was not written; the edge is told by its first output
+-- why a graph was not written
 abbrev pub listing_write_fault_text : ListingWriteFault → List ℕ
 listing_write_fault_text (ListingTooLong edge) = codes "E9 ListingTooLong"
 listing_write_fault_text (Io written) = codes "Y3 Io written " ++ decimal written

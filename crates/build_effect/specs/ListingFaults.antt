@@ -36,7 +36,7 @@ row_cause binding (Err cause) = Some cause
 row_cause binding (Ok row) =
     if may_stand binding row then path_cause (class_of_row row) else Some Form
 
--- the cause of a line's text without its end, told by whether the line is a comment
+-- the cause of a line's text without its end, and of whether the line is a comment
 abbrev pub text_cause : Binding → List ℕ → Bool → Option LineCause
 text_cause binding text comment = row_cause binding (row_of text comment)
 

@@ -135,7 +135,7 @@ abbrev pub row_or_fault : Option LexFault → Result Row LineCause → Result Ro
 row_or_fault (Some fault) row = Err (Lexical fault)
 row_or_fault None row = row
 
--- The row of a line's text without its end, told by whether the line is a comment; else that it has
+-- The row of a line's text without its end, and of whether the line is a comment; else that it has
 -- a lexical fault or no such form.
 abbrev pub row_of : List ℕ → Bool → Result Row LineCause
 row_of text comment =
@@ -202,7 +202,7 @@ class_of_row (BuildRow texts) = build_class (edge_paths texts)
 class_of_row (DyndepRow text) = dyndep_class (path_of text)
 class_of_row (RestatRow flag) = Ok (Restat flag)
 
--- A line's text, told by whether the line is a comment, is of this class.
+-- A line of this text, which is a comment or not, is of this class.
 abbrev pub TextIsOfClass : List ℕ → Bool → Class → Type 0
 TextIsOfClass text comment c =
     (row : Row) × (row_of text comment ≡ Ok row) × (class_of_row row ≡ Ok c)

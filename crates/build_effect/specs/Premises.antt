@@ -28,7 +28,7 @@ pub record NamesExactly (g : List EdgeValue) (name : List ℕ) (objects : List (
   pub bound : (o : ℕ) (object : List ℕ) → slice_get objects o ≡ Some object →
       (i : ℕ) × (e : EdgeValue) × (slice_get g i ≡ Some e) × Names name e × Makes e object
 
--- What is asked of a graph: no file is made twice, the file is named on exactly the additions'
+-- What a graph has to meet: no file is made twice, the file is named on exactly the additions'
 -- outputs, and no added output is made.
 pub record Meets (g : List EdgeValue) (name : List ℕ) (additions : List StatementValue)
     : Type 0 where

@@ -11,7 +11,7 @@
 //!   the answer is the graph of the edges that the form gives the whole text, or the first faulty
 //!   line, E3, and its cause, or E1 or E2 of those edges (`specs/ListingGrammar.antt`, `IsListing`;
 //!   `specs/ListingFaults.antt`, `line_cause`; `specs/ListingReaders.antt`, `Reads`, `Ends`).
-//! - [`listing_write`] writes the listing of a graph byte for byte, or tells the first build line
+//! - [`listing_write`] writes the listing of a graph byte for byte, or reports the first build line
 //!   that is too long, E9, before the first byte. After a failed write, Y3, a beginning of the text
 //!   went out (`specs/ListingWriting.antt`, `listing_text`, `first_too_long`).
 //! - [`apply`] answers the graph after the effect of a dyndep file. The effect is a relation of two
@@ -33,14 +33,14 @@
 //!
 //! # How it works
 //!
-//! - Each file that an edge makes is put once into an `indexmap` table of its maker (`makers.rt`), in
-//!   which the edge of a statement, the maker of an input and a second maker of an added output are
-//!   found. So the work is linear in the files of the graph and of the statements.
+//! - Each file that an edge makes is put once into an `indexmap` table of its maker (`makers.rt`),
+//!   in which the edge of a statement, the maker of an input and a second maker of an added output
+//!   are found. So the work is linear in the files of the graph and of the statements.
 //! - The checks are functions of their own, made in the order of their faults (`all_checks.rt`):
 //!   `canonical_statements` (E8), `edges_of_statements` (E5), `statements_of_edges` (E4),
-//!   `check_mentioned` (E6), `check_added` (E7). `edges_of_statements` and `statements_of_edges` give
-//!   the edge of each statement and the statement on each edge, and `extended_edges` makes the new
-//!   edges of them. That these are the effect is the law [`checks`], which [`apply`] calls.
+//!   `check_mentioned` (E6), `check_added` (E7). `edges_of_statements` and `statements_of_edges`
+//!   give the edge of each statement and the statement on each edge, and `extended_edges` makes the
+//!   new edges of them. That these are the effect is the law [`checks`], which [`apply`] calls.
 //! - [`edge_order`] gives `dep_order` the makers of each edge's inputs, and carries its answer over
 //!   to `EdgeNeeds` (`needs.rt`).
 //! - The law [`files_order`] puts two numberings together by `layered` of `dep_order`: that of the

@@ -1,5 +1,5 @@
 //! One line of an edge listing: which row of the listing's form it is in, and its texts.
-ghost use Rattle.std.specs.Prelude.{◌≡◌, ◌==◌, ◌&&◌, ◌∷◌, not, Some, None, IfOk, OnOk, map, codes, MatchOption};
+ghost use Rattle.std.specs.Prelude.{◌≡◌, ◌==◌, ◌&&◌, ◌∷◌, not, Some, None, IfOk, OnOk, codes};
 ghost use Rattle.std.specs.Option.{option_map};
 ghost use Rattle.std.specs.List.{list_all};
 ghost use Rattle.ninja_text.specs.Failure.{Gives};

@@ -3,7 +3,7 @@ ghost use Rattle.std.specs.Prelude.{◌≡◌, ◌++◌, map, length, IfOk, OnOk
 ghost use Rattle.std.specs.List.{filter_map};
 ghost use Rattle.dep_order.specs.Rows.{rows};
 ghost use Rattle.dep_order.specs.Sortings.{IsSortingOf};
-ghost use Rattle.build_effect.specs.Graphs.{EdgeNeeds, inputs_of};
+ghost use Rattle.build_effect.specs.Graphs.{EdgeNeeds};
 ghost use Rattle.build_effect.specs.inner.Makers.{maker_in, makers_row};
 
 use crate::edge::Edge;

@@ -34,9 +34,9 @@ returns-in_err-implicit_inputs-clause-fault c =
     let outputs : map (λ t. t.items) c.deref-2.result.now ≡ s.implicit_outputs = ap (map (λ t. t.items)) c.deref-2.ensures.value ∙ ap (λ (x : StatementValue). x.implicit_outputs) c.statement.view_is in
     let texts : map (λ t. t.items) c.deref-3.result.now ≡ s.implicit_inputs = ap (map (λ t. t.items)) c.deref-3.ensures.value ∙ ap (λ (x : StatementValue). x.implicit_inputs) c.statement.view_is in
     let many : length (map (λ t. t.items) c.statement.inside.implicit_outputs.items) ≡ length s.implicit_outputs = ap (λ (x : StatementValue). length x.implicit_outputs) c.statement.view_is in
-    let place : 1 + c.len.result ≡ 1 + length s.implicit_outputs = omega (arith, many, c.len.ensures, length-map c.statement.inside.implicit_outputs.items (λ t. t.items)) in
+    let start : 1 + c.len.result ≡ 1 + length s.implicit_outputs = omega (arith, many, c.len.ensures, length-map c.statement.inside.implicit_outputs.items (λ t. t.items)) in
     let p = err_from_is_err_and c.from_residual-in_err-implicit_inputs.result c.from_residual-in_err-implicit_inputs.ensures.1 in
     rw (p.1, p.2)
     (for_fault (IsBadTextFrom (map (λ t. t.items) c.deref-3.result.now) c.args.statement_index (1 + c.len.result)) (IsBadTextOf s c.args.statement_index)
     (λ fault bad. bad_inputs s c.args.statement_index (1 + c.len.result) fault c.in_ok-output.output c.in_ok-implicit_outputs.implicit_outputs.items (ap path_of (sym text) ∙ c.in_ok-output.ensures.path)
-    (subst (λ t. ArePaths t c.in_ok-implicit_outputs.implicit_outputs.items) outputs c.in_ok-implicit_outputs.ensures.paths) place (subst (λ t. IsBadTextFrom t c.args.statement_index (1 + c.len.result) fault) texts bad)) _ c.in_err-implicit_inputs.ensures.fault)
+    (subst (λ t. ArePaths t c.in_ok-implicit_outputs.implicit_outputs.items) outputs c.in_ok-implicit_outputs.ensures.paths) start (subst (λ t. IsBadTextFrom t c.args.statement_index (1 + c.len.result) fault) texts bad)) _ c.in_err-implicit_inputs.ensures.fault)
