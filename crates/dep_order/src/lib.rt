@@ -26,8 +26,8 @@
 //!   `cycle_from` then takes at each step the least node that is one step nearer.
 //! - `Reaching` keeps the nodes that it finds in a sparse set, so that a search costs what it
 //!   finds, and nothing has to be cleared before the next.
-//! - What the clauses of these functions speak of is defined below `specs/inner`: a file each for
-//!   users, spans, steps and so on. No public clause speaks of it.
+//! - What only the clauses of these private functions speak of is defined below `specs/inner`:
+//!   users, spans, marks, steps and so on.
 //!
 //! Work grows linearly with the nodes and needs, but for a logarithm in ordering nodes, and no call
 //! recurses. The crate stands on `std` alone.
@@ -41,8 +41,8 @@
 //!
 //! - `sorting_same`, `orderable_same`, `order_same`, `least_cycle_same`, `cycle_same`,
 //!   `chain_same`, `reaches_same`: the same of needs that hold of the same things;
-//! - `no_cycle`, `orderable_or_cycle`: what is orderable has no cycle, and a digraph is orderable or
-//!   has one;
+//! - `no_cycle`, `orderable_or_cycle`: what is orderable has no cycle, and a digraph is orderable
+//!   or has one;
 //! - `least_is_short`, `no_cycle_without_least`: the least cycle has no more things than there are,
 //!   and where there is no least cycle there is none;
 //! - `orderable`, `AreWithin`, `within`: what has an order is orderable, where needs are among the
