@@ -103,9 +103,9 @@ module _ (files_order : FilesOrder) (required : RequiredFiles) (style : Option W
 
   pub end_orderable : (order : List ℕ) (h : List EdgeValue) (ranks : List ℕ) (new : List EdgeValue) → HasOutputsOnly files g h → IsRisingNumbering files g h ranks →
       ((n : ℕ) → n < length (project_tables targets outs) → Contains order n) → AreFileIndices files order → Applies files g order new → IsOrderable (length new) (EdgeNeeds new)
-  end_orderable order h ranks new outputs level all numbers applies =
-      let gained = orders.gains g names order count meets numbers in
-      let same : gained.0 ≡ new = orders.alike g names order order gained.0 new count meets numbers numbers ((λ p n e. (p, e)), (λ p n e. (p, e))) gained.1 applies in
+  end_orderable order h ranks new outputs level all indices applies =
+      let gained = orders.gains g names order count meets indices in
+      let same : gained.0 ≡ new = orders.alike g names order order gained.0 new count meets indices indices ((λ p n e. (p, e)), (λ p n e. (p, e))) gained.1 applies in
       let gains : GainsExactly files g order new = subst (λ x. GainsExactly files g order x) same gained.2 in
       let every : (n : ℕ) → n < length files → Contains order n =
       λ n within.

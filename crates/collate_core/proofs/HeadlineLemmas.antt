@@ -34,7 +34,7 @@ back : {X : Type 0} (P : X → Type 0) (xs ys : List X) → All P (xs ++ ys) →
 back P [] ys all = all
 back P (x ∷ xs) ys all = back P xs ys (All-tail P x (xs ++ ys) all)
 
--- a statement with canonical paths is its own canonical form
+-- the canonical form of a statement with canonical paths is that statement
 own_canonical : (s : StatementValue) → HasPaths s → IsCanonical s s
 own_canonical s h =
     let rest = All-tail IsPath s.output (s.implicit_outputs ++ s.implicit_inputs) h in
@@ -132,8 +132,8 @@ module _ (t : TableValue) (sound : IsSound t) (ordered : AddedOrderable) (once :
             let index = meets.made_once i makes.0 bound.0 bound.4.0 rule.object (e, here, makes.1) (bound.1, bound.2, bound.4.1) in
             let edge : bound.1 ≡ e = same_some _ _ (sym bound.2 ∙ ap (slice_get g) (sym index.0) ∙ here) in
             let gained = gives.named i e here (subst (λ (d : EdgeValue). Names name d) edge bound.3) in
-            let number : o ≡ gained.0 = gained.2.only o s at makes in
-            let same : gained.1 ≡ s = same_some _ _ (sym gained.2.is ∙ ap (slice_get statements) (sym number) ∙ at) in
+            let same_index : o ≡ gained.0 = gained.2.only o s at makes in
+            let same : gained.1 ≡ s = same_some _ _ (sym gained.2.is ∙ ap (slice_get statements) (sym same_index) ∙ at) in
             gained.3 ∙ ap (λ a. Some (extended e a)) same;
       }
 

@@ -1,7 +1,7 @@
 pub mod ByIndex
 pub mod Levels
 pub mod Lists
-pub mod KeptNames
+pub mod PrivateNames
 pub mod Scans
 pub mod Writing
 pub mod Texts

@@ -33,13 +33,13 @@ module _ (required : RequiredFiles) (all_required : AllRequired) (one_file : One
   tables = project_tables targets outs
 
   -- object p of target m requires the name
-  abbrev Asks : ℕ → ℕ → List ℕ → Type 0
-  Asks m p name = (t : TableValue) × (slice_get tables m ≡ Some t) × Requires t p name
+  abbrev RequiresIn : ℕ → ℕ → List ℕ → Type 0
+  RequiresIn m p name = (t : TableValue) × (slice_get tables m ≡ Some t) × Requires t p name
 
   abbrev Gives : ℕ → ℕ → ℕ → List ℕ → List ℕ → Type 0
   Gives n m p name file = ProjectProvides targets tables n m p name file
 
-  -- object p of target m is of target n, or provides a module that is seen from there
+  -- object p of target m is of target n, or provides a module that target n sees
   abbrev Reached : ℕ → ℕ → ℕ → Type 0
   Reached n m p = (n ≡ m) ⊎ ((name : List ℕ) × (file : List ℕ) × Gives n m p name file)
 
@@ -49,8 +49,8 @@ module _ (required : RequiredFiles) (all_required : AllRequired) (one_file : One
   same_table : (n : ℕ) (t u : TableValue) → slice_get tables n ≡ Some t → slice_get tables n ≡ Some u → t ≡ u
   same_table n t u a b = same_some _ _ (sym a ∙ b)
 
-  to_requires : (n o : ℕ) (t : TableValue) (name : List ℕ) → slice_get tables n ≡ Some t → Asks n o name → Requires t o name
-  to_requires n o t name at asks = subst (λ (v : TableValue). Requires v o name) (same_table n asks.0 t asks.1 at) asks.2
+  to_requires : (n o : ℕ) (t : TableValue) (name : List ℕ) → slice_get tables n ≡ Some t → RequiresIn n o name → Requires t o name
+  to_requires n o t name at requires = subst (λ (v : TableValue). Requires v o name) (same_table n requires.0 t requires.1 at) requires.2
 
   -- module j of the info of target k is that of a pair of one of its objects
   from_module : (k : ℕ) (u : TableValue) (name : List ℕ) (kept : List (List ℕ)) (info : InfoValue) → info_of_table name kept u ≡ info → (j : ℕ) (m : ModuleValue) → slice_get info.modules j ≡ Some m →
@@ -102,8 +102,8 @@ module _ (required : RequiredFiles) (all_required : AllRequired) (one_file : One
       (found.0, found.2, subst (λ v. Gives n found.0 found.2 v file) by.3 (subst (λ v. Gives n found.0 found.2 by.1.name v) by.4 found.6))
 
   -- who provides a name in the project provides it in the table
-  pub own_provides : (n m p j : ℕ) (t u : TableValue) (name : List ℕ) (file : List ℕ) → slice_get tables n ≡ Some t → n ≡ m → slice_get tables m ≡ Some u → Provides u p j name file → Provides t p j name file
-  own_provides n m p j t u name file at same at_u provides =
+  pub same_provides : (n m p j : ℕ) (t u : TableValue) (name : List ℕ) (file : List ℕ) → slice_get tables n ≡ Some t → n ≡ m → slice_get tables m ≡ Some u → Provides u p j name file → Provides t p j name file
+  same_provides n m p j t u name file at same at_u provides =
       subst (λ (v : TableValue). Provides v p j name file) (same_table n u t (subst (λ k. slice_get tables k ≡ Some u) (sym same) at_u) at) provides
 
   linked_provides : (n m p j : ℕ) (t u : TableValue) (name : List ℕ) (file : List ℕ) → slice_get tables n ≡ Some t → (target : ProjectTargetValue) → slice_get targets n ≡ Some target → Contains target.linked m →
@@ -118,40 +118,40 @@ module _ (required : RequiredFiles) (all_required : AllRequired) (one_file : One
       (i.0, found.0, of.2, (info.0, info.1, found.1))
 
   provides_by : (n m p : ℕ) (t : TableValue) (name : List ℕ) (file : List ℕ) → slice_get tables n ≡ Some t → Gives n m p name file → IsProvided t name file
-  provides_by n m p t name file at (u, j, inl same, at_u, provides) = (Object p, (j, own_provides n m p j t u name file at same at_u provides))
+  provides_by n m p t name file at (u, j, inl same, at_u, provides) = (Object p, (j, same_provides n m p j t u name file at same at_u provides))
   provides_by n m p t name file at (u, j, inr link, at_u, provides) =
       let info = linked_provides n m p j t u name file at link.0 link.1 link.2 at_u provides in
       (Info info.0, (info.1, module_of info.2 (required_of u provides.0) (name, file), info.3, refl, refl))
 
   -- the pair of a name that an object requires
-  pair_for : (m p : ℕ) (u : TableValue) (rule : RuleValue) (name : List ℕ) → slice_get tables m ≡ Some u → slice_get u.objects p ≡ Some rule → Asks m p name → (file : List ℕ) × Contains (required_of u rule) (name, file)
-  pair_for m p u rule name at here asks =
-      let needs = to_requires m p u name at asks in
+  pair_for : (m p : ℕ) (u : TableValue) (rule : RuleValue) (name : List ℕ) → slice_get tables m ≡ Some u → slice_get u.objects p ≡ Some rule → RequiresIn m p name → (file : List ℕ) × Contains (required_of u rule) (name, file)
+  pair_for m p u rule name at here requires =
+      let needs = to_requires m p u name at requires in
       let same : needs.0 ≡ rule = same_some _ _ (sym needs.1 ∙ here) in
       all_required u (sound_at m u at) p rule name here (subst (λ (r : RuleValue). Contains r.required name) same needs.2)
 
   -- an object leads from a name that it provides to one that it requires
-  leads_to : (n m p : ℕ) (t : TableValue) (name second : List ℕ) (file : List ℕ) → slice_get tables n ≡ Some t → Gives n m p name file → Asks m p second → LeadsTo t name second
-  leads_to n m p t name second file at (u, j, inl same, at_u, provides) asks =
-      inl (p, j, file, own_provides n m p j t u name file at same at_u provides, to_requires n p t second at (subst (λ k. Asks k p second) (sym same) asks))
-  leads_to n m p t name second file at (u, j, inr link, at_u, provides) asks =
+  leads_to : (n m p : ℕ) (t : TableValue) (name second : List ℕ) (file : List ℕ) → slice_get tables n ≡ Some t → Gives n m p name file → RequiresIn m p second → LeadsTo t name second
+  leads_to n m p t name second file at (u, j, inl same, at_u, provides) requires =
+      inl (p, j, file, same_provides n m p j t u name file at same at_u provides, to_requires n p t second at (subst (λ k. RequiresIn k p second) (sym same) requires))
+  leads_to n m p t name second file at (u, j, inr link, at_u, provides) requires =
       let info = linked_provides n m p j t u name file at link.0 link.1 link.2 at_u provides in
-      let pair = pair_for m p u provides.0 second at_u provides.1 asks in
+      let pair = pair_for m p u provides.0 second at_u provides.1 requires in
       inr (info.0, info.1, module_of info.2 (required_of u provides.0) (name, file), pair.0, refl, (info.3, pair.1))
 
-  asks_pair : (m p : ℕ) (u : TableValue) (rule : RuleValue) (name : List ℕ) (file : List ℕ) → slice_get tables m ≡ Some u → slice_get u.objects p ≡ Some rule → Contains (required_of u rule) (name, file) → Asks m p name × IsProvided u name file
-  asks_pair m p u rule name file at here holds =
+  requires_pair : (m p : ℕ) (u : TableValue) (rule : RuleValue) (name : List ℕ) (file : List ℕ) → slice_get tables m ≡ Some u → slice_get u.objects p ≡ Some rule → Contains (required_of u rule) (name, file) → RequiresIn m p name × IsProvided u name file
+  requires_pair m p u rule name file at here holds =
       let index = index_of (required_of u rule) (name, file) holds in
       let known = required u rule index.0 name file index.1 in
       ((u, at, (rule, here, known.0)), known.1)
 
   -- a step from a name to another is one of an object that provides the first and requires the second
-  leads_from : (n : ℕ) (t : TableValue) (name second : List ℕ) → slice_get tables n ≡ Some t → LeadsTo t name second → (m : ℕ) × (p : ℕ) × (file : List ℕ) × Gives n m p name file × Asks m p second
+  leads_from : (n : ℕ) (t : TableValue) (name second : List ℕ) → slice_get tables n ≡ Some t → LeadsTo t name second → (m : ℕ) × (p : ℕ) × (file : List ℕ) × Gives n m p name file × RequiresIn m p second
   leads_from n t name second at (inl (o, j, file, provides, needs)) = (n, o, file, (t, j, inl refl, at, provides), (t, at, needs))
   leads_from n t name second at (inr (i, j, m, file, is, needs)) =
       let found = from_info n i j t m at needs.0 in
       let pair : Contains (required_of found.1 found.3) (second, file) = subst (λ ps. Contains ps (second, file)) found.7 needs.1 in
-      (found.0, found.2, m.file, subst (λ v. Gives n found.0 found.2 v m.file) is found.6, (asks_pair found.0 found.2 found.1 found.3 second file found.4 found.5 pair).0)
+      (found.0, found.2, m.file, subst (λ v. Gives n found.0 found.2 v m.file) is found.6, (requires_pair found.0 found.2 found.1 found.3 second file found.4 found.5 pair).0)
 
   module _ (apart : AddedApart tables) where
     -- objects that provide one file are one
@@ -163,7 +163,7 @@ module _ (required : RequiredFiles) (all_required : AllRequired) (one_file : One
     same_provider : (n l m p k q : ℕ) (name other : List ℕ) (file : List ℕ) → Gives n m p name file → Gives l k q other file → (m ≡ k) × (p ≡ q)
     same_provider n l m p k q name other file (u, i, sees, at_u, provides) (v, j, sees_v, at_v, others) =
         let target : m ≡ k = apart m k p q i j u v file at_u at_v (adds_at p i u name file provides) (adds_at q j v other file others) in
-        let theirs : Provides u q j other file = own_provides m k q j u v other file at_u target at_v others in
+        let theirs : Provides u q j other file = same_provides m k q j u v other file at_u target at_v others in
         (target, (once u (sound_at m u at_u) p q i j name other file provides theirs).0)
 
     -- one target sees one provider of a name, with one file
@@ -177,48 +177,48 @@ module _ (required : RequiredFiles) (all_required : AllRequired) (one_file : One
     abbrev BothSee : ℕ → ℕ → List ℕ → Type 0
     BothSee n m name = (l : ℕ) × (q : ℕ) × (file : List ℕ) × Gives n l q name file × Gives m l q name file
 
-    own_view : (n p : ℕ) (name : List ℕ) → Asks n p name → BothSee n n name
-    own_view n p name (t, at, needs) =
+    same_view : (n p : ℕ) (name : List ℕ) → RequiresIn n p name → BothSee n n name
+    same_view n p name (t, at, needs) =
         let known = (sound_at n t at).known p name needs in
         let found = provided_from n t name known.0 at known.1.0 known.1.1 in
         (found.0, found.1, known.0, found.2, found.2)
 
-    -- what an object requires that provides a module of a linked target is the same seen from there and from its own target
+    -- what an object requires that provides a module of a linked target is the same from there and from its target
     linked_view : (n m p j : ℕ) (t u : TableValue) (first : List ℕ) (between : List ℕ) (name : List ℕ) → slice_get tables n ≡ Some t → (target : ProjectTargetValue) → slice_get targets n ≡ Some target → Contains target.linked m →
-        slice_get tables m ≡ Some u → Provides u p j first between → Asks m p name → BothSee n m name
-    linked_view n m p j t u first between name at target at_target links at_u provides asks =
+        slice_get tables m ≡ Some u → Provides u p j first between → RequiresIn m p name → BothSee n m name
+    linked_view n m p j t u first between name at target at_target links at_u provides requires =
         let info = linked_provides n m p j t u first between at target at_target links at_u provides in
-        let pair = pair_for m p u provides.0 name at_u provides.1 asks in
+        let pair = pair_for m p u provides.0 name at_u provides.1 requires in
         let said = (sound_at n t at).infos_known info.0 info.1 (module_of info.2 (required_of u provides.0) (first, between)) name pair.0 (info.3, pair.1) in
         let far = provided_from n t name pair.0 at (Info said.0) said.1 in
-        let known = (asks_pair m p u provides.0 name pair.0 at_u provides.1 pair.1).1 in
+        let known = (requires_pair m p u provides.0 name pair.0 at_u provides.1 pair.1).1 in
         let near = provided_from m u name pair.0 at_u known.0 known.1 in
         let same = same_provider m n near.0 near.1 far.0 far.1 name name pair.0 near.2 far.2 in
         (far.0, far.1, pair.0, far.2, subst (λ k. Gives m k far.1 name pair.0) same.0 (subst (λ q. Gives m near.0 q name pair.0) same.1 near.2))
 
-    view : (n m p : ℕ) (t : TableValue) (name : List ℕ) → slice_get tables n ≡ Some t → Reached n m p → Asks m p name → BothSee n m name
-    view n m p t name at (inl same) asks = subst (λ k. BothSee n k name) same (own_view n p name (subst (λ k. Asks k p name) (sym same) asks))
-    view n m p t name at (inr (first, between, (u, j, inl same, at_u, provides))) asks = subst (λ k. BothSee n k name) same (own_view n p name (subst (λ k. Asks k p name) (sym same) asks))
-    view n m p t name at (inr (first, between, (u, j, inr link, at_u, provides))) asks = linked_view n m p j t u first between name at link.0 link.1 link.2 at_u provides asks
+    view : (n m p : ℕ) (t : TableValue) (name : List ℕ) → slice_get tables n ≡ Some t → Reached n m p → RequiresIn m p name → BothSee n m name
+    view n m p t name at (inl same) requires = subst (λ k. BothSee n k name) same (same_view n p name (subst (λ k. RequiresIn k p name) (sym same) requires))
+    view n m p t name at (inr (first, between, (u, j, inl same, at_u, provides))) requires = subst (λ k. BothSee n k name) same (same_view n p name (subst (λ k. RequiresIn k p name) (sym same) requires))
+    view n m p t name at (inr (first, between, (u, j, inr link, at_u, provides))) requires = linked_view n m p j t u first between name at link.0 link.1 link.2 at_u provides requires
 
     -- a list of names that lead on in the table of target n is a chain in the project
-    forward : (n : ℕ) (t : TableValue) → slice_get tables n ≡ Some t → (name : List ℕ) (file : List ℕ) → IsProvided t name file → (names : List (List ℕ)) (first : List ℕ) (m p : ℕ) → Reached n m p → Asks m p first → Leads t first names name →
+    forward : (n : ℕ) (t : TableValue) → slice_get tables n ≡ Some t → (name : List ℕ) (file : List ℕ) → IsProvided t name file → (names : List (List ℕ)) (first : List ℕ) (m p : ℕ) → Reached n m p → RequiresIn m p first → Leads t first names name →
         IsProjectNeeded targets tables m p name file
-    forward n t at name file provided [] first m p reached asks is =
-        let v = view n m p t first at reached asks in
+    forward n t at name file provided [] first m p reached requires is =
+        let v = view n m p t first at reached requires in
         let same : v.2 ≡ file = one_file t (sound_at n t at) name v.2 file (provides_by n v.0 v.1 t name v.2 at (subst (λ w. Gives n v.0 v.1 w v.2) is v.3)) provided in
         let given : Gives m v.0 v.1 name file = subst (λ f. Gives m v.0 v.1 name f) same (subst (λ w. Gives m v.0 v.1 w v.2) is v.4) in
-        direct asks.1 (subst (λ w. Requires asks.0 p w) is asks.2) given
-    forward n t at name file provided (second ∷ names) first m p reached asks leads =
-        let v = view n m p t first at reached asks in
+        direct requires.1 (subst (λ w. Requires requires.0 p w) is requires.2) given
+    forward n t at name file provided (second ∷ names) first m p reached requires leads =
+        let v = view n m p t first at reached requires in
         let s = leads_from n t first second at leads.0 in
         let same = one_provider n t s.0 s.1 v.0 v.1 first s.2 v.2 at s.3 v.3 in
-        let next : Asks v.0 v.1 second = subst (λ k. Asks k v.1 second) same.0 (subst (λ q. Asks s.0 q second) same.1 s.4) in
-        onward asks.1 asks.2 v.4 (forward n t at name file provided names second v.0 v.1 (inr (first, v.2, v.3)) next leads.1)
+        let next : RequiresIn v.0 v.1 second = subst (λ k. RequiresIn k v.1 second) same.0 (subst (λ q. RequiresIn s.0 q second) same.1 s.4) in
+        onward requires.1 requires.2 v.4 (forward n t at name file provided names second v.0 v.1 (inr (first, v.2, v.3)) next leads.1)
 
     -- a list of names that lead on from one that the object requires
     abbrev Comes : TableValue → ℕ → ℕ → List ℕ → List ℕ → Type 0
-    Comes t m p name file = (first : List ℕ) × (names : List (List ℕ)) × Asks m p first × Leads t first names name × IsProvided t name file
+    Comes t m p name file = (first : List ℕ) × (names : List (List ℕ)) × RequiresIn m p first × Leads t first names name × IsProvided t name file
 
     -- a chain in the project is a list of names that lead on in the table of target n
     backward : (n : ℕ) (t : TableValue) → slice_get tables n ≡ Some t → (m p : ℕ) (name : List ℕ) (file : List ℕ) → IsProjectNeeded targets tables m p name file → Reached n m p → Comes t m p name file
@@ -229,9 +229,9 @@ module _ (required : RequiredFiles) (all_required : AllRequired) (one_file : One
     backward n t at m p name file (onward {m = k} {p = q} {t = u} {first = first} {between = between} at_u needs given rest) reached =
         let v = view n m p t first at reached (u, at_u, needs) in
         let same = one_provider m u v.0 v.1 k q first v.2 between at_u v.4 given in
-        let seen : Gives n k q first v.2 = subst (λ a. Gives n a q first v.2) same.0 (subst (λ b. Gives n v.0 b first v.2) same.1 v.3) in
-        let more = backward n t at k q name file rest (inr (first, v.2, seen)) in
-        (first, more.0 ∷ more.1, (u, at_u, needs), (leads_to n k q t first more.0 v.2 at seen more.2, more.3), more.4)
+        let from_n : Gives n k q first v.2 = subst (λ a. Gives n a q first v.2) same.0 (subst (λ b. Gives n v.0 b first v.2) same.1 v.3) in
+        let more = backward n t at k q name file rest (inr (first, v.2, from_n)) in
+        (first, more.0 ∷ more.1, (u, at_u, needs), (leads_to n k q t first more.0 v.2 at from_n more.2, more.3), more.4)
 
     pub needs_same : (n o : ℕ) (t : TableValue) (name : List ℕ) (file : List ℕ) → slice_get tables n ≡ Some t → IsNeeded t o name file ↔ IsProjectNeeded targets tables n o name file
     needs_same n o t name file at = (

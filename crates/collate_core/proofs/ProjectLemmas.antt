@@ -49,6 +49,6 @@ module _ (ordered : AddedOrderable) (once : FilesOnce) (apart : FilesApart) (req
 
   pub orders : AllOrders (project_tables targets outs)
   orders = record {
-    gains = λ g names order count meets numbers. any (dyndep_files names tables) g order (are_files names) meets numbers;
-    alike = λ g names order other new last count meets numbers more same p q. alike (dyndep_files names tables) g order other new last (are_files names) meets numbers more same p q;
+    gains = λ g names order count meets indices. any (dyndep_files names tables) g order (are_files names) meets indices;
+    alike = λ g names order other new last count meets indices more same p q. alike (dyndep_files names tables) g order other new last (are_files names) meets indices more same p q;
   }

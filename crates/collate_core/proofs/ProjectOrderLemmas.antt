@@ -15,7 +15,7 @@ use Rattle.collate_core.specs.Maps.{Written}
 use Rattle.collate_core.specs.Projects.{IsProject, project_tables}
 use Rattle.collate_core.specs.ProjectOrders.{ProjectProvides, IsProjectOrdered}
 use Rattle.collate_core.proofs.LinkedLemmas.{InfoIs, index_of, sound_of}
-use Rattle.collate_core.proofs.NeededLemmas.{provided_from, own_provides}
+use Rattle.collate_core.proofs.NeededLemmas.{provided_from, same_provides}
 
 -- the ranks of a table's objects
 abbrev IsBase : List TableValue → ℕ → List ℕ → Type 0
@@ -75,11 +75,11 @@ module _ (required : RequiredFiles) (all_required : AllRequired) (one_file : One
     -- who provides a required name, seen from the target of its user, is below the user
     provider_below : (n o m p : ℕ) (t : TableValue) (name file : List ℕ) → slice_get tables n ≡ Some t → Requires t o name → ProjectProvides targets tables n m p name file → rank_at rows m p < rank_at rows n o
     provider_below n o m p t name file at needs (u, j, inl same, at_u, provides) =
-        let own : Provides t p j name file = own_provides required all_required one_file once info_is style targets outs project n m p j t u name file at same at_u provides in
+        let provided : Provides t p j name file = same_provides required all_required one_file once info_is style targets outs project n m p j t u name file at same at_u provides in
         let xs = base_at n t at in
         let inside_o : o < length t.objects = slice_get_within _ _ _ needs.1 in
-        let inside_p : p < length t.objects = slice_get_within _ _ _ own.1 in
-        let less = (is_base n xs.0 xs.1 t at).1 o p (name, file, j, needs, own) in
+        let inside_p : p < length t.objects = slice_get_within _ _ _ provided.1 in
+        let less = (is_base n xs.0 xs.1 t at).1 o p (name, file, j, needs, provided) in
         let ro = rank_of n o t xs.0 at xs.1 inside_o in
         let rp = rank_of n p t xs.0 at xs.1 inside_p in
         subst (λ k. rank_at rows k p < rank_at rows n o) same (omega (arith, ro.0, rp.0, less))

@@ -51,6 +51,6 @@ pub record AreAccepted (target : TargetValue) : Type 0 where
 pub record IsResolved (target : TargetValue) : Type 0 where
   pub documents : AreAccepted target
   pub no_fault : (fault : TableFault) → IsFault (table_of target) target.kept fault → ⊥
-  -- and so it is sound, and has every module that is to be kept
+  -- and so it is sound, and has every module that is to be private
   pub sound : IsSound (table_of target)
   pub kept : KeepsOwn (table_of target) target.kept

@@ -1,21 +1,21 @@
--- What a target tells those that link it.
+-- The modules of a target, for the targets that link it.
 use Rattle.std.specs.Prelude.{ℕ, Bool, List, map, bytes_eq}
 use Rattle.std.specs.List.{flat_map, list_any}
 use Rattle.scan_docs.specs.Info.{ModuleValue, InfoValue}
 use Rattle.module_table.specs.TableValue.{TableValue}
 use Rattle.module_table.specs.Added.{Task, tasks_of}
 
--- whether the name is one of those that are kept
-abbrev pub is_kept : List (List ℕ) → List ℕ → Bool
-is_kept kept name = list_any (bytes_eq name) kept
+-- whether the name is one of those that a target keeps private
+abbrev pub is_private_name : List (List ℕ) → List ℕ → Bool
+is_private_name kept name = list_any (bytes_eq name) kept
 
--- a module of an object that requires these, and whether it is kept
+-- a module of an object that requires these, and whether it is private
 abbrev pub module_of : List (List ℕ) → List (List ℕ × List ℕ) → List ℕ × List ℕ → ModuleValue
 module_of kept required pair = record {
   name = pair.0;
   file = pair.1;
   required = required;
-  is_private = is_kept kept pair.0;
+  is_private = is_private_name kept pair.0;
 }
 
 -- the modules that an object provides, each with what the object requires
@@ -23,7 +23,7 @@ abbrev pub modules_of : List (List ℕ) → Task → List ModuleValue
 modules_of kept task = map (module_of kept task.1) task.0.provided
 
 -- the info of a target of this name, which keeps these modules to itself: all modules of its
--- objects, by object and position
+-- objects, in the order of the objects, and of one object in order of provision
 abbrev pub info_of_table : List ℕ → List (List ℕ) → TableValue → InfoValue
 info_of_table name kept t = record {
   target = name;

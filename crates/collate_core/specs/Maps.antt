@@ -30,7 +30,7 @@ pub record IsModuleMap (m : ModuleMapValue) : Type 0 where
   pub needed : All IsModule m.needed
   pub rising : IsRising m.needed
 
--- The map of an object: what it provides by position, and all that it needs.
+-- The map of an object: what it provides, in order of provision, and all that it needs.
 pub record IsMapOf (t : TableValue) (object : ℕ) (rule : RuleValue)
     (m : ModuleMapValue) : Type 0 where
   pub is_map : IsModuleMap m

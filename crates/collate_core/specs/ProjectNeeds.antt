@@ -1,4 +1,4 @@
--- What an object needs in a project, and the maps that tell it.
+-- What an object needs in a project, and the maps that say so.
 use Rattle.std.specs.Prelude.{◌≡◌, ℕ, List, ◌++◌, slice_get, Some, Ok}
 use Rattle.scan_docs.specs.Scan.{RuleValue}
 use Rattle.build_effect.specs.Premises.{AddsAt}
@@ -12,7 +12,7 @@ use Rattle.collate_core.specs.ProjectOrders.{ProjectProvides}
 use Rattle.collate_core.specs.declared.module_map.MapEntry.{MapEntry}
 
 -- The name is at the end of a chain of names from object o of target n, each required by the object
--- that provides the one before it, and looked up from that object's own target.
+-- that provides the one before it, and looked up from the target of that object.
 pub data IsProjectNeeded (targets : List ProjectTargetValue) (tables : List TableValue) :
     ℕ → ℕ → List ℕ → List ℕ → Type 0 where
   direct : {n o m p : ℕ} {t : TableValue} {name file : List ℕ} →

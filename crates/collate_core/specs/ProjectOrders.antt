@@ -25,8 +25,8 @@ abbrev pub dyndep_files : List (List ℕ) → List TableValue → List NamedFile
 dyndep_files names tables = map (λ x. dyndep_file x.0 (statements_of x.1)) (zip names tables)
 
 -- On graphs that name each file on exactly its target's objects, any order of any targets' files
--- ends in the graph in which the edge of each object of those targets has gained exactly its own,
--- and all orders end alike.
+-- ends in the graph in which the edge of each object of those targets has gained exactly what its
+-- statement adds, and all orders end alike.
 pub record AllOrders (tables : List TableValue) : Type 0 where
   pub gains : (g : List EdgeValue) (names : List (List ℕ)) (order : List ℕ) →
       length names ≡ length tables → FilesMeet g (dyndep_files names tables) →

@@ -1,7 +1,7 @@
-//! The info of a target: what it tells the targets that link it.
+//! The info of a target: its modules, for the targets that link it.
 ghost use Rattle.std.specs.Prelude.{◌≡◌, ◌++◌, ℕ, List, IfOk, OnOk};
 ghost use Rattle.scan_docs.specs.InfoText.{info_text, ReadsBack};
-ghost use Rattle.collate_core.specs.Infos.{is_kept, modules_of, info_of_table};
+ghost use Rattle.collate_core.specs.Infos.{is_private_name, modules_of, info_of_table};
 ghost use Rattle.collate_core.specs.inner.Parts.{IsTableText};
 
 use crate::pairs::copy_pairs;
@@ -33,7 +33,7 @@ pub(crate) fn info_text_of(
 /// The names as a set, which each module is looked up in.
 fn set_of(alloc: Global, names: &[Name]) -> Result<IndexSet<Name>, AllocError>
     ensures { IfOk result
-        (λ set. (name : List ℕ) → is_kept set.keys name ≡ is_kept names.now name) }
+        (λ set. (name : List ℕ) → is_private_name set.keys name ≡ is_private_name names.now name) }
 {
     let mut set = IndexSet::new(alloc);
     for name in names {

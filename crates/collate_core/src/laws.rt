@@ -27,8 +27,9 @@ pub fn project_orders()
     value_of_bytes();
 }
 
-/// Of each project in which no file is added by two targets, the table of a target tells of an
-/// object what it needs in the project, and every style reads this back from the object's map.
+/// Of each project in which no file is added by two targets, what an object needs in the table of
+/// its target is what it needs in the project, and every style reads this back from the object's
+/// map.
 pub fn project_maps()
     ensures needs { ProjectNeeds }
     ensures maps { ProjectMaps }

@@ -1,25 +1,32 @@
-//! From the documents of a target to the dyndep file of its objects, the info for those that link it, and module maps; and
-//! what such a file does to a build.
+//! From the documents of a target to the dyndep file of its objects, the info for those that link
+//! it, and module maps; and what such a file does to a build.
 //!
-//! - [`collate`] takes the scan documents of a target and the infos of the targets that it links. It succeeds exactly where
-//!   none of the faults of [`Refusal`] is present (`specs/Collation.antt`, `Collates`), and else reports the first in that
-//!   order (`specs/Refusals.antt`, `IsRefusal`). The law [`one_outcome`] says that there is never both, nor two refusals.
-//! - What it answers has the headline (`specs/Headline.antt`, `IsHeadline`): the dyndep text stands for one statement an
-//!   object and for nothing else, and on every build that names the file on exactly the objects it has exactly one effect,
-//!   which adds to each object's edge exactly what the object provides and requires.
-//! - [`rehearse`] reads any text in any pieces and applies it to a build, and [`check_edges`] puts the edges after the effect
-//!   in order, or answers the least cycle (`specs/Rehearsal.antt`).
-//! - [`Gcc`] and [`Clang`] are styles of module maps; a caller may have a [`MapStyle`] of its own, for which [`map_lines`] has
-//!   what the two share. A style's contract says what it writes of a map, and what it reads of a text (`specs/Maps.antt`,
-//!   `GccMaps`, `ClangMaps`).
-//! - [`project`] collates targets that link earlier ones (`specs/Projects.antt`). Their dyndep files may be applied in any
-//!   order (`ProjectOrders.antt`), and the maps tell what each object needs over the whole project (`ProjectNeeds.antt`).
+//! - [`collate`] takes the scan documents of a target and the infos of the targets that it links.
+//!   It succeeds exactly where none of the faults of [`Refusal`] is present
+//!   (`specs/Collation.antt`, `Collates`), and else reports the first in that order
+//!   (`specs/Refusals.antt`, `IsRefusal`). The law [`one_outcome`] says that there is never both,
+//!   nor two refusals.
+//! - What it answers has the headline (`specs/Headline.antt`, `IsHeadline`): the dyndep text stands
+//!   for one statement an object and for nothing else, and on every build that names the file on
+//!   exactly the objects it has exactly one effect, which adds to each object's edge exactly what
+//!   the object provides and requires.
+//! - [`rehearse`] reads any text in any pieces and applies it to a build, and [`check_edges`] puts
+//!   the edges after the effect in order, or answers the least cycle (`specs/Rehearsal.antt`).
+//! - [`Gcc`] and [`Clang`] are styles of module maps; a caller may write another [`MapStyle`], for
+//!   which [`map_lines`] has what the two share. A style's contract says what it writes of a map,
+//!   and what it reads of a text (`specs/Maps.antt`, `GccMaps`, `ClangMaps`).
+//! - [`project`] collates targets that link earlier ones (`specs/Projects.antt`). Their dyndep
+//!   files may be applied in any order (`ProjectOrders.antt`), and the maps have what each object
+//!   needs over the whole project (`ProjectNeeds.antt`).
 //!
-//! The definitions speak of one table, which is a function of the documents' bytes (`specs/Documents.antt`, `table_of`).
-//! Those that only private clauses speak of stand in `specs/inner/`, and in `specs/map_laws/` what the styles' laws rest on.
+//! The definitions speak of one table, which is a function of the documents' bytes
+//! (`specs/Documents.antt`, `table_of`). Those that only private clauses speak of stand in
+//! `specs/inner/`, and in `specs/map_laws/` what the styles' laws rest on: lemmas, which no one has
+//! to read for what a contract says.
 //!
-//! It stands on `scan_docs` for documents, on `module_table` for modules by name, on `dyndep_file` for the texts, on
-//! `build_effect` and `dep_order` for builds, on `ninja_text` for paths, and on `indexmap` for the set of kept names.
+//! It stands on `scan_docs` for documents, on `module_table` for modules by name, on `dyndep_file`
+//! for the texts, on `build_effect` and `dep_order` for builds, on `ninja_text` for paths, and on
+//! `indexmap` for the set of the names of private modules.
 #![tactic(auto)]
 
 mod check;

@@ -1,5 +1,5 @@
-//! What the styles of module maps share, and what helps to write another: the paths that stand in a map, and how its lines are
-//! read.
+//! What the styles of module maps share, and what helps to write another: the paths that stand in a
+//! map, and how its lines are read.
 ghost use Rattle.std.specs.Prelude.{◌≡◌, ◌<◌, ◌≤◌, ◌==◌, ◌++◌, List, ℕ, [], ◌∷◌, length, map, Some, None, IfOk, OnOk, IfSome, MatchOption, option_copied, position};
 ghost use Rattle.ninja_text.specs.Failure.{Gives};
 ghost use Rattle.collate_core.specs.Maps.{pairs_of};
@@ -26,9 +26,9 @@ pub trait LineForm {
         ensures { IfOk result (λ entry. entry ≡ form self.now entries.now line.now) };
 }
 
-/// The entries that there are, and those of the lines of a text, which are numbered on from `number`, 3 at most: what stands
-/// before them is no more than two lines. Or K4 with the first line that is not of the form, or has no end. `Memory`: want of
-/// memory.
+/// The entries that there are, and those of the lines of a text, which are numbered on from
+/// `number`, 3 at most: what stands before them is no more than two lines. Or K4 with the first
+/// line that is not of the form, or has no end. `Memory`: want of memory.
 pub fn read_lines<F: LineForm>(
     alloc: Global,
     form: &F,
@@ -86,7 +86,8 @@ fn index_of(text: &[u8], mark: u8) -> Option<usize>
     text.iter().position(|b| *b == mark)
 }
 
-/// The module in a text: a name, the first byte that is the mark, and a path of a map. `AllocError`: want of memory.
+/// The module in a text: a name, the first byte that is the mark, and a path of a map.
+/// `AllocError`: want of memory.
 pub fn pair_in(alloc: Global, mark: u8, text: &[u8]) -> Result<Option<(Name, Path)>, AllocError>
     ensures { IfOk result (λ pair. pair ≡ pair_in mark text.now) }
 {
@@ -113,7 +114,8 @@ fn name_in(alloc: Global, text: &[u8]) -> Result<Option<Name>, AllocError>
     }
 }
 
-/// The text as a path of a map: the canonical text of a path, with no byte that needs quotes. `AllocError`: want of memory.
+/// The text as a path of a map: the canonical text of a path, with no byte that needs quotes.
+/// `AllocError`: want of memory.
 #[tactic(auto, unfolding(crate::specs::MapLines::path_in))]
 pub fn path_in(alloc: Global, text: &[u8]) -> Result<Option<Path>, AllocError>
     ensures { IfOk result (λ path. path ≡ path_in text.now) }

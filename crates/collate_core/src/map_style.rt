@@ -10,7 +10,7 @@ use crate::module_map::{MapEntry, MapFault, ModuleMap};
 use ninja_text::Failure;
 use std::alloc::{AllocError, Global};
 
-/// A style of module maps: how a text tells a compiler where modules are.
+/// A style of module maps: how a text says to a compiler where modules are.
 pub trait MapStyle {
     /// The text that the style writes for a map, or why it writes none.
     ghost written: { Self → ModuleMapValue → Result (List ℕ) MapFault };

@@ -14,13 +14,13 @@ use std::marker::Model;
 pub enum MapFault {
     /// This path cannot stand in a map of the style (K1).
     MapPath { path: Path },
-    /// The object provides two modules, and a map of the style tells of one (K2).
+    /// The object provides two modules, and a map of the style has one (K2).
     TwoProvided,
     /// This line of the text, from 1, is not one that the style writes there (K4).
     BadMapLine { line: u64 },
 }
 
-/// A module as a map tells of it: its path, and its name where the style keeps it.
+/// A module as a map has it: its path, and its name where the style keeps it.
 #[derive(Drop)]
 pub struct MapEntry {
     pub name: Option<Name>,
@@ -65,7 +65,7 @@ impl ModuleMap {
         Some(ModuleMap { provided, needed })
     }
 
-    /// The modules that the object provides, by position.
+    /// The modules that the object provides, in order of provision.
     pub fn provided(&self) -> &[(Name, Path)]
         ensures pairs { result.now ≡ self.now.provided }
         ensures map { IsModuleMap self.now }

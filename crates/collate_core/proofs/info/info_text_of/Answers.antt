@@ -4,7 +4,7 @@ use Rattle.scan_docs.specs.Info.{InfoValue}
 use Rattle.scan_docs.specs.InfoText.{info_text, ReadsBack, IsInfoText}
 use Rattle.collate_core.specs.Infos.{info_of_table}
 use Rattle.collate_core.proofs.Texts.{info_is_text}
-use Rattle.collate_core.proofs.KeptNames.{info_same}
+use Rattle.collate_core.proofs.PrivateNames.{info_same}
 use Rattle.collate_core.proofs.info.info_text_of.Goals as goal
 
 pub info_write-requires : goal.info_write-requires

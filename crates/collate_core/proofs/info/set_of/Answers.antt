@@ -1,8 +1,8 @@
 use Rattle.std.proofs.Common.{◌≡◌, ℕ, List, Some, refl, ap, sym, ◌∙◌}
 use Rattle.std.specs.Prelude.{slice_get}
 use Rattle.std.proofs.lemmas.Option.{slice_get_read}
-use Rattle.collate_core.specs.Infos.{is_kept}
-use Rattle.collate_core.proofs.KeptNames.{one_more_name}
+use Rattle.collate_core.specs.Infos.{is_private_name}
+use Rattle.collate_core.proofs.PrivateNames.{one_more_name}
 use Rattle.collate_core.proofs.info.set_of.Goals as goal
 
 pub loop-name-preserved : goal.loop-name-preserved
@@ -10,5 +10,5 @@ loop-name-preserved c = λ name.
     let names : List (List ℕ) = c.args.names.now in
     let i : ℕ = c.loop-name.name-index in
     let here : slice_get names i ≡ Some c.name-item.result = slice_get_read names _ i _ refl c.loop-name-test.true c.name-item.is in
-    ap (λ (keys : List (List ℕ)). is_kept keys name) c.in_ok-insert.ensures.keys
+    ap (λ (keys : List (List ℕ)). is_private_name keys name) c.in_ok-insert.ensures.keys
     ∙ one_more_name names c.loop-name.set.keys i c.in_ok-copy.field-0 (here ∙ ap (λ (n : List ℕ). Some n) (sym c.in_ok-copy.ensures)) c.loop-name.invariant name

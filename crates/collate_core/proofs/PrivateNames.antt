@@ -1,4 +1,4 @@
--- The names that are kept, as a set.
+-- The names of private modules, as a set.
 use Rattle.std.proofs.Common.{◌≡◌, ℕ, ◌+◌, ◌||◌, Bool, true, false, cond, List, [], ◌∷◌, ◌++◌, map, take, Some, refl, ap, ap₂, sym, ◌∙◌, slice_get, bytes_eq}
 use Rattle.std.specs.List.{flat_map, list_any}
 use Rattle.std.proofs.lemmas.Slice.Eq.{bytes_eq-Decides}
@@ -6,7 +6,7 @@ use Rattle.indexmap.specs.IndexSet.{insert_key}
 use Rattle.scan_docs.specs.Info.{ModuleValue}
 use Rattle.module_table.specs.TableValue.{TableValue}
 use Rattle.module_table.specs.Added.{Task, tasks_of}
-use Rattle.collate_core.specs.Infos.{is_kept, module_of, modules_of, info_of_table}
+use Rattle.collate_core.specs.Infos.{is_private_name, module_of, modules_of, info_of_table}
 use Rattle.collate_core.proofs.Lists.{take_next}
 
 or_assoc : (a b c : Bool) → ((a || b) || c) ≡ (a || (b || c))
@@ -28,20 +28,20 @@ absorbed false true from = from refl
 absorbed false false from = refl
 
 -- a name that is inserted is one of the set, and no other comes or goes
-inserted : (keys : List (List ℕ)) (key name : List ℕ) → is_kept (insert_key bytes_eq keys key) name ≡ (is_kept keys name || bytes_eq name key)
+inserted : (keys : List (List ℕ)) (key name : List ℕ) → is_private_name (insert_key bytes_eq keys key) name ≡ (is_private_name keys name || bytes_eq name key)
 inserted keys key name = by (list_any (bytes_eq key) keys) refl
   where
-    by : (t : Bool) → list_any (bytes_eq key) keys ≡ t → is_kept (cond t keys (keys ++ key ∷ [])) name ≡ (is_kept keys name || bytes_eq name key)
-    by true there = absorbed (is_kept keys name) (bytes_eq name key) (λ same. ap (λ n. list_any (bytes_eq n) keys) ((bytes_eq-Decides name key).0 same) ∙ there)
+    by : (t : Bool) → list_any (bytes_eq key) keys ≡ t → is_private_name (cond t keys (keys ++ key ∷ [])) name ≡ (is_private_name keys name || bytes_eq name key)
+    by true there = absorbed (is_private_name keys name) (bytes_eq name key) (λ same. ap (λ n. list_any (bytes_eq n) keys) ((bytes_eq-Decides name key).0 same) ∙ there)
     by false absent = any_last (bytes_eq name) keys key
 
-pub one_more_name : (names keys : List (List ℕ)) (k : ℕ) (key : List ℕ) → slice_get names k ≡ Some key → ((name : List ℕ) → is_kept keys name ≡ is_kept (take k names) name)
-    → (name : List ℕ) → is_kept (insert_key bytes_eq keys key) name ≡ is_kept (take (k + 1) names) name
+pub one_more_name : (names keys : List (List ℕ)) (k : ℕ) (key : List ℕ) → slice_get names k ≡ Some key → ((name : List ℕ) → is_private_name keys name ≡ is_private_name (take k names) name)
+    → (name : List ℕ) → is_private_name (insert_key bytes_eq keys key) name ≡ is_private_name (take (k + 1) names) name
 one_more_name names keys k key here so_far name =
-    inserted keys key name ∙ ap (λ t. t || bytes_eq name key) (so_far name) ∙ sym (any_last (bytes_eq name) (take k names) key) ∙ ap (λ xs. is_kept xs name) (sym (take_next names k key here))
+    inserted keys key name ∙ ap (λ t. t || bytes_eq name key) (so_far name) ∙ sym (any_last (bytes_eq name) (take k names) key) ∙ ap (λ xs. is_private_name xs name) (sym (take_next names k key here))
 
 -- lists that have the same names make the same info
-module _ (kept other : List (List ℕ)) (same : (name : List ℕ) → is_kept kept name ≡ is_kept other name) where
+module _ (kept other : List (List ℕ)) (same : (name : List ℕ) → is_private_name kept name ≡ is_private_name other name) where
   modules_same : (required pairs : List (List ℕ × List ℕ)) → map (module_of kept required) pairs ≡ map (module_of other required) pairs
   modules_same required [] = refl
   modules_same required (pair ∷ pairs) =
