@@ -1,4 +1,5 @@
-//! What no clause says: worked examples, that a call succeeds where memory is left, and writers that fail.
+//! What no clause says: worked examples, that a call succeeds where memory is left, and writers
+//! that fail.
 //!
 //! Where a growth is refused, a test ends with an error and no assertion fails.
 mod growths;
@@ -77,7 +78,8 @@ fn text_of(alloc: Global, dyndep: &Dyndep) -> Result<Vec<u8>, AllocError> {
     }
 }
 
-/// What is written to a vector that has room for so many bytes, or the fault, where nothing is written.
+/// What is written to a vector that has room for so many bytes, or the fault, where nothing is
+/// written.
 fn written(alloc: Global, dyndep: &Dyndep, room: usize) -> Result<Vec<u8>, AllocError> {
     let mut out = Counted::new(Vec::with_capacity(alloc, room)?);
     match write(alloc, dyndep, &mut out) {
@@ -118,7 +120,8 @@ fn paths_are_escaped(rt: HostRuntime) -> Result<(), Fail> {
     Ok(())
 }
 
-/// A statement with a path without a spelling at this place among its paths, behind one without a fault.
+/// A statement with a path without a spelling at this index among its paths, behind one without a
+/// fault.
 fn faulty_at(alloc: Global, path: &[u8], place: usize) -> Result<Dyndep, AllocError> {
     let mut names: [&[u8]; 5] = [b"o", b"p", b"q", b"r", b"s"];
     if place < 5 {
@@ -132,7 +135,7 @@ fn faulty_at(alloc: Global, path: &[u8], place: usize) -> Result<Dyndep, AllocEr
     })
 }
 
-/// Whether a path without a spelling is told by its place, wherever it stands.
+/// Whether a path without a spelling is reported with its index, wherever it stands.
 fn is_told_everywhere(alloc: Global, path: &[u8]) -> Result<bool, AllocError> {
     for place in 0..5 {
         let wanted = format!(in alloc; "Y1 Unwritable statement 1 path {place}")?;
@@ -161,8 +164,8 @@ fn two_faulty(alloc: Global, output: &[u8], input: &[u8]) -> Result<Dyndep, Allo
     Ok(Dyndep { statements })
 }
 
-/// In one statement a path without a spelling comes before too long a line; of several paths the first counts, and of
-/// several statements.
+/// In one statement a path without a spelling comes before too long a line; of several paths the
+/// first counts, and of several statements.
 #[test]
 fn the_first_fault_of_the_first_statement_counts(rt: HostRuntime) -> Result<(), Fail> {
     let alloc = rt.alloc();
@@ -184,7 +187,8 @@ enum Refusal {
     Nothing,
 }
 
-/// A writer that takes `left` bytes, at most `most` in a call, and refuses from then on. It counts its calls.
+/// A writer that takes `left` bytes, at most `most` in a call, and refuses from then on. It counts
+/// its calls.
 #[derive(Drop)]
 struct Refusing {
     left: usize,
@@ -230,8 +234,8 @@ fn counted_writer(
     }))
 }
 
-/// Whether a writer that takes fewer bytes than the two statements have is answered so, and holds the bytes that it took:
-/// one call for each piece that was taken, and one that was refused.
+/// Whether a writer that takes fewer bytes than the two statements have is answered so, and holds
+/// the bytes that it took: one call for each piece that was taken, and one that was refused.
 fn is_cut_short(
     alloc: Global,
     left: usize,

@@ -1,5 +1,6 @@
-//! What no clause says: that a call succeeds where memory is left, listings in every cutting, and writers that fail. What
-//! listings and effects are answered is a table of tests/rows, whose rows are given to the built program.
+//! What no clause says: that a call succeeds where memory is left, listings in every cutting, and
+//! writers that fail. What listings and effects are answered is a table of tests/rows, whose rows
+//! are given to the built program.
 ghost use Rattle.std.specs.Prelude.{◌≢◌, [], All, IsTrue};
 
 mod growths;

@@ -1,6 +1,6 @@
-//! Tests of the libraries, as their callers see them: worked examples, that each call succeeds where memory is ample, and
-//! readers, writers and growths of memory that fail. Each library has a module `growths`, whose tests `tests/growths` runs
-//! with each growth of memory refused in turn.
+//! Tests of the libraries, as their callers see them: worked examples, that each call succeeds
+//! where memory is ample, and readers, writers and growths of memory that fail. Each library has a
+//! module `growths`, whose tests `tests/growths` runs with each growth of memory refused in turn.
 //!
 //! They stand here since the prover proves a crate a second time where it has tests of its own.
 #![tactic(auto)]

@@ -1,5 +1,5 @@
-//! Small graphs against lists that are known, and large ones. All graphs of up to three nodes are given to the built
-//! program by tests/rows, against a plain search.
+//! Small graphs against lists that are known, and large ones. All graphs of up to three nodes are
+//! given to the built program by tests/rows, against a plain search.
 ghost use Rattle.std.specs.Prelude.{◌<◌, ◌↔◌, length, All, IsTrue};
 ghost use Rattle.dep_order.specs.Needs.{NeedsAreNodes};
 ghost use Rattle.dep_order.specs.Rows.{rows};
@@ -172,8 +172,8 @@ fn chain(alloc: Global, count: usize, back: usize) -> Result<Vec<Vec<usize>>, Al
     Ok(needs)
 }
 
-/// A line of so many nodes, which leads from one ring of two to another: these four have the highest
-/// numbers.
+/// A line of so many nodes, which leads from one ring of two to another: these four have the
+/// highest numbers.
 fn bridge(alloc: Global, count: usize) -> Result<Vec<Vec<usize>>, AllocError>
     requires { count < 65536 }
 {

@@ -1,5 +1,5 @@
-//! What no clause says: that calls succeed where memory is ample. Which targets have a table, and what it says, is a table
-//! of tests/rows, whose rows are given to the built program.
+//! What no clause says: that calls succeed where memory is ample. Which targets have a table, and
+//! what it says, is a table of tests/rows, whose rows are given to the built program.
 
 mod growths;
 
@@ -27,7 +27,7 @@ fn are_pairs(pairs: &[(Name, Path)], wanted: &[(&str, &str)]) -> bool {
     pairs.len() == wanted.len()
 }
 
-/// Whether the table tells both objects as they are.
+/// Whether the table has both objects as they are.
 fn has_both_objects(table: &Table) -> bool {
     table.objects().len() == 2
         && are_pairs(table.provided(0), &[])

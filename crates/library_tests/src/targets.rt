@@ -1,5 +1,5 @@
-//! What no clause says: that calls succeed where memory is ample, and worked targets whose answers are known. Answers are
-//! compared as texts.
+//! What no clause says: that calls succeed where memory is ample, and worked targets whose answers
+//! are known. Answers are compared as texts.
 
 mod bare;
 mod growths;
@@ -94,7 +94,8 @@ fn collated_text(alloc: Global, collated: Collated) -> Result<Vec<u8>, AllocErro
     Ok(out)
 }
 
-/// What the target `t` of these documents collates to, or why it does not. It keeps these modules to itself.
+/// What the target `t` of these documents collates to, or why it does not. It keeps these modules
+/// to itself.
 fn answer<M: MapStyle>(
     alloc: Global,
     scans: &[&[u8]],

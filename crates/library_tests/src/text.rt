@@ -1,4 +1,5 @@
-//! What no clause says: worked examples, that each call succeeds where memory is left, and calls that fail.
+//! What no clause says: worked examples, that each call succeeds where memory is left, and calls
+//! that fail.
 //!
 //! Where a growth is refused, a test ends with an error and no assertion fails.
 ghost use Rattle.std.specs.Prelude.{◌≡◌};
@@ -126,7 +127,7 @@ fn a_path_has_at_most_4096_bytes(rt: HostRuntime) -> Result<(), Fail> {
     Ok(())
 }
 
-/// In a fault the place is counted in the text that is read, work directory included.
+/// In a fault the index is that in the text that is read, work directory included.
 #[test]
 fn a_path_is_placed_by_its_work_directory(rt: HostRuntime) -> Result<(), Fail> {
     let alloc = rt.alloc();
@@ -270,7 +271,8 @@ enum Refusal {
     Nothing,
 }
 
-/// A writer that takes `left` bytes, at most `most` in a call, and refuses from then on. It counts its calls.
+/// A writer that takes `left` bytes, at most `most` in a call, and refuses from then on. It counts
+/// its calls.
 #[derive(Drop)]
 struct Refusing {
     left: usize,
@@ -302,7 +304,8 @@ impl Write for Refusing {
 
 const VERSION_LINE: &[u8] = b"ninja_dyndep_version = 1\n";
 
-/// Writes the 25 bytes of a version line to a writer that takes fewer, and compares all that can be seen.
+/// Writes the 25 bytes of a version line to a writer that takes fewer, and compares all that can be
+/// seen.
 fn compare_cut_short(
     rt: &impl Abort,
     alloc: Global,
@@ -371,8 +374,8 @@ fn is_interrupted(answer: io::Result<usize>) -> bool {
     }
 }
 
-/// Whether so many bytes of a piece are taken, and so many calls failed by then. An empty piece, of which nothing can be
-/// taken, does not fail.
+/// Whether so many bytes of a piece are taken, and so many calls failed by then. An empty piece, of
+/// which nothing can be taken, does not fail.
 fn takes(out: &mut Counted<Refusing>, piece: &[u8], taken: usize, failures: u128) -> bool {
     match out.write(piece) {
         Ok(count) => count == taken && out.failures() == failures,
@@ -460,7 +463,8 @@ impl ReadCall for Tally {
     }
 }
 
-/// How many calls of a source two reads make. That the answer is 2 is proved of what the source says of its calls.
+/// How many calls of a source two reads make. That the answer is 2 is proved of what the source
+/// says of its calls.
 fn calls_of_two_reads() -> u64
     ensures { result ≡ 2 }
 {

@@ -1,5 +1,6 @@
-//! Worked documents and names, whose growths of memory `tests/growths` refuses in turn. A test answers `AllocError` where
-//! a call answered that memory was refused, and nowhere else; every other answer has to be the example's.
+//! Worked documents and names, whose growths of memory `tests/growths` refuses in turn. A test
+//! answers `AllocError` where a call answered that memory was refused, and nowhere else; every
+//! other answer has to be the example's.
 
 use super::infos::{TWO_MODULES, is_of_both_modules, is_written_as};
 use super::projects::push_answer;

@@ -3,7 +3,8 @@ use scan_docs::{DOCUMENT_LIMIT, project_read};
 use std::alloc::{AllocError, Global};
 use std::test::Fail;
 
-/// Appends what a document is answered: its target documents, each behind a space, or the printed fault.
+/// Appends what a document is answered: its target documents, each behind a space, or the printed
+/// fault.
 pub(super) fn push_answer(
     out: &mut Vec<u8>,
     alloc: Global,

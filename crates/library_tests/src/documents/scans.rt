@@ -17,7 +17,8 @@ pub(super) fn setting(alloc: Global) -> Result<Setting, AllocError> {
     })
 }
 
-/// Whether these are the two rules of the document: all that is read of the first, and nothing but an object of the second.
+/// Whether these are the two rules of the document: all that is read of the first, and nothing but
+/// an object of the second.
 pub(super) fn are_both_rules(rules: &[Rule]) -> bool {
     let [first, second] = rules else {
         return false;

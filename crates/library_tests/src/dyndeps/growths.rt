@@ -1,5 +1,6 @@
-//! Worked dyndep files, whose growths of memory `tests/growths` refuses in turn. A test answers `AllocError` where
-//! a call answered that memory was refused, and nowhere else; every other answer has to be the example's.
+//! Worked dyndep files, whose growths of memory `tests/growths` refuses in turn. A test answers
+//! `AllocError` where a call answered that memory was refused, and nowhere else; every other answer
+//! has to be the example's.
 
 use super::reading::{answered, read_bytewise};
 use super::{TWO_STATEMENTS, only_output, text_of, two_statements, written};

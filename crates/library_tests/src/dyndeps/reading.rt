@@ -1,4 +1,4 @@
-//! The worked rows of the format, whole, byte by byte, and cut in two at every place.
+//! The worked rows of the format, whole, byte by byte, and cut in two at every index.
 use dyndep_file::{Dyndep, DyndepReader, LineFault, ReadFault, Statement, read_all};
 use ninja_text::{Counted, Failure};
 use std::alloc::{AllocError, Global};
@@ -12,7 +12,8 @@ const VERSION_LINE: &[u8] = b"ninja_dyndep_version = 1\n";
 const TWO_STATEMENTS: &[u8] =
     b"ninja_dyndep_version = 1\nbuild a.o | mod/A.bmi: dyndep | mod/B.bmi\n  restat = 1\nbuild b.o | mod/B.bmi: dyndep\n  restat = 1\n";
 
-/// The statements, a line each: the output, ` +` and each implicit output, ` <` and each implicit input, and ` !` for the flag.
+/// The statements, a line each: the output, ` +` and each implicit output, ` <` and each implicit
+/// input, and ` !` for the flag.
 fn listed(alloc: Global, dyndep: &Dyndep) -> Result<Vec<u8>, AllocError> {
     let mut text = Vec::new(alloc);
     for statement in &dyndep.statements {
@@ -100,7 +101,7 @@ fn asked_again(
     }
 }
 
-/// Whether the text is answered so in every cutting: byte by byte, and cut in two at every place.
+/// Whether the text is answered so in every cutting: byte by byte, and cut in two at every index.
 fn always_answers(alloc: Global, text: &[u8], answer: &[u8]) -> Result<bool, AllocError> {
     for cut in 0..=text.len() {
         if read_in_two(alloc, text, cut)?.as_slice() != answer {
@@ -345,7 +346,8 @@ fn input(text: &[u8], fails_at: usize) -> Counted<Bytewise<'_>> {
     })
 }
 
-/// Whether a text is answered so by a reader that fails at a call, after so many calls, of which so many failed.
+/// Whether a text is answered so by a reader that fails at a call, after so many calls, of which so
+/// many failed.
 fn reads_as(
     alloc: Global,
     input: Counted<Bytewise<'_>>,

@@ -1,4 +1,4 @@
-//! Edge listings, whole, byte by byte, and cut in two at every place.
+//! Edge listings, whole, byte by byte, and cut in two at every index.
 
 use super::listing;
 use build_effect::{GraphFault, LineFault, ListingFault, ListingReader};
@@ -66,7 +66,7 @@ fn read_bytewise(alloc: Global, text: &[u8]) -> Result<Vec<u8>, AllocError> {
     ended(alloc, reader)
 }
 
-/// Whether the text is answered so byte by byte, and cut in two at every place.
+/// Whether the text is answered so byte by byte, and cut in two at every index.
 fn is_always(alloc: Global, text: &[u8], answer: &[u8]) -> Result<bool, AllocError> {
     for cut in 0..text.len() {
         if read_in_two(alloc, text, cut)?.as_slice() != answer {

@@ -97,8 +97,8 @@ fn a_build_line_may_have_1048576_bytes(rt: HostRuntime) -> Result<(), Fail> {
     Ok(())
 }
 
-/// Whether a writer that takes so many bytes of the library's listing and then fails is answered so, and holds them: one
-/// call for what was taken, and the one that failed.
+/// Whether a writer that takes so many bytes of the library's listing and then fails is answered
+/// so, and holds them: one call for what was taken, and the one that failed.
 fn is_cut_short(
     alloc: Global,
     graph: &Graph,

@@ -1,5 +1,6 @@
-//! Small graphs, whose growths of memory `tests/growths` refuses in turn. A test answers `AllocError` where
-//! a call answered that memory was refused, and nowhere else; every other answer has to be the example's.
+//! Small graphs, whose growths of memory `tests/growths` refuses in turn. A test answers
+//! `AllocError` where a call answered that memory was refused, and nowhere else; every other answer
+//! has to be the example's.
 
 use super::{is_cycle, is_order, is_reach};
 use std::test::Fail;

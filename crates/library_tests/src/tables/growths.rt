@@ -1,5 +1,6 @@
-//! Worked tables, whose growths of memory `tests/growths` refuses in turn. A test answers `AllocError` where
-//! a call answered that memory was refused, and nowhere else; every other answer has to be the example's.
+//! Worked tables, whose growths of memory `tests/growths` refuses in turn. A test answers
+//! `AllocError` where a call answered that memory was refused, and nowhere else; every other answer
+//! has to be the example's.
 
 use super::{finds_both, has_both_objects, needs_all_three, table_of};
 use crate::common::{fault_of, granted, setting};
@@ -53,7 +54,8 @@ fn names_of(alloc: Global, pairs: &[(&Name, &Path)]) -> Result<Vec<u8>, AllocErr
     Ok(names)
 }
 
-/// What both objects need, one after the other. The first is asked for a second time where memory was refused.
+/// What both objects need, one after the other. The first is asked for a second time where memory
+/// was refused.
 fn needs_of_both(alloc: Global, table: &Table) -> Result<Option<Vec<u8>>, AllocError> {
     if table.objects().len() != 2 {
         return Ok(None);

@@ -1,5 +1,6 @@
-//! Worked targets, projects, maps and rehearsals, whose growths of memory `tests/growths` refuses in turn. A test answers
-//! `AllocError` where a call answered that memory was refused, and nowhere else; every other answer has to be the example's.
+//! Worked targets, projects, maps and rehearsals, whose growths of memory `tests/growths` refuses
+//! in turn. A test answers `AllocError` where a call answered that memory was refused, and nowhere
+//! else; every other answer has to be the example's.
 
 use super::maps::{entries_text, is_written, map_of, written};
 use super::own_style::{INFO_K, INFO_L};

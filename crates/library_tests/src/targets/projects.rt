@@ -1,6 +1,6 @@
-//! Projects: targets that link earlier ones. What a project is refused for, and what it is collated to, are tables of calls
-//! of the built program too (`tests/rows/projects`); these tests show that the call succeeds, and what that program does not
-//! ask of it.
+//! Projects: targets that link earlier ones. What a project is refused for, and what it is collated
+//! to, are tables of calls of the built program too (`tests/rows/projects`); these tests show that
+//! the call succeeds, and what that program does not ask of it.
 
 use super::{collated_text, refusal_text};
 use crate::common::{setting, target_name};
@@ -67,7 +67,8 @@ const PROVIDES_K: &[u8] =
 const NEEDS_K: &[u8] =
     br#"{"version":1,"rules":[{"primary-output":"main.o","requires":[{"logical-name":"K"}]}]}"#;
 
-/// What three targets collate to: `K` of the second requires `B` of the first, and the third, which links both, requires `K`.
+/// What three targets collate to: `K` of the second requires `B` of the first, and the third, which
+/// links both, requires `K`.
 pub(super) fn three(alloc: Global) -> Result<Vec<u8>, AllocError> {
     let mut parts = Vec::new(alloc);
     parts.push(linking(alloc, "t0", PROVIDES_B, &[])?)?;

@@ -17,7 +17,8 @@ pub(super) const LIBRARY: &[u8] =
 pub(super) const LIBRARY_AFTER: &[u8] =
     b"build a.o | mod/A.bmi: cxx a.cpp | mod/B.bmi || t.dd\n  dyndep = t.dd\n  restat = 1\nbuild b.o | mod/B.bmi: cxx b.cpp || t.dd\n  dyndep = t.dd\n  restat = 1\nbuild lib: ar a.o b.o\n";
 
-/// The compilations of two objects, of which the second one also needs a file that is made of the first one.
+/// The compilations of two objects, of which the second one also needs a file that is made of the
+/// first one.
 pub(super) const GENERATED: &[u8] =
     b"build a.o: cxx a.cpp || t.dd\n  dyndep = t.dd\nbuild b.o: cxx b.cpp gen.h || t.dd\n  dyndep = t.dd\nbuild gen.h: gen a.o\n";
 

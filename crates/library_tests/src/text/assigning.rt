@@ -3,7 +3,7 @@ use ninja_text::{Assignment, Line, LineCutter, assignment, place};
 use std::alloc::{AllocError, Global};
 use std::test::Fail;
 
-/// Appends the name and its place.
+/// Appends the name and its index.
 fn push_name(alloc: Global, found: &Assignment, out: &mut Vec<u8>) -> Result<(), AllocError> {
     out.extend_from_slice(found.name())?;
     let place = format!(in alloc; " {} ", found.name_start())?;

@@ -106,8 +106,8 @@ fn lines_are_the_same_wherever_the_text_is_cut(rt: HostRuntime) -> Result<(), Fa
     Ok(())
 }
 
-/// Feeds one byte, and writes the line that comes behind its number. It says whether the byte was taken, and whether the
-/// number is that of the cutter.
+/// Feeds one byte, and writes the line that comes behind its number. It says whether the byte was
+/// taken, and whether the number is that of the cutter.
 fn numbered_into(cutter: &mut LineCutter, byte: u8, out: &mut Vec<u8>) -> Result<bool, Fail> {
     let taken = cutter.feed(&[byte])?;
     let number = cutter.number();

@@ -1,5 +1,6 @@
-//! Worked lines, words and paths, whose growths of memory `tests/growths` refuses in turn. A test answers `AllocError` where
-//! a call answered that memory was refused, and nowhere else; every other answer has to be the example's.
+//! Worked lines, words and paths, whose growths of memory `tests/growths` refuses in turn. A test
+//! answers `AllocError` where a call answered that memory was refused, and nowhere else; every
+//! other answer has to be the example's.
 
 use super::{push_answer, push_built};
 use crate::common::granted;
@@ -7,8 +8,8 @@ use ninja_text::{Failure, Line, LineCutter, Path, assignment, escape_into, place
 use std::alloc::AllocError;
 use std::test::Fail;
 
-/// Feeds a byte, a second time where memory was refused, and writes the line that comes, with `;` behind it. It says whether
-/// the byte was taken.
+/// Feeds a byte, a second time where memory was refused, and writes the line that comes, with `;`
+/// behind it. It says whether the byte was taken.
 fn feed_byte(cutter: &mut LineCutter, byte: u8, out: &mut Vec<u8>) -> Result<bool, Fail> {
     let mut taken = cutter.feed(&[byte]);
     if taken == Err(Failure::Memory) {
@@ -38,7 +39,8 @@ fn lines_byte_by_byte(rt: HostRuntime) -> Result<(), Fail> {
 /// What stands in a vector before something is appended.
 const BEFORE: &[u8] = b"was ";
 
-/// Appends the value of each token, a second time where memory was refused. Then the vector is as before.
+/// Appends the value of each token, a second time where memory was refused. Then the vector is as
+/// before.
 fn push_words(line: Line<'_>, out: &mut Vec<u8>) -> Result<bool, Fail> {
     if line.is_comment() {
         return Ok(false);
@@ -66,7 +68,8 @@ fn value_of_a_token(rt: HostRuntime) -> Result<(), Fail> {
     Ok(())
 }
 
-/// Appends the value of the assignment, a second time where memory was refused. Then the vector is as before.
+/// Appends the value of the assignment, a second time where memory was refused. Then the vector is
+/// as before.
 fn push_value(line: Line<'_>, out: &mut Vec<u8>) -> Result<bool, Fail> {
     if line.is_comment() {
         return Ok(false);
@@ -95,7 +98,8 @@ fn value_of_an_assignment(rt: HostRuntime) -> Result<(), Fail> {
     Ok(())
 }
 
-/// Appends the spelling of a path, a second time where memory was refused. Then the vector is as before.
+/// Appends the spelling of a path, a second time where memory was refused. Then the vector is as
+/// before.
 fn push_spelling(out: &mut Vec<u8>) -> Result<bool, AllocError> {
     if escape_into(b"my mods/$x:y/A.bmi", out).is_err() {
         if out.as_slice() != BEFORE {
