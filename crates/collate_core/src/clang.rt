@@ -6,7 +6,8 @@ ghost use Rattle.collate_core.specs.MapLines.{ended, behind, lines_of};
 ghost use Rattle.collate_core.specs.ClangMaps.{file_flag, file_line, file_pair, output_flag, output_path, output_text, clang_text, rises_behind, read_provided};
 
 use crate::map_lines::{
-    LineForm, cut_line, first_unfit, pair_in, path_in, push_named, push_nameless, read_lines,
+    LineForm, cut_line, first_unfit, lines_len, pair_in, path_in, push_named, push_nameless,
+    read_lines,
 };
 use crate::map_style::MapStyle;
 use crate::module_map::{MapEntry, MapFault, ModuleMap};
@@ -170,7 +171,9 @@ fn rises_behind(entries: &[MapEntry], name: &Name) -> bool
 fn text_of(alloc: Global, map: &ModuleMap) -> Result<Vec<u8>, AllocError>
     ensures { IfOk result (λ text. text.items ≡ clang_text map.now) }
 {
-    let mut text = Vec::new(alloc);
+    let outputs = lines_len(map.provided(), b"-x c++-module\n-fmodule-output=\n".len());
+    let files = lines_len(map.needed(), b"-fmodule-file==\n".len());
+    let mut text = Vec::with_capacity(alloc, outputs.saturating_add(files))?;
     push_outputs(&mut text, map.provided())?;
     push_files(&mut text, map.needed())?;
     Ok(text)

@@ -6,7 +6,7 @@ ghost use Rattle.collate_core.specs.MapLines.{ended};
 ghost use Rattle.collate_core.specs.GccMaps.{gcc_line};
 ghost use Rattle.collate_core.specs.declared.module_map.MapEntry.{MapEntry};
 
-use crate::map_lines::{LineForm, first_unfit, pair_in, push_named, read_lines};
+use crate::map_lines::{LineForm, first_unfit, lines_len, pair_in, push_named, read_lines};
 use crate::map_style::MapStyle;
 use crate::module_map::{MapEntry, MapFault, ModuleMap};
 use ninja_text::{Failure, Path};
@@ -89,7 +89,9 @@ fn text_of(alloc: Global, map: &ModuleMap) -> Result<Vec<u8>, AllocError>
     ensures { IfOk result (λ text.
         text.items ≡ flat_map (λ pair. ended (gcc_line pair)) (pairs_of map.now)) }
 {
-    let mut text = Vec::new(alloc);
+    let provided = lines_len(map.provided(), b" \n".len());
+    let needed = lines_len(map.needed(), b" \n".len());
+    let mut text = Vec::with_capacity(alloc, provided.saturating_add(needed))?;
     push_lines(&mut text, map.provided())?;
     push_lines(&mut text, map.needed())?;
     Ok(text)

@@ -2,8 +2,11 @@
 //! map, and how its lines are read.
 ghost use Rattle.std.specs.Prelude.{◌≡◌, ◌<◌, ◌≤◌, ◌==◌, ◌++◌, List, ℕ, [], ◌∷◌, length, map, Some, None, IfOk, OnOk, IfSome, MatchOption, option_copied, position};
 ghost use Rattle.ninja_text.specs.Failure.{Gives};
+ghost use Rattle.std.specs.List.{sum_by};
+ghost use Rattle.dyndep_file.specs.WriteFaults.{capped};
 ghost use Rattle.collate_core.specs.Maps.{pairs_of};
 ghost use Rattle.collate_core.specs.MapLines.{LineForm, is_map_byte, is_fit, first_unfit, named, nameless, lines_of, cut, path_in, name_in, pair_in, read_lines};
+ghost use Rattle.collate_core.specs.inner.Lengths.{line_len};
 
 use crate::module_map::{MapEntry, MapFault, ModuleMap};
 use ninja_text::{Failure, Path};
@@ -168,6 +171,23 @@ fn unfit_in(pairs: &[(Name, Path)]) -> Option<&Path>
         }
     }
     None
+}
+
+/// How many bytes the lines of modules have, each with so many beside its name and its path, or the
+/// greatest number where they have more.
+pub(crate) fn lines_len(pairs: &[(Name, Path)], beside: usize) -> usize
+    ensures { result ≡ capped (sum_by (line_len beside) pairs.now) }
+{
+    let mut len: usize = 0;
+    for pair in pairs {
+        let name = pair.0.text().as_bytes();
+        let path = pair.1.bytes();
+        len = len
+            .saturating_add(name.len())
+            .saturating_add(path.len())
+            .saturating_add(beside);
+    }
+    len
 }
 
 /// Adds the entries of modules, with their names. `AllocError`: want of memory.

@@ -46,7 +46,7 @@ fn texts_of<M: MapStyle>(
         (ForFault (IsMapsRefusal table.now (Some (M.written style.now)))) }
 {
     let mut needs = table.needs(alloc)?;
-    let mut texts = Vec::new(alloc);
+    let mut texts = Vec::with_capacity(alloc, table.objects().len())?;
     for object in 0..table.objects().len() {
         match text_of(alloc, table, &mut needs, object, style) {
             Ok(text) => texts.push(text)?,

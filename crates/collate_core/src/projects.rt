@@ -85,7 +85,7 @@ pub fn project<M: MapStyle>(
 {
     project_orders();
     project_maps();
-    let mut outs = Vec::new(alloc);
+    let mut outs = Vec::with_capacity(alloc, targets.len())?;
     for (index, target) in targets.iter().enumerate() {
         match collate_linked(alloc, target, &outs, style) {
             Ok(out) => outs.push(out)?,

@@ -110,7 +110,7 @@ fn infos_of_all(alloc: Global, documents: &[&[u8]]) -> Result<Vec<Info>, Failure
     ensures refused { IfErr result
         (ForFault (ForInfo (IsInfoRefusal (map (λ info. info.now) documents.now)))) }
 {
-    let mut infos = Vec::new(alloc);
+    let mut infos = Vec::with_capacity(alloc, documents.len())?;
     for (index, document) in documents.iter().enumerate() {
         match info_of(alloc, document) {
             Ok(info) => infos.push(info)?,
