@@ -18,6 +18,7 @@ use crate::target::Target;
 use module_table::{Table, added_files};
 use ninja_text::{Failure, Path};
 use std::alloc::{AllocError, Global};
+use std::mem;
 
 /// Collates a target: its documents make a table, and the objects of the table make the dyndep
 /// file, the info and, with a style, a map for each object (P1689R5 for the scan documents, the
@@ -43,6 +44,8 @@ pub fn collate<M: MapStyle>(
     let table = table_of(alloc, target)?;
     let statements = statements_of(alloc, &table)?;
     let text = text_of(alloc, &statements)?;
+    // most memory is held while the maps and the info are made, and neither asks for these
+    mem::drop(statements);
     let maps = maps_of(alloc, &table, style)?;
     let info = info_text_of(alloc, target.name, target.kept, &table)?;
     let objects = objects_of(alloc, &table)?;
