@@ -8,7 +8,7 @@ use Rattle.dyndep_file.specs.declared.faults.ReadFault.{ReadFault}
 use Rattle.dyndep_file.specs.declared.faults.ReadFault.TheVariants.{AtLine, Io}
 use Rattle.dyncollate.specs.declared.answer.Answer.{Answer}
 use Rattle.dyncollate.specs.Answers.{Refuses}
-use Rattle.dyncollate.specs.Dyndeps.{IsTold, AnswersDyndep}
+use Rattle.dyncollate.specs.Dyndeps.{IsReported, AnswersDyndep}
 
 -- the statements that were read are the ones that the text stands for
 pub answered : (AnswersStatements : List StatementValue → Answer → Type 0) (text : List ℕ) (statements : List StatementValue) (answer : Answer) → OneList → NotBoth →
@@ -19,10 +19,10 @@ answered AnswersStatements text statements answer one not_both stands h = record
 }
 
 -- the text of a fault that the text has is the answer
-pub told : (AnswersStatements : List StatementValue → Answer → Type 0) (text : List ℕ) (fault : ReadFault) (answer : Answer) → NotBoth → OneFault →
-    IsTold text fault → Refuses (read_fault_text fault) answer → AnswersDyndep AnswersStatements text answer
-told AnswersStatements text (AtLine line fault) answer not_both one_fault has refused = record {
+pub reported : (AnswersStatements : List StatementValue → Answer → Type 0) (text : List ℕ) (fault : ReadFault) (answer : Answer) → NotBoth → OneFault →
+    IsReported text fault → Refuses (read_fault_text fault) answer → AnswersDyndep AnswersStatements text answer
+reported AnswersStatements text (AtLine line fault) answer not_both one_fault has refused = record {
   read = λ statements stands. absurd (not_both text statements (record { line = line; fault = fault }) stands has);
   refused = λ found other. subst (λ (f : FaultAt). Refuses (read_fault_text (AtLine f.line f.fault)) answer) (one_fault text (record { line = line; fault = fault }) found has other) refused;
 }
-told AnswersStatements text Io answer not_both one_fault has refused = absurd has
+reported AnswersStatements text Io answer not_both one_fault has refused = absurd has

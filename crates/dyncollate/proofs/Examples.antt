@@ -45,11 +45,11 @@ ring = refl
 private : fault_text two_rules linked (ModulePrivate (codes "B") 0 (Object 0)) ≡ codes "M9 ModulePrivate B of l in object a.o"
 private = refl
 
-kept_unknown : fault_text two_rules linked (PrivateUnknown (codes "X")) ≡ codes "M10 PrivateUnknown X"
-kept_unknown = refl
+private_unknown : fault_text two_rules linked (PrivateUnknown (codes "X")) ≡ codes "M10 PrivateUnknown X"
+private_unknown = refl
 
-three_arguments : task_in (codes "one" ∷ codes "b.ddi" ∷ [] ∷ codes "-" ∷ []) ≡ Some (one (codes "b.ddi") [] (codes "-"))
-three_arguments = refl
+three_operands : task_in (codes "one" ∷ codes "b.ddi" ∷ [] ∷ codes "-" ∷ []) ≡ Some (one (codes "b.ddi") [] (codes "-"))
+three_operands = refl
 
 first_dashes_dropped : task_in (codes "show" ∷ codes "--" ∷ codes "--" ∷ []) ≡ Some (show (codes "--"))
 first_dashes_dropped = refl
@@ -60,11 +60,11 @@ flag_refused = refl
 flag_behind_dashes : task_in (codes "show" ∷ codes "--" ∷ codes "-x" ∷ []) ≡ Some (show (codes "-x"))
 flag_behind_dashes = refl
 
-word_too_many : task_in (codes "show" ∷ codes "t.dd" ∷ codes "x" ∷ []) ≡ None
-word_too_many = refl
+operand_too_many : task_in (codes "show" ∷ codes "t.dd" ∷ codes "x" ∷ []) ≡ None
+operand_too_many = refl
 
-shown_line : line (1 ∷ codes "a.o") ≡ codes "dyncollate: ?a.o" ++ 10 ∷ []
-shown_line = refl
+visible_line : line (1 ∷ codes "a.o") ≡ codes "dyncollate: ?a.o" ++ 10 ∷ []
+visible_line = refl
 
 -- an edge that makes a file of some others
 abbrev edge : List ℕ → List (List ℕ) → EdgeValue

@@ -1,4 +1,3 @@
-pub mod Arguments
 pub mod Commands
 pub mod Documents
 pub mod Dyndeps
@@ -7,6 +6,7 @@ pub mod Examples
 pub mod FileCalls
 pub mod FileNames
 pub mod Listings
+pub mod Operands
 pub mod ProjectRuns
 pub mod ProjectTargets
 pub mod Readings

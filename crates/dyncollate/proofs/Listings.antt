@@ -28,7 +28,7 @@ refused_at_end text (Err Memory) h = tt
 refused_at_end text (Err (Fault (AtLine fault))) h = inr h
 refused_at_end text (Err (Fault (NoGraph fault))) h = h
 
--- a fault that the reader told of the text so far is one of the text
+-- a fault that the reader reported of the text so far is one of the text
 pub refused_before : (text : List ℕ) (failure : Failure LineFault) → IsFailureIn text failure → ForFault (IsListingFault text) (line_failure failure)
 refused_before text Memory h = tt
 refused_before text (Fault fault) h = elim h [ inl line ↦ inl line | inr end ↦ inr end.0 ]
@@ -44,13 +44,13 @@ answered AnswersGraph text edges answer one faultless lists graph h = record {
 }
 
 -- and the fault is one that the text has
-pub told : (AnswersGraph : List EdgeValue → Answer → Type 0) (text : List ℕ) (fault : ListingFault) (answer : Answer) → OneListing → ListedIsFaultless →
+pub reported : (AnswersGraph : List EdgeValue → Answer → Type 0) (text : List ℕ) (fault : ListingFault) (answer : Answer) → OneListing → ListedIsFaultless →
     IsListingFault text fault → Refuses (listing_fault_text fault) answer → AnswersListing AnswersGraph text answer
-told AnswersGraph text (AtLine fault) answer one faultless present h = record {
+reported AnswersGraph text (AtLine fault) answer one faultless present h = record {
   listed = λ edges lists. absurd (faultless text edges fault lists present);
   refused = λ other also. record { fault = fault; present = present; refused = h };
 }
-told AnswersGraph text (NoGraph fault) answer one faultless present h = record {
+reported AnswersGraph text (NoGraph fault) answer one faultless present h = record {
   listed = λ others also. subst (λ es. AnswersEdges AnswersGraph es answer) (one text others present.0 also present.1) (inr (record { fault = fault; present = present.2; refused = h }));
   refused = λ other also. absurd (faultless text present.0 other present.1 also);
 }

@@ -16,7 +16,7 @@ use Rattle.dyncollate.specs.CollateCommand.{FileValue, dyndep_path, files_of}
 use Rattle.dyncollate.specs.EdgeChecks.{PassesEdges, FailsEdges}
 use Rattle.dyncollate.specs.ProjectCommand.{ReadTargetValue, project_target, PassesOwn, FailsOwn, names_at, all_files}
 use Rattle.dyncollate.specs.declared.edges.EdgesFault.{EdgesFault}
-use Rattle.dyncollate.specs.inner.ProjectTargets.{LinkEarlier, IsToldOf, AreOuts}
+use Rattle.dyncollate.specs.inner.ProjectTargets.{LinkEarlier, IsReportable, AreOuts}
 use Rattle.dyncollate.specs.inner.Refusals.{HasObjects}
 use Rattle.dyncollate.proofs.Commands.{objects_text}
 
@@ -43,9 +43,9 @@ objects : (style : Option Written) (outs : List CollatedValue) (n : ℕ) (p : Pr
 objects style outs n p refusal (inl h) = subst (HasObjects p.setting p.scans) (sym h.1) tt
 objects style outs n p refusal (inr h) = of_refusal style (target_of outs p) refusal h.1
 
--- what is needed to tell a refusal
-pub told : (style : Option Written) (targets : List ReadTargetValue) (n : ℕ) (refusal : Refusal) → LinkEarlier targets → IsProjectRefusal style (map project_target targets) n refusal → IsToldOf targets n refusal
-told style targets n refusal links h =
+-- what is needed to report a refusal
+pub reported : (style : Option Written) (targets : List ReadTargetValue) (n : ℕ) (refusal : Refusal) → LinkEarlier targets → IsProjectRefusal style (map project_target targets) n refusal → IsReportable targets n refusal
+reported style targets n refusal links h =
     let found = in_map project_target targets n h.1 h.3 in
     let t = found.0 in
     let own : HasObjects (project_target t).setting (project_target t).scans refusal =
@@ -108,11 +108,11 @@ all_next P xs k x here before h = All-same P (take (k + 1) xs) (take k xs ++ x �
 
 -- ---- edges
 
-pub passes_as : (seen t : ReadTargetValue) (c : CollatedValue) (path : List ℕ) → seen ≡ t → path ≡ dyndep_path seen.spec → PassesEdges seen.listing path c.dyndep → PassesOwn (t, c)
-passes_as seen t c path is e h = subst (λ (z : ReadTargetValue). PassesOwn (z, c)) is (subst (λ p. PassesEdges seen.listing p c.dyndep) e h)
+pub passes_as : (view t : ReadTargetValue) (c : CollatedValue) (path : List ℕ) → view ≡ t → path ≡ dyndep_path view.spec → PassesEdges view.listing path c.dyndep → PassesOwn (t, c)
+passes_as view t c path is e h = subst (λ (z : ReadTargetValue). PassesOwn (z, c)) is (subst (λ p. PassesEdges view.listing p c.dyndep) e h)
 
-pub fails_as : (seen t : ReadTargetValue) (c : CollatedValue) (path : List ℕ) (fault : EdgesFault) → seen ≡ t → path ≡ dyndep_path seen.spec → FailsEdges seen.listing path c.dyndep fault → FailsOwn (t, c) fault
-fails_as seen t c path fault is e h = subst (λ (z : ReadTargetValue). FailsOwn (z, c) fault) is (subst (λ p. FailsEdges seen.listing p c.dyndep fault) e h)
+pub fails_as : (view t : ReadTargetValue) (c : CollatedValue) (path : List ℕ) (fault : EdgesFault) → view ≡ t → path ≡ dyndep_path view.spec → FailsEdges view.listing path c.dyndep fault → FailsOwn (t, c) fault
+fails_as view t c path fault is e h = subst (λ (z : ReadTargetValue). FailsOwn (z, c) fault) is (subst (λ p. FailsEdges view.listing p c.dyndep fault) e h)
 
 -- ---- files
 

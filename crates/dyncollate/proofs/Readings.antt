@@ -13,7 +13,7 @@ use Rattle.ninja_text.specs.declared.failure.Failure.{Failure}
 use Rattle.ninja_text.specs.declared.failure.Failure.TheVariants.{Memory, Fault}
 use Rattle.dyncollate.specs.CollateCommand.{FileValue, Reading, first_of, unread_or, first_unread, bytes_of}
 use Rattle.dyncollate.specs.inner.Readings.{reading_of}
-use Rattle.dyncollate.proofs.Arguments.{drop_item}
+use Rattle.dyncollate.proofs.Operands.{drop_item}
 
 -- ---- files
 

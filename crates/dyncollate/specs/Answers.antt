@@ -5,11 +5,11 @@ use Rattle.dyndep_file.specs.FaultTexts.{write_fault_text}
 use Rattle.dyndep_file.specs.declared.writing.WriteFault.{WriteFault}
 use Rattle.dyncollate.specs.declared.answer.Answer.{Answer}
 
--- a byte as it is shown: `?` in place of a control byte
+-- a byte as it is printed in a line: `?` for a control byte
 abbrev pub visible : ℕ → ℕ
 visible b = if nat_lt b 32 || b == 127 then 63 else b
 
--- the line that tells a message
+-- the line of a message
 abbrev pub line : List ℕ → List ℕ
 line message = codes "dyncollate: " ++ map visible message ++ 10 ∷ []
 
@@ -25,13 +25,13 @@ abbrev pub file_value : String Global × Vec ℕ Global → List ℕ × List ℕ
 file_value file = (string_bytes file.0, file.1.items)
 
 -- The run is done, prints nothing, and has these files to be written, in this order.
-pub record Writes (wanted : List (List ℕ × List ℕ)) (answer : Answer) : Type 0 where
+pub record Writes (written : List (List ℕ × List ℕ)) (answer : Answer) : Type 0 where
   pub status : answer.status ≡ 0
   pub out : answer.out.items ≡ []
   pub err : answer.err.items ≡ []
-  pub files : map file_value answer.files.items ≡ wanted
+  pub files : map file_value answer.files.items ≡ written
 
--- The run ends with this status, prints nothing on standard output, and on standard error the line of this message.
+-- The run ends with this status, and prints the line of this message on standard error alone.
 pub record Fails (number : ℕ) (message : List ℕ) (answer : Answer) : Type 0 where
   pub status : answer.status ≡ number
   pub out : answer.out.items ≡ []

@@ -128,7 +128,7 @@ pub record AnswersSpec (reading : Reading) (spec : document.TargetValue)
 abbrev pub HasSpec : List ℕ → document.TargetValue → Type 0
 HasSpec bytes spec = IsAccepted target_checks IsTarget bytes spec
 
--- what is told of a refused target document
+-- what is reported of a refused target document
 abbrev pub spec_text : DocFault → List ℕ
 spec_text fault = codes "target: " ++ doc_fault_text fault
 

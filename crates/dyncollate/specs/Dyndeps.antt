@@ -8,17 +8,17 @@ use Rattle.dyndep_file.specs.FaultTexts.{read_fault_text}
 use Rattle.dyncollate.specs.declared.answer.Answer.{Answer}
 use Rattle.dyncollate.specs.Answers.{Refuses}
 
--- the fault that is told is the one that the text has
-abbrev pub IsTold : List ℕ → ReadFault → Type 0
-IsTold text (AtLine line fault) = IsRefused text (record { line = line; fault = fault })
-IsTold text Io = ⊥
+-- the fault that is reported is the one that the text has
+abbrev pub IsReported : List ℕ → ReadFault → Type 0
+IsReported text (AtLine line fault) = IsRefused text (record { line = line; fault = fault })
+IsReported text Io = ⊥
 
--- what is told of a fault: the number of its line, and what is wrong there
+-- what is reported of a fault: the number of its line, and what is wrong there
 abbrev pub found_text : FaultAt → List ℕ
 found_text found = read_fault_text (AtLine found.line found.fault)
 
--- What a run answers to these bytes of a dyndep file, by what it answers to the statements that they
--- stand for: that, or their fault.
+-- What a run answers to these bytes of a dyndep file, by what it answers to the statements that
+-- they stand for: that, or their fault.
 pub record AnswersDyndep (AnswersStatements : List StatementValue → Answer → Type 0)
     (text : List ℕ) (answer : Answer) : Type 0 where
   pub read : (statements : List StatementValue) → StandsFor text statements →

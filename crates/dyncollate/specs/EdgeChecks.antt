@@ -41,7 +41,7 @@ IsEdgesFault text name dyndep (Effect fault) =
 IsEdgesFault text name dyndep (Cycle graph cycle) =
     Lists text graph × HaveCycleAfter name dyndep graph cycle.items
 
--- what is told of edges that are faulty
+-- what is reported of edges that are faulty
 abbrev pub edges_text : EdgesFault → List ℕ
 edges_text (Listing fault) = listing_fault_text fault
 edges_text (Effect fault) = effect_text fault
@@ -57,8 +57,8 @@ abbrev pub FailsEdges : Option (List ℕ) → List ℕ → List ℕ → EdgesFau
 FailsEdges None name dyndep fault = ⊥
 FailsEdges (Some text) name dyndep fault = IsEdgesFault text name dyndep fault
 
--- The run writes these files where the edges of a listing, if there is one, can be put in order after
--- the effect of this dyndep text, as that of the file of this name, and else tells what is wrong.
+-- The run writes these files where the edges of a listing, if there is one, can be put in order
+-- after the effect of this dyndep text, as that of the file of this name, or reports what is wrong.
 pub data AnswersEdges (listing : Option (List ℕ)) (name dyndep : List ℕ)
     (files : List (List ℕ × List ℕ)) (answer : Answer) : Type 0 where
   passes : PassesEdges listing name dyndep → Writes files answer →

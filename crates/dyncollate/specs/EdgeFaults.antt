@@ -1,4 +1,4 @@
--- How the faults of edge listings and of effects on edges are told: edges by their first outputs.
+-- How faults of edge listings and of effects on edges are reported: edges by their first outputs.
 use Rattle.std.specs.Prelude.{ℕ, List, [], ◌∷◌, ◌++◌, slice_get, slice_index_or, Option, Some, None, codes}
 use Rattle.std.specs.List.{flat_map}
 use Rattle.std.specs.Option.{option_map_or}
@@ -9,10 +9,10 @@ use Rattle.build_effect.specs.declared.fault.EffectFault.{EffectFault}
 use Rattle.build_effect.specs.declared.listing_faults.ListingFault.{ListingFault}
 use Rattle.build_effect.specs.declared.listing_faults.ListingFault.TheVariants.{AtLine, NoGraph}
 
--- the first output of the edge of that number
+-- the first output of the edge of that index
 abbrev pub first_output : List EdgeValue → ℕ → List ℕ
-first_output edges number =
-    option_map_or (λ e. slice_index_or e.outputs 0 []) (slice_get edges number) []
+first_output edges index =
+    option_map_or (λ e. slice_index_or e.outputs 0 []) (slice_get edges index) []
 
 -- why a listing gives no graph: the fault of a line, or the file that the edges' fault is about
 abbrev pub listing_fault_text : ListingFault → List ℕ

@@ -17,19 +17,19 @@ use Rattle.dyncollate.specs.Dyndeps.{AnswersDyndep}
 use Rattle.dyncollate.specs.EdgeFaults.{first_output, effect_text}
 use Rattle.dyncollate.specs.Listings.{AnswersListing}
 
--- the listing is printed, or the run is refused with the first output of the edge whose line is too long
+-- the listing is printed, or refused with the first output of the edge whose line is too long
 abbrev pub AnswersText : List EdgeValue → Result (List ℕ) ListingWriteFault → Answer → Type 0
 AnswersText edges (Ok text) answer = Prints text answer
-AnswersText edges (Err (ListingTooLong number)) answer =
-    Refuses (codes "E9 ListingTooLong " ++ first_output edges number) answer
+AnswersText edges (Err (ListingTooLong index)) answer =
+    Refuses (codes "E9 ListingTooLong " ++ first_output edges index) answer
 AnswersText edges (Err (Io written)) answer = ⊥
 
 -- what a run answers to the edges after the effect: their listing
 abbrev pub AnswersNew : List EdgeValue → Answer → Type 0
 AnswersNew edges answer = AnswersText edges (text_or_fault edges) answer
 
--- The run is refused, and its line tells why the statements have no effect.
-pub record TellsEffectFault (name : List ℕ) (edges : List EdgeValue)
+-- The run is refused, and its line says why the statements have no effect.
+pub record ReportsEffectFault (name : List ℕ) (edges : List EdgeValue)
     (statements : List StatementValue) (answer : Answer) : Type 0 where
   pub fault : EffectFault
   pub present : IsEffectFault edges name statements fault
@@ -41,7 +41,7 @@ pub record AnswersEffectOf (name : List ℕ) (edges : List EdgeValue)
     (statements : List StatementValue) (answer : Answer) : Type 0 where
   pub effect : (new : List EdgeValue) → Effect edges name statements new → AnswersNew new answer
   pub no_effect : HasNoEffect edges name statements →
-      TellsEffectFault name edges statements answer
+      ReportsEffectFault name edges statements answer
 
 -- what a run answers to a graph and to the bytes of the dyndep file of this name
 abbrev pub AnswersGraph : List ℕ → List ℕ → List EdgeValue → Answer → Type 0
@@ -53,8 +53,8 @@ AnswersNamed (Ok name) edges dyndep answer = AnswersListing (AnswersGraph name d
 AnswersNamed (Err fault) edges dyndep answer =
     Refuses (codes "name: " ++ path_fault_text fault) answer
 
--- What a run answers to a name, and to these bytes of an edge listing and of the dyndep file of that
--- name.
+-- What a run answers to a name, and to these bytes of an edge listing and of the dyndep file of
+-- that name.
 abbrev pub AnswersEffect : List ℕ → List ℕ → List ℕ → Answer → Type 0
 AnswersEffect name edges dyndep answer = AnswersNamed (path_of name) edges dyndep answer
 

@@ -16,30 +16,30 @@ use Rattle.dyncollate.specs.EdgeFaults.{listing_fault_text}
 abbrev pub IsLineFault : List ℕ → LineFault → Type 0
 IsLineFault text fault = FaultyLine text fault ⊎ FaultyEnd text fault
 
--- The run is refused, and its line tells the first faulty line of the text, or its end.
-pub record TellsLineFault (text : List ℕ) (answer : Answer) : Type 0 where
+-- The run is refused, and its line reports the first faulty line of the text, or its end.
+pub record ReportsLineFault (text : List ℕ) (answer : Answer) : Type 0 where
   pub fault : LineFault
   pub present : IsLineFault text fault
   pub refused : Refuses (listing_fault_text (AtLine fault)) answer
 
--- The run is refused, and its line tells why the edges are no graph.
-pub record TellsGraphFault (edges : List EdgeValue) (answer : Answer) : Type 0 where
+-- The run is refused, and its line says why the edges are no graph.
+pub record ReportsGraphFault (edges : List EdgeValue) (answer : Answer) : Type 0 where
   pub fault : GraphFault
   pub present : IsGraphFault edges fault
   pub refused : Refuses (listing_fault_text (NoGraph fault)) answer
 
--- the edges are a graph, to which the run answers this, or the run tells why they are none
+-- the edges are a graph, to which the run answers this, or the run says why they are none
 abbrev pub AnswersEdges : (List EdgeValue → Answer → Type 0) → List EdgeValue → Answer → Type 0
 AnswersEdges AnswersGraph edges answer =
-    (IsGraph edges × AnswersGraph edges answer) ⊎ TellsGraphFault edges answer
+    (IsGraph edges × AnswersGraph edges answer) ⊎ ReportsGraphFault edges answer
 
--- What a run answers to these bytes of an edge listing, by what it answers to the graph of the edges
--- that they list: that, or why there is no graph.
+-- What a run answers to these bytes of an edge listing, by what it answers to the graph of the
+-- edges that they list: that, or why there is no graph.
 pub record AnswersListing (AnswersGraph : List EdgeValue → Answer → Type 0) (text : List ℕ)
     (answer : Answer) : Type 0 where
   pub listed : (edges : List EdgeValue) → Lists text edges →
       AnswersEdges AnswersGraph edges answer
-  pub refused : (fault : LineFault) → IsLineFault text fault → TellsLineFault text answer
+  pub refused : (fault : LineFault) → IsLineFault text fault → ReportsLineFault text answer
 
 -- why a text gives no graph
 abbrev pub IsListingFault : List ℕ → ListingFault → Type 0

@@ -11,8 +11,8 @@ use Rattle.dyncollate.specs.Targets.{AnswersTarget}
 abbrev pub setting_of : List ℕ → List ℕ → SettingValue
 setting_of dir ext = record { module_dir = dir; module_ext = ext; build_dir = None }
 
--- The target of `one`: a scan document alone, which links no other target and keeps no module to
--- itself. What is printed does not tell its name.
+-- The target of `one`: a scan document alone, which links no other target and has no
+-- private modules. What is printed does not have its name.
 abbrev pub target_of : SettingValue → List ℕ → TargetValue
 target_of setting document = record {
   name = codes "t";

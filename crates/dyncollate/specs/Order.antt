@@ -13,7 +13,7 @@ use Rattle.dyncollate.specs.EdgeFaults.{first_output, cycle_text}
 -- the first output of each of these edges, one a line
 abbrev pub order_text : List EdgeValue → List ℕ → List ℕ
 order_text edges order =
-    flat_map (λ number. map visible (first_output edges number) ++ 10 ∷ []) order
+    flat_map (λ index. map visible (first_output edges index) ++ 10 ∷ []) order
 
 -- an order is printed, and a cycle is refused
 abbrev pub AnswersSorting : List EdgeValue → Sorting → Answer → Type 0

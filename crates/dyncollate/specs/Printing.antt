@@ -26,7 +26,8 @@ abbrev pub IsPut : {W : Type 0} → (W → Option (List ℕ)) → Counted W → 
 IsPut contents old new text =
     IsWritten contents old new text ⊎ ((written : ℕ) × IsCutShort contents old new text written)
 
--- All of the run's standard output was written, its standard error was put, and the status is the run's.
+-- All of the run's standard output was written, its standard error was put, and the status is the
+-- run's.
 pub record IsPrinted {O E : Type 0} (outs : O → Option (List ℕ)) (errs : E → Option (List ℕ))
     (old_out new_out : Counted O) (old_err new_err : Counted E)
     (answer : Result Answer AllocError) (number : ℕ) : Type 0 where
@@ -34,7 +35,8 @@ pub record IsPrinted {O E : Type 0} (outs : O → Option (List ℕ)) (errs : E �
   pub err : IsPut errs old_err new_err (err_of answer)
   pub status : number ≡ status_of answer
 
--- A call failed before all of the run's standard output was written: a line says so, and the status is 3.
+-- A call failed before all of the run's standard output was written: a line says so, and the status
+-- is 3.
 pub record IsUnprinted {O E : Type 0} (outs : O → Option (List ℕ)) (errs : E → Option (List ℕ))
     (old_out new_out : Counted O) (old_err new_err : Counted E)
     (answer : Result Answer AllocError) (number : ℕ) : Type 0 where

@@ -89,7 +89,7 @@ pub data AreRead (reading : Reading) : List (List ℕ) → List ReadTargetValue 
       IsRead reading targets name target →
       AreRead reading (names ++ name ∷ []) (targets ++ target ∷ [])
 
--- what is told of the target of this index
+-- what is reported of the target of this index
 abbrev pub target_text : ℕ → List ℕ → List ℕ
 target_text index text = codes "target " ++ decimal index ++ codes ": " ++ text
 
@@ -99,7 +99,7 @@ LinksLater earlier infos =
     (index : ℕ) × (info : List ℕ) × (slice_get infos index ≡ Some info)
     × (last_with earlier info ≡ None)
 
--- A target with these members can't be read behind earlier ones, and the run tells why: the first
+-- A target with these members can't be read behind earlier ones, and the run says why: the first
 -- of these reasons.
 pub data FailsBehind (reading : Reading) (earlier : List ReadTargetValue)
     (spec : document.TargetValue) (answer : Answer) : Type 0 where
@@ -130,7 +130,7 @@ pub data FailsTarget (reading : Reading) (earlier : List ReadTargetValue) (name 
   fails_behind : (spec : document.TargetValue) → HasDocument reading name spec →
       FailsBehind reading earlier spec answer → FailsTarget reading earlier name answer
 
--- The first target that can't be read is that of this index, and the run tells why.
+-- The first target that can't be read is that of this index, and the run says why.
 pub record FailsReading (reading : Reading) (names : List (List ℕ)) (answer : Answer) : Type 0 where
   pub index : ℕ
   pub name : List ℕ
@@ -161,7 +161,7 @@ abbrev pub names_at : List ReadTargetValue → List ℕ → List (List ℕ)
 names_at targets indexes =
     map (λ k. option_map_or (λ t. t.spec.target) (slice_get targets k) []) indexes
 
--- what is told of the target of this index where it does not collate
+-- what is reported of the target of this index where it does not collate
 abbrev pub refused_text : List ReadTargetValue → ℕ → ReadTargetValue → Refusal → List ℕ
 refused_text targets index t refusal = target_text index
     (refusal_by_names (setting_in t.spec) t.scans (names_at targets t.linked) refusal)
@@ -195,7 +195,7 @@ pub data AnswersCollatedTargets (pairs : List (ReadTargetValue × CollatedValue)
   one_fails : (index : ℕ) (fault : EdgesFault) → FailsFirst pairs index fault →
       Refuses (target_text index (edges_text fault)) answer → AnswersCollatedTargets pairs answer
 
--- What a run answers to targets that were read: they collate, one after another, or it tells the
+-- What a run answers to targets that were read: they collate, one after another, or it reports the
 -- refusal of the first that does not.
 pub data AnswersReadTargets (targets : List ReadTargetValue)
     (answer : Answer) : Type 0 where
@@ -207,8 +207,8 @@ pub data AnswersReadTargets (targets : List ReadTargetValue)
       IsProjectRefusal (style_of (form_of targets)) (map project_target targets) index refusal →
       Refuses (refused_text targets index target refusal) answer → AnswersReadTargets targets answer
 
--- What a run answers to the names of target documents: it goes through them in order, and tells the
--- first target that can't be read, or answers to all of them.
+-- What a run answers to the names of target documents: it goes through them in order, and reports
+-- the first target that can't be read, or answers to all of them.
 pub data AnswersNames (reading : Reading) (names : List (List ℕ)) (answer : Answer) : Type 0 where
   all_read : (targets : List ReadTargetValue) → AreRead reading names targets →
       AnswersReadTargets targets answer → AnswersNames reading names answer
@@ -220,7 +220,7 @@ pub data AnswersNames (reading : Reading) (names : List (List ℕ)) (answer : An
 abbrev pub HasProject : List ℕ → ProjectValue → Type 0
 HasProject bytes project = IsAccepted project_checks IsProject bytes project
 
--- what is told of a refused project document
+-- what is reported of a refused project document
 abbrev pub project_text : DocFault → List ℕ
 project_text fault = codes "project: " ++ doc_fault_text fault
 

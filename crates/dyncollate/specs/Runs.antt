@@ -11,7 +11,7 @@ use Rattle.dyncollate.specs.Listings.{AnswersListing}
 use Rattle.dyncollate.specs.One.{setting_of, AnswersDocument}
 use Rattle.dyncollate.specs.Order.{AnswersOrder}
 use Rattle.dyncollate.specs.ProjectCommand.{AnswersProject}
-use Rattle.dyncollate.specs.Show.{AnswersShown}
+use Rattle.dyncollate.specs.Show.{AnswersShow}
 use Rattle.dyncollate.specs.Tasks.{TaskValue, one, collate, show, effect, order, project, file_of}
 
 -- what a run answers to the bytes of its file, where others are read like this
@@ -19,7 +19,7 @@ abbrev pub AnswersBytes : TaskValue → Reading → List ℕ → Answer → Type
 AnswersBytes (one scan dir ext) reading bytes answer =
     AnswersDocument (setting_of dir ext) bytes answer
 AnswersBytes (collate target) reading bytes answer = AnswersCollate bytes reading answer
-AnswersBytes (show dyndep) reading bytes answer = AnswersDyndep AnswersShown bytes answer
+AnswersBytes (show dyndep) reading bytes answer = AnswersDyndep AnswersShow bytes answer
 AnswersBytes (effect name edges dyndep) reading bytes answer =
     AnswersFiles name bytes dyndep (reading dyndep) answer
 AnswersBytes (order edges) reading bytes answer = AnswersListing AnswersOrder bytes answer

@@ -6,5 +6,5 @@ use Rattle.dyncollate.specs.declared.answer.Answer.{Answer}
 use Rattle.dyncollate.specs.Answers.{AnswersText}
 
 -- what a run answers to the statements of a dyndep file: their text
-abbrev pub AnswersShown : List StatementValue → Answer → Type 0
-AnswersShown statements answer = AnswersText (text_or_fault statements) answer
+abbrev pub AnswersShow : List StatementValue → Answer → Type 0
+AnswersShow statements answer = AnswersText (text_or_fault statements) answer

@@ -1,4 +1,4 @@
--- How the faults of a table are told: objects by their paths, and infos by the names of their
+-- How the faults of a table are reported: objects by their paths, and infos by the names of their
 -- targets.
 use Rattle.std.specs.Prelude.{ℕ, List, [], ◌∷◌, ◌++◌, slice_get, unwrap_or, codes}
 use Rattle.std.specs.List.{flat_map}
@@ -10,18 +10,18 @@ use Rattle.module_table.specs.declared.fault.Maker.TheVariants.{Object, Info}
 use Rattle.module_table.specs.declared.fault.TableFault.{TableFault}
 use Rattle.module_table.specs.declared.fault.TableFault.TheVariants.{ObjectTwice, InfoTwice, ProvidedTwice, BmiTwice, ModuleUnknown, InfoUnknown, InfoDisagrees, ImportCycle, ModulePrivate, PrivateUnknown}
 
--- the path of the object of that number
+-- the path of the object of that index
 abbrev pub object_path : List RuleValue → ℕ → List ℕ
-object_path objects number = option_map_or (λ rule. rule.object) (slice_get objects number) []
+object_path objects index = option_map_or (λ rule. rule.object) (slice_get objects index) []
 
--- the name of the target of the info of that number
+-- the name of the target of the info of that index
 abbrev pub target_name : List (List ℕ) → ℕ → List ℕ
-target_name names number = unwrap_or (slice_get names number) []
+target_name names index = unwrap_or (slice_get names index) []
 
 -- who makes a file
 abbrev pub maker_text : List RuleValue → List (List ℕ) → Maker → List ℕ
-maker_text objects names (Object number) = codes "object " ++ object_path objects number
-maker_text objects names (Info number) = codes "info " ++ target_name names number
+maker_text objects names (Object index) = codes "object " ++ object_path objects index
+maker_text objects names (Info index) = codes "info " ++ target_name names index
 
 -- a name or a file, and the two who make it
 abbrev pub made_twice_text : List RuleValue → List (List ℕ) → List ℕ → Maker → Maker → List ℕ
@@ -33,7 +33,7 @@ made_twice_text objects names made first second =
 abbrev pub requirement_text : List ℕ → List ℕ → List ℕ → List ℕ
 requirement_text target module_name name = target ++ codes " " ++ module_name ++ codes " " ++ name
 
--- a module that its target keeps to itself, and who requires it
+-- a private module, its target, and who requires it
 abbrev pub private_text : List RuleValue → List (List ℕ) → List ℕ → ℕ → Maker → List ℕ
 private_text objects names name info user =
     name ++ codes " of " ++ target_name names info ++ codes " in " ++ maker_text objects names user

@@ -1,11 +1,11 @@
--- What the program's words ask for.
+-- Which task the program's arguments call for.
 use Rattle.std.specs.Prelude.{◌≡◌, ℕ, ◌==◌, Bool, false, List, [], ◌∷◌, drop}
 use Rattle.std.specs.Prelude.{Option, Some, None, option_map, option_and_then, if◌then◌else◌, codes}
 use Rattle.std.specs.Str.{bytes_eq}
-use Rattle.dyncollate.specs.declared.words.Task.{Task}
-use Rattle.dyncollate.specs.declared.words.Task.TheVariants as task
+use Rattle.dyncollate.specs.declared.arguments.Task.{Task}
+use Rattle.dyncollate.specs.declared.arguments.Task.TheVariants as task
 
--- a task, by the texts of its arguments
+-- a task, by the texts of its operands
 pub data TaskValue : Type 0 where
   one : List ℕ → List ℕ → List ℕ → TaskValue
   collate : List ℕ → TaskValue
@@ -36,45 +36,45 @@ abbrev pub is_flag : List ℕ → Bool
 is_flag (first ∷ _ ∷ _) = first == 45
 is_flag _ = false
 
--- The arguments among the words behind a command, unless one of them is a flag. The first `--` is dropped, and every word
--- behind it is an argument.
-abbrev pub arguments : List (List ℕ) → Option (List (List ℕ))
-arguments [] = Some []
-arguments (word ∷ words) =
-    if bytes_eq word (codes "--") then Some words
-    else (if is_flag word then None else option_map (λ others. word ∷ others) (arguments words))
+-- The operands among the arguments behind a command, unless one of them is a flag. The first `--`
+-- is dropped, and every argument behind it is an operand.
+abbrev pub operands : List (List ℕ) → Option (List (List ℕ))
+operands [] = Some []
+operands (argument ∷ arguments) =
+    if bytes_eq argument (codes "--") then Some arguments
+    else (if is_flag argument then None else option_map (λ others. argument ∷ others) (operands arguments))
 
--- as many arguments as `one` has
+-- as many operands as `one` takes
 abbrev pub one_of : List (List ℕ) → Option TaskValue
 one_of (scan ∷ dir ∷ ext ∷ []) = Some (one scan dir ext)
 one_of _ = None
 
--- as many arguments as `collate` has
+-- as many operands as `collate` takes
 abbrev pub collate_of : List (List ℕ) → Option TaskValue
 collate_of (target ∷ []) = Some (collate target)
 collate_of _ = None
 
--- as many arguments as `show` has
+-- as many operands as `show` takes
 abbrev pub show_of : List (List ℕ) → Option TaskValue
 show_of (dyndep ∷ []) = Some (show dyndep)
 show_of _ = None
 
--- as many arguments as `effect` has
+-- as many operands as `effect` takes
 abbrev pub effect_of : List (List ℕ) → Option TaskValue
 effect_of (name ∷ edges ∷ dyndep ∷ []) = Some (effect name edges dyndep)
 effect_of _ = None
 
--- as many arguments as `order` has
+-- as many operands as `order` takes
 abbrev pub order_of : List (List ℕ) → Option TaskValue
 order_of (edges ∷ []) = Some (order edges)
 order_of _ = None
 
--- as many arguments as `project` has
+-- as many operands as `project` takes
 abbrev pub project_of : List (List ℕ) → Option TaskValue
 project_of (document ∷ []) = Some (project document)
 project_of _ = None
 
--- the task of a command and its arguments
+-- the task of a command and its operands
 abbrev pub task_from : List ℕ → List (List ℕ) → Option TaskValue
 task_from command given =
     if bytes_eq command (codes "one") then one_of given
@@ -84,11 +84,11 @@ task_from command given =
     else (if bytes_eq command (codes "order") then order_of given
     else (if bytes_eq command (codes "project") then project_of given else None)))))
 
--- what the words behind the program's name ask for, where they are a proper call
+-- the task that the arguments behind the program's name call for, where they are a proper call
 abbrev pub task_in : List (List ℕ) → Option TaskValue
 task_in [] = None
-task_in (command ∷ words) = option_and_then (task_from command) (arguments words)
+task_in (command ∷ arguments) = option_and_then (task_from command) (operands arguments)
 
--- the words, the program's own name the first of them, ask for this task
-abbrev pub AsksFor : List (List ℕ) → Option Task → Type 0
-AsksFor words task = option_map task_value task ≡ task_in (drop 1 words)
+-- the arguments, the program's own name the first of them, call for this task
+abbrev pub AreCallOf : List (List ℕ) → Option Task → Type 0
+AreCallOf arguments task = option_map task_value task ≡ task_in (drop 1 arguments)

@@ -8,8 +8,8 @@ use dyndep_file::Dyndep;
 use ninja_text::Failure;
 use std::alloc::{AllocError, Global};
 
-/// What a run of a command answers: the exit status, the bytes for standard output and for standard error, and the
-/// files to be written, by name and in order.
+/// What a run of a command answers: the exit status, the bytes for standard output and for standard
+/// error, and the files to be written, by name and in order.
 #[derive(Drop)]
 pub struct Answer {
     pub status: u8,
@@ -46,7 +46,7 @@ impl Answer {
         }
     }
 
-    /// The run prints the text of a dyndep file, or tells why it cannot be written.
+    /// The run prints the text of a dyndep file, or reports why it cannot be written.
     pub fn of_dyndep(alloc: Global, dyndep: &Dyndep) -> Result<Answer, AllocError>
         ensures { IfOk result (AnswersText (text_or_fault dyndep.now)) }
     {
@@ -60,7 +60,7 @@ impl Answer {
         }
     }
 
-    /// The words are no proper call.
+    /// The arguments are no proper call.
     pub fn usage(alloc: Global) -> Result<Answer, AllocError>
         ensures { IfOk result (Fails 2 (codes "usage")) }
     {
@@ -83,7 +83,7 @@ impl Answer {
         Answer::failed(alloc, 3, message.as_bytes())
     }
 
-    /// The run ends with a status that says why, and with one line that tells more.
+    /// The run ends with a status that says why, and with one line that says more.
     pub fn failed(alloc: Global, status: u8, message: &[u8]) -> Result<Answer, AllocError>
         ensures { IfOk result (Fails status message.now) }
     {
@@ -97,7 +97,7 @@ impl Answer {
     }
 }
 
-/// The line on standard error that tells why a run failed. Control bytes are shown as `?`.
+/// The line on standard error that says why a run failed. Control bytes are printed as `?`.
 fn fault_line(alloc: Global, message: &[u8]) -> Result<Vec<u8>, AllocError>
     ensures { IfOk result (λ text. text.items ≡ line message.now) }
 {
@@ -109,7 +109,7 @@ fn fault_line(alloc: Global, message: &[u8]) -> Result<Vec<u8>, AllocError>
     Ok(text)
 }
 
-/// A byte as it is shown in a line: `?` in place of a control byte.
+/// A byte as it is printed in a line: `?` for a control byte.
 pub fn visible(byte: u8) -> u8
     ensures { result ≡ visible byte }
 {

@@ -18,10 +18,11 @@ use ninja_text::{Failure, Path};
 use scan_docs::{DocFault, MapForm, TargetSpec};
 use std::alloc::{AllocError, Global};
 
-/// Runs `collate TARGETFILE` on the bytes of the target document, and on files by name. Of a name that is there twice the
-/// first file counts, and one that is not there counts as a file that can't be read. What is to be written are the map of
-/// each object, where the document wants maps, then the info, and last the dyndep file. Where the document names a listing
-/// of edges, they have to have an order after the effect of that dyndep file.
+/// Runs `collate TARGETFILE` on the bytes of the target document, and on files by name. Of a name
+/// that is there twice the first file counts, and one that is not there counts as a file that can't
+/// be read. What is to be written are the map of each object, where the document wants maps, then
+/// the info, and last the dyndep file. Where the document names a listing of edges, they have to
+/// have an order after the effect of that dyndep file.
 pub fn collate_run(
     alloc: Global,
     spec: &[u8],
@@ -59,8 +60,8 @@ fn document_run(
     }
 }
 
-/// The scan documents, the infos and the listing of edges that a target document names, or the first name of a file that is
-/// not there.
+/// The scan documents, the infos and the listing of edges that a target document names, or the
+/// first name of a file that is not there.
 fn documents_of<'s, 'f>(
     alloc: Global,
     spec: &'s TargetSpec,
@@ -130,8 +131,8 @@ fn target_run(
     }
 }
 
-/// Whether the edges of a listing, if there is one, can be put in order after the effect of a collated target's dyndep
-/// file, which has that name.
+/// Whether the edges of a listing, if there is one, can be put in order after the effect of a
+/// collated target's dyndep file, which has that name.
 pub fn edges_pass(
     alloc: Global,
     listing: Option<&[u8]>,
@@ -149,7 +150,8 @@ pub fn edges_pass(
     }
 }
 
-/// The answer to a collated target: its files, or what is wrong with the edges of the listing, if there is one.
+/// The answer to a collated target: its files, or what is wrong with the edges of the listing, if
+/// there is one.
 fn collated_run(
     alloc: Global,
     collated: Collated,
@@ -173,7 +175,7 @@ fn collated_run(
     }
 }
 
-/// Collates a target, with maps of this form, if one is asked for.
+/// Collates a target, with maps of this form, if one is given.
 fn collate_in(
     alloc: Global,
     target: &Target<'_>,

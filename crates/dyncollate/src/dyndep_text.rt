@@ -5,7 +5,7 @@ ghost use Rattle.ninja_text.specs.Failure.{ForFault};
 ghost use Rattle.dyndep_file.specs.FaultTexts.{read_fault_text};
 ghost use Rattle.dyndep_file.specs.Reading.{StandsFor};
 ghost use Rattle.dyncollate.specs.Answers.{Refuses};
-ghost use Rattle.dyncollate.specs.Dyndeps.{IsTold};
+ghost use Rattle.dyncollate.specs.Dyndeps.{IsReported};
 
 use crate::answer::Answer;
 use dyndep_file::{Dyndep, DyndepReader, ReadFault};
@@ -15,7 +15,7 @@ use std::alloc::{AllocError, Global};
 /// The statements of a dyndep text.
 pub fn dyndep_read(alloc: Global, text: &[u8]) -> Result<Dyndep, Failure<ReadFault>>
     ensures read { IfOk result (StandsFor text.now) }
-    ensures refused { IfErr result (ForFault (IsTold text.now)) }
+    ensures refused { IfErr result (ForFault (IsReported text.now)) }
 {
     let mut reader = DyndepReader::new(alloc);
     match reader.feed(text) {

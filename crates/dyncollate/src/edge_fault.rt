@@ -1,4 +1,5 @@
-//! How the faults of edge listings and of effects on edges are told, and edges that need each other.
+//! How the faults of edge listings, of effects on edges, and of edges that need each other are
+//! reported.
 
 ghost use Rattle.std.specs.Prelude.{◌≡◌, IfOk};
 ghost use Rattle.dyncollate.specs.EdgeFaults.{first_output, listing_fault_text, effect_text, chain_text, cycle_text};
@@ -7,7 +8,7 @@ use crate::table_fault::joined;
 use build_effect::{Edge, EffectFault, ListingFault};
 use std::alloc::{AllocError, Global};
 
-/// What is told of a listing that gives no graph.
+/// What is reported of a listing that gives no graph.
 pub fn listing_fault_text(alloc: Global, fault: &ListingFault) -> Result<Vec<u8>, AllocError>
     ensures { IfOk result (λ text. text.items ≡ listing_fault_text fault.now) }
 {
@@ -23,7 +24,7 @@ pub fn listing_fault_text(alloc: Global, fault: &ListingFault) -> Result<Vec<u8>
     }
 }
 
-/// What is told of statements that have no effect.
+/// What is reported of statements that have no effect.
 pub fn effect_text(alloc: Global, fault: &EffectFault) -> Result<Vec<u8>, AllocError>
     ensures { IfOk result (λ text. text.items ≡ effect_text fault.now) }
 {
@@ -34,7 +35,8 @@ pub fn effect_text(alloc: Global, fault: &EffectFault) -> Result<Vec<u8>, AllocE
     }
 }
 
-/// What is told of edges that need each other: each needs the next, and the last needs the first.
+/// What is reported of edges that need each other: each needs the next, and the last needs the
+/// first.
 pub fn cycle_text(alloc: Global, edges: &[Edge], cycle: &[usize]) -> Result<Vec<u8>, AllocError>
     ensures { IfOk result (λ text. text.items ≡ cycle_text edges.now cycle.now) }
 {
@@ -58,11 +60,11 @@ fn chain_text(alloc: Global, edges: &[Edge], chain: &[usize]) -> Result<Vec<u8>,
     Ok(text)
 }
 
-/// The first output of the edge of that number.
-pub fn first_output(edges: &[Edge], number: usize) -> &[u8]
-    ensures { result.now ≡ first_output edges.now number }
+/// The first output of the edge of that index.
+pub fn first_output(edges: &[Edge], index: usize) -> &[u8]
+    ensures { result.now ≡ first_output edges.now index }
 {
-    match edges.get(number) {
+    match edges.get(index) {
         Some(edge) => match edge.outputs.get(0) {
             Some(output) => output.bytes(),
             None => b"",

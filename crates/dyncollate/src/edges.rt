@@ -61,7 +61,7 @@ fn graph_check(
     }
 }
 
-/// What is told of edges that are faulty.
+/// What is reported of edges that are faulty.
 pub fn edges_text(alloc: Global, fault: &EdgesFault) -> Result<Vec<u8>, AllocError>
     ensures { IfOk result (λ text. text.items ≡ edges_text fault.now) }
 {

@@ -18,8 +18,8 @@ use dyndep_file::{Dyndep, laws};
 use ninja_text::{Counted, Failure, Path};
 use std::alloc::{AllocError, Global};
 
-/// Runs `effect NAME EDGES DYNDEP` on the bytes of the edge listing, where the dyndep file is among these. Of a name that is
-/// there twice the first file counts.
+/// Runs `effect NAME EDGES DYNDEP` on the bytes of the edge listing, where the dyndep file is among
+/// these. Of a name that is there twice the first file counts.
 pub fn effect_files(
     alloc: Global,
     name: &str,
@@ -37,8 +37,8 @@ pub fn effect_files(
     }
 }
 
-/// Runs `effect NAME EDGES DYNDEP` on the name and the bytes of the two files. The name is looked at first, then the
-/// listing, and then the dyndep file.
+/// Runs `effect NAME EDGES DYNDEP` on the name and the bytes of the two files. The name is looked
+/// at first, then the listing, and then the dyndep file.
 pub fn effect_run(
     alloc: Global,
     name: &str,

@@ -7,22 +7,24 @@ ghost use Rattle.dyncollate.specs.Answers.{file_value};
 ghost use Rattle.dyncollate.specs.Files.{NamesIn, NamesInProject, NamesInTarget, NamesInTargets, NamesOf, FurtherNamesOf, IsRead, EndsReading, IsWritten};
 
 use crate::answer::Answer;
-use crate::words::Task;
+use crate::arguments::Task;
 use ninja_text::Failure;
 use scan_docs::{project_read, spec_read};
 use std::alloc::{AllocError, Global};
 use std::io;
 use std::io::ErrorKind;
 
-/// The names of the files that a task reads besides its own, once that could be read: those that a target document names,
-/// scan documents before infos and the listing of edges last, where the document is accepted; the target documents of a
-/// project, where its document is accepted; the dyndep file of an effect; and else none.
+/// The names of the files that a task reads besides its own, once that could be read: those that a
+/// target document names, scan documents before infos and the listing of edges last, where the
+/// document is accepted; the target documents of a project, where its document is accepted; the
+/// dyndep file of an effect; and else none.
 pub fn names_of(
     alloc: Global,
     task: &Task,
     read: &io::Result<Vec<u8>>,
 ) -> Result<Vec<String>, AllocError>
-    ensures { IfOk result (λ names. NamesOf (task_value task.now) read.now (map string_bytes names.items)) }
+    ensures { IfOk result (λ names.
+        NamesOf (task_value task.now) read.now (map string_bytes names.items)) }
 {
     let Ok(bytes) = read else {
         return Ok(Vec::new(alloc));
@@ -38,8 +40,9 @@ pub fn names_of(
     }
 }
 
-/// The names of the files that a task reads last, once those that [`names_of`] gave were read: of a project those that its
-/// target documents name, one after another, where they are accepted; and else none.
+/// The names of the files that a task reads last, once those that [`names_of`] gave were read: of a
+/// project those that its target documents name, one after another, where they are accepted; and
+/// else none.
 pub fn further_names(
     alloc: Global,
     task: &Task,
@@ -145,8 +148,8 @@ pub fn read_files<F: Fn(&str) -> io::Result<Vec<u8>>>(
     Ok(files)
 }
 
-/// Writes the files of an answer by this call, in order, up to the first that can't be written. The answer is left, or the
-/// name of that file; the files before it stay.
+/// Writes the files of an answer by this call, in order, up to the first that can't be written. The
+/// answer is left, or the name of that file; the files before it stay.
 pub fn write_files<F: Fn(&str, &[u8]) -> io::Result<()>>(
     alloc: Global,
     answer: Answer,

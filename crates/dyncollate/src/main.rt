@@ -1,26 +1,30 @@
-//! The program `dyncollate`: it reads the files that its words name, calls the command, writes what that answers, and ends
-//! with its status.
+//! The program `dyncollate`: it reads the files that its arguments name, calls the command, writes
+//! what that answers, and ends with its status.
 //!
-//! Status 0: done. 1: refused. 2: the words are no proper call. 3: a file could not be read or written, or memory was
-//! refused. For each but 0 one line on standard error says why.
+//! Status 0: done. 1: refused. 2: the arguments are no proper call. 3: a file could not be read or
+//! written, or memory was refused. For each but 0 one line on standard error says why.
 //!
-//! - `words` tells what the words ask for.
-//! - `run` answers a task by what reading its files gave, and `print` writes an answer and gives the status. `files` reads
-//!   the files that target and project documents name, and writes those of an answer, by calls that `main` hands to it.
-//!   What is left to `main` is to ask for the words, to make these calls of the system, and to end with the status.
-//! - `one`, `collate`, `project`, `effect`, `order` and `show` are the commands of these names. Their promises are the
-//!   contracts of `one_run`, `collate_run`, `project_run`, `effect_run`, `order_run` and `show_run`.
-//! - `target_document` is an accepted target document, and `project_targets` the targets of a project that were read.
-//! - `reading` finds files by their names, `listing` and `dyndep_text` read listings and dyndep files, and `edges` checks
-//!   the edges that a target document names.
-//! - `refusal` tells why a target is refused, `table_fault` why its modules have no table, and `edge_fault` what is wrong
-//!   with edges.
+//! - `arguments` says which task the arguments call for.
+//! - `run` answers a task by what reading its files gave, and `print` writes an answer and gives
+//!   the status. `files` reads the files that target and project documents name, and writes those
+//!   of an answer, by calls that `main` hands to it. What is left to `main` is to get the
+//!   arguments, to make these calls of the system, and to end with the status.
+//! - `one`, `collate`, `project`, `effect`, `order` and `show` are the commands of these names.
+//!   Their promises are the contracts of `one_run`, `collate_run`, `project_run`, `effect_run`,
+//!   `order_run` and `show_run`.
+//! - `target_document` is an accepted target document, and `project_targets` the targets of a
+//!   project that were read.
+//! - `reading` finds files by their names, `listing` and `dyndep_text` read listings and dyndep
+//!   files, and `edges` checks the edges that a target document names.
+//! - `refusal` reports why a target is refused, `table_fault` why its modules have no table, and
+//!   `edge_fault` what is wrong with edges.
 //! - `answer` is what a command answers, and the line that it fails with.
 //!
 //! It stands on the library crates of this repository alone.
 #![tactic(auto)]
 
 use answer::Answer;
+use arguments::{Task, task_of};
 use files::{further_names, names_of, read_files, write_files};
 use ninja_text::Counted;
 use print::print;
@@ -30,9 +34,9 @@ use std::io::ErrorKind;
 use std::process::ExitCode;
 use std::rt::{Env, Files};
 use std::{env, fs};
-use words::{Task, task_of};
 
 mod answer;
+mod arguments;
 mod collate;
 mod dyndep_text;
 mod edge_fault;
@@ -51,7 +55,6 @@ mod run;
 mod show;
 mod table_fault;
 mod target_document;
-mod words;
 
 fn main(rt: HostRuntime) -> ExitCode {
     let answer = answer_of(&rt);
@@ -60,21 +63,22 @@ fn main(rt: HostRuntime) -> ExitCode {
     ExitCode::from(print(&answer, &mut out, &mut err))
 }
 
-/// What the program answers to its words.
+/// What the program answers to its arguments.
 fn answer_of<R: Env + Files + AllocGlobal>(rt: &R) -> Result<Answer, AllocError> {
     let alloc = rt.alloc();
-    let words: Vec<String> = match env::args(rt) {
-        Ok(words) => words.collect(alloc)?,
+    let arguments: Vec<String> = match env::args(rt) {
+        Ok(arguments) => arguments.collect(alloc)?,
         Err(error) if error.kind() == ErrorKind::OutOfMemory => return Err(AllocError),
         Err(_) => return Answer::usage(alloc),
     };
-    match task_of(alloc, words.as_slice())? {
+    match task_of(alloc, arguments.as_slice())? {
         Some(task) => task_answer(rt, &task),
         None => Answer::usage(alloc),
     }
 }
 
-/// What the program answers to its task, once it has read the task's files and written those of the answer.
+/// What the program answers to its task, once it has read the task's files and written those of the
+/// answer.
 fn task_answer<R: Files + AllocGlobal>(rt: &R, task: &Task) -> Result<Answer, AllocError> {
     let alloc = rt.alloc();
     let read = fs::read(rt, task.file());

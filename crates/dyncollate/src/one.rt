@@ -11,9 +11,9 @@ use ninja_text::Failure;
 use scan_docs::{Setting, TargetName};
 use std::alloc::{AllocError, Global};
 
-/// Runs `one SCAN DIR EXT` on the bytes of the scan document, the folder that modules are compiled to and the ending of
-/// their files. The document is collated as a target by itself: a module that a rule requires is looked up among those
-/// that the document's own rules provide.
+/// Runs `one SCAN DIR EXT` on the bytes of the scan document, the folder that modules are compiled
+/// to and the ending of their files. The document is collated as a target by itself: a module that
+/// a rule requires is looked up among those that the document's own rules provide.
 pub fn one_run(alloc: Global, document: &[u8], dir: &str, ext: &str) -> Result<Answer, AllocError>
     ensures { IfOk result (AnswersDocument (setting_of dir.now ext.now) document.now) }
 {
@@ -29,7 +29,7 @@ pub fn one_run(alloc: Global, document: &[u8], dir: &str, ext: &str) -> Result<A
     target_run(alloc, &target)
 }
 
-/// The name that the target goes by. No answer tells it.
+/// The name that the target goes by. No answer has it.
 fn target_name(alloc: Global) -> Result<TargetName, AllocError>
     ensures { IfOk result (λ name. name ≡ codes "t") }
 {

@@ -13,7 +13,7 @@ use dep_order::Sorting;
 use ninja_text::Failure;
 use std::alloc::{AllocError, Global};
 
-/// Runs `order EDGES` on the bytes of the edge listing. Each edge is told by its first output.
+/// Runs `order EDGES` on the bytes of the edge listing. Each edge is named by its first output.
 pub fn order_run(alloc: Global, edges: &[u8]) -> Result<Answer, AllocError>
     ensures { IfOk result (AnswersListing AnswersOrder edges.now) }
 {
@@ -44,19 +44,19 @@ fn graph_run(alloc: Global, graph: &Graph) -> Result<Answer, AllocError>
     }
 }
 
-/// The first output of each of these edges, one a line. Control bytes are shown as `?`.
+/// The first output of each of these edges, one a line. Control bytes are printed as `?`.
 fn order_text(alloc: Global, edges: &[Edge], order: &[usize]) -> Result<Vec<u8>, AllocError>
     ensures { IfOk result (λ text. text.items ≡ order_text edges.now order.now) }
 {
     let mut text = Vec::new(alloc);
-    for number in order {
-        push_visible(&mut text, first_output(edges, *number))?;
+    for edge_index in order {
+        push_visible(&mut text, first_output(edges, *edge_index))?;
         text.push(b'\n')?;
     }
     Ok(text)
 }
 
-/// Appends a name as it is shown in a line.
+/// Appends a name as it is printed in a line.
 fn push_visible(text: &mut Vec<u8>, name: &[u8]) -> Result<(), AllocError>
     ensures { OnOk result (text.new.items ≡ text.old.items ++ map visible name.now) }
 {

@@ -7,9 +7,9 @@ use crate::answer::Answer;
 use ninja_text::{Counted, WriteCall};
 use std::alloc::AllocError;
 
-/// Writes the texts of a run's answer, and gives the exit status. Where memory was refused, or standard output can't be
-/// written, a line on standard error says so and the status is 3. A call of standard error that fails changes nothing: there
-/// is no place left that would tell it.
+/// Writes the texts of a run's answer, and gives the exit status. Where memory was refused, or
+/// standard output can't be written, a line on standard error says so and the status is 3. A call
+/// of standard error that fails changes nothing: there is nothing left that would report it.
 pub fn print<O: WriteCall, E: WriteCall>(
     answer: &Result<Answer, AllocError>,
     out: &mut Counted<O>,

@@ -6,7 +6,7 @@ ghost use Rattle.collate_core.specs.Projects.{IsProject, IsProjectRefusal};
 ghost use Rattle.dyncollate.specs.Answers.{file_value, Refuses};
 ghost use Rattle.dyncollate.specs.CollateCommand.{first_of, style_of};
 ghost use Rattle.dyncollate.specs.ProjectCommand.{ReadTargetValue, project_target, form_of, names_at, refused_text, PassesOwn, FailsFirst, all_files, AnswersCollatedTargets, AnswersReadTargets, AnswersNames, AnswersProject, project_text};
-ghost use Rattle.dyncollate.specs.inner.ProjectTargets.{LinkEarlier, IsToldOf, AreOuts};
+ghost use Rattle.dyncollate.specs.inner.ProjectTargets.{LinkEarlier, IsReportable, AreOuts};
 
 use crate::answer::Answer;
 use crate::collate::{edges_pass, files_of};
@@ -19,12 +19,14 @@ use ninja_text::Failure;
 use scan_docs::{DocFault, MapForm, TargetName, project_read};
 use std::alloc::{AllocError, Global};
 
-/// Runs `project FILE` on the bytes of the project document, and on files by name. Of a name that is there twice the first
-/// file counts, and one that is not there counts as a file that can't be read.
+/// Runs `project FILE` on the bytes of the project document, and on files by name. Of a name that
+/// is there twice the first file counts, and one that is not there counts as a file that can't be
+/// read.
 ///
-/// All targets are read before the first is collated: the document of each, which may only link targets before it and has
-/// the first one's form of maps, its scan documents and its listing of edges. What is to be written are the files of
-/// `collate`, target by target; infos that targets link are not read, since the project writes them.
+/// All targets are read before the first is collated: the document of each, which may only link
+/// targets before it and has the first one's form of maps, its scan documents and its listing of
+/// edges. What is to be written are the files of `collate`, target by target; infos that targets
+/// link are not read, since the project writes them.
 pub fn project_run(
     alloc: Global,
     document: &[u8],
@@ -85,7 +87,7 @@ fn collate_all(
     project_in(alloc, &parts, form_of(targets))
 }
 
-/// Collates targets as a project has them, with maps of this form, if one is asked for.
+/// Collates targets as a project has them, with maps of this form, if one is given.
 fn project_in(
     alloc: Global,
     parts: &[ProjectTarget<'_>],
@@ -134,7 +136,7 @@ fn refused_run(
     index: usize,
     refusal: &Refusal,
 ) -> Result<Answer, AllocError>
-    requires { IsToldOf targets.now index refusal.now }
+    requires { IsReportable targets.now index refusal.now }
     ensures { IfOk result (λ answer. (target : ReadTargetValue)
         → slice_get targets.now index ≡ Some target
         → Refuses (refused_text targets.now index target refusal.now) answer) }
@@ -165,8 +167,8 @@ fn linked_names<'t>(
     Ok(names)
 }
 
-/// The answer to targets that collated to these: their files, or what is wrong with the edges of the first whose edges are
-/// faulty.
+/// The answer to targets that collated to these: their files, or what is wrong with the edges of
+/// the first whose edges are faulty.
 fn collated_run(
     alloc: Global,
     targets: &[ReadTarget],
@@ -188,8 +190,8 @@ fn collated_run(
     }
 }
 
-/// Whether the edges that each target names can be put in order after its own dyndep file, or what is wrong with the edges
-/// of the first where they can't.
+/// Whether the edges that each target names can be put in order after its own dyndep file, or what
+/// is wrong with the edges of the first where they can't.
 fn all_pass(
     alloc: Global,
     targets: &[ReadTarget],

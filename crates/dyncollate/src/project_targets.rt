@@ -157,7 +157,8 @@ pub fn read_targets<'f>(
     Ok(targets.into_vec())
 }
 
-/// The target of the document of this name behind earlier ones, or how the run ends where it can't be read.
+/// The target of the document of this name behind earlier ones, or how the run ends where it can't
+/// be read.
 fn read_target<'f>(
     alloc: Global,
     files: &Files<'f>,
@@ -189,7 +190,8 @@ fn read_target<'f>(
     }
 }
 
-/// What a target of this document links and reads behind earlier ones, or how the run ends where it can't be read.
+/// What a target of this document links and reads behind earlier ones, or how the run ends where it
+/// can't be read.
 fn parts_of<'f>(
     alloc: Global,
     files: &Files<'f>,
@@ -275,7 +277,8 @@ fn linked_in(
     Ok(Some(linked))
 }
 
-/// The scan documents and the listing of edges that a target document names, or the first name of a file that is not there.
+/// The scan documents and the listing of edges that a target document names, or the first name of a
+/// file that is not there.
 fn documents_of<'s, 'f>(
     alloc: Global,
     files: &Files<'f>,

@@ -1,9 +1,9 @@
-//! How the refusals of a target are told.
+//! How the refusals of a target are reported.
 
 ghost use Rattle.std.specs.Prelude.{◌≡◌, map, codes, All, IfOk};
 ghost use Rattle.scan_docs.specs.Values.{info_of};
 ghost use Rattle.collate_core.specs.Documents.{all_rules, IsScanAccepted, IsInfoAccepted};
-ghost use Rattle.dyncollate.specs.RefusalTexts.{numbered_text, map_text, refusal_by_names, refusal_text};
+ghost use Rattle.dyncollate.specs.RefusalTexts.{document_text, map_text, refusal_by_names, refusal_text};
 ghost use Rattle.dyncollate.specs.TableFaults.{fault_text};
 ghost use Rattle.dyncollate.specs.inner.Refusals.{HasObjects, HasTable};
 
@@ -15,10 +15,10 @@ use ninja_text::Failure;
 use scan_docs::{DocFault, Info, Rule, Setting, TargetName, info_read, scan};
 use std::alloc::{AllocError, Global};
 
-/// What is told of a refusal of this target.
+/// What is reported of a refusal of this target.
 ///
-/// A refusal names objects and infos by number, and the line tells them by their paths and names. So the documents are read
-/// once more, which only a run that is refused pays for.
+/// A refusal has the indexes of objects and infos, and the line has their paths and names. So the
+/// documents are read once more, which only a run that is refused pays for.
 pub fn refusal_text(
     alloc: Global,
     target: &Target,
@@ -37,7 +37,8 @@ pub fn refusal_text(
     }
 }
 
-/// What is told of a refusal of a target with this setting and these scan documents, which links targets of these names.
+/// What is reported of a refusal of a target with this setting and these scan documents, which
+/// links targets of these names.
 pub fn refusal_by_names(
     alloc: Global,
     setting: &Setting,
@@ -50,8 +51,8 @@ pub fn refusal_by_names(
         (map (λ scan. scan.now) scans.now) (map (λ name. name.now) names.now) refusal.now) }
 {
     match refusal {
-        Refusal::Scan { index, fault } => numbered_text(alloc, "scan", *index, fault),
-        Refusal::Info { index, fault } => numbered_text(alloc, "info", *index, fault),
+        Refusal::Scan { index, fault } => document_text(alloc, "scan", *index, fault),
+        Refusal::Info { index, fault } => document_text(alloc, "info", *index, fault),
         Refusal::Table { fault } => table_text(alloc, setting, scans, names, fault),
         Refusal::StatementTooLong { statement } => {
             let fault = WriteFault::StatementTooLong {
@@ -65,14 +66,14 @@ pub fn refusal_by_names(
     }
 }
 
-/// A faulty document, by its kind and its number.
-fn numbered_text(
+/// A faulty document, by its kind and its index.
+fn document_text(
     alloc: Global,
     kind: &str,
     index: usize,
     fault: &DocFault,
 ) -> Result<Vec<u8>, AllocError>
-    ensures { IfOk result (λ text. text.items ≡ numbered_text kind.now index fault.now) }
+    ensures { IfOk result (λ text. text.items ≡ document_text kind.now index fault.now) }
 {
     let text = format!(in alloc; "{kind} {index}: {fault}")?;
     Ok(text.into_bytes())

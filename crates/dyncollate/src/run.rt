@@ -7,18 +7,19 @@ ghost use Rattle.dyncollate.specs.Tasks.{task_value};
 ghost use Rattle.dyncollate.specs.Runs.{AnswersBytes, AnswersRead};
 
 use crate::answer::Answer;
+use crate::arguments::Task;
 use crate::collate::collate_run;
 use crate::effect::effect_files;
 use crate::one::one_run;
 use crate::order::order_run;
 use crate::project::project_run;
 use crate::show::show_run;
-use crate::words::Task;
 use std::alloc::{AllocError, Global};
 use std::io;
 use std::io::ErrorKind;
 
-/// What a run answers to its task, by what reading the task's file answered, and by the other files that were read.
+/// What a run answers to its task, by what reading the task's file answered, and by the other files
+/// that were read.
 pub fn task_run(
     alloc: Global,
     task: &Task,

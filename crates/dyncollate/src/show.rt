@@ -2,7 +2,7 @@
 
 ghost use Rattle.std.specs.Prelude.{IfOk};
 ghost use Rattle.dyncollate.specs.Dyndeps.{AnswersDyndep};
-ghost use Rattle.dyncollate.specs.Show.{AnswersShown};
+ghost use Rattle.dyncollate.specs.Show.{AnswersShow};
 
 use crate::answer::Answer;
 use crate::dyndep_text::{dyndep_read, dyndep_refused};
@@ -10,9 +10,10 @@ use dyndep_file::laws;
 use ninja_text::Failure;
 use std::alloc::{AllocError, Global};
 
-/// Runs `show DYNDEP` on the bytes of the dyndep file. A line that was read can be too long to be written.
+/// Runs `show DYNDEP` on the bytes of the dyndep file. A line that was read can be too long to be
+/// written.
 pub fn show_run(alloc: Global, text: &[u8]) -> Result<Answer, AllocError>
-    ensures { IfOk result (AnswersDyndep AnswersShown text.now) }
+    ensures { IfOk result (AnswersDyndep AnswersShow text.now) }
 {
     laws::one_list();
     laws::list_or_fault();

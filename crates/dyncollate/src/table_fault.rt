@@ -1,4 +1,4 @@
-//! How the faults of a module table are told.
+//! How the faults of a module table are reported.
 
 ghost use Rattle.std.specs.Prelude.{◌≡◌, ◌++◌, map, IfOk, codes};
 ghost use Rattle.std.specs.List.{flat_map};
@@ -8,8 +8,8 @@ use module_table::{Maker, TableFault};
 use scan_docs::{Name, Rule, TargetName};
 use std::alloc::{AllocError, Global};
 
-/// What is told of a fault of the table of these objects and infos: its code, its name and what it is about. Objects are
-/// told by their paths, and infos by the names of their targets.
+/// What is reported of a fault of the table of these objects and infos: its code, its name and what
+/// it is about. Objects are named by their paths, and infos by their targets.
 pub fn fault_text(
     alloc: Global,
     fault: &TableFault,
@@ -23,7 +23,7 @@ pub fn fault_text(
     joined(alloc, &[fault.name().as_bytes(), b" ", &subject])
 }
 
-/// The objects, and the names of the infos' targets, that a fault tells by number.
+/// The objects, and the names of the infos' targets, whose indexes a fault has.
 #[derive(Clone, Copy)]
 struct Makers<'t> {
     objects: &'t [Rule],
@@ -102,7 +102,7 @@ fn requirement_text(
     joined(alloc, &[target, b" ", module_name, b" ", name])
 }
 
-/// A module that its target keeps to itself, and who requires it.
+/// A private module, its target, and who requires it.
 fn private_text(
     alloc: Global,
     name: &Name,
@@ -125,8 +125,8 @@ fn maker_text(alloc: Global, maker: Maker, makers: Makers) -> Result<Vec<u8>, Al
         makers.entry.objects.now (map (λ n. n.now) makers.entry.names.now) maker) }
 {
     match maker {
-        Maker::Object(number) => joined(alloc, &[b"object ", object_path(makers.objects, number)]),
-        Maker::Info(number) => joined(alloc, &[b"info ", target_name(makers.names, number)]),
+        Maker::Object(index) => joined(alloc, &[b"object ", object_path(makers.objects, index)]),
+        Maker::Info(index) => joined(alloc, &[b"info ", target_name(makers.names, index)]),
     }
 }
 
@@ -146,21 +146,21 @@ fn ring_text(alloc: Global, ring: &[usize], objects: &[Rule]) -> Result<Vec<u8>,
     Ok(text)
 }
 
-/// The path of the object of that number.
-pub fn object_path(objects: &[Rule], number: usize) -> &[u8]
-    ensures { result.now ≡ object_path objects.now number }
+/// The path of the object of that index.
+pub fn object_path(objects: &[Rule], index: usize) -> &[u8]
+    ensures { result.now ≡ object_path objects.now index }
 {
-    match objects.get(number) {
+    match objects.get(index) {
         Some(rule) => rule.object.bytes(),
         None => b"",
     }
 }
 
-/// The name of the target of the info of that number.
-fn target_name<'t>(names: &[&'t TargetName], number: usize) -> &'t [u8]
-    ensures { result.now ≡ target_name (map (λ n. n.now) names.now) number }
+/// The name of the target of the info of that index.
+fn target_name<'t>(names: &[&'t TargetName], index: usize) -> &'t [u8]
+    ensures { result.now ≡ target_name (map (λ n. n.now) names.now) index }
 {
-    match names.get(number) {
+    match names.get(index) {
         Some(name) => name.text().as_bytes(),
         None => b"",
     }

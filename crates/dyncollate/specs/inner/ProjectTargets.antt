@@ -18,8 +18,8 @@ LinkEarlier targets = (index : ℕ) (t : ReadTargetValue) → slice_get targets 
 
 -- there is a target of this index, which links some that are there, and whose objects have paths
 -- where its refusal speaks of them
-abbrev pub IsToldOf : List ReadTargetValue → ℕ → Refusal → Type 0
-IsToldOf targets index refusal =
+abbrev pub IsReportable : List ReadTargetValue → ℕ → Refusal → Type 0
+IsReportable targets index refusal =
     (t : ReadTargetValue) × (slice_get targets index ≡ Some t)
     × All (λ k. k < length targets) t.linked × HasObjects (setting_in t.spec) t.scans refusal
 

@@ -1,4 +1,4 @@
--- What is known of a target where its objects are told.
+-- What is known of a target where its objects are reported.
 use Rattle.std.specs.Prelude.{⊤, ℕ, List}
 use Rattle.scan_docs.specs.Scan.{SettingValue}
 use Rattle.collate_core.specs.Values.{TargetValue}

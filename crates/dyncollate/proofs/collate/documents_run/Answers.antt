@@ -14,13 +14,13 @@ abbrev target_with : List (List ℕ) → List (List ℕ) → document.TargetValu
 target_with scans infos spec setting kept = record { name = spec.target; setting = setting; scans = scans; infos = infos; kept = kept }
 
 -- what is answered to the target that was made is what is answered to the document's
-of_spec : (scans infos : List (List ℕ)) (listing : Option (List ℕ)) (answer : Answer) (seen spec : document.TargetValue) (setting : SettingValue) (kept : List (List ℕ)) →
-    seen ≡ spec → setting ≡ setting_in spec → kept ≡ seen.kept →
-    AnswersTargetOf spec listing (target_with scans infos seen setting kept) answer → AnswersTargetOf spec listing (target_with scans infos spec (setting_in spec) spec.kept) answer
-of_spec scans infos listing answer seen spec setting kept is e f h =
+of_spec : (scans infos : List (List ℕ)) (listing : Option (List ℕ)) (answer : Answer) (view spec : document.TargetValue) (setting : SettingValue) (kept : List (List ℕ)) →
+    view ≡ spec → setting ≡ setting_in spec → kept ≡ view.kept →
+    AnswersTargetOf spec listing (target_with scans infos view setting kept) answer → AnswersTargetOf spec listing (target_with scans infos spec (setting_in spec) spec.kept) answer
+of_spec scans infos listing answer view spec setting kept is e f h =
     subst (λ (s : document.TargetValue). AnswersTargetOf spec listing (target_with scans infos s (setting_in spec) s.kept) answer) is
-    (subst (λ (k : List (List ℕ)). AnswersTargetOf spec listing (target_with scans infos seen (setting_in spec) k) answer) f
-    (subst (λ (s : SettingValue). AnswersTargetOf spec listing (target_with scans infos seen s kept) answer) e h))
+    (subst (λ (k : List (List ℕ)). AnswersTargetOf spec listing (target_with scans infos view (setting_in spec) k) answer) f
+    (subst (λ (s : SettingValue). AnswersTargetOf spec listing (target_with scans infos view s kept) answer) e h))
 
 -- the target that is made is the document's
 pub returns : goal.returns

@@ -5,14 +5,14 @@ use Rattle.ninja_text.specs.Failure.{ForFault}
 use Rattle.dyndep_file.specs.Reader.{IsFailureIn}
 use Rattle.dyndep_file.specs.declared.faults.ReadFault.{ReadFault}
 use Rattle.dyndep_file.specs.declared.faults.ReadFault.TheVariants.{AtLine, Io}
-use Rattle.dyncollate.specs.Dyndeps.{IsTold}
+use Rattle.dyncollate.specs.Dyndeps.{IsReported}
 use Rattle.dyncollate.proofs.dyndep_text.dyndep_read.Goals as goal
 
--- a fault that the reader told of the text so far is one of the text
-told : (text : List ℕ) (failure : Failure ReadFault) → IsFailureIn text failure → ForFault (IsTold text) failure
-told text Memory h = tt
-told text (Fault (AtLine line fault)) h = elim h [ inl at_line ↦ inl at_line | inr at_end ↦ inr at_end.0 ]
-told text (Fault Io) h = absurd h
+-- a fault that the reader reported of the text so far is one of the text
+reported : (text : List ℕ) (failure : Failure ReadFault) → IsFailureIn text failure → ForFault (IsReported text) failure
+reported text Memory h = tt
+reported text (Fault (AtLine line fault)) h = elim h [ inl at_line ↦ inl at_line | inr at_end ↦ inr at_end.0 ]
+reported text (Fault Io) h = absurd h
 
 pub returns-in-Err-clause-refused : goal.returns-in-Err-clause-refused
-returns-in-Err-clause-refused c = told c.args.text.now c.in-Err.failure (c.in-Err.ensures.all [] c.new-reader.ensures).1
+returns-in-Err-clause-refused c = reported c.args.text.now c.in-Err.failure (c.in-Err.ensures.all [] c.new-reader.ensures).1

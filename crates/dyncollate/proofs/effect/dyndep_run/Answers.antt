@@ -3,9 +3,9 @@ use Rattle.std.proofs.lemmas.Result.{IfOk-weaker}
 use Rattle.ninja_text.specs.Failure.{ForFault}
 use Rattle.dyndep_file.specs.FaultTexts.{read_fault_text}
 use Rattle.dyncollate.specs.Answers.{Refuses}
-use Rattle.dyncollate.specs.Dyndeps.{IsTold, AnswersDyndep}
+use Rattle.dyncollate.specs.Dyndeps.{IsReported, AnswersDyndep}
 use Rattle.dyncollate.specs.Effect.{AnswersEffectOf}
-use Rattle.dyncollate.proofs.Dyndeps.{answered, told}
+use Rattle.dyncollate.proofs.Dyndeps.{answered, reported}
 use Rattle.dyncollate.proofs.effect.dyndep_run.Goals as goal
 
 pub returns-in-Ok : goal.returns-in-Ok
@@ -19,6 +19,6 @@ pub returns-in-Err-Fault : goal.returns-in-Err-Fault
 returns-in-Err-Fault c =
     let Answers = AnswersEffectOf c.args.name.now c.args.graph.now in
     IfOk-weaker c.dyndep_refused.result (Refuses (read_fault_text c.in-Err-Fault.fault)) (AnswersDyndep Answers c.args.text.now)
-    (λ answer h. told Answers c.args.text.now c.in-Err-Fault.fault answer c.list_or_fault.ensures.not_both c.one_fault.ensures
-    (subst (ForFault (IsTold c.args.text.now)) c.in-Err-Fault.field-0-is c.in-Err-Fault.ensures.refused) h)
+    (λ answer h. reported Answers c.args.text.now c.in-Err-Fault.fault answer c.list_or_fault.ensures.not_both c.one_fault.ensures
+    (subst (ForFault (IsReported c.args.text.now)) c.in-Err-Fault.field-0-is c.in-Err-Fault.ensures.refused) h)
     c.dyndep_refused.ensures

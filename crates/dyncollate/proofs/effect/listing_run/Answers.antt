@@ -5,7 +5,7 @@ use Rattle.dyncollate.specs.Answers.{Refuses}
 use Rattle.dyncollate.specs.EdgeFaults.{listing_fault_text}
 use Rattle.dyncollate.specs.Effect.{AnswersGraph}
 use Rattle.dyncollate.specs.Listings.{AnswersListing, IsListingFault}
-use Rattle.dyncollate.proofs.Listings.{answered, told}
+use Rattle.dyncollate.proofs.Listings.{answered, reported}
 use Rattle.dyncollate.proofs.effect.listing_run.Goals as goal
 
 pub returns-in-Ok : goal.returns-in-Ok
@@ -21,5 +21,5 @@ returns-in-Err-Fault c =
     let text : List ℕ = c.args.edges.now in
     let Answers = AnswersGraph c.args.name.now c.args.dyndep.now in
     IfOk-weaker c.listing_refused.result (Refuses (listing_fault_text c.in-Err-Fault.fault)) (AnswersListing Answers text)
-    (λ answer h. told Answers text c.in-Err-Fault.fault answer c.one_listing.ensures.one c.one_listing.ensures.faultless (subst (ForFault (IsListingFault text)) c.in-Err-Fault.field-0-is c.in-Err-Fault.ensures.refused) h)
+    (λ answer h. reported Answers text c.in-Err-Fault.fault answer c.one_listing.ensures.one c.one_listing.ensures.faultless (subst (ForFault (IsListingFault text)) c.in-Err-Fault.field-0-is c.in-Err-Fault.ensures.refused) h)
     c.listing_refused.ensures

@@ -5,7 +5,7 @@ use Rattle.dyncollate.specs.Answers.{Refuses}
 use Rattle.dyncollate.specs.EdgeFaults.{listing_fault_text}
 use Rattle.dyncollate.specs.Listings.{AnswersListing, IsListingFault}
 use Rattle.dyncollate.specs.Order.{AnswersOrder}
-use Rattle.dyncollate.proofs.Listings.{answered, told}
+use Rattle.dyncollate.proofs.Listings.{answered, reported}
 use Rattle.dyncollate.proofs.order.order_run.Goals as goal
 
 pub returns-in-Ok : goal.returns-in-Ok
@@ -17,5 +17,5 @@ returns-in-Ok c =
 pub returns-in-Err-Fault : goal.returns-in-Err-Fault
 returns-in-Err-Fault c =
     IfOk-weaker c.listing_refused.result (Refuses (listing_fault_text c.in-Err-Fault.fault)) (AnswersListing AnswersOrder c.args.edges.now)
-    (λ answer h. told AnswersOrder c.args.edges.now c.in-Err-Fault.fault answer c.one_listing.ensures.one c.one_listing.ensures.faultless (subst (ForFault (IsListingFault c.args.edges.now)) c.in-Err-Fault.field-0-is c.in-Err-Fault.ensures.refused) h)
+    (λ answer h. reported AnswersOrder c.args.edges.now c.in-Err-Fault.fault answer c.one_listing.ensures.one c.one_listing.ensures.faultless (subst (ForFault (IsListingFault c.args.edges.now)) c.in-Err-Fault.field-0-is c.in-Err-Fault.ensures.refused) h)
     c.listing_refused.ensures

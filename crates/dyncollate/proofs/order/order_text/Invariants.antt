@@ -3,5 +3,5 @@ use Rattle.dyncollate.specs.Order.{order_text}
 use Rattle.dyncollate.proofs.order.order_text.Given as goal
 
 -- the edges so far
-abbrev pub invariant-loop-number : goal.invariant-loop-number
-invariant-loop-number l = l.text.items ≡ order_text l.edges (take l.number-index l.order)
+abbrev pub invariant-loop-edge_index : goal.invariant-loop-edge_index
+invariant-loop-edge_index l = l.text.items ≡ order_text l.edges (take l.edge_index-index l.order)

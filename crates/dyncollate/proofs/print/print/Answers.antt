@@ -7,7 +7,7 @@ use Rattle.dyncollate.specs.Answers.{line}
 use Rattle.dyncollate.specs.Printing.{IsPut}
 use Rattle.dyncollate.proofs.print.print.Goals as goal
 
--- a text that a call was asked to write was put
+-- a text that a call had to write was put
 put : {W : Type 0} (contents : W → Option (List ℕ)) (old new : Counted W) (text : List ℕ) (r : Result (Unit {0}) Stopped) →
     MatchResult r (λ _. IsWritten contents old new text) (λ s. IsCutShort contents old new text s.written) → IsPut contents old new text
 put contents old new text (Ok done) h = inl h

@@ -5,7 +5,7 @@ use Rattle.collate_core.specs.Maps.{Written}
 use Rattle.collate_core.specs.Projects.{IsProjectRefusal}
 use Rattle.dyncollate.specs.CollateCommand.{style_of}
 use Rattle.dyncollate.specs.ProjectCommand.{project_target, form_of, all_collate, one_refused}
-use Rattle.dyncollate.proofs.ProjectRuns.{told, are_outs}
+use Rattle.dyncollate.proofs.ProjectRuns.{reported, are_outs}
 use Rattle.dyncollate.proofs.project.targets_run.Goals as goal
 
 pub collated_run-requires : goal.collated_run-requires
@@ -15,7 +15,7 @@ pub refused_run-requires : goal.refused_run-requires
 refused_run-requires c =
     let targets = c.args.targets.now in
     let style : Option Written = style_of (form_of targets) in
-    told style targets c.in-Err-Fault.index c.in-Err-Fault.refusal c.requires
+    reported style targets c.in-Err-Fault.index c.in-Err-Fault.refusal c.requires
     (subst (ForFault (λ refused. IsProjectRefusal style (map project_target targets) refused.0 refused.1)) c.in-Err-Fault.field-0-is c.in-Err-Fault.ensures.refused)
 
 -- all targets collate
@@ -32,7 +32,7 @@ returns-in-Err-Fault c =
     let style : Option Written = style_of (form_of targets) in
     let refused : IsProjectRefusal style (map project_target targets) c.in-Err-Fault.index c.in-Err-Fault.refusal =
     subst (ForFault (λ refused. IsProjectRefusal style (map project_target targets) refused.0 refused.1)) c.in-Err-Fault.field-0-is c.in-Err-Fault.ensures.refused in
-    let found = told style targets c.in-Err-Fault.index c.in-Err-Fault.refusal c.requires refused in
+    let found = reported style targets c.in-Err-Fault.index c.in-Err-Fault.refusal c.requires refused in
     IfOk-weaker c.refused_run.result _ _
     (λ answer h. one_refused c.in-Err-Fault.index found.0 c.in-Err-Fault.refusal found.1 refused (h found.0 found.1))
     c.refused_run.ensures

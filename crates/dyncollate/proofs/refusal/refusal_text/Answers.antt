@@ -17,10 +17,10 @@ names_same [] = refl
 names_same (i ∷ is) = ap (λ z. (info_of i).target ∷ z) (names_same is)
 
 -- the line of a table's fault
-of_table : (target seen : TargetValue) (refusal : Refusal) (fault : TableFault) (names : List (List ℕ)) → refusal ≡ Table fault → seen ≡ target →
-    names ≡ map (λ (i : InfoValue). i.target) (map info_of seen.infos) → fault_text (all_rules seen.setting seen.scans) names fault ≡ refusal_text target refusal
-of_table target seen refusal fault names is same named =
-    ap (λ ns. fault_text (all_rules seen.setting seen.scans) ns fault) (named ∙ names_same seen.infos)
+of_table : (target view : TargetValue) (refusal : Refusal) (fault : TableFault) (names : List (List ℕ)) → refusal ≡ Table fault → view ≡ target →
+    names ≡ map (λ (i : InfoValue). i.target) (map info_of view.infos) → fault_text (all_rules view.setting view.scans) names fault ≡ refusal_text target refusal
+of_table target view refusal fault names is same named =
+    ap (λ ns. fault_text (all_rules view.setting view.scans) ns fault) (named ∙ names_same view.infos)
     ∙ ap₂ (λ (t : TargetValue) r. refusal_text t r) same (sym is)
 
 -- the names are those of the infos

@@ -3,20 +3,20 @@ use Rattle.std.proofs.lemmas.Result.{IfOk-weaker}
 use Rattle.ninja_text.specs.Failure.{ForFault}
 use Rattle.dyndep_file.specs.FaultTexts.{read_fault_text}
 use Rattle.dyncollate.specs.Answers.{Refuses}
-use Rattle.dyncollate.specs.Dyndeps.{IsTold, AnswersDyndep}
-use Rattle.dyncollate.specs.Show.{AnswersShown}
-use Rattle.dyncollate.proofs.Dyndeps.{answered, told}
+use Rattle.dyncollate.specs.Dyndeps.{IsReported, AnswersDyndep}
+use Rattle.dyncollate.specs.Show.{AnswersShow}
+use Rattle.dyncollate.proofs.Dyndeps.{answered, reported}
 use Rattle.dyncollate.proofs.show.show_run.Goals as goal
 
 pub returns-in-Ok : goal.returns-in-Ok
 returns-in-Ok c =
-    IfOk-weaker c.of_dyndep.result (AnswersShown c.in-Ok.dyndep) (AnswersDyndep AnswersShown c.args.text.now)
-    (λ answer h. answered AnswersShown c.args.text.now c.in-Ok.dyndep answer c.one_list.ensures c.list_or_fault.ensures.not_both c.in-Ok.ensures.read h)
+    IfOk-weaker c.of_dyndep.result (AnswersShow c.in-Ok.dyndep) (AnswersDyndep AnswersShow c.args.text.now)
+    (λ answer h. answered AnswersShow c.args.text.now c.in-Ok.dyndep answer c.one_list.ensures c.list_or_fault.ensures.not_both c.in-Ok.ensures.read h)
     c.of_dyndep.ensures
 
 pub returns-in-Err-Fault : goal.returns-in-Err-Fault
 returns-in-Err-Fault c =
-    IfOk-weaker c.dyndep_refused.result (Refuses (read_fault_text c.in-Err-Fault.fault)) (AnswersDyndep AnswersShown c.args.text.now)
-    (λ answer h. told AnswersShown c.args.text.now c.in-Err-Fault.fault answer c.list_or_fault.ensures.not_both c.one_fault.ensures
-    (subst (ForFault (IsTold c.args.text.now)) c.in-Err-Fault.field-0-is c.in-Err-Fault.ensures.refused) h)
+    IfOk-weaker c.dyndep_refused.result (Refuses (read_fault_text c.in-Err-Fault.fault)) (AnswersDyndep AnswersShow c.args.text.now)
+    (λ answer h. reported AnswersShow c.args.text.now c.in-Err-Fault.fault answer c.list_or_fault.ensures.not_both c.one_fault.ensures
+    (subst (ForFault (IsReported c.args.text.now)) c.in-Err-Fault.field-0-is c.in-Err-Fault.ensures.refused) h)
     c.dyndep_refused.ensures

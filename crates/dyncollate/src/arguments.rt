@@ -1,48 +1,48 @@
-//! The words that the program is called with.
+//! The arguments that the program is called with.
 
 ghost use Rattle.std.specs.Prelude.{◌≡◌, map, option_map, string_bytes, IfOk};
-ghost use Rattle.dyncollate.specs.Tasks.{AsksFor, task_value, task_from, arguments, is_flag};
+ghost use Rattle.dyncollate.specs.Tasks.{AreCallOf, task_value, task_from, operands, is_flag};
 
 use std::alloc::{AllocError, Global};
 
-/// What the program is asked to do.
+/// What the program has to do.
 #[derive(Clone, Copy, Debug, PartialEq, Eq)]
-pub enum Task<'w> {
+pub enum Task<'a> {
     /// Write the dyndep text of one scan document.
     One {
-        scan: &'w str,
-        dir: &'w str,
-        ext: &'w str,
+        scan: &'a str,
+        dir: &'a str,
+        ext: &'a str,
     },
     /// Write the files of the target of a target document.
     Collate {
-        target: &'w str,
+        target: &'a str,
     },
     /// Print the statements of a dyndep file.
     Show {
-        dyndep: &'w str,
+        dyndep: &'a str,
     },
     /// Print an edge listing after the effect of the dyndep file that edges call by this name.
     Effect {
-        name: &'w str,
-        edges: &'w str,
-        dyndep: &'w str,
+        name: &'a str,
+        edges: &'a str,
+        dyndep: &'a str,
     },
     /// Print the edges of a listing in order.
     Order {
-        edges: &'w str,
+        edges: &'a str,
     },
     /// Write the files of the targets of a project document.
     Project {
-        document: &'w str,
+        document: &'a str,
     },
 }
 
-impl<'w> Task<'w> {
+impl<'a> Task<'a> {
     ghost use Rattle.dyncollate.specs.Tasks.{task_value, file_of};
 
     /// The file that the task reads first.
-    pub fn file(&self) -> &'w str
+    pub fn file(&self) -> &'a str
         ensures { result.now ≡ file_of (task_value self.now) }
     {
         match self {
@@ -56,58 +56,60 @@ impl<'w> Task<'w> {
     }
 }
 
-/// What the words ask for, the program's own name being the first of them, or `None` where they are no proper call.
+/// The task that the arguments call for, the program's own name being the first of them, or `None`
+/// where they are no proper call.
 ///
-/// A call is the name of a command and exactly as many words as it has arguments. The first `--` after the command is
-/// dropped; before it a word of two or more bytes that begins with `-` is no argument. Every other word is one as it
-/// stands, the empty word and `-` too.
-pub fn task_of<'w>(alloc: Global, words: &'w [String]) -> Result<Option<Task<'w>>, AllocError>
-    ensures { IfOk result (AsksFor (map string_bytes words.now)) }
+/// A call is the name of a command and exactly as many operands as it takes. The first `--` after
+/// the command is dropped; before it an argument of two or more bytes that begins with `-` is a
+/// flag, which no call has. Every other argument is an operand as it stands, the empty one and `-`
+/// too.
+pub fn task_of<'a>(alloc: Global, arguments: &'a [String]) -> Result<Option<Task<'a>>, AllocError>
+    ensures { IfOk result (AreCallOf (map string_bytes arguments.now)) }
 {
-    let [_, command, words @ ..] = words else {
+    let [_, command, arguments @ ..] = arguments else {
         return Ok(None);
     };
-    match arguments(alloc, words)? {
+    match operands(alloc, arguments)? {
         Some(given) => Ok(task_from(command.as_str(), given.as_slice())),
         None => Ok(None),
     }
 }
 
-/// The arguments among the words behind a command, or `None` where one of them is no argument.
-fn arguments<'w>(alloc: Global, words: &'w [String]) -> Result<Option<Vec<&'w str>>, AllocError>
+/// The operands among the arguments behind a command, or `None` where one of them is a flag.
+fn operands<'a>(alloc: Global, arguments: &'a [String]) -> Result<Option<Vec<&'a str>>, AllocError>
     ensures { IfOk result (λ given.
         option_map (λ texts. map (λ text. text.now) texts.items) given
-        ≡ arguments (map string_bytes words.now)) }
+        ≡ operands (map string_bytes arguments.now)) }
 {
-    let mut given = Vec::with_capacity(alloc, words.len())?;
+    let mut given = Vec::with_capacity(alloc, arguments.len())?;
     let mut is_behind = false;
-    for word in words {
-        let word = word.as_str();
+    for argument in arguments {
+        let argument = argument.as_str();
         if is_behind {
-            given.push(word)?;
-        } else if word == "--" {
+            given.push(argument)?;
+        } else if argument == "--" {
             is_behind = true;
-        } else if is_flag(word) {
+        } else if is_flag(argument) {
             return Ok(None);
         } else {
-            given.push(word)?;
+            given.push(argument)?;
         }
     }
     Ok(Some(given))
 }
 
 /// Two bytes or more that begin with a hyphen.
-fn is_flag(word: &str) -> bool
-    ensures { result ≡ is_flag word.now }
+fn is_flag(argument: &str) -> bool
+    ensures { result ≡ is_flag argument.now }
 {
-    match word.as_bytes() {
+    match argument.as_bytes() {
         [first, _, ..] => *first == b'-',
         _ => false,
     }
 }
 
-/// The task of a command with as many arguments as it has.
-fn task_from<'w>(command: &str, given: &[&'w str]) -> Option<Task<'w>>
+/// The task of a command with as many operands as it takes.
+fn task_from<'a>(command: &str, given: &[&'a str]) -> Option<Task<'a>>
     ensures { option_map task_value result
         ≡ task_from command.now (map (λ text. text.now) given.now) }
 {
