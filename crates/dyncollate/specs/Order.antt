@@ -20,7 +20,7 @@ abbrev pub AnswersSorting : List EdgeValue → Sorting → Answer → Type 0
 AnswersSorting edges (Order order) answer = Prints (order_text edges order.items) answer
 AnswersSorting edges (Cycle cycle) answer = Refuses (cycle_text edges cycle.items) answer
 
--- What a run answers to the edges of a graph: their order by smallest numbers, or their least cycle
+-- What a run answers to the edges of a graph: their order by smallest indexes, or their least cycle
 -- where they have none.
 pub record AnswersOrder (edges : List EdgeValue) (answer : Answer) : Type 0 where
   pub sorting : Sorting

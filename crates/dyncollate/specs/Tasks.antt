@@ -42,7 +42,8 @@ abbrev pub operands : List (List ℕ) → Option (List (List ℕ))
 operands [] = Some []
 operands (argument ∷ arguments) =
     if bytes_eq argument (codes "--") then Some arguments
-    else (if is_flag argument then None else option_map (λ others. argument ∷ others) (operands arguments))
+    else (if is_flag argument then None
+    else option_map (λ others. argument ∷ others) (operands arguments))
 
 -- as many operands as `one` takes
 abbrev pub one_of : List (List ℕ) → Option TaskValue
