@@ -1,6 +1,5 @@
 -- Modules sorted by name, and their ranks.
-use Rattle.std.proofs.Common.{◌≡◌, ◌≢◌, ℕ, zero, suc, ◌+◌, ◌<◌, ◌⊎◌, Bool, true, false, List, [], ◌∷◌, ◌++◌, length, map, get_or, set, slice_index, Some, refl, ap, subst, sym, ◌∙◌, inl, inr, ⊎_elim, arith, rules, slice_get, Contains, Ordering, true≢false}
-use Rattle.std.specs.Borrow.{Bor}
+use Rattle.std.proofs.Common.{◌≡◌, ◌≢◌, ℕ, zero, suc, ◌+◌, ◌<◌, ◌⊎◌, Bool, false, List, [], ◌∷◌, ◌++◌, length, map, get_or, set, slice_index, Some, refl, ap, subst, sym, ◌∙◌, inl, inr, ⊎_elim, arith, slice_get, Ordering, true≢false}
 use Rattle.std.specs.Option.{option_map}
 use Rattle.std.specs.List.{AllPairs, IsDistinct}
 use Rattle.std.specs.List.Sorted.{IsSorted, IsPermutation}
@@ -20,12 +19,12 @@ use Rattle.std.proofs.lemmas.List.Sorted.{ranks_by, sorted_far, Contains-permuta
 use Rattle.module_table.specs.TableValue.{TableValue}
 use Rattle.module_table.specs.Modules.{Provision, provisions}
 use Rattle.module_table.specs.Needed.{Precedes, lent}
-use Rattle.module_table.specs.Places.{pair_at}
+use Rattle.module_table.specs.inner.Indexed.{pair_at}
 use Rattle.module_table.specs.Sound.{IsSound}
 use Rattle.module_table.specs.inner.Ranks.{Numbered, AreListed, AreByName, AreNumbers, AreRanks, AreRanked}
 use Rattle.module_table.proofs.Places.{same_some, three_ways, to_map}
 use Rattle.module_table.proofs.Required.{contained, from_map, from_option_map}
-use Rattle.module_table.proofs.Checks.{element}
+use Rattle.module_table.proofs.ReportLemmas.{element}
 use Rattle.module_table.proofs.Numbering.{placed}
 use Rattle.module_table.proofs.PairLists.{precedes_one_way}
 

@@ -17,22 +17,22 @@ use Rattle.module_table.specs.Firsts.{IsFirst, IsFirstRepetition}
 use Rattle.module_table.specs.Faults.{IsFault, Claim, claims, Collides, IsUnknown, IsInfoUnknown, Disagrees, Keeps, IsKept, IsKeptElsewhere, Requiring, IsFirstRequired, IsForeign}
 use Rattle.module_table.specs.Sound.{IsSound, KeepsOwn}
 use Rattle.module_table.specs.Outcomes.{HasNoFault, FaultlessIsSound}
-use Rattle.module_table.specs.Repetition.{AllDiffer}
-use Rattle.module_table.specs.Shown.{names_of, IsAbsent}
-use Rattle.module_table.specs.Finds.{IsNamed, IsNotByInfo}
-use Rattle.module_table.specs.Graph.{number_in}
-use Rattle.module_table.specs.Numbered.{IsNumbered, maker_at}
+use Rattle.module_table.specs.inner.Repetition.{AllDiffer}
+use Rattle.module_table.specs.inner.Views.{names_of, IsAbsent}
+use Rattle.module_table.specs.inner.Finds.{IsNamed, IsNotByInfo}
+use Rattle.module_table.specs.inner.Graph.{index_in}
+use Rattle.module_table.specs.inner.Numbered.{IsNumbered, maker_at}
 use Rattle.module_table.specs.declared.fault.Maker.{Maker}
 use Rattle.module_table.specs.declared.fault.Maker.TheVariants.{Object, Info}
 use Rattle.module_table.specs.declared.fault.TableFault.TheVariants.{ObjectTwice, InfoTwice, ProvidedTwice, BmiTwice, ModuleUnknown, InfoUnknown, InfoDisagrees, ImportCycle, ModulePrivate, PrivateUnknown}
 use Rattle.module_table.proofs.Places.{to_map, three_ways}
 use Rattle.module_table.proofs.Required.{from_map, contained}
 use Rattle.module_table.proofs.Numbering.{placed, number_known}
-use Rattle.module_table.proofs.Checks.{absent_unknown, provided_numbered}
-use Rattle.module_table.proofs.Refusals.{nothing_named, object_not_info, info_not_own}
+use Rattle.module_table.proofs.ReportLemmas.{absent_unknown, provided_numbered}
+use Rattle.module_table.proofs.Found.{nothing_named, object_not_info, info_not_object}
 use Rattle.module_table.proofs.InfoFaults.{from_info, unknown_by, foreign_by, own_by}
 use Rattle.module_table.proofs.Rings.{as_many, to_depends, from_depends, are_nodes}
-use Rattle.module_table.proofs.Soundness.{requirement_of, requirement, agreed}
+use Rattle.module_table.proofs.InfoRequirements.{requirement_of, requirement, agreed}
 
 -- ---- where nothing is the first there is nothing
 
@@ -106,14 +106,14 @@ vector_of xs few = (
 -- ---- the numbers of names that all are provided
 
 module _ (names : List (List ℕ)) (differ : AllDiffer names) where
-  row_numbers : (required : List (List ℕ)) → ((k : ℕ) (name : List ℕ) → slice_get required k ≡ Some name → (number : ℕ) × (slice_get names number ≡ Some name)) → map (slice_get names) (filter_map (number_in names) required) ≡ map (λ name. Some name) required
+  row_numbers : (required : List (List ℕ)) → ((k : ℕ) (name : List ℕ) → slice_get required k ≡ Some name → (number : ℕ) × (slice_get names number ≡ Some name)) → map (slice_get names) (filter_map (index_in names) required) ≡ map (λ name. Some name) required
   row_numbers [] known = refl
   row_numbers (name ∷ required) known =
       let first = known 0 name refl in
-      ap (λ o. map (slice_get names) (cons_option o (filter_map (number_in names) required))) (number_known names differ name first.0 first.1)
+      ap (λ o. map (slice_get names) (cons_option o (filter_map (index_in names) required))) (number_known names differ name first.0 first.1)
       ∙ ap₂ (λ x xs. x ∷ xs) first.1 (row_numbers required (λ k n at. known (suc k) n at))
 
-  all_numbers : (objects : List RuleValue) → ((o k : ℕ) (rule : RuleValue) (name : List ℕ) → slice_get objects o ≡ Some rule → slice_get rule.required k ≡ Some name → (number : ℕ) × (slice_get names number ≡ Some name)) → map (λ row. map (slice_get names) row) (map (λ (rule : RuleValue). filter_map (number_in names) rule.required) objects) ≡ map (λ (rule : RuleValue). map (λ name. Some name) rule.required) objects
+  all_numbers : (objects : List RuleValue) → ((o k : ℕ) (rule : RuleValue) (name : List ℕ) → slice_get objects o ≡ Some rule → slice_get rule.required k ≡ Some name → (number : ℕ) × (slice_get names number ≡ Some name)) → map (λ row. map (slice_get names) row) (map (λ (rule : RuleValue). filter_map (index_in names) rule.required) objects) ≡ map (λ (rule : RuleValue). map (λ name. Some name) rule.required) objects
   all_numbers [] known = refl
   all_numbers (rule ∷ objects) known =
       ap₂ (λ x xs. x ∷ xs) (row_numbers rule.required (λ k name at. known 0 k rule name refl at)) (all_numbers objects (λ o k r name at at_name. known (suc o) k r name at at_name))
@@ -226,7 +226,7 @@ module _ (t : TableValue) (kept : List (List ℕ)) (none : HasNoFault t kept) wh
     where
       by : (k : ℕ) (p : Provision) → IsNamed (provisions t) name k p → (IsForeign t name → ⊥) → (maker : Maker) → p.maker ≡ maker → (object : ℕ) × (position : ℕ) × (file : List ℕ) × Provides t object position name file
       by k p named foreign (Object o) is = own_by t name (k, p, o, named, is)
-      by k p named foreign (Info i) is = absurd (foreign (foreign_by t name (info_not_own (provisions t) differ k p name i named is)))
+      by k p named foreign (Info i) is = absurd (foreign (foreign_by t name (info_not_object (provisions t) differ k p name i named is)))
 
   module _ (few : length t.objects < 2 ^ 63) where
     no_least : (cycle : List ℕ) → IsLeastCycle (DependsOn t) cycle → ⊥
@@ -239,7 +239,7 @@ module _ (t : TableValue) (kept : List (List ℕ)) (none : HasNoFault t kept) wh
     acyclic = no_cycle_without_least (DependsOn t) no_least
 
     rows : List (List ℕ)
-    rows = map (λ (rule : RuleValue). filter_map (number_in (names_of (provisions t))) rule.required) t.objects
+    rows = map (λ (rule : RuleValue). filter_map (index_in (names_of (provisions t))) rule.required) t.objects
 
     is_numbered : IsNumbered t (provisions t) rows
     unfolding rows

@@ -3,17 +3,17 @@ use Rattle.std.proofs.Common.{◌≡◌, ℕ, List, Some, refl, ap, subst, sym, 
 use Rattle.module_table.specs.TableValue.{TableValue}
 use Rattle.module_table.specs.Modules.{Provides, IsProvidedBy, IsInfoProvided, Provision, provisions, InfoRequirement, info_requirements}
 use Rattle.module_table.specs.Faults.{IsInfoUnknown, Disagrees, IsForeign}
-use Rattle.module_table.specs.Repetition.{AllDiffer}
-use Rattle.module_table.specs.Shown.{names_of}
-use Rattle.module_table.specs.Finds.{IsNamed, IsByInfo, IsNotByInfo, Agrees, Differs, IsOwn, IsNotOwn, RefusesAt, AcceptsAll}
-use Rattle.module_table.specs.Told.{Tells}
+use Rattle.module_table.specs.inner.Repetition.{AllDiffer}
+use Rattle.module_table.specs.inner.Views.{names_of}
+use Rattle.module_table.specs.inner.Finds.{IsNamed, IsByInfo, IsNotByInfo, Agrees, Differs, IsByObject, IsNotByObject, RefusesAt, AcceptsAll}
+use Rattle.module_table.specs.inner.Reported.{Reports}
 use Rattle.module_table.specs.declared.fault.Maker.TheVariants.{Object, Info}
 use Rattle.module_table.specs.declared.fault.TableFault.{TableFault}
 use Rattle.module_table.specs.declared.fault.TableFault.TheVariants.{InfoUnknown, InfoDisagrees, PrivateUnknown}
 use Rattle.module_table.proofs.Places.{same_some, object_provision, info_provision}
 use Rattle.module_table.proofs.Required.{from_provisions}
-use Rattle.module_table.proofs.Checks.{tells_same}
-use Rattle.module_table.proofs.Refusals.{one_module}
+use Rattle.module_table.proofs.ReportLemmas.{tells_same}
+use Rattle.module_table.proofs.Found.{one_module}
 
 module _ (t : TableValue) where
   -- where the module stands that an info provides
@@ -32,16 +32,16 @@ module _ (t : TableValue) where
   module _ (differ : AllDiffer (names_of (provisions t))) where
     pub differs_by : (r : InfoRequirement) → IsByInfo (provisions t) r → Differs (provisions t) r → Disagrees t r
     differs_by r by (k, p, named, other) =
-        let same = one_module (provisions t) differ r.name by.0 k by.1 p by.3 named in
+        let same = one_module (provisions t) r.name differ by.0 k by.1 p by.3 named in
         (p.file, from_info r.name k by.2 p named (ap (λ (x : Provision). x.maker) (sym same) ∙ by.4), other)
 
   pub agrees_not : (r : InfoRequirement) → Agrees (provisions t) r → Disagrees t r → ⊥
   agrees_not r agrees (file, provided, other) = let b = by_info r.name file provided in other (sym b.3 ∙ agrees b.0 b.1 b.2)
 
-  pub foreign_by : (name : List ℕ) → IsNotOwn (provisions t) name → IsForeign t name
+  pub foreign_by : (name : List ℕ) → IsNotByObject (provisions t) name → IsForeign t name
   foreign_by name none object position file h = none (_, _, object, (object_provision t object position name file h, refl), refl)
 
-  pub own_by : (name : List ℕ) → IsOwn (provisions t) name → (object : ℕ) × (position : ℕ) × (file : List ℕ) × Provides t object position name file
+  pub own_by : (name : List ℕ) → IsByObject (provisions t) name → (object : ℕ) × (position : ℕ) × (file : List ℕ) × Provides t object position name file
   own_by name (k, p, object, named, is) =
       let by = subst (λ n. IsProvidedBy t (Object object) n p.file) named.1 (subst (λ m. IsProvidedBy t m p.name p.file) is (from_provisions t k p named.0)) in
       (object, by.0, p.file, by.1)
@@ -49,65 +49,59 @@ module _ (t : TableValue) where
 abbrev pub IsOf : InfoRequirement → (List ℕ → List ℕ → List ℕ → TableFault) → TableFault → Type 0
 IsOf r make fault = fault ≡ make r.target r.module_name r.name
 
-pub tells_info_unknown : (ps : List Provision) (wanted : List InfoRequirement) (place : ℕ) (r : InfoRequirement) (fault : TableFault) → RefusesAt (IsByInfo ps) (IsNotByInfo ps) wanted place → slice_get wanted place ≡ Some r → IsOf r InfoUnknown fault → (t : TableValue) (kept : List (List ℕ)) → ps ≡ provisions t → wanted ≡ info_requirements t → Tells 6 t kept fault
-tells_info_unknown ps wanted place r fault refused at is t kept ep ew =
-    let refused' = subst (λ ws. RefusesAt (IsByInfo (provisions t)) (IsNotByInfo (provisions t)) ws place) ew (subst (λ xs. RefusesAt (IsByInfo xs) (IsNotByInfo xs) wanted place) ep refused) in
-    let at' = ap (λ ws. slice_get ws place) (sym ew) ∙ at in
-    let x : refused'.x ≡ r = same_some _ _ (sym refused'.here ∙ at') in
-    tells_same 6 t kept fault (InfoUnknown r.target r.module_name r.name) is
-    (record {
-      present = (
-        place,
-        r,
-        record {
-          here = at';
-          holds = unknown_by t r (subst (IsNotByInfo (provisions t)) x refused'.refused);
-          before = λ k y lt at_k unknown. let h = known_by t y (refused'.accepted k y lt at_k) in unknown h.0 h.1;
-        },
-        refl,
-        refl,
-        refl,
-      );
-      coded = refl;
-    })
+module _ (t : TableValue) (kept : List (List ℕ)) where
+  pub tells_info_unknown : (index : ℕ) (r : InfoRequirement) (fault : TableFault) → RefusesAt (IsByInfo (provisions t)) (IsNotByInfo (provisions t)) (info_requirements t) index → slice_get (info_requirements t) index ≡ Some r → IsOf r InfoUnknown fault → Reports 6 t kept fault
+  tells_info_unknown index r fault refused at is =
+      let x : refused.x ≡ r = same_some _ _ (sym refused.here ∙ at) in
+      tells_same 6 t kept fault (InfoUnknown r.target r.module_name r.name) is
+      (record {
+        present = (
+          index,
+          r,
+          record {
+            here = at;
+            holds = unknown_by t r (subst (IsNotByInfo (provisions t)) x refused.refused);
+            before = λ k y lt at_k unknown. let h = known_by t y (refused.accepted k y lt at_k) in unknown h.0 h.1;
+          },
+          refl,
+          refl,
+          refl,
+        );
+        coded = refl;
+      })
 
-pub tells_info_disagrees : (ps : List Provision) (wanted : List InfoRequirement) (place : ℕ) (r : InfoRequirement) (fault : TableFault) → AllDiffer (names_of ps) → AcceptsAll (IsByInfo ps) wanted → RefusesAt (Agrees ps) (Differs ps) wanted place → slice_get wanted place ≡ Some r → IsOf r InfoDisagrees fault → (t : TableValue) (kept : List (List ℕ)) → ps ≡ provisions t → wanted ≡ info_requirements t → Tells 7 t kept fault
-tells_info_disagrees ps wanted place r fault differ known refused at is t kept ep ew =
-    let refused' = subst (λ ws. RefusesAt (Agrees (provisions t)) (Differs (provisions t)) ws place) ew (subst (λ xs. RefusesAt (Agrees xs) (Differs xs) wanted place) ep refused) in
-    let known' = subst (λ ws. AcceptsAll (IsByInfo (provisions t)) ws) ew (subst (λ xs. AcceptsAll (IsByInfo xs) wanted) ep known) in
-    let differ' = subst (λ xs. AllDiffer (names_of xs)) ep differ in
-    let at' = ap (λ ws. slice_get ws place) (sym ew) ∙ at in
-    let x : refused'.x ≡ r = same_some _ _ (sym refused'.here ∙ at') in
-    tells_same 7 t kept fault (InfoDisagrees r.target r.module_name r.name) is
-    (record {
-      present = (
-        place,
-        r,
-        record {
-          here = at';
-          holds = differs_by t differ' r (known'.each place r at') (subst (Differs (provisions t)) x refused'.refused);
-          before = λ k y lt at_k. agrees_not t y (refused'.accepted k y lt at_k);
-        },
-        refl,
-        refl,
-        refl,
-      );
-      coded = refl;
-    })
+  pub tells_info_disagrees : (index : ℕ) (r : InfoRequirement) (fault : TableFault) → AllDiffer (names_of (provisions t)) → AcceptsAll (IsByInfo (provisions t)) (info_requirements t) → RefusesAt (Agrees (provisions t)) (Differs (provisions t)) (info_requirements t) index → slice_get (info_requirements t) index ≡ Some r → IsOf r InfoDisagrees fault → Reports 7 t kept fault
+  tells_info_disagrees index r fault differ known refused at is =
+      let x : refused.x ≡ r = same_some _ _ (sym refused.here ∙ at) in
+      tells_same 7 t kept fault (InfoDisagrees r.target r.module_name r.name) is
+      (record {
+        present = (
+          index,
+          r,
+          record {
+            here = at;
+            holds = differs_by t differ r (known.each index r at) (subst (Differs (provisions t)) x refused.refused);
+            before = λ k y lt at_k. agrees_not t y (refused.accepted k y lt at_k);
+          },
+          refl,
+          refl,
+          refl,
+        );
+        coded = refl;
+      })
 
-pub tells_private_unknown : (ps : List Provision) (kept : List (List ℕ)) (place : ℕ) (name : List ℕ) (fault : TableFault) → RefusesAt (IsOwn ps) (IsNotOwn ps) kept place → slice_get kept place ≡ Some name → fault ≡ PrivateUnknown name → (t : TableValue) → ps ≡ provisions t → Tells 10 t kept fault
-tells_private_unknown ps kept place name fault refused at is t ep =
-    let refused' = subst (λ xs. RefusesAt (IsOwn xs) (IsNotOwn xs) kept place) ep refused in
-    let x : refused'.x ≡ name = same_some _ _ (sym refused'.here ∙ at) in
-    tells_same 10 t kept fault (PrivateUnknown name) is
-    (record {
-      present = (
-        place,
-        record {
-          here = at;
-          holds = foreign_by t name (subst (IsNotOwn (provisions t)) x refused'.refused);
-          before = λ k y lt at_k foreign. let h = own_by t y (refused'.accepted k y lt at_k) in foreign h.0 h.1 h.2 h.3;
-        },
-      );
-      coded = refl;
-    })
+  pub tells_private_unknown : (index : ℕ) (name : List ℕ) (fault : TableFault) → RefusesAt (IsByObject (provisions t)) (IsNotByObject (provisions t)) kept index → slice_get kept index ≡ Some name → fault ≡ PrivateUnknown name → Reports 10 t kept fault
+  tells_private_unknown index name fault refused at is =
+      let x : refused.x ≡ name = same_some _ _ (sym refused.here ∙ at) in
+      tells_same 10 t kept fault (PrivateUnknown name) is
+      (record {
+        present = (
+          index,
+          record {
+            here = at;
+            holds = foreign_by t name (subst (IsNotByObject (provisions t)) x refused.refused);
+            before = λ k y lt at_k foreign. let h = own_by t y (refused.accepted k y lt at_k) in foreign h.0 h.1 h.2 h.3;
+          },
+        );
+        coded = refl;
+      })

@@ -1,17 +1,9 @@
 -- Names in order of first mention, and the pairs that are made of them.
-use Rattle.std.proofs.Common.{◌≡◌, ℕ, zero, suc, ◌+◌, Bool, true, false, cond, not, ◌||◌, List, [], ◌∷◌, ◌++◌, map, take, filter, find, Option, Some, None, refl, ap, subst, sym, ◌∙◌, slice_get, bytes_eq, true≢false}
+use Rattle.std.proofs.Common.{◌≡◌, ℕ, ◌+◌, Bool, true, false, cond, not, ◌||◌, List, [], ◌∷◌, ◌++◌, map, take, filter, Some, refl, ap, subst, sym, ◌∙◌, slice_get, bytes_eq, true≢false}
 use Rattle.std.specs.List.{list_any}
-use Rattle.std.specs.Option.{option_map}
 use Rattle.std.specs.Cmp.Lexicographic.{bytes_decides}
-use Rattle.module_table.specs.Modules.{Provision}
-use Rattle.module_table.specs.Repetition.{AllDiffer}
-use Rattle.module_table.specs.Shown.{names_of, IsAbsent}
-use Rattle.module_table.specs.Finds.{IsNamed}
-use Rattle.module_table.specs.Added.{first_mentions, pair_of}
-use Rattle.module_table.proofs.Places.{same_some}
-use Rattle.module_table.proofs.Required.{from_find}
+use Rattle.module_table.specs.Added.{first_mentions}
 use Rattle.module_table.proofs.Repetitions.{take_next, new_if, found_if}
-use Rattle.module_table.proofs.Refusals.{one_module, nothing_named}
 
 abbrev other_than : List ℕ → List ℕ → Bool
 other_than y o = not (bytes_eq y o)
@@ -70,12 +62,12 @@ mention_step x (y ∷ xs) = by (bytes_eq x y) refl (mention_step x xs)
         by_known false h = ap (filter (other_than y)) h ∙ filter_push (other_than y) (first_mentions xs) x ∙ ap (λ ys. filter (other_than y) (first_mentions xs) ++ ys) hidden ∙ append_none (filter (other_than y) (first_mentions xs))
     by false e step = by_known (among x (first_mentions xs)) step ∙ ap (λ b. cond b (y ∷ filter (other_than y) (first_mentions xs)) (y ∷ filter (other_than y) (first_mentions xs) ++ x ∷ [])) (sym (among_filter x y (first_mentions xs) e))
       where
-        shown : cond (other_than y x) (x ∷ []) [] ≡ x ∷ []
-        shown = ap (λ b. cond (not b) (x ∷ []) []) (differ_back x y e)
+        alone : cond (other_than y x) (x ∷ []) [] ≡ x ∷ []
+        alone = ap (λ b. cond (not b) (x ∷ []) []) (differ_back x y e)
 
         by_known : (b : Bool) → first_mentions (xs ++ x ∷ []) ≡ cond b (first_mentions xs) (first_mentions xs ++ x ∷ []) → y ∷ filter (other_than y) (first_mentions (xs ++ x ∷ [])) ≡ cond b (y ∷ filter (other_than y) (first_mentions xs)) (y ∷ filter (other_than y) (first_mentions xs) ++ x ∷ [])
         by_known true h = ap (λ ys. y ∷ filter (other_than y) ys) h
-        by_known false h = ap (λ ys. y ∷ filter (other_than y) ys) h ∙ ap (λ ys. y ∷ ys) (filter_push (other_than y) (first_mentions xs) x ∙ ap (λ ys. filter (other_than y) (first_mentions xs) ++ ys) shown)
+        by_known false h = ap (λ ys. y ∷ filter (other_than y) ys) h ∙ ap (λ ys. y ∷ ys) (filter_push (other_than y) (first_mentions xs) x ∙ ap (λ ys. filter (other_than y) (first_mentions xs) ++ ys) alone)
 
 any_map : {K : Type 0} (f : K → List ℕ) (x : List ℕ) (keys : List K) → among x (map f keys) ≡ list_any (λ k. bytes_eq x (f k)) keys
 any_map f x [] = refl
@@ -108,38 +100,3 @@ module _ {K : Type 0} (f : K → List ℕ) (xs : List (List ℕ)) (i : ℕ) (key
 
   pub mention_old : (names : List (List ℕ)) → names ≡ first_mentions (take i xs) → false ≡ not was → names ≡ first_mentions (take (i + 1) xs)
   mention_old names same old = same ∙ sym found ∙ sym (step ∙ ap (λ b. cond b (map f keys) (map f keys ++ f v ∷ [])) (found_if was old))
-
--- ---- the pair of a name
-
-find_none : (test : Provision → Bool) (ps : List Provision) (k : ℕ) (p : Provision) → find test ps ≡ None → slice_get ps k ≡ Some p → test p ≡ true → ⊥
-find_none test [] k p e at passes = cc
-find_none test (q ∷ ps) k p e at passes = by (test q) refl e (λ k rest at. find_none test ps k p rest at passes) k at
-  where
-    by : (b : Bool) → test q ≡ b → cond b (Some q) (find test ps) ≡ None → ((k : ℕ) → find test ps ≡ None → slice_get ps k ≡ Some p → ⊥) → (k : ℕ) → slice_get (q ∷ ps) k ≡ Some p → ⊥
-    by true t e rest k at = cc
-    by false t e rest zero at = true≢false (sym passes ∙ ap test (sym (same_some _ _ at)) ∙ t)
-    by false t e rest (suc k) at = rest k e at
-
-abbrev pair_with : List ℕ → List ℕ → List ℕ × List ℕ
-pair_with name file = (name, file)
-
-module _ (ps : List Provision) (name : List ℕ) where
-  abbrev called : Provision → Bool
-  called p = bytes_eq name p.name
-
-  found_named : (q : Provision) → find called ps ≡ Some q → (l : ℕ) × IsNamed ps name l q
-  found_named q e = let f = from_find called ps q e in (f.0.0, (f.0.1, sym (same_bytes name q.name f.1)))
-
-  pub pair_found : AllDiffer (names_of ps) → (k : ℕ) (p : Provision) → IsNamed ps name k p → pair_of ps name ≡ Some (name, p.file)
-  pair_found differ k p named = by (find called ps) refl
-    where
-      by : (o : Option Provision) → find called ps ≡ o → option_map (pair_with name) (option_map (λ (q : Provision). q.file) o) ≡ Some (name, p.file)
-      by None e = absurd (find_none called ps k p e named.0 ((bytes_decides name p.name).1 (sym named.1)))
-      by (Some q) e = let f = found_named q e in ap (λ (x : Provision). Some (name, x.file)) (one_module ps differ name f.0 k q p f.1 named)
-
-  pub pair_missing : IsAbsent (names_of ps) name → pair_of ps name ≡ None
-  pair_missing absent = by (find called ps) refl
-    where
-      by : (o : Option Provision) → find called ps ≡ o → option_map (pair_with name) (option_map (λ (q : Provision). q.file) o) ≡ None
-      by None e = refl
-      by (Some q) e = let f = found_named q e in absurd (nothing_named ps name absent f.0 q f.1)

@@ -7,9 +7,9 @@ use Rattle.scan_docs.specs.Scan.{RuleValue}
 use Rattle.scan_docs.specs.Info.{InfoValue, ModuleValue}
 use Rattle.module_table.specs.TableValue.{TableValue}
 use Rattle.module_table.specs.Modules.{IsProvidedBy, Provision, provisions, object_provisions, info_provisions}
-use Rattle.module_table.specs.Located.{places_of, object_places, info_places}
-use Rattle.module_table.specs.Shown.{names_of}
-use Rattle.module_table.specs.Places.{IsInfosModule, IsNamedAt, pair_at}
+use Rattle.module_table.specs.inner.Origins.{origins_of, object_origins, info_origins}
+use Rattle.module_table.specs.inner.Views.{names_of}
+use Rattle.module_table.specs.inner.Indexed.{IsInfosModule, IsNamedAt, pair_at}
 use Rattle.module_table.specs.declared.fault.Maker.{Maker}
 use Rattle.module_table.specs.declared.fault.Maker.TheVariants.{Object, Info}
 use Rattle.module_table.proofs.Places.{same_some}
@@ -40,30 +40,30 @@ abbrev pub IsPlaceOf : TableValue → Provision → Maker × ℕ → Type 0
 IsPlaceOf t p place = (p.maker ≡ place.0) × IsNamedAt t.objects t.infos place (p.name, p.file)
 
 module _ (t : TableValue) where
-  of_object : (k : ℕ) (object : ℕ × RuleValue) → slice_get (enumerate_from 0 t.objects) k ≡ Some object → AllZip (IsPlaceOf t) (object_provisions object) (object_places object)
+  of_object : (k : ℕ) (object : ℕ × RuleValue) → slice_get (enumerate_from 0 t.objects) k ≡ Some object → AllZip (IsPlaceOf t) (object_provisions object) (object_origins object)
   of_object k object at =
       let n = from_numbered 0 t.objects k object at in
       let same : k ≡ object.0 = omega (arith, n.0) in
       zip_numbered (IsPlaceOf t) (λ (pair : List ℕ × List ℕ). let p : Provision = record { maker = Object object.0; name = pair.0; file = pair.1; is_private = false } in p) (λ (x : ℕ × (List ℕ × List ℕ)). (Object object.0, x.0)) 0 object.1.provided
       (λ j pair here. let place : 0 + j ≡ j = omega arith in (refl, (object.1, ap (slice_get t.objects) (sym same) ∙ n.1, ap (slice_get object.1.provided) place ∙ here)))
 
-  of_info : (k : ℕ) (info : ℕ × InfoValue) → slice_get (enumerate_from 0 t.infos) k ≡ Some info → AllZip (IsPlaceOf t) (info_provisions info) (info_places info)
+  of_info : (k : ℕ) (info : ℕ × InfoValue) → slice_get (enumerate_from 0 t.infos) k ≡ Some info → AllZip (IsPlaceOf t) (info_provisions info) (info_origins info)
   of_info k info at =
       let n = from_numbered 0 t.infos k info at in
       let same : k ≡ info.0 = omega (arith, n.0) in
       zip_numbered (IsPlaceOf t) (λ (m : ModuleValue). let p : Provision = record { maker = Info info.0; name = m.name; file = m.file; is_private = m.is_private } in p) (λ (x : ℕ × ModuleValue). (Info info.0, x.0)) 0 info.1.modules
       (λ j m here. let place : 0 + j ≡ j = omega arith in (refl, (m, (info.1, ap (slice_get t.infos) (sym same) ∙ n.1, ap (slice_get info.1.modules) place ∙ here), refl, refl)))
 
-  pub module_places : AllZip (IsPlaceOf t) (provisions t) (places_of t)
+  pub module_places : AllZip (IsPlaceOf t) (provisions t) (origins_of t)
   module_places =
-      zip_append (IsPlaceOf t) (flat_map object_provisions (enumerate_from 0 t.objects)) (flat_map info_provisions (enumerate_from 0 t.infos)) (flat_map object_places (enumerate_from 0 t.objects)) (flat_map info_places (enumerate_from 0 t.infos))
-      (zip_flat_map (IsPlaceOf t) object_provisions object_places (enumerate_from 0 t.objects) of_object)
-      (zip_flat_map (IsPlaceOf t) info_provisions info_places (enumerate_from 0 t.infos) of_info)
+      zip_append (IsPlaceOf t) (flat_map object_provisions (enumerate_from 0 t.objects)) (flat_map info_provisions (enumerate_from 0 t.infos)) (flat_map object_origins (enumerate_from 0 t.objects)) (flat_map info_origins (enumerate_from 0 t.infos))
+      (zip_flat_map (IsPlaceOf t) object_provisions object_origins (enumerate_from 0 t.objects) of_object)
+      (zip_flat_map (IsPlaceOf t) info_provisions info_origins (enumerate_from 0 t.infos) of_info)
 
-  module _ (places : List (Maker × ℕ)) (same : places ≡ places_of t) (k : ℕ) where
+  module _ (places : List (Maker × ℕ)) (same : places ≡ origins_of t) (k : ℕ) where
     -- the module of that place
     there : (place : Maker × ℕ) → slice_get places k ≡ Some place → (p : Provision) × (slice_get (provisions t) k ≡ Some p) × IsPlaceOf t p place
-    there place at = zip_back (IsPlaceOf t) (provisions t) (places_of t) k place module_places (ap (λ xs. slice_get xs k) (sym same) ∙ at)
+    there place at = zip_back (IsPlaceOf t) (provisions t) (origins_of t) k place module_places (ap (λ xs. slice_get xs k) (sym same) ∙ at)
 
     pub named_there : (place : Maker × ℕ) → slice_get places k ≡ Some place → (name : List ℕ) × (file : List ℕ) × IsNamedAt t.objects t.infos place (name, file)
     named_there place at = let p = there place at in (p.0.name, p.0.file, p.2.1)
@@ -75,7 +75,7 @@ module _ (t : TableValue) where
 
     pub pair_past : length places ≤ k → pair_at (provisions t) k ≡ None
     pair_past past =
-        let long = zip_length (IsPlaceOf t) (provisions t) (places_of t) module_places ∙ ap length (sym same) in
+        let long = zip_length (IsPlaceOf t) (provisions t) (origins_of t) module_places ∙ ap length (sym same) in
         ap (option_map (λ (q : Provision). (q.name, q.file))) (slice_get_past (provisions t) k (omega (arith, long, past)))
 
 -- the same place among the same objects and infos
@@ -89,13 +89,13 @@ provided_at t (Object object, position) pair h = (position, h)
 provided_at t (Info info, position) pair h = (position, h.0, h.1, h.2, h.3)
 
 -- what is found at the number of a name
-module _ (t : TableValue) (names : List (List ℕ)) (places : List (Maker × ℕ)) (are_names : names ≡ names_of (provisions t)) (are_places : places ≡ places_of t) (number : ℕ) (name : List ℕ) (at : slice_get names number ≡ Some name) where
+module _ (t : TableValue) (names : List (List ℕ)) (places : List (Maker × ℕ)) (are_names : names ≡ names_of (provisions t)) (are_places : places ≡ origins_of t) (number : ℕ) (name : List ℕ) (at : slice_get names number ≡ Some name) where
   named : (p : Provision) × (slice_get (provisions t) number ≡ Some p) × (p.name ≡ name)
   named = from_map (λ (p : Provision). p.name) (provisions t) number name (ap (λ ns. slice_get ns number) (sym are_names) ∙ at)
 
   pub within_places : number < length places
   within_places =
-      let long = zip_length (IsPlaceOf t) (provisions t) (places_of t) (module_places t) in
+      let long = zip_length (IsPlaceOf t) (provisions t) (origins_of t) (module_places t) in
       omega (arith, slice_get_within (provisions t) number named.0 named.1, long, ap length are_places)
 
   module _ (place : Maker × ℕ) (here : slice_get places number ≡ Some place) where

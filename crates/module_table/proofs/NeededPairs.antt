@@ -15,13 +15,13 @@ use Rattle.module_table.specs.TableValue.{TableValue}
 use Rattle.module_table.specs.Modules.{IsProvided, Provision, provisions}
 use Rattle.module_table.specs.Needed.{ArePairs, IsNeeded, Precedes, lent}
 use Rattle.module_table.specs.Sound.{IsSound}
-use Rattle.module_table.specs.Shown.{names_of}
-use Rattle.module_table.specs.Graph.{IsModuleGraph}
+use Rattle.module_table.specs.inner.Views.{names_of}
+use Rattle.module_table.specs.inner.Graph.{IsModuleGraph}
 use Rattle.module_table.specs.inner.Ranks.{AreRanked}
 use Rattle.module_table.specs.declared.fault.Maker.TheVariants.{Object, Info}
 use Rattle.module_table.proofs.Places.{same_some, three_ways, to_map, object_provision, info_provision}
 use Rattle.module_table.proofs.Required.{contained, from_map, from_filter_map}
-use Rattle.module_table.proofs.Checks.{element}
+use Rattle.module_table.proofs.ReportLemmas.{element}
 use Rattle.module_table.proofs.Rings.{in_filter_map, length_mapped}
 use Rattle.module_table.proofs.Numbering.{placed}
 use Rattle.module_table.proofs.GraphParts.{all_from}
@@ -79,9 +79,9 @@ strictly ns sorted differ permuted in_order =
 -- ---- what an object needs
 
 -- the module that somebody provides
-provision_of : (t : TableValue) (name file : List ℕ) → IsProvided t name file → (k : ℕ) × (p : Provision) × (slice_get (provisions t) k ≡ Some p) × (p.name ≡ name) × (p.file ≡ file)
-provision_of t name file (Object o, by) = (_, _, object_provision t o by.0 name file by.1, refl, refl)
-provision_of t name file (Info i, by) = (_, _, info_provision t i by.0 by.1 by.2, by.3, by.4)
+provision_by : (t : TableValue) (name file : List ℕ) → IsProvided t name file → (k : ℕ) × (p : Provision) × (slice_get (provisions t) k ≡ Some p) × (p.name ≡ name) × (p.file ≡ file)
+provision_by t name file (Object o, by) = (_, _, object_provision t o by.0 name file by.1, refl, refl)
+provision_by t name file (Info i, by) = (_, _, info_provision t i by.0 by.1 by.2, by.3, by.4)
 
 module _ (t : TableValue) (sound : IsSound t) (graph : List (List ℕ)) (g : IsModuleGraph t graph) (ranks : List ℕ) (pairs : List Pair) (r : AreRanked (provisions t) ranks pairs) where
   many : length ranks ≡ length (names_of (provisions t))
@@ -140,7 +140,7 @@ module _ (t : TableValue) (sound : IsSound t) (graph : List (List ℕ)) (g : IsM
 
       all_needed : (name file : List ℕ) → IsNeeded t object name file → Contains out (name, file)
       all_needed name file needed =
-          let p = provision_of t name file needed.4 in
+          let p = provision_by t name file needed.4 in
           let number = number_at t sound p.0 p.1 p.2 ∙ ap (λ n. Some n) p.3 in
           let chain = reached_if_needed t sound graph g object name file needed p.0 number in
           let node = placed nodes p.0 ((reach.exactly p.0).1 (subst (λ n. Reaches (NodeNeeds graph) (n + object) p.0) (sym many) chain)) in

@@ -6,8 +6,8 @@ use Rattle.std.proofs.lemmas.Bool.{cond-true}
 use Rattle.std.proofs.lemmas.Bool.Decides.{nat_tests}
 use Rattle.std.proofs.lemmas.Option.{slice_get_within, slice_get-get_or, get_or_from_slice_get}
 use Rattle.std.proofs.lemmas.List.Sums.{position_or_len_is}
-use Rattle.module_table.specs.Repetition.{AllDiffer}
-use Rattle.module_table.specs.Graph.{number_in, numbers_in}
+use Rattle.module_table.specs.inner.Repetition.{AllDiffer}
+use Rattle.module_table.specs.inner.Graph.{index_in, indexes_in}
 use Rattle.module_table.proofs.Places.{same_some, three_ways}
 use Rattle.module_table.proofs.Required.{Has, contained, from_filter_map}
 use Rattle.module_table.proofs.Repetitions.{finds}
@@ -26,7 +26,7 @@ is_below : (m n : ℕ) → m < n → ltb m n ≡ true
 is_below m n lt = grind (arith, nat_tests)
 
 module _ (names : List (List ℕ)) where
-  pub number_found : (name : List ℕ) (k : ℕ) → number_in names name ≡ Some k → slice_get names k ≡ Some name
+  pub number_found : (name : List ℕ) (k : ℕ) → index_in names name ≡ Some k → slice_get names k ≡ Some name
   number_found name k e = finds names name (Some k) (sym e)
 
   module _ (differ : AllDiffer names) where
@@ -37,7 +37,7 @@ module _ (names : List (List ℕ)) where
         (λ rest. ⊎_elim (λ e. e) (λ gt. absurd (differ.differ l k name gt at_l at_k)) rest)
         (three_ways k l)
 
-    pub number_known : (name : List ℕ) (k : ℕ) → slice_get names k ≡ Some name → number_in names name ≡ Some k
+    pub number_known : (name : List ℕ) (k : ℕ) → slice_get names k ≡ Some name → index_in names name ≡ Some k
     number_known name k at =
         let within : k < length names = slice_get_within names k name at in
         let here : bytes_eq name (get_or names k []) ≡ true = (bytes_decides name (get_or names k [])).1 (sym (get_or_from_slice_get names k name [] at)) in
@@ -51,12 +51,12 @@ module _ (names : List (List ℕ)) where
             absurd (omega (arith, lt, same))
         before l lt within false e = e
 
-    pub to_numbers : (pairs : List (List ℕ × List ℕ)) (name file : List ℕ) (k : ℕ) → Contains pairs (name, file) → slice_get names k ≡ Some name → Has (numbers_in names pairs) k
+    pub to_numbers : (pairs : List (List ℕ × List ℕ)) (name file : List ℕ) (k : ℕ) → Contains pairs (name, file) → slice_get names k ≡ Some name → Has (indexes_in names pairs) k
     to_numbers pairs name file k has at =
         let there = placed pairs (name, file) has in
-        in_filter_map (λ (pair : List ℕ × List ℕ). number_in names pair.0) pairs there.0 (name, file) k there.1 (number_known name k at)
+        in_filter_map (λ (pair : List ℕ × List ℕ). index_in names pair.0) pairs there.0 (name, file) k there.1 (number_known name k at)
 
-  pub from_numbers : (pairs : List (List ℕ × List ℕ)) (k : ℕ) → Has (numbers_in names pairs) k → (name : List ℕ) × (file : List ℕ) × Contains pairs (name, file) × (slice_get names k ≡ Some name)
+  pub from_numbers : (pairs : List (List ℕ × List ℕ)) (k : ℕ) → Has (indexes_in names pairs) k → (name : List ℕ) × (file : List ℕ) × Contains pairs (name, file) × (slice_get names k ≡ Some name)
   from_numbers pairs k has =
-      let item = from_filter_map (λ (pair : List ℕ × List ℕ). number_in names pair.0) pairs has.0 k has.1 in
+      let item = from_filter_map (λ (pair : List ℕ × List ℕ). index_in names pair.0) pairs has.0 k has.1 in
       (item.0.0, item.0.1, contained pairs item.0 item.1, number_found item.0.0 k item.2)

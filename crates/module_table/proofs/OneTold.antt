@@ -7,14 +7,14 @@ use Rattle.module_table.specs.Modules.{DependsOn, provisions, Provision, InfoReq
 use Rattle.module_table.specs.Firsts.{IsFirst, IsFirstRepetition}
 use Rattle.module_table.specs.Faults.{IsTold, IsFirstRequired, Keeps, Claim, code_number}
 use Rattle.module_table.specs.Outcomes.{IsSameFault, same, same_ring, OneFault}
-use Rattle.module_table.specs.Repetition.{AllDiffer}
-use Rattle.module_table.specs.Shown.{names_of}
+use Rattle.module_table.specs.inner.Repetition.{AllDiffer}
+use Rattle.module_table.specs.inner.Views.{names_of}
 use Rattle.module_table.specs.declared.fault.Maker.TheVariants.{Object, Info}
 use Rattle.module_table.specs.declared.fault.TableFault.{TableFault}
 use Rattle.module_table.specs.declared.fault.TableFault.TheVariants.{ObjectTwice, InfoTwice, ProvidedTwice, BmiTwice, ModuleUnknown, InfoUnknown, InfoDisagrees, ImportCycle, ModulePrivate, PrivateUnknown}
 use Rattle.module_table.proofs.Places.{same_some, three_ways}
 use Rattle.module_table.proofs.Required.{contained}
-use Rattle.module_table.proofs.Refusals.{one_module}
+use Rattle.module_table.proofs.Found.{one_module}
 use Rattle.module_table.proofs.Privacy.{keeps_private}
 use Rattle.module_table.proofs.Faultless.{names_differ}
 
@@ -70,7 +70,7 @@ one_keeper : (t : TableValue) → AllDiffer (names_of (provisions t)) → (name 
 one_keeper t differ name i j p q =
     let a = keeps_private t i name p in
     let b = keeps_private t j name q in
-    let makers : Info i ≡ Info j = sym a.4 ∙ ap (λ (x : Provision). x.maker) (one_module (provisions t) differ name a.0 b.0 a.1 b.1 a.2 b.2) ∙ b.4 in
+    let makers : Info i ≡ Info j = sym a.4 ∙ ap (λ (x : Provision). x.maker) (one_module (provisions t) name differ a.0 b.0 a.1 b.1 a.2 b.2) ∙ b.4 in
     cc
 
 by_same : (fault other : TableFault) → fault ≡ other → IsSameFault fault other

@@ -7,18 +7,18 @@ use Rattle.scan_docs.specs.Info.{ModuleValue}
 use Rattle.module_table.specs.TableValue.{TableValue}
 use Rattle.module_table.specs.Modules.{Requires, Provision, provisions, object_provisions, info_provisions, InfoRequirement, info_requirements}
 use Rattle.module_table.specs.Faults.{IsKept, Keeps, IsKeptElsewhere}
-use Rattle.module_table.specs.Finds.{IsNamed, IsPublic, IsPrivate, IsAllowed, IsForbidden, IsKeptBy, ArePrivateByInfos, RequiresPublic, RefusesAt, AcceptsAll}
-use Rattle.module_table.specs.Told.{Tells}
+use Rattle.module_table.specs.inner.Finds.{IsNamed, IsPublic, IsPrivate, IsAllowed, IsNotAllowed, IsPrivateTo, ArePrivateByInfos, RequiresPublic, RefusesAt, AcceptsAll}
+use Rattle.module_table.specs.inner.Reported.{Reports}
 use Rattle.module_table.specs.declared.fault.Maker.TheVariants.{Object, Info}
 use Rattle.module_table.specs.declared.fault.TableFault.{TableFault}
 use Rattle.module_table.specs.declared.fault.TableFault.TheVariants.{ModulePrivate}
 use Rattle.module_table.proofs.Places.{same_some, info_provision}
 use Rattle.module_table.proofs.Required.{from_append, from_flat_map, from_numbered, from_map}
-use Rattle.module_table.specs.Repetition.{AllDiffer}
-use Rattle.module_table.specs.Shown.{names_of}
-use Rattle.module_table.proofs.Checks.{tells_same}
+use Rattle.module_table.specs.inner.Repetition.{AllDiffer}
+use Rattle.module_table.specs.inner.Views.{names_of}
+use Rattle.module_table.proofs.ReportLemmas.{tells_same}
 use Rattle.module_table.proofs.Repetitions.{in_take}
-use Rattle.module_table.proofs.Refusals.{one_module}
+use Rattle.module_table.proofs.Found.{one_module}
 
 module _ (t : TableValue) where
   -- a private module is one that an info keeps
@@ -45,10 +45,10 @@ module _ (t : TableValue) where
   private_by_infos k p at private = let h = kept_by k p at private in (h.0, h.1)
 
   -- what an info keeps is private
-  pub keeps_private : (i : ℕ) (name : List ℕ) → Keeps t i name → IsKeptBy (provisions t) name i
+  pub keeps_private : (i : ℕ) (name : List ℕ) → Keeps t i name → IsPrivateTo (provisions t) name i
   keeps_private i name h = (_, _, (info_provision t i h.0 h.1 h.2, h.3), h.4, refl)
 
-  pub kept_keeps : (i : ℕ) (name : List ℕ) → IsKeptBy (provisions t) name i → Keeps t i name
+  pub kept_keeps : (i : ℕ) (name : List ℕ) → IsPrivateTo (provisions t) name i → Keeps t i name
   kept_keeps i name (k, p, named, private, maker) =
       let h = kept_by k p named.0 private in
       let same : Info h.0 ≡ Info i = sym h.1 ∙ maker in
@@ -73,7 +73,7 @@ module _ (t : TableValue) where
       let row = all.each object rule at in
       public_not_kept name (row.each has.0 name (slice_get-get_or rule.required has.0 name has.1 ∙ ap (λ x. Some x) has.2)) kept
 
-  pub told_private_object : (kept : List (List ℕ)) (object : ℕ) (rule : RuleValue) (place : ℕ) (name : List ℕ) (info : ℕ) (fault : TableFault) → slice_get t.objects object ≡ Some rule → ((k : ℕ) (r : RuleValue) → k < object → slice_get t.objects k ≡ Some r → RequiresPublic (provisions t) r) → RefusesAt (IsPublic (provisions t)) (IsPrivate (provisions t)) rule.required place → slice_get rule.required place ≡ Some name → IsKeptBy (provisions t) name info → fault ≡ ModulePrivate name info (Object object) → Tells 9 t kept fault
+  pub told_private_object : (kept : List (List ℕ)) (object : ℕ) (rule : RuleValue) (place : ℕ) (name : List ℕ) (info : ℕ) (fault : TableFault) → slice_get t.objects object ≡ Some rule → ((k : ℕ) (r : RuleValue) → k < object → slice_get t.objects k ≡ Some r → RequiresPublic (provisions t) r) → RefusesAt (IsPublic (provisions t)) (IsPrivate (provisions t)) rule.required place → slice_get rule.required place ≡ Some name → IsPrivateTo (provisions t) name info → fault ≡ ModulePrivate name info (Object object) → Reports 9 t kept fault
   told_private_object kept object rule place name info fault at before refused at_name by same =
       let keeps = kept_keeps info name by in
       tells_same 9 t kept fault (ModulePrivate name info (Object object)) same
@@ -98,7 +98,7 @@ module _ (t : TableValue) where
         coded = refl;
       })
 
-  pub told_private_info : (kept : List (List ℕ)) (place : ℕ) (r : InfoRequirement) (info : ℕ) (fault : TableFault) → AcceptsAll (RequiresPublic (provisions t)) t.objects → RefusesAt (IsAllowed (provisions t)) (IsForbidden (provisions t)) (info_requirements t) place → slice_get (info_requirements t) place ≡ Some r → IsKeptBy (provisions t) r.name info → (info ≢ r.info) → fault ≡ ModulePrivate r.name info (Info r.info) → Tells 9 t kept fault
+  pub told_private_info : (kept : List (List ℕ)) (place : ℕ) (r : InfoRequirement) (info : ℕ) (fault : TableFault) → AcceptsAll (RequiresPublic (provisions t)) t.objects → RefusesAt (IsAllowed (provisions t)) (IsNotAllowed (provisions t)) (info_requirements t) place → slice_get (info_requirements t) place ≡ Some r → IsPrivateTo (provisions t) r.name info → (info ≢ r.info) → fault ≡ ModulePrivate r.name info (Info r.info) → Reports 9 t kept fault
   told_private_info kept place r info fault all refused at by other same =
       let keeps = kept_keeps info r.name by in
       tells_same 9 t kept fault (ModulePrivate r.name info (Info r.info)) same
@@ -119,27 +119,20 @@ module _ (t : TableValue) where
       })
 
 -- a private module is made by an info
-pub keeper_is_info : (ps : List Provision) → AllDiffer (names_of ps) → ArePrivateByInfos ps → (name : List ℕ) → IsPrivate ps name → (k : ℕ) (q : Provision) → IsNamed ps name k q → (i : ℕ) × (q.maker ≡ Info i) × (q.is_private ≡ true)
-keeper_is_info ps differ sealed name (l, p, there, private) k q named =
-    let same = one_module ps differ name l k p q there named in
+pub info_of_private : (ps : List Provision) → AllDiffer (names_of ps) → ArePrivateByInfos ps → (name : List ℕ) → IsPrivate ps name → (k : ℕ) (q : Provision) → IsNamed ps name k q → (i : ℕ) × (q.maker ≡ Info i) × (q.is_private ≡ true)
+info_of_private ps differ sealed name (l, p, there, private) k q named =
+    let same = one_module ps name differ l k p q there named in
     let by = sealed l p there.0 private in
     (by.0, ap (λ (x : Provision). x.maker) (sym same) ∙ by.1, ap (λ (x : Provision). x.is_private) (sym same) ∙ private)
 
-pub tells_private_object : (ps : List Provision) (objects : List RuleValue) (object : ℕ) (rule : RuleValue) (place : ℕ) (name : List ℕ) (info : ℕ) (fault : TableFault) → slice_get objects object ≡ Some rule → AcceptsAll (RequiresPublic ps) (take object objects) → RefusesAt (IsPublic ps) (IsPrivate ps) rule.required place → slice_get rule.required place ≡ Some name → IsKeptBy ps name info → fault ≡ ModulePrivate name info (Object object) → (t : TableValue) (kept : List (List ℕ)) → ps ≡ provisions t → objects ≡ t.objects → Tells 9 t kept fault
-tells_private_object ps objects object rule place name info fault at before refused at_name by same t kept ep eo =
-    let at' = subst (λ os. slice_get os object ≡ Some rule) eo at in
-    let before' = subst (λ os. AcceptsAll (RequiresPublic (provisions t)) (take object os)) eo (subst (λ xs. AcceptsAll (RequiresPublic xs) (take object objects)) ep before) in
-    told_private_object t kept object rule place name info fault at' (λ k r lt at_k. before'.each k r (in_take object t.objects k r lt at_k))
-    (subst (λ xs. RefusesAt (IsPublic xs) (IsPrivate xs) rule.required place) ep refused) at_name (subst (λ xs. IsKeptBy xs name info) ep by) same
+module _ (t : TableValue) (kept : List (List ℕ)) where
+  pub tells_private_object : (object : ℕ) (rule : RuleValue) (index : ℕ) (name : List ℕ) (info : ℕ) (fault : TableFault) → slice_get t.objects object ≡ Some rule → AcceptsAll (RequiresPublic (provisions t)) (take object t.objects) → RefusesAt (IsPublic (provisions t)) (IsPrivate (provisions t)) rule.required index → slice_get rule.required index ≡ Some name → IsPrivateTo (provisions t) name info → fault ≡ ModulePrivate name info (Object object) → Reports 9 t kept fault
+  tells_private_object object rule index name info fault at before refused at_name by same =
+      told_private_object t kept object rule index name info fault at (λ k r lt at_k. before.each k r (in_take object t.objects k r lt at_k)) refused at_name by same
 
-pub tells_private_info : (ps : List Provision) (wanted : List InfoRequirement) (place : ℕ) (r : InfoRequirement) (info : ℕ) (fault : TableFault) → AllDiffer (names_of ps) → RefusesAt (IsAllowed ps) (IsForbidden ps) wanted place → slice_get wanted place ≡ Some r → IsKeptBy ps r.name info → fault ≡ ModulePrivate r.name info (Info r.info) → (t : TableValue) (kept : List (List ℕ)) → ps ≡ provisions t → wanted ≡ info_requirements t → AcceptsAll (RequiresPublic ps) t.objects → Tells 9 t kept fault
-tells_private_info ps wanted place r info fault differ refused at by same t kept ep ew all =
-    let x : refused.x ≡ r = same_some _ _ (sym refused.here ∙ at) in
-    let bad = subst (IsForbidden ps) x refused.refused in
-    let one = one_module ps differ r.name bad.0 by.0 bad.1 by.1 bad.2 by.2 in
-    told_private_info t kept place r info fault (subst (λ xs. AcceptsAll (RequiresPublic xs) t.objects) ep all)
-    (subst (λ ws. RefusesAt (IsAllowed (provisions t)) (IsForbidden (provisions t)) ws place) ew (subst (λ xs. RefusesAt (IsAllowed xs) (IsForbidden xs) wanted place) ep refused))
-    (ap (λ ws. slice_get ws place) (sym ew) ∙ at)
-    (subst (λ xs. IsKeptBy xs r.name info) ep by)
-    (λ e. bad.4 (ap (λ (p : Provision). p.maker) one ∙ by.4 ∙ ap (λ n. Info n) e))
-    same
+  pub tells_private_info : (index : ℕ) (r : InfoRequirement) (info : ℕ) (fault : TableFault) → AllDiffer (names_of (provisions t)) → RefusesAt (IsAllowed (provisions t)) (IsNotAllowed (provisions t)) (info_requirements t) index → slice_get (info_requirements t) index ≡ Some r → IsPrivateTo (provisions t) r.name info → fault ≡ ModulePrivate r.name info (Info r.info) → AcceptsAll (RequiresPublic (provisions t)) t.objects → Reports 9 t kept fault
+  tells_private_info index r info fault differ refused at by same all =
+      let x : refused.x ≡ r = same_some _ _ (sym refused.here ∙ at) in
+      let bad = subst (IsNotAllowed (provisions t)) x refused.refused in
+      let one = one_module (provisions t) r.name differ bad.0 by.0 bad.1 by.1 bad.2 by.2 in
+      told_private_info t kept index r info fault all refused at by (λ e. bad.4 (ap (λ (p : Provision). p.maker) one ∙ by.4 ∙ ap (λ n. Info n) e)) same

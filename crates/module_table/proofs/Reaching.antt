@@ -8,15 +8,15 @@ use Rattle.module_table.specs.TableValue.{TableValue}
 use Rattle.module_table.specs.Modules.{Provides, Requires, InfoProvides, IsProvided, Provision, provisions}
 use Rattle.module_table.specs.Needed.{LeadsTo, Leads, IsNeeded}
 use Rattle.module_table.specs.Sound.{IsSound}
-use Rattle.module_table.specs.Repetition.{AllDiffer}
-use Rattle.module_table.specs.Shown.{names_of}
-use Rattle.module_table.specs.Located.{places_of}
-use Rattle.module_table.specs.Graph.{IsModuleGraph, IsModuleRow, numbers_in}
+use Rattle.module_table.specs.inner.Repetition.{AllDiffer}
+use Rattle.module_table.specs.inner.Views.{names_of}
+use Rattle.module_table.specs.inner.Origins.{origins_of}
+use Rattle.module_table.specs.inner.Graph.{IsModuleGraph, IsModuleRow, indexes_in}
 use Rattle.module_table.specs.declared.fault.Maker.{Maker}
 use Rattle.module_table.specs.declared.fault.Maker.TheVariants.{Object, Info}
 use Rattle.module_table.proofs.Places.{same_some, to_map, in_first, in_second, object_provision, info_provision}
 use Rattle.module_table.proofs.Required.{Has, contained, from_map, from_provisions}
-use Rattle.module_table.proofs.Checks.{in_row, numbered_provided}
+use Rattle.module_table.proofs.ReportLemmas.{in_row, numbered_provided}
 use Rattle.module_table.proofs.Zips.{zip_there, zip_length}
 use Rattle.module_table.proofs.ModulePlaces.{IsPlaceOf, module_places, one_at, one_entry}
 use Rattle.module_table.proofs.Numbering.{placed, only_one, one_number, to_numbers, from_numbers}
@@ -69,8 +69,8 @@ module _ (t : TableValue) (sound : IsSound t) where
 
     many_modules : length g.modules ≡ count
     many_modules =
-        sym (zip_length (IsModuleRow names t.infos) (places_of t) g.modules g.of_modules)
-        ∙ sym (zip_length (IsPlaceOf t) (provisions t) (places_of t) (module_places t)) ∙ sym (length_mapped (λ (p : Provision). p.name) (provisions t))
+        sym (zip_length (IsModuleRow names t.infos) (origins_of t) g.modules g.of_modules)
+        ∙ sym (zip_length (IsPlaceOf t) (provisions t) (origins_of t) (module_places t)) ∙ sym (length_mapped (λ (p : Provision). p.name) (provisions t))
 
     -- a module of an object, by its number
     abbrev IsOwnNode : ℕ → List ℕ → Type 0
@@ -78,7 +78,7 @@ module _ (t : TableValue) (sound : IsSound t) where
 
     -- a module of an info
     abbrev IsInfoNode : ℕ → List ℕ → Type 0
-    IsInfoNode k name = (i : ℕ) × (j : ℕ) × (entry : ModuleValue) × InfoProvides t i j entry × (entry.name ≡ name) × (slice_get graph k ≡ Some (numbers_in names entry.required))
+    IsInfoNode k name = (i : ℕ) × (j : ℕ) × (entry : ModuleValue) × InfoProvides t i j entry × (entry.name ≡ name) × (slice_get graph k ≡ Some (indexes_in names entry.required))
 
     node_by : (k : ℕ) (p : Provision) (place : Maker × ℕ) (row : List ℕ) → IsPlaceOf t p place → slice_get graph k ≡ Some row → IsModuleRow names t.infos place row → IsOwnNode k p.name ⊎ IsInfoNode k p.name
     node_by k p (Object o, j) row is at row_is = inl (o, j, p.file, is.1, at ∙ ap (λ r. Some r) row_is)
@@ -89,8 +89,8 @@ module _ (t : TableValue) (sound : IsSound t) where
     node_of : (k : ℕ) (name : List ℕ) → IsNumberOf k name → IsOwnNode k name ⊎ IsInfoNode k name
     node_of k name at =
         let p = named k name at in
-        let place = zip_there (IsPlaceOf t) (provisions t) (places_of t) k p.0 (module_places t) p.1 in
-        let row = zip_there (IsModuleRow names t.infos) (places_of t) g.modules k place.0 g.of_modules place.1 in
+        let place = zip_there (IsPlaceOf t) (provisions t) (origins_of t) k p.0 (module_places t) p.1 in
+        let row = zip_there (IsModuleRow names t.infos) (origins_of t) g.modules k place.0 g.of_modules place.1 in
         let here : slice_get graph k ≡ Some row.0 = ap (λ rows. slice_get rows k) g.all ∙ in_first g.modules g.objects k row.0 row.1 in
         subst (λ n. IsOwnNode k n ⊎ IsInfoNode k n) p.2 (node_by k p.0 place.0 row.0 place.2 here row.2)
 
@@ -212,7 +212,7 @@ module _ (t : TableValue) (sound : IsSound t) where
         absurd (cc))
         (node_of k name at)
 
-    info_is : (k i j : ℕ) (entry : ModuleValue) → IsNumberOf k entry.name → InfoProvides t i j entry → slice_get graph k ≡ Some (numbers_in names entry.required)
+    info_is : (k i j : ℕ) (entry : ModuleValue) → IsNumberOf k entry.name → InfoProvides t i j entry → slice_get graph k ≡ Some (indexes_in names entry.required)
     info_is k i j entry at provides =
         ⊎_elim
         (λ own.
@@ -227,7 +227,7 @@ module _ (t : TableValue) (sound : IsSound t) where
         let again = one_provision _ _ _ _ (info_provision t i info.1 info.2 moved) (info_provision t i j entry provides) info.4 in
         let position : info.1 ≡ j = omega (arith, again.0) in
         let one = one_entry t.infos i j info.2 entry (subst (λ n. InfoProvides t i n info.2) position moved) provides in
-        info.5 ∙ ap (λ (m : ModuleValue). Some (numbers_in names m.required)) one)
+        info.5 ∙ ap (λ (m : ModuleValue). Some (indexes_in names m.required)) one)
         (node_of k entry.name at)
 
     -- what somebody provides has a number

@@ -9,15 +9,15 @@ use Rattle.dep_order.proofs.ForCallers.{sorting_same}
 use Rattle.scan_docs.specs.Scan.{RuleValue}
 use Rattle.module_table.specs.TableValue.{TableValue}
 use Rattle.module_table.specs.Modules.{Provides, IsProvidedBy, DependsOn, Provision, provisions}
-use Rattle.module_table.specs.Shown.{names_of}
-use Rattle.module_table.specs.Numbered.{IsNumbered, object_of, maker_at}
+use Rattle.module_table.specs.inner.Views.{names_of}
+use Rattle.module_table.specs.inner.Numbered.{IsNumbered, object_of, maker_at}
 use Rattle.module_table.specs.declared.fault.Maker.{Maker}
 use Rattle.module_table.specs.declared.fault.Maker.TheVariants.{Object, Info}
 use Rattle.module_table.proofs.Places.{same_some, to_map, object_provision}
 use Rattle.module_table.proofs.Required.{Has, contained, from_map, from_provisions, from_filter_map}
+use Rattle.module_table.proofs.Found.{one_index}
 use Rattle.module_table.proofs.Repetitions.{take_next}
-use Rattle.module_table.proofs.Checks.{in_row}
-use Rattle.module_table.proofs.Refusals.{one_place}
+use Rattle.module_table.proofs.ReportLemmas.{in_row}
 
 cons_append : {Y : Type 0} (o : Option Y) (xs ys : List Y) → cons_option o (xs ++ ys) ≡ cons_option o xs ++ ys
 cons_append None xs ys = refl
@@ -108,7 +108,7 @@ module _ (t : TableValue) (ps : List Provision) (rows : List (List ℕ)) (is : I
       let made = module_at t p position name file provides in
       let made_in = ap (λ xs. slice_get xs made.0) is.all_provided ∙ made.1 in
       let mine = from_map (λ (x : Provision). x.name) ps number.0 name number.2 in
-      let place = one_place ps is.differ name number.0 made.0 mine.0 _ (mine.1, mine.2) (made_in, refl) in
+      let place = one_index ps name is.differ number.0 made.0 mine.0 _ (mine.1, mine.2) (made_in, refl) in
       let found : maker_at ps number.0 ≡ Some p = ap (maker_at ps) place ∙ ap (option_and_then (λ (q : Provision). object_of q.maker)) made_in in
       let has = in_filter_map (maker_at ps) row.0 needs.2.0 number.0 p number.1 found in
       let at_row = to_map (filter_map (maker_at ps)) rows o row.0 row.1 in

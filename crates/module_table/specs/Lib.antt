@@ -6,14 +6,5 @@ pub mod FaultNames
 pub mod Sound
 pub mod Needed
 pub mod Added
-pub mod Repetition
-pub mod Shown
-pub mod Told
-pub mod Finds
-pub mod Numbered
-pub mod Passed
-pub mod Located
-pub mod Places
-pub mod Graph
 pub mod Outcomes
 pub mod inner

@@ -1,1 +1,10 @@
+pub mod Views
+pub mod Origins
+pub mod Repetition
+pub mod Finds
+pub mod Reported
+pub mod Passed
+pub mod Numbered
+pub mod Indexed
+pub mod Graph
 pub mod Ranks

@@ -5,18 +5,19 @@ use scan_docs::{Name, TargetName};
 use std::error::Error;
 use std::fmt;
 
-/// Who makes a file: an object of the target, or the target of an info, by number.
+/// Who makes a file: an object of the target, or the target of an info, by index.
 #[derive(Clone, Copy, Debug, PartialEq, Eq)]
 pub enum Maker {
     Object(usize),
     Info(usize),
 }
 
-/// Why a table cannot be built. Of several faults the one with the lowest number is told.
+/// Why a table cannot be built. Of several faults the one with the lowest code is
+/// reported.
 ///
-/// Of M1 to M4 it is the repetition whose later member comes first, with its earliest partner, in the order: objects'
-/// own paths, provided modules by object, modules by info. Of M5 to M7, M9 and M10 it is the first requirement, by
-/// object or by info and module, or the first name.
+/// Of M1 to M4 it is the repetition whose later member comes first, with its earliest partner, in the
+/// order: objects' own paths, provided modules by object, modules by info. Of M5 to M7, M9 and M10 it
+/// is the first requirement, by object or by info and module, or the first name.
 #[derive(Drop)]
 pub enum TableFault {
     /// Two objects have one path.
@@ -58,18 +59,19 @@ pub enum TableFault {
         module_name: Name,
         name: Name,
     },
-    /// Objects need each other's modules in a ring: each needs the next, and the last needs the first. The first is the
-    /// least number on any ring, no ring through it is shorter, and of those that are as short this list is least.
+    /// Objects need each other's modules in a ring: each needs the next, and the last needs the first.
+    /// The first is the least index on any ring, no ring through it is shorter, and of those that are
+    /// as short this list is least.
     ImportCycle {
         objects: Vec<usize>,
     },
-    /// An object, or a module of another info, requires a module that the target of an info keeps to itself.
+    /// An object, or a module of another info, requires a module that is private to the target of an info.
     ModulePrivate {
         name: Name,
         info: usize,
         user: Maker,
     },
-    /// A name is to be kept to the target itself, and no object provides it.
+    /// A name is to be private to the target, and no object provides it.
     PrivateUnknown {
         name: Name,
     },

@@ -1,11 +1,12 @@
 //! The modules that objects need, themselves and through others.
 ghost use Rattle.std.specs.Prelude.{◌≡◌, ◌<◌, ◌+◌, ◌^◌, ℕ, List, All, map, length, slice_get, Some, IfOk};
 ghost use Rattle.std.specs.List.{filter_map};
+ghost use Rattle.module_table.specs.TableValue.{table_with};
 ghost use Rattle.module_table.specs.Needed.{ArePairs, IsNeeded, lent};
 ghost use Rattle.module_table.specs.Sound.{IsSound};
-ghost use Rattle.module_table.specs.Located.{places_of};
-ghost use Rattle.module_table.specs.Places.{IsNamedAt, IsObjectsPair};
-ghost use Rattle.module_table.specs.Graph.{IsModuleGraph};
+ghost use Rattle.module_table.specs.inner.Origins.{origins_of};
+ghost use Rattle.module_table.specs.inner.Indexed.{IsNamedAt, IsObjectsPair};
+ghost use Rattle.module_table.specs.inner.Graph.{IsModuleGraph};
 
 use crate::fault::Maker;
 use crate::graph::module_at;
@@ -26,17 +27,17 @@ pub struct Needs<'t> {
     reaching: Reaching<'t>,
     /// The name and the file of each module, in byte order of names.
     pairs: Vec<(&'t Name, &'t Path)>,
-    /// The index of each module among them, by its number.
+    /// The index of each module among them, by its own index.
     ranks: Vec<usize>,
 }
 
 impl<'t> Model for Needs<'t> {
     ghost use Rattle.std.specs.Prelude.{◌+◌, ◌<◌, ◌^◌, length, map};
-    ghost use Rattle.module_table.specs.TableValue.{TableValue};
+    ghost use Rattle.module_table.specs.TableValue.{TableValue, table_with};
     ghost use Rattle.module_table.specs.Sound.{IsSound};
     ghost use Rattle.module_table.specs.Modules.{provisions};
     ghost use Rattle.module_table.specs.Needed.{lent};
-    ghost use Rattle.module_table.specs.Graph.{IsModuleGraph};
+    ghost use Rattle.module_table.specs.inner.Graph.{IsModuleGraph};
     ghost use Rattle.module_table.specs.inner.Ranks.{AreRanked};
 
     ghost Value = { TableValue };
@@ -57,15 +58,15 @@ impl<'t> Needs<'t> {
         graph: &'t Digraph,
         objects: &'t [Rule],
         infos: &'t [Info],
-        places: &[(Maker, usize)],
+        origins: &[(Maker, usize)],
     ) -> Result<Needs<'t>, AllocError>
-        requires table { table.now ≡ record { objects = objects.now; infos = infos.now } }
-        requires sound { IsSound (record { objects = objects.now; infos = infos.now }) }
-        requires graph { IsModuleGraph (record { objects = objects.now; infos = infos.now }) graph.now }
-        requires places { places.now ≡ places_of (record { objects = objects.now; infos = infos.now }) }
+        requires table { table.now ≡ table_with objects.now infos.now }
+        requires sound { IsSound (table_with objects.now infos.now) }
+        requires graph { IsModuleGraph (table_with objects.now infos.now) graph.now }
+        requires origins { origins.now ≡ origins_of (table_with objects.now infos.now) }
         ensures { IfOk result (λ needs. needs ≡ table.now) }
     {
-        let modules = modules_by_name(alloc, objects, infos, places)?;
+        let modules = modules_by_name(alloc, objects, infos, origins)?;
         let ranks = ranks_of(alloc, modules.as_slice())?;
         let pairs = pairs_of(alloc, modules.as_slice())?;
         let reaching = Reaching::new(alloc, graph)?;
@@ -143,31 +144,33 @@ pub(crate) fn copy_pairs(
     Ok(copies)
 }
 
-/// The name and the file of the module at the place.
+/// The name and the file of the module of this origin.
 pub(crate) fn named_at<'t>(
     objects: &'t [Rule],
     infos: &'t [Info],
-    place: (Maker, usize),
+    origin: (Maker, usize),
 ) -> (&'t Name, &'t Path)
-    requires { (name : List ℕ) × (file : List ℕ) × IsNamedAt objects.now infos.now place (name, file) }
-    ensures { IsNamedAt objects.now infos.now place (result.0.now, result.1.now) }
+    requires { (name : List ℕ) × (file : List ℕ)
+        × IsNamedAt objects.now infos.now origin (name, file) }
+    ensures { IsNamedAt objects.now infos.now origin (result.0.now, result.1.now) }
 {
-    match place.0 {
+    match origin.0 {
         Maker::Object(object) => {
-            let pair = pair_of_object(objects, object, place.1);
+            let pair = pair_of_object(objects, object, origin.1);
             (&pair.0, &pair.1)
         }
         Maker::Info(info) => {
-            let module = module_at(infos, info, place.1);
+            let module = module_at(infos, info, origin.1);
             (&module.name, &module.file)
         }
     }
 }
 
-fn pair_of_object(objects: &[Rule], object: usize, position: usize) -> &(Name, Path)
-    requires { (name : List ℕ) × (file : List ℕ) × IsObjectsPair objects.now object position (name, file) }
-    ensures { IsObjectsPair objects.now object position result.now }
+fn pair_of_object(objects: &[Rule], object: usize, index: usize) -> &(Name, Path)
+    requires { (name : List ℕ) × (file : List ℕ)
+        × IsObjectsPair objects.now object index (name, file) }
+    ensures { IsObjectsPair objects.now object index result.now }
 {
     let rule = &objects[object];
-    &rule.provided[position]
+    &rule.provided[index]
 }

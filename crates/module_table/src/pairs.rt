@@ -1,31 +1,27 @@
 //! What each object requires, with the files of the modules.
 ghost use Rattle.std.specs.Prelude.{◌≡◌, map, IfOk};
 ghost use Rattle.std.specs.List.{filter_map};
-ghost use Rattle.module_table.specs.Repetition.{AllDiffer};
-ghost use Rattle.module_table.specs.Shown.{shown, names_of};
-ghost use Rattle.module_table.specs.Added.{pair_of, first_mentions};
+ghost use Rattle.module_table.specs.Modules.{provisions};
+ghost use Rattle.module_table.specs.Added.{pair_of, first_mentions, required_of};
 
-use crate::names::find;
-use crate::provided::Provided;
+use crate::modules::Modules;
 use indexmap::IndexSet;
 use ninja_text::Path;
-use scan_docs::{Name, Rule};
+use scan_docs::Name;
 use std::alloc::{AllocError, Global};
 
 /// The modules that each object requires, in order of first mention, each once.
 pub(crate) fn all_pairs(
     alloc: Global,
-    names: &IndexSet<Name>,
-    provided: &[Provided],
-    objects: &[Rule],
+    modules: &Modules,
 ) -> Result<Vec<Vec<(Name, Path)>>, AllocError>
-    requires keys { names.now.keys ≡ names_of (map shown provided.now) }
-    requires differ { AllDiffer names.now.keys }
-    ensures { IfOk result (λ rows. map (λ row. row.items) rows.items ≡ map (λ rule. filter_map (pair_of (map shown provided.now)) (first_mentions rule.required)) objects.now) }
+    ensures { IfOk result (λ rows. map (λ row. row.items) rows.items
+        ≡ map (required_of modules.now) modules.now.objects) }
 {
+    let objects = modules.objects();
     let mut rows = Vec::new(alloc);
     for rule in objects {
-        let pairs = pairs_of(alloc, names, provided, rule.required.as_slice())?;
+        let pairs = pairs_of(alloc, modules, rule.required.as_slice())?;
         rows.push(pairs)?;
     }
     Ok(rows)
@@ -33,18 +29,16 @@ pub(crate) fn all_pairs(
 
 fn pairs_of(
     alloc: Global,
-    names: &IndexSet<Name>,
-    provided: &[Provided],
+    modules: &Modules,
     required: &[Name],
 ) -> Result<Vec<(Name, Path)>, AllocError>
-    requires keys { names.now.keys ≡ names_of (map shown provided.now) }
-    requires differ { AllDiffer names.now.keys }
-    ensures { IfOk result (λ pairs. pairs.items ≡ filter_map (pair_of (map shown provided.now)) (first_mentions required.now)) }
+    ensures { IfOk result (λ pairs. pairs.items
+        ≡ filter_map (pair_of (provisions modules.now)) (first_mentions required.now)) }
 {
     let mentioned = mentions_of(alloc, required)?;
     let mut pairs = Vec::new(alloc);
     for name in &mentioned {
-        match pair_for(alloc, names, provided, *name)? {
+        match pair_for(alloc, modules, *name)? {
             Some(pair) => pairs.push(pair)?,
             None => {}
         }
@@ -55,18 +49,15 @@ fn pairs_of(
 /// The name with the file of its module, if it is provided.
 fn pair_for(
     alloc: Global,
-    names: &IndexSet<Name>,
-    provided: &[Provided],
+    modules: &Modules,
     name: &Name,
 ) -> Result<Option<(Name, Path)>, AllocError>
-    requires keys { names.now.keys ≡ names_of (map shown provided.now) }
-    requires differ { AllDiffer names.now.keys }
-    ensures { IfOk result (λ pair. pair ≡ pair_of (map shown provided.now) name.now) }
+    ensures { IfOk result (λ pair. pair ≡ pair_of (provisions modules.now) name.now) }
 {
-    match find(names, provided, name) {
-        Some(found) => {
+    match modules.find(name) {
+        Some(module) => {
             let name = name.copy(alloc)?;
-            let file = found.file.copy(alloc)?;
+            let file = module.file.copy(alloc)?;
             Ok(Some((name, file)))
         }
         None => Ok(None),

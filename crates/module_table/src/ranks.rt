@@ -1,8 +1,9 @@
 //! The modules in byte order of names.
 ghost use Rattle.std.specs.Prelude.{◌≡◌, ℕ, List, map, length, IfOk};
+ghost use Rattle.module_table.specs.TableValue.{table_with};
 ghost use Rattle.module_table.specs.Modules.{provisions};
 ghost use Rattle.module_table.specs.Sound.{IsSound};
-ghost use Rattle.module_table.specs.Located.{places_of};
+ghost use Rattle.module_table.specs.inner.Origins.{origins_of};
 ghost use Rattle.module_table.specs.inner.Ranks.{AreByName, AreNumbers, AreRanks};
 
 use crate::fault::Maker;
@@ -11,27 +12,27 @@ use ninja_text::Path;
 use scan_docs::{Info, Name, Rule};
 use std::alloc::{AllocError, Global};
 
-/// The name and the file of each module, and its number, in byte order of names.
+/// The name and the file of each module, and its index, in byte order of names.
 pub(crate) fn modules_by_name<'t>(
     alloc: Global,
     objects: &'t [Rule],
     infos: &'t [Info],
-    places: &[(Maker, usize)],
+    origins: &[(Maker, usize)],
 ) -> Result<Vec<((&'t Name, &'t Path), usize)>, AllocError>
-    requires sound { IsSound (record { objects = objects.now; infos = infos.now }) }
-    requires places { places.now ≡ places_of (record { objects = objects.now; infos = infos.now }) }
+    requires sound { IsSound (table_with objects.now infos.now) }
+    requires origins { origins.now ≡ origins_of (table_with objects.now infos.now) }
     ensures { IfOk result
-        (λ modules. AreByName (provisions (record { objects = objects.now; infos = infos.now })) modules.items) }
+        (λ modules. AreByName (provisions (table_with objects.now infos.now)) modules.items) }
 {
-    let mut modules = Vec::with_capacity(alloc, places.len())?;
-    for (number, place) in places.iter().enumerate() {
-        modules.push((named_at(objects, infos, *place), number))?;
+    let mut modules = Vec::with_capacity(alloc, origins.len())?;
+    for (index, origin) in origins.iter().enumerate() {
+        modules.push((named_at(objects, infos, *origin), index))?;
     }
     modules.sort_unstable();
     Ok(modules)
 }
 
-/// The index of each module, by its number.
+/// The index of each module, by its own index.
 pub(crate) fn ranks_of(
     alloc: Global,
     modules: &[((&Name, &Path), usize)],

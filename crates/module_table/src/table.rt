@@ -2,6 +2,7 @@
 ghost use Rattle.std.specs.Prelude.{◌≡◌, ◌<◌, IfOk, IfErr, IfSome, IfNone, length, slice_get, Some};
 ghost use Rattle.ninja_text.specs.Failure.{ForFault};
 ghost use Rattle.scan_docs.specs.Scan.{RuleValue};
+ghost use Rattle.module_table.specs.TableValue.{table_with};
 ghost use Rattle.module_table.specs.Modules.{IsProvidedBy};
 ghost use Rattle.module_table.specs.Faults.{IsTold, IsFault, IsUnknown};
 ghost use Rattle.module_table.specs.Sound.{IsSound, KeepsOwn};
@@ -9,9 +10,9 @@ ghost use Rattle.module_table.specs.Needed.{ArePairs, IsNeeded};
 ghost use Rattle.module_table.specs.Added.{required_of};
 ghost use Rattle.module_table.specs.declared.fault.TableFault.{TableFault};
 
-use crate::all_checks::check_all;
+use crate::checks::check_all;
 use crate::fault::{Maker, TableFault};
-use crate::names::number_of;
+use crate::modules::index_of;
 use crate::needed::{Needs, copy_pairs, named_at};
 use dep_order::Digraph;
 use indexmap::IndexSet;
@@ -25,11 +26,11 @@ use std::marker::Model;
 pub struct Table {
     objects: Vec<Rule>,
     infos: Vec<Info>,
-    /// The names of all provided modules. A name's number is its module's place among them.
+    /// The names of all provided modules. A name's index is that of its module.
     names: IndexSet<Name>,
-    /// Who provides each module, and at which position.
-    places: Vec<(Maker, usize)>,
-    /// What the modules and the objects need of one another, by number.
+    /// Who provides each module, and at which index among its maker's.
+    origins: Vec<(Maker, usize)>,
+    /// What the modules and the objects need of one another, by index.
     graph: Digraph,
     /// What each object requires, with the modules' files.
     required: Vec<Vec<(Name, Path)>>,
@@ -37,52 +38,52 @@ pub struct Table {
 
 impl Model for Table {
     ghost use Rattle.std.specs.Prelude.{◌≡◌, map};
-    ghost use Rattle.module_table.specs.TableValue.{TableValue};
+    ghost use Rattle.module_table.specs.TableValue.{TableValue, table_with};
     ghost use Rattle.module_table.specs.Sound.{IsSound};
     ghost use Rattle.module_table.specs.Modules.{provisions};
     ghost use Rattle.module_table.specs.Added.{required_of};
-    ghost use Rattle.module_table.specs.Shown.{names_of};
-    ghost use Rattle.module_table.specs.Located.{places_of};
-    ghost use Rattle.module_table.specs.Graph.{IsModuleGraph};
+    ghost use Rattle.module_table.specs.inner.Views.{names_of};
+    ghost use Rattle.module_table.specs.inner.Origins.{origins_of};
+    ghost use Rattle.module_table.specs.inner.Graph.{IsModuleGraph};
 
     ghost Value = { TableValue };
 
-    ghost view = { λ t. record { objects = t.objects.items; infos = t.infos.items } };
+    ghost view = { λ t. table_with t.objects.items t.infos.items };
 
-    ghost invariant = { λ t. IsSound (record { objects = t.objects.items; infos = t.infos.items })
-        × (map (λ row. row.items) t.required.items ≡ map (required_of (record { objects = t.objects.items; infos = t.infos.items })) t.objects.items)
-        × (t.names.keys ≡ names_of (provisions (record { objects = t.objects.items; infos = t.infos.items })))
-        × (t.places.items ≡ places_of (record { objects = t.objects.items; infos = t.infos.items }))
-        × IsModuleGraph (record { objects = t.objects.items; infos = t.infos.items }) t.graph };
+    ghost invariant = { λ t. IsSound (table_with t.objects.items t.infos.items)
+        × (map (λ row. row.items) t.required.items ≡ map (required_of (table_with t.objects.items t.infos.items)) t.objects.items)
+        × (t.names.keys ≡ names_of (provisions (table_with t.objects.items t.infos.items)))
+        × (t.origins.items ≡ origins_of (table_with t.objects.items t.infos.items))
+        × IsModuleGraph (table_with t.objects.items t.infos.items) t.graph };
 }
 
 impl Table {
-    /// The table of a target's objects and of the infos of the targets that it links, or the fault with the lowest
-    /// number. `kept` are the names of the modules that the target keeps to itself.
+    /// The table of a target's objects and of the infos of the targets that it links, or the fault
+    /// with the lowest code. `kept` are the names of the modules that are private to the target.
     pub fn build(
         alloc: Global,
         objects: Vec<Rule>,
         infos: Vec<Info>,
         kept: &[Name],
     ) -> Result<Table, Failure<TableFault>>
-        ensures table { IfOk result (λ table. table ≡ record { objects = objects.items; infos = infos.items }) }
+        ensures table { IfOk result (λ table. table ≡ table_with objects.items infos.items) }
         ensures sound { IfOk result IsSound }
         ensures kept { IfOk result (λ table. KeepsOwn table kept.now) }
         ensures no_fault { IfOk result (λ table. (fault : TableFault) → IsFault table kept.now fault → ⊥) }
-        ensures fault { IfErr result (ForFault (IsTold (record { objects = objects.items; infos = infos.items }) kept.now)) }
+        ensures fault { IfErr result (ForFault (IsTold (table_with objects.items infos.items) kept.now)) }
     {
         let index = check_all(alloc, objects.as_slice(), infos.as_slice(), kept)?;
         Ok(Table {
             objects,
             infos,
             names: index.names,
-            places: index.places,
+            origins: index.origins,
             graph: index.graph,
             required: index.required,
         })
     }
 
-    /// The objects, by number.
+    /// The objects, by index.
     pub fn objects(&self) -> &[Rule]
         ensures objects { result.now ≡ self.now.objects }
         ensures sound { IsSound self.now }
@@ -90,7 +91,7 @@ impl Table {
         self.objects.as_slice()
     }
 
-    /// The modules that an object provides, by position.
+    /// The modules that an object provides, by index.
     pub fn provided(&self, object: usize) -> &[(Name, Path)]
         requires { object < length self.now.objects }
         ensures { (rule : RuleValue) → slice_get self.now.objects object ≡ Some rule → result.now ≡ rule.provided }
@@ -111,11 +112,11 @@ impl Table {
         ensures found { IfSome result (λ found. IsProvidedBy self.now found.1 name.now found.0.now) }
         ensures none { IfNone result (IsUnknown self.now name.now) }
     {
-        match number_of(&self.names, name) {
-            Some(number) => {
-                let place = self.places[number];
-                let (_, file) = named_at(&self.objects, &self.infos, place);
-                Some((file, place.0))
+        match index_of(&self.names, name) {
+            Some(index) => {
+                let origin = self.origins[index];
+                let (_, file) = named_at(&self.objects, &self.infos, origin);
+                Some((file, origin.0))
             }
             None => None,
         }
@@ -143,7 +144,7 @@ impl Table {
             &self.graph,
             &self.objects,
             &self.infos,
-            &self.places,
+            &self.origins,
         )
     }
 }

@@ -3,7 +3,7 @@ use Rattle.std.specs.Prelude.{◌≡◌, ℕ, ◌<◌, List, length, slice_get, 
 use Rattle.std.specs.Borrow.{Bor}
 use Rattle.module_table.specs.Modules.{Provision}
 use Rattle.module_table.specs.Needed.{Precedes, lent}
-use Rattle.module_table.specs.Places.{pair_at}
+use Rattle.module_table.specs.inner.Indexed.{pair_at}
 
 -- the name and the file of a module, and its number
 abbrev pub Numbered : Type 0

@@ -4,15 +4,15 @@ use Rattle.std.specs.List.{AllZip}
 use Rattle.std.proofs.lemmas.List.{map-append}
 use Rattle.std.proofs.lemmas.Option.{slice_get-get_or}
 use Rattle.dep_order.specs.Rows.{rows}
-use Rattle.module_table.specs.Graph.{IsModuleRow}
+use Rattle.module_table.specs.inner.Graph.{IsModuleRow}
 use Rattle.module_table.specs.declared.fault.Maker.TheVariants.{Object}
 use Rattle.module_table.proofs.Zips.{zip_next}
 use Rattle.module_table.proofs.graph.modules_needs.Goals as goal
 
-pub loop-place-preserved : goal.loop-place-preserved
-loop-place-preserved c =
-    let places = c.args.places.now in
-    let i = c.loop-place.place-index in
-    let same = ap rows c.in_ok-push.ensures.items ∙ map-append (λ (row : Vec ℕ Global). row.items) c.loop-place.needs.items _ in
-    subst (AllZip (IsModuleRow c.args.names.now.keys c.args.infos.now) (take (i + 1) places)) (sym same)
-    (zip_next (IsModuleRow c.args.names.now.keys c.args.infos.now) places (rows c.loop-place.needs.items) i (get_or places i (Object 0, 0)) c.in_ok-row.row.items (slice_get-get_or places i (Object 0, 0) c.loop-place-test.true) c.loop-place.invariant c.in_ok-row.ensures)
+pub loop-origin-preserved : goal.loop-origin-preserved
+loop-origin-preserved c =
+    let origins = c.args.origins.now in
+    let i = c.loop-origin.origin-index in
+    let same = ap rows c.in_ok-push.ensures.items ∙ map-append (λ (row : Vec ℕ Global). row.items) c.loop-origin.needs.items _ in
+    subst (AllZip (IsModuleRow c.args.names.now.keys c.args.infos.now) (take (i + 1) origins)) (sym same)
+    (zip_next (IsModuleRow c.args.names.now.keys c.args.infos.now) origins (rows c.loop-origin.needs.items) i (get_or origins i (Object 0, 0)) c.in_ok-row.row.items (slice_get-get_or origins i (Object 0, 0) c.loop-origin-test.true) c.loop-origin.invariant c.in_ok-row.ensures)

@@ -1,14 +1,16 @@
-use Rattle.std.proofs.Common.{◌∙◌, ap, sym, map, subst, Some}
-use Rattle.module_table.specs.Repetition.{AllDiffer}
-use Rattle.module_table.specs.Shown.{shown}
-use Rattle.module_table.proofs.Mentions.{pair_found, pair_missing}
+use Rattle.std.proofs.Common.{◌∙◌, ap, List, ℕ, Option, Some}
+use Rattle.std.specs.Option.{option_map}
+use Rattle.module_table.specs.Modules.{Provision}
 use Rattle.module_table.proofs.pairs.pair_for.Goals as goal
+
+-- the pair of what is found
+abbrev pair_with : List ℕ → Option Provision → Option (List ℕ × List ℕ)
+pair_with name p = option_map (λ file. (name, file)) (option_map (λ q. q.file) p)
 
 pub returns-in_ok-file-in-Some : goal.returns-in_ok-file-in-Some
 returns-in_ok-file-in-Some c =
-    let f = c.in-Some.ensures.found in
     ap (λ n. Some (n, c.in_ok-file-in-Some.file)) c.in_ok-name-in-Some.ensures ∙ ap (λ x. Some (c.args.name.now, x)) c.in_ok-file-in-Some.ensures
-    ∙ sym (pair_found (map shown c.args.provided.now) c.args.name.now (subst AllDiffer c.requires.keys c.requires.differ) f.0 (shown c.in-Some.found.now) f.1)
+    ∙ ap (pair_with c.args.name.now) c.in-Some.ensures
 
 pub returns-in-None : goal.returns-in-None
-returns-in-None c = sym (pair_missing (map shown c.args.provided.now) c.args.name.now c.in-None.ensures.none)
+returns-in-None c = ap (pair_with c.args.name.now) c.in-None.ensures

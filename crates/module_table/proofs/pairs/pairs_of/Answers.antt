@@ -2,7 +2,7 @@ use Rattle.std.proofs.Common.{◌∙◌, ap, sym, map, refl, List, ℕ, Bor, ◌
 use Rattle.std.specs.List.{filter_map}
 use Rattle.std.proofs.lemmas.Option.{slice_get_read}
 use Rattle.module_table.specs.Added.{pair_of}
-use Rattle.module_table.specs.Shown.{shown}
+use Rattle.module_table.specs.Modules.{provisions}
 use Rattle.module_table.proofs.Places.{to_map}
 use Rattle.module_table.proofs.Repetitions.{map_take}
 use Rattle.module_table.proofs.Rings.{takes_some, takes_none}
@@ -14,7 +14,7 @@ name_of name = name.now
 
 pub loop-name-preserved : goal.loop-name-preserved
 loop-name-preserved c =
-    let h = pair_of (map shown c.args.provided.now) in
+    let h = pair_of (provisions c.args.modules.now) in
     let xs = c.deref-name-items.result.now in
     let i = c.loop-name.name-index in
     let at = to_map name_of xs i c.name-item.result (slice_get_read xs _ i c.name-item.result refl c.loop-name-test.true c.name-item.is) in

@@ -7,7 +7,7 @@ use Rattle.dep_order.specs.Needs.{NodeNeeds, AreReached}
 use Rattle.module_table.specs.TableValue.{TableValue}
 use Rattle.module_table.specs.Modules.{provisions}
 use Rattle.module_table.specs.Needed.{ArePairs, IsNeeded, lent}
-use Rattle.module_table.specs.Located.{places_of}
+use Rattle.module_table.specs.inner.Origins.{origins_of}
 use Rattle.module_table.proofs.Zips.{zip_length}
 use Rattle.module_table.proofs.ModulePlaces.{IsPlaceOf, module_places}
 use Rattle.module_table.proofs.GraphParts.{node_within}
@@ -19,7 +19,7 @@ from-requires c =
     let t = c.self.inside.table.now in
     let within : c.args.object < length t.objects = subst (λ (t : TableValue). c.args.object < length t.objects) (sym c.self.view_is) c.requires in
     let node = node_within t c.self.inside.reaching c.self.invariant.1 c.args.object within in
-    let long = zip_length (IsPlaceOf t) (provisions t) (places_of t) (module_places t) in
+    let long = zip_length (IsPlaceOf t) (provisions t) (origins_of t) (module_places t) in
     omega (arith, node, long, c.self.invariant.2.as_many, c.len.ensures, c.self.inside.ranks.ok.0)
 
 pub pairs_at-requires : goal.pairs_at-requires

@@ -3,44 +3,44 @@ use Rattle.std.proofs.lemmas.Option.{slice_get_read}
 use Rattle.module_table.specs.TableValue.{TableValue}
 use Rattle.module_table.specs.Modules.{IsProvidedBy}
 use Rattle.module_table.specs.Faults.{IsUnknown}
-use Rattle.module_table.specs.Shown.{IsAbsent}
-use Rattle.module_table.proofs.Checks.{absent_unknown}
+use Rattle.module_table.specs.inner.Views.{IsAbsent}
+use Rattle.module_table.proofs.ReportLemmas.{absent_unknown}
 use Rattle.module_table.proofs.ModulePlaces.{within_places, found_there, provided_there, same_place}
 use Rattle.module_table.proofs.table.Table.lookup.Goals as goal
 
-pub index-place-requires : goal.index-place-requires
-index-place-requires c =
+pub index-origin-requires : goal.index-origin-requires
+index-origin-requires c =
     let t : TableValue = record { objects = c.self.inside.objects.items; infos = c.self.inside.infos.items } in
-    let within = within_places t c.self.inside.names.keys c.self.inside.places.items c.self.invariant.2 c.self.invariant.3 c.in-Some.number c.args.name.now c.in-Some.ensures.found in
-    omega (arith, c.self.inside.places.ok.0)
+    let within = within_places t c.self.inside.names.keys c.self.inside.origins.items c.self.invariant.2 c.self.invariant.3 c.in-Some.index c.args.name.now c.in-Some.ensures.found in
+    omega (arith, c.self.inside.origins.ok.0)
 
 pub named_at-requires : goal.named_at-requires
 named_at-requires c =
     let t : TableValue = record { objects = c.self.inside.objects.items; infos = c.self.inside.infos.items } in
     let names = c.self.inside.names.keys in
-    let places = c.self.inside.places.items in
-    let number = c.in-Some.number in
+    let origins = c.self.inside.origins.items in
+    let index = c.in-Some.index in
     let name = c.args.name.now in
-    let place = c.index-place.result.now in
-    let within = within_places t names places c.self.invariant.2 c.self.invariant.3 number name c.in-Some.ensures.found in
-    let here = slice_get_read places _ number place refl within c.index-place.ensures in
-    let found = found_there t names places c.self.invariant.2 c.self.invariant.3 number name c.in-Some.ensures.found place here in
-    (name, found.0, same_place t.objects c.deref.result.now t.infos c.deref-in-Some.result.now place (name, found.0) (sym c.deref.ensures.value) (sym c.deref-in-Some.ensures.value) found.1)
+    let origin = c.index-origin.result.now in
+    let within = within_places t names origins c.self.invariant.2 c.self.invariant.3 index name c.in-Some.ensures.found in
+    let here = slice_get_read origins _ index origin refl within c.index-origin.ensures in
+    let found = found_there t names origins c.self.invariant.2 c.self.invariant.3 index name c.in-Some.ensures.found origin here in
+    (name, found.0, same_place t.objects c.deref.result.now t.infos c.deref-in-Some.result.now origin (name, found.0) (sym c.deref.ensures.value) (sym c.deref-in-Some.ensures.value) found.1)
 
 pub returns-in-Some-clause-found : goal.returns-in-Some-clause-found
 returns-in-Some-clause-found c =
     let t : TableValue = record { objects = c.self.inside.objects.items; infos = c.self.inside.infos.items } in
     let names = c.self.inside.names.keys in
-    let places = c.self.inside.places.items in
-    let number = c.in-Some.number in
+    let origins = c.self.inside.origins.items in
+    let index = c.in-Some.index in
     let name = c.args.name.now in
-    let place = c.index-place.result.now in
-    let within = within_places t names places c.self.invariant.2 c.self.invariant.3 number name c.in-Some.ensures.found in
-    let here = slice_get_read places _ number place refl within c.index-place.ensures in
+    let origin = c.index-origin.result.now in
+    let within = within_places t names origins c.self.invariant.2 c.self.invariant.3 index name c.in-Some.ensures.found in
+    let here = slice_get_read origins _ index origin refl within c.index-origin.ensures in
     let pair : List ℕ × List ℕ = (c.named_at.result.0.now, c.named_at.result.1.now) in
-    let named = same_place c.deref.result.now t.objects c.deref-in-Some.result.now t.infos place pair c.deref.ensures.value c.deref-in-Some.ensures.value c.named_at.ensures in
-    subst (λ (s : TableValue). IsProvidedBy s place.0 name c.named_at.result.1.now) c.self.view_is
-    (provided_there t names places c.self.invariant.2 c.self.invariant.3 number name c.in-Some.ensures.found place here pair named)
+    let named = same_place c.deref.result.now t.objects c.deref-in-Some.result.now t.infos origin pair c.deref.ensures.value c.deref-in-Some.ensures.value c.named_at.ensures in
+    subst (λ (s : TableValue). IsProvidedBy s origin.0 name c.named_at.result.1.now) c.self.view_is
+    (provided_there t names origins c.self.invariant.2 c.self.invariant.3 index name c.in-Some.ensures.found origin here pair named)
 
 pub returns-in-None-clause-none : goal.returns-in-None-clause-none
 returns-in-None-clause-none c =

@@ -1,9 +1,9 @@
-use Rattle.std.proofs.Common.{◌≡◌, ◌∙◌, ap, sym, subst}
+use Rattle.std.proofs.Common.{◌∙◌, ap, sym, subst}
 use Rattle.module_table.specs.TableValue.{TableValue}
 use Rattle.module_table.specs.Sound.{IsSound}
-use Rattle.module_table.specs.Located.{places_of}
-use Rattle.module_table.specs.Graph.{IsModuleGraph}
-use Rattle.module_table.proofs.Soundness.{same_table}
+use Rattle.module_table.specs.inner.Origins.{origins_of}
+use Rattle.module_table.specs.inner.Graph.{IsModuleGraph}
+use Rattle.module_table.proofs.IndexRows.{same_table}
 use Rattle.module_table.proofs.table.Table.needs.Goals as goal
 
 pub new-requires-clause-table : goal.new-requires-clause-table
@@ -15,5 +15,5 @@ new-requires-clause-sound c = subst IsSound (sym (same_table _ _ _ _ c.deref.ens
 pub new-requires-clause-graph : goal.new-requires-clause-graph
 new-requires-clause-graph c = subst (λ (t : TableValue). IsModuleGraph t c.self.inside.graph) (sym (same_table _ _ _ _ c.deref.ensures.value c.deref-2.ensures.value)) c.self.invariant.4
 
-pub new-requires-clause-places : goal.new-requires-clause-places
-new-requires-clause-places c = c.deref-3.ensures.value ∙ c.self.invariant.3 ∙ ap places_of (sym (same_table _ _ _ _ c.deref.ensures.value c.deref-2.ensures.value))
+pub new-requires-clause-origins : goal.new-requires-clause-origins
+new-requires-clause-origins c = c.deref-3.ensures.value ∙ c.self.invariant.3 ∙ ap origins_of (sym (same_table _ _ _ _ c.deref.ensures.value c.deref-2.ensures.value))

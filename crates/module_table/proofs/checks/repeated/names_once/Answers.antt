@@ -1,0 +1,36 @@
+use Rattle.std.proofs.Common.{◌≡◌, ◌∙◌, ap, sym, subst, refl, map, List, ℕ, Some, slice_get}
+use Rattle.std.proofs.lemmas.Option.{slice_get_read}
+use Rattle.module_table.specs.inner.Views.{provision_of, names_of}
+use Rattle.module_table.specs.Modules.{Provision}
+use Rattle.module_table.specs.inner.Repetition.{RepeatsFirst}
+use Rattle.module_table.specs.declared.modules.Module.{Module}
+use Rattle.module_table.proofs.Places.{to_map}
+use Rattle.module_table.proofs.Repetitions.{repeats_if_found, keys_if_new, differ_if_new, map_same}
+use Rattle.module_table.proofs.ReportLemmas.{tells_provided_twice}
+use Rattle.module_table.proofs.checks.repeated.names_once.Goals as goal
+
+abbrev name_of : Provision → List ℕ
+name_of p = p.name
+
+-- the name at the place, in the list of names
+name_at : (provided : List Module) (place : ℕ) (p : Module) → slice_get provided place ≡ Some p → (name : List ℕ) → name ≡ p.name.now → slice_get (names_of (map provision_of provided)) place ≡ Some name
+name_at provided place p at name same = to_map name_of (map provision_of provided) place (provision_of p) (to_map provision_of provided place p at) ∙ ap (λ n. Some n) (sym same)
+
+pub returns-then-not-is_new-clause-fault : goal.returns-then-not-is_new-clause-fault
+returns-then-not-is_new-clause-fault c = λ t kept same.
+    let list = map provision_of c.args.provided.now in
+    let at = name_at c.args.provided.now c.loop-index.index c.index-provided-index.result (slice_get_read c.args.provided.now _ c.loop-index.index c.index-provided-index.result refl c.loop-index-test.true c.index-provided-index.is) c.in_ok-name.name c.in_ok-name.ensures in
+    let h = c.in_ok-first.ensures in
+    let stored = h.stored in
+    let repeated = repeats_if_found (λ n. n) (names_of list) c.loop-index.index c.in_ok-name.name c.loop-index.names.keys c.insert_full.new.self.keys at c.loop-index.invariant.same c.loop-index.invariant.differ h.keys c.in_ok-first.first (sym c.if-not-is_new.true ∙ h.added) stored.0 stored.1 stored.2 in
+    tells_provided_twice t kept c.in_ok-first.first c.loop-index.index c.in_ok-provided_twice.field-0 list same (subst (λ xs. RepeatsFirst xs c.in_ok-first.first c.loop-index.index) (map_same (names_of list)) repeated) c.in_ok-provided_twice.ensures
+
+pub loop-index-preserved : goal.loop-index-preserved
+loop-index-preserved c =
+    let list = map provision_of c.args.provided.now in
+    let at = name_at c.args.provided.now c.loop-index.index c.index-provided-index.result (slice_get_read c.args.provided.now _ c.loop-index.index c.index-provided-index.result refl c.loop-index-test.true c.index-provided-index.is) c.in_ok-name.name c.in_ok-name.ensures in
+    let h = c.in_ok-first.ensures in
+    record {
+      same = keys_if_new (λ n. n) (names_of list) c.loop-index.index c.in_ok-name.name c.loop-index.names.keys c.insert_full.new.self.keys at c.loop-index.invariant.same c.loop-index.invariant.differ h.keys (sym c.if-not-is_new.false ∙ h.added);
+      differ = differ_if_new (λ n. n) (names_of list) c.loop-index.index c.in_ok-name.name c.loop-index.names.keys c.insert_full.new.self.keys at c.loop-index.invariant.same c.loop-index.invariant.differ h.keys (sym c.if-not-is_new.false ∙ h.added);
+    }

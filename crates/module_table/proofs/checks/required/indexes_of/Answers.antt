@@ -1,0 +1,24 @@
+use Rattle.std.proofs.Common.{◌≡◌, ◌∙◌, ap, sym, refl, take, slice_get}
+use Rattle.std.proofs.lemmas.Option.{slice_get_read}
+use Rattle.scan_docs.specs.Scan.{RuleValue}
+use Rattle.module_table.specs.declared.fault.TableFault.TheVariants.{ModuleUnknown}
+use Rattle.module_table.proofs.Repetitions.{in_take}
+use Rattle.module_table.proofs.ReportLemmas.{in_row}
+use Rattle.module_table.proofs.checks.required.indexes_of.Goals as goal
+
+pub returns-in-None-clause-fault : goal.returns-in-None-clause-fault
+returns-in-None-clause-fault c =
+    let i = c.loop-required.required-index in
+    let list : c.deref-required-items.result.now ≡ c.args.rule.now.required = c.deref-required-items.ensures.value ∙ ap (λ (r : RuleValue). r.required) c.rule.view_is in
+    let at = ap (λ xs. slice_get xs i) (sym list) ∙ slice_get_read c.deref-required-items.result.now _ i c.required-item.result refl c.loop-required-test.true c.required-item.is in (
+      i,
+      c.required-item.result,
+      record {
+        here = at;
+        holds = c.in-None.ensures.none;
+        before = λ k y lt at_k absent.
+            let r = in_row c.args.names.now.keys c.loop-required.row.items (take i c.args.rule.now.required) k y c.loop-required.invariant (in_take i c.args.rule.now.required k y lt at_k) in
+            absent r.0 r.2;
+      },
+      ap (λ name. ModuleUnknown name c.args.object) c.in_ok-name-in-None.ensures,
+    )

@@ -1,0 +1,25 @@
+use Rattle.std.proofs.Common.{◌≡◌, ◌∙◌, ap, subst, sym, slice_get, map, Some, None}
+use Rattle.module_table.specs.TableValue.{TableValue}
+use Rattle.module_table.specs.inner.Finds.{found}
+use Rattle.module_table.specs.Modules.{Provision, provisions}
+use Rattle.module_table.specs.inner.Views.{provision_of, IsAbsent}
+use Rattle.module_table.proofs.Places.{to_map, same_some}
+use Rattle.module_table.proofs.Found.{named_found, absent_found}
+use Rattle.module_table.proofs.modules.Modules.find.Goals as goal
+
+pub returns-in-Some : goal.returns-in-Some
+returns-in-Some c =
+    let t : TableValue = record { objects = c.self.inside.objects.now; infos = c.self.inside.infos.now } in
+    let ps = provisions t in
+    let k = c.in-Some.index in
+    let at = ap (λ xs. slice_get xs k) (sym (ap (map provision_of) c.as_slice.ensures.value ∙ c.self.invariant.0)) ∙ to_map provision_of c.as_slice.result.now k _ c.module_at.ensures in
+    let named = to_map (λ (p : Provision). p.name) ps k _ at in
+    let named_so = same_some _ _ (sym named ∙ ap (λ ks. slice_get ks k) (sym c.self.invariant.2) ∙ c.in-Some.ensures.found) in
+    subst (λ (u : TableValue). Some (provision_of c.module_at.result.now) ≡ found (provisions u) c.args.name.now) c.self.view_is
+    (sym (named_found ps c.args.name.now c.self.invariant.3 k _ (at, named_so)))
+
+pub returns-in-None : goal.returns-in-None
+returns-in-None c =
+    let t : TableValue = record { objects = c.self.inside.objects.now; infos = c.self.inside.infos.now } in
+    subst (λ (u : TableValue). None ≡ found (provisions u) c.args.name.now) c.self.view_is
+    (sym (absent_found (provisions t) c.args.name.now (subst (λ keys. IsAbsent keys c.args.name.now) c.self.invariant.2 c.in-None.ensures.none)))

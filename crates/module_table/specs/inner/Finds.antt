@@ -1,0 +1,127 @@
+-- What the checks ask of the modules that they find by name, and which element of a list is the first
+-- that is refused.
+use Rattle.std.specs.Prelude.{◌≡◌, ◌≢◌, ℕ, ◌<◌, Bool, true, false, not, ◌||◌, List, slice_get, find, bytes_eq, nat_eq, Option, Some, None}
+use Rattle.scan_docs.specs.Scan.{RuleValue}
+use Rattle.module_table.specs.Modules.{Provision, InfoRequirement}
+use Rattle.module_table.specs.declared.fault.Maker.{Maker}
+use Rattle.module_table.specs.declared.fault.Maker.TheVariants.{Object, Info}
+
+-- the module of that name, if there is one
+abbrev pub found : List Provision → List ℕ → Option Provision
+found modules name = find (λ p. bytes_eq name p.name) modules
+
+-- ---- as functions
+
+abbrev pub is_info : Maker → Bool
+is_info (Object object) = false
+is_info (Info info) = true
+
+abbrev pub is_object : Maker → Bool
+is_object (Object object) = true
+is_object (Info info) = false
+
+abbrev pub is_info_at : Maker → ℕ → Bool
+is_info_at (Object object) index = false
+is_info_at (Info info) index = nat_eq info index
+
+-- a module is found, and the test holds of it
+abbrev pub some_and : (Provision → Bool) → Option Provision → Bool
+some_and test None = false
+some_and test (Some p) = test p
+
+-- no module is found, or the test holds of it
+abbrev pub none_or : (Provision → Bool) → Option Provision → Bool
+none_or test None = true
+none_or test (Some p) = test p
+
+-- an info provides what is required
+abbrev pub is_by_info : List Provision → InfoRequirement → Bool
+is_by_info modules r = some_and (λ p. is_info p.maker) (found modules r.name)
+
+-- the module of that name has the file that the requirement says
+abbrev pub agrees : List Provision → InfoRequirement → Bool
+agrees modules r = none_or (λ p. bytes_eq p.file r.file) (found modules r.name)
+
+-- the module of that name is private to no other info
+abbrev pub is_allowed : List Provision → InfoRequirement → Bool
+is_allowed modules r = none_or (λ p. not p.is_private || is_info_at p.maker r.info) (found modules r.name)
+
+-- the module of that name is private to no info
+abbrev pub is_public : List Provision → List ℕ → Bool
+is_public modules name = none_or (λ p. not p.is_private) (found modules name)
+
+-- an object provides the name
+abbrev pub is_by_object : List Provision → List ℕ → Bool
+is_by_object modules name = some_and (λ p. is_object p.maker) (found modules name)
+
+-- ---- as relations
+
+-- this module of the list has the name
+abbrev pub IsNamed : List Provision → List ℕ → ℕ → Provision → Type 0
+IsNamed modules name k p = (slice_get modules k ≡ Some p) × (p.name ≡ name)
+
+abbrev pub IsByInfo : List Provision → InfoRequirement → Type 0
+IsByInfo modules r =
+    (k : ℕ) × (p : Provision) × (info : ℕ) × IsNamed modules r.name k p × (p.maker ≡ Info info)
+
+abbrev pub IsNotByInfo : List Provision → InfoRequirement → Type 0
+IsNotByInfo modules r = IsByInfo modules r → ⊥
+
+abbrev pub Agrees : List Provision → InfoRequirement → Type 0
+Agrees modules r = (k : ℕ) (p : Provision) → IsNamed modules r.name k p → p.file ≡ r.file
+
+abbrev pub Differs : List Provision → InfoRequirement → Type 0
+Differs modules r = (k : ℕ) × (p : Provision) × IsNamed modules r.name k p × (p.file ≢ r.file)
+
+abbrev pub IsAllowed : List Provision → InfoRequirement → Type 0
+IsAllowed modules r =
+    (k : ℕ) (p : Provision) → IsNamed modules r.name k p → p.is_private ≡ true → p.maker ≡ Info r.info
+
+abbrev pub IsNotAllowed : List Provision → InfoRequirement → Type 0
+IsNotAllowed modules r =
+    (k : ℕ) × (p : Provision) × IsNamed modules r.name k p × (p.is_private ≡ true) × (p.maker ≢ Info r.info)
+
+abbrev pub IsPublic : List Provision → List ℕ → Type 0
+IsPublic modules name = (k : ℕ) (p : Provision) → IsNamed modules name k p → p.is_private ≡ false
+
+abbrev pub IsPrivate : List Provision → List ℕ → Type 0
+IsPrivate modules name = (k : ℕ) × (p : Provision) × IsNamed modules name k p × (p.is_private ≡ true)
+
+abbrev pub IsByObject : List Provision → List ℕ → Type 0
+IsByObject modules name =
+    (k : ℕ) × (p : Provision) × (object : ℕ) × IsNamed modules name k p × (p.maker ≡ Object object)
+
+abbrev pub IsNotByObject : List Provision → List ℕ → Type 0
+IsNotByObject modules name = IsByObject modules name → ⊥
+
+-- only infos have private modules
+abbrev pub ArePrivateByInfos : List Provision → Type 0
+ArePrivateByInfos modules =
+    (k : ℕ) (p : Provision) → slice_get modules k ≡ Some p → p.is_private ≡ true → (info : ℕ) × (p.maker ≡ Info info)
+
+-- the module of that name is private to this info
+abbrev pub IsPrivateTo : List Provision → List ℕ → ℕ → Type 0
+IsPrivateTo modules name info =
+    (k : ℕ) × (p : Provision) × IsNamed modules name k p × (p.is_private ≡ true) × (p.maker ≡ Info info)
+
+-- ---- in a list
+
+-- the first element that is refused, behind accepted ones
+pub record RefusesAt {X : Type 0} (Accepted Refused : X → Type 0) (xs : List X) (index : ℕ) : Type 0 where
+  pub x : X
+  pub here : slice_get xs index ≡ Some x
+  pub refused : Refused x
+  pub accepted : (k : ℕ) (y : X) → k < index → slice_get xs k ≡ Some y → Accepted y
+
+-- all elements are accepted
+pub record AcceptsAll {X : Type 0} (Accepted : X → Type 0) (xs : List X) : Type 0 where
+  pub each : (k : ℕ) (y : X) → slice_get xs k ≡ Some y → Accepted y
+
+-- the index of the first element that is refused, or none
+abbrev pub FindsRefused : {X : Type 0} → (X → Type 0) → (X → Type 0) → List X → Option ℕ → Type 0
+FindsRefused Accepted Refused xs None = AcceptsAll Accepted xs
+FindsRefused Accepted Refused xs (Some index) = RefusesAt Accepted Refused xs index
+
+-- a rule requires no name of a private module
+abbrev pub RequiresPublic : List Provision → RuleValue → Type 0
+RequiresPublic modules rule = AcceptsAll (IsPublic modules) rule.required

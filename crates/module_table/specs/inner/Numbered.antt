@@ -1,0 +1,29 @@
+-- For private clauses: requirements by the numbers of names.
+use Rattle.std.specs.Prelude.{◌≡◌, ℕ, List, map, slice_get, Option, Some, None, option_and_then}
+use Rattle.module_table.specs.TableValue.{TableValue}
+use Rattle.module_table.specs.Modules.{Provision, provisions}
+use Rattle.module_table.specs.inner.Repetition.{AllDiffer}
+use Rattle.module_table.specs.inner.Views.{names_of}
+use Rattle.module_table.specs.declared.fault.Maker.{Maker}
+use Rattle.module_table.specs.declared.fault.Maker.TheVariants.{Object, Info}
+
+-- each object's row has the indexes of the modules whose names it requires
+abbrev pub AreIndexes : TableValue → List (List ℕ) → Type 0
+AreIndexes t rows =
+    map (λ row. map (slice_get (names_of (provisions t))) row) rows
+    ≡ map (λ rule. map (λ name. Some name) rule.required) t.objects
+
+-- each object's row has the numbers of the names that it requires, a name's number being its module's place
+pub record IsNumbered (t : TableValue) (provided : List Provision) (rows : List (List ℕ)) : Type 0 where
+  pub all_provided : provided ≡ provisions t
+  pub differ : AllDiffer (names_of provided)
+  pub numbers : map (λ row. map (slice_get (names_of provided)) row) rows ≡ map (λ rule. map (λ name. Some name) rule.required) t.objects
+
+-- the object, where the maker is one
+abbrev pub object_of : Maker → Option ℕ
+object_of (Object object) = Some object
+object_of (Info info) = None
+
+-- the object that makes the module of that number
+abbrev pub maker_at : List Provision → ℕ → Option ℕ
+maker_at provided number = option_and_then (λ p. object_of p.maker) (slice_get provided number)

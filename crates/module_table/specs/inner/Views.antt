@@ -1,0 +1,37 @@
+-- What the values that the code borrows stand for.
+use Rattle.std.specs.Prelude.{◌≡◌, ℕ, List, map, slice_get, Some}
+use Rattle.scan_docs.specs.Scan.{RuleValue}
+use Rattle.module_table.specs.Modules.{Provision, InfoRequirement}
+use Rattle.module_table.specs.Faults.{Claim, claims_of}
+use Rattle.module_table.specs.declared.modules.Module.{Module}
+use Rattle.module_table.specs.declared.requirements.InfoRequired.{InfoRequired}
+use Rattle.module_table.specs.declared.fault.TableFault.{TableFault}
+use Rattle.module_table.specs.declared.fault.TableFault.TheVariants.{ProvidedTwice, BmiTwice}
+
+-- a provided module, as a contract sees it
+abbrev pub provision_of : Module → Provision
+provision_of p = record { maker = p.maker; name = p.name.now; file = p.file.now; is_private = p.is_private }
+
+-- a requirement of an info's module, as a contract sees it
+abbrev pub requirement_of : InfoRequired → InfoRequirement
+requirement_of r = record { info = r.info; target = r.target.now; module_name = r.module_name.now; name = r.name.now; file = r.file.now }
+
+abbrev pub names_of : List Provision → List (List ℕ)
+names_of provided = map (λ p. p.name) provided
+
+abbrev pub files_of : List Provision → List (List ℕ)
+files_of provided = map (λ p. p.file) provided
+
+-- the fault tells that these two provide one name
+abbrev pub IsProvidedTwice : List Provision → ℕ → ℕ → TableFault → Type 0
+IsProvidedTwice provided i j fault = (a : Provision) × (b : Provision) × (slice_get provided i ≡ Some a) × (slice_get provided j ≡ Some b)
+    × (fault ≡ ProvidedTwice b.name a.maker b.maker)
+
+-- the fault tells that the files at these places are one: of objects' own paths, and then of modules
+abbrev pub IsMadeTwice : List RuleValue → List Provision → ℕ → ℕ → TableFault → Type 0
+IsMadeTwice objects provided i j fault = (a : Claim) × (b : Claim) × (slice_get (claims_of objects provided) i ≡ Some a) × (slice_get (claims_of objects provided) j ≡ Some b)
+    × (fault ≡ BmiTwice b.file a.maker b.maker)
+
+-- no key is the name
+abbrev pub IsAbsent : List (List ℕ) → List ℕ → Type 0
+IsAbsent keys name = (number : ℕ) → slice_get keys number ≡ Some name → ⊥

@@ -1,0 +1,136 @@
+//! All checks of a table in the order of their codes, and what a table keeps for look-ups once they
+//! have passed: M1 to M4 are in `repeated.rt`, M5 to M7 in `required.rt`, M8 in `rings.rt`, M9 and M10
+//! in `privacy.rt`.
+ghost use Rattle.std.specs.Prelude.{◌≡◌, ℕ, List, map, IfOk, IfErr, OnOk};
+ghost use Rattle.ninja_text.specs.Failure.{ForFault};
+ghost use Rattle.dep_order.specs.Rows.{rows};
+ghost use Rattle.module_table.specs.TableValue.{table_with};
+ghost use Rattle.module_table.specs.Modules.{provisions};
+ghost use Rattle.module_table.specs.Added.{required_of};
+ghost use Rattle.module_table.specs.Faults.{IsTold};
+ghost use Rattle.module_table.specs.Outcomes.{HasNoFault};
+ghost use Rattle.module_table.specs.inner.Views.{names_of};
+ghost use Rattle.module_table.specs.inner.Origins.{origins_of, origin_of};
+ghost use Rattle.module_table.specs.inner.Passed.{Passed};
+ghost use Rattle.module_table.specs.inner.Numbered.{AreIndexes};
+ghost use Rattle.module_table.specs.inner.Graph.{IsModuleGraph};
+
+use crate::fault::{Maker, TableFault};
+use crate::graph::module_graph;
+use crate::modules::{Module, Modules};
+use crate::pairs::all_pairs;
+use crate::requirements::all_required;
+use dep_order::Digraph;
+use indexmap::IndexSet;
+use ninja_text::{Failure, Path};
+use privacy::{check_infos_allowed, check_kept, check_objects_allowed};
+use repeated::{check_files, check_infos, check_names, check_objects};
+use required::{check_infos_agree, check_infos_known, check_objects_known};
+use rings::check_rings;
+use scan_docs::{Info, Name, Rule};
+use std::alloc::{AllocError, Global};
+
+mod privacy;
+mod repeated;
+mod required;
+mod rings;
+
+/// What a table keeps beside its objects and infos, so that no look-up searches them.
+#[derive(Drop)]
+pub(crate) struct Index {
+    /// The names of all provided modules. A name's index is that of its module.
+    pub names: IndexSet<Name>,
+    /// Who provides each module, and at which index among its maker's.
+    pub origins: Vec<(Maker, usize)>,
+    /// What the modules and the objects need of one another, by index.
+    pub graph: Digraph,
+    /// What each object requires, with the modules' files.
+    pub required: Vec<Vec<(Name, Path)>>,
+}
+
+/// All checks, from the lowest code to the highest.
+pub(crate) fn check_all(
+    alloc: Global,
+    objects: &[Rule],
+    infos: &[Info],
+    kept: &[Name],
+) -> Result<Index, Failure<TableFault>>
+    ensures no_fault { OnOk result
+        (HasNoFault (table_with objects.now infos.now) kept.now) }
+    ensures names { IfOk result (λ index. index.names.keys
+        ≡ names_of (provisions (table_with objects.now infos.now))) }
+    ensures origins { IfOk result (λ index. index.origins.items
+        ≡ origins_of (table_with objects.now infos.now)) }
+    ensures graph { IfOk result (λ index.
+        IsModuleGraph (table_with objects.now infos.now) index.graph) }
+    ensures required { IfOk result (λ index. map (λ row. row.items) index.required.items
+        ≡ map (required_of (table_with objects.now infos.now)) objects.now) }
+    ensures fault { IfErr result (ForFault
+        (IsTold (table_with objects.now infos.now) kept.now)) }
+{
+    let modules = check_repetitions(alloc, objects, infos)?;
+    let rows = check_requirements(alloc, &modules, kept)?;
+    let origins = all_origins(alloc, modules.provided())?;
+    let graph = module_graph(alloc, &modules, origins.as_slice(), rows)?;
+    let required = all_pairs(alloc, &modules)?;
+    Ok(Index {
+        names: modules.into_names(),
+        origins,
+        graph,
+        required,
+    })
+}
+
+/// M1 to M4, and the modules by index.
+fn check_repetitions<'t>(
+    alloc: Global,
+    objects: &'t [Rule],
+    infos: &'t [Info],
+) -> Result<Modules<'t>, Failure<TableFault>>
+    ensures modules { IfOk result
+        (λ modules. modules ≡ table_with objects.now infos.now) }
+    ensures passed { OnOk result ((kept : List (List ℕ)) →
+        Passed 5 (table_with objects.now infos.now) kept) }
+    ensures fault { IfErr result (ForFault (λ fault. (kept : List (List ℕ)) →
+        IsTold (table_with objects.now infos.now) kept fault)) }
+{
+    check_objects(alloc, objects)?;
+    check_infos(alloc, infos)?;
+    let modules = check_names(alloc, objects, infos)?;
+    check_files(alloc, &modules)?;
+    Ok(modules)
+}
+
+/// M5 to M10, and the indexes of the modules that each object requires.
+fn check_requirements(
+    alloc: Global,
+    modules: &Modules,
+    kept: &[Name],
+) -> Result<Vec<Vec<usize>>, Failure<TableFault>>
+    requires { Passed 5 modules.now kept.now }
+    ensures indexes { IfOk result (λ required. AreIndexes modules.now (rows required.items)) }
+    ensures passed { OnOk result (Passed 11 modules.now kept.now) }
+    ensures fault { IfErr result (ForFault (IsTold modules.now kept.now)) }
+{
+    let rows = check_objects_known(alloc, modules)?;
+    let all = all_required(alloc, modules.infos())?;
+    let required = all.as_slice();
+    check_infos_known(alloc, modules, required)?;
+    check_infos_agree(alloc, modules, required)?;
+    check_rings(alloc, modules, rows.as_slice())?;
+    check_objects_allowed(alloc, modules)?;
+    check_infos_allowed(alloc, modules, required)?;
+    check_kept(alloc, modules, kept)?;
+    Ok(rows)
+}
+
+/// Who provides each module, and at which index among its maker's.
+fn all_origins(alloc: Global, provided: &[Module]) -> Result<Vec<(Maker, usize)>, AllocError>
+    ensures { IfOk result (λ origins. origins.items ≡ map origin_of provided.now) }
+{
+    let mut origins = Vec::new(alloc);
+    for module in provided {
+        origins.push((module.maker, module.index))?;
+    }
+    Ok(origins)
+}

@@ -1,0 +1,187 @@
+//! M9 and M10: who requires a module that is private to an info's target, and which modules of the
+//! target are to be private.
+ghost use Rattle.std.specs.Prelude.{◌≡◌, ◌<◌, ℕ, List, length, map, slice_get, Some, position, not, IfOk, IfErr, OnOk};
+ghost use Rattle.ninja_text.specs.Failure.{ForFault};
+ghost use Rattle.module_table.specs.Modules.{provisions, info_requirements};
+ghost use Rattle.module_table.specs.inner.Views.{requirement_of};
+ghost use Rattle.module_table.specs.inner.Finds.{is_allowed, is_public, is_by_object, is_info_at, IsPrivate, IsAllowed, IsByObject, IsPrivateTo, RequiresPublic, AcceptsAll};
+ghost use Rattle.module_table.specs.inner.Reported.{Reports};
+ghost use Rattle.module_table.specs.declared.fault.TableFault.TheVariants.{ModulePrivate};
+
+use crate::fault::{Maker, TableFault};
+use crate::modules::Modules;
+use crate::requirements::{InfoRequired, required_at};
+use ninja_text::Failure;
+use scan_docs::Name;
+use std::alloc::{AllocError, Global};
+
+/// M9: no object requires a module that is private to an info.
+pub(crate) fn check_objects_allowed(
+    alloc: Global,
+    modules: &Modules,
+) -> Result<(), Failure<TableFault>>
+    ensures ok { OnOk result
+        (AcceptsAll (RequiresPublic (provisions modules.now)) modules.now.objects) }
+    ensures fault { IfErr result (ForFault
+        (λ fault. (kept : List (List ℕ)) → Reports 9 modules.now kept fault)) }
+{
+    modules.names_differ();
+    let objects = modules.objects();
+    for (object, rule) in objects.iter().enumerate() {
+        let required = rule.required.as_slice();
+        match first_private(modules, required) {
+            None => {}
+            Some(index) => {
+                let name = name_at(required, index);
+                let fault = private_fault(alloc, modules, name, Maker::Object(object))?;
+                return Err(Failure::Fault(fault));
+            }
+        }
+    }
+    Ok(())
+}
+
+/// M9: and no info's module requires one that is private to another info.
+pub(crate) fn check_infos_allowed(
+    alloc: Global,
+    modules: &Modules,
+    all: &[InfoRequired],
+) -> Result<(), Failure<TableFault>>
+    requires all { map requirement_of all.now ≡ info_requirements modules.now }
+    requires public { AcceptsAll (RequiresPublic (provisions modules.now)) modules.now.objects }
+    ensures ok { OnOk result
+        (AcceptsAll (IsAllowed (provisions modules.now)) (info_requirements modules.now)) }
+    ensures fault { IfErr result (ForFault
+        (λ fault. (kept : List (List ℕ)) → Reports 9 modules.now kept fault)) }
+{
+    modules.names_differ();
+    match first_not_allowed(modules, all) {
+        None => Ok(()),
+        Some(index) => {
+            let required = required_at(all, index);
+            let user = Maker::Info(required.info);
+            let fault = private_fault(alloc, modules, required.name, user)?;
+            Err(Failure::Fault(fault))
+        }
+    }
+}
+
+/// M10: each name that is to be private is one that an object provides.
+pub(crate) fn check_kept(
+    alloc: Global,
+    modules: &Modules,
+    kept: &[Name],
+) -> Result<(), Failure<TableFault>>
+    ensures ok { OnOk result (AcceptsAll (IsByObject (provisions modules.now)) kept.now) }
+    ensures fault { IfErr result (ForFault (Reports 10 modules.now kept.now)) }
+{
+    modules.names_differ();
+    match first_not_by_object(modules, kept) {
+        None => Ok(()),
+        Some(index) => {
+            let name = name_at(kept, index).copy(alloc)?;
+            Err(Failure::Fault(TableFault::PrivateUnknown { name }))
+        }
+    }
+}
+
+/// The fault that a private module is required.
+fn private_fault(
+    alloc: Global,
+    modules: &Modules,
+    name: &Name,
+    user: Maker,
+) -> Result<TableFault, AllocError>
+    requires { IsPrivate (provisions modules.now) name.now }
+    ensures { IfOk result (λ fault. (info : ℕ)
+        × IsPrivateTo (provisions modules.now) name.now info × (fault ≡ ModulePrivate name.now info user)) }
+{
+    let info = info_of(modules, name);
+    let name = name.copy(alloc)?;
+    Ok(TableFault::ModulePrivate { name, info, user })
+}
+
+/// The info that the module of that name is private to.
+fn info_of(modules: &Modules, name: &Name) -> usize
+    requires { IsPrivate (provisions modules.now) name.now }
+    ensures { IsPrivateTo (provisions modules.now) name.now result }
+{
+    modules.names_differ();
+    match modules.find(name) {
+        Some(module) => match module.maker {
+            Maker::Info(info) => info,
+            Maker::Object(_) => unreachable!(),
+        },
+        None => unreachable!(),
+    }
+}
+
+fn first_private(modules: &Modules, names: &[Name]) -> Option<usize>
+    ensures { result ≡ position (λ name. not (is_public (provisions modules.now) name)) names.now }
+{
+    names.iter().position(|name| !is_public(modules, name))
+}
+
+fn first_not_allowed(modules: &Modules, all: &[InfoRequired]) -> Option<usize>
+    ensures { result ≡ position
+        (λ r. not (is_allowed (provisions modules.now) (requirement_of r))) all.now }
+{
+    all.iter()
+        .position(|required| !is_allowed(modules, required))
+}
+
+fn first_not_by_object(modules: &Modules, names: &[Name]) -> Option<usize>
+    ensures { result ≡ position (λ name. not (is_by_object (provisions modules.now) name)) names.now }
+{
+    names.iter().position(|name| !is_by_object(modules, name))
+}
+
+/// Whether the module of that name is private to no other info.
+fn is_allowed(modules: &Modules, required: &InfoRequired) -> bool
+    ensures { result ≡ is_allowed (provisions modules.now) (requirement_of required.now) }
+{
+    match modules.find(required.name) {
+        Some(module) => !module.is_private || is_info_at(module.maker, required.info),
+        None => true,
+    }
+}
+
+/// Whether the maker is the info of this index.
+fn is_info_at(maker: Maker, index: usize) -> bool
+    ensures { result ≡ is_info_at maker index }
+{
+    match maker {
+        Maker::Info(info) => info == index,
+        Maker::Object(_) => false,
+    }
+}
+
+/// Whether the module of that name is private to no info.
+fn is_public(modules: &Modules, name: &Name) -> bool
+    ensures { result ≡ is_public (provisions modules.now) name.now }
+{
+    match modules.find(name) {
+        Some(module) => !module.is_private,
+        None => true,
+    }
+}
+
+/// Whether an object provides the name.
+fn is_by_object(modules: &Modules, name: &Name) -> bool
+    ensures { result ≡ is_by_object (provisions modules.now) name.now }
+{
+    match modules.find(name) {
+        Some(module) => match module.maker {
+            Maker::Object(_) => true,
+            Maker::Info(_) => false,
+        },
+        None => false,
+    }
+}
+
+fn name_at(names: &[Name], index: usize) -> &Name
+    requires { index < length names.now }
+    ensures { slice_get names.now index ≡ Some result.now }
+{
+    &names[index]
+}

@@ -1,0 +1,160 @@
+//! M5 to M7: what is required is provided. M5 speaks of objects, M6 and M7 of the modules of infos.
+ghost use Rattle.std.specs.Prelude.{◌≡◌, ℕ, List, map, slice_get, Some, position, not, IfOk, IfErr, OnOk};
+ghost use Rattle.ninja_text.specs.Failure.{ForFault};
+ghost use Rattle.dep_order.specs.Rows.{rows};
+ghost use Rattle.module_table.specs.Modules.{provisions, info_requirements};
+ghost use Rattle.module_table.specs.Firsts.{IsFirst};
+ghost use Rattle.module_table.specs.inner.Views.{names_of, requirement_of, IsAbsent};
+ghost use Rattle.module_table.specs.inner.Finds.{is_by_info, agrees, IsByInfo, Agrees, AcceptsAll};
+ghost use Rattle.module_table.specs.inner.Numbered.{AreIndexes};
+ghost use Rattle.module_table.specs.inner.Reported.{Reports};
+ghost use Rattle.module_table.specs.declared.fault.TableFault.TheVariants.{ModuleUnknown};
+
+use crate::fault::{Maker, TableFault};
+use crate::modules::{Modules, index_of};
+use crate::requirements::{InfoRequired, required_at};
+use indexmap::IndexSet;
+use ninja_text::Failure;
+use scan_docs::{Name, Rule};
+use std::alloc::Global;
+
+/// The indexes of the modules that each object requires. M5: each is provided.
+pub(crate) fn check_objects_known(
+    alloc: Global,
+    modules: &Modules,
+) -> Result<Vec<Vec<usize>>, Failure<TableFault>>
+    ensures ok { IfOk result (λ required. AreIndexes modules.now (rows required.items)) }
+    ensures fault { IfErr result (ForFault
+        (λ fault. (kept : List (List ℕ)) → Reports 5 modules.now kept fault)) }
+{
+    let names = modules.names();
+    let objects = modules.objects();
+    let mut required = Vec::new(alloc);
+    for (object, rule) in objects.iter().enumerate() {
+        let row = indexes_of(alloc, names, object, rule)?;
+        required.push(row)?;
+    }
+    Ok(required)
+}
+
+fn indexes_of(
+    alloc: Global,
+    names: &IndexSet<Name>,
+    object: usize,
+    rule: &Rule,
+) -> Result<Vec<usize>, Failure<TableFault>>
+    ensures ok { IfOk result (λ row.
+        map (slice_get names.now.keys) row.items ≡ map (λ name. Some name) rule.now.required) }
+    ensures fault { IfErr result (ForFault (λ fault. (index : ℕ) × (name : List ℕ)
+        × IsFirst (IsAbsent names.now.keys) rule.now.required index name
+        × (fault ≡ ModuleUnknown name object))) }
+{
+    let mut row = Vec::new(alloc);
+    for required in &rule.required {
+        match index_of(names, required) {
+            Some(index) => row.push(index)?,
+            None => {
+                let name = required.copy(alloc)?;
+                return Err(Failure::Fault(TableFault::ModuleUnknown { name, object }));
+            }
+        }
+    }
+    Ok(row)
+}
+
+/// M6: what infos' modules require is provided by infos.
+pub(crate) fn check_infos_known(
+    alloc: Global,
+    modules: &Modules,
+    all: &[InfoRequired],
+) -> Result<(), Failure<TableFault>>
+    requires { map requirement_of all.now ≡ info_requirements modules.now }
+    ensures ok { OnOk result
+        (AcceptsAll (IsByInfo (provisions modules.now)) (info_requirements modules.now)) }
+    ensures fault { IfErr result (ForFault
+        (λ fault. (kept : List (List ℕ)) → Reports 6 modules.now kept fault)) }
+{
+    modules.names_differ();
+    match first_not_by_info(modules, all) {
+        None => Ok(()),
+        Some(index) => {
+            let required = required_at(all, index);
+            let target = required.target.copy(alloc)?;
+            let module_name = required.module_name.copy(alloc)?;
+            let name = required.name.copy(alloc)?;
+            Err(Failure::Fault(TableFault::InfoUnknown {
+                target,
+                module_name,
+                name,
+            }))
+        }
+    }
+}
+
+/// M7: and with the files that the infos say.
+pub(crate) fn check_infos_agree(
+    alloc: Global,
+    modules: &Modules,
+    all: &[InfoRequired],
+) -> Result<(), Failure<TableFault>>
+    requires all { map requirement_of all.now ≡ info_requirements modules.now }
+    requires known { AcceptsAll (IsByInfo (provisions modules.now)) (info_requirements modules.now) }
+    ensures ok { OnOk result
+        (AcceptsAll (Agrees (provisions modules.now)) (info_requirements modules.now)) }
+    ensures fault { IfErr result (ForFault
+        (λ fault. (kept : List (List ℕ)) → Reports 7 modules.now kept fault)) }
+{
+    modules.names_differ();
+    match first_differing(modules, all) {
+        None => Ok(()),
+        Some(index) => {
+            let required = required_at(all, index);
+            let target = required.target.copy(alloc)?;
+            let module_name = required.module_name.copy(alloc)?;
+            let name = required.name.copy(alloc)?;
+            Err(Failure::Fault(TableFault::InfoDisagrees {
+                target,
+                module_name,
+                name,
+            }))
+        }
+    }
+}
+
+fn first_not_by_info(modules: &Modules, all: &[InfoRequired]) -> Option<usize>
+    ensures { result ≡ position
+        (λ r. not (is_by_info (provisions modules.now) (requirement_of r))) all.now }
+{
+    all.iter()
+        .position(|required| !is_by_info(modules, required))
+}
+
+fn first_differing(modules: &Modules, all: &[InfoRequired]) -> Option<usize>
+    ensures { result ≡ position
+        (λ r. not (agrees (provisions modules.now) (requirement_of r))) all.now }
+{
+    all.iter().position(|required| !agrees(modules, required))
+}
+
+/// Whether an info provides what is required.
+fn is_by_info(modules: &Modules, required: &InfoRequired) -> bool
+    ensures { result ≡ is_by_info (provisions modules.now) (requirement_of required.now) }
+{
+    match modules.find(required.name) {
+        Some(module) => match module.maker {
+            Maker::Info(_) => true,
+            Maker::Object(_) => false,
+        },
+        None => false,
+    }
+}
+
+/// Whether the module of that name has the file that the requirement says.
+fn agrees(modules: &Modules, required: &InfoRequired) -> bool
+    ensures { result ≡ agrees (provisions modules.now) (requirement_of required.now) }
+{
+    match modules.find(required.name) {
+        Some(module) => *module.file == *required.file,
+        None => true,
+    }
+}

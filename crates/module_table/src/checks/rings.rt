@@ -1,0 +1,86 @@
+//! M8: whether objects need each other's modules in a ring.
+ghost use Rattle.std.specs.Prelude.{◌≡◌, ◌<◌, ℕ, List, map, length, IfOk, IfErr, OnOk};
+ghost use Rattle.std.specs.List.{filter_map};
+ghost use Rattle.ninja_text.specs.Failure.{ForFault};
+ghost use Rattle.dep_order.specs.Needs.{IsOrderable};
+ghost use Rattle.dep_order.specs.Rows.{rows};
+ghost use Rattle.module_table.specs.Modules.{provisions, DependsOn};
+ghost use Rattle.module_table.specs.inner.Numbered.{AreIndexes, maker_at};
+ghost use Rattle.module_table.specs.inner.Views.{provision_of};
+ghost use Rattle.module_table.specs.inner.Reported.{Reports};
+
+use crate::fault::{Maker, TableFault};
+use crate::modules::{Module, Modules};
+use dep_order::{Digraph, Sorting, order};
+use ninja_text::Failure;
+use std::alloc::{AllocError, Global};
+
+/// M8: no objects need each other's modules in a ring. Each object has a row of the indexes of what
+/// it requires.
+pub(crate) fn check_rings(
+    alloc: Global,
+    modules: &Modules,
+    required: &[Vec<usize>],
+) -> Result<(), Failure<TableFault>>
+    requires { AreIndexes modules.now (rows required.now) }
+    ensures ok { OnOk result (IsOrderable (length modules.now.objects) (DependsOn modules.now)) }
+    ensures fault { IfErr result (ForFault
+        (λ fault. (kept : List (List ℕ)) → Reports 8 modules.now kept fault)) }
+{
+    modules.names_differ();
+    let needs = all_needs(alloc, modules.provided(), required)?;
+    let graph = Digraph::new(needs);
+    match order(alloc, &graph)? {
+        Sorting::Order(_) => Ok(()),
+        Sorting::Cycle(objects) => Err(Failure::Fault(TableFault::ImportCycle { objects })),
+    }
+}
+
+/// The objects that provide what each object requires.
+fn all_needs(
+    alloc: Global,
+    provided: &[Module],
+    required: &[Vec<usize>],
+) -> Result<Vec<Vec<usize>>, AllocError>
+    ensures { IfOk result (λ needs. rows needs.items
+        ≡ map (filter_map (maker_at (map provision_of provided.now))) (rows required.now)) }
+{
+    let mut needs = Vec::new(alloc);
+    for row in required {
+        let objects = makers_of(alloc, provided, row.as_slice())?;
+        needs.push(objects)?;
+    }
+    Ok(needs)
+}
+
+/// The objects that provide the modules of these indexes.
+fn makers_of(
+    alloc: Global,
+    provided: &[Module],
+    indexes: &[usize],
+) -> Result<Vec<usize>, AllocError>
+    ensures { IfOk result (λ objects. objects.items
+        ≡ filter_map (maker_at (map provision_of provided.now)) indexes.now) }
+{
+    let mut objects = Vec::new(alloc);
+    for index in indexes {
+        match maker_at(provided, *index) {
+            Some(object) => objects.push(object)?,
+            None => {}
+        }
+    }
+    Ok(objects)
+}
+
+/// The object that provides the module of that index, if one does.
+fn maker_at(provided: &[Module], index: usize) -> Option<usize>
+    ensures { result ≡ maker_at (map provision_of provided.now) index }
+{
+    match provided.get(index) {
+        Some(module) => match module.maker {
+            Maker::Object(object) => Some(object),
+            Maker::Info(_) => None,
+        },
+        None => None,
+    }
+}

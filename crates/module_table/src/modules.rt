@@ -1,0 +1,232 @@
+//! Who provides which module: the modules of a target's objects and of the infos, by index and by name.
+ghost use Rattle.std.specs.Prelude.{◌≡◌, ◌<◌, ◌++◌, ℕ, map, length, slice_get, Some, IfOk, OnOk, IfSome, IfNone};
+ghost use Rattle.std.specs.List.{flat_map, enumerate_from};
+ghost use Rattle.std.specs.Option.{option_map};
+ghost use Rattle.module_table.specs.TableValue.{table_with};
+ghost use Rattle.module_table.specs.Modules.{provisions, object_provisions, info_provisions};
+ghost use Rattle.module_table.specs.inner.Repetition.{AllDiffer};
+ghost use Rattle.module_table.specs.inner.Views.{provision_of, names_of, IsAbsent};
+ghost use Rattle.module_table.specs.inner.Finds.{found};
+ghost use Rattle.module_table.specs.inner.Origins.{origins_of, object_origins, info_origins, origin_of};
+
+use crate::fault::Maker;
+use indexmap::IndexSet;
+use ninja_text::Path;
+use scan_docs::{Info, Name, Rule};
+use std::alloc::{AllocError, Global};
+use std::marker::Model;
+
+/// A provided module: who provides it, and at which index among the modules that its maker provides.
+/// Those of objects are not private.
+#[derive(Clone, Copy)]
+pub(crate) struct Module<'t> {
+    pub maker: Maker,
+    pub index: usize,
+    pub name: &'t Name,
+    pub file: &'t Path,
+    pub is_private: bool,
+}
+
+/// The modules that objects and infos provide, no two of one name: by object, then by info, and for
+/// each of these in order of provision. A contract sees it as the table of the objects and infos.
+#[derive(Drop)]
+pub(crate) struct Modules<'t> {
+    objects: &'t [Rule],
+    infos: &'t [Info],
+    provided: Vec<Module<'t>>,
+    /// The names of the modules. A name's index is that of its module.
+    names: IndexSet<Name>,
+}
+
+impl<'t> Model for Modules<'t> {
+    ghost use Rattle.std.specs.Prelude.{◌≡◌, map};
+    ghost use Rattle.module_table.specs.TableValue.{TableValue, table_with};
+    ghost use Rattle.module_table.specs.Modules.{provisions};
+    ghost use Rattle.module_table.specs.inner.Repetition.{AllDiffer};
+    ghost use Rattle.module_table.specs.inner.Views.{provision_of, names_of};
+    ghost use Rattle.module_table.specs.inner.Origins.{origins_of, origin_of};
+
+    ghost Value = { TableValue };
+
+    ghost view = { λ m. table_with m.objects.now m.infos.now };
+
+    ghost invariant = { λ m.
+        (map provision_of m.provided.items ≡ provisions (table_with m.objects.now m.infos.now))
+        × (map origin_of m.provided.items ≡ origins_of (table_with m.objects.now m.infos.now))
+        × (m.names.keys ≡ names_of (provisions (table_with m.objects.now m.infos.now)))
+        × AllDiffer (names_of (provisions (table_with m.objects.now m.infos.now))) };
+}
+
+impl<'t> Modules<'t> {
+    /// These modules of the objects and infos, with their names in the same order.
+    pub(crate) fn new(
+        objects: &'t [Rule],
+        infos: &'t [Info],
+        provided: Vec<Module<'t>>,
+        names: IndexSet<Name>,
+    ) -> Modules<'t>
+        requires provisions { map provision_of provided.items
+            ≡ provisions (table_with objects.now infos.now) }
+        requires origins { map origin_of provided.items
+            ≡ origins_of (table_with objects.now infos.now) }
+        requires names { names.keys ≡ names_of (map provision_of provided.items) }
+        requires differ { AllDiffer names.keys }
+        ensures { result ≡ table_with objects.now infos.now }
+    {
+        Modules {
+            objects,
+            infos,
+            provided,
+            names,
+        }
+    }
+
+    pub(crate) fn objects(&self) -> &'t [Rule]
+        ensures { result.now ≡ self.now.objects }
+    {
+        self.objects
+    }
+
+    pub(crate) fn infos(&self) -> &'t [Info]
+        ensures { result.now ≡ self.now.infos }
+    {
+        self.infos
+    }
+
+    /// All modules, by index.
+    pub(crate) fn provided(&self) -> &[Module<'t>]
+        ensures provisions { map provision_of result.now ≡ provisions self.now }
+        ensures origins { map origin_of result.now ≡ origins_of self.now }
+    {
+        self.provided.as_slice()
+    }
+
+    /// The names of all modules, by index.
+    pub(crate) fn names(&self) -> &IndexSet<Name>
+        ensures { result.now.keys ≡ names_of (provisions self.now) }
+    {
+        &self.names
+    }
+
+    /// No two modules have one name.
+    pub(crate) fn names_differ(&self)
+        ensures { AllDiffer (names_of (provisions self.now)) }
+    {
+        let _ = &self.names;
+    }
+
+    /// The module of that name, if one is provided.
+    pub(crate) fn find(&self, name: &Name) -> Option<&Module<'t>>
+        ensures { option_map (λ p. provision_of p.now) result
+            ≡ found (provisions self.now) name.now }
+    {
+        match index_of(&self.names, name) {
+            Some(index) => Some(module_at(self.provided.as_slice(), index)),
+            None => None,
+        }
+    }
+
+    /// The names of all modules, by index, for a table to keep.
+    pub(crate) fn into_names(self) -> IndexSet<Name>
+        ensures { result.keys ≡ names_of (provisions self.entry) }
+    {
+        self.names
+    }
+}
+
+/// All provided modules: by object and index, then by info and index.
+pub(crate) fn provided_modules<'t>(
+    alloc: Global,
+    objects: &'t [Rule],
+    infos: &'t [Info],
+) -> Result<Vec<Module<'t>>, AllocError>
+    ensures provisions { IfOk result (λ all. map provision_of all.items
+        ≡ provisions (table_with objects.now infos.now)) }
+    ensures origins { IfOk result (λ all. map origin_of all.items
+        ≡ origins_of (table_with objects.now infos.now)) }
+{
+    let mut all = Vec::new(alloc);
+    add_objects(objects, &mut all)?;
+    add_infos(infos, &mut all)?;
+    Ok(all)
+}
+
+fn add_objects<'t>(objects: &'t [Rule], all: &mut Vec<Module<'t>>) -> Result<(), AllocError>
+    ensures provisions { OnOk result (map provision_of all.new.items
+        ≡ map provision_of all.old.items ++ flat_map object_provisions (enumerate_from 0 objects.now)) }
+    ensures origins { OnOk result (map origin_of all.new.items
+        ≡ map origin_of all.old.items ++ flat_map object_origins (enumerate_from 0 objects.now)) }
+{
+    for (object, rule) in objects.iter().enumerate() {
+        add_object(object, rule, all)?;
+    }
+    Ok(())
+}
+
+fn add_object<'t>(
+    object: usize,
+    rule: &'t Rule,
+    all: &mut Vec<Module<'t>>,
+) -> Result<(), AllocError>
+    ensures provisions { OnOk result (map provision_of all.new.items
+        ≡ map provision_of all.old.items ++ object_provisions (object, rule.now)) }
+    ensures origins { OnOk result (map origin_of all.new.items
+        ≡ map origin_of all.old.items ++ object_origins (object, rule.now)) }
+{
+    for (index, pair) in rule.provided.iter().enumerate() {
+        all.push(Module {
+            maker: Maker::Object(object),
+            index,
+            name: &pair.0,
+            file: &pair.1,
+            is_private: false,
+        })?;
+    }
+    Ok(())
+}
+
+fn add_infos<'t>(infos: &'t [Info], all: &mut Vec<Module<'t>>) -> Result<(), AllocError>
+    ensures provisions { OnOk result (map provision_of all.new.items
+        ≡ map provision_of all.old.items ++ flat_map info_provisions (enumerate_from 0 infos.now)) }
+    ensures origins { OnOk result (map origin_of all.new.items
+        ≡ map origin_of all.old.items ++ flat_map info_origins (enumerate_from 0 infos.now)) }
+{
+    for (info, value) in infos.iter().enumerate() {
+        add_info(info, value, all)?;
+    }
+    Ok(())
+}
+
+fn add_info<'t>(info: usize, value: &'t Info, all: &mut Vec<Module<'t>>) -> Result<(), AllocError>
+    ensures provisions { OnOk result (map provision_of all.new.items
+        ≡ map provision_of all.old.items ++ info_provisions (info, value.now)) }
+    ensures origins { OnOk result (map origin_of all.new.items
+        ≡ map origin_of all.old.items ++ info_origins (info, value.now)) }
+{
+    for (index, module) in value.modules.iter().enumerate() {
+        all.push(Module {
+            maker: Maker::Info(info),
+            index,
+            name: &module.name,
+            file: &module.file,
+            is_private: module.is_private,
+        })?;
+    }
+    Ok(())
+}
+
+/// The module of that index.
+pub(crate) fn module_at<'p, 't>(provided: &'p [Module<'t>], index: usize) -> &'p Module<'t>
+    requires { index < length provided.now }
+    ensures { slice_get provided.now index ≡ Some result.now }
+{
+    &provided[index]
+}
+
+/// The index of the name, if it is there.
+pub(crate) fn index_of(names: &IndexSet<Name>, name: &Name) -> Option<usize>
+    ensures found { IfSome result (λ index. slice_get names.now.keys index ≡ Some name.now) }
+    ensures none { IfNone result ((index : ℕ) → slice_get names.now.keys index ≡ Some name.now → ⊥) }
+{
+    names.get_index_of(name)
+}
