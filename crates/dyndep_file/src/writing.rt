@@ -7,7 +7,7 @@ ghost use Rattle.dyndep_file.specs.StatementValue.{StatementValue};
 ghost use Rattle.dyndep_file.specs.Reading.{StandsForOnly};
 ghost use Rattle.dyndep_file.specs.Writing.{part_text, build_line, statement_text, dyndep_text};
 ghost use Rattle.dyndep_file.specs.WriteFaults.{text_or_fault, paths_of, statement_fault, write_fault, CanBeWritten, LeavesWriter, WritesInTurn, AnswersFault};
-ghost use Rattle.dyndep_file.specs.inner.Lengths.{capped};
+ghost use Rattle.dyndep_file.specs.inner.Lengths.{capped, LengthOr};
 ghost use Rattle.dyndep_file.specs.inner.Paths.{texts};
 
 use crate::statement::{Dyndep, Statement};
@@ -70,10 +70,10 @@ impl Dyndep {
         ensures meaning { IfOk result (λ text. StandsForOnly text.items self.now) }
     {
         let statements = self.statements.as_slice();
-        if let Some(fault) = first_fault(statements) {
-            return Err(Failure::Fault(fault));
+        match text_len(statements) {
+            Ok(len) => Ok(text_of(alloc, statements, len)?),
+            Err(fault) => Err(Failure::Fault(fault)),
         }
-        Ok(text_of(alloc, statements)?)
     }
 }
 
@@ -115,33 +115,40 @@ pub fn writable_statements()
         write_fault statements ≡ None ↔ All CanBeWritten statements }
 {}
 
-/// The first fault of the statements.
-fn first_fault(statements: &[Statement]) -> Option<WriteFault>
-    ensures { result ≡ write_fault statements.now }
+/// The length of the text of the statements, or the greatest number where it is greater; or the first
+/// fault of the statements.
+fn text_len(statements: &[Statement]) -> Result<usize, WriteFault>
+    ensures { LengthOr (write_fault statements.now) (length (dyndep_text statements.now)) result }
 {
+    let mut len = VERSION_LINE.len();
     for (index, statement) in statements.iter().enumerate() {
-        let fault = statement_fault(index, statement);
-        if fault.is_some() {
-            return fault;
+        match line_len(index, statement) {
+            Ok(line) => len = len.saturating_add(line),
+            Err(fault) => return Err(fault),
+        }
+        if statement.restat {
+            len = len.saturating_add(BINDING_LINE.len());
         }
     }
-    None
+    Ok(len)
 }
 
-/// The fault of the statement at an index.
-fn statement_fault(index: usize, statement: &Statement) -> Option<WriteFault>
-    ensures { result ≡ statement_fault index statement.now }
+/// The length of the build line of the statement at an index, or the statement's fault.
+fn line_len(index: usize, statement: &Statement) -> Result<usize, WriteFault>
+    ensures { LengthOr (statement_fault index statement.now) (length (build_line statement.now))
+        result }
 {
     if let Some(path) = unwritable_path(statement) {
-        return Some(WriteFault::Unwritable {
+        return Err(WriteFault::Unwritable {
             statement: index,
             path,
         });
     }
-    if build_line_len(statement) > LINE_LIMIT {
-        return Some(WriteFault::StatementTooLong { statement: index });
+    let len = build_line_len(statement);
+    if len > LINE_LIMIT {
+        return Err(WriteFault::StatementTooLong { statement: index });
     }
-    None
+    Ok(len)
 }
 
 /// The index of the first path that has no spelling.
@@ -218,26 +225,12 @@ fn is_escaped(byte: u8) -> bool
     matches!(byte, b'$' | b' ' | b':')
 }
 
-/// The length of the text of the statements, or the greatest number where it is greater.
-fn text_len(statements: &[Statement]) -> usize
-    ensures { result ≡ capped (length (dyndep_text statements.now)) }
-{
-    let mut len = VERSION_LINE.len();
-    for statement in statements {
-        len = len.saturating_add(build_line_len(statement));
-        if statement.restat {
-            len = len.saturating_add(BINDING_LINE.len());
-        }
-    }
-    len
-}
-
-/// The text of the statements, in a buffer that was grown once.
-fn text_of(alloc: Global, statements: &[Statement]) -> Result<Vec<u8>, AllocError>
+/// The text of the statements, in a buffer that is grown once, to this length.
+fn text_of(alloc: Global, statements: &[Statement], len: usize) -> Result<Vec<u8>, AllocError>
     requires { All CanBeWritten statements.now }
     ensures { IfOk result (λ text. text.items ≡ dyndep_text statements.now) }
 {
-    let mut text = Vec::with_capacity(alloc, text_len(statements))?;
+    let mut text = Vec::with_capacity(alloc, len)?;
     text.extend_from_slice(VERSION_LINE)?;
     for statement in statements {
         push_statement(statement, &mut text)?;

@@ -1,4 +1,3 @@
-use Rattle.std.proofs.Common.{sym}
 use Rattle.dyndep_file.specs.BuildTokens.{symbols_left}
 use Rattle.dyndep_file.specs.Faults.{output_fault, rule_fault, after_rule_fault}
 use Rattle.dyndep_file.specs.inner.Paths.{texts}
