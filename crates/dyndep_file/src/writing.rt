@@ -115,8 +115,8 @@ pub fn writable_statements()
         write_fault statements ≡ None ↔ All CanBeWritten statements }
 {}
 
-/// The length of the text of the statements, or the greatest number where it is greater; or the first
-/// fault of the statements.
+/// The length of the text of the statements, or the greatest number where it is greater; or the
+/// first fault of the statements.
 fn text_len(statements: &[Statement]) -> Result<usize, WriteFault>
     ensures { LengthOr (write_fault statements.now) (length (dyndep_text statements.now)) result }
 {
