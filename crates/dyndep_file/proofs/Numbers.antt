@@ -3,7 +3,7 @@ use Rattle.std.proofs.Common.{◌≡◌, ℕ, ◌+◌, ◌-◌, ◌^◌, min, ar
 use Rattle.std.specs.Prelude.{count_by}
 use Rattle.std.proofs.lemmas.List.Sums.{sum_by-cons}
 use Rattle.ninja_text.specs.Escapes.{is_escaped, escaped_byte, escaped}
-use Rattle.dyndep_file.specs.inner.Lengths.{capped}
+use Rattle.dyndep_file.specs.WriteFaults.{capped}
 
 -- the sum of two such lengths is the length of both
 pub capped_sum : (a b x y sum : ℕ) → x ≡ capped a → y ≡ capped b → sum ≡ min (x + y) (2 ^ 64 - 1) → sum ≡ capped (a + b)

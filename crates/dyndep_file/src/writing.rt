@@ -6,8 +6,8 @@ ghost use Rattle.ninja_text.specs.Escapes.{escaped, is_escaped, is_writable, IsW
 ghost use Rattle.dyndep_file.specs.StatementValue.{StatementValue};
 ghost use Rattle.dyndep_file.specs.Reading.{StandsForOnly};
 ghost use Rattle.dyndep_file.specs.Writing.{part_text, build_line, statement_text, dyndep_text};
-ghost use Rattle.dyndep_file.specs.WriteFaults.{text_or_fault, paths_of, statement_fault, write_fault, CanBeWritten, LeavesWriter, WritesInTurn, AnswersFault};
-ghost use Rattle.dyndep_file.specs.inner.Lengths.{capped, LengthOr};
+ghost use Rattle.dyndep_file.specs.WriteFaults.{text_or_fault, paths_of, statement_fault, write_fault, CanBeWritten, LeavesWriter, WritesInTurn, AnswersFault, capped};
+ghost use Rattle.dyndep_file.specs.inner.Lengths.{LengthOr};
 ghost use Rattle.dyndep_file.specs.inner.Paths.{texts};
 
 use crate::statement::{Dyndep, Statement};

@@ -1,10 +1,7 @@
 -- Lengths as the writer counts them.
-use Rattle.std.specs.Prelude.{◌≡◌, ℕ, ◌-◌, ◌^◌, min, Option, Some, None, Result, Ok, Err}
+use Rattle.std.specs.Prelude.{◌≡◌, ℕ, Option, Some, None, Result, Ok, Err}
+use Rattle.dyndep_file.specs.WriteFaults.{capped}
 use Rattle.dyndep_file.specs.declared.writing.WriteFault.{WriteFault}
-
--- a length as a number of 64 bits, which stops at the greatest one
-abbrev pub capped : ℕ → ℕ
-capped len = min len (2 ^ 64 - 1)
 
 -- Where there is no fault, this length was counted, and else the fault is reported.
 abbrev pub LengthOr : Option WriteFault → ℕ → Result ℕ WriteFault → Type 0

@@ -1,5 +1,5 @@
 use Rattle.std.proofs.Common.{◌+◌, length, ap, sym, ◌∙◌}
-use Rattle.dyndep_file.specs.inner.Lengths.{capped}
+use Rattle.dyndep_file.specs.WriteFaults.{capped}
 use Rattle.dyndep_file.proofs.Numbers.{length-escaped}
 use Rattle.dyndep_file.proofs.writing.escaped_len.Goals as goal
 

@@ -2,7 +2,7 @@ use Rattle.std.proofs.Common.{◌+◌, ◌++◌, take, length, codes, ap, ◌∙
 use Rattle.std.specs.List.{flat_map}
 use Rattle.ninja_text.specs.Escapes.{escaped}
 use Rattle.dyndep_file.specs.Writing.{spaced}
-use Rattle.dyndep_file.specs.inner.Lengths.{capped}
+use Rattle.dyndep_file.specs.WriteFaults.{capped}
 use Rattle.dyndep_file.proofs.Numbers.{capped_path, length-longer}
 use Rattle.dyndep_file.specs.inner.Paths.{texts}
 use Rattle.dyndep_file.proofs.Parts.{flat_map_next_path}

@@ -1,7 +1,7 @@
 use Rattle.std.proofs.Common.{◌≡◌, ◌++◌, length, take, map, codes}
 use Rattle.std.specs.List.{flat_map}
 use Rattle.dyndep_file.specs.Writing.{spaced}
-use Rattle.dyndep_file.specs.inner.Lengths.{capped}
+use Rattle.dyndep_file.specs.WriteFaults.{capped}
 use Rattle.dyndep_file.proofs.writing.part_len.Given as goal
 
 -- the length of what is written of the paths so far

@@ -2,7 +2,7 @@ use Rattle.std.proofs.Common.{◌≡◌, ◌++◌, length, take, drop}
 use Rattle.std.specs.List.{flat_map}
 use Rattle.dyndep_file.specs.Writing.{version_line, statement_text}
 use Rattle.dyndep_file.specs.WriteFaults.{fault_from}
-use Rattle.dyndep_file.specs.inner.Lengths.{capped}
+use Rattle.dyndep_file.specs.WriteFaults.{capped}
 use Rattle.dyndep_file.proofs.writing.text_len.Given as goal
 
 -- the fault of what is left is the fault of all, and the length is that of the text so far
