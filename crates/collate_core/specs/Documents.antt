@@ -8,7 +8,7 @@ use Rattle.scan_docs.specs.Info.{IsInfo}
 use Rattle.scan_docs.specs.InfoChecks.{info_checks}
 use Rattle.module_table.specs.TableValue.{TableValue}
 use Rattle.module_table.specs.Faults.{IsFault}
-use Rattle.module_table.specs.Sound.{IsSound, KeepsOwn}
+use Rattle.module_table.specs.Sound.{IsSound, KeptAreProvided}
 use Rattle.module_table.specs.declared.fault.TableFault.{TableFault}
 use Rattle.scan_docs.specs.Values.{rules_of, info_of}
 use Rattle.collate_core.specs.Values.{TargetValue}
@@ -53,4 +53,4 @@ pub record IsResolved (target : TargetValue) : Type 0 where
   pub no_fault : (fault : TableFault) → IsFault (table_of target) target.kept fault → ⊥
   -- and so it is sound, and has every module that is to be private
   pub sound : IsSound (table_of target)
-  pub kept : KeepsOwn (table_of target) target.kept
+  pub kept : KeptAreProvided (table_of target) target.kept

@@ -10,7 +10,7 @@ use Rattle.scan_docs.specs.declared.fault.DocFault.{DocFault}
 use Rattle.scan_docs.specs.declared.fault.DocFault.TheVariants.{TooLarge}
 use Rattle.scan_docs.specs.declared.fault.Place.TheVariants.{Document}
 use Rattle.module_table.specs.TableValue.{TableValue}
-use Rattle.module_table.specs.Faults.{IsTold}
+use Rattle.module_table.specs.Faults.{IsReported}
 use Rattle.collate_core.specs.Values.{TargetValue, ModuleMapValue}
 use Rattle.collate_core.specs.Documents.{IsScanAccepted, IsInfoAccepted, AreScansAccepted, AreAccepted, IsResolved, all_rules, rule_limit, table_of}
 use Rattle.collate_core.specs.Statements.{statements_of}
@@ -78,7 +78,7 @@ IsRefusal target style (Info i fault) =
     AreScansAccepted target.setting target.scans × IsInfoRefusal target.infos i fault
 -- the table's fault
 IsRefusal target style (Table fault) =
-    AreAccepted target × IsTold (table_of target) target.kept fault
+    AreAccepted target × IsReported (table_of target) target.kept fault
 -- the first statement with too long a build line
 IsRefusal target style (StatementTooLong k) = IsResolved target × IsTooLong target k
 -- with a style, the first object whose map is refused

@@ -7,7 +7,7 @@ ghost use Rattle.scan_docs.specs.InfoText.{IsInfoText};
 ghost use Rattle.scan_docs.specs.InfoChecks.{info_checks};
 ghost use Rattle.scan_docs.specs.Document.{IsRefused};
 ghost use Rattle.module_table.specs.Faults.{IsFault};
-ghost use Rattle.module_table.specs.Sound.{IsSound, KeepsOwn};
+ghost use Rattle.module_table.specs.Sound.{IsSound, KeptAreProvided};
 ghost use Rattle.module_table.specs.declared.fault.TableFault.{TableFault};
 ghost use Rattle.scan_docs.specs.Values.{rules_of, info_of};
 ghost use Rattle.collate_core.specs.Values.{TargetValue};
@@ -33,7 +33,7 @@ pub(crate) fn table_of(alloc: Global, target: &Target<'_>) -> Result<Table, Fail
     ensures no_fault { IfOk result
         (λ table. (fault : TableFault) → IsFault table target.now.kept fault → ⊥) }
     ensures sound { IfOk result IsSound }
-    ensures kept { IfOk result (λ table. KeepsOwn table target.now.kept) }
+    ensures kept { IfOk result (λ table. KeptAreProvided table target.now.kept) }
     ensures text { IfOk result IsTableText }
     // whatever the style, since maps come later
     ensures refused { IfErr result (ForFault (λ refusal.

@@ -14,8 +14,8 @@ use Rattle.dep_order.proofs.ForCallers.{AreWithin, orderable_same, cycle_same, o
 use Rattle.module_table.specs.TableValue.{TableValue}
 use Rattle.module_table.specs.Modules.{Provides, Requires, InfoRequires, IsProvided, IsInfoProvided, DependsOn, Provision, provisions, InfoRequirement, info_requirements}
 use Rattle.module_table.specs.Firsts.{IsFirst, IsFirstRepetition}
-use Rattle.module_table.specs.Faults.{IsFault, Claim, claims, Collides, IsUnknown, IsInfoUnknown, Disagrees, Keeps, IsKept, IsKeptElsewhere, Requiring, IsFirstRequired, IsForeign}
-use Rattle.module_table.specs.Sound.{IsSound, KeepsOwn}
+use Rattle.module_table.specs.Faults.{IsFault, Claim, claims, Collides, IsUnknown, IsInfoUnknown, Disagrees, HasPrivate, IsPrivateName, IsPrivateElsewhere, Requiring, IsFirstRequired, IsUnprovided}
+use Rattle.module_table.specs.Sound.{IsSound, KeptAreProvided}
 use Rattle.module_table.specs.Outcomes.{HasNoFault, FaultlessIsSound}
 use Rattle.module_table.specs.inner.Repetition.{AllDiffer}
 use Rattle.module_table.specs.inner.Views.{names_of, IsAbsent}
@@ -30,7 +30,7 @@ use Rattle.module_table.proofs.Required.{from_map, contained}
 use Rattle.module_table.proofs.Numbering.{placed, number_known}
 use Rattle.module_table.proofs.ReportLemmas.{absent_unknown, provided_numbered}
 use Rattle.module_table.proofs.Found.{nothing_named, object_not_info, info_not_object}
-use Rattle.module_table.proofs.InfoFaults.{from_info, unknown_by, foreign_by, own_by}
+use Rattle.module_table.proofs.InfoFaults.{from_info, unknown_by, unprovided_by, provided_by}
 use Rattle.module_table.proofs.Rings.{as_many, to_depends, from_depends, are_nodes}
 use Rattle.module_table.proofs.InfoRequirements.{requirement_of, requirement, agreed}
 
@@ -201,32 +201,32 @@ module _ (t : TableValue) (kept : List (List ℕ)) (none : HasNoFault t kept) wh
       let found = some_info r.0 _ r.2 in
       agreed t (requirement_of i r.1 m name file) found.0 found.1 (agrees r.0 _ r.2)
 
-  objects_allowed : (o info : ℕ) (name : List ℕ) → Requires t o name → Keeps t info name → ⊥
+  objects_allowed : (o info : ℕ) (name : List ℕ) → Requires t o name → HasPrivate t info name → ⊥
   objects_allowed o info name (rule, at, has) keeps =
-      none_required (IsKept t) t.objects (λ object n first. none (ModulePrivate n first.first_name.holds.0 (Object object)) (first, first.first_name.holds.1)) o rule name at has (info, keeps)
+      none_required (IsPrivateName t) t.objects (λ object n first. none (ModulePrivate n first.first_name.holds.0 (Object object)) (first, first.first_name.holds.1)) o rule name at has (info, keeps)
 
-  infos_allowed : (i j info : ℕ) (m : ModuleValue) (name file : List ℕ) → InfoRequires t i j m name file → Keeps t info name → info ≡ i
+  infos_allowed : (i j info : ℕ) (m : ModuleValue) (name file : List ℕ) → InfoRequires t i j m name file → HasPrivate t info name → info ≡ i
   infos_allowed i j info m name file h keeps =
       let r = requirement t i j m name file h in
       ⊎_elim
       (λ e. e)
-      (λ ne. absurd (nowhere (IsKeptElsewhere t) (info_requirements t)
+      (λ ne. absurd (nowhere (IsPrivateElsewhere t) (info_requirements t)
       (λ place q first. none (ModulePrivate q.name first.holds.0 (Info q.info)) ((λ o other needs k. objects_allowed o k.0 other needs k.1), (place, q, first, refl, refl, first.holds.1, first.holds.2)))
       r.0 _ r.2 (info, keeps, ne)))
       (cases_eq info i)
 
-  keeps_own : KeepsOwn t kept
-  keeps_own name has =
+  kept_provided : KeptAreProvided t kept
+  kept_provided name has =
       let there = placed kept name has in
-      let foreign = nowhere (IsForeign t) kept (λ place n first. none (PrivateUnknown n) (place, first)) there.0 name there.1 in
+      let foreign = nowhere (IsUnprovided t) kept (λ place n first. none (PrivateUnknown n) (place, first)) there.0 name there.1 in
       ⊎_elim
       (λ found. by found.0 found.1 found.2 (λ h. foreign h) found.1.maker refl)
-      (λ absent. absurd (foreign (foreign_by t name (λ own. nothing_named (provisions t) name absent own.0 own.1 own.3))))
+      (λ absent. absurd (foreign (unprovided_by t name (λ own. nothing_named (provisions t) name absent own.0 own.1 own.3))))
       (module_of name)
     where
-      by : (k : ℕ) (p : Provision) → IsNamed (provisions t) name k p → (IsForeign t name → ⊥) → (maker : Maker) → p.maker ≡ maker → (object : ℕ) × (position : ℕ) × (file : List ℕ) × Provides t object position name file
-      by k p named foreign (Object o) is = own_by t name (k, p, o, named, is)
-      by k p named foreign (Info i) is = absurd (foreign (foreign_by t name (info_not_object (provisions t) differ k p name i named is)))
+      by : (k : ℕ) (p : Provision) → IsNamed (provisions t) name k p → (IsUnprovided t name → ⊥) → (maker : Maker) → p.maker ≡ maker → (object : ℕ) × (position : ℕ) × (file : List ℕ) × Provides t object position name file
+      by k p named foreign (Object o) is = provided_by t name (k, p, o, named, is)
+      by k p named foreign (Info i) is = absurd (foreign (unprovided_by t name (info_not_object (provisions t) differ k p name i named is)))
 
   module _ (few : length t.objects < 2 ^ 63) where
     no_least : (cycle : List ℕ) → IsLeastCycle (DependsOn t) cycle → ⊥
@@ -272,4 +272,4 @@ module _ (t : TableValue) (kept : List (List ℕ)) (none : HasNoFault t kept) wh
     }
 
 pub faultless_is_sound : FaultlessIsSound
-faultless_is_sound t kept few none = (sound t kept none few, keeps_own t kept none)
+faultless_is_sound t kept few none = (sound t kept none few, kept_provided t kept none)

@@ -2,7 +2,7 @@
 use Rattle.std.proofs.Common.{◌≡◌, ℕ, List, Some, refl, ap, subst, sym, ◌∙◌, slice_get}
 use Rattle.module_table.specs.TableValue.{TableValue}
 use Rattle.module_table.specs.Modules.{Provides, IsProvidedBy, IsInfoProvided, Provision, provisions, InfoRequirement, info_requirements}
-use Rattle.module_table.specs.Faults.{IsInfoUnknown, Disagrees, IsForeign}
+use Rattle.module_table.specs.Faults.{IsInfoUnknown, Disagrees, IsUnprovided}
 use Rattle.module_table.specs.inner.Repetition.{AllDiffer}
 use Rattle.module_table.specs.inner.Views.{names_of}
 use Rattle.module_table.specs.inner.Finds.{IsNamed, IsByInfo, IsNotByInfo, Agrees, Differs, IsByObject, IsNotByObject, RefusesAt, AcceptsAll}
@@ -12,7 +12,7 @@ use Rattle.module_table.specs.declared.fault.TableFault.{TableFault}
 use Rattle.module_table.specs.declared.fault.TableFault.TheVariants.{InfoUnknown, InfoDisagrees, PrivateUnknown}
 use Rattle.module_table.proofs.Places.{same_some, object_provision, info_provision}
 use Rattle.module_table.proofs.Required.{from_provisions}
-use Rattle.module_table.proofs.ReportLemmas.{tells_same}
+use Rattle.module_table.proofs.ReportLemmas.{reports_same}
 use Rattle.module_table.proofs.Found.{one_module}
 
 module _ (t : TableValue) where
@@ -38,11 +38,11 @@ module _ (t : TableValue) where
   pub agrees_not : (r : InfoRequirement) → Agrees (provisions t) r → Disagrees t r → ⊥
   agrees_not r agrees (file, provided, other) = let b = by_info r.name file provided in other (sym b.3 ∙ agrees b.0 b.1 b.2)
 
-  pub foreign_by : (name : List ℕ) → IsNotByObject (provisions t) name → IsForeign t name
-  foreign_by name none object position file h = none (_, _, object, (object_provision t object position name file h, refl), refl)
+  pub unprovided_by : (name : List ℕ) → IsNotByObject (provisions t) name → IsUnprovided t name
+  unprovided_by name none object position file h = none (_, _, object, (object_provision t object position name file h, refl), refl)
 
-  pub own_by : (name : List ℕ) → IsByObject (provisions t) name → (object : ℕ) × (position : ℕ) × (file : List ℕ) × Provides t object position name file
-  own_by name (k, p, object, named, is) =
+  pub provided_by : (name : List ℕ) → IsByObject (provisions t) name → (object : ℕ) × (position : ℕ) × (file : List ℕ) × Provides t object position name file
+  provided_by name (k, p, object, named, is) =
       let by = subst (λ n. IsProvidedBy t (Object object) n p.file) named.1 (subst (λ m. IsProvidedBy t m p.name p.file) is (from_provisions t k p named.0)) in
       (object, by.0, p.file, by.1)
 
@@ -50,10 +50,10 @@ abbrev pub IsOf : InfoRequirement → (List ℕ → List ℕ → List ℕ → Ta
 IsOf r make fault = fault ≡ make r.target r.module_name r.name
 
 module _ (t : TableValue) (kept : List (List ℕ)) where
-  pub tells_info_unknown : (index : ℕ) (r : InfoRequirement) (fault : TableFault) → RefusesAt (IsByInfo (provisions t)) (IsNotByInfo (provisions t)) (info_requirements t) index → slice_get (info_requirements t) index ≡ Some r → IsOf r InfoUnknown fault → Reports 6 t kept fault
-  tells_info_unknown index r fault refused at is =
+  pub reports_info_unknown : (index : ℕ) (r : InfoRequirement) (fault : TableFault) → RefusesAt (IsByInfo (provisions t)) (IsNotByInfo (provisions t)) (info_requirements t) index → slice_get (info_requirements t) index ≡ Some r → IsOf r InfoUnknown fault → Reports 6 t kept fault
+  reports_info_unknown index r fault refused at is =
       let x : refused.x ≡ r = same_some _ _ (sym refused.here ∙ at) in
-      tells_same 6 t kept fault (InfoUnknown r.target r.module_name r.name) is
+      reports_same 6 t kept fault (InfoUnknown r.target r.module_name r.name) is
       (record {
         present = (
           index,
@@ -70,10 +70,10 @@ module _ (t : TableValue) (kept : List (List ℕ)) where
         coded = refl;
       })
 
-  pub tells_info_disagrees : (index : ℕ) (r : InfoRequirement) (fault : TableFault) → AllDiffer (names_of (provisions t)) → AcceptsAll (IsByInfo (provisions t)) (info_requirements t) → RefusesAt (Agrees (provisions t)) (Differs (provisions t)) (info_requirements t) index → slice_get (info_requirements t) index ≡ Some r → IsOf r InfoDisagrees fault → Reports 7 t kept fault
-  tells_info_disagrees index r fault differ known refused at is =
+  pub reports_info_disagrees : (index : ℕ) (r : InfoRequirement) (fault : TableFault) → AllDiffer (names_of (provisions t)) → AcceptsAll (IsByInfo (provisions t)) (info_requirements t) → RefusesAt (Agrees (provisions t)) (Differs (provisions t)) (info_requirements t) index → slice_get (info_requirements t) index ≡ Some r → IsOf r InfoDisagrees fault → Reports 7 t kept fault
+  reports_info_disagrees index r fault differ known refused at is =
       let x : refused.x ≡ r = same_some _ _ (sym refused.here ∙ at) in
-      tells_same 7 t kept fault (InfoDisagrees r.target r.module_name r.name) is
+      reports_same 7 t kept fault (InfoDisagrees r.target r.module_name r.name) is
       (record {
         present = (
           index,
@@ -90,17 +90,17 @@ module _ (t : TableValue) (kept : List (List ℕ)) where
         coded = refl;
       })
 
-  pub tells_private_unknown : (index : ℕ) (name : List ℕ) (fault : TableFault) → RefusesAt (IsByObject (provisions t)) (IsNotByObject (provisions t)) kept index → slice_get kept index ≡ Some name → fault ≡ PrivateUnknown name → Reports 10 t kept fault
-  tells_private_unknown index name fault refused at is =
+  pub reports_private_unknown : (index : ℕ) (name : List ℕ) (fault : TableFault) → RefusesAt (IsByObject (provisions t)) (IsNotByObject (provisions t)) kept index → slice_get kept index ≡ Some name → fault ≡ PrivateUnknown name → Reports 10 t kept fault
+  reports_private_unknown index name fault refused at is =
       let x : refused.x ≡ name = same_some _ _ (sym refused.here ∙ at) in
-      tells_same 10 t kept fault (PrivateUnknown name) is
+      reports_same 10 t kept fault (PrivateUnknown name) is
       (record {
         present = (
           index,
           record {
             here = at;
-            holds = foreign_by t name (subst (IsNotByObject (provisions t)) x refused.refused);
-            before = λ k y lt at_k foreign. let h = own_by t y (refused.accepted k y lt at_k) in foreign h.0 h.1 h.2 h.3;
+            holds = unprovided_by t name (subst (IsNotByObject (provisions t)) x refused.refused);
+            before = λ k y lt at_k foreign. let h = provided_by t y (refused.accepted k y lt at_k) in foreign h.0 h.1 h.2 h.3;
           },
         );
         coded = refl;

@@ -23,5 +23,5 @@ pub mod Excluded
 pub mod Faultless
 pub mod RequiredPairs
 pub mod PairLists
-pub mod OneTold
+pub mod OneReported
 pub mod ForCallers

@@ -11,7 +11,7 @@ use Rattle.dep_order.specs.Needs.{IsOrderable}
 use Rattle.dep_order.proofs.ForCallers.{no_cycle}
 use Rattle.module_table.specs.TableValue.{TableValue}
 use Rattle.module_table.specs.Modules.{Requires, IsProvided, DependsOn, Provision, provisions, info_requirements}
-use Rattle.module_table.specs.Faults.{IsTold, Claim, claims, code_number}
+use Rattle.module_table.specs.Faults.{IsReported, Claim, claims, code_number}
 use Rattle.module_table.specs.Outcomes.{HasNoFault}
 use Rattle.module_table.specs.inner.Repetition.{AllDiffer}
 use Rattle.module_table.specs.inner.Views.{names_of, files_of}
@@ -25,8 +25,8 @@ use Rattle.module_table.specs.declared.fault.TableFault.TheVariants.{ObjectTwice
 use Rattle.module_table.proofs.Places.{to_map}
 use Rattle.module_table.proofs.Required.{contained, from_map}
 use Rattle.module_table.proofs.ReportLemmas.{claimed_files, in_row, provided_numbered}
-use Rattle.module_table.proofs.InfoFaults.{known_by, agrees_not, own_by}
-use Rattle.module_table.proofs.Privacy.{public_rows, allowed_not_kept}
+use Rattle.module_table.proofs.InfoFaults.{known_by, agrees_not, provided_by}
+use Rattle.module_table.proofs.Privacy.{public_rows, allowed_not_private}
 
 -- no code is below the first or above the last
 code_within : (fault : TableFault) → (1 ≤ code_number fault) × (code_number fault ≤ 10)
@@ -42,11 +42,11 @@ code_within (ModulePrivate name info user) = (omega arith, omega arith)
 code_within (PrivateUnknown name) = (omega arith, omega arith)
 
 -- what is reported of one table whatever names are kept
-pub for_every_kept : (t : TableValue) (P : TableFault → Type 0) (failure : Failure TableFault) → ((kept : List (List ℕ)) (fault : TableFault) → P fault → IsTold t kept fault) → ForFault P failure → ForFault (λ fault. (kept : List (List ℕ)) → IsTold t kept fault) failure
+pub for_every_kept : (t : TableValue) (P : TableFault → Type 0) (failure : Failure TableFault) → ((kept : List (List ℕ)) (fault : TableFault) → P fault → IsReported t kept fault) → ForFault P failure → ForFault (λ fault. (kept : List (List ℕ)) → IsReported t kept fault) failure
 for_every_kept t P Memory to h = h
 for_every_kept t P (Fault fault) to h = λ kept. to kept fault h
 
-pub for_these_kept : (t : TableValue) (kept : List (List ℕ)) (failure : Failure TableFault) → ForFault (λ fault. (kept : List (List ℕ)) → IsTold t kept fault) failure → ForFault (IsTold t kept) failure
+pub for_these_kept : (t : TableValue) (kept : List (List ℕ)) (failure : Failure TableFault) → ForFault (λ fault. (kept : List (List ℕ)) → IsReported t kept fault) failure → ForFault (IsReported t kept) failure
 for_these_kept t kept Memory h = h
 for_these_kept t kept (Fault fault) h = h kept
 
@@ -61,7 +61,7 @@ module _ (t : TableValue) (kept : List (List ℕ)) where
       ⊎_elim (λ same. absurd (lacks fault same is)) (λ other. omega (arith, le, other)) (cases_eq (code_number fault) n)
 
   -- a fault of this code is the one that is reported, where the checks below have passed
-  pub reported : (n : ℕ) (fault : TableFault) → Reports n t kept fault → Passed n t kept → IsTold t kept fault
+  pub reported : (n : ℕ) (fault : TableFault) → Reports n t kept fault → Passed n t kept → IsReported t kept fault
   reported n fault is passed = record { present = is.present; lowest = λ other h. subst (λ m. m ≤ code_number other) (sym is.coded) (passed other h) }
 
   pub without_fault : Passed 11 t kept → HasNoFault t kept
@@ -179,7 +179,7 @@ module _ (t : TableValue) (kept : List (List ℕ)) where
   private_lacks public allowed (InfoDisagrees target module_name name) e h = absurd (omega (arith, e))
   private_lacks public allowed (ImportCycle objects) e h = absurd (omega (arith, e))
   private_lacks public allowed (ModulePrivate name info (Object object)) e h = public_rows t public object name (h.0.rule, h.0.first_object.here, contained h.0.rule.required name (h.0.place, h.0.first_name.here)) (info, h.1)
-  private_lacks public allowed (ModulePrivate name info (Info user)) e h = allowed_not_kept t h.1.1 (allowed.each h.1.0 h.1.1 h.1.2.here) h.1.2.holds
+  private_lacks public allowed (ModulePrivate name info (Info user)) e h = allowed_not_private t h.1.1 (allowed.each h.1.0 h.1.1 h.1.2.here) h.1.2.holds
   private_lacks public allowed (PrivateUnknown name) e h = absurd (omega (arith, e))
 
   pub kept_lack : AcceptsAll (IsByObject (provisions t)) kept → Lacks 10 t kept
@@ -192,7 +192,7 @@ module _ (t : TableValue) (kept : List (List ℕ)) where
   kept_lack own (InfoDisagrees target module_name name) e h = absurd (omega (arith, e))
   kept_lack own (ImportCycle objects) e h = absurd (omega (arith, e))
   kept_lack own (ModulePrivate name info user) e h = absurd (omega (arith, e))
-  kept_lack own (PrivateUnknown name) e h = let by = own_by t name (own.each h.0 name h.1.here) in h.1.holds by.0 by.1 by.2 by.3
+  kept_lack own (PrivateUnknown name) e h = let by = provided_by t name (own.each h.0 name h.1.here) in h.1.holds by.0 by.1 by.2 by.3
 
   -- what has an index is provided
   pub rows_known : (rows : List (List ℕ)) → AreIndexes t rows → (object : ℕ) (name : List ℕ) → Requires t object name → (file : List ℕ) × IsProvided t name file

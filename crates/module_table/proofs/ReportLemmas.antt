@@ -26,8 +26,8 @@ for_fault P Q Memory to h = h
 for_fault P Q (Fault fault) to h = to fault h
 
 -- a fault that is another one in other words
-pub tells_same : (code : ℕ) (t : TableValue) (kept : List (List ℕ)) (fault other : TableFault) → fault ≡ other → Reports code t kept other → Reports code t kept fault
-tells_same code t kept fault other e h = subst (Reports code t kept) (sym e) h
+pub reports_same : (code : ℕ) (t : TableValue) (kept : List (List ℕ)) (fault other : TableFault) → fault ≡ other → Reports code t kept other → Reports code t kept fault
+reports_same code t kept fault other e h = subst (Reports code t kept) (sym e) h
 
 -- an element for each place below the length
 pub element : {X : Type 0} (xs : List X) (k : ℕ) → k < length xs → (x : X) × (slice_get xs k ≡ Some x)
@@ -38,19 +38,19 @@ element (x ∷ xs) (suc k) lt = element xs k (omega arith)
 -- ---- M3
 
 module _ (t : TableValue) (kept : List (List ℕ)) (i j : ℕ) (fault : TableFault) where
-  told_twice : RepeatsFirst (names_of (provisions t)) i j → IsProvidedTwice (provisions t) i j fault → Reports 3 t kept fault
-  told_twice repeated is =
+  reported_twice : RepeatsFirst (names_of (provisions t)) i j → IsProvidedTwice (provisions t) i j fault → Reports 3 t kept fault
+  reported_twice repeated is =
       let found = repetition_of (λ (p : Provision). p.name) (provisions t) i j repeated in
       let a : found.0 ≡ is.0 = same_some _ _ (sym found.2.x_here ∙ is.2) in
       let b : found.1 ≡ is.1 = same_some _ _ (sym found.2.y_here ∙ is.3) in
-      tells_same 3 t kept fault (ProvidedTwice is.1.name is.0.maker is.1.maker) is.4
+      reports_same 3 t kept fault (ProvidedTwice is.1.name is.0.maker is.1.maker) is.4
       (record {
         present = (i, j, found.0, found.1, found.2, ap (λ (p : Provision). p.name) b, ap (λ (p : Provision). p.maker) a, ap (λ (p : Provision). p.maker) b);
         coded = refl;
       })
 
-  pub tells_provided_twice : (list : List Provision) → list ≡ provisions t → RepeatsFirst (names_of list) i j → IsProvidedTwice list i j fault → Reports 3 t kept fault
-  tells_provided_twice list same repeated is = told_twice (subst (λ ps. RepeatsFirst (names_of ps) i j) same repeated) (subst (λ ps. IsProvidedTwice ps i j fault) same is)
+  pub reports_provided_twice : (list : List Provision) → list ≡ provisions t → RepeatsFirst (names_of list) i j → IsProvidedTwice list i j fault → Reports 3 t kept fault
+  reports_provided_twice list same repeated is = reported_twice (subst (λ ps. RepeatsFirst (names_of ps) i j) same repeated) (subst (λ ps. IsProvidedTwice ps i j fault) same is)
 
 -- ---- M4
 
@@ -108,8 +108,8 @@ behind_first xs ys i j all r =
     (from_append_at xs ys j r.repeated r.again)
 
 module _ (t : TableValue) (kept : List (List ℕ)) (i j : ℕ) (fault : TableFault) (all : AllDiffer (map (λ (rule : RuleValue). rule.object) t.objects)) where
-  pub told_made : RepeatsFirst (map (λ (rule : RuleValue). rule.object) t.objects ++ files_of (provisions t)) i j → IsMadeTwice t.objects (provisions t) i j fault → Reports 4 t kept fault
-  told_made repeated is =
+  pub reported_made : RepeatsFirst (map (λ (rule : RuleValue). rule.object) t.objects ++ files_of (provisions t)) i j → IsMadeTwice t.objects (provisions t) i j fault → Reports 4 t kept fault
+  reported_made repeated is =
       let found = repetition_of (λ (c : Claim). c.file) (claims t) i j (subst (λ xs. RepeatsFirst xs i j) (sym (claimed_files t.objects (provisions t))) repeated) in
       let far = behind_first (map (λ (rule : RuleValue). rule.object) t.objects) (files_of (provisions t)) i j all repeated in
       let a : found.0 ≡ is.0 = same_some _ _ (sym found.2.x_here ∙ is.2) in
@@ -119,7 +119,7 @@ module _ (t : TableValue) (kept : List (List ℕ)) (i j : ℕ) (fault : TableFau
       (λ own. let within : j < length (own_claims t.objects) = slice_get_within (own_claims t.objects) j found.1 own in absurd (omega (arith, far, within, length_own t.objects (provisions t), length_paths t.objects)))
       (λ out. let from = from_map (λ (p : Provision). let c : Claim = record { maker = p.maker; file = p.file; is_module = true } in c) (provisions t) out.0 found.1 out.2 in ap (λ (c : Claim). c.is_module) (sym from.2))
       (from_append_at (own_claims t.objects) (module_claims (provisions t)) j found.1 found.2.y_here) in
-      tells_same 4 t kept fault (BmiTwice is.1.file is.0.maker is.1.maker) is.4
+      reports_same 4 t kept fault (BmiTwice is.1.file is.0.maker is.1.maker) is.4
       (record {
         present = (
           i,
@@ -164,9 +164,9 @@ module _ (t : TableValue) where
   abbrev pub KnownBefore : ℕ → Type 0
   KnownBefore object = (k : ℕ) (rule : RuleValue) (place : ℕ) (name : List ℕ) → k < object → slice_get t.objects k ≡ Some rule → slice_get rule.required place ≡ Some name → IsAbsent (names_of (provisions t)) name → ⊥
 
-  pub told_unknown : (kept : List (List ℕ)) (object : ℕ) (rule : RuleValue) (place : ℕ) (name : List ℕ) (fault : TableFault) → slice_get t.objects object ≡ Some rule → KnownBefore object → IsFirst (IsAbsent (names_of (provisions t))) rule.required place name → fault ≡ ModuleUnknown name object → Reports 5 t kept fault
-  told_unknown kept object rule place name fault at known first same =
-      tells_same 5 t kept fault (ModuleUnknown name object) same
+  pub reported_unknown : (kept : List (List ℕ)) (object : ℕ) (rule : RuleValue) (place : ℕ) (name : List ℕ) (fault : TableFault) → slice_get t.objects object ≡ Some rule → KnownBefore object → IsFirst (IsAbsent (names_of (provisions t))) rule.required place name → fault ≡ ModuleUnknown name object → Reports 5 t kept fault
+  reported_unknown kept object rule place name fault at known first same =
+      reports_same 5 t kept fault (ModuleUnknown name object) same
       (record {
         present = record {
           rule = rule;
@@ -202,9 +202,9 @@ rows_known numbers t rows object same k rule place name lt at at_name absent =
 abbrev pub IsRowFault : List (List ℕ) → RuleValue → ℕ → TableFault → Type 0
 IsRowFault keys rule object fault = (place : ℕ) × (name : List ℕ) × IsFirst (IsAbsent keys) rule.required place name × (fault ≡ ModuleUnknown name object)
 
-pub tells_unknown : {R : Type 0} (numbers : R → List ℕ) (keys : List (List ℕ)) (objects : List RuleValue) (rows : List R) (object : ℕ) (rule : RuleValue) (fault : TableFault) → slice_get objects object ≡ Some rule → map (λ row. map (slice_get keys) (numbers row)) rows ≡ map (λ (rule : RuleValue). map (λ n. Some n) rule.required) (take object objects) → IsRowFault keys rule object fault → (t : TableValue) (kept : List (List ℕ)) → objects ≡ t.objects → keys ≡ names_of (provisions t) → Reports 5 t kept fault
-tells_unknown numbers keys objects rows object rule fault at same is t kept eo ek =
+pub reports_unknown : {R : Type 0} (numbers : R → List ℕ) (keys : List (List ℕ)) (objects : List RuleValue) (rows : List R) (object : ℕ) (rule : RuleValue) (fault : TableFault) → slice_get objects object ≡ Some rule → map (λ row. map (slice_get keys) (numbers row)) rows ≡ map (λ (rule : RuleValue). map (λ n. Some n) rule.required) (take object objects) → IsRowFault keys rule object fault → (t : TableValue) (kept : List (List ℕ)) → objects ≡ t.objects → keys ≡ names_of (provisions t) → Reports 5 t kept fault
+reports_unknown numbers keys objects rows object rule fault at same is t kept eo ek =
     let at' = subst (λ os. slice_get os object ≡ Some rule) eo at in
     let same' = subst (λ ks. map (λ row. map (slice_get ks) (numbers row)) rows ≡ map (λ (rule : RuleValue). map (λ n. Some n) rule.required) (take object t.objects)) ek (subst (λ os. map (λ row. map (slice_get keys) (numbers row)) rows ≡ map (λ (rule : RuleValue). map (λ n. Some n) rule.required) (take object os)) eo same) in
     let is' = subst (λ ks. IsRowFault ks rule object fault) ek is in
-    told_unknown t kept object rule is'.0 is'.1 fault at' (rows_known numbers t rows object same') is'.2 is'.3
+    reported_unknown t kept object rule is'.0 is'.1 fault at' (rows_known numbers t rows object same') is'.2 is'.3

@@ -1,4 +1,4 @@
--- The faults of a table, and which one is told.
+-- The faults of a table, and which one is reported.
 use Rattle.std.specs.Prelude.{◌≡◌, ◌≢◌, ℕ, ◌≤◌, Bool, true, false, ◌||◌, List, ◌++◌, map, slice_get, Some, IsTrue}
 use Rattle.std.specs.List.{enumerate_from}
 use Rattle.scan_docs.specs.Scan.{RuleValue}
@@ -47,17 +47,17 @@ IsInfoUnknown t r = (file : List ℕ) → IsInfoProvided t r.name file → ⊥
 abbrev pub Disagrees : TableValue → InfoRequirement → Type 0
 Disagrees t r = (file : List ℕ) × IsInfoProvided t r.name file × (file ≢ r.file)
 
--- the info provides the name, and keeps the module to itself
-abbrev pub Keeps : TableValue → ℕ → List ℕ → Type 0
-Keeps t info name = (position : ℕ) × (entry : ModuleValue) × InfoProvides t info position entry × (entry.name ≡ name) × (entry.is_private ≡ true)
+-- the info provides the name, and the module is private to its target
+abbrev pub HasPrivate : TableValue → ℕ → List ℕ → Type 0
+HasPrivate t info name = (position : ℕ) × (entry : ModuleValue) × InfoProvides t info position entry × (entry.name ≡ name) × (entry.is_private ≡ true)
 
--- some info keeps the module of that name to itself
-abbrev pub IsKept : TableValue → List ℕ → Type 0
-IsKept t name = (info : ℕ) × Keeps t info name
+-- the module of that name is private to the target of some info
+abbrev pub IsPrivateName : TableValue → List ℕ → Type 0
+IsPrivateName t name = (info : ℕ) × HasPrivate t info name
 
--- another info than the one whose module requires the name keeps the module of that name to itself
-abbrev pub IsKeptElsewhere : TableValue → InfoRequirement → Type 0
-IsKeptElsewhere t r = (info : ℕ) × Keeps t info r.name × (info ≢ r.info)
+-- the module of that name is private to another target than that of the module that requires it
+abbrev pub IsPrivateElsewhere : TableValue → InfoRequirement → Type 0
+IsPrivateElsewhere t r = (info : ℕ) × HasPrivate t info r.name × (info ≢ r.info)
 
 -- some name of the list is one of which P holds
 abbrev pub Requiring : (List ℕ → Type 0) → RuleValue → Type 0
@@ -71,8 +71,8 @@ pub record IsFirstRequired (P : List ℕ → Type 0) (objects : List RuleValue) 
   pub first_name : IsFirst P rule.required place name
 
 -- no object provides the name
-abbrev pub IsForeign : TableValue → List ℕ → Type 0
-IsForeign t name = (object : ℕ) (position : ℕ) (file : List ℕ) → Provides t object position name file → ⊥
+abbrev pub IsUnprovided : TableValue → List ℕ → Type 0
+IsUnprovided t name = (object : ℕ) (position : ℕ) (file : List ℕ) → Provides t object position name file → ⊥
 
 -- the fault is present in the table, with these names kept, and this is its data
 abbrev pub IsFault : TableValue → List (List ℕ) → TableFault → Type 0
@@ -102,15 +102,15 @@ IsFault t kept (InfoDisagrees target module_name name) =
     × (r.target ≡ target) × (r.module_name ≡ module_name) × (r.name ≡ name)
 -- M8: objects need each other's modules in a ring
 IsFault t kept (ImportCycle objects) = IsLeastCycle (DependsOn t) objects.items
--- M9: an object requires a module that an info keeps to itself
-IsFault t kept (ModulePrivate name info (Object object)) = IsFirstRequired (IsKept t) t.objects object name × Keeps t info name
+-- M9: an object requires a module that is private to the target of an info
+IsFault t kept (ModulePrivate name info (Object object)) = IsFirstRequired (IsPrivateName t) t.objects object name × HasPrivate t info name
 -- M9: or no object does, and a module of another info
 IsFault t kept (ModulePrivate name info (Info user)) =
-    ((object : ℕ) (other : List ℕ) → Requires t object other → IsKept t other → ⊥)
-    × ((place : ℕ) × (r : InfoRequirement) × IsFirst (IsKeptElsewhere t) (info_requirements t) place r
-    × (r.name ≡ name) × (r.info ≡ user) × Keeps t info name × (info ≢ user))
--- M10: a name is to be kept, and no object provides it
-IsFault t kept (PrivateUnknown name) = (place : ℕ) × IsFirst (IsForeign t) kept place name
+    ((object : ℕ) (other : List ℕ) → Requires t object other → IsPrivateName t other → ⊥)
+    × ((place : ℕ) × (r : InfoRequirement) × IsFirst (IsPrivateElsewhere t) (info_requirements t) place r
+    × (r.name ≡ name) × (r.info ≡ user) × HasPrivate t info name × (info ≢ user))
+-- M10: a name is to be private, and no object provides it
+IsFault t kept (PrivateUnknown name) = (place : ℕ) × IsFirst (IsUnprovided t) kept place name
 
 -- the number of the fault's code
 abbrev pub code_number : TableFault → ℕ
@@ -125,7 +125,7 @@ code_number (ImportCycle objects) = 8
 code_number (ModulePrivate name info user) = 9
 code_number (PrivateUnknown name) = 10
 
--- The fault that is told: it is present, and none with a lower code is.
-pub record IsTold (t : TableValue) (kept : List (List ℕ)) (fault : TableFault) : Type 0 where
+-- The fault that is reported: it is present, and none with a lower code is.
+pub record IsReported (t : TableValue) (kept : List (List ℕ)) (fault : TableFault) : Type 0 where
   pub present : IsFault t kept fault
   pub lowest : (other : TableFault) → IsFault t kept other → code_number fault ≤ code_number other

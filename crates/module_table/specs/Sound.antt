@@ -6,7 +6,7 @@ use Rattle.dep_order.specs.Needs.{IsOrderable}
 use Rattle.dep_order.specs.Cycles.{IsCycle}
 use Rattle.module_table.specs.TableValue.{TableValue}
 use Rattle.module_table.specs.Modules.{Provides, Requires, InfoRequires, IsProvided, IsInfoProvided, DependsOn, Provision, provisions}
-use Rattle.module_table.specs.Faults.{Claim, claims, Collides, Keeps}
+use Rattle.module_table.specs.Faults.{Claim, claims, Collides, HasPrivate}
 
 -- No fault from M1 to M9 is present.
 pub record IsSound (t : TableValue) : Type 0 where
@@ -25,11 +25,11 @@ pub record IsSound (t : TableValue) : Type 0 where
   -- no objects need each other's modules in a ring
   pub acyclic : (cycle : List ℕ) → IsCycle (DependsOn t) cycle → ⊥
   pub orderable : IsOrderable (length t.objects) (DependsOn t)
-  -- no object requires a module that an info keeps to itself
-  pub objects_allowed : (o info : ℕ) (name : List ℕ) → Requires t o name → Keeps t info name → ⊥
-  -- and no info's module requires one that another info keeps to itself
-  pub infos_allowed : (i j info : ℕ) (m : ModuleValue) (name file : List ℕ) → InfoRequires t i j m name file → Keeps t info name → info ≡ i
+  -- no object requires a module that is private to the target of an info
+  pub objects_allowed : (o info : ℕ) (name : List ℕ) → Requires t o name → HasPrivate t info name → ⊥
+  -- and no info's module requires one that is private to another target
+  pub infos_allowed : (i j info : ℕ) (m : ModuleValue) (name file : List ℕ) → InfoRequires t i j m name file → HasPrivate t info name → info ≡ i
 
--- every name that is to be kept is one that an object provides
-abbrev pub KeepsOwn : TableValue → List (List ℕ) → Type 0
-KeepsOwn t kept = (name : List ℕ) → Contains kept name → (object : ℕ) × (position : ℕ) × (file : List ℕ) × Provides t object position name file
+-- every name that is to be private is one that an object provides
+abbrev pub KeptAreProvided : TableValue → List (List ℕ) → Type 0
+KeptAreProvided t kept = (name : List ℕ) → Contains kept name → (object : ℕ) × (position : ℕ) × (file : List ℕ) × Provides t object position name file

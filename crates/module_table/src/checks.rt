@@ -7,7 +7,7 @@ ghost use Rattle.dep_order.specs.Rows.{rows};
 ghost use Rattle.module_table.specs.TableValue.{table_with};
 ghost use Rattle.module_table.specs.Modules.{provisions};
 ghost use Rattle.module_table.specs.Added.{required_of};
-ghost use Rattle.module_table.specs.Faults.{IsTold};
+ghost use Rattle.module_table.specs.Faults.{IsReported};
 ghost use Rattle.module_table.specs.Outcomes.{HasNoFault};
 ghost use Rattle.module_table.specs.inner.Views.{names_of};
 ghost use Rattle.module_table.specs.inner.Origins.{origins_of, origin_of};
@@ -66,7 +66,7 @@ pub(crate) fn check_all(
     ensures required { IfOk result (λ index. map (λ row. row.items) index.required.items
         ≡ map (required_of (table_with objects.now infos.now)) objects.now) }
     ensures fault { IfErr result (ForFault
-        (IsTold (table_with objects.now infos.now) kept.now)) }
+        (IsReported (table_with objects.now infos.now) kept.now)) }
 {
     let modules = check_repetitions(alloc, objects, infos)?;
     let rows = check_requirements(alloc, &modules, kept)?;
@@ -92,7 +92,7 @@ fn check_repetitions<'t>(
     ensures passed { OnOk result ((kept : List (List ℕ)) →
         Passed 5 (table_with objects.now infos.now) kept) }
     ensures fault { IfErr result (ForFault (λ fault. (kept : List (List ℕ)) →
-        IsTold (table_with objects.now infos.now) kept fault)) }
+        IsReported (table_with objects.now infos.now) kept fault)) }
 {
     check_objects(alloc, objects)?;
     check_infos(alloc, infos)?;
@@ -110,7 +110,7 @@ fn check_requirements(
     requires { Passed 5 modules.now kept.now }
     ensures indexes { IfOk result (λ required. AreIndexes modules.now (rows required.items)) }
     ensures passed { OnOk result (Passed 11 modules.now kept.now) }
-    ensures fault { IfErr result (ForFault (IsTold modules.now kept.now)) }
+    ensures fault { IfErr result (ForFault (IsReported modules.now kept.now)) }
 {
     let rows = check_objects_known(alloc, modules)?;
     let all = all_required(alloc, modules.infos())?;

@@ -3,7 +3,7 @@
 //! [`Table::build`] makes a table of a target's rules and of the infos of the targets that it links.
 //! It succeeds exactly where none of the faults M1 to M10 is present (`specs/Faults.antt`,
 //! `IsFault`), and else reports one that is present, with its data, and of the lowest code
-//! (`IsTold`). What holds where none is present is stated in `specs/Sound.antt`. The law
+//! (`IsReported`). What holds where none is present is stated in `specs/Sound.antt`. The law
 //! [`sound_tables`] says that this holds exactly there, and [`one_fault`] that no other fault is
 //! reported (`specs/Outcomes.antt`).
 //!

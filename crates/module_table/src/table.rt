@@ -4,8 +4,8 @@ ghost use Rattle.ninja_text.specs.Failure.{ForFault};
 ghost use Rattle.scan_docs.specs.Scan.{RuleValue};
 ghost use Rattle.module_table.specs.TableValue.{table_with};
 ghost use Rattle.module_table.specs.Modules.{IsProvidedBy};
-ghost use Rattle.module_table.specs.Faults.{IsTold, IsFault, IsUnknown};
-ghost use Rattle.module_table.specs.Sound.{IsSound, KeepsOwn};
+ghost use Rattle.module_table.specs.Faults.{IsReported, IsFault, IsUnknown};
+ghost use Rattle.module_table.specs.Sound.{IsSound, KeptAreProvided};
 ghost use Rattle.module_table.specs.Needed.{ArePairs, IsNeeded};
 ghost use Rattle.module_table.specs.Added.{required_of};
 ghost use Rattle.module_table.specs.declared.fault.TableFault.{TableFault};
@@ -68,9 +68,9 @@ impl Table {
     ) -> Result<Table, Failure<TableFault>>
         ensures table { IfOk result (λ table. table ≡ table_with objects.items infos.items) }
         ensures sound { IfOk result IsSound }
-        ensures kept { IfOk result (λ table. KeepsOwn table kept.now) }
+        ensures kept { IfOk result (λ table. KeptAreProvided table kept.now) }
         ensures no_fault { IfOk result (λ table. (fault : TableFault) → IsFault table kept.now fault → ⊥) }
-        ensures fault { IfErr result (ForFault (IsTold (table_with objects.items infos.items) kept.now)) }
+        ensures fault { IfErr result (ForFault (IsReported (table_with objects.items infos.items) kept.now)) }
     {
         let index = check_all(alloc, objects.as_slice(), infos.as_slice(), kept)?;
         Ok(Table {

@@ -22,12 +22,12 @@ names_of provided = map (λ p. p.name) provided
 abbrev pub files_of : List Provision → List (List ℕ)
 files_of provided = map (λ p. p.file) provided
 
--- the fault tells that these two provide one name
+-- the fault says that these two provide one name
 abbrev pub IsProvidedTwice : List Provision → ℕ → ℕ → TableFault → Type 0
 IsProvidedTwice provided i j fault = (a : Provision) × (b : Provision) × (slice_get provided i ≡ Some a) × (slice_get provided j ≡ Some b)
     × (fault ≡ ProvidedTwice b.name a.maker b.maker)
 
--- the fault tells that the files at these places are one: of objects' own paths, and then of modules
+-- the fault says that the files at these indexes are one: of objects' own paths, and then of modules
 abbrev pub IsMadeTwice : List RuleValue → List Provision → ℕ → ℕ → TableFault → Type 0
 IsMadeTwice objects provided i j fault = (a : Claim) × (b : Claim) × (slice_get (claims_of objects provided) i ≡ Some a) × (slice_get (claims_of objects provided) j ≡ Some b)
     × (fault ≡ BmiTwice b.file a.maker b.maker)

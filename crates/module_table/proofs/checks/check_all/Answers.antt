@@ -3,7 +3,7 @@ use Rattle.std.proofs.lemmas.Result.{err_from_is_err_and}
 use Rattle.module_table.specs.TableValue.{TableValue}
 use Rattle.module_table.specs.Added.{required_of}
 use Rattle.module_table.specs.Modules.{provisions}
-use Rattle.module_table.specs.Faults.{IsTold}
+use Rattle.module_table.specs.Faults.{IsReported}
 use Rattle.module_table.specs.inner.Views.{names_of}
 use Rattle.module_table.specs.inner.Origins.{origins_of}
 use Rattle.module_table.specs.inner.Passed.{Passed}
@@ -28,7 +28,7 @@ returns-in_err-rows-clause-fault c =
     let same = c.in_ok-modules.ensures.modules in
     let p = err_from_is_err_and c.from_residual-in_err-rows.result c.from_residual-in_err-rows.ensures.1 in
     rw (p.1, p.2)
-    (for_fault _ _ _ (λ fault is. subst (λ t. IsTold t c.args.kept.now fault) same is) c.in_err-rows.ensures.fault)
+    (for_fault _ _ _ (λ fault is. subst (λ t. IsReported t c.args.kept.now fault) same is) c.in_err-rows.ensures.fault)
 
 pub module_graph-requires-clause-origins : goal.module_graph-requires-clause-origins
 module_graph-requires-clause-origins c = c.as_slice.ensures.value ∙ c.in_ok-origins.ensures ∙ c.provided.ensures.origins

@@ -1,4 +1,4 @@
-use Rattle.module_table.proofs.OneTold as lemmas
+use Rattle.module_table.proofs.OneReported as lemmas
 use Rattle.module_table.proofs.laws.one_fault.Goals as goal
 
 pub returns : goal.returns

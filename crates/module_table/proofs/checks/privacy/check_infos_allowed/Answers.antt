@@ -5,7 +5,7 @@ use Rattle.module_table.specs.inner.Finds.{is_allowed, IsAllowed, IsNotAllowed, 
 use Rattle.module_table.proofs.Places.{same_some, to_map}
 use Rattle.module_table.proofs.Refusals.{first_refused}
 use Rattle.module_table.proofs.Found.{allowed}
-use Rattle.module_table.proofs.Privacy.{tells_private_info}
+use Rattle.module_table.proofs.Privacy.{reports_private_info}
 use Rattle.module_table.proofs.checks.privacy.check_infos_allowed.Goals as goal
 
 pub private_fault-requires : goal.private_fault-requires
@@ -29,7 +29,7 @@ returns-in_ok-fault-in-Some-clause-fault c = λ kept.
     let h = c.in_ok-fault-in-Some.ensures in
     let r = requirement_of c.required_at-required.result.now in
     let refused = first_refused requirement_of (is_allowed ps) (IsAllowed ps) (IsNotAllowed ps) (allowed ps c.names_differ.ensures) c.args.all.now (Some c.in-Some.index) (sym c.in-Some.is ∙ c.first_not_allowed.ensures) in
-    tells_private_info c.args.modules.now kept c.in-Some.index r h.0 c.in_ok-fault-in-Some.fault c.names_differ.ensures
+    reports_private_info c.args.modules.now kept c.in-Some.index r h.0 c.in_ok-fault-in-Some.fault c.names_differ.ensures
     (subst (λ rs. FindsRefused (IsAllowed ps) (IsNotAllowed ps) rs (Some c.in-Some.index)) c.requires.all refused)
     (ap (λ rs. slice_get rs c.in-Some.index) (sym c.requires.all) ∙ to_map requirement_of c.args.all.now c.in-Some.index c.required_at-required.result.now c.required_at-required.ensures)
     h.1 h.2 c.requires.public

@@ -5,7 +5,7 @@ use Rattle.module_table.specs.declared.fault.TableFault.TheVariants.{PrivateUnkn
 use Rattle.module_table.proofs.Repetitions.{map_same}
 use Rattle.module_table.proofs.Refusals.{first_refused}
 use Rattle.module_table.proofs.Found.{by_object}
-use Rattle.module_table.proofs.InfoFaults.{tells_private_unknown}
+use Rattle.module_table.proofs.InfoFaults.{reports_private_unknown}
 use Rattle.module_table.proofs.checks.privacy.check_kept.Goals as goal
 
 pub returns-in-None-clause-ok : goal.returns-in-None-clause-ok
@@ -18,5 +18,5 @@ pub returns-in_ok-name-in-Some-clause-fault : goal.returns-in_ok-name-in-Some-cl
 returns-in_ok-name-in-Some-clause-fault c =
     let ps = provisions c.args.modules.now in
     let refused = first_refused (λ name. name) (is_by_object ps) (IsByObject ps) (IsNotByObject ps) (by_object ps c.names_differ.ensures) c.args.kept.now (Some c.in-Some.index) (sym c.in-Some.is ∙ c.first_not_by_object.ensures) in
-    tells_private_unknown c.args.modules.now c.args.kept.now c.in-Some.index c.name_at.result.now _
+    reports_private_unknown c.args.modules.now c.args.kept.now c.in-Some.index c.name_at.result.now _
     (subst (λ names. FindsRefused (IsByObject ps) (IsNotByObject ps) names (Some c.in-Some.index)) (map_same c.args.kept.now) refused) c.name_at.ensures (ap PrivateUnknown c.in_ok-name-in-Some.ensures)

@@ -8,7 +8,7 @@ use Rattle.module_table.proofs.Repetitions.{map_same}
 use Rattle.module_table.proofs.IndexRows.{take_all}
 use Rattle.module_table.proofs.Found.{public}
 use Rattle.module_table.proofs.Refusals.{accepts_next, first_refused}
-use Rattle.module_table.proofs.Privacy.{tells_private_object}
+use Rattle.module_table.proofs.Privacy.{reports_private_object}
 use Rattle.module_table.proofs.checks.privacy.check_objects_allowed.Goals as goal
 
 pub private_fault-requires : goal.private_fault-requires
@@ -31,7 +31,7 @@ returns-in-Some-clause-fault c = λ kept.
     let list : names ≡ rule.required = c.as_slice-required.ensures.value ∙ ap (λ (r : RuleValue). r.required) c.rule.view_is in
     let at = slice_get_read objects _ i rule refl c.loop-object-test.true c.index-objects-object.is in
     let found = first_refused (λ name. name) (is_public ps) (IsPublic ps) (IsPrivate ps) (public ps c.names_differ.ensures) names (Some c.in-Some.index) (sym c.in-Some.is ∙ c.first_private.ensures) in
-    tells_private_object t kept i rule c.in-Some.index c.name_at-name.result.now h.0 c.in_ok-fault-in-Some.fault
+    reports_private_object t kept i rule c.in-Some.index c.name_at-name.result.now h.0 c.in_ok-fault-in-Some.fault
     (subst (λ os. slice_get os i ≡ Some rule) c.objects-objects.ensures at)
     (subst (λ os. AcceptsAll (RequiresPublic ps) (take i os)) c.objects-objects.ensures c.loop-object.invariant)
     (subst (λ xs. FindsRefused (IsPublic ps) (IsPrivate ps) xs (Some c.in-Some.index)) (map_same names ∙ list) found)

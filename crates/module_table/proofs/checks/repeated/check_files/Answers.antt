@@ -3,7 +3,7 @@ use Rattle.scan_docs.specs.Scan.{RuleValue}
 use Rattle.module_table.specs.Modules.{provisions}
 use Rattle.module_table.specs.inner.Repetition.{FindsRepetition}
 use Rattle.module_table.specs.inner.Views.{provision_of, files_of, IsMadeTwice}
-use Rattle.module_table.proofs.ReportLemmas.{told_made}
+use Rattle.module_table.proofs.ReportLemmas.{reported_made}
 use Rattle.module_table.proofs.checks.repeated.check_files.Goals as goal
 
 pub returns-clause-fault : goal.returns-clause-fault
@@ -16,7 +16,7 @@ returns-clause-fault c = λ kept.
     ∙ ap (λ ps. map (λ (rule : RuleValue). rule.object) t.objects ++ files_of ps) c.provided-provided.ensures.provisions in
     let found = subst (λ xs. FindsRepetition xs c.in_ok-first_repetition.field-0) texts c.in_ok-first_repetition.ensures in
     let repeated = subst (FindsRepetition wanted) c.in-Some.is found in
-    told_made t kept c.in-Some.first c.in-Some.second c.in_ok-fault-in-Some.fault c.requires repeated
+    reported_made t kept c.in-Some.first c.in-Some.second c.in_ok-fault-in-Some.fault c.requires repeated
     (subst (λ ps. IsMadeTwice t.objects ps c.in-Some.first c.in-Some.second c.in_ok-fault-in-Some.fault) c.provided-provided.ensures.provisions
     (subst (λ os. IsMadeTwice os (map provision_of c.provided-provided.result.now) c.in-Some.first c.in-Some.second c.in_ok-fault-in-Some.fault) c.objects-objects.ensures c.in_ok-fault-in-Some.ensures))
 

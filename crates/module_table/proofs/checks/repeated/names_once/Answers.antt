@@ -6,7 +6,7 @@ use Rattle.module_table.specs.inner.Repetition.{RepeatsFirst}
 use Rattle.module_table.specs.declared.modules.Module.{Module}
 use Rattle.module_table.proofs.Places.{to_map}
 use Rattle.module_table.proofs.Repetitions.{repeats_if_found, keys_if_new, differ_if_new, map_same}
-use Rattle.module_table.proofs.ReportLemmas.{tells_provided_twice}
+use Rattle.module_table.proofs.ReportLemmas.{reports_provided_twice}
 use Rattle.module_table.proofs.checks.repeated.names_once.Goals as goal
 
 abbrev name_of : Provision → List ℕ
@@ -23,7 +23,7 @@ returns-then-not-is_new-clause-fault c = λ t kept same.
     let h = c.in_ok-first.ensures in
     let stored = h.stored in
     let repeated = repeats_if_found (λ n. n) (names_of list) c.loop-index.index c.in_ok-name.name c.loop-index.names.keys c.insert_full.new.self.keys at c.loop-index.invariant.same c.loop-index.invariant.differ h.keys c.in_ok-first.first (sym c.if-not-is_new.true ∙ h.added) stored.0 stored.1 stored.2 in
-    tells_provided_twice t kept c.in_ok-first.first c.loop-index.index c.in_ok-provided_twice.field-0 list same (subst (λ xs. RepeatsFirst xs c.in_ok-first.first c.loop-index.index) (map_same (names_of list)) repeated) c.in_ok-provided_twice.ensures
+    reports_provided_twice t kept c.in_ok-first.first c.loop-index.index c.in_ok-provided_twice.field-0 list same (subst (λ xs. RepeatsFirst xs c.in_ok-first.first c.loop-index.index) (map_same (names_of list)) repeated) c.in_ok-provided_twice.ensures
 
 pub loop-index-preserved : goal.loop-index-preserved
 loop-index-preserved c =

@@ -6,7 +6,7 @@ use Rattle.module_table.specs.declared.fault.TableFault.TheVariants.{InfoDisagre
 use Rattle.module_table.proofs.Places.{to_map}
 use Rattle.module_table.proofs.Refusals.{first_refused}
 use Rattle.module_table.proofs.Found.{agreeing}
-use Rattle.module_table.proofs.InfoFaults.{tells_info_disagrees}
+use Rattle.module_table.proofs.InfoFaults.{reports_info_disagrees}
 use Rattle.module_table.proofs.checks.required.check_infos_agree.Goals as goal
 
 pub returns-in-None-clause-ok : goal.returns-in-None-clause-ok
@@ -20,7 +20,7 @@ returns-in_ok-name-in-Some-clause-fault c = λ kept.
     let ps = provisions c.args.modules.now in
     let r = requirement_of c.required_at-required.result.now in
     let refused = first_refused requirement_of (agrees ps) (Agrees ps) (Differs ps) (agreeing ps c.names_differ.ensures) c.args.all.now (Some c.in-Some.index) (sym c.in-Some.is ∙ c.first_differing.ensures) in
-    tells_info_disagrees c.args.modules.now kept c.in-Some.index r _ c.names_differ.ensures c.requires.known
+    reports_info_disagrees c.args.modules.now kept c.in-Some.index r _ c.names_differ.ensures c.requires.known
     (subst (λ rs. FindsRefused (Agrees ps) (Differs ps) rs (Some c.in-Some.index)) c.requires.all refused)
     (ap (λ rs. slice_get rs c.in-Some.index) (sym c.requires.all) ∙ to_map requirement_of c.args.all.now c.in-Some.index c.required_at-required.result.now c.required_at-required.ensures)
     (ap (λ x. InfoDisagrees x c.in_ok-module_name-in-Some.module_name c.in_ok-name-in-Some.name) c.in_ok-target-in-Some.ensures

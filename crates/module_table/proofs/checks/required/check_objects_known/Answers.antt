@@ -5,7 +5,7 @@ use Rattle.std.proofs.lemmas.Result.{err_from_is_err_and}
 use Rattle.scan_docs.specs.Scan.{RuleValue}
 use Rattle.module_table.specs.inner.Reported.{Reports}
 use Rattle.module_table.proofs.IndexRows.{are_indexes, take_all}
-use Rattle.module_table.proofs.ReportLemmas.{for_fault, tells_unknown}
+use Rattle.module_table.proofs.ReportLemmas.{for_fault, reports_unknown}
 use Rattle.module_table.proofs.checks.required.check_objects_known.Goals as goal
 
 pub returns-in_err-row-clause-fault : goal.returns-in_err-row-clause-fault
@@ -15,7 +15,7 @@ returns-in_err-row-clause-fault c =
     let at = slice_get_read objects _ c.loop-object.object c.index-objects-object.result refl c.loop-object-test.true c.index-objects-object.is in
     rw (p.1, p.2)
     (for_fault _ (λ fault. (kept : List (List ℕ)) → Reports 5 c.args.modules.now kept fault) _
-    (λ fault is kept. tells_unknown (λ (row : Vec ℕ Global). row.items) c.names-names.result.now.keys objects c.loop-object.required.items c.loop-object.object c.index-objects-object.result fault at c.loop-object.invariant is c.args.modules.now kept c.objects-objects.ensures c.names-names.ensures)
+    (λ fault is kept. reports_unknown (λ (row : Vec ℕ Global). row.items) c.names-names.result.now.keys objects c.loop-object.required.items c.loop-object.object c.index-objects-object.result fault at c.loop-object.invariant is c.args.modules.now kept c.objects-objects.ensures c.names-names.ensures)
     c.in_err-row.ensures.fault)
 
 pub returns-clause-ok : goal.returns-clause-ok

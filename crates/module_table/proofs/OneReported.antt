@@ -5,7 +5,7 @@ use Rattle.dep_order.proofs.ForCallers.{one_cycle}
 use Rattle.module_table.specs.TableValue.{TableValue}
 use Rattle.module_table.specs.Modules.{DependsOn, provisions, Provision, InfoRequirement}
 use Rattle.module_table.specs.Firsts.{IsFirst, IsFirstRepetition}
-use Rattle.module_table.specs.Faults.{IsTold, IsFirstRequired, Keeps, Claim, code_number}
+use Rattle.module_table.specs.Faults.{IsReported, IsFirstRequired, HasPrivate, Claim, code_number}
 use Rattle.module_table.specs.Outcomes.{IsSameFault, same, same_ring, OneFault}
 use Rattle.module_table.specs.inner.Repetition.{AllDiffer}
 use Rattle.module_table.specs.inner.Views.{names_of}
@@ -15,7 +15,7 @@ use Rattle.module_table.specs.declared.fault.TableFault.TheVariants.{ObjectTwice
 use Rattle.module_table.proofs.Places.{same_some, three_ways}
 use Rattle.module_table.proofs.Required.{contained}
 use Rattle.module_table.proofs.Found.{one_module}
-use Rattle.module_table.proofs.Privacy.{keeps_private}
+use Rattle.module_table.proofs.Privacy.{has_private}
 use Rattle.module_table.proofs.Faultless.{names_differ}
 
 -- ---- there is one first
@@ -66,10 +66,10 @@ module _ (P : List ℕ → Type 0) (objects : List RuleValue) (o u : ℕ) (name 
       one_first q.rule.required P p.place q.place name other (subst (λ (r : RuleValue). IsFirst P r.required p.place name) rule p.first_name) q.first_name
 
 -- one info keeps a module
-one_keeper : (t : TableValue) → AllDiffer (names_of (provisions t)) → (name : List ℕ) (i j : ℕ) → Keeps t i name → Keeps t j name → i ≡ j
+one_keeper : (t : TableValue) → AllDiffer (names_of (provisions t)) → (name : List ℕ) (i j : ℕ) → HasPrivate t i name → HasPrivate t j name → i ≡ j
 one_keeper t differ name i j p q =
-    let a = keeps_private t i name p in
-    let b = keeps_private t j name q in
+    let a = has_private t i name p in
+    let b = has_private t j name q in
     let makers : Info i ≡ Info j = sym a.4 ∙ ap (λ (x : Provision). x.maker) (one_module (provisions t) name differ a.0 b.0 a.1 b.1 a.2 b.2) ∙ b.4 in
     cc
 
@@ -77,12 +77,12 @@ by_same : (fault other : TableFault) → fault ≡ other → IsSameFault fault o
 by_same fault other e = subst (IsSameFault fault) e same
 
 -- where a fault of that code is told no name is provided twice
-differ_below : (t : TableValue) (kept : List (List ℕ)) (fault : TableFault) → IsTold t kept fault → 3 < code_number fault → AllDiffer (names_of (provisions t))
+differ_below : (t : TableValue) (kept : List (List ℕ)) (fault : TableFault) → IsReported t kept fault → 3 < code_number fault → AllDiffer (names_of (provisions t))
 differ_below t kept fault told lt = names_differ t kept (λ name first second h. absurd (omega (arith, lt, told.lowest (ProvidedTwice name first second) h)))
 
 -- ---- of each code one fault is told
 
-one_of_code : (t : TableValue) (kept : List (List ℕ)) (fault other : TableFault) → code_number fault ≡ code_number other → IsTold t kept fault → IsTold t kept other → IsSameFault fault other
+one_of_code : (t : TableValue) (kept : List (List ℕ)) (fault other : TableFault) → code_number fault ≡ code_number other → IsReported t kept fault → IsReported t kept other → IsSameFault fault other
 one_of_code t kept (ObjectTwice path first second) (ObjectTwice other third fourth) e a b =
     let p = a.present in
     let q = b.present in
@@ -138,7 +138,7 @@ one_of_code t kept (ImportCycle ring) (ImportCycle other) e a b = same_ring (one
 one_of_code t kept (ModulePrivate name info (Object object)) (ModulePrivate other keeper (Object user)) e a b =
     let n : name ≡ other = one_required _ t.objects object user name other a.present.0 b.present.0 in
     let o : object ≡ user = one_user _ t.objects object user name other a.present.0 b.present.0 in
-    let k : info ≡ keeper = one_keeper t (differ_below t kept _ a (omega arith)) other info keeper (subst (Keeps t info) n a.present.1) b.present.1 in
+    let k : info ≡ keeper = one_keeper t (differ_below t kept _ a (omega arith)) other info keeper (subst (HasPrivate t info) n a.present.1) b.present.1 in
     by_same _ _ (cc)
 one_of_code t kept (ModulePrivate name info (Object object)) (ModulePrivate other keeper (Info user)) e a b =
     let p = a.present.0 in
@@ -152,7 +152,7 @@ one_of_code t kept (ModulePrivate name info (Info user)) (ModulePrivate other ke
     let r : p.1 ≡ q.1 = one_first _ _ p.0 q.0 p.1 q.1 p.2 q.2 in
     let n : name ≡ other = sym p.3 ∙ ap (λ (z : InfoRequirement). z.name) r ∙ q.3 in
     let u : user ≡ third = sym p.4 ∙ ap (λ (z : InfoRequirement). z.info) r ∙ q.4 in
-    let k : info ≡ keeper = one_keeper t (differ_below t kept _ a (omega arith)) other info keeper (subst (Keeps t info) n p.5) q.5 in
+    let k : info ≡ keeper = one_keeper t (differ_below t kept _ a (omega arith)) other info keeper (subst (HasPrivate t info) n p.5) q.5 in
     by_same _ _ (cc)
 one_of_code t kept (PrivateUnknown name) (PrivateUnknown other) e a b =
     by_same _ _ (ap PrivateUnknown (one_first _ _ a.present.0 b.present.0 name other a.present.1 b.present.1))
