@@ -42,7 +42,7 @@ sound_has_no_fault t kept sound own (ProvidedTwice name first second) h =
     omega (arith, h.4.earlier, same)
 sound_has_no_fault t kept sound own (BmiTwice path first second) h = sound.files_differ h.0 h.1 h.2 h.3 h.4.earlier h.4.x_here h.4.y_here h.4.alike
 sound_has_no_fault t kept sound own (ModuleUnknown name object) h =
-    let known = sound.known object name (h.rule, h.first_object.here, contained h.rule.required name (h.place, h.first_name.here)) in
+    let known = sound.known object name (h.rule, h.first_object.here, contained h.rule.required name (h.index, h.first_name.here)) in
     h.first_name.holds known.0 known.1
 sound_has_no_fault t kept sound own (InfoUnknown target module_name name) h =
     let r = requires_at t h.0 h.1 h.2.here in
@@ -54,7 +54,7 @@ sound_has_no_fault t kept sound own (InfoDisagrees target module_name name) h =
     found.2 (one_file t sound h.1.name found.0 h.1.file (Info found.1.0, found.1.1) (Info said.0, said.1))
 sound_has_no_fault t kept sound own (ImportCycle objects) h = sound.acyclic objects.items h.is_cycle
 sound_has_no_fault t kept sound own (ModulePrivate name info (Object object)) h =
-    sound.objects_allowed object info name (h.0.rule, h.0.first_object.here, contained h.0.rule.required name (h.0.place, h.0.first_name.here)) h.1
+    sound.objects_allowed object info name (h.0.rule, h.0.first_object.here, contained h.0.rule.required name (h.0.index, h.0.first_name.here)) h.1
 sound_has_no_fault t kept sound own (ModulePrivate name info (Info user)) h =
     let r = requires_at t h.1.0 h.1.1 h.1.2.here in
     let found = h.1.2.holds in

@@ -80,7 +80,7 @@ none_required P objects none object rule name at has holds =
     let there = placed rule.required name has in
     nowhere (Requiring P) objects
     (λ o r first.
-    nowhere P r.required (λ place n first_name. none o n (record { rule = r; place = place; first_object = first; first_name = first_name })) first.holds.0 first.holds.1 first.holds.2 first.holds.3)
+    nowhere P r.required (λ place n first_name. none o n (record { rule = r; index = place; first_object = first; first_name = first_name })) first.holds.0 first.holds.1 first.holds.2 first.holds.3)
     object rule at (there.0, name, there.1, holds)
 
 -- the name stands in the list, or not

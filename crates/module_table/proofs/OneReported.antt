@@ -63,7 +63,7 @@ module _ (P : List ℕ → Type 0) (objects : List RuleValue) (o u : ℕ) (name 
   one_required : name ≡ other
   one_required =
       let rule : p.rule ≡ q.rule = one_first objects _ o u p.rule q.rule p.first_object q.first_object in
-      one_first q.rule.required P p.place q.place name other (subst (λ (r : RuleValue). IsFirst P r.required p.place name) rule p.first_name) q.first_name
+      one_first q.rule.required P p.index q.index name other (subst (λ (r : RuleValue). IsFirst P r.required p.index name) rule p.first_name) q.first_name
 
 -- one info keeps a module
 one_keeper : (t : TableValue) → AllDiffer (names_of (provisions t)) → (name : List ℕ) (i j : ℕ) → HasPrivate t i name → HasPrivate t j name → i ≡ j
@@ -142,10 +142,10 @@ one_of_code t kept (ModulePrivate name info (Object object)) (ModulePrivate othe
     by_same _ _ (cc)
 one_of_code t kept (ModulePrivate name info (Object object)) (ModulePrivate other keeper (Info user)) e a b =
     let p = a.present.0 in
-    absurd (b.present.0 object name (p.rule, p.first_object.here, contained p.rule.required name (p.place, p.first_name.here)) p.first_name.holds)
+    absurd (b.present.0 object name (p.rule, p.first_object.here, contained p.rule.required name (p.index, p.first_name.here)) p.first_name.holds)
 one_of_code t kept (ModulePrivate name info (Info user)) (ModulePrivate other keeper (Object object)) e a b =
     let q = b.present.0 in
-    absurd (a.present.0 object other (q.rule, q.first_object.here, contained q.rule.required other (q.place, q.first_name.here)) q.first_name.holds)
+    absurd (a.present.0 object other (q.rule, q.first_object.here, contained q.rule.required other (q.index, q.first_name.here)) q.first_name.holds)
 one_of_code t kept (ModulePrivate name info (Info user)) (ModulePrivate other keeper (Info third)) e a b =
     let p = a.present.1 in
     let q = b.present.1 in

@@ -125,7 +125,7 @@ module _ (t : TableValue) (kept : List (List ℕ)) where
   requirements_lack known (ProvidedTwice name first second) e h = absurd (omega (arith, e))
   requirements_lack known (BmiTwice path first second) e h = absurd (omega (arith, e))
   requirements_lack known (ModuleUnknown name object) e h =
-      let file = known object name (h.rule, h.first_object.here, contained h.rule.required name (h.place, h.first_name.here)) in
+      let file = known object name (h.rule, h.first_object.here, contained h.rule.required name (h.index, h.first_name.here)) in
       h.first_name.holds file.0 file.1
   requirements_lack known (InfoUnknown target module_name name) e h = absurd (omega (arith, e))
   requirements_lack known (InfoDisagrees target module_name name) e h = absurd (omega (arith, e))
@@ -178,7 +178,7 @@ module _ (t : TableValue) (kept : List (List ℕ)) where
   private_lacks public allowed (InfoUnknown target module_name name) e h = absurd (omega (arith, e))
   private_lacks public allowed (InfoDisagrees target module_name name) e h = absurd (omega (arith, e))
   private_lacks public allowed (ImportCycle objects) e h = absurd (omega (arith, e))
-  private_lacks public allowed (ModulePrivate name info (Object object)) e h = public_rows t public object name (h.0.rule, h.0.first_object.here, contained h.0.rule.required name (h.0.place, h.0.first_name.here)) (info, h.1)
+  private_lacks public allowed (ModulePrivate name info (Object object)) e h = public_rows t public object name (h.0.rule, h.0.first_object.here, contained h.0.rule.required name (h.0.index, h.0.first_name.here)) (info, h.1)
   private_lacks public allowed (ModulePrivate name info (Info user)) e h = allowed_not_private t h.1.1 (allowed.each h.1.0 h.1.1 h.1.2.here) h.1.2.holds
   private_lacks public allowed (PrivateUnknown name) e h = absurd (omega (arith, e))
 

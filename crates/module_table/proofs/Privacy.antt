@@ -81,7 +81,7 @@ module _ (t : TableValue) where
         present = (
           record {
             rule = rule;
-            place = place;
+            index = place;
             first_object = record {
               here = at;
               holds = (place, name, at_name, (info, keeps));

@@ -170,7 +170,7 @@ module _ (t : TableValue) where
       (record {
         present = record {
           rule = rule;
-          place = place;
+          index = place;
           first_object = record {
             here = at;
             holds = (place, name, first.here, absent_unknown name first.holds);

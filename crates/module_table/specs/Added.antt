@@ -10,7 +10,7 @@ use Rattle.module_table.specs.Sound.{IsSound}
 
 -- the object gains the file as an output
 abbrev pub AddsOutput : TableValue → ℕ → List ℕ → Type 0
-AddsOutput t object file = (position : ℕ) × (name : List ℕ) × Provides t object position name file
+AddsOutput t object file = (index : ℕ) × (name : List ℕ) × Provides t object index name file
 
 -- the object gains the file as an input
 abbrev pub AddsInput : TableValue → ℕ → List ℕ → Type 0

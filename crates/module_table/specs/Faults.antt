@@ -49,7 +49,7 @@ Disagrees t r = (file : List ℕ) × IsInfoProvided t r.name file × (file ≢ r
 
 -- the info provides the name, and the module is private to its target
 abbrev pub HasPrivate : TableValue → ℕ → List ℕ → Type 0
-HasPrivate t info name = (position : ℕ) × (entry : ModuleValue) × InfoProvides t info position entry × (entry.name ≡ name) × (entry.is_private ≡ true)
+HasPrivate t info name = (index : ℕ) × (entry : ModuleValue) × InfoProvides t info index entry × (entry.name ≡ name) × (entry.is_private ≡ true)
 
 -- the module of that name is private to the target of some info
 abbrev pub IsPrivateName : TableValue → List ℕ → Type 0
@@ -61,18 +61,18 @@ IsPrivateElsewhere t r = (info : ℕ) × HasPrivate t info r.name × (info ≢ r
 
 -- some name of the list is one of which P holds
 abbrev pub Requiring : (List ℕ → Type 0) → RuleValue → Type 0
-Requiring P rule = (place : ℕ) × (name : List ℕ) × (slice_get rule.required place ≡ Some name) × P name
+Requiring P rule = (index : ℕ) × (name : List ℕ) × (slice_get rule.required index ≡ Some name) × P name
 
 -- the first object that requires a name of which P holds, and the first such name of it
 pub record IsFirstRequired (P : List ℕ → Type 0) (objects : List RuleValue) (object : ℕ) (name : List ℕ) : Type 0 where
   pub rule : RuleValue
-  pub place : ℕ
+  pub index : ℕ
   pub first_object : IsFirst (Requiring P) objects object rule
-  pub first_name : IsFirst P rule.required place name
+  pub first_name : IsFirst P rule.required index name
 
 -- no object provides the name
 abbrev pub IsUnprovided : TableValue → List ℕ → Type 0
-IsUnprovided t name = (object : ℕ) (position : ℕ) (file : List ℕ) → Provides t object position name file → ⊥
+IsUnprovided t name = (object : ℕ) (index : ℕ) (file : List ℕ) → Provides t object index name file → ⊥
 
 -- the fault is present in the table, with these names kept, and this is its data
 abbrev pub IsFault : TableValue → List (List ℕ) → TableFault → Type 0
@@ -94,11 +94,11 @@ IsFault t kept (BmiTwice path first second) =
 IsFault t kept (ModuleUnknown name object) = IsFirstRequired (IsUnknown t) t.objects object name
 -- M6: an info's module requires a name that no info provides
 IsFault t kept (InfoUnknown target module_name name) =
-    (place : ℕ) × (r : InfoRequirement) × IsFirst (IsInfoUnknown t) (info_requirements t) place r
+    (index : ℕ) × (r : InfoRequirement) × IsFirst (IsInfoUnknown t) (info_requirements t) index r
     × (r.target ≡ target) × (r.module_name ≡ module_name) × (r.name ≡ name)
 -- M7: an info's module requires a name with another file than that of the info that provides it
 IsFault t kept (InfoDisagrees target module_name name) =
-    (place : ℕ) × (r : InfoRequirement) × IsFirst (Disagrees t) (info_requirements t) place r
+    (index : ℕ) × (r : InfoRequirement) × IsFirst (Disagrees t) (info_requirements t) index r
     × (r.target ≡ target) × (r.module_name ≡ module_name) × (r.name ≡ name)
 -- M8: objects need each other's modules in a ring
 IsFault t kept (ImportCycle objects) = IsLeastCycle (DependsOn t) objects.items
@@ -107,10 +107,10 @@ IsFault t kept (ModulePrivate name info (Object object)) = IsFirstRequired (IsPr
 -- M9: or no object does, and a module of another info
 IsFault t kept (ModulePrivate name info (Info user)) =
     ((object : ℕ) (other : List ℕ) → Requires t object other → IsPrivateName t other → ⊥)
-    × ((place : ℕ) × (r : InfoRequirement) × IsFirst (IsPrivateElsewhere t) (info_requirements t) place r
+    × ((index : ℕ) × (r : InfoRequirement) × IsFirst (IsPrivateElsewhere t) (info_requirements t) index r
     × (r.name ≡ name) × (r.info ≡ user) × HasPrivate t info name × (info ≢ user))
 -- M10: a name is to be private, and no object provides it
-IsFault t kept (PrivateUnknown name) = (place : ℕ) × IsFirst (IsUnprovided t) kept place name
+IsFault t kept (PrivateUnknown name) = (index : ℕ) × IsFirst (IsUnprovided t) kept index name
 
 -- the number of the fault's code
 abbrev pub code_number : TableFault → ℕ

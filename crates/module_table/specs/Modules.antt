@@ -1,4 +1,4 @@
--- Who provides and who requires which module. Names and files are texts; objects, infos and positions are numbered from 0.
+-- Who provides and who requires which module. Names and files are texts; objects, infos and what stands in a list go by index, from 0.
 use Rattle.std.specs.Prelude.{◌≡◌, ℕ, Bool, false, List, ◌++◌, map, slice_get, Some, Contains}
 use Rattle.std.specs.List.{flat_map, enumerate_from}
 use Rattle.scan_docs.specs.Scan.{RuleValue}
@@ -9,26 +9,26 @@ use Rattle.module_table.specs.declared.fault.Maker.TheVariants.{Object, Info}
 
 -- ---- as relations
 
--- the object provides the name at this position, with the file
+-- the object provides the name at this index, with the file
 abbrev pub Provides : TableValue → ℕ → ℕ → List ℕ → List ℕ → Type 0
-Provides t object position name file = (rule : RuleValue) × (slice_get t.objects object ≡ Some rule) × (slice_get rule.provided position ≡ Some (name, file))
+Provides t object index name file = (rule : RuleValue) × (slice_get t.objects object ≡ Some rule) × (slice_get rule.provided index ≡ Some (name, file))
 
 -- the object requires the name
 abbrev pub Requires : TableValue → ℕ → List ℕ → Type 0
 Requires t object name = (rule : RuleValue) × (slice_get t.objects object ≡ Some rule) × Contains rule.required name
 
--- this is the info's module at this position
+-- this is the info's module at this index
 abbrev pub InfoProvides : TableValue → ℕ → ℕ → ModuleValue → Type 0
-InfoProvides t info position entry = (value : InfoValue) × (slice_get t.infos info ≡ Some value) × (slice_get value.modules position ≡ Some entry)
+InfoProvides t info index entry = (value : InfoValue) × (slice_get t.infos info ≡ Some value) × (slice_get value.modules index ≡ Some entry)
 
 -- this module of an info requires the name, and says that this is its file
 abbrev pub InfoRequires : TableValue → ℕ → ℕ → ModuleValue → List ℕ → List ℕ → Type 0
-InfoRequires t info position entry name file = InfoProvides t info position entry × Contains entry.required (name, file)
+InfoRequires t info index entry name file = InfoProvides t info index entry × Contains entry.required (name, file)
 
 -- the object or the info provides the name with the file
 abbrev pub IsProvidedBy : TableValue → Maker → List ℕ → List ℕ → Type 0
-IsProvidedBy t (Object object) name file = (position : ℕ) × Provides t object position name file
-IsProvidedBy t (Info info) name file = (position : ℕ) × (entry : ModuleValue) × InfoProvides t info position entry × (entry.name ≡ name) × (entry.file ≡ file)
+IsProvidedBy t (Object object) name file = (index : ℕ) × Provides t object index name file
+IsProvidedBy t (Info info) name file = (index : ℕ) × (entry : ModuleValue) × InfoProvides t info index entry × (entry.name ≡ name) × (entry.file ≡ file)
 
 -- somebody provides the name with the file
 abbrev pub IsProvided : TableValue → List ℕ → List ℕ → Type 0
@@ -40,7 +40,7 @@ IsInfoProvided t name file = (info : ℕ) × IsProvidedBy t (Info info) name fil
 
 -- the one object requires a name that the other one provides
 abbrev pub DependsOn : TableValue → ℕ → ℕ → Type 0
-DependsOn t object other = (name : List ℕ) × (file : List ℕ) × (position : ℕ) × Requires t object name × Provides t other position name file
+DependsOn t object other = (name : List ℕ) × (file : List ℕ) × (index : ℕ) × Requires t object name × Provides t other index name file
 
 -- ---- as lists, in the order in which faults are looked for
 
@@ -57,7 +57,7 @@ object_provisions object = map (λ p. record { maker = Object object.0; name = p
 abbrev pub info_provisions : ℕ × InfoValue → List Provision
 info_provisions info = map (λ m. record { maker = Info info.0; name = m.name; file = m.file; is_private = m.is_private }) info.1.modules
 
--- all provided modules: by object and position, then by info and position
+-- all provided modules: by object and index, then by info and index
 abbrev pub provisions : TableValue → List Provision
 provisions t = flat_map object_provisions (enumerate_from 0 t.objects) ++ flat_map info_provisions (enumerate_from 0 t.infos)
 
@@ -78,6 +78,6 @@ requirements_of_info info = flat_map (module_requirements info.0 info.1.target) 
 abbrev pub info_requirements_of : List InfoValue → List InfoRequirement
 info_requirements_of infos = flat_map requirements_of_info (enumerate_from 0 infos)
 
--- all requirements of infos' modules: by info, module and position
+-- all requirements of infos' modules: by info, module and index
 abbrev pub info_requirements : TableValue → List InfoRequirement
 info_requirements t = info_requirements_of t.infos

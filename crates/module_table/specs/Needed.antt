@@ -11,8 +11,8 @@ use Rattle.module_table.specs.Modules.{Provides, Requires, InfoRequires, IsProvi
 -- the object or the info's module that provides the first name requires the second
 abbrev pub LeadsTo : TableValue → List ℕ → List ℕ → Type 0
 LeadsTo t first second =
-    ((object : ℕ) × (position : ℕ) × (file : List ℕ) × Provides t object position first file × Requires t object second)
-    ⊎ ((info : ℕ) × (position : ℕ) × (entry : ModuleValue) × (file : List ℕ) × (entry.name ≡ first) × InfoRequires t info position entry second file)
+    ((object : ℕ) × (index : ℕ) × (file : List ℕ) × Provides t object index first file × Requires t object second)
+    ⊎ ((info : ℕ) × (index : ℕ) × (entry : ModuleValue) × (file : List ℕ) × (entry.name ≡ first) × InfoRequires t info index entry second file)
 
 -- the names lead from one to the next, to the last
 abbrev pub Leads : TableValue → List ℕ → List (List ℕ) → List ℕ → Type 0

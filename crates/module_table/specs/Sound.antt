@@ -32,4 +32,4 @@ pub record IsSound (t : TableValue) : Type 0 where
 
 -- every name that is to be private is one that an object provides
 abbrev pub KeptAreProvided : TableValue → List (List ℕ) → Type 0
-KeptAreProvided t kept = (name : List ℕ) → Contains kept name → (object : ℕ) × (position : ℕ) × (file : List ℕ) × Provides t object position name file
+KeptAreProvided t kept = (name : List ℕ) → Contains kept name → (object : ℕ) × (index : ℕ) × (file : List ℕ) × Provides t object index name file

@@ -1,4 +1,4 @@
--- For private clauses: what is found at the place of a module.
+-- What is found at the origin of a module.
 use Rattle.std.specs.Prelude.{◌≡◌, ℕ, ◌<◌, List, slice_get, Option, Some}
 use Rattle.std.specs.Option.{option_map}
 use Rattle.scan_docs.specs.Scan.{RuleValue}
@@ -7,24 +7,24 @@ use Rattle.module_table.specs.Modules.{Provision}
 use Rattle.module_table.specs.declared.fault.Maker.{Maker}
 use Rattle.module_table.specs.declared.fault.Maker.TheVariants.{Object, Info}
 
--- this is the pair of the object at this position
+-- this is the pair of the object at this index
 abbrev pub IsObjectsPair : List RuleValue → ℕ → ℕ → List ℕ × List ℕ → Type 0
-IsObjectsPair objects object position pair = (rule : RuleValue) × (slice_get objects object ≡ Some rule) × (slice_get rule.provided position ≡ Some pair)
+IsObjectsPair objects object index pair = (rule : RuleValue) × (slice_get objects object ≡ Some rule) × (slice_get rule.provided index ≡ Some pair)
 
--- this is the module of the info at this position
+-- this is the module of the info at this index
 abbrev pub IsInfosModule : List InfoValue → ℕ → ℕ → ModuleValue → Type 0
-IsInfosModule infos info position entry = (value : InfoValue) × (slice_get infos info ≡ Some value) × (slice_get value.modules position ≡ Some entry)
+IsInfosModule infos info index entry = (value : InfoValue) × (slice_get infos info ≡ Some value) × (slice_get value.modules index ≡ Some entry)
 
--- the module at the place has this name and this file
+-- the module of this origin has this name and this file
 abbrev pub IsNamedAt : List RuleValue → List InfoValue → Maker × ℕ → List ℕ × List ℕ → Type 0
-IsNamedAt objects infos (Object object, position) pair = IsObjectsPair objects object position pair
-IsNamedAt objects infos (Info info, position) pair = (entry : ModuleValue) × IsInfosModule infos info position entry × (entry.name ≡ pair.0) × (entry.file ≡ pair.1)
+IsNamedAt objects infos (Object object, index) pair = IsObjectsPair objects object index pair
+IsNamedAt objects infos (Info info, index) pair = (entry : ModuleValue) × IsInfosModule infos info index entry × (entry.name ≡ pair.0) × (entry.file ≡ pair.1)
 
--- the place is that of one of so many objects, or of a module of these infos
+-- the origin is that of one of so many objects, or of a module of these infos
 abbrev pub IsOriginAmong : ℕ → List InfoValue → Maker × ℕ → Type 0
-IsOriginAmong object_count infos (Object object, position) = object < object_count
-IsOriginAmong object_count infos (Info info, position) = (entry : ModuleValue) × IsInfosModule infos info position entry
+IsOriginAmong object_count infos (Object object, index) = object < object_count
+IsOriginAmong object_count infos (Info info, index) = (entry : ModuleValue) × IsInfosModule infos info index entry
 
--- the name and the file of the module of that number
+-- the name and the file of the module of that index
 abbrev pub pair_at : List Provision → ℕ → Option (List ℕ × List ℕ)
 pair_at provided number = option_map (λ p. (p.name, p.file)) (slice_get provided number)

@@ -1,4 +1,4 @@
--- For private clauses: requirements by the numbers of names.
+-- Requirements by the indexes of modules.
 use Rattle.std.specs.Prelude.{◌≡◌, ℕ, List, map, slice_get, Option, Some, None, option_and_then}
 use Rattle.module_table.specs.TableValue.{TableValue}
 use Rattle.module_table.specs.Modules.{Provision, provisions}
@@ -13,7 +13,7 @@ AreIndexes t rows =
     map (λ row. map (slice_get (names_of (provisions t))) row) rows
     ≡ map (λ rule. map (λ name. Some name) rule.required) t.objects
 
--- each object's row has the numbers of the names that it requires, a name's number being its module's place
+-- the same of a list of modules, no two of which have one name
 pub record IsNumbered (t : TableValue) (provided : List Provision) (rows : List (List ℕ)) : Type 0 where
   pub all_provided : provided ≡ provisions t
   pub differ : AllDiffer (names_of provided)
@@ -24,6 +24,6 @@ abbrev pub object_of : Maker → Option ℕ
 object_of (Object object) = Some object
 object_of (Info info) = None
 
--- the object that makes the module of that number
+-- the object that makes the module of that index
 abbrev pub maker_at : List Provision → ℕ → Option ℕ
 maker_at provided number = option_and_then (λ p. object_of p.maker) (slice_get provided number)

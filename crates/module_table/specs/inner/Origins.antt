@@ -1,4 +1,4 @@
--- For private clauses: where each provided module stands.
+-- Where each provided module stands.
 use Rattle.std.specs.Prelude.{ℕ, List, ◌++◌, map}
 use Rattle.std.specs.List.{flat_map, enumerate_from}
 use Rattle.scan_docs.specs.Scan.{RuleValue}
@@ -8,20 +8,20 @@ use Rattle.module_table.specs.declared.fault.Maker.{Maker}
 use Rattle.module_table.specs.declared.fault.Maker.TheVariants.{Object, Info}
 use Rattle.module_table.specs.declared.modules.Module.{Module}
 
--- who provides a module, and at which position
-abbrev pub Place : Type 0
-Place = Maker × ℕ
+-- who provides a module, and at which index among its maker's
+abbrev pub Origin : Type 0
+Origin = Maker × ℕ
 
-abbrev pub object_origins : ℕ × RuleValue → List Place
+abbrev pub object_origins : ℕ × RuleValue → List Origin
 object_origins object = map (λ p. (Object object.0, p.0)) (enumerate_from 0 object.1.provided)
 
-abbrev pub info_origins : ℕ × InfoValue → List Place
+abbrev pub info_origins : ℕ × InfoValue → List Origin
 info_origins info = map (λ m. (Info info.0, m.0)) (enumerate_from 0 info.1.modules)
 
--- the places of all provided modules, in their order: by object and position, then by info and position
-abbrev pub origins_of : TableValue → List Place
+-- the origins of all provided modules, in their order: by object and index, then by info and index
+abbrev pub origins_of : TableValue → List Origin
 origins_of t = flat_map object_origins (enumerate_from 0 t.objects) ++ flat_map info_origins (enumerate_from 0 t.infos)
 
--- the place of a borrowed module
-abbrev pub origin_of : Module → Place
+-- the origin of a borrowed module
+abbrev pub origin_of : Module → Origin
 origin_of p = (p.maker, p.index)

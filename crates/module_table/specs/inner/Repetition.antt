@@ -1,11 +1,11 @@
--- For private clauses: whether a text stands in a list twice.
+-- Whether a text stands in a list twice.
 use Rattle.std.specs.Prelude.{◌≡◌, ℕ, ◌<◌, List, take, slice_get, Option, Some, None}
 
--- nothing stands at two places of the list
+-- nothing stands at two indexes of the list
 pub record AllDiffer {X : Type 0} (xs : List X) : Type 0 where
   pub differ : (i j : ℕ) (x : X) → i < j → slice_get xs i ≡ Some x → slice_get xs j ≡ Some x → ⊥
 
--- the same stands at the places i and j, and before j all differ
+-- the same stands at the indexes i and j, and before j all differ
 pub record RepeatsFirst {X : Type 0} (xs : List X) (i j : ℕ) : Type 0 where
   pub repeated : X
   pub earlier : i < j
@@ -13,7 +13,7 @@ pub record RepeatsFirst {X : Type 0} (xs : List X) (i j : ℕ) : Type 0 where
   pub again : slice_get xs j ≡ Some repeated
   pub before : AllDiffer (take j xs)
 
--- the places of the first repetition, or none
+-- the indexes of the first repetition, or none
 abbrev pub FindsRepetition : {X : Type 0} → List X → Option (ℕ × ℕ) → Type 0
 FindsRepetition xs None = AllDiffer xs
-FindsRepetition xs (Some places) = RepeatsFirst xs places.0 places.1
+FindsRepetition xs (Some indexes) = RepeatsFirst xs indexes.0 indexes.1

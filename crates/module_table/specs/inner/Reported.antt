@@ -1,4 +1,4 @@
--- For private clauses: what a check of one code answers.
+-- What a check of one code reports.
 use Rattle.std.specs.Prelude.{◌≡◌, ℕ, List}
 use Rattle.module_table.specs.TableValue.{TableValue}
 use Rattle.module_table.specs.Faults.{IsFault, code_number}

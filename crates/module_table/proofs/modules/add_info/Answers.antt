@@ -4,7 +4,7 @@ use Rattle.std.proofs.lemmas.Option.{slice_get_read}
 use Rattle.scan_docs.specs.Info.{ModuleValue, InfoValue}
 use Rattle.module_table.specs.Modules.{Provision}
 use Rattle.module_table.specs.inner.Views.{provision_of}
-use Rattle.module_table.specs.inner.Origins.{Place, origin_of}
+use Rattle.module_table.specs.inner.Origins.{Origin, origin_of}
 use Rattle.module_table.specs.declared.fault.Maker.TheVariants.{Info}
 use Rattle.module_table.proofs.Repetitions.{take_next, numbered_next}
 use Rattle.module_table.proofs.Pushes.{pushes_next}
@@ -20,5 +20,5 @@ loop-index-preserved c =
     let pushed = c.in_ok-push.ensures.items in
     record {
       provisions = pushes_next provision_of (λ (m : ModuleValue). let p : Provision = record { maker = Info c.args.info; name = m.name; file = m.file; is_private = m.is_private } in p) (take i modules) (take (i + 1) modules) entry _ _ _ _ (take_next modules i entry at) c.loop-index.invariant.provisions pushed (ap (λ (m : ModuleValue). let p : Provision = record { maker = Info c.args.info; name = m.name; file = m.file; is_private = m.is_private } in p) c.module.view_is);
-      origins = pushes_next origin_of (λ (q : ℕ × ModuleValue). let place : Place = (Info c.args.info, q.0) in place) (enumerate_from 0 (take i modules)) (enumerate_from 0 (take (i + 1) modules)) (i, entry) _ _ _ _ (numbered_next modules i entry at) c.loop-index.invariant.origins pushed refl;
+      origins = pushes_next origin_of (λ (q : ℕ × ModuleValue). let origin : Origin = (Info c.args.info, q.0) in origin) (enumerate_from 0 (take i modules)) (enumerate_from 0 (take (i + 1) modules)) (i, entry) _ _ _ _ (numbered_next modules i entry at) c.loop-index.invariant.origins pushed refl;
     }

@@ -4,7 +4,7 @@ use Rattle.std.proofs.lemmas.Option.{slice_get_read}
 use Rattle.scan_docs.specs.Scan.{RuleValue}
 use Rattle.module_table.specs.Modules.{Provision}
 use Rattle.module_table.specs.inner.Views.{provision_of}
-use Rattle.module_table.specs.inner.Origins.{Place, origin_of}
+use Rattle.module_table.specs.inner.Origins.{Origin, origin_of}
 use Rattle.module_table.specs.declared.fault.Maker.TheVariants.{Object}
 use Rattle.module_table.proofs.Repetitions.{take_next, numbered_next}
 use Rattle.module_table.proofs.Pushes.{pushes_next}
@@ -20,5 +20,5 @@ loop-index-preserved c =
     let pushed = c.in_ok-push.ensures.items in
     record {
       provisions = pushes_next provision_of (λ (q : List ℕ × List ℕ). let p : Provision = record { maker = Object c.args.object; name = q.0; file = q.1; is_private = false } in p) (take i modules) (take (i + 1) modules) pair _ _ _ _ (take_next modules i pair at) c.loop-index.invariant.provisions pushed refl;
-      origins = pushes_next origin_of (λ (q : ℕ × (List ℕ × List ℕ)). let place : Place = (Object c.args.object, q.0) in place) (enumerate_from 0 (take i modules)) (enumerate_from 0 (take (i + 1) modules)) (i, pair) _ _ _ _ (numbered_next modules i pair at) c.loop-index.invariant.origins pushed refl;
+      origins = pushes_next origin_of (λ (q : ℕ × (List ℕ × List ℕ)). let origin : Origin = (Object c.args.object, q.0) in origin) (enumerate_from 0 (take i modules)) (enumerate_from 0 (take (i + 1) modules)) (i, pair) _ _ _ _ (numbered_next modules i pair at) c.loop-index.invariant.origins pushed refl;
     }
