@@ -1,15 +1,16 @@
 -- What is found by a name, and what the checks ask of it.
-use Rattle.std.proofs.Common.{◌≡◌, ℕ, zero, suc, Bool, true, false, not, cond, ◌||◌, List, [], ◌∷◌, Option, Some, None, refl, ap, sym, ◌∙◌, ⊎_elim, slice_get, find, MatchBool, bytes_eq, true≢false}
+use Rattle.std.proofs.Common.{◌≡◌, ℕ, zero, suc, Bool, true, false, not, cond, ◌||◌, List, [], ◌∷◌, Option, Some, None, refl, ap, sym, ◌∙◌, ⊎_elim, map, slice_get, find, MatchBool, bytes_eq, true≢false}
 use Rattle.std.specs.Cmp.Lexicographic.{bytes_decides}
 use Rattle.std.proofs.lemmas.Bool.{eq-eqb, eqb-true}
 use Rattle.module_table.specs.Modules.{Provision, InfoRequirement}
 use Rattle.module_table.specs.inner.Repetition.{AllDiffer}
 use Rattle.module_table.specs.inner.Views.{names_of, IsAbsent}
-use Rattle.module_table.specs.inner.Finds.{found, is_info, is_object, is_info_at, some_and, none_or, is_by_info, agrees, is_allowed, is_public, is_by_object, IsNamed, IsByInfo, IsNotByInfo, Agrees, Differs, IsAllowed, IsNotAllowed, IsPublic, IsPrivate, IsByObject, IsNotByObject}
+use Rattle.module_table.specs.inner.Finds.{found, is_info, is_object, is_info_at, some_and, none_or, is_by_info, agrees, is_allowed, is_public_at, is_by_object, IsNamed, IsByInfo, IsNotByInfo, Agrees, Differs, IsAllowed, IsNotAllowed, IsPublic, IsPrivate, IsByObject, IsNotByObject, RefusesAt, AcceptsAll, FindsRefused}
 use Rattle.module_table.specs.declared.fault.Maker.{Maker}
 use Rattle.module_table.specs.declared.fault.Maker.TheVariants.{Object, Info}
 use Rattle.module_table.proofs.Places.{same_some, three_ways, to_map}
-use Rattle.module_table.proofs.Required.{from_find}
+use Rattle.module_table.proofs.Required.{from_find, from_map}
+use Rattle.module_table.proofs.ReportLemmas.{in_row}
 
 same_bytes : (a b : List ℕ) → bytes_eq a b ≡ true → a ≡ b
 same_bytes a b e = (bytes_decides a b).0 e
@@ -161,12 +162,50 @@ module _ (ps : List Provision) (differ : AllDiffer (names_of ps)) where
   is_true true e = refl
   is_true false e = absurd (true≢false e)
 
-  pub public : (name : List ℕ) → MatchBool (is_public ps name) (IsPublic ps name) (IsPrivate ps name)
-  public name =
-      turned (is_public ps name) _ _ (IsPublic ps name) (IsPrivate ps name)
-      (λ h k p named. is_false p.is_private (h k p named))
-      (λ h. (h.0, h.1, h.2, is_true h.1.is_private h.3))
-      (all_decides ps differ name (λ p. not p.is_private))
+  abbrev unless_private : Option Provision → Bool
+  unless_private p = none_or (λ q. not q.is_private) p
+
+  -- the module of this index has this name, and no other has
+  private_of : (index : ℕ) (name : List ℕ) → slice_get (names_of ps) index ≡ Some name → is_public_at ps index ≡ false → IsPrivate ps name
+  private_of index name at private =
+      let p = from_map (λ (p : Provision). p.name) ps index name at in
+      (index, p.0, (p.1, p.2), is_true p.0.is_private (sym (ap unless_private p.1) ∙ private))
+
+  public_of : (index : ℕ) (name : List ℕ) → slice_get (names_of ps) index ≡ Some name → is_public_at ps index ≡ true → IsPublic ps name
+  public_of index name at public k q named =
+      let p = from_map (λ (p : Provision). p.name) ps index name at in
+      let same = one_module ps name differ k index q p.0 named (p.1, p.2) in
+      ap (λ (p : Provision). p.is_private) same ∙ is_false p.0.is_private (sym (ap unless_private p.1) ∙ public)
+
+  abbrev pub IsPublicAt : ℕ → Type 0
+  IsPublicAt index = is_public_at ps index ≡ true
+
+  abbrev pub IsPrivateAt : ℕ → Type 0
+  IsPrivateAt index = is_public_at ps index ≡ false
+
+  pub at_index : (index : ℕ) → MatchBool (is_public_at ps index) (IsPublicAt index) (IsPrivateAt index)
+  at_index index = by (is_public_at ps index)
+    where
+      by : (b : Bool) → MatchBool b (b ≡ true) (b ≡ false)
+      by true = refl
+      by false = refl
+
+  -- the first private module of a row, by the names that the row stands for
+  module _ (row : List ℕ) (names : List (List ℕ)) (same : map (slice_get (names_of ps)) row ≡ map (λ name. Some name) names) where
+    pub name_here : (k index : ℕ) (name : List ℕ) → slice_get row k ≡ Some index → slice_get names k ≡ Some name → slice_get (names_of ps) index ≡ Some name
+    name_here k index name at at_name =
+        same_some _ _ (sym (to_map (slice_get (names_of ps)) row k index at) ∙ ap (λ xs. slice_get xs k) same ∙ to_map (λ n. Some n) names k name at_name)
+
+    pub row_public : AcceptsAll IsPublicAt row → AcceptsAll (IsPublic ps) names
+    row_public all = record { each = λ k name at_name. let n = in_row (names_of ps) row names k name same at_name in public_of n.0 name n.2 (all.each k n.0 n.1) }
+
+    pub row_private : (k : ℕ) → RefusesAt IsPublicAt IsPrivateAt row k → (name : List ℕ) → slice_get names k ≡ Some name → RefusesAt (IsPublic ps) (IsPrivate ps) names k
+    row_private k found name at_name = record {
+      x = name;
+      here = at_name;
+      refused = private_of found.x name (name_here k found.x name found.here at_name) found.refused;
+      accepted = λ l other lt at. let n = in_row (names_of ps) row names l other same at in public_of n.0 other n.2 (found.accepted l n.0 lt n.1);
+    }
 
   -- a private module is of the one info
   private_is : (b c : Bool) → not b || c ≡ true → b ≡ true → c ≡ true

@@ -1,5 +1,5 @@
 -- Rows of indexes, and a list that a loop has gone through.
-use Rattle.std.proofs.Common.{◌≡◌, ◌≤◌, ℕ, zero, suc, List, [], ◌∷◌, Vec, length, map, take, Some, refl, ap, arith, subst, ◌∙◌, slice_get}
+use Rattle.std.proofs.Common.{◌≡◌, ◌≤◌, ℕ, zero, suc, List, [], ◌∷◌, Vec, length, map, take, Some, refl, ap, arith, subst, sym, ◌∙◌, slice_get}
 use Rattle.std.specs.declared.alloc.Global.{Global}
 use Rattle.scan_docs.specs.Scan.{RuleValue}
 use Rattle.scan_docs.specs.Info.{InfoValue}
@@ -9,6 +9,9 @@ use Rattle.module_table.specs.Modules.{provisions}
 use Rattle.module_table.specs.inner.Repetition.{AllDiffer}
 use Rattle.module_table.specs.inner.Views.{names_of}
 use Rattle.module_table.specs.inner.Numbered.{AreIndexes, IsNumbered}
+use Rattle.module_table.proofs.Places.{to_map}
+use Rattle.module_table.proofs.Rings.{length_mapped}
+use Rattle.module_table.proofs.Required.{from_map}
 
 indexes_in : (keys : List (List ℕ)) (vectors : List (Vec ℕ Global)) → map (λ row. map (slice_get keys) row) (rows vectors) ≡ map (λ row. map (slice_get keys) row.items) vectors
 indexes_in keys [] = refl
@@ -30,3 +33,24 @@ numbered t rows differ is = record { all_provided = refl; differ = differ; numbe
 pub same_table : (objects others : List RuleValue) (infos more : List InfoValue) → objects ≡ others → infos ≡ more → (let t : TableValue = record { objects = objects; infos = infos } in t) ≡ record { objects = others; infos = more }
 same_table objects others infos more eo ei =
     ap (λ (os : List RuleValue). let t : TableValue = record { objects = os; infos = infos } in t) eo ∙ ap (λ (is : List InfoValue). let t : TableValue = record { objects = others; infos = is } in t) ei
+
+-- the rule that a row of indexes is of
+pub rule_of : (t : TableValue) (rows : List (List ℕ)) → AreIndexes t rows → (object : ℕ) (row : List ℕ) → slice_get rows object ≡ Some row → (rule : RuleValue) × (slice_get t.objects object ≡ Some rule) × (map (slice_get (names_of (provisions t))) row ≡ map (λ name. Some name) rule.required)
+rule_of t rows is object row at =
+    let names = names_of (provisions t) in
+    let here = ap (λ xs. slice_get xs object) (sym is) ∙ to_map (map (slice_get names)) rows object row at in
+    let r = from_map (λ (rule : RuleValue). map (λ name. Some name) rule.required) t.objects object (map (slice_get names) row) here in
+    (r.0, r.1, sym r.2)
+
+-- the name that an index in a row stands for
+pub name_of_index : (names : List (List ℕ)) (row : List ℕ) (required : List (List ℕ)) → map (slice_get names) row ≡ map (λ name. Some name) required → (k index : ℕ) → slice_get row k ≡ Some index → (name : List ℕ) × (slice_get required k ≡ Some name) × (slice_get names index ≡ Some name)
+name_of_index names row required same k index at =
+    let here = ap (λ xs. slice_get xs k) (sym same) ∙ to_map (slice_get names) row k index at in
+    let n = from_map (λ (name : List ℕ). Some name) required k (slice_get names index) here in
+    (n.0, n.1, sym n.2)
+
+-- there is a row for each object
+pub many_rows : (t : TableValue) (rows : List (List ℕ)) → AreIndexes t rows → length t.objects ≡ length rows
+many_rows t rows is =
+    sym (length_mapped (λ (rule : RuleValue). map (λ n. Some n) rule.required) t.objects) ∙ ap length (sym is)
+    ∙ length_mapped (λ row. map (slice_get (names_of (provisions t))) row) rows

@@ -118,7 +118,7 @@ fn check_requirements(
     check_infos_known(alloc, modules, required)?;
     check_infos_agree(alloc, modules, required)?;
     check_rings(alloc, modules, rows.as_slice())?;
-    check_objects_allowed(alloc, modules)?;
+    check_objects_allowed(alloc, modules, rows.as_slice())?;
     check_infos_allowed(alloc, modules, required)?;
     check_kept(alloc, modules, kept)?;
     Ok(rows)

@@ -108,6 +108,14 @@ impl<'t> Modules<'t> {
         &self.names
     }
 
+    /// The name of the module of that index.
+    pub(crate) fn name_at(&self, index: usize) -> &'t Name
+        requires { index < length (provisions self.now) }
+        ensures { slice_get (names_of (provisions self.now)) index ≡ Some result.now }
+    {
+        module_at(self.provided.as_slice(), index).name
+    }
+
     /// No two modules have one name.
     pub(crate) fn names_differ(&self)
         ensures { AllDiffer (names_of (provisions self.now)) }

@@ -46,9 +46,9 @@ agrees modules r = none_or (λ p. bytes_eq p.file r.file) (found modules r.name)
 abbrev pub is_allowed : List Provision → InfoRequirement → Bool
 is_allowed modules r = none_or (λ p. not p.is_private || is_info_at p.maker r.info) (found modules r.name)
 
--- the module of that name is private to no info
-abbrev pub is_public : List Provision → List ℕ → Bool
-is_public modules name = none_or (λ p. not p.is_private) (found modules name)
+-- the module of that index is private to no info
+abbrev pub is_public_at : List Provision → ℕ → Bool
+is_public_at modules index = none_or (λ p. not p.is_private) (slice_get modules index)
 
 -- an object provides the name
 abbrev pub is_by_object : List Provision → List ℕ → Bool

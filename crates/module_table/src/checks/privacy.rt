@@ -2,9 +2,11 @@
 //! target are to be private.
 ghost use Rattle.std.specs.Prelude.{◌≡◌, ◌<◌, ℕ, List, length, map, slice_get, Some, position, not, IfOk, IfErr, OnOk};
 ghost use Rattle.ninja_text.specs.Failure.{ForFault};
+ghost use Rattle.dep_order.specs.Rows.{rows};
 ghost use Rattle.module_table.specs.Modules.{provisions, info_requirements};
 ghost use Rattle.module_table.specs.inner.Views.{requirement_of};
-ghost use Rattle.module_table.specs.inner.Finds.{is_allowed, is_public, is_by_object, is_info_at, IsPrivate, IsAllowed, IsByObject, IsPrivateTo, RequiresPublic, AcceptsAll};
+ghost use Rattle.module_table.specs.inner.Finds.{is_allowed, is_public_at, is_by_object, is_info_at, IsPrivate, IsAllowed, IsByObject, IsPrivateTo, RequiresPublic, AcceptsAll};
+ghost use Rattle.module_table.specs.inner.Numbered.{AreIndexes};
 ghost use Rattle.module_table.specs.inner.Reported.{Reports};
 ghost use Rattle.module_table.specs.declared.fault.TableFault.TheVariants.{ModulePrivate};
 
@@ -15,24 +17,25 @@ use ninja_text::Failure;
 use scan_docs::Name;
 use std::alloc::{AllocError, Global};
 
-/// M9: no object requires a module that is private to an info.
+/// M9: no object requires a module that is private to an info. Each object has a row of the indexes
+/// of what it requires.
 pub(crate) fn check_objects_allowed(
     alloc: Global,
     modules: &Modules,
+    required: &[Vec<usize>],
 ) -> Result<(), Failure<TableFault>>
+    requires { AreIndexes modules.now (rows required.now) }
     ensures ok { OnOk result
         (AcceptsAll (RequiresPublic (provisions modules.now)) modules.now.objects) }
     ensures fault { IfErr result (ForFault
         (λ fault. (kept : List (List ℕ)) → Reports 9 modules.now kept fault)) }
 {
     modules.names_differ();
-    let objects = modules.objects();
-    for (object, rule) in objects.iter().enumerate() {
-        let required = rule.required.as_slice();
-        match first_private(modules, required) {
+    for (object, row) in required.iter().enumerate() {
+        match first_private(modules, row.as_slice()) {
             None => {}
             Some(index) => {
-                let name = name_at(required, index);
+                let name = modules.name_at(row[index]);
                 let fault = private_fault(alloc, modules, name, Maker::Object(object))?;
                 return Err(Failure::Fault(fault));
             }
@@ -116,10 +119,14 @@ fn info_of(modules: &Modules, name: &Name) -> usize
     }
 }
 
-fn first_private(modules: &Modules, names: &[Name]) -> Option<usize>
-    ensures { result ≡ position (λ name. not (is_public (provisions modules.now) name)) names.now }
+/// The first of these modules that is private, as an index into the list.
+fn first_private(modules: &Modules, indexes: &[usize]) -> Option<usize>
+    ensures { result ≡ position
+        (λ index. not (is_public_at (provisions modules.now) index)) indexes.now }
 {
-    names.iter().position(|name| !is_public(modules, name))
+    indexes
+        .iter()
+        .position(|index| !is_public_at(modules, *index))
 }
 
 fn first_not_allowed(modules: &Modules, all: &[InfoRequired]) -> Option<usize>
@@ -156,11 +163,11 @@ fn is_info_at(maker: Maker, index: usize) -> bool
     }
 }
 
-/// Whether the module of that name is private to no info.
-fn is_public(modules: &Modules, name: &Name) -> bool
-    ensures { result ≡ is_public (provisions modules.now) name.now }
+/// Whether the module of that index is private to no info.
+fn is_public_at(modules: &Modules, index: usize) -> bool
+    ensures { result ≡ is_public_at (provisions modules.now) index }
 {
-    match modules.find(name) {
+    match modules.provided().get(index) {
         Some(module) => !module.is_private,
         None => true,
     }

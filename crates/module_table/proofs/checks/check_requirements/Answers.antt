@@ -26,6 +26,9 @@ pub check_infos_allowed-requires-clause-all : goal.check_infos_allowed-requires-
 check_infos_allowed-requires-clause-all c =
     ap (map requirement_of) c.as_slice-required.ensures.value ∙ c.in_ok-all.ensures ∙ ap info_requirements_of c.infos.ensures
 
+pub check_objects_allowed-requires : goal.check_objects_allowed-requires
+check_objects_allowed-requires c = subst (λ vectors. AreIndexes c.args.modules.now (rows vectors)) (sym c.as_slice-2.ensures.value) c.in_ok-rows.ensures.ok
+
 pub check_rings-requires : goal.check_rings-requires
 check_rings-requires c = subst (λ vectors. AreIndexes c.args.modules.now (rows vectors)) (sym c.as_slice.ensures.value) c.in_ok-rows.ensures.ok
 
