@@ -5,7 +5,7 @@ use Rattle.std.proofs.lemmas.Bool.{eq-eqb, eqb-true}
 use Rattle.module_table.specs.Modules.{Provision, InfoRequirement}
 use Rattle.module_table.specs.inner.Repetition.{AllDiffer}
 use Rattle.module_table.specs.inner.Views.{names_of, IsAbsent}
-use Rattle.module_table.specs.inner.Finds.{found, is_info, is_object, is_info_at, some_and, none_or, is_by_info, agrees, is_allowed, is_public_at, is_by_object, IsNamed, IsByInfo, IsNotByInfo, Agrees, Differs, IsAllowed, IsNotAllowed, IsPublic, IsPrivate, IsByObject, IsNotByObject, RefusesAt, AcceptsAll, FindsRefused}
+use Rattle.module_table.specs.inner.Finds.{found, is_info, is_object, is_info_at, some_and, none_or, is_by_info, agrees, is_allowed, is_public_at, is_by_object, IsNamed, IsByInfo, IsNotByInfo, Agrees, Differs, IsAllowed, IsNotAllowed, IsPublic, IsPrivate, IsByObject, IsNotByObject, RefusesAt, AcceptsAll}
 use Rattle.module_table.specs.declared.fault.Maker.{Maker}
 use Rattle.module_table.specs.declared.fault.Maker.TheVariants.{Object, Info}
 use Rattle.module_table.proofs.Places.{same_some, three_ways, to_map}

@@ -7,6 +7,7 @@ pub mod Refusals
 pub mod Rings
 pub mod InfoFaults
 pub mod Mentions
+pub mod Marks
 pub mod Privacy
 pub mod Passing
 pub mod InfoRequirements

@@ -1,4 +1,4 @@
--- Names in order of first mention, and the pairs that are made of them.
+-- Names in order of first mention.
 use Rattle.std.proofs.Common.{◌≡◌, ℕ, ◌+◌, Bool, true, false, cond, not, ◌||◌, List, [], ◌∷◌, ◌++◌, map, take, filter, Some, refl, ap, subst, sym, ◌∙◌, slice_get, bytes_eq, true≢false}
 use Rattle.std.specs.List.{list_any}
 use Rattle.std.specs.Cmp.Lexicographic.{bytes_decides}
@@ -73,15 +73,11 @@ any_map : {K : Type 0} (f : K → List ℕ) (x : List ℕ) (keys : List K) → a
 any_map f x [] = refl
 any_map f x (k ∷ keys) = ap (λ b. bytes_eq x (f k) || b) (any_map f x keys)
 
-map_push : {K : Type 0} (f : K → List ℕ) (keys : List K) (v : K) → map f (keys ++ v ∷ []) ≡ map f keys ++ f v ∷ []
+pub map_push : {K : Type 0} (f : K → List ℕ) (keys : List K) (v : K) → map f (keys ++ v ∷ []) ≡ map f keys ++ f v ∷ []
 map_push f [] v = refl
 map_push f (k ∷ keys) v = ap (λ ys. f k ∷ ys) (map_push f keys v)
 
-map_cond : {K : Type 0} (f : K → List ℕ) (b : Bool) (keys : List K) (v : K) → map f (cond b keys (keys ++ v ∷ [])) ≡ cond b (map f keys) (map f keys ++ f v ∷ [])
-map_cond f true keys v = refl
-map_cond f false keys v = map_push f keys v
-
--- a name is put into a table of the names before it
+-- one more name, behind those of the names before it
 module _ {K : Type 0} (f : K → List ℕ) (xs : List (List ℕ)) (i : ℕ) (keys : List K) (v : K) (at : slice_get xs i ≡ Some (f v)) (found : map f keys ≡ first_mentions (take i xs)) where
   abbrev was : Bool
   was = list_any (λ k. bytes_eq (f v) (f k)) keys
@@ -91,9 +87,6 @@ module _ {K : Type 0} (f : K → List ℕ) (xs : List (List ℕ)) (i : ℕ) (key
       ap first_mentions (take_next xs i (f v) at) ∙ mention_step (f v) (take i xs)
       ∙ ap (λ ys. cond (among (f v) ys) ys (ys ++ f v ∷ [])) (sym found)
       ∙ ap (λ b. cond b (map f keys) (map f keys ++ f v ∷ [])) (any_map f (f v) keys)
-
-  pub keys_mention : (new : List K) → new ≡ cond was keys (keys ++ v ∷ []) → map f new ≡ first_mentions (take (i + 1) xs)
-  keys_mention new put = ap (map f) put ∙ map_cond f was keys v ∙ sym step
 
   pub mention_new : (names : List (List ℕ)) → names ≡ first_mentions (take i xs) → true ≡ not was → names ++ f v ∷ [] ≡ first_mentions (take (i + 1) xs)
   mention_new names same fresh = ap (λ ys. ys ++ f v ∷ []) (same ∙ sym found) ∙ sym (step ∙ ap (λ b. cond b (map f keys) (map f keys ++ f v ∷ [])) (new_if was fresh))

@@ -5,6 +5,7 @@ pub mod Finds
 pub mod Reported
 pub mod Passed
 pub mod Numbered
+pub mod Mentioned
 pub mod Indexed
 pub mod Graph
 pub mod Ranks

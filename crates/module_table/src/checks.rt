@@ -71,8 +71,8 @@ pub(crate) fn check_all(
     let modules = check_repetitions(alloc, objects, infos)?;
     let rows = check_requirements(alloc, &modules, kept)?;
     let origins = all_origins(alloc, modules.provided())?;
+    let required = all_pairs(alloc, &modules, rows.as_slice())?;
     let graph = module_graph(alloc, &modules, origins.as_slice(), rows)?;
-    let required = all_pairs(alloc, &modules)?;
     Ok(Index {
         names: modules.into_names(),
         origins,

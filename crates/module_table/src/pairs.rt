@@ -1,80 +1,84 @@
 //! What each object requires, with the files of the modules.
-ghost use Rattle.std.specs.Prelude.{◌≡◌, map, IfOk};
-ghost use Rattle.std.specs.List.{filter_map};
+ghost use Rattle.std.specs.Prelude.{◌≡◌, ◌<◌, ◌≤◌, All, length, map, Some, IfOk};
+ghost use Rattle.dep_order.specs.Rows.{rows};
 ghost use Rattle.module_table.specs.Modules.{provisions};
-ghost use Rattle.module_table.specs.Added.{pair_of, first_mentions, required_of};
+ghost use Rattle.module_table.specs.Added.{required_of};
+ghost use Rattle.module_table.specs.inner.Numbered.{AreIndexes};
+ghost use Rattle.module_table.specs.inner.Indexed.{pair_at};
+ghost use Rattle.module_table.specs.inner.Mentioned.{AreFirsts};
 
-use crate::modules::Modules;
-use indexmap::IndexSet;
+use crate::modules::{Modules, module_at};
 use ninja_text::Path;
 use scan_docs::Name;
 use std::alloc::{AllocError, Global};
 
-/// The modules that each object requires, in order of first mention, each once.
+/// The modules that each object requires, in order of first mention, each once. Each object has a row
+/// of the indexes of what it requires.
 pub(crate) fn all_pairs(
     alloc: Global,
     modules: &Modules,
+    required: &[Vec<usize>],
 ) -> Result<Vec<Vec<(Name, Path)>>, AllocError>
-    ensures { IfOk result (λ rows. map (λ row. row.items) rows.items
+    requires { AreIndexes modules.now (rows required.now) }
+    ensures { IfOk result (λ all. map (λ row. row.items) all.items
         ≡ map (required_of modules.now) modules.now.objects) }
 {
-    let objects = modules.objects();
-    let mut rows = Vec::new(alloc);
-    for rule in objects {
-        let pairs = pairs_of(alloc, modules, rule.required.as_slice())?;
-        rows.push(pairs)?;
+    modules.names_differ();
+    // each module has the number of the last object that mentioned it, counted from 1
+    let mut marks = vec![in alloc; 0; modules.provided().len()]?;
+    let mut all = Vec::with_capacity(alloc, required.len())?;
+    for (object, row) in required.iter().enumerate() {
+        let mentioned = mentions_of(alloc, row.as_slice(), object + 1, &mut marks)?;
+        let pairs = pairs_at(alloc, modules, mentioned.as_slice())?;
+        all.push(pairs)?;
     }
-    Ok(rows)
+    Ok(all)
 }
 
-fn pairs_of(
+/// The indexes in order of first mention, each once. What is mentioned gets the mark, which nothing
+/// had.
+fn mentions_of(
     alloc: Global,
-    modules: &Modules,
-    required: &[Name],
-) -> Result<Vec<(Name, Path)>, AllocError>
-    ensures { IfOk result (λ pairs. pairs.items
-        ≡ filter_map (pair_of (provisions modules.now)) (first_mentions required.now)) }
+    indexes: &[usize],
+    mark: usize,
+    marks: &mut Vec<usize>,
+) -> Result<Vec<usize>, AllocError>
+    requires within { All (λ index. index < length marks.old.items) indexes.now }
+    requires fresh { All (λ old. old < mark) marks.old.items }
+    ensures as_many { length marks.new.items ≡ length marks.old.items }
+    ensures at_most { All (λ new. new ≤ mark) marks.new.items }
+    ensures within { IfOk result
+        (λ mentioned. All (λ index. index < length marks.old.items) mentioned.items) }
+    ensures firsts { IfOk result
+        (λ mentioned. AreFirsts (length marks.old.items) indexes.now mentioned.items) }
 {
-    let mentioned = mentions_of(alloc, required)?;
-    let mut pairs = Vec::new(alloc);
-    for name in &mentioned {
-        match pair_for(alloc, modules, *name)? {
-            Some(pair) => pairs.push(pair)?,
-            None => {}
-        }
-    }
-    Ok(pairs)
-}
-
-/// The name with the file of its module, if it is provided.
-fn pair_for(
-    alloc: Global,
-    modules: &Modules,
-    name: &Name,
-) -> Result<Option<(Name, Path)>, AllocError>
-    ensures { IfOk result (λ pair. pair ≡ pair_of (provisions modules.now) name.now) }
-{
-    match modules.find(name) {
-        Some(module) => {
-            let name = name.copy(alloc)?;
-            let file = module.file.copy(alloc)?;
-            Ok(Some((name, file)))
-        }
-        None => Ok(None),
-    }
-}
-
-/// The names in order of first mention, each once.
-fn mentions_of<'t>(alloc: Global, required: &'t [Name]) -> Result<Vec<&'t Name>, AllocError>
-    ensures { IfOk result (λ mentioned. map (λ name. name.now) mentioned.items ≡ first_mentions required.now) }
-{
-    let mut seen = IndexSet::new(alloc);
     let mut mentioned = Vec::new(alloc);
-    for name in required {
-        let is_new = seen.insert(name.text().as_bytes())?;
-        if is_new {
-            mentioned.push(name)?;
+    for index in indexes {
+        if marks[*index] != mark {
+            marks[*index] = mark;
+            mentioned.push(*index)?;
         }
     }
     Ok(mentioned)
+}
+
+/// The names and files of these modules.
+fn pairs_at(
+    alloc: Global,
+    modules: &Modules,
+    indexes: &[usize],
+) -> Result<Vec<(Name, Path)>, AllocError>
+    requires { All (λ index. index < length (provisions modules.now)) indexes.now }
+    ensures { IfOk result (λ pairs. map (λ pair. Some pair) pairs.items
+        ≡ map (pair_at (provisions modules.now)) indexes.now) }
+{
+    let provided = modules.provided();
+    let mut pairs = Vec::with_capacity(alloc, indexes.len())?;
+    for index in indexes {
+        let module = module_at(provided, *index);
+        let name = module.name.copy(alloc)?;
+        let file = module.file.copy(alloc)?;
+        pairs.push((name, file))?;
+    }
+    Ok(pairs)
 }

@@ -1,5 +1,6 @@
 use Rattle.std.proofs.Common.{◌∙◌, ap, subst, sym, map}
 use Rattle.std.proofs.lemmas.Result.{err_from_is_err_and}
+use Rattle.dep_order.specs.Rows.{rows}
 use Rattle.module_table.specs.TableValue.{TableValue}
 use Rattle.module_table.specs.Added.{required_of}
 use Rattle.module_table.specs.Modules.{provisions}
@@ -7,6 +8,7 @@ use Rattle.module_table.specs.Faults.{IsReported}
 use Rattle.module_table.specs.inner.Views.{names_of}
 use Rattle.module_table.specs.inner.Origins.{origins_of}
 use Rattle.module_table.specs.inner.Passed.{Passed}
+use Rattle.module_table.specs.inner.Numbered.{AreIndexes}
 use Rattle.module_table.specs.inner.Graph.{IsModuleGraph}
 use Rattle.module_table.proofs.ReportLemmas.{for_fault}
 use Rattle.module_table.proofs.Passing.{for_these_kept, without_fault}
@@ -31,7 +33,10 @@ returns-in_err-rows-clause-fault c =
     (for_fault _ _ _ (λ fault is. subst (λ t. IsReported t c.args.kept.now fault) same is) c.in_err-rows.ensures.fault)
 
 pub module_graph-requires-clause-origins : goal.module_graph-requires-clause-origins
-module_graph-requires-clause-origins c = c.as_slice.ensures.value ∙ c.in_ok-origins.ensures ∙ c.provided.ensures.origins
+module_graph-requires-clause-origins c = c.as_slice-2.ensures.value ∙ c.in_ok-origins.ensures ∙ c.provided.ensures.origins
+
+pub all_pairs-requires : goal.all_pairs-requires
+all_pairs-requires c = subst (λ vectors. AreIndexes c.in_ok-modules.modules (rows vectors)) (sym c.as_slice.ensures.value) c.in_ok-rows.ensures.indexes
 
 pub returns-clause-no_fault : goal.returns-clause-no_fault
 returns-clause-no_fault c =

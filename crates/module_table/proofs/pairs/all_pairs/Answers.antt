@@ -1,12 +1,71 @@
-use Rattle.std.proofs.Common.{◌∙◌, ap, map}
+use Rattle.std.proofs.Common.{◌≡◌, ◌≤◌, ◌∙◌, ◌++◌, ◌∷◌, [], ap, arith, get_or, length, map, refl, slice_get, sym, take, List, Vec, ℕ}
+use Rattle.std.specs.declared.alloc.Global.{Global}
 use Rattle.std.specs.List.{filter_map}
-use Rattle.scan_docs.specs.Scan.{RuleValue}
-use Rattle.module_table.specs.Modules.{provisions}
-use Rattle.module_table.specs.Added.{pair_of, first_mentions, required_of}
-use Rattle.module_table.proofs.IndexRows.{take_all}
+use Rattle.std.proofs.lemmas.List.{map-append}
+use Rattle.std.proofs.lemmas.Option.{slice_get-get_or, slice_get_read, slice_get_within}
+use Rattle.dep_order.specs.Rows.{rows}
+use Rattle.module_table.specs.Modules.{Provision, provisions}
+use Rattle.module_table.specs.Added.{first_mentions, pair_of, required_of}
+use Rattle.module_table.specs.inner.Views.{names_of}
+use Rattle.module_table.specs.inner.Indexed.{pair_at}
+use Rattle.module_table.specs.inner.Mentioned.{name_in}
+use Rattle.module_table.proofs.Places.{to_map}
+use Rattle.module_table.proofs.Repetitions.{take_next}
+use Rattle.module_table.proofs.Rings.{length_mapped}
+use Rattle.module_table.proofs.IndexRows.{take_all, many_rows, rule_of, name_of_index}
+use Rattle.module_table.proofs.Marks.{row_names, pairs_found}
 use Rattle.module_table.proofs.pairs.all_pairs.Goals as goal
 
-pub returns : goal.returns
+abbrev items_of : Vec ℕ Global → List ℕ
+items_of row = row.items
+
+pub mentions_of-requires-clause-within : goal.mentions_of-requires-clause-within
+mentions_of-requires-clause-within c = λ k d lt.
+    let t = c.args.modules.now in
+    let names = names_of (provisions t) in
+    let i = c.loop-object.object in
+    let row = c.index-required-object.result in
+    let slice = c.as_slice.result.now in
+    let at = slice_get_read c.args.required.now _ i row refl c.loop-object-test.true c.index-required-object.is in
+    let rule = rule_of t (rows c.args.required.now) c.requires i row.items (to_map items_of c.args.required.now i row at) in
+    let here = ap (λ xs. slice_get xs k) (sym c.as_slice.ensures.value) ∙ slice_get-get_or slice k d lt in
+    let n = name_of_index names row.items rule.0.required rule.2 k (get_or slice k d) here in
+    let inside = slice_get_within names (get_or slice k d) n.0 n.2 in
+    let long = length_mapped (λ (p : Provision). p.name) (provisions t) in
+    let many = c.loop-object.invariant.as_many in
+    omega (arith, inside, long, many)
+
+pub loop-object-preserved : goal.loop-object-preserved
 unfolding required_of
+loop-object-preserved c =
+    let t = c.args.modules.now in
+    let ps = provisions t in
+    let names = names_of ps in
+    let i = c.loop-object.object in
+    let row = c.index-required-object.result in
+    let at = slice_get_read c.args.required.now _ i row refl c.loop-object-test.true c.index-required-object.is in
+    let rule = rule_of t (rows c.args.required.now) c.requires i row.items (to_map items_of c.args.required.now i row at) in
+    let many = c.loop-object.invariant.as_many in
+    let long = length_mapped (λ (p : Provision). p.name) ps ∙ sym many in
+    let mentioned = c.in_ok-mentioned.mentioned.items in
+    let pairs = c.in_ok-pairs.pairs.items in
+    let firsts = c.in_ok-mentioned.ensures.firsts names c.names_differ.ensures long ∙ ap (λ xs. first_mentions (map (name_in names) xs)) c.as_slice.ensures.value ∙ ap first_mentions (row_names names row.items rule.0.required rule.2) in
+    let found = pairs_found ps c.names_differ.ensures mentioned pairs (c.in_ok-pairs.ensures ∙ ap (map (pair_at ps)) c.as_slice-in-loop-object.ensures.value) in
+    let same : pairs ≡ required_of t rule.0 = sym found ∙ ap (filter_map (pair_of ps)) firsts in
+    record {
+      as_many = c.mentions_of.ensures.as_many ∙ many;
+      at_most = c.mentions_of.ensures.at_most;
+      found =
+          ap (map (λ r. r.items)) c.in_ok-push.ensures.items ∙ map-append (λ r. r.items) c.loop-object.all.items _
+          ∙ ap (λ xs. xs ++ pairs ∷ []) c.loop-object.invariant.found
+          ∙ ap (λ x. map (required_of t) (take i t.objects) ++ x ∷ []) same
+          ∙ sym (ap (map (required_of t)) (take_next t.objects i rule.0 rule.1) ∙ map-append (required_of t) (take i t.objects) (rule.0 ∷ []));
+    }
+
+pub returns : goal.returns
 returns c =
-    c.loop-rule.invariant ∙ ap (map (λ (rule : RuleValue). filter_map (pair_of (provisions c.args.modules.now)) (first_mentions rule.required))) (take_all c.objects-objects.result.now c.loop-rule.rule-index c.loop-rule-test.false ∙ c.objects-objects.ensures)
+    let t = c.args.modules.now in
+    let many = many_rows t (rows c.args.required.now) c.requires in
+    let long = length_mapped items_of c.args.required.now in
+    let all : length t.objects ≤ c.loop-object.object = omega (arith, c.loop-object-test.false, many, long) in
+    c.loop-object.invariant.found ∙ ap (map (required_of t)) (take_all t.objects c.loop-object.object all)

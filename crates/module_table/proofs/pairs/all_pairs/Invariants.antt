@@ -1,8 +1,12 @@
-use Rattle.std.proofs.Common.{◌≡◌, map, take}
-use Rattle.std.specs.List.{filter_map}
+use Rattle.std.proofs.Common.{◌≡◌, ◌≤◌, length, map, take}
+use Rattle.std.specs.Prelude.{All}
 use Rattle.module_table.specs.Modules.{provisions}
-use Rattle.module_table.specs.Added.{pair_of, first_mentions}
+use Rattle.module_table.specs.Added.{required_of}
 use Rattle.module_table.proofs.pairs.all_pairs.Given as goal
 
-abbrev pub invariant-loop-rule : goal.invariant-loop-rule
-invariant-loop-rule l = map (λ row. row.items) l.rows.items ≡ map (λ rule. filter_map (pair_of (provisions l.modules)) (first_mentions rule.required)) (take l.rule-index l.objects)
+abbrev pub invariant-loop-object : goal.invariant-loop-object
+invariant-loop-object l = record {
+  as_many : length l.marks.items ≡ length (provisions l.modules);
+  at_most : All (λ m. m ≤ l.object) l.marks.items;
+  found : map (λ row. row.items) l.all.items ≡ map (required_of l.modules) (take l.object l.modules.objects);
+}

@@ -1,31 +1,44 @@
-use Rattle.std.proofs.Common.{◌≡◌, ◌∙◌, ap, sym, map, refl, List, ℕ, Bor, slice_get, Some, [], ◌∷◌, ◌++◌}
-use Rattle.std.proofs.lemmas.Option.{slice_get_read}
-use Rattle.std.proofs.lemmas.List.{map-append}
-use Rattle.module_table.proofs.Mentions.{keys_mention, mention_new, mention_old}
+use Rattle.std.proofs.Common.{◌≡◌, ◌∙◌, ◌<◌, ◌++◌, ◌∷◌, [], ap, arith, get_or, length, map, set, subst, sym}
+use Rattle.std.proofs.lemmas.List.{length-set}
+use Rattle.std.proofs.lemmas.Option.{slice_get-get_or, get_or_from_slice_get}
+use Rattle.module_table.specs.inner.Mentioned.{name_in, AreMarked}
+use Rattle.module_table.proofs.Marks.{mark_new, firsts_new, firsts_old}
 use Rattle.module_table.proofs.pairs.mentions_of.Goals as goal
-use Rattle.module_table.proofs.pairs.mentions_of.Goals.{then-is_new+in_ok-push, else-is_new}
+use Rattle.module_table.proofs.pairs.mentions_of.Goals.{then-index-mark+in_ok-push, else-index-mark}
 
-abbrev text_of : Bor (List ℕ) → List ℕ
-text_of text = text.now
-
-pub loop-name-preserved : goal.loop-name-preserved
-loop-name-preserved c =
-    let i = c.loop-name.name-index in
-    let xs = c.args.required.now in
-    let v = c.as_bytes.result in
-    let same : v.now ≡ c.name-item.result = c.as_bytes.ensures.value ∙ c.text.ensures.text in
-    let at : slice_get xs i ≡ Some v.now = slice_get_read xs _ i c.name-item.result refl c.loop-name-test.true c.name-item.is ∙ ap (λ x. Some x) (sym same) in
-    let h = c.in_ok-is_new.ensures in
-    let f = c.loop-name.invariant.found in
-    record {
-      found = keys_mention text_of xs i c.loop-name.seen.keys v at f c.insert.new.self.keys h.keys;
-      kept = elim c.if-is_new.branch [
-        | then-is_new+in_ok-push w ↦
-            ap (λ m. map (λ x. x.now) m.items) w.mentioned-is ∙ ap (map (λ x. x.now)) w.in_ok-push.ensures.items ∙ map-append (λ x. x.now) c.loop-name.mentioned.items _
-            ∙ ap (λ x. map (λ x. x.now) c.loop-name.mentioned.items ++ x ∷ []) (sym same)
-            ∙ mention_new text_of xs i c.loop-name.seen.keys v at f (map (λ x. x.now) c.loop-name.mentioned.items) c.loop-name.invariant.kept (sym w.if-is_new.true ∙ h.added)
-        | else-is_new w ↦
-            ap (λ m. map (λ x. x.now) m.items) w.mentioned-is
-            ∙ mention_old text_of xs i c.loop-name.seen.keys v at f (map (λ x. x.now) c.loop-name.mentioned.items) c.loop-name.invariant.kept (sym w.if-is_new.false ∙ h.added)
-      ];
-    }
+pub loop-index-preserved : goal.loop-index-preserved
+loop-index-preserved c =
+    let mark = c.args.mark in
+    let indexes = c.args.indexes.now in
+    let i = c.loop-index.index-index in
+    let v = get_or indexes i 0 in
+    let marks = c.loop-index.marks.items in
+    let mentioned = c.loop-index.mentioned.items in
+    let h = c.loop-index.invariant in
+    let at = slice_get-get_or indexes i 0 c.loop-index-test.true in
+    let lt : v < length marks = (let inside = c.requires.within i 0 c.loop-index-test.true in omega (arith, inside, h.as_many)) in
+    let read = c.index.ensures ∙ get_or_from_slice_get marks v (get_or marks v 0) c.index.result.now (slice_get-get_or marks v 0 lt) in
+    elim c.if-index-mark.branch [
+      | then-index-mark+in_ok-push w ↦
+          let marks_now : c.if-index-mark.marks.items ≡ set marks v mark = ap (λ u. u.items) w.marks-is in
+          let mentioned_now : c.if-index-mark.mentioned.items ≡ mentioned ++ v ∷ [] = ap (λ u. u.items) w.mentioned-is ∙ w.in_ok-push.ensures.items in
+          record {
+            as_many = ap length marks_now ∙ length-set marks v mark ∙ h.as_many;
+            marked = subst (λ ms. AreMarked mark ms c.if-index-mark.mentioned.items) (sym marks_now) (subst (AreMarked mark (set marks v mark)) (sym mentioned_now) (mark_new mark marks mentioned h.marked v lt));
+            firsts = λ names differ long.
+                let as_long = long ∙ ap length marks_now ∙ length-set marks v mark in
+                ap (map (name_in names)) mentioned_now
+                ∙ firsts_new mark marks mentioned h.marked v lt names differ as_long indexes i at (h.firsts names differ as_long) (λ is. w.if-index-mark.true (read ∙ is));
+          }
+      | else-index-mark w ↦
+          let marks_now : c.if-index-mark.marks.items ≡ marks = ap (λ u. u.items) w.marks-is in
+          let mentioned_now : c.if-index-mark.mentioned.items ≡ mentioned = ap (λ u. u.items) w.mentioned-is in
+          record {
+            as_many = ap length marks_now ∙ h.as_many;
+            marked = subst (λ ms. AreMarked mark ms c.if-index-mark.mentioned.items) (sym marks_now) (subst (AreMarked mark marks) (sym mentioned_now) h.marked);
+            firsts = λ names differ long.
+                let as_long = long ∙ ap length marks_now in
+                ap (map (name_in names)) mentioned_now
+                ∙ firsts_old mark marks mentioned h.marked v lt names differ as_long indexes i at (h.firsts names differ as_long) (sym read ∙ w.if-index-mark.false);
+          }
+    ]

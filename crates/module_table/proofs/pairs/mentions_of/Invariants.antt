@@ -1,9 +1,10 @@
-use Rattle.std.proofs.Common.{◌≡◌, map, take}
-use Rattle.module_table.specs.Added.{first_mentions}
+use Rattle.std.proofs.Common.{◌≡◌, length, take}
+use Rattle.module_table.specs.inner.Mentioned.{AreFirsts, AreMarked}
 use Rattle.module_table.proofs.pairs.mentions_of.Given as goal
 
-abbrev pub invariant-loop-name : goal.invariant-loop-name
-invariant-loop-name l = record {
-  found : map (λ text. text.now) l.seen.keys ≡ first_mentions (take l.name-index l.required);
-  kept : map (λ name. name.now) l.mentioned.items ≡ first_mentions (take l.name-index l.required);
+abbrev pub invariant-loop-index : goal.invariant-loop-index
+invariant-loop-index l = record {
+  as_many : length l.marks.items ≡ length l.initial.marks.items;
+  marked : AreMarked l.mark l.marks.items l.mentioned.items;
+  firsts : AreFirsts (length l.marks.items) (take l.index-index l.indexes) l.mentioned.items;
 }

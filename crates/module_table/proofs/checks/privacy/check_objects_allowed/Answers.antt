@@ -1,11 +1,10 @@
-use Rattle.std.proofs.Common.{◌≡◌, ◌≤◌, ◌∙◌, ap, arith, length, map, subst, sym, refl, slice_get, take, None, Some, List, ℕ, Vec}
+use Rattle.std.proofs.Common.{◌≡◌, ◌≤◌, ◌∙◌, ap, arith, length, subst, sym, refl, slice_get, None, Some, List, ℕ, Vec}
 use Rattle.std.specs.declared.alloc.Global.{Global}
 use Rattle.std.proofs.lemmas.Option.{slice_get_read, slice_get_within, get_or_from_slice_get}
 use Rattle.dep_order.specs.Rows.{rows}
-use Rattle.scan_docs.specs.Scan.{RuleValue}
 use Rattle.module_table.specs.Modules.{Provision, provisions}
 use Rattle.module_table.specs.inner.Views.{names_of}
-use Rattle.module_table.specs.inner.Finds.{is_public_at, IsPublic, IsPrivate, RequiresPublic, AcceptsAll, RefusesAt}
+use Rattle.module_table.specs.inner.Finds.{is_public_at, IsPrivate, RequiresPublic, AcceptsAll, RefusesAt}
 use Rattle.module_table.proofs.Places.{to_map, same_some}
 use Rattle.module_table.proofs.Repetitions.{map_same}
 use Rattle.module_table.proofs.IndexRows.{take_all, many_rows, rule_of, name_of_index}

@@ -1,5 +1,4 @@
-use Rattle.std.proofs.Common.{◌≡◌, ◌∙◌, ap, length, map, arith, slice_get, Some, sym, subst}
-use Rattle.module_table.specs.TableValue.{TableValue, table_with}
+use Rattle.std.proofs.Common.{◌∙◌, ap, length, map, arith, slice_get, sym}
 use Rattle.module_table.specs.Modules.{Provision, provisions}
 use Rattle.module_table.specs.inner.Views.{provision_of, names_of}
 use Rattle.module_table.proofs.Places.{to_map}

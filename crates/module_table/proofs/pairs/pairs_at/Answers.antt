@@ -1,0 +1,29 @@
+use Rattle.std.proofs.Common.{◌≡◌, ◌∙◌, ◌++◌, ◌∷◌, [], ap, get_or, map, slice_get, sym, take, Some, List, ℕ}
+use Rattle.std.specs.Option.{option_map}
+use Rattle.std.proofs.lemmas.List.{map-append}
+use Rattle.std.proofs.lemmas.Option.{slice_get-get_or}
+use Rattle.module_table.specs.Modules.{Provision, provisions}
+use Rattle.module_table.specs.inner.Indexed.{pair_at}
+use Rattle.module_table.specs.inner.Views.{provision_of}
+use Rattle.module_table.proofs.Places.{to_map}
+use Rattle.module_table.proofs.Repetitions.{take_next}
+use Rattle.module_table.proofs.pairs.pairs_at.Goals as goal
+
+abbrev pair : Provision → List ℕ × List ℕ
+pair p = (p.name, p.file)
+
+pub loop-index-preserved : goal.loop-index-preserved
+loop-index-preserved c =
+    let ps = provisions c.args.modules.now in
+    let indexes = c.args.indexes.now in
+    let i = c.loop-index.index-index in
+    let v = get_or indexes i 0 in
+    let at = slice_get-get_or indexes i 0 c.loop-index-test.true in
+    let found = ap (λ xs. slice_get xs v) (sym c.provided-provided.ensures.provisions) ∙ to_map provision_of c.provided-provided.result.now v _ c.module_at-module.ensures in
+    let found_module = c.module_at-module.result.now in
+    let same : Some (c.in_ok-name.name, c.in_ok-file.file) ≡ pair_at ps v =
+    ap (λ n. Some (n, c.in_ok-file.file)) c.in_ok-name.ensures ∙ ap (λ x. Some (found_module.name.now, x)) c.in_ok-file.ensures ∙ sym (ap (option_map pair) found) in
+    ap (map (λ p. Some p)) c.in_ok-push.ensures.items ∙ map-append (λ p. Some p) c.loop-index.pairs.items _
+    ∙ ap (λ xs. xs ++ Some (c.in_ok-name.name, c.in_ok-file.file) ∷ []) c.loop-index.invariant
+    ∙ ap (λ x. map (pair_at ps) (take i indexes) ++ x ∷ []) same
+    ∙ sym (ap (map (pair_at ps)) (take_next indexes i v at) ∙ map-append (pair_at ps) (take i indexes) (v ∷ []))
