@@ -296,16 +296,19 @@ impl PartialOrd for Path {
     }
 }
 
+/// The length, and then the text in one piece: a hasher takes whole words of it at a time.
 impl Hash for Path {
+    ghost use Rattle.std.specs.Prelude.{length};
     ghost use Rattle.std.proofs.Common.{rules};
     ghost use Rattle.std.specs.Cmp.Rules.{hashing};
     ghost use Rattle.std.specs.Hash as fed;
 
-    ghost hash_input = { λ p. fed.slice fed.u8 p };
+    ghost hash_input = { λ p. fed.usize (length p) ++ p ∷ [] };
 
     ghost respects_eq = { Prim.search (hashing, rules) };
 
     fn hash<H: Hasher>(&self, state: &mut H) {
-        self.text.as_slice().hash(state);
+        state.write_usize(self.text.len());
+        state.write(self.text.as_slice());
     }
 }
