@@ -1,4 +1,3 @@
-pub mod Numbers
 pub mod Positions
 pub mod Parts
 pub mod WriteFaultLemmas
@@ -19,4 +18,5 @@ pub mod ReadLemmas
 pub mod WrittenLine
 pub mod WrittenText
 pub mod WrittenOnly
+pub mod TextLemmas
 mod WrittenRows

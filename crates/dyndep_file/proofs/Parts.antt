@@ -1,18 +1,18 @@
--- The paths of a part, as vectors and as lists, and what is written of the first of them.
-use Rattle.std.proofs.Common.{◌≡◌, ℕ, suc, ◌+◌, ◌<◌, List, [], ◌∷◌, ◌++◌, length, get_or, take, Vec, Global, ap, sym, ◌∙◌, subst, arith, append_assoc, length-append}
+-- The paths of a part, as they are lent and as lists, and what is written of the first of them.
+use Rattle.std.proofs.Common.{◌≡◌, ℕ, suc, ◌+◌, ◌<◌, List, [], ◌∷◌, ◌++◌, length, get_or, take, Bor, ap, sym, ◌∙◌, subst, arith, append_assoc, length-append}
 use Rattle.std.specs.Prelude.{All}
 use Rattle.std.specs.List.{flat_map}
 use Rattle.std.proofs.lemmas.List.{take_more, get_or-map, length-map, append-nil, get_or_append_left, get_or-append-add}
 use Rattle.std.proofs.lemmas.Grind.{flat_map-append}
-use Rattle.dyndep_file.specs.inner.Paths.{texts}
+use Rattle.dyndep_file.specs.inner.Paths.{lent_texts}
 
 -- the bytes of the path at an index
-pub text_at : (paths : List (Vec ℕ Global)) (i : ℕ) (path : Vec ℕ Global) (d : List ℕ) → i < length paths → path ≡ get_or paths i path → get_or (texts paths) i d ≡ path.items
-text_at paths i path d lt is = get_or-map (λ p. p.items) paths i path d lt ∙ ap (λ p. p.items) (sym is)
+pub text_at : (paths : List (Bor (List ℕ))) (i : ℕ) (other : Bor (List ℕ)) (d : List ℕ) → i < length paths → get_or (lent_texts paths) i d ≡ (get_or paths i other).now
+text_at paths i other d lt = get_or-map (λ p. p.now) paths i other d lt
 
 -- there are as many as there are paths
-pub same_length : (paths : List (Vec ℕ Global)) → length (texts paths) ≡ length paths
-same_length paths = length-map paths (λ p. p.items)
+pub same_length : (paths : List (Bor (List ℕ))) → length (lent_texts paths) ≡ length paths
+same_length paths = length-map paths (λ p. p.now)
 
 -- what is written of one more element
 pub flat_map_next : {X : Type 0} (f : X → List ℕ) (xs : List X) (i : ℕ) (x : X) → i < length xs → get_or xs i x ≡ x → flat_map f (take (i + 1) xs) ≡ flat_map f (take i xs) ++ f x
@@ -21,10 +21,11 @@ flat_map_next f xs i x lt is =
     ∙ flat_map-append f (take i xs) (x ∷ [])
     ∙ ap (λ t. flat_map f (take i xs) ++ t) (append-nil (f x))
 
--- the same of a path, given by its vector
-pub flat_map_next_path : (f : List ℕ → List ℕ) (paths : List (Vec ℕ Global)) (i : ℕ) (path : Vec ℕ Global) → i < length paths → path ≡ get_or paths i path → flat_map f (take (i + 1) (texts paths)) ≡ flat_map f (take i (texts paths)) ++ f path.items
-flat_map_next_path f paths i path lt is =
-    flat_map_next f (texts paths) i path.items (subst (λ n. i < n) (sym (same_length paths)) lt) (text_at paths i path path.items lt is)
+-- the same of a path, given as it is lent
+pub flat_map_next_path : (f : List ℕ → List ℕ) (paths : List (Bor (List ℕ))) (i : ℕ) (other : Bor (List ℕ)) → i < length paths → flat_map f (take (i + 1) (lent_texts paths)) ≡ flat_map f (take i (lent_texts paths)) ++ f (get_or paths i other).now
+flat_map_next_path f paths i other lt =
+    let path = (get_or paths i other).now in
+    flat_map_next f (lent_texts paths) i path (subst (λ n. i < n) (sym (same_length paths)) lt) (text_at paths i other path lt)
 
 -- a path that is written behind what stands there
 pub written_next : (start front text path : List ℕ) (byte : ℕ) → ((start ++ (front ++ text)) ++ byte ∷ []) ++ path ≡ start ++ (front ++ (text ++ byte ∷ path))

@@ -50,7 +50,7 @@ not_not true h = refl
 not_not false h = cc
 
 -- where no path is found that has no spelling, each has one
-paths_written : (paths : List (List ℕ)) → position (λ path. not (is_writable path)) paths ≡ None → All IsWritable paths
+pub paths_written : (paths : List (List ℕ)) → position (λ path. not (is_writable path)) paths ≡ None → All IsWritable paths
 paths_written paths h k d lt =
     (is_writable-meaning (get_or paths k d)).0
     (not_not (is_writable (get_or paths k d)) (fails_each (λ path. not (is_writable path)) 0 paths (sym (position_from-zero (λ path. not (is_writable path)) paths) ∙ h) k d lt))
@@ -122,7 +122,7 @@ cond_some true x y h = cc
 cond_some false x y h = absurd (cc)
 
 -- the fault of such a statement is a build line that is too long
-one_too_long : (index : ℕ) (s : StatementValue) (fault : WriteFault) → All IsWritable (paths_of s) → statement_fault index s ≡ Some fault → fault ≡ StatementTooLong index
+pub one_too_long : (index : ℕ) (s : StatementValue) (fault : WriteFault) → All IsWritable (paths_of s) → statement_fault index s ≡ Some fault → fault ≡ StatementTooLong index
 one_too_long index s fault w h =
     let long = cond (nat_lt line_limit (length (build_line s))) (Some (StatementTooLong index)) None in
     cond_some (nat_lt line_limit (length (build_line s))) (StatementTooLong index) fault

@@ -1,8 +1,8 @@
 -- What holds of the definitions themselves.
-use Rattle.std.specs.Prelude.{◌≡◌, ℕ, List, ◌++◌, All, Some, ◌⊎◌}
+use Rattle.std.specs.Prelude.{◌≡◌, ℕ, List, ◌∷◌, ◌++◌, length, All, Some, None, ◌⊎◌}
 use Rattle.ninja_text.specs.Escapes.{IsWritable}
 use Rattle.dyndep_file.specs.StatementValue.{StatementValue}
-use Rattle.dyndep_file.specs.WriteFaults.{paths_of, write_fault}
+use Rattle.dyndep_file.specs.WriteFaults.{paths_of, statement_fault, write_fault}
 use Rattle.dyndep_file.specs.Reading.{StandsFor, FaultAt, IsRefused}
 use Rattle.dyndep_file.specs.Reader.{Reader, HasRead, IsFaultIn}
 use Rattle.dyndep_file.specs.ReadingAll.{IsUnrefused}
@@ -47,3 +47,16 @@ abbrev pub OnlyTooLong : Type 0
 OnlyTooLong = (statements : List StatementValue) (fault : WriteFault)
     → All (λ s. All IsWritable (paths_of s)) statements → write_fault statements ≡ Some fault
     → (index : ℕ) × (fault ≡ StatementTooLong index)
+
+-- A statement whose paths all have spellings has no other fault either.
+abbrev pub IsTooLong : Type 0
+IsTooLong = (index : ℕ) (s : StatementValue) (fault : WriteFault)
+    → All IsWritable (paths_of s) → statement_fault index s ≡ Some fault
+    → fault ≡ StatementTooLong index
+
+-- The fault of a statement behind some that have none is that of the list.
+abbrev pub FirstFault : Type 0
+FirstFault = (before : List StatementValue) (s : StatementValue) (after : List StatementValue)
+    (fault : WriteFault) → write_fault before ≡ None
+    → statement_fault (length before) s ≡ Some fault
+    → write_fault (before ++ s ∷ after) ≡ Some fault

@@ -8,6 +8,7 @@ pub mod Faults
 pub mod BuildTokens
 pub mod Steps
 pub mod Reading
+pub mod Texts
 pub mod ReadingAll
 pub mod Laws
 pub mod Reader

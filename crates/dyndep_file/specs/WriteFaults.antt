@@ -1,5 +1,5 @@
 -- Which lists of statements can't be written, and what a call that writes leaves behind.
-use Rattle.std.specs.Prelude.{◌≡◌, ℕ, ◌+◌, ◌-◌, ◌^◌, min, ◌≤◌, nat_lt, not, if◌then◌else◌, List, [], ◌∷◌, ◌++◌, length, All, position, Option, Some, None, option_map, Result, Ok, Err, ⊤}
+use Rattle.std.specs.Prelude.{◌≡◌, ℕ, ◌+◌, ◌≤◌, nat_lt, not, if◌then◌else◌, List, [], ◌∷◌, ◌++◌, length, All, position, Option, Some, None, option_map, Result, Ok, Err, ⊤}
 use Rattle.std.specs.Option.{option_or}
 use Rattle.ninja_text.specs.declared.counting.Counted.{Counted}
 use Rattle.ninja_text.specs.declared.failure.Failure.{Failure}
@@ -79,7 +79,3 @@ AnswersFault fault (Err (Fault (Unwritable statement path))) =
 AnswersFault fault (Err (Fault (StatementTooLong statement))) =
     fault ≡ Some (StatementTooLong statement)
 AnswersFault fault (Err (Fault (Io written))) = fault ≡ None
-
--- a length as a number of 64 bits, which stops at the greatest one
-abbrev pub capped : ℕ → ℕ
-capped len = min len (2 ^ 64 - 1)

@@ -1,5 +1,4 @@
 -- Definitions that private clauses alone speak of.
-pub mod Lengths
 pub mod Paths
 pub mod BuildLines
 pub mod LineReading

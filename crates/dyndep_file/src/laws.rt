@@ -4,7 +4,7 @@ ghost use Rattle.dyndep_file.specs.StatementValue.{StatementValue};
 ghost use Rattle.dyndep_file.specs.Writing.{dyndep_text};
 ghost use Rattle.dyndep_file.specs.WriteFaults.{CanBeWritten};
 ghost use Rattle.dyndep_file.specs.Reading.{StandsForOnly};
-ghost use Rattle.dyndep_file.specs.Laws.{OneList, NotBoth, OneOfBoth, OneFault, GoesOnUnrefused, FaultStays, OnlyTooLong};
+ghost use Rattle.dyndep_file.specs.Laws.{OneList, NotBoth, OneOfBoth, OneFault, GoesOnUnrefused, FaultStays, OnlyTooLong, IsTooLong, FirstFault};
 
 /// The grammar relates a text to at most one list of statements.
 pub fn one_list()
@@ -33,9 +33,16 @@ pub fn fault_stays()
     ensures { FaultStays }
 {}
 
-/// Statements whose paths all have spellings have no fault but a build line that is too long.
+/// Statements whose paths all have spellings have no fault but a build line that is too long; so
+/// has each such statement.
 pub fn long_lines()
-    ensures { OnlyTooLong }
+    ensures lists { OnlyTooLong }
+    ensures statements { IsTooLong }
+{}
+
+/// The fault of a statement behind some without a fault is that of the list, whatever comes after.
+pub fn first_fault()
+    ensures { FirstFault }
 {}
 
 /// The grammar relates the text of statements that can be written to them, and to no other list.

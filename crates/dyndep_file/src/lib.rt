@@ -7,8 +7,10 @@
 //!   `specs/Grammar.antt` gives the whole text, or the first faulty line and its fault
 //!   (`specs/Reading.antt`, `specs/Faults.antt`).
 //! - [`Dyndep::to_text`] makes the text of the statements, byte for byte as `specs/Writing.antt`
-//!   states it, and [`write`] writes it, or the first fault of `specs/WriteFaults.antt` is reported
-//!   before the first byte. The grammar relates the text to the statements, and to no other list.
+//!   states it, [`DyndepText`] that of statements which are lent one after another
+//!   (`specs/Texts.antt`), and [`write`] writes it; or the first fault of `specs/WriteFaults.antt`
+//!   is reported before the first byte. The grammar relates the text to the statements, and to no
+//!   other list.
 //!   [`writable_statements`] proves that there is no such fault exactly where each path has a
 //!   spelling and each build line keeps the limit.
 //! - How [`LineFault`], [`ReadFault`] and [`WriteFault`] are printed is proved too
@@ -30,10 +32,12 @@ mod line;
 mod progress;
 mod reader;
 pub mod statement;
+mod text;
 mod writing;
 
 pub use faults::{LineFault, ReadFault};
 pub use from_reader::read_all;
 pub use reader::DyndepReader;
-pub use statement::{Dyndep, Statement};
+pub use statement::{Dyndep, LentStatement, Statement};
+pub use text::DyndepText;
 pub use writing::{WriteFault, writable_statements, write};

@@ -31,6 +31,29 @@ impl Model for Statement {
     } };
 }
 
+/// A [`Statement`] whose paths are lent, so that it is written without a copy of them.
+#[derive(Drop)]
+pub struct LentStatement<'a> {
+    pub output: &'a [u8],
+    pub implicit_outputs: &'a [&'a [u8]],
+    pub implicit_inputs: &'a [&'a [u8]],
+    pub restat: bool,
+}
+
+impl<'a> Model for LentStatement<'a> {
+    ghost use Rattle.std.specs.Prelude.{map};
+    ghost use Rattle.dyndep_file.specs.StatementValue.{StatementValue};
+
+    ghost Value = { StatementValue };
+
+    ghost view = { λ s. record {
+      output = s.output.now;
+      implicit_outputs = map (λ path. path.now) s.implicit_outputs.now;
+      implicit_inputs = map (λ path. path.now) s.implicit_inputs.now;
+      restat = s.restat;
+    } };
+}
+
 /// The statements of a dyndep file, in order.
 #[derive(Debug, Drop)]
 pub struct Dyndep {

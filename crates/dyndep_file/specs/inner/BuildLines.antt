@@ -1,5 +1,5 @@
 -- A build line's tokens after its keyword, and what reading each part of them answers.
-use Rattle.std.specs.Prelude.{◌≡◌, ℕ, false, List, [], ◌∷◌, ◌++◌, map, codes, Option, Some, Result, Ok, Err}
+use Rattle.std.specs.Prelude.{◌≡◌, ℕ, false, List, ◌∷◌, ◌++◌, map, codes, Option, Some, Result, Ok, Err}
 use Rattle.ninja_text.specs.Tokens.{value_of}
 use Rattle.ninja_text.specs.declared.failure.Failure.{Failure}
 use Rattle.ninja_text.specs.declared.failure.Failure.TheVariants.{Memory, Fault}

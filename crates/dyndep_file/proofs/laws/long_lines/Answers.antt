@@ -1,5 +1,8 @@
-use Rattle.dyndep_file.proofs.WriteFaultLemmas.{only_too_long}
+use Rattle.dyndep_file.proofs.WriteFaultLemmas.{only_too_long, one_too_long}
 use Rattle.dyndep_file.proofs.laws.long_lines.Goals as goal
 
-pub returns : goal.returns
-returns c = only_too_long
+pub returns-clause-lists : goal.returns-clause-lists
+returns-clause-lists c = only_too_long
+
+pub returns-clause-statements : goal.returns-clause-statements
+returns-clause-statements c = one_too_long

@@ -1,0 +1,5 @@
+use Rattle.dyndep_file.proofs.TextLemmas.{fault_behind}
+use Rattle.dyndep_file.proofs.laws.first_fault.Goals as goal
+
+pub returns : goal.returns
+returns c = fault_behind
