@@ -1,4 +1,9 @@
 pub mod Trees
+pub mod Fitting
+pub mod Counted
+pub mod ScanParts
+pub mod InfoParts
+pub mod TargetParts
 pub mod Numbers
 pub mod Elements
 pub mod Parts

@@ -1,19 +1,22 @@
 -- The values of `json` as trees: what `serde_json` makes of a value, and what is found in it.
-use Rattle.std.proofs.Common.{◌≡◌, ℕ, ◌+◌, ◌<◌, length, get_or, drop, List, [], ◌∷◌, map, Bool, true, false, cond, ◌&&◌, Option, Some, None, is_some, unwrap_or, option_map, option_and_then, Bor, Global, bytes_eq, refl, sym, ap, ◌∙◌}
+use Rattle.std.proofs.Common.{◌≡◌, ℕ, List, [], ◌∷◌, map, Bool, true, false, cond, ◌&&◌, Option, Some, None, is_some, unwrap_or, option_map, option_and_then, Bor, Global, bytes_eq, refl, sym, ap, ◌∙◌}
 use Rattle.std.proofs.lemmas.Slice.Eq.{bytes_eq-Decides}
-use Rattle.std.proofs.lemmas.List.{drop_more}
 use Rattle.std.specs.Option.{option_or}
 use Rattle.std.specs.Prelude.{IsUtf8}
 use Rattle.json.specs.Json as json
 use Rattle.json.specs.Find as find
-use Rattle.json.specs.Value.{value_view, items_view, members_view}
+use Rattle.json.specs.Lex.{tokens}
+use Rattle.json.specs.Token.{Token}
+use Rattle.json.specs.Value.{value_view, items_view}
 use Rattle.json.specs.declared.value.Value.{Value}
 use Rattle.serde_json.specs.Data.{Num, Data, number, array, object, item, Members, no_members, put}
 use Rattle.serde_json.specs.Find.{get, get_member, as_null, as_bool, as_str, as_number, as_array, as_object}
-use Rattle.serde_json.specs.Read.{number_of, of_json, of_items, of_members, read}
+use Rattle.serde_json.specs.Read.{number_of, of_json, of_items, of_members, read, max_depth}
 use Rattle.serde_json.proofs.Views.{get_member-put, get_member-put_other}
+use Rattle.scan_docs.specs.declared.form.Form.{Form}
 use Rattle.scan_docs.specs.Document.{IsTree}
 use Rattle.scan_docs.specs.Shape.{elements}
+use Rattle.scan_docs.specs.inner.Part.{part_of, fitting, part_read, IsPart}
 use Rattle.scan_docs.specs.inner.Tree.{number_value, data_of, data_of_items, data_of_members, numbers_fit, items_fit, members_fit, view, value_of}
 
 -- ---- what `serde_json` makes of a value
@@ -57,16 +60,55 @@ is_read : (bytes : List ℕ) (j : json.Json) → value_of bytes ≡ Some j → r
 is_read bytes j e = ap (option_and_then of_json) e ∙ read_value j
 
 -- a value in which all numbers fit gives the tree
-pub is_tree : (bytes : List ℕ) (j : json.Json) → IsUtf8 bytes → value_of bytes ≡ Some j → numbers_fit j ≡ true → IsTree bytes (data_of j)
+is_tree : (bytes : List ℕ) (j : json.Json) → IsUtf8 bytes → value_of bytes ≡ Some j → numbers_fit j ≡ true → IsTree bytes (data_of j)
 is_tree bytes j utf8 e fit = (utf8, is_read bytes j e ∙ ap (λ b. cond b (Some (data_of j)) None) fit)
 
 -- with no value there is no tree
-pub no_value : (bytes : List ℕ) → value_of bytes ≡ None → (d : Data) → IsTree bytes d → ⊥
+no_value : (bytes : List ℕ) → value_of bytes ≡ None → (d : Data) → IsTree bytes d → ⊥
 no_value bytes e d h = let none : read bytes ≡ None = ap (option_and_then of_json) e in let some = h.1 in cc
 
 -- nor with a number that does not fit
-pub no_number : (bytes : List ℕ) (j : json.Json) → value_of bytes ≡ Some j → numbers_fit j ≡ false → (d : Data) → IsTree bytes d → ⊥
+no_number : (bytes : List ℕ) (j : json.Json) → value_of bytes ≡ Some j → numbers_fit j ≡ false → (d : Data) → IsTree bytes d → ⊥
 no_number bytes j e fit d h = let none : read bytes ≡ None = is_read bytes j e ∙ ap (λ b. cond b (Some (data_of j)) None) fit in let some = h.1 in cc
+
+-- ---- the part of it that counts
+
+abbrev last : Option (json.Json × List Token) → Option json.Json
+last o = option_and_then (λ p. json.if_last p.0 p.1) o
+
+module _ (form : Form) (bytes : List ℕ) where
+  whole_read : (j : json.Json) (ts : List Token) → json.value max_depth (tokens bytes) ≡ Some (j, ts) → (v : Bool) → numbers_fit j ≡ v → IsUtf8 bytes → (part : json.Json)
+      → last (cond {A = Option (json.Json × List Token)} v (Some (part_of form j, ts)) None) ≡ Some part → IsPart form bytes (data_of part)
+  whole_read j [] e true fit utf8 part h = record {
+    whole = j;
+    reads = is_tree bytes j utf8 (ap last e) fit;
+    same = let same : part ≡ part_of form j = cc in ap data_of same;
+  }
+  whole_read j (t ∷ ts) e true fit utf8 part h = absurd (cc)
+  whole_read j ts e false fit utf8 part h = absurd (cc)
+
+  any_read : (o : Option (json.Json × List Token)) → json.value max_depth (tokens bytes) ≡ o → IsUtf8 bytes → (part : json.Json)
+      → last (fitting numbers_fit (part_of form) o) ≡ Some part → IsPart form bytes (data_of part)
+  any_read None e utf8 part h = absurd (cc)
+  any_read (Some p) e utf8 part h = whole_read p.0 p.1 e (numbers_fit p.0) refl utf8 part h
+
+  pub is_part : IsUtf8 bytes → (part : json.Json) → part_read form bytes ≡ Some part → IsPart form bytes (data_of part)
+  is_part utf8 part h = any_read (json.value max_depth (tokens bytes)) refl utf8 part h
+
+  not_whole : (j : json.Json) (ts : List Token) → json.value max_depth (tokens bytes) ≡ Some (j, ts) → (v : Bool) → numbers_fit j ≡ v
+      → last (cond {A = Option (json.Json × List Token)} v (Some (part_of form j, ts)) None) ≡ None → (d : Data) → IsTree bytes d → ⊥
+  not_whole j [] e true fit h = absurd (cc)
+  not_whole j (t ∷ ts) e true fit h = no_value bytes (ap last e)
+  not_whole j [] e false fit h = no_number bytes j (ap last e) fit
+  not_whole j (t ∷ ts) e false fit h = no_value bytes (ap last e)
+
+  not_any : (o : Option (json.Json × List Token)) → json.value max_depth (tokens bytes) ≡ o → last (fitting numbers_fit (part_of form) o) ≡ None → (d : Data) → IsTree bytes d → ⊥
+  not_any None e h = no_value bytes (ap last e)
+  not_any (Some p) e h = not_whole p.0 p.1 e (numbers_fit p.0) refl h
+
+  -- where no part is read there is no tree
+  pub no_part : part_read form bytes ≡ None → (d : Data) → IsTree bytes d → ⊥
+  no_part h = not_any (json.value max_depth (tokens bytes)) refl h
 
 -- ---- what is found in a tree
 
@@ -159,16 +201,3 @@ elements_of_items (v ∷ vs) = ap (λ ds. view v ∷ ds) (elements_of_items vs)
 
 pub elements_data : (j : json.Json) (vs : List (Value Global)) → Some (items_view vs) ≡ find.as_array j → Some (map view vs) ≡ option_map elements (as_array (data_of j))
 elements_data j vs e = ap Some (sym (elements_of_items vs)) ∙ ap (λ o. option_map elements (option_map data_of_items o)) e ∙ ap (option_map elements) (sym (as_array_data j))
-
--- ---- values that are looked at one after another
-
-pub items_from : (vs : List (Value Global)) (i : ℕ) (v : Value Global) → i < length vs → v ≡ get_or vs i v
-    → items_fit (items_view (drop i vs)) ≡ numbers_fit (value_view v) && items_fit (items_view (drop (i + 1) vs))
-items_from vs i v lt is = ap (λ xs. items_fit (items_view xs)) (drop_more vs i v lt ∙ ap (λ x. x ∷ drop (i + 1) vs) (sym is))
-
-abbrev Member : Type 0
-Member = Bor (List ℕ) × Value Global
-
-pub members_from : (ms : List Member) (i : ℕ) (m : Member) → i < length ms → m ≡ get_or ms i m
-    → members_fit (members_view (drop i ms)) ≡ numbers_fit (value_view m.1) && members_fit (members_view (drop (i + 1) ms))
-members_from ms i m lt is = ap (λ xs. members_fit (members_view xs)) (drop_more ms i m lt ∙ ap (λ x. x ∷ drop (i + 1) ms) (sym is))

@@ -3,3 +3,5 @@ pub mod Tree
 pub mod Reading
 pub mod Sound
 pub mod Writing
+pub mod Form
+pub mod Part

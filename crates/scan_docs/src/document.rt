@@ -1,14 +1,16 @@
-//! The tree of a document's bytes.
+//! Reading a document's bytes.
 
 ghost use Rattle.std.specs.Prelude.{◌≡◌, ◌≢◌, ◌≤◌, ◌<◌, ◌⊎◌, Some, None, IfOk, IfErr, length};
 ghost use Rattle.json.specs.Value.{value_view};
 ghost use Rattle.ninja_text.specs.declared.failure.Failure.TheVariants.{Memory, Fault};
 ghost use Rattle.serde_json.specs.Data.{Data};
 ghost use Rattle.scan_docs.specs.Document.{IsTree, document_limit};
-ghost use Rattle.scan_docs.specs.inner.Tree.{view, value_of};
+ghost use Rattle.scan_docs.specs.inner.Part.{IsPart, part_read};
+ghost use Rattle.scan_docs.specs.inner.Tree.{view};
 
 use crate::fault::{DocFault, Place};
-use crate::tree::numbers_fit;
+use crate::form::Form;
+use crate::part::read_part;
 use json::{Error, Reader, Scratch, Value};
 use ninja_text::Failure;
 use std::alloc::Global;
@@ -20,15 +22,16 @@ pub const DOCUMENT_LIMIT: usize = 16_777_216;
 /// How deep arrays and objects may nest.
 const DEPTH_LIMIT: usize = 127;
 
-/// The tree that the bytes are read as. It borrows its texts from the bytes, and those with escapes
-/// from the scratch.
+/// The part of the bytes' tree that counts. It borrows its texts from the bytes, and those with
+/// escapes from the scratch.
 pub(crate) fn read_tree<'a>(
     alloc: Global,
     bytes: &'a [u8],
+    form: Form,
     scratch: &'a mut Scratch,
 ) -> Result<Value<'a>, Failure<DocFault>>
     ensures read { IfOk result
-        (λ tree. (length bytes.now ≤ document_limit) × IsTree bytes.now (view tree)) }
+        (λ tree. (length bytes.now ≤ document_limit) × IsPart form bytes.now (view tree)) }
     ensures refused { IfErr result (λ e. e ≢ Memory
         → ((document_limit < length bytes.now) × (e ≡ Fault (DocFault.TooLarge Place.Document)))
         ⊎ ((length bytes.now ≤ document_limit)
@@ -43,25 +46,22 @@ pub(crate) fn read_tree<'a>(
         Ok(text) => text,
         Err(_) => return Err(Failure::Fault(DocFault::NotJson)),
     };
-    let tree = read_value(alloc, text, scratch)?;
-    if !numbers_fit(&tree) {
-        return Err(Failure::Fault(DocFault::NotJson));
-    }
-    Ok(tree)
+    read_text(alloc, text, form, scratch)
 }
 
-/// The value of a text, in which a number may be larger than a float can hold.
-fn read_value<'a>(
+/// The part of a text's value that counts.
+fn read_text<'a>(
     alloc: Global,
     text: &'a str,
+    form: Form,
     scratch: &'a mut Scratch,
 ) -> Result<Value<'a>, Failure<DocFault>>
-    ensures read { IfOk result (λ v. value_of text.now ≡ Some (value_view v)) }
+    ensures read { IfOk result (λ v. part_read form text.now ≡ Some (value_view v)) }
     ensures refused { IfErr result
-        (λ e. e ≢ Memory → (value_of text.now ≡ None) × (e ≡ Fault DocFault.NotJson)) }
+        (λ e. e ≢ Memory → (part_read form text.now ≡ None) × (e ≡ Fault DocFault.NotJson)) }
 {
     let mut reader = Reader::new(text, scratch)?;
-    let value = match Value::read(alloc, &mut reader, DEPTH_LIMIT) {
+    let value = match read_part(alloc, &mut reader, DEPTH_LIMIT, form) {
         Ok(value) => value,
         Err(Error::OutOfMemory) => return Err(Failure::Memory),
         Err(_) => return Err(Failure::Fault(DocFault::NotJson)),

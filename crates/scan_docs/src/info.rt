@@ -17,6 +17,7 @@ ghost use Rattle.scan_docs.specs.declared.member.Member.TheVariants as m;
 
 use crate::document::read_tree;
 use crate::fault::{DocFault, Place, bad_path, bad_shape};
+use crate::form::Form;
 use crate::member::Member;
 use crate::name::Name;
 use crate::rule::read_name;
@@ -78,7 +79,7 @@ pub fn info_read(alloc: Global, bytes: &[u8]) -> Result<Info, Failure<DocFault>>
     ensures one_answer { HasOneAnswer info_checks IsInfo bytes.now }
 {
     let mut scratch = Scratch::new(alloc);
-    let tree = read_tree(alloc, bytes, &mut scratch)?;
+    let tree = read_tree(alloc, bytes, Form::InfoDocument, &mut scratch)?;
     read_info(alloc, &tree)
 }
 

@@ -1,4 +1,4 @@
-//! The text of an info document.
+//! The text of an info document, written from what is only lent.
 
 ghost use Rattle.std.specs.Prelude.{◌≡◌, map, IfOk, OnOk, Ok};
 ghost use Rattle.std.specs.List.{All};
@@ -10,12 +10,51 @@ ghost use Rattle.scan_docs.specs.InfoText.{requirement_tree, requirements_tree, 
 ghost use Rattle.scan_docs.specs.inner.Sound.{IsSound, IsSoundModule, IsSoundInfo};
 ghost use Rattle.scan_docs.specs.inner.Writing.{tree_tokens, member_tokens, named_file_tokens, Appends};
 
-use crate::info::{Info, InfoModule};
+use crate::info::Info;
 use crate::name::Name;
+use crate::target_name::TargetName;
 use json::Writer;
 use ninja_text::Path;
 use std::alloc::{AllocError, Global};
+use std::marker::Model;
 use std::str;
+
+/// A module of a [`LentInfo`].
+#[derive(Drop)]
+pub struct LentModule<'a> {
+    pub name: &'a Name,
+    pub file: &'a Path,
+    pub required: &'a [(Name, Path)],
+    pub is_private: bool,
+}
+
+impl<'a> Model for LentModule<'a> {
+    ghost use Rattle.scan_docs.specs.Info.{ModuleValue};
+
+    ghost Value = { ModuleValue };
+
+    ghost view = { λ v. record {
+      name = v.name.now;
+      file = v.file.now;
+      required = v.required.now;
+      is_private = v.is_private;
+    } };
+}
+
+/// An [`Info`] whose parts are lent, so that it can be written without a copy of them.
+#[derive(Drop)]
+pub struct LentInfo<'a> {
+    pub target: &'a TargetName,
+    pub modules: Vec<LentModule<'a>>,
+}
+
+impl<'a> Model for LentInfo<'a> {
+    ghost use Rattle.scan_docs.specs.Info.{InfoValue};
+
+    ghost Value = { InfoValue };
+
+    ghost view = { λ i. record { target = i.target.now; modules = i.modules.items } };
+}
 
 /// The info as a document of version 2: compact JSON with keys in byte order, and no line end.
 ///
@@ -27,12 +66,40 @@ pub fn info_write(alloc: Global, info: &Info) -> Result<Vec<u8>, AllocError>
     ensures text { IfOk result (λ text. text.items ≡ info_text info.now) }
     ensures reads_back { IfOk result (λ text. ReadsBack info.now text.items) }
 {
+    let lent = lent_info(alloc, info)?;
+    lent_info_write(alloc, &lent)
+}
+
+fn lent_info<'i>(alloc: Global, info: &'i Info) -> Result<LentInfo<'i>, AllocError>
+    ensures { IfOk result (λ lent. lent ≡ info.now) }
+{
+    let mut modules = Vec::with_capacity(alloc, info.modules.len())?;
+    for entry in &info.modules {
+        modules.push(LentModule {
+            name: &entry.name,
+            file: &entry.file,
+            required: &entry.required,
+            is_private: entry.is_private,
+        })?;
+    }
+    Ok(LentInfo {
+        target: &info.target,
+        modules,
+    })
+}
+
+/// What [`info_write`] writes, of an info whose parts are lent.
+pub fn lent_info_write(alloc: Global, info: &LentInfo<'_>) -> Result<Vec<u8>, AllocError>
+    requires { IsInfoText info.now }
+    ensures text { IfOk result (λ text. text.items ≡ info_text info.now) }
+    ensures reads_back { IfOk result (λ text. ReadsBack info.now text.items) }
+{
     let mut out = Writer::new(Vec::new(alloc));
     write_info(&mut out, info)?;
     Ok(out.into_inner())
 }
 
-fn write_info(out: &mut Writer, info: &Info) -> Result<(), AllocError>
+fn write_info(out: &mut Writer, info: &LentInfo<'_>) -> Result<(), AllocError>
     requires { IsInfoText info.now }
     ensures written { OnOk result (Appends out.old out.new (tree_tokens (info_tree info.now))) }
     ensures sound { OnOk result (IsSoundInfo info.now) }
@@ -46,7 +113,7 @@ fn write_info(out: &mut Writer, info: &Info) -> Result<(), AllocError>
     out.end_object()
 }
 
-fn write_modules(out: &mut Writer, modules: &[InfoModule]) -> Result<(), AllocError>
+fn write_modules(out: &mut Writer, modules: &[LentModule<'_>]) -> Result<(), AllocError>
     requires { All IsModuleText modules.now }
     ensures written { OnOk result
         (Appends out.old out.new
@@ -60,15 +127,15 @@ fn write_modules(out: &mut Writer, modules: &[InfoModule]) -> Result<(), AllocEr
     out.end_array()
 }
 
-fn write_module(out: &mut Writer, entry: &InfoModule) -> Result<(), AllocError>
+fn write_module(out: &mut Writer, entry: &LentModule<'_>) -> Result<(), AllocError>
     requires { IsModuleText entry.now }
     ensures written { OnOk result (Appends out.old out.new (tree_tokens (module_tree entry.now))) }
     ensures sound { OnOk result (IsSoundModule entry.now) }
 {
     out.begin_object()?;
-    write_named_file(out, &entry.name, &entry.file)?;
+    write_named_file(out, entry.name, entry.file)?;
     out.key("requires")?;
-    write_requirements(out, &entry.required)?;
+    write_requirements(out, entry.required)?;
     write_member(out, "visibility", visibility_text(entry.is_private))?;
     out.end_object()
 }

@@ -9,10 +9,12 @@
 //!   `specs/ProjectChecks.antt`, the meanings in `specs/Scan.antt`, `specs/Info.antt`,
 //!   `specs/Target.antt` and `specs/Project.antt`; `specs/Document.antt` puts them together.
 //!   `specs/Values.antt` gives the meaning as a function of the bytes.
+//! - Of a document's tree the members are kept that its definitions look at (`src/form.rt`). The
+//!   rest is checked to be JSON as it is passed over, and takes no memory.
 //! - [`laws`] proves of all bytes that they have one answer at most, and that the value of an
 //!   accepted document is that of the function.
 //! - [`info_write`] gives the one text of an info (`specs/InfoText.antt`), which is read as the
-//!   same info.
+//!   same info; [`lent_info_write`] the same of an info whose parts are lent.
 //! - [`Name`] and [`TargetName`] hold texts that are names (`specs/Name.antt`).
 //! - [`DocFault`], [`Place`] and [`Member`] print themselves (`specs/FaultTexts.antt`,
 //!   `specs/Place.antt`, `specs/Member.antt`).
@@ -23,6 +25,7 @@
 
 mod document;
 mod fault;
+mod form;
 mod info;
 mod info_text;
 pub mod laws;
@@ -30,6 +33,7 @@ mod map_form;
 mod member;
 mod name;
 mod number;
+mod part;
 mod project_document;
 mod rule;
 mod scan_document;
@@ -42,7 +46,7 @@ mod tree;
 pub use document::DOCUMENT_LIMIT;
 pub use fault::{DocFault, Place};
 pub use info::{Info, InfoModule, info_read};
-pub use info_text::info_write;
+pub use info_text::{LentInfo, LentModule, info_write, lent_info_write};
 pub use map_form::MapForm;
 pub use member::Member;
 pub use name::{NAME_LIMIT, Name};

@@ -13,6 +13,7 @@ ghost use Rattle.scan_docs.specs.declared.member.Member.TheVariants as m;
 
 use crate::document::read_tree;
 use crate::fault::{DocFault, Place};
+use crate::form::Form;
 use crate::member::Member;
 use crate::shape;
 use crate::target_document::read_head;
@@ -49,7 +50,7 @@ pub fn project_read(alloc: Global, bytes: &[u8]) -> Result<ProjectSpec, Failure<
     ensures one_answer { HasOneAnswer project_checks IsProject bytes.now }
 {
     let mut scratch = Scratch::new(alloc);
-    let tree = read_tree(alloc, bytes, &mut scratch)?;
+    let tree = read_tree(alloc, bytes, Form::ProjectDocument, &mut scratch)?;
     read_project(alloc, &tree)
 }
 

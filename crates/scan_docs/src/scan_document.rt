@@ -14,6 +14,7 @@ ghost use Rattle.scan_docs.specs.declared.member.Member.TheVariants as m;
 
 use crate::document::read_tree;
 use crate::fault::{DocFault, Place};
+use crate::form::Form;
 use crate::member::Member;
 use crate::rule::{Rule, read_rule};
 use crate::setting::Setting;
@@ -42,7 +43,7 @@ pub fn scan(alloc: Global, bytes: &[u8], setting: &Setting) -> Result<Vec<Rule>,
     ensures one_answer { HasOneAnswer (scan_checks setting.now) (AreRules setting.now) bytes.now }
 {
     let mut scratch = Scratch::new(alloc);
-    let tree = read_tree(alloc, bytes, &mut scratch)?;
+    let tree = read_tree(alloc, bytes, Form::ScanDocument, &mut scratch)?;
     read_rules(alloc, setting, &tree)
 }
 

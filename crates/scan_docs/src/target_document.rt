@@ -18,6 +18,7 @@ ghost use Rattle.scan_docs.specs.declared.member.Member.TheVariants as m;
 
 use crate::document::read_tree;
 use crate::fault::{DocFault, Place, bad_path, bad_shape};
+use crate::form::Form;
 use crate::map_form::MapForm;
 use crate::member::Member;
 use crate::name::Name;
@@ -89,7 +90,7 @@ pub fn spec_read(alloc: Global, bytes: &[u8]) -> Result<TargetSpec, Failure<DocF
     ensures one_answer { HasOneAnswer target_checks IsTarget bytes.now }
 {
     let mut scratch = Scratch::new(alloc);
-    let tree = read_tree(alloc, bytes, &mut scratch)?;
+    let tree = read_tree(alloc, bytes, Form::TargetDocument, &mut scratch)?;
     read_spec(alloc, &tree)
 }
 

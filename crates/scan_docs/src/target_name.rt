@@ -134,11 +134,11 @@ impl Hash for TargetName {
     ghost use Rattle.std.specs.Cmp.Rules.{hashing};
     ghost use Rattle.std.specs.Hash as fed;
 
-    ghost hash_input = { λ n. fed.slice fed.u8 n };
+    ghost hash_input = { fed.str };
 
     ghost respects_eq = { Prim.search (hashing, rules) };
 
     fn hash<H: Hasher>(&self, state: &mut H) {
-        self.text.as_bytes().hash(state);
+        self.text.hash(state);
     }
 }

@@ -9,9 +9,9 @@ ghost use Rattle.json.specs.Find.{as_array as array_of};
 ghost use Rattle.json.specs.Value.{value_view, items_view, members_view};
 ghost use Rattle.serde_json.specs.Find.{get, as_null, as_bool, as_str, as_number, as_array, as_object, as_u64};
 ghost use Rattle.scan_docs.specs.Shape.{elements};
-ghost use Rattle.scan_docs.specs.inner.Tree.{view, numbers_fit, items_fit, members_fit};
+ghost use Rattle.scan_docs.specs.inner.Tree.{view};
 
-use crate::number::{fits, whole_number};
+use crate::number::whole_number;
 use json::Value;
 
 /// The last member of that name, where the value is an object.
@@ -71,41 +71,4 @@ fn list_of<'v, 'a>(value: &'v Value<'a>) -> Option<&'v Vec<Value<'a>>>
     } else {
         None
     }
-}
-
-/// Whether each number of the value is in range.
-#[cycle(numbers)]
-pub(crate) fn numbers_fit(value: &Value<'_>) -> bool
-    ensures { result ≡ numbers_fit (value_view value.now) }
-{
-    match value {
-        Value::Number(text) => fits(text),
-        Value::Array(items) => items_fit(items),
-        Value::Object(members) => members_fit(members),
-        _ => true,
-    }
-}
-
-#[cycle(numbers)]
-fn items_fit(items: &Vec<Value<'_>>) -> bool
-    ensures { result ≡ items_fit (items_view items.now.items) }
-{
-    for item in items {
-        if !numbers_fit(item) {
-            return false;
-        }
-    }
-    true
-}
-
-#[cycle(numbers)]
-fn members_fit(members: &Vec<(&str, Value<'_>)>) -> bool
-    ensures { result ≡ members_fit (members_view members.now.items) }
-{
-    for member in members {
-        if !numbers_fit(&member.1) {
-            return false;
-        }
-    }
-    true
 }

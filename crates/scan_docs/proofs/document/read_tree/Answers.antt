@@ -1,17 +1,17 @@
-use Rattle.std.proofs.Common.{inr, refl, sym, ap, ◌∙◌, arith}
+use Rattle.std.proofs.Common.{inr, sym, ap, ◌∙◌, arith}
+use Rattle.std.proofs.lemmas.Result.{MatchResult-weaker}
 use Rattle.json.specs.Value.{value_view}
-use Rattle.scan_docs.specs.inner.Tree.{value_of}
-use Rattle.scan_docs.proofs.Trees.{is_tree, no_number}
+use Rattle.scan_docs.specs.inner.Part.{part_read}
+use Rattle.scan_docs.proofs.Trees.{is_part, no_part}
 use Rattle.scan_docs.proofs.document.read_tree.Goals as goal
-
-pub returns-then-not-numbers_fit-clause-refused : goal.returns-then-not-numbers_fit-clause-refused
-returns-then-not-numbers_fit-clause-refused c =
-    let text = c.in-Ok.ensures.cases in
-    let value = ap value_of (sym text.0) ∙ c.in_ok-tree.ensures.read in
-    λ other. inr (omega arith, no_number c.args.bytes.now (value_view c.in_ok-tree.tree) value (sym c.numbers_fit.ensures ∙ c.if-not-numbers_fit.true), refl)
 
 pub returns-clause-read : goal.returns-clause-read
 returns-clause-read c =
     let text = c.in-Ok.ensures.cases in
-    let value = ap value_of (sym text.0) ∙ c.in_ok-tree.ensures.read in
-    (omega arith, is_tree c.args.bytes.now (value_view c.in_ok-tree.tree) text.1 value (sym c.numbers_fit.ensures ∙ c.if-not-numbers_fit.false))
+    MatchResult-weaker c.read_text.result c.read_text.ensures.read (λ v h. (omega arith, is_part c.args.form c.args.bytes.now text.1 (value_view v) (ap (part_read c.args.form) (sym text.0) ∙ h))) (λ e h. h)
+
+pub returns-clause-refused : goal.returns-clause-refused
+returns-clause-refused c =
+    let text = c.in-Ok.ensures.cases in
+    MatchResult-weaker c.read_text.result c.read_text.ensures.refused (λ v h. h)
+    (λ e h ne. inr (omega arith, no_part c.args.form c.args.bytes.now (ap (part_read c.args.form) (sym text.0) ∙ (h ne).0), (h ne).1))

@@ -4,7 +4,7 @@ use Rattle.scan_docs.proofs.Writers.{one, last, last_part}
 use Rattle.scan_docs.proofs.info_text.write_module.Goals as goal
 
 pub write_requirements-requires : goal.write_requirements-requires
-write_requirements-requires c = rw (c.deref.ensures.value, ap (λ v. v.required) c.entry.view_is) c.requires.required
+write_requirements-requires c = rw (ap (λ v. v.required) c.entry.view_is) c.requires.required
 
 pub returns-clause-written : goal.returns-clause-written
 unfolding module_tree
@@ -17,4 +17,4 @@ returns-clause-written c =
     (last_part r _ _ c.in_ok-write_requirements.ensures.written
     (last r c.in_ok-write_member.ensures c.end_object.ensures)))) in
     let v = c.entry.view_is in
-    rw (c.visibility_text.ensures, c.deref.ensures.value, ap (λ v. v.file) v, ap (λ v. v.name) v, ap (λ v. v.required) v, ap (λ v. v.is_private) v) at whole
+    rw (c.visibility_text.ensures, ap (λ v. v.file) v, ap (λ v. v.name) v, ap (λ v. v.required) v, ap (λ v. v.is_private) v) at whole
