@@ -1,5 +1,5 @@
 -- Modules sorted by name, and their ranks.
-use Rattle.std.proofs.Common.{◌≡◌, ◌≢◌, ℕ, zero, suc, ◌+◌, ◌<◌, ◌⊎◌, Bool, false, List, [], ◌∷◌, ◌++◌, length, map, get_or, set, slice_index, Some, refl, ap, subst, sym, ◌∙◌, inl, inr, ⊎_elim, arith, slice_get, Ordering, true≢false}
+use Rattle.std.proofs.Common.{◌≡◌, ◌≢◌, ℕ, ◌+◌, ◌<◌, Bool, false, List, [], ◌∷◌, ◌++◌, length, map, get_or, set, slice_index, Some, refl, ap, subst, sym, ◌∙◌, ⊎_elim, arith, slice_get, Ordering, true≢false}
 use Rattle.std.specs.Option.{option_map}
 use Rattle.std.specs.List.{AllPairs, IsDistinct}
 use Rattle.std.specs.List.Sorted.{IsSorted, IsPermutation}
@@ -22,8 +22,9 @@ use Rattle.module_table.specs.Needed.{Precedes, lent}
 use Rattle.module_table.specs.inner.Indexed.{pair_at}
 use Rattle.module_table.specs.Sound.{IsSound}
 use Rattle.module_table.specs.inner.Ranks.{Numbered, AreListed, AreByName, AreNumbers, AreRanks, AreRanked}
-use Rattle.module_table.proofs.Places.{same_some, three_ways, to_map}
+use Rattle.module_table.proofs.Places.{same_some, neither_less, to_map}
 use Rattle.module_table.proofs.Required.{contained, from_map, from_option_map}
+use Rattle.module_table.proofs.Repetitions.{from_push}
 use Rattle.module_table.proofs.ReportLemmas.{element}
 use Rattle.module_table.proofs.Numbering.{placed}
 use Rattle.module_table.proofs.PairLists.{precedes_one_way}
@@ -32,12 +33,6 @@ abbrev Pair : Type 0
 Pair = List ℕ × List ℕ
 
 -- ---- all modules, by number
-
-from_push : {X : Type 0} (xs : List X) (x : X) (k : ℕ) (y : X) → slice_get (xs ++ x ∷ []) k ≡ Some y → (slice_get xs k ≡ Some y) ⊎ ((k ≡ length xs) × (x ≡ y))
-from_push [] x zero y e = inr (refl, same_some _ _ e)
-from_push [] x (suc k) y e = cc
-from_push (z ∷ xs) x zero y e = inl e
-from_push (z ∷ xs) x (suc k) y e = elim (from_push xs x k y e) [ inl h ↦ inl h | inr h ↦ inr (ap suc h.0, h.1) ]
 
 pub listed_more : (provided : List Provision) (count : ℕ) (modules : List Numbered) (m : Numbered) → m.1 ≡ count → pair_at provided count ≡ Some (lent m.0) → AreListed provided count modules → AreListed provided (count + 1) (modules ++ m ∷ [])
 listed_more provided count modules m number pair h = record {
@@ -142,10 +137,7 @@ module _ (provided : List Provision) (modules : List Numbered) (h : AreByName pr
         let p = from_option_map (λ (p : Provision). let q : Pair = (p.name, p.file) in q) (slice_get provided m.1) (lent m.0) (h.pairs r m at) in
         omega (arith, slice_get_within provided m.1 p.0 p.1, h.as_many);
     once = λ r s m n at_r at_s same.
-        ⊎_elim
-        (λ lt. absurd (never_twice r s m n at_r at_s lt same))
-        (λ rest. ⊎_elim (λ e. e) (λ gt. absurd (never_twice s r n m at_s at_r gt (sym same))) rest)
-        (three_ways r s);
+        neither_less r s (λ lt. never_twice r s m n at_r at_s lt same) (λ gt. never_twice s r n m at_s at_r gt (sym same));
   }
 
   module _ (ranks : List ℕ) (is : AreRanks modules (length modules) ranks) (pairs : List Pair) (made : pairs ≡ map (λ (m : Numbered). lent m.0) modules) where
@@ -171,9 +163,6 @@ module _ (provided : List Provision) (modules : List Numbered) (h : AreByName pr
           let here : Precedes (name a.0) (name b.0) = subst (λ x. Precedes (name a.0) (name x)) (get_or_from_slice_get modules j b.0 a.0 b.1) (subst (λ x. Precedes (name x) (name (get_or modules j a.0))) (get_or_from_slice_get modules i a.0 a.0 a.1) up) in
           subst (λ (x : Pair). Precedes x.0 (get_or pairs j d).0) a.2 (subst (λ (y : Pair). Precedes (name a.0) y.0) b.2 here);
     }
-
-pub ranks_begun : (modules : List Numbered) (ranks : List ℕ) → length ranks ≡ length modules → AreRanks modules 0 ranks
-ranks_begun modules ranks long = record { as_many = long; each = λ r m lt at. absurd (omega (arith, lt)) }
 
 pub ranks_more : (modules : List Numbered) (i : ℕ) (ranks : List ℕ) (m : Numbered) → AreNumbers modules → slice_get modules i ≡ Some m → AreRanks modules i ranks → AreRanks modules (i + 1) (set ranks m.1 i)
 ranks_more modules i ranks m numbers at h = record {

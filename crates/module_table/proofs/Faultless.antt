@@ -25,7 +25,7 @@ use Rattle.module_table.specs.inner.Numbered.{IsNumbered, maker_at}
 use Rattle.module_table.specs.declared.fault.Maker.{Maker}
 use Rattle.module_table.specs.declared.fault.Maker.TheVariants.{Object, Info}
 use Rattle.module_table.specs.declared.fault.TableFault.TheVariants.{ObjectTwice, InfoTwice, ProvidedTwice, BmiTwice, ModuleUnknown, InfoUnknown, InfoDisagrees, ImportCycle, ModulePrivate, PrivateUnknown}
-use Rattle.module_table.proofs.Places.{to_map, three_ways}
+use Rattle.module_table.proofs.Places.{to_map, neither_less}
 use Rattle.module_table.proofs.Required.{from_map, contained}
 use Rattle.module_table.proofs.Numbering.{placed, number_known}
 use Rattle.module_table.proofs.ReportLemmas.{absent_unknown, provided_numbered}
@@ -69,10 +69,7 @@ module _ {X : Type 0} (Alike : X → X → Type 0) (xs : List X) (none : (i j : 
 -- what is never twice in its texts is at one place
 at_one_place : {X : Type 0} (f : X → List ℕ) (xs : List X) → ((i j : ℕ) (a b : X) → i < j → slice_get xs i ≡ Some a → slice_get xs j ≡ Some b → f a ≡ f b → ⊥) → (i j : ℕ) (a b : X) → slice_get xs i ≡ Some a → slice_get xs j ≡ Some b → f a ≡ f b → i ≡ j
 at_one_place f xs never i j a b at_i at_j same =
-    ⊎_elim
-    (λ lt. absurd (never i j a b lt at_i at_j same))
-    (λ rest. ⊎_elim (λ e. e) (λ gt. absurd (never j i b a gt at_j at_i (sym same))) rest)
-    (three_ways i j)
+    neither_less i j (λ lt. never i j a b lt at_i at_j same) (λ gt. never j i b a gt at_j at_i (sym same))
 
 -- where no object is the first that requires such a name, none does
 none_required : (P : List ℕ → Type 0) (objects : List RuleValue) → ((object : ℕ) (name : List ℕ) → IsFirstRequired P objects object name → ⊥) → (object : ℕ) (rule : RuleValue) (name : List ℕ) → slice_get objects object ≡ Some rule → Contains rule.required name → P name → ⊥

@@ -1,14 +1,15 @@
 -- What is found by a name, and what the checks ask of it.
-use Rattle.std.proofs.Common.{◌≡◌, ℕ, zero, suc, Bool, true, false, not, cond, ◌||◌, List, [], ◌∷◌, Option, Some, None, refl, ap, sym, ◌∙◌, ⊎_elim, map, slice_get, find, MatchBool, bytes_eq, true≢false}
+use Rattle.std.proofs.Common.{◌≡◌, ℕ, zero, suc, Bool, true, false, not, cond, ◌||◌, List, [], ◌∷◌, Option, Some, None, refl, ap, sym, ◌∙◌, map, slice_get, find, MatchBool, bytes_eq, true≢false}
 use Rattle.std.specs.Cmp.Lexicographic.{bytes_decides}
 use Rattle.std.proofs.lemmas.Bool.{eq-eqb, eqb-true}
 use Rattle.module_table.specs.Modules.{Provision, InfoRequirement}
 use Rattle.module_table.specs.inner.Repetition.{AllDiffer}
 use Rattle.module_table.specs.inner.Views.{names_of, IsAbsent}
 use Rattle.module_table.specs.inner.Finds.{found, is_info, is_object, is_info_at, some_and, none_or, is_by_info, agrees, is_allowed, is_public_at, is_by_object, IsNamed, IsByInfo, IsNotByInfo, Agrees, Differs, IsAllowed, IsNotAllowed, IsPublic, IsPrivate, IsByObject, IsNotByObject, RefusesAt, AcceptsAll}
+use Rattle.module_table.specs.inner.Found.{with_module}
 use Rattle.module_table.specs.declared.fault.Maker.{Maker}
 use Rattle.module_table.specs.declared.fault.Maker.TheVariants.{Object, Info}
-use Rattle.module_table.proofs.Places.{same_some, three_ways, to_map}
+use Rattle.module_table.proofs.Places.{same_some, neither_less, to_map}
 use Rattle.module_table.proofs.Required.{from_find, from_map}
 use Rattle.module_table.proofs.ReportLemmas.{in_row}
 
@@ -50,10 +51,7 @@ module _ (ps : List Provision) (name : List ℕ) where
   module _ (differ : AllDiffer (names_of ps)) where
     pub one_index : (k l : ℕ) (p q : Provision) → IsNamed ps name k p → IsNamed ps name l q → k ≡ l
     one_index k l p q a b =
-        ⊎_elim
-        (λ lt. absurd (differ.differ k l name lt (name_there k p a) (name_there l q b)))
-        (λ rest. ⊎_elim (λ e. e) (λ gt. absurd (differ.differ l k name gt (name_there l q b) (name_there k p a))) rest)
-        (three_ways k l)
+        neither_less k l (λ lt. differ.differ k l name lt (name_there k p a) (name_there l q b)) (λ gt. differ.differ l k name gt (name_there l q b) (name_there k p a))
 
     pub one_module : (k l : ℕ) (p q : Provision) → IsNamed ps name k p → IsNamed ps name l q → p ≡ q
     one_module k l p q a b = same_some _ _ (sym a.0 ∙ ap (slice_get ps) (one_index k l p q a b) ∙ b.0)
@@ -133,9 +131,9 @@ info_at_of : (m : Maker) (index : ℕ) → m ≡ Info index → is_info_at m ind
 info_at_of m index same = ap (λ maker. is_info_at maker index) same ∙ eq-eqb index index refl
 
 module _ (ps : List Provision) (differ : AllDiffer (names_of ps)) where
-  pub by_info : (r : InfoRequirement) → MatchBool (is_by_info ps r) (IsByInfo ps r) (IsNotByInfo ps r)
+  pub by_info : (r : InfoRequirement) → MatchBool (is_by_info (with_module ps r)) (IsByInfo ps r) (IsNotByInfo ps r)
   by_info r =
-      turned (is_by_info ps r) _ _ (IsByInfo ps r) (IsNotByInfo ps r)
+      turned (is_by_info (with_module ps r)) _ _ (IsByInfo ps r) (IsNotByInfo ps r)
       (λ h. let m = is_info_by h.1.maker h.3 in (h.0, h.1, m.0, h.2, m.1))
       (λ none h. none (h.0, h.1, h.3, ap is_info h.4))
       (some_decides ps differ r.name (λ p. is_info p.maker))
@@ -147,9 +145,9 @@ module _ (ps : List Provision) (differ : AllDiffer (names_of ps)) where
       (λ none h. none (h.0, h.1, h.3, ap is_object h.4))
       (some_decides ps differ name (λ p. is_object p.maker))
 
-  pub agreeing : (r : InfoRequirement) → MatchBool (agrees ps r) (Agrees ps r) (Differs ps r)
+  pub agreeing : (r : InfoRequirement) → MatchBool (agrees (with_module ps r)) (Agrees ps r) (Differs ps r)
   agreeing r =
-      turned (agrees ps r) _ _ (Agrees ps r) (Differs ps r)
+      turned (agrees (with_module ps r)) _ _ (Agrees ps r) (Differs ps r)
       (λ h k p named. same_bytes p.file r.file (h k p named))
       (λ h. (h.0, h.1, h.2, λ same. true≢false (sym ((bytes_decides h.1.file r.file).1 same) ∙ h.3)))
       (all_decides ps differ r.name (λ p. bytes_eq p.file r.file))
@@ -216,9 +214,9 @@ module _ (ps : List Provision) (differ : AllDiffer (names_of ps)) where
   private_not true c e = (refl, e)
   private_not false c e = absurd (true≢false e)
 
-  pub allowed : (r : InfoRequirement) → MatchBool (is_allowed ps r) (IsAllowed ps r) (IsNotAllowed ps r)
+  pub allowed : (r : InfoRequirement) → MatchBool (is_allowed (with_module ps r)) (IsAllowed ps r) (IsNotAllowed ps r)
   allowed r =
-      turned (is_allowed ps r) _ _ (IsAllowed ps r) (IsNotAllowed ps r)
+      turned (is_allowed (with_module ps r)) _ _ (IsAllowed ps r) (IsNotAllowed ps r)
       (λ h k p named private. info_at_by p.maker r.info (private_is p.is_private (is_info_at p.maker r.info) (h k p named) private))
       (λ h. let n = private_not h.1.is_private (is_info_at h.1.maker r.info) h.3 in (h.0, h.1, h.2, n.0, λ same. true≢false (sym (info_at_of h.1.maker r.info same) ∙ n.1)))
       (all_decides ps differ r.name (λ p. not p.is_private || is_info_at p.maker r.info))

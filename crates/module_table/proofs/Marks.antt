@@ -12,7 +12,7 @@ use Rattle.module_table.specs.inner.Repetition.{AllDiffer}
 use Rattle.module_table.specs.inner.Views.{names_of}
 use Rattle.module_table.specs.inner.Indexed.{pair_at}
 use Rattle.module_table.specs.inner.Mentioned.{name_in, AreMarked}
-use Rattle.module_table.proofs.Places.{same_some, three_ways, to_map, in_first, in_second}
+use Rattle.module_table.proofs.Places.{same_some, neither_less, to_map, in_first, in_second}
 use Rattle.module_table.proofs.Repetitions.{from_push, map_take}
 use Rattle.module_table.proofs.Mentions.{map_push, mention_new, mention_old}
 use Rattle.module_table.proofs.Found.{named_found}
@@ -77,7 +77,7 @@ module _ (mark : ℕ) (marks mentioned : List ℕ) (m : AreMarked mark marks men
         by j within marked true e =
             let same = (bytes_decides (f v) (f j)).0 e in
             let here = there j within ∙ ap (λ n. Some n) (sym same) in
-            let one : v ≡ j = ⊎_elim (λ less. absurd (differ.differ v j (f v) less (there v lt) here)) (λ rest. ⊎_elim (λ e. e) (λ more. absurd (differ.differ j v (f v) more here (there v lt))) rest) (three_ways v j) in
+            let one : v ≡ j = neither_less v j (λ less. differ.differ v j (f v) less (there v lt) here) (λ more. differ.differ j v (f v) more here (there v lt)) in
             absurd (fresh (ap (λ n. get_or marks n 0) one ∙ marked))
 
     module _ (indexes : List ℕ) (i : ℕ) (at : slice_get indexes i ≡ Some v) (firsts : map f mentioned ≡ first_mentions (map f (take i indexes))) where

@@ -1,5 +1,5 @@
 -- Names in order of first mention.
-use Rattle.std.proofs.Common.{◌≡◌, ℕ, ◌+◌, Bool, true, false, cond, not, ◌||◌, List, [], ◌∷◌, ◌++◌, map, take, filter, Some, refl, ap, subst, sym, ◌∙◌, slice_get, bytes_eq, true≢false}
+use Rattle.std.proofs.Common.{◌≡◌, ℕ, ◌+◌, Bool, true, false, cond, not, ◌||◌, List, [], ◌∷◌, ◌++◌, map, take, filter, Some, append-nil, refl, ap, subst, sym, ◌∙◌, slice_get, bytes_eq, true≢false}
 use Rattle.std.specs.List.{list_any}
 use Rattle.std.specs.Cmp.Lexicographic.{bytes_decides}
 use Rattle.module_table.specs.Added.{first_mentions}
@@ -41,10 +41,6 @@ among_filter x y (z ∷ xs) e = by (bytes_eq y z) refl (among_filter x y xs e)
 abbrev Step : List ℕ → List (List ℕ) → Type 0
 Step x xs = first_mentions (xs ++ x ∷ []) ≡ cond (among x (first_mentions xs)) (first_mentions xs) (first_mentions xs ++ x ∷ [])
 
-append_none : {X : Type 0} (xs : List X) → xs ++ [] ≡ xs
-append_none [] = refl
-append_none (x ∷ xs) = ap (λ ys. x ∷ ys) (append_none xs)
-
 -- one more mention
 pub mention_step : (x : List ℕ) (xs : List (List ℕ)) → Step x xs
 mention_step x [] = refl
@@ -59,7 +55,7 @@ mention_step x (y ∷ xs) = by (bytes_eq x y) refl (mention_step x xs)
 
         by_known : (b : Bool) → first_mentions (xs ++ x ∷ []) ≡ cond b (first_mentions xs) (first_mentions xs ++ x ∷ []) → filter (other_than y) (first_mentions (xs ++ x ∷ [])) ≡ filter (other_than y) (first_mentions xs)
         by_known true h = ap (filter (other_than y)) h
-        by_known false h = ap (filter (other_than y)) h ∙ filter_push (other_than y) (first_mentions xs) x ∙ ap (λ ys. filter (other_than y) (first_mentions xs) ++ ys) hidden ∙ append_none (filter (other_than y) (first_mentions xs))
+        by_known false h = ap (filter (other_than y)) h ∙ filter_push (other_than y) (first_mentions xs) x ∙ ap (λ ys. filter (other_than y) (first_mentions xs) ++ ys) hidden ∙ append-nil (filter (other_than y) (first_mentions xs))
     by false e step = by_known (among x (first_mentions xs)) step ∙ ap (λ b. cond b (y ∷ filter (other_than y) (first_mentions xs)) (y ∷ filter (other_than y) (first_mentions xs) ++ x ∷ [])) (sym (among_filter x y (first_mentions xs) e))
       where
         alone : cond (other_than y x) (x ∷ []) [] ≡ x ∷ []

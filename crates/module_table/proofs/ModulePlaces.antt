@@ -1,7 +1,7 @@
 -- Each place is that of the module of its number.
-use Rattle.std.proofs.Common.{◌≡◌, ℕ, ◌+◌, ◌<◌, ◌≤◌, false, None, List, length, Some, refl, ap, subst, sym, ◌∙◌, arith, slice_get}
+use Rattle.std.proofs.Common.{◌≡◌, ℕ, ◌+◌, ◌<◌, false, List, length, Some, refl, ap, subst, sym, ◌∙◌, arith, slice_get}
 use Rattle.std.specs.Option.{option_map}
-use Rattle.std.proofs.lemmas.Option.{slice_get_past, slice_get_within}
+use Rattle.std.proofs.lemmas.Option.{slice_get_within}
 use Rattle.std.specs.List.{flat_map, enumerate_from, AllZip}
 use Rattle.scan_docs.specs.Scan.{RuleValue}
 use Rattle.scan_docs.specs.Info.{InfoValue, ModuleValue}
@@ -72,11 +72,6 @@ module _ (t : TableValue) where
     pair_there place pair at named =
         let p = there place at in
         ap (option_map (λ (q : Provision). (q.name, q.file))) p.1 ∙ ap (λ x. Some x) (one_pair t.objects t.infos place (p.0.name, p.0.file) pair p.2.1 named)
-
-    pub pair_past : length places ≤ k → pair_at (provisions t) k ≡ None
-    pair_past past =
-        let long = zip_length (IsPlaceOf t) (provisions t) (origins_of t) module_places ∙ ap length (sym same) in
-        ap (option_map (λ (q : Provision). (q.name, q.file))) (slice_get_past (provisions t) k (omega (arith, long, past)))
 
 -- the same place among the same objects and infos
 pub same_place : (objects others : List RuleValue) (infos rest : List InfoValue) (place : Maker × ℕ) (pair : List ℕ × List ℕ) → objects ≡ others → infos ≡ rest → IsNamedAt objects infos place pair → IsNamedAt others rest place pair

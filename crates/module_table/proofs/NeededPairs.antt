@@ -1,5 +1,5 @@
 -- The pairs of the modules that the graph leads to are what the object needs.
-use Rattle.std.proofs.Common.{◌≡◌, ◌≢◌, ℕ, eqb, zero, suc, ◌+◌, ◌<◌, List, [], ◌∷◌, length, map, get_or, false, Option, Some, None, refl, ap, ap₂, subst, sym, ◌∙◌, ⊎_elim, arith, slice_get, Contains}
+use Rattle.std.proofs.Common.{◌≡◌, ◌≢◌, ℕ, eqb, zero, suc, ◌+◌, ◌<◌, List, [], ◌∷◌, length, map, get_or, false, Option, Some, None, refl, ap, ap₂, subst, sym, ◌∙◌, arith, slice_get, Contains}
 use Rattle.std.specs.Borrow.{Bor}
 use Rattle.std.specs.List.{All, AllPairs, filter_map, cons_option}
 use Rattle.std.specs.List.Sorted.{IsSorted, IsPermutation, IsStrictlyIncreasing}
@@ -19,7 +19,7 @@ use Rattle.module_table.specs.inner.Views.{names_of}
 use Rattle.module_table.specs.inner.Graph.{IsModuleGraph}
 use Rattle.module_table.specs.inner.Ranks.{AreRanked}
 use Rattle.module_table.specs.declared.fault.Maker.TheVariants.{Object, Info}
-use Rattle.module_table.proofs.Places.{same_some, three_ways, to_map, object_provision, info_provision}
+use Rattle.module_table.proofs.Places.{same_some, neither_less, to_map, object_provision, info_provision}
 use Rattle.module_table.proofs.Required.{contained, from_map, from_filter_map}
 use Rattle.module_table.proofs.ReportLemmas.{element}
 use Rattle.module_table.proofs.Rings.{in_filter_map, length_mapped}
@@ -39,10 +39,7 @@ AreDifferent ns = (i j n : ℕ) → slice_get ns i ≡ Some n → slice_get ns j
 different : (ns : List ℕ) → AllPairs (λ one other. one ≢ other) ns → AreDifferent ns
 different ns once i j n at_i at_j =
     let same : get_or ns i 0 ≡ get_or ns j 0 = get_or_from_slice_get ns i n 0 at_i ∙ sym (get_or_from_slice_get ns j n 0 at_j) in
-    ⊎_elim
-    (λ lt. absurd (once i j 0 lt (slice_get_within ns j n at_j) same))
-    (λ rest. ⊎_elim (λ e. e) (λ gt. absurd (once j i 0 gt (slice_get_within ns i n at_i) (sym same))) rest)
-    (three_ways i j)
+    neither_less i j (λ lt. once i j 0 lt (slice_get_within ns j n at_j) same) (λ gt. once j i 0 gt (slice_get_within ns i n at_i) (sym same))
 
 module _ (h : ℕ → Option ℕ) (one : (k l x : ℕ) → h k ≡ Some x → h l ≡ Some x → k ≡ l) where
   -- what the first number makes is nothing that a later one makes

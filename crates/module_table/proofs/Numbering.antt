@@ -1,5 +1,5 @@
 -- The number of a name is its place in a list in which all names differ.
-use Rattle.std.proofs.Common.{◌≡◌, ℕ, zero, suc, ◌<◌, Bool, true, false, List, [], ◌∷◌, length, get_or, Some, None, refl, ap, sym, ◌∙◌, ⊎_elim, arith, slice_get, Contains, cond, ltb, bytes_eq}
+use Rattle.std.proofs.Common.{◌≡◌, ℕ, zero, suc, ◌<◌, Bool, true, false, List, [], ◌∷◌, length, get_or, Some, None, refl, ap, sym, ◌∙◌, arith, slice_get, Contains, cond, ltb, bytes_eq}
 use Rattle.std.specs.List.{position_or_len}
 use Rattle.std.specs.Cmp.Lexicographic.{bytes_decides}
 use Rattle.std.proofs.lemmas.Bool.{cond-true}
@@ -8,7 +8,7 @@ use Rattle.std.proofs.lemmas.Option.{slice_get_within, slice_get-get_or, get_or_
 use Rattle.std.proofs.lemmas.List.Sums.{position_or_len_is}
 use Rattle.module_table.specs.inner.Repetition.{AllDiffer}
 use Rattle.module_table.specs.inner.Graph.{index_in, indexes_in}
-use Rattle.module_table.proofs.Places.{same_some, three_ways}
+use Rattle.module_table.proofs.Places.{same_some, neither_less}
 use Rattle.module_table.proofs.Required.{Has, contained, from_filter_map}
 use Rattle.module_table.proofs.Repetitions.{finds}
 use Rattle.module_table.proofs.Rings.{in_filter_map}
@@ -32,10 +32,7 @@ module _ (names : List (List ℕ)) where
   module _ (differ : AllDiffer names) where
     pub one_number : (name : List ℕ) (k l : ℕ) → slice_get names k ≡ Some name → slice_get names l ≡ Some name → k ≡ l
     one_number name k l at_k at_l =
-        ⊎_elim
-        (λ lt. absurd (differ.differ k l name lt at_k at_l))
-        (λ rest. ⊎_elim (λ e. e) (λ gt. absurd (differ.differ l k name gt at_l at_k)) rest)
-        (three_ways k l)
+        neither_less k l (λ lt. differ.differ k l name lt at_k at_l) (λ gt. differ.differ l k name gt at_l at_k)
 
     pub number_known : (name : List ℕ) (k : ℕ) → slice_get names k ≡ Some name → index_in names name ≡ Some k
     number_known name k at =

@@ -1,5 +1,5 @@
 -- One fault at most is told of a table.
-use Rattle.std.proofs.Common.{◌≡◌, ℕ, ◌<◌, List, Some, ap, subst, sym, ◌∙◌, ⊎_elim, arith, slice_get}
+use Rattle.std.proofs.Common.{◌≡◌, ℕ, ◌<◌, List, Some, ap, subst, sym, ◌∙◌, arith, slice_get}
 use Rattle.scan_docs.specs.Scan.{RuleValue}
 use Rattle.dep_order.proofs.ForCallers.{one_cycle}
 use Rattle.module_table.specs.TableValue.{TableValue}
@@ -12,7 +12,7 @@ use Rattle.module_table.specs.inner.Views.{names_of}
 use Rattle.module_table.specs.declared.fault.Maker.TheVariants.{Object, Info}
 use Rattle.module_table.specs.declared.fault.TableFault.{TableFault}
 use Rattle.module_table.specs.declared.fault.TableFault.TheVariants.{ObjectTwice, InfoTwice, ProvidedTwice, BmiTwice, ModuleUnknown, InfoUnknown, InfoDisagrees, ImportCycle, ModulePrivate, PrivateUnknown}
-use Rattle.module_table.proofs.Places.{same_some, three_ways}
+use Rattle.module_table.proofs.Places.{same_some, neither_less}
 use Rattle.module_table.proofs.Required.{contained}
 use Rattle.module_table.proofs.Found.{one_module}
 use Rattle.module_table.proofs.Privacy.{has_private}
@@ -27,10 +27,7 @@ module _ {X : Type 0} (xs : List X) where
   module _ (P : X → Type 0) (i j : ℕ) (x y : X) (p : IsFirst P xs i x) (q : IsFirst P xs j y) where
     one_place : i ≡ j
     one_place =
-        ⊎_elim
-        (λ lt. absurd (q.before i x lt p.here p.holds))
-        (λ rest. ⊎_elim (λ e. e) (λ gt. absurd (p.before j y gt q.here q.holds)) rest)
-        (three_ways i j)
+        neither_less i j (λ lt. q.before i x lt p.here p.holds) (λ gt. p.before j y gt q.here q.holds)
 
     one_first : x ≡ y
     one_first = same_there i j x y one_place p.here q.here
@@ -38,20 +35,14 @@ module _ {X : Type 0} (xs : List X) where
   module _ (Alike : X → X → Type 0) (i j k l : ℕ) (x y v w : X) (p : IsFirstRepetition Alike xs i j x y) (q : IsFirstRepetition Alike xs k l v w) where
     one_later : j ≡ l
     one_later =
-        ⊎_elim
-        (λ lt. absurd (q.y_first i j x y p.earlier lt p.x_here p.y_here p.alike))
-        (λ rest. ⊎_elim (λ e. e) (λ gt. absurd (p.y_first k l v w q.earlier gt q.x_here q.y_here q.alike)) rest)
-        (three_ways j l)
+        neither_less j l (λ lt. q.y_first i j x y p.earlier lt p.x_here p.y_here p.alike) (λ gt. p.y_first k l v w q.earlier gt q.x_here q.y_here q.alike)
 
     one_second : y ≡ w
     one_second = same_there j l y w one_later p.y_here q.y_here
 
     one_earlier : i ≡ k
     one_earlier =
-        ⊎_elim
-        (λ lt. absurd (q.x_first i x lt p.x_here (subst (Alike x) one_second p.alike)))
-        (λ rest. ⊎_elim (λ e. e) (λ gt. absurd (p.x_first k v gt q.x_here (subst (Alike v) (sym one_second) q.alike))) rest)
-        (three_ways i k)
+        neither_less i k (λ lt. q.x_first i x lt p.x_here (subst (Alike x) one_second p.alike)) (λ gt. p.x_first k v gt q.x_here (subst (Alike v) (sym one_second) q.alike))
 
     one_partner : x ≡ v
     one_partner = same_there i k x v one_earlier p.x_here q.x_here

@@ -31,15 +31,7 @@ use Rattle.module_table.proofs.Privacy.{public_rows, allowed_not_private}
 -- no code is below the first or above the last
 code_within : (fault : TableFault) → (1 ≤ code_number fault) × (code_number fault ≤ 10)
 code_within (ObjectTwice path first second) = (omega arith, omega arith)
-code_within (InfoTwice target) = (omega arith, omega arith)
-code_within (ProvidedTwice name first second) = (omega arith, omega arith)
-code_within (BmiTwice path first second) = (omega arith, omega arith)
-code_within (ModuleUnknown name object) = (omega arith, omega arith)
-code_within (InfoUnknown target module_name name) = (omega arith, omega arith)
-code_within (InfoDisagrees target module_name name) = (omega arith, omega arith)
-code_within (ImportCycle objects) = (omega arith, omega arith)
-code_within (ModulePrivate name info user) = (omega arith, omega arith)
-code_within (PrivateUnknown name) = (omega arith, omega arith)
+code_within fault = (omega arith, omega arith)
 
 -- what is reported of one table whatever names are kept
 pub for_every_kept : (t : TableValue) (P : TableFault → Type 0) (failure : Failure TableFault) → ((kept : List (List ℕ)) (fault : TableFault) → P fault → IsReported t kept fault) → ForFault P failure → ForFault (λ fault. (kept : List (List ℕ)) → IsReported t kept fault) failure
@@ -71,128 +63,48 @@ module _ (t : TableValue) (kept : List (List ℕ)) where
 
   pub objects_lack : AllDiffer (map (λ (rule : RuleValue). rule.object) t.objects) → Lacks 1 t kept
   objects_lack differ (ObjectTwice path first second) e h = differ.differ h.0 h.1 path h.2.earlier h.2.x_here h.2.y_here
-  objects_lack differ (InfoTwice target) e h = absurd (omega (arith, e))
-  objects_lack differ (ProvidedTwice name first second) e h = absurd (omega (arith, e))
-  objects_lack differ (BmiTwice path first second) e h = absurd (omega (arith, e))
-  objects_lack differ (ModuleUnknown name object) e h = absurd (omega (arith, e))
-  objects_lack differ (InfoUnknown target module_name name) e h = absurd (omega (arith, e))
-  objects_lack differ (InfoDisagrees target module_name name) e h = absurd (omega (arith, e))
-  objects_lack differ (ImportCycle objects) e h = absurd (omega (arith, e))
-  objects_lack differ (ModulePrivate name info user) e h = absurd (omega (arith, e))
-  objects_lack differ (PrivateUnknown name) e h = absurd (omega (arith, e))
+  objects_lack differ fault e h = absurd (omega (arith, e))
 
   pub infos_lack : AllDiffer (map (λ (info : InfoValue). info.target) t.infos) → Lacks 2 t kept
-  infos_lack differ (ObjectTwice path first second) e h = absurd (omega (arith, e))
   infos_lack differ (InfoTwice target) e h = differ.differ h.0 h.1 target h.2.earlier h.2.x_here h.2.y_here
-  infos_lack differ (ProvidedTwice name first second) e h = absurd (omega (arith, e))
-  infos_lack differ (BmiTwice path first second) e h = absurd (omega (arith, e))
-  infos_lack differ (ModuleUnknown name object) e h = absurd (omega (arith, e))
-  infos_lack differ (InfoUnknown target module_name name) e h = absurd (omega (arith, e))
-  infos_lack differ (InfoDisagrees target module_name name) e h = absurd (omega (arith, e))
-  infos_lack differ (ImportCycle objects) e h = absurd (omega (arith, e))
-  infos_lack differ (ModulePrivate name info user) e h = absurd (omega (arith, e))
-  infos_lack differ (PrivateUnknown name) e h = absurd (omega (arith, e))
+  infos_lack differ fault e h = absurd (omega (arith, e))
 
   pub names_lack : AllDiffer (names_of (provisions t)) → Lacks 3 t kept
-  names_lack differ (ObjectTwice path first second) e h = absurd (omega (arith, e))
-  names_lack differ (InfoTwice target) e h = absurd (omega (arith, e))
   names_lack differ (ProvidedTwice name first second) e h = differ.differ h.0 h.1 h.3.name h.4.earlier (to_map (λ (p : Provision). p.name) (provisions t) h.0 h.2 h.4.x_here ∙ ap (λ x. Some x) h.4.alike) (to_map (λ (p : Provision). p.name) (provisions t) h.1 h.3 h.4.y_here)
-  names_lack differ (BmiTwice path first second) e h = absurd (omega (arith, e))
-  names_lack differ (ModuleUnknown name object) e h = absurd (omega (arith, e))
-  names_lack differ (InfoUnknown target module_name name) e h = absurd (omega (arith, e))
-  names_lack differ (InfoDisagrees target module_name name) e h = absurd (omega (arith, e))
-  names_lack differ (ImportCycle objects) e h = absurd (omega (arith, e))
-  names_lack differ (ModulePrivate name info user) e h = absurd (omega (arith, e))
-  names_lack differ (PrivateUnknown name) e h = absurd (omega (arith, e))
+  names_lack differ fault e h = absurd (omega (arith, e))
 
   pub files_lack : AllDiffer (map (λ (rule : RuleValue). rule.object) t.objects ++ files_of (provisions t)) → Lacks 4 t kept
-  files_lack differ (ObjectTwice path first second) e h = absurd (omega (arith, e))
-  files_lack differ (InfoTwice target) e h = absurd (omega (arith, e))
-  files_lack differ (ProvidedTwice name first second) e h = absurd (omega (arith, e))
   files_lack differ (BmiTwice path first second) e h =
       (subst AllDiffer (sym (claimed_files t.objects (provisions t))) differ).differ h.0 h.1 h.3.file h.4.earlier
       (to_map (λ (c : Claim). c.file) (claims t) h.0 h.2 h.4.x_here ∙ ap (λ x. Some x) h.4.alike.0) (to_map (λ (c : Claim). c.file) (claims t) h.1 h.3 h.4.y_here)
-  files_lack differ (ModuleUnknown name object) e h = absurd (omega (arith, e))
-  files_lack differ (InfoUnknown target module_name name) e h = absurd (omega (arith, e))
-  files_lack differ (InfoDisagrees target module_name name) e h = absurd (omega (arith, e))
-  files_lack differ (ImportCycle objects) e h = absurd (omega (arith, e))
-  files_lack differ (ModulePrivate name info user) e h = absurd (omega (arith, e))
-  files_lack differ (PrivateUnknown name) e h = absurd (omega (arith, e))
+  files_lack differ fault e h = absurd (omega (arith, e))
 
   pub requirements_lack : ((object : ℕ) (name : List ℕ) → Requires t object name → (file : List ℕ) × IsProvided t name file) → Lacks 5 t kept
-  requirements_lack known (ObjectTwice path first second) e h = absurd (omega (arith, e))
-  requirements_lack known (InfoTwice target) e h = absurd (omega (arith, e))
-  requirements_lack known (ProvidedTwice name first second) e h = absurd (omega (arith, e))
-  requirements_lack known (BmiTwice path first second) e h = absurd (omega (arith, e))
   requirements_lack known (ModuleUnknown name object) e h =
       let file = known object name (h.rule, h.first_object.here, contained h.rule.required name (h.index, h.first_name.here)) in
       h.first_name.holds file.0 file.1
-  requirements_lack known (InfoUnknown target module_name name) e h = absurd (omega (arith, e))
-  requirements_lack known (InfoDisagrees target module_name name) e h = absurd (omega (arith, e))
-  requirements_lack known (ImportCycle objects) e h = absurd (omega (arith, e))
-  requirements_lack known (ModulePrivate name info user) e h = absurd (omega (arith, e))
-  requirements_lack known (PrivateUnknown name) e h = absurd (omega (arith, e))
+  requirements_lack known fault e h = absurd (omega (arith, e))
 
   pub unknown_lacks : AcceptsAll (IsByInfo (provisions t)) (info_requirements t) → Lacks 6 t kept
-  unknown_lacks by (ObjectTwice path first second) e h = absurd (omega (arith, e))
-  unknown_lacks by (InfoTwice target) e h = absurd (omega (arith, e))
-  unknown_lacks by (ProvidedTwice name first second) e h = absurd (omega (arith, e))
-  unknown_lacks by (BmiTwice path first second) e h = absurd (omega (arith, e))
-  unknown_lacks by (ModuleUnknown name object) e h = absurd (omega (arith, e))
   unknown_lacks by (InfoUnknown target module_name name) e h = let file = known_by t h.1 (by.each h.0 h.1 h.2.here) in h.2.holds file.0 file.1
-  unknown_lacks by (InfoDisagrees target module_name name) e h = absurd (omega (arith, e))
-  unknown_lacks by (ImportCycle objects) e h = absurd (omega (arith, e))
-  unknown_lacks by (ModulePrivate name info user) e h = absurd (omega (arith, e))
-  unknown_lacks by (PrivateUnknown name) e h = absurd (omega (arith, e))
+  unknown_lacks by fault e h = absurd (omega (arith, e))
 
   pub disagreeing_lacks : AcceptsAll (Agrees (provisions t)) (info_requirements t) → Lacks 7 t kept
-  disagreeing_lacks agree (ObjectTwice path first second) e h = absurd (omega (arith, e))
-  disagreeing_lacks agree (InfoTwice target) e h = absurd (omega (arith, e))
-  disagreeing_lacks agree (ProvidedTwice name first second) e h = absurd (omega (arith, e))
-  disagreeing_lacks agree (BmiTwice path first second) e h = absurd (omega (arith, e))
-  disagreeing_lacks agree (ModuleUnknown name object) e h = absurd (omega (arith, e))
-  disagreeing_lacks agree (InfoUnknown target module_name name) e h = absurd (omega (arith, e))
   disagreeing_lacks agree (InfoDisagrees target module_name name) e h = agrees_not t h.1 (agree.each h.0 h.1 h.2.here) h.2.holds
-  disagreeing_lacks agree (ImportCycle objects) e h = absurd (omega (arith, e))
-  disagreeing_lacks agree (ModulePrivate name info user) e h = absurd (omega (arith, e))
-  disagreeing_lacks agree (PrivateUnknown name) e h = absurd (omega (arith, e))
+  disagreeing_lacks agree fault e h = absurd (omega (arith, e))
 
   pub rings_lack : IsOrderable (length t.objects) (DependsOn t) → Lacks 8 t kept
-  rings_lack orderable (ObjectTwice path first second) e h = absurd (omega (arith, e))
-  rings_lack orderable (InfoTwice target) e h = absurd (omega (arith, e))
-  rings_lack orderable (ProvidedTwice name first second) e h = absurd (omega (arith, e))
-  rings_lack orderable (BmiTwice path first second) e h = absurd (omega (arith, e))
-  rings_lack orderable (ModuleUnknown name object) e h = absurd (omega (arith, e))
-  rings_lack orderable (InfoUnknown target module_name name) e h = absurd (omega (arith, e))
-  rings_lack orderable (InfoDisagrees target module_name name) e h = absurd (omega (arith, e))
   rings_lack orderable (ImportCycle objects) e h = no_cycle (length t.objects) (DependsOn t) objects.items orderable h.is_cycle
-  rings_lack orderable (ModulePrivate name info user) e h = absurd (omega (arith, e))
-  rings_lack orderable (PrivateUnknown name) e h = absurd (omega (arith, e))
+  rings_lack orderable fault e h = absurd (omega (arith, e))
 
   pub private_lacks : AcceptsAll (RequiresPublic (provisions t)) t.objects → AcceptsAll (IsAllowed (provisions t)) (info_requirements t) → Lacks 9 t kept
-  private_lacks public allowed (ObjectTwice path first second) e h = absurd (omega (arith, e))
-  private_lacks public allowed (InfoTwice target) e h = absurd (omega (arith, e))
-  private_lacks public allowed (ProvidedTwice name first second) e h = absurd (omega (arith, e))
-  private_lacks public allowed (BmiTwice path first second) e h = absurd (omega (arith, e))
-  private_lacks public allowed (ModuleUnknown name object) e h = absurd (omega (arith, e))
-  private_lacks public allowed (InfoUnknown target module_name name) e h = absurd (omega (arith, e))
-  private_lacks public allowed (InfoDisagrees target module_name name) e h = absurd (omega (arith, e))
-  private_lacks public allowed (ImportCycle objects) e h = absurd (omega (arith, e))
   private_lacks public allowed (ModulePrivate name info (Object object)) e h = public_rows t public object name (h.0.rule, h.0.first_object.here, contained h.0.rule.required name (h.0.index, h.0.first_name.here)) (info, h.1)
   private_lacks public allowed (ModulePrivate name info (Info user)) e h = allowed_not_private t h.1.1 (allowed.each h.1.0 h.1.1 h.1.2.here) h.1.2.holds
-  private_lacks public allowed (PrivateUnknown name) e h = absurd (omega (arith, e))
+  private_lacks public allowed fault e h = absurd (omega (arith, e))
 
   pub kept_lack : AcceptsAll (IsByObject (provisions t)) kept → Lacks 10 t kept
-  kept_lack own (ObjectTwice path first second) e h = absurd (omega (arith, e))
-  kept_lack own (InfoTwice target) e h = absurd (omega (arith, e))
-  kept_lack own (ProvidedTwice name first second) e h = absurd (omega (arith, e))
-  kept_lack own (BmiTwice path first second) e h = absurd (omega (arith, e))
-  kept_lack own (ModuleUnknown name object) e h = absurd (omega (arith, e))
-  kept_lack own (InfoUnknown target module_name name) e h = absurd (omega (arith, e))
-  kept_lack own (InfoDisagrees target module_name name) e h = absurd (omega (arith, e))
-  kept_lack own (ImportCycle objects) e h = absurd (omega (arith, e))
-  kept_lack own (ModulePrivate name info user) e h = absurd (omega (arith, e))
   kept_lack own (PrivateUnknown name) e h = let by = provided_by t name (own.each h.0 name h.1.here) in h.1.holds by.0 by.1 by.2 by.3
+  kept_lack own fault e h = absurd (omega (arith, e))
 
   -- what has an index is provided
   pub rows_known : (rows : List (List ℕ)) → AreIndexes t rows → (object : ℕ) (name : List ℕ) → Requires t object name → (file : List ℕ) × IsProvided t name file

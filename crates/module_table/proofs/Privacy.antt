@@ -55,9 +55,6 @@ module _ (t : TableValue) where
       let number : h.0 ≡ i = cc in
       subst (λ n. HasPrivate t i n) named.1 (subst (λ n. HasPrivate t n p.name) number h.2)
 
-  pub private_name : (name : List ℕ) → IsPrivate (provisions t) name → IsPrivateName t name
-  private_name name (k, p, named, private) = let h = private_by k p named.0 private in (h.0, subst (λ n. HasPrivate t h.0 n) named.1 h.2)
-
   pub public_not_private : (name : List ℕ) → IsPublic (provisions t) name → IsPrivateName t name → ⊥
   public_not_private name public h = let k = has_private h.0 name h.1 in true≢false (sym k.3 ∙ public k.0 k.1 k.2)
 

@@ -1,5 +1,5 @@
 -- Objects need each other as their rows of numbers say.
-use Rattle.std.proofs.Common.{◌≡◌, ℕ, zero, suc, ◌+◌, ◌<◌, List, [], ◌∷◌, ◌++◌, length, map, take, get_or, Option, Some, None, false, option_and_then, Contains, refl, ap, subst, sym, ◌∙◌, arith, slice_get}
+use Rattle.std.proofs.Common.{◌≡◌, ℕ, zero, suc, ◌+◌, ◌<◌, List, [], ◌∷◌, ◌++◌, length, map, take, get_or, Option, Some, None, false, option_and_then, Contains, append-nil, refl, ap, subst, sym, ◌∙◌, arith, slice_get}
 use Rattle.std.specs.List.{filter_map, cons_option}
 use Rattle.std.proofs.lemmas.Option.{slice_get_within, slice_get-get_or, get_or_from_slice_get}
 use Rattle.dep_order.specs.Needs.{NodeNeeds, NeedsAreNodes}
@@ -32,14 +32,10 @@ pub takes_some : {X Y : Type 0} (h : X → Option Y) (xs : List X) (i : ℕ) (x 
 takes_some h xs i x y now new at before is more =
     more ∙ ap (λ ys. ys ++ y ∷ []) before ∙ ap (λ o. filter_map h (take i xs) ++ cons_option o []) (sym is) ∙ sym (ap (filter_map h) (take_next xs i x at) ∙ filter_map_push h (take i xs) x)
 
-append_none : {Y : Type 0} (xs : List Y) → xs ++ [] ≡ xs
-append_none [] = refl
-append_none (x ∷ xs) = ap (λ ys. x ∷ ys) (append_none xs)
-
 -- and where nothing is
 pub takes_none : {X Y : Type 0} (h : X → Option Y) (xs : List X) (i : ℕ) (x : X) (now : List Y) → slice_get xs i ≡ Some x → now ≡ filter_map h (take i xs) → h x ≡ None → now ≡ filter_map h (take (i + 1) xs)
 takes_none h xs i x now at before is =
-    before ∙ sym (append_none (filter_map h (take i xs))) ∙ ap (λ o. filter_map h (take i xs) ++ cons_option o []) (sym is) ∙ sym (ap (filter_map h) (take_next xs i x at) ∙ filter_map_push h (take i xs) x)
+    before ∙ sym (append-nil (filter_map h (take i xs))) ∙ ap (λ o. filter_map h (take i xs) ++ cons_option o []) (sym is) ∙ sym (ap (filter_map h) (take_next xs i x at) ∙ filter_map_push h (take i xs) x)
 
 put_in : {Y : Type 0} (o : Option Y) (ys : List Y) (y : Y) → Has ys y → Has (cons_option o ys) y
 put_in None ys y h = h

@@ -2,6 +2,7 @@ pub mod Views
 pub mod Origins
 pub mod Repetition
 pub mod Finds
+pub mod Found
 pub mod Reported
 pub mod Passed
 pub mod Numbered

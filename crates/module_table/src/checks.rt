@@ -29,6 +29,7 @@ use required::{check_infos_agree, check_infos_known, check_objects_known};
 use rings::check_rings;
 use scan_docs::{Info, Name, Rule};
 use std::alloc::{AllocError, Global};
+use std::hash::BuildHasher;
 
 mod privacy;
 mod repeated;
@@ -37,9 +38,9 @@ mod rings;
 
 /// What a table keeps beside its objects and infos, so that no look-up searches them.
 #[derive(Drop)]
-pub(crate) struct Index {
+pub(crate) struct Index<S: BuildHasher> {
     /// The names of all provided modules. A name's index is that of its module.
-    pub names: IndexSet<Name>,
+    pub names: IndexSet<Name, S>,
     /// Who provides each module, and at which index among its maker's.
     pub origins: Vec<(Maker, usize)>,
     /// What the modules and the objects need of one another, by index.
@@ -48,13 +49,15 @@ pub(crate) struct Index {
     pub required: Vec<Vec<(Name, Path)>>,
 }
 
-/// All checks, from the lowest code to the highest.
-pub(crate) fn check_all(
+/// All checks, from the lowest code to the highest. Names, targets and files are hashed by
+/// `hash_builder`.
+pub(crate) fn check_all<S: BuildHasher + Copy>(
     alloc: Global,
     objects: &[Rule],
     infos: &[Info],
     kept: &[Name],
-) -> Result<Index, Failure<TableFault>>
+    hash_builder: S,
+) -> Result<Index<S>, Failure<TableFault>>
     ensures no_fault { OnOk result
         (HasNoFault (table_with objects.now infos.now) kept.now) }
     ensures names { IfOk result (λ index. index.names.keys
@@ -68,7 +71,7 @@ pub(crate) fn check_all(
     ensures fault { IfErr result (ForFault
         (IsReported (table_with objects.now infos.now) kept.now)) }
 {
-    let modules = check_repetitions(alloc, objects, infos)?;
+    let modules = check_repetitions(alloc, objects, infos, hash_builder)?;
     let rows = check_requirements(alloc, &modules, kept)?;
     let origins = all_origins(alloc, modules.provided())?;
     let required = all_pairs(alloc, &modules, rows.as_slice())?;
@@ -82,11 +85,12 @@ pub(crate) fn check_all(
 }
 
 /// M1 to M4, and the modules by index.
-fn check_repetitions<'t>(
+fn check_repetitions<'t, S: BuildHasher + Copy>(
     alloc: Global,
     objects: &'t [Rule],
     infos: &'t [Info],
-) -> Result<Modules<'t>, Failure<TableFault>>
+    hash_builder: S,
+) -> Result<Modules<'t, S>, Failure<TableFault>>
     ensures modules { IfOk result
         (λ modules. modules ≡ table_with objects.now infos.now) }
     ensures passed { OnOk result ((kept : List (List ℕ)) →
@@ -94,17 +98,17 @@ fn check_repetitions<'t>(
     ensures fault { IfErr result (ForFault (λ fault. (kept : List (List ℕ)) →
         IsReported (table_with objects.now infos.now) kept fault)) }
 {
-    check_objects(alloc, objects)?;
-    check_infos(alloc, infos)?;
-    let modules = check_names(alloc, objects, infos)?;
-    check_files(alloc, &modules)?;
+    check_objects(alloc, objects, hash_builder)?;
+    check_infos(alloc, infos, hash_builder)?;
+    let modules = check_names(alloc, objects, infos, hash_builder)?;
+    check_files(alloc, &modules, hash_builder)?;
     Ok(modules)
 }
 
 /// M5 to M10, and the indexes of the modules that each object requires.
-fn check_requirements(
+fn check_requirements<S: BuildHasher>(
     alloc: Global,
-    modules: &Modules,
+    modules: &Modules<S>,
     kept: &[Name],
 ) -> Result<Vec<Vec<usize>>, Failure<TableFault>>
     requires { Passed 5 modules.now kept.now }
@@ -113,7 +117,7 @@ fn check_requirements(
     ensures fault { IfErr result (ForFault (IsReported modules.now kept.now)) }
 {
     let rows = check_objects_known(alloc, modules)?;
-    let all = all_required(alloc, modules.infos())?;
+    let all = all_required(alloc, modules)?;
     let required = all.as_slice();
     check_infos_known(alloc, modules, required)?;
     check_infos_agree(alloc, modules, required)?;

@@ -15,12 +15,13 @@ use indexmap::IndexSet;
 use ninja_text::Path;
 use scan_docs::{Info, InfoModule, Name};
 use std::alloc::{AllocError, Global};
+use std::hash::BuildHasher;
 
 /// What each module needs, by index, and behind all modules what each object needs: the modules of
 /// these indexes.
-pub(crate) fn module_graph(
+pub(crate) fn module_graph<S: BuildHasher>(
     alloc: Global,
-    modules: &Modules,
+    modules: &Modules<S>,
     origins: &[(Maker, usize)],
     required: Vec<Vec<usize>>,
 ) -> Result<Digraph, AllocError>
@@ -41,9 +42,9 @@ pub(crate) fn module_graph(
 }
 
 /// What each module needs, where so many objects come behind the modules.
-fn modules_needs(
+fn modules_needs<S: BuildHasher>(
     alloc: Global,
-    names: &IndexSet<Name>,
+    names: &IndexSet<Name, S>,
     origins: &[(Maker, usize)],
     infos: &[Info],
     object_count: usize,
@@ -64,9 +65,9 @@ fn modules_needs(
 
 /// What a module needs: a module of an object needs the object, and a module of an info what it
 /// requires.
-fn module_needs(
+fn module_needs<S: BuildHasher>(
     alloc: Global,
-    names: &IndexSet<Name>,
+    names: &IndexSet<Name, S>,
     infos: &[Info],
     module_count: usize,
     object_count: usize,
@@ -90,9 +91,9 @@ fn module_needs(
 }
 
 /// The indexes of the names of these pairs.
-fn indexes_of(
+fn indexes_of<S: BuildHasher>(
     alloc: Global,
-    names: &IndexSet<Name>,
+    names: &IndexSet<Name, S>,
     pairs: &[(Name, Path)],
 ) -> Result<Vec<usize>, AllocError>
     ensures { IfOk result (λ indexes. indexes.items ≡ indexes_in names.now.keys pairs.now) }

@@ -7,6 +7,11 @@
 //! [`sound_tables`] says that this holds exactly there, and [`one_fault`] that no other fault is
 //! reported (`specs/Outcomes.antt`).
 //!
+//! Names, paths, targets and files are looked up by their hashes. `build` hashes with a fixed seed, so
+//! that many of them can be chosen to collide, and the work then grows with their square. Where
+//! strangers write the scan documents or the infos, [`Table::build_with_hasher`] does the same with
+//! the keys of a `RandomState`.
+//!
 //! [`Table::lookup`] answers who provides a name, [`Table::provided`] and [`Table::required`] what an
 //! object provides and requires, and [`Table::needed`] the modules at the ends of chains of
 //! requirements (`specs/Needed.antt`); [`Table::needs`] answers the same for one object after the
@@ -27,7 +32,8 @@
 //!   that fails reports its fault, so that the lowest code is reported. `checks/repeated.rt` has M1 to
 //!   M4, `checks/required.rt` M5 to M7, `checks/rings.rt` M8, which asks `order` of `dep_order` and
 //!   carries its answer over to `DependsOn`, and `checks/privacy.rt` M9 and M10. What infos' modules
-//!   require is listed in `requirements.rt`.
+//!   require is listed in `requirements.rt`, each with the module of that name, which M6, M7 and M9
+//!   ask.
 //! - `table.rt`: a table keeps the names, who provides each, what each object requires with the files
 //!   (`pairs.rt`), and a digraph of modules and objects (`graph.rt`): a module of an object needs the
 //!   object, a module of an info what it requires, an object what it requires.

@@ -14,6 +14,7 @@ use indexmap::IndexSet;
 use ninja_text::Path;
 use scan_docs::{Info, Name, Rule};
 use std::alloc::{AllocError, Global};
+use std::hash::BuildHasher;
 use std::marker::Model;
 
 /// A provided module: who provides it, and at which index among the modules that its maker provides.
@@ -30,15 +31,15 @@ pub(crate) struct Module<'t> {
 /// The modules that objects and infos provide, no two of one name: by object, then by info, and for
 /// each of these in order of provision. A contract sees it as the table of the objects and infos.
 #[derive(Drop)]
-pub(crate) struct Modules<'t> {
+pub(crate) struct Modules<'t, S: BuildHasher> {
     objects: &'t [Rule],
     infos: &'t [Info],
     provided: Vec<Module<'t>>,
     /// The names of the modules. A name's index is that of its module.
-    names: IndexSet<Name>,
+    names: IndexSet<Name, S>,
 }
 
-impl<'t> Model for Modules<'t> {
+impl<'t, S: BuildHasher> Model for Modules<'t, S> {
     ghost use Rattle.std.specs.Prelude.{◌≡◌, map};
     ghost use Rattle.module_table.specs.TableValue.{TableValue, table_with};
     ghost use Rattle.module_table.specs.Modules.{provisions};
@@ -57,14 +58,14 @@ impl<'t> Model for Modules<'t> {
         × AllDiffer (names_of (provisions (table_with m.objects.now m.infos.now))) };
 }
 
-impl<'t> Modules<'t> {
+impl<'t, S: BuildHasher> Modules<'t, S> {
     /// These modules of the objects and infos, with their names in the same order.
     pub(crate) fn new(
         objects: &'t [Rule],
         infos: &'t [Info],
         provided: Vec<Module<'t>>,
-        names: IndexSet<Name>,
-    ) -> Modules<'t>
+        names: IndexSet<Name, S>,
+    ) -> Modules<'t, S>
         requires provisions { map provision_of provided.items
             ≡ provisions (table_with objects.now infos.now) }
         requires origins { map origin_of provided.items
@@ -102,7 +103,7 @@ impl<'t> Modules<'t> {
     }
 
     /// The names of all modules, by index.
-    pub(crate) fn names(&self) -> &IndexSet<Name>
+    pub(crate) fn names(&self) -> &IndexSet<Name, S>
         ensures { result.now.keys ≡ names_of (provisions self.now) }
     {
         &self.names
@@ -135,7 +136,7 @@ impl<'t> Modules<'t> {
     }
 
     /// The names of all modules, by index, for a table to keep.
-    pub(crate) fn into_names(self) -> IndexSet<Name>
+    pub(crate) fn into_names(self) -> IndexSet<Name, S>
         ensures { result.keys ≡ names_of (provisions self.entry) }
     {
         self.names
@@ -232,7 +233,7 @@ pub(crate) fn module_at<'p, 't>(provided: &'p [Module<'t>], index: usize) -> &'p
 }
 
 /// The index of the name, if it is there.
-pub(crate) fn index_of(names: &IndexSet<Name>, name: &Name) -> Option<usize>
+pub(crate) fn index_of<S: BuildHasher>(names: &IndexSet<Name, S>, name: &Name) -> Option<usize>
     ensures found { IfSome result (λ index. slice_get names.now.keys index ≡ Some name.now) }
     ensures none { IfNone result ((index : ℕ) → slice_get names.now.keys index ≡ Some name.now → ⊥) }
 {

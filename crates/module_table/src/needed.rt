@@ -11,7 +11,6 @@ ghost use Rattle.module_table.specs.inner.Graph.{IsModuleGraph};
 use crate::fault::Maker;
 use crate::graph::module_at;
 use crate::ranks::{modules_by_name, pairs_of, ranks_of};
-use crate::table::Table;
 use dep_order::{Digraph, Reaching};
 use ninja_text::Path;
 use scan_docs::{Info, Name, Rule};
@@ -23,7 +22,8 @@ use std::marker::Model;
 /// the table. A contract sees it as the table.
 #[derive(Drop)]
 pub struct Needs<'t> {
-    table: &'t Table,
+    objects: &'t [Rule],
+    infos: &'t [Info],
     reaching: Reaching<'t>,
     /// The name and the file of each module, in byte order of names.
     pairs: Vec<(&'t Name, &'t Path)>,
@@ -42,36 +42,37 @@ impl<'t> Model for Needs<'t> {
 
     ghost Value = { TableValue };
 
-    ghost view = { λ needs. needs.table.now };
+    ghost view = { λ needs. table_with needs.objects.now needs.infos.now };
 
-    ghost invariant = { λ needs. IsSound needs.table.now
-        × IsModuleGraph needs.table.now needs.reaching
-        × AreRanked (provisions needs.table.now) needs.ranks.items (map lent needs.pairs.items)
-        × (length (provisions needs.table.now) + length needs.table.now.objects < 2 ^ 64) };
+    ghost invariant = { λ needs. IsSound (table_with needs.objects.now needs.infos.now)
+        × IsModuleGraph (table_with needs.objects.now needs.infos.now) needs.reaching
+        × AreRanked (provisions (table_with needs.objects.now needs.infos.now)) needs.ranks.items
+        (map lent needs.pairs.items)
+        × (length (provisions (table_with needs.objects.now needs.infos.now))
+        + length needs.objects.now < 2 ^ 64) };
 }
 
 impl<'t> Needs<'t> {
-    /// The needs of a table's objects.
+    /// The needs of the objects of the table of these objects and infos.
     pub(crate) fn new(
         alloc: Global,
-        table: &'t Table,
         graph: &'t Digraph,
         objects: &'t [Rule],
         infos: &'t [Info],
         origins: &[(Maker, usize)],
     ) -> Result<Needs<'t>, AllocError>
-        requires table { table.now ≡ table_with objects.now infos.now }
         requires sound { IsSound (table_with objects.now infos.now) }
         requires graph { IsModuleGraph (table_with objects.now infos.now) graph.now }
         requires origins { origins.now ≡ origins_of (table_with objects.now infos.now) }
-        ensures { IfOk result (λ needs. needs ≡ table.now) }
+        ensures { IfOk result (λ needs. needs ≡ table_with objects.now infos.now) }
     {
         let modules = modules_by_name(alloc, objects, infos, origins)?;
         let ranks = ranks_of(alloc, modules.as_slice())?;
         let pairs = pairs_of(alloc, modules.as_slice())?;
         let reaching = Reaching::new(alloc, graph)?;
         Ok(Needs {
-            table,
+            objects,
+            infos,
             reaching,
             pairs,
             ranks,

@@ -11,12 +11,13 @@ use crate::modules::{Modules, module_at};
 use ninja_text::Path;
 use scan_docs::Name;
 use std::alloc::{AllocError, Global};
+use std::hash::BuildHasher;
 
 /// The modules that each object requires, in order of first mention, each once. Each object has a row
 /// of the indexes of what it requires.
-pub(crate) fn all_pairs(
+pub(crate) fn all_pairs<S: BuildHasher>(
     alloc: Global,
-    modules: &Modules,
+    modules: &Modules<S>,
     required: &[Vec<usize>],
 ) -> Result<Vec<Vec<(Name, Path)>>, AllocError>
     requires { AreIndexes modules.now (rows required.now) }
@@ -63,9 +64,9 @@ fn mentions_of(
 }
 
 /// The names and files of these modules.
-fn pairs_at(
+fn pairs_at<S: BuildHasher>(
     alloc: Global,
-    modules: &Modules,
+    modules: &Modules<S>,
     indexes: &[usize],
 ) -> Result<Vec<(Name, Path)>, AllocError>
     requires { All (λ index. index < length (provisions modules.now)) indexes.now }

@@ -1,59 +1,66 @@
-//! What the modules of infos require.
+//! What the modules of infos require, each name looked up once.
 ghost use Rattle.std.specs.Prelude.{◌≡◌, ◌<◌, ◌++◌, map, length, slice_get, Some, IfOk, OnOk};
-ghost use Rattle.std.specs.List.{flat_map, enumerate_from};
-ghost use Rattle.module_table.specs.Modules.{info_requirements_of, requirements_of_info, module_requirements};
-ghost use Rattle.module_table.specs.inner.Views.{requirement_of};
+ghost use Rattle.std.specs.List.{flat_map};
+ghost use Rattle.module_table.specs.Modules.{provisions};
+ghost use Rattle.module_table.specs.inner.Found.{looked_up, lookups_of, AreLookedUp};
 
+use crate::modules::{Module, Modules};
 use ninja_text::Path;
 use scan_docs::{Info, InfoModule, Name, TargetName};
 use std::alloc::{AllocError, Global};
+use std::hash::BuildHasher;
 
-/// A requirement of an info's module, with the file that the info says.
+/// A requirement of an info's module, with the file that the info says, and the module of that name.
 #[derive(Clone, Copy)]
-pub(crate) struct InfoRequired<'t> {
+pub(crate) struct InfoRequired<'m, 't> {
     pub info: usize,
     pub target: &'t TargetName,
     pub module_name: &'t Name,
     pub name: &'t Name,
     pub file: &'t Path,
+    /// The module of that name, if one is provided.
+    pub module: Option<&'m Module<'t>>,
 }
 
 /// All requirements of infos' modules: by info, module and index.
-pub(crate) fn all_required<'t>(
+pub(crate) fn all_required<'m, 't, S: BuildHasher>(
     alloc: Global,
-    infos: &'t [Info],
-) -> Result<Vec<InfoRequired<'t>>, AllocError>
-    ensures { IfOk result (λ all. map requirement_of all.items ≡ info_requirements_of infos.now) }
+    modules: &'m Modules<'t, S>,
+) -> Result<Vec<InfoRequired<'m, 't>>, AllocError>
+    ensures { IfOk result (λ all. AreLookedUp modules.now all.items) }
 {
+    let infos = modules.infos();
     let mut all = Vec::new(alloc);
     for (info, value) in infos.iter().enumerate() {
-        add_info(info, value, &mut all)?;
+        add_info(modules, info, value, &mut all)?;
     }
     Ok(all)
 }
 
-fn add_info<'t>(
+fn add_info<'m, 't, S: BuildHasher>(
+    modules: &'m Modules<'t, S>,
     info: usize,
     value: &'t Info,
-    all: &mut Vec<InfoRequired<'t>>,
+    all: &mut Vec<InfoRequired<'m, 't>>,
 ) -> Result<(), AllocError>
-    ensures { OnOk result (map requirement_of all.new.items
-        ≡ map requirement_of all.old.items ++ requirements_of_info (info, value.now)) }
+    ensures { OnOk result (map looked_up all.new.items ≡ map looked_up all.old.items
+        ++ flat_map (lookups_of (provisions modules.now) info value.now.target) value.now.modules) }
 {
     for entry in &value.modules {
-        add_module(info, &value.target, entry, all)?;
+        add_module(modules, info, &value.target, entry, all)?;
     }
     Ok(())
 }
 
-fn add_module<'t>(
+fn add_module<'m, 't, S: BuildHasher>(
+    modules: &'m Modules<'t, S>,
     info: usize,
     target: &'t TargetName,
     entry: &'t InfoModule,
-    all: &mut Vec<InfoRequired<'t>>,
+    all: &mut Vec<InfoRequired<'m, 't>>,
 ) -> Result<(), AllocError>
-    ensures { OnOk result (map requirement_of all.new.items
-        ≡ map requirement_of all.old.items ++ module_requirements info target.now entry.now) }
+    ensures { OnOk result (map looked_up all.new.items
+        ≡ map looked_up all.old.items ++ lookups_of (provisions modules.now) info target.now entry.now) }
 {
     for pair in &entry.required {
         all.push(InfoRequired {
@@ -62,12 +69,16 @@ fn add_module<'t>(
             module_name: &entry.name,
             name: &pair.0,
             file: &pair.1,
+            module: modules.find(&pair.0),
         })?;
     }
     Ok(())
 }
 
-pub(crate) fn required_at<'r, 't>(all: &'r [InfoRequired<'t>], index: usize) -> &'r InfoRequired<'t>
+pub(crate) fn required_at<'r, 'm, 't>(
+    all: &'r [InfoRequired<'m, 't>],
+    index: usize,
+) -> &'r InfoRequired<'m, 't>
     requires { index < length all.now }
     ensures { slice_get all.now index ≡ Some result.now }
 {

@@ -19,15 +19,17 @@ use indexmap::IndexSet;
 use ninja_text::{Failure, Path};
 use scan_docs::{Info, Name, Rule};
 use std::alloc::{AllocError, Global};
+use std::hash::{BuildHasher, BuildHasherDefault, FoldHasher};
 use std::marker::Model;
 
-/// The modules of one target and of the targets that it links, without a fault.
+/// The modules of one target and of the targets that it links, without a fault. Names are hashed by
+/// an `S`.
 #[derive(Drop)]
-pub struct Table {
+pub struct Table<S: BuildHasher = BuildHasherDefault<FoldHasher>> {
     objects: Vec<Rule>,
     infos: Vec<Info>,
     /// The names of all provided modules. A name's index is that of its module.
-    names: IndexSet<Name>,
+    names: IndexSet<Name, S>,
     /// Who provides each module, and at which index among its maker's.
     origins: Vec<(Maker, usize)>,
     /// What the modules and the objects need of one another, by index.
@@ -36,7 +38,7 @@ pub struct Table {
     required: Vec<Vec<(Name, Path)>>,
 }
 
-impl Model for Table {
+impl<S: BuildHasher> Model for Table<S> {
     ghost use Rattle.std.specs.Prelude.{◌≡◌, map};
     ghost use Rattle.module_table.specs.TableValue.{TableValue, table_with};
     ghost use Rattle.module_table.specs.Sound.{IsSound};
@@ -60,6 +62,9 @@ impl Model for Table {
 impl Table {
     /// The table of a target's objects and of the infos of the targets that it links, or the fault
     /// with the lowest code. `kept` are the names of the modules that are private to the target.
+    ///
+    /// Names and files are hashed with a fixed seed. Where strangers choose them, use
+    /// `build_with_hasher` with a `RandomState`.
     pub fn build(
         alloc: Global,
         objects: Vec<Rule>,
@@ -69,10 +74,40 @@ impl Table {
         ensures table { IfOk result (λ table. table ≡ table_with objects.items infos.items) }
         ensures sound { IfOk result IsSound }
         ensures kept { IfOk result (λ table. KeptAreProvided table kept.now) }
-        ensures no_fault { IfOk result (λ table. (fault : TableFault) → IsFault table kept.now fault → ⊥) }
-        ensures fault { IfErr result (ForFault (IsReported (table_with objects.items infos.items) kept.now)) }
+        ensures no_fault { IfOk result
+            (λ table. (fault : TableFault) → IsFault table kept.now fault → ⊥) }
+        ensures fault { IfErr result
+            (ForFault (IsReported (table_with objects.items infos.items) kept.now)) }
     {
-        let index = check_all(alloc, objects.as_slice(), infos.as_slice(), kept)?;
+        Table::build_with_hasher(alloc, objects, infos, kept, BuildHasherDefault::new())
+    }
+}
+
+impl<S: BuildHasher + Copy> Table<S> {
+    /// The same, where names and files are hashed by `hash_builder`: with the keys of a `RandomState`
+    /// nobody who chooses names can make many of them collide.
+    pub fn build_with_hasher(
+        alloc: Global,
+        objects: Vec<Rule>,
+        infos: Vec<Info>,
+        kept: &[Name],
+        hash_builder: S,
+    ) -> Result<Table<S>, Failure<TableFault>>
+        ensures table { IfOk result (λ table. table ≡ table_with objects.items infos.items) }
+        ensures sound { IfOk result IsSound }
+        ensures kept { IfOk result (λ table. KeptAreProvided table kept.now) }
+        ensures no_fault { IfOk result
+            (λ table. (fault : TableFault) → IsFault table kept.now fault → ⊥) }
+        ensures fault { IfErr result
+            (ForFault (IsReported (table_with objects.items infos.items) kept.now)) }
+    {
+        let index = check_all(
+            alloc,
+            objects.as_slice(),
+            infos.as_slice(),
+            kept,
+            hash_builder,
+        )?;
         Ok(Table {
             objects,
             infos,
@@ -82,7 +117,9 @@ impl Table {
             required: index.required,
         })
     }
+}
 
+impl<S: BuildHasher> Table<S> {
     /// The objects, by index.
     pub fn objects(&self) -> &[Rule]
         ensures objects { result.now ≡ self.now.objects }
@@ -140,7 +177,6 @@ impl Table {
     {
         Needs::new(
             alloc,
-            self,
             &self.graph,
             &self.objects,
             &self.infos,

@@ -34,17 +34,21 @@ abbrev pub none_or : (Provision → Bool) → Option Provision → Bool
 none_or test None = true
 none_or test (Some p) = test p
 
+-- a requirement, and the module of that name, if there is one
+abbrev pub LookedUp : Type 0
+LookedUp = InfoRequirement × Option Provision
+
 -- an info provides what is required
-abbrev pub is_by_info : List Provision → InfoRequirement → Bool
-is_by_info modules r = some_and (λ p. is_info p.maker) (found modules r.name)
+abbrev pub is_by_info : LookedUp → Bool
+is_by_info r = some_and (λ p. is_info p.maker) r.1
 
 -- the module of that name has the file that the requirement says
-abbrev pub agrees : List Provision → InfoRequirement → Bool
-agrees modules r = none_or (λ p. bytes_eq p.file r.file) (found modules r.name)
+abbrev pub agrees : LookedUp → Bool
+agrees r = none_or (λ p. bytes_eq p.file r.0.file) r.1
 
 -- the module of that name is private to no other info
-abbrev pub is_allowed : List Provision → InfoRequirement → Bool
-is_allowed modules r = none_or (λ p. not p.is_private || is_info_at p.maker r.info) (found modules r.name)
+abbrev pub is_allowed : LookedUp → Bool
+is_allowed r = none_or (λ p. not p.is_private || is_info_at p.maker r.0.info) r.1
 
 -- the module of that index is private to no info
 abbrev pub is_public_at : List Provision → ℕ → Bool

@@ -4,8 +4,8 @@ ghost use Rattle.std.specs.Prelude.{◌≡◌, ◌<◌, ℕ, List, length, map, 
 ghost use Rattle.ninja_text.specs.Failure.{ForFault};
 ghost use Rattle.dep_order.specs.Rows.{rows};
 ghost use Rattle.module_table.specs.Modules.{provisions, info_requirements};
-ghost use Rattle.module_table.specs.inner.Views.{requirement_of};
 ghost use Rattle.module_table.specs.inner.Finds.{is_allowed, is_public_at, is_by_object, is_info_at, IsPrivate, IsAllowed, IsByObject, IsPrivateTo, RequiresPublic, AcceptsAll};
+ghost use Rattle.module_table.specs.inner.Found.{looked_up, AreLookedUp};
 ghost use Rattle.module_table.specs.inner.Numbered.{AreIndexes};
 ghost use Rattle.module_table.specs.inner.Reported.{Reports};
 ghost use Rattle.module_table.specs.declared.fault.TableFault.TheVariants.{ModulePrivate};
@@ -16,12 +16,13 @@ use crate::requirements::{InfoRequired, required_at};
 use ninja_text::Failure;
 use scan_docs::Name;
 use std::alloc::{AllocError, Global};
+use std::hash::BuildHasher;
 
 /// M9: no object requires a module that is private to an info. Each object has a row of the indexes
 /// of what it requires.
-pub(crate) fn check_objects_allowed(
+pub(crate) fn check_objects_allowed<S: BuildHasher>(
     alloc: Global,
-    modules: &Modules,
+    modules: &Modules<S>,
     required: &[Vec<usize>],
 ) -> Result<(), Failure<TableFault>>
     requires { AreIndexes modules.now (rows required.now) }
@@ -45,12 +46,12 @@ pub(crate) fn check_objects_allowed(
 }
 
 /// M9: and no info's module requires one that is private to another info.
-pub(crate) fn check_infos_allowed(
+pub(crate) fn check_infos_allowed<S: BuildHasher>(
     alloc: Global,
-    modules: &Modules,
+    modules: &Modules<S>,
     all: &[InfoRequired],
 ) -> Result<(), Failure<TableFault>>
-    requires all { map requirement_of all.now ≡ info_requirements modules.now }
+    requires all { AreLookedUp modules.now all.now }
     requires public { AcceptsAll (RequiresPublic (provisions modules.now)) modules.now.objects }
     ensures ok { OnOk result
         (AcceptsAll (IsAllowed (provisions modules.now)) (info_requirements modules.now)) }
@@ -58,7 +59,7 @@ pub(crate) fn check_infos_allowed(
         (λ fault. (kept : List (List ℕ)) → Reports 9 modules.now kept fault)) }
 {
     modules.names_differ();
-    match first_not_allowed(modules, all) {
+    match first_not_allowed(all) {
         None => Ok(()),
         Some(index) => {
             let required = required_at(all, index);
@@ -70,9 +71,9 @@ pub(crate) fn check_infos_allowed(
 }
 
 /// M10: each name that is to be private is one that an object provides.
-pub(crate) fn check_kept(
+pub(crate) fn check_kept<S: BuildHasher>(
     alloc: Global,
-    modules: &Modules,
+    modules: &Modules<S>,
     kept: &[Name],
 ) -> Result<(), Failure<TableFault>>
     ensures ok { OnOk result (AcceptsAll (IsByObject (provisions modules.now)) kept.now) }
@@ -89,9 +90,9 @@ pub(crate) fn check_kept(
 }
 
 /// The fault that a private module is required.
-fn private_fault(
+fn private_fault<S: BuildHasher>(
     alloc: Global,
-    modules: &Modules,
+    modules: &Modules<S>,
     name: &Name,
     user: Maker,
 ) -> Result<TableFault, AllocError>
@@ -105,7 +106,7 @@ fn private_fault(
 }
 
 /// The info that the module of that name is private to.
-fn info_of(modules: &Modules, name: &Name) -> usize
+fn info_of<S: BuildHasher>(modules: &Modules<S>, name: &Name) -> usize
     requires { IsPrivate (provisions modules.now) name.now }
     ensures { IsPrivateTo (provisions modules.now) name.now result }
 {
@@ -120,7 +121,7 @@ fn info_of(modules: &Modules, name: &Name) -> usize
 }
 
 /// The first of these modules that is private, as an index into the list.
-fn first_private(modules: &Modules, indexes: &[usize]) -> Option<usize>
+fn first_private<S: BuildHasher>(modules: &Modules<S>, indexes: &[usize]) -> Option<usize>
     ensures { result ≡ position
         (λ index. not (is_public_at (provisions modules.now) index)) indexes.now }
 {
@@ -129,25 +130,23 @@ fn first_private(modules: &Modules, indexes: &[usize]) -> Option<usize>
         .position(|index| !is_public_at(modules, *index))
 }
 
-fn first_not_allowed(modules: &Modules, all: &[InfoRequired]) -> Option<usize>
-    ensures { result ≡ position
-        (λ r. not (is_allowed (provisions modules.now) (requirement_of r))) all.now }
+fn first_not_allowed(all: &[InfoRequired]) -> Option<usize>
+    ensures { result ≡ position (λ r. not (is_allowed (looked_up r))) all.now }
 {
-    all.iter()
-        .position(|required| !is_allowed(modules, required))
+    all.iter().position(|required| !is_allowed(required))
 }
 
-fn first_not_by_object(modules: &Modules, names: &[Name]) -> Option<usize>
+fn first_not_by_object<S: BuildHasher>(modules: &Modules<S>, names: &[Name]) -> Option<usize>
     ensures { result ≡ position (λ name. not (is_by_object (provisions modules.now) name)) names.now }
 {
     names.iter().position(|name| !is_by_object(modules, name))
 }
 
 /// Whether the module of that name is private to no other info.
-fn is_allowed(modules: &Modules, required: &InfoRequired) -> bool
-    ensures { result ≡ is_allowed (provisions modules.now) (requirement_of required.now) }
+fn is_allowed(required: &InfoRequired) -> bool
+    ensures { result ≡ is_allowed (looked_up required.now) }
 {
-    match modules.find(required.name) {
+    match required.module {
         Some(module) => !module.is_private || is_info_at(module.maker, required.info),
         None => true,
     }
@@ -164,7 +163,7 @@ fn is_info_at(maker: Maker, index: usize) -> bool
 }
 
 /// Whether the module of that index is private to no info.
-fn is_public_at(modules: &Modules, index: usize) -> bool
+fn is_public_at<S: BuildHasher>(modules: &Modules<S>, index: usize) -> bool
     ensures { result ≡ is_public_at (provisions modules.now) index }
 {
     match modules.provided().get(index) {
@@ -174,7 +173,7 @@ fn is_public_at(modules: &Modules, index: usize) -> bool
 }
 
 /// Whether an object provides the name.
-fn is_by_object(modules: &Modules, name: &Name) -> bool
+fn is_by_object<S: BuildHasher>(modules: &Modules<S>, name: &Name) -> bool
     ensures { result ≡ is_by_object (provisions modules.now) name.now }
 {
     match modules.find(name) {

@@ -15,15 +15,20 @@ use indexmap::IndexSet;
 use ninja_text::Failure;
 use scan_docs::{Info, Name, Rule};
 use std::alloc::{AllocError, Global};
+use std::hash::BuildHasher;
 
 /// M1: no two objects have one path.
-pub(crate) fn check_objects(alloc: Global, objects: &[Rule]) -> Result<(), Failure<TableFault>>
+pub(crate) fn check_objects<S: BuildHasher + Copy>(
+    alloc: Global,
+    objects: &[Rule],
+    hash_builder: S,
+) -> Result<(), Failure<TableFault>>
     ensures ok { OnOk result (AllDiffer (map (λ rule. rule.object) objects.now)) }
     ensures fault { IfErr result (ForFault (λ fault. (t : TableValue) (kept : List (List ℕ)) →
         objects.now ≡ t.objects → Reports 1 t kept fault)) }
 {
     let paths = object_paths(alloc, objects)?;
-    match first_repetition(alloc, paths.as_slice())? {
+    match first_repetition(alloc, paths.as_slice(), hash_builder)? {
         None => Ok(()),
         Some((first, second)) => {
             let path = object_at(objects, second).object.copy(alloc)?;
@@ -37,13 +42,17 @@ pub(crate) fn check_objects(alloc: Global, objects: &[Rule]) -> Result<(), Failu
 }
 
 /// M2: no two infos have one target name.
-pub(crate) fn check_infos(alloc: Global, infos: &[Info]) -> Result<(), Failure<TableFault>>
+pub(crate) fn check_infos<S: BuildHasher + Copy>(
+    alloc: Global,
+    infos: &[Info],
+    hash_builder: S,
+) -> Result<(), Failure<TableFault>>
     ensures ok { OnOk result (AllDiffer (map (λ info. info.target) infos.now)) }
     ensures fault { IfErr result (ForFault (λ fault. (t : TableValue) (kept : List (List ℕ)) →
         infos.now ≡ t.infos → Reports 2 t kept fault)) }
 {
     let targets = target_names(alloc, infos)?;
-    match first_repetition(alloc, targets.as_slice())? {
+    match first_repetition(alloc, targets.as_slice(), hash_builder)? {
         None => Ok(()),
         Some((_, second)) => {
             let target = info_at(infos, second).target.copy(alloc)?;
@@ -53,11 +62,12 @@ pub(crate) fn check_infos(alloc: Global, infos: &[Info]) -> Result<(), Failure<T
 }
 
 /// All provided modules. M3: no name is provided twice.
-pub(crate) fn check_names<'t>(
+pub(crate) fn check_names<'t, S: BuildHasher + Copy>(
     alloc: Global,
     objects: &'t [Rule],
     infos: &'t [Info],
-) -> Result<Modules<'t>, Failure<TableFault>>
+    hash_builder: S,
+) -> Result<Modules<'t, S>, Failure<TableFault>>
     ensures modules { IfOk result
         (λ modules. modules ≡ table_with objects.now infos.now) }
     ensures differ { IfOk result (λ modules. AllDiffer (names_of (provisions modules))) }
@@ -65,18 +75,22 @@ pub(crate) fn check_names<'t>(
         Reports 3 (table_with objects.now infos.now) kept fault)) }
 {
     let provided = provided_modules(alloc, objects, infos)?;
-    let names = names_once(alloc, provided.as_slice())?;
+    let names = names_once(alloc, provided.as_slice(), hash_builder)?;
     Ok(Modules::new(objects, infos, provided, names))
 }
 
 /// The names of the modules, each with its module's index, if none is there twice.
-fn names_once(alloc: Global, provided: &[Module]) -> Result<IndexSet<Name>, Failure<TableFault>>
+fn names_once<S: BuildHasher + Copy>(
+    alloc: Global,
+    provided: &[Module],
+    hash_builder: S,
+) -> Result<IndexSet<Name, S>, Failure<TableFault>>
     ensures names { IfOk result (λ names. names.keys ≡ names_of (map provision_of provided.now)) }
     ensures differ { IfOk result (λ names. AllDiffer names.keys) }
     ensures fault { IfErr result (ForFault (λ fault. (t : TableValue) (kept : List (List ℕ)) →
         map provision_of provided.now ≡ provisions t → Reports 3 t kept fault)) }
 {
-    let mut names = IndexSet::new(alloc);
+    let mut names = IndexSet::with_hasher(alloc, hash_builder);
     for (index, module) in provided.iter().enumerate() {
         let name = module.name.copy(alloc)?;
         let (first, is_new) = names.insert_full(name)?;
@@ -109,7 +123,11 @@ fn provided_twice(
 
 /// M4: no file is that of two provided modules, or of a module and an object. No two objects have one
 /// path here, so a file that is made twice is a module's at least once.
-pub(crate) fn check_files(alloc: Global, modules: &Modules) -> Result<(), Failure<TableFault>>
+pub(crate) fn check_files<S: BuildHasher + Copy>(
+    alloc: Global,
+    modules: &Modules<S>,
+    hash_builder: S,
+) -> Result<(), Failure<TableFault>>
     requires { AllDiffer (map (λ rule. rule.object) modules.now.objects) }
     ensures ok { OnOk result (AllDiffer
         (map (λ rule. rule.object) modules.now.objects ++ files_of (provisions modules.now))) }
@@ -120,7 +138,7 @@ pub(crate) fn check_files(alloc: Global, modules: &Modules) -> Result<(), Failur
     let provided = modules.provided();
     let mut files = object_paths(alloc, objects)?;
     add_files(provided, &mut files)?;
-    match first_repetition(alloc, files.as_slice())? {
+    match first_repetition(alloc, files.as_slice(), hash_builder)? {
         None => Ok(()),
         Some((first, second)) => {
             let fault = made_twice(alloc, objects, provided, first, second)?;
@@ -212,10 +230,14 @@ fn info_at(infos: &[Info], index: usize) -> &Info
 }
 
 /// The indexes of the first text that stands in the list once more, and of that, if there is one.
-fn first_repetition(alloc: Global, texts: &[&[u8]]) -> Result<Option<(usize, usize)>, AllocError>
+fn first_repetition<S: BuildHasher + Copy>(
+    alloc: Global,
+    texts: &[&[u8]],
+    hash_builder: S,
+) -> Result<Option<(usize, usize)>, AllocError>
     ensures { IfOk result (FindsRepetition (map (λ text. text.now) texts.now)) }
 {
-    let mut seen = IndexSet::new(alloc);
+    let mut seen = IndexSet::with_hasher(alloc, hash_builder);
     for (index, text) in texts.iter().enumerate() {
         let (first, is_new) = seen.insert_full(*text)?;
         if !is_new {

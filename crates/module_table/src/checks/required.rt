@@ -4,8 +4,9 @@ ghost use Rattle.ninja_text.specs.Failure.{ForFault};
 ghost use Rattle.dep_order.specs.Rows.{rows};
 ghost use Rattle.module_table.specs.Modules.{provisions, info_requirements};
 ghost use Rattle.module_table.specs.Firsts.{IsFirst};
-ghost use Rattle.module_table.specs.inner.Views.{names_of, requirement_of, IsAbsent};
+ghost use Rattle.module_table.specs.inner.Views.{names_of, IsAbsent};
 ghost use Rattle.module_table.specs.inner.Finds.{is_by_info, agrees, IsByInfo, Agrees, AcceptsAll};
+ghost use Rattle.module_table.specs.inner.Found.{looked_up, AreLookedUp};
 ghost use Rattle.module_table.specs.inner.Numbered.{AreIndexes};
 ghost use Rattle.module_table.specs.inner.Reported.{Reports};
 ghost use Rattle.module_table.specs.declared.fault.TableFault.TheVariants.{ModuleUnknown};
@@ -17,11 +18,12 @@ use indexmap::IndexSet;
 use ninja_text::Failure;
 use scan_docs::{Name, Rule};
 use std::alloc::Global;
+use std::hash::BuildHasher;
 
 /// The indexes of the modules that each object requires. M5: each is provided.
-pub(crate) fn check_objects_known(
+pub(crate) fn check_objects_known<S: BuildHasher>(
     alloc: Global,
-    modules: &Modules,
+    modules: &Modules<S>,
 ) -> Result<Vec<Vec<usize>>, Failure<TableFault>>
     ensures ok { IfOk result (λ required. AreIndexes modules.now (rows required.items)) }
     ensures fault { IfErr result (ForFault
@@ -37,9 +39,9 @@ pub(crate) fn check_objects_known(
     Ok(required)
 }
 
-fn indexes_of(
+fn indexes_of<S: BuildHasher>(
     alloc: Global,
-    names: &IndexSet<Name>,
+    names: &IndexSet<Name, S>,
     object: usize,
     rule: &Rule,
 ) -> Result<Vec<usize>, Failure<TableFault>>
@@ -63,19 +65,19 @@ fn indexes_of(
 }
 
 /// M6: what infos' modules require is provided by infos.
-pub(crate) fn check_infos_known(
+pub(crate) fn check_infos_known<S: BuildHasher>(
     alloc: Global,
-    modules: &Modules,
+    modules: &Modules<S>,
     all: &[InfoRequired],
 ) -> Result<(), Failure<TableFault>>
-    requires { map requirement_of all.now ≡ info_requirements modules.now }
+    requires { AreLookedUp modules.now all.now }
     ensures ok { OnOk result
         (AcceptsAll (IsByInfo (provisions modules.now)) (info_requirements modules.now)) }
     ensures fault { IfErr result (ForFault
         (λ fault. (kept : List (List ℕ)) → Reports 6 modules.now kept fault)) }
 {
     modules.names_differ();
-    match first_not_by_info(modules, all) {
+    match first_not_by_info(all) {
         None => Ok(()),
         Some(index) => {
             let required = required_at(all, index);
@@ -92,12 +94,12 @@ pub(crate) fn check_infos_known(
 }
 
 /// M7: and with the files that the infos say.
-pub(crate) fn check_infos_agree(
+pub(crate) fn check_infos_agree<S: BuildHasher>(
     alloc: Global,
-    modules: &Modules,
+    modules: &Modules<S>,
     all: &[InfoRequired],
 ) -> Result<(), Failure<TableFault>>
-    requires all { map requirement_of all.now ≡ info_requirements modules.now }
+    requires all { AreLookedUp modules.now all.now }
     requires known { AcceptsAll (IsByInfo (provisions modules.now)) (info_requirements modules.now) }
     ensures ok { OnOk result
         (AcceptsAll (Agrees (provisions modules.now)) (info_requirements modules.now)) }
@@ -105,7 +107,7 @@ pub(crate) fn check_infos_agree(
         (λ fault. (kept : List (List ℕ)) → Reports 7 modules.now kept fault)) }
 {
     modules.names_differ();
-    match first_differing(modules, all) {
+    match first_differing(all) {
         None => Ok(()),
         Some(index) => {
             let required = required_at(all, index);
@@ -121,26 +123,23 @@ pub(crate) fn check_infos_agree(
     }
 }
 
-fn first_not_by_info(modules: &Modules, all: &[InfoRequired]) -> Option<usize>
-    ensures { result ≡ position
-        (λ r. not (is_by_info (provisions modules.now) (requirement_of r))) all.now }
+fn first_not_by_info(all: &[InfoRequired]) -> Option<usize>
+    ensures { result ≡ position (λ r. not (is_by_info (looked_up r))) all.now }
 {
-    all.iter()
-        .position(|required| !is_by_info(modules, required))
+    all.iter().position(|required| !is_by_info(required))
 }
 
-fn first_differing(modules: &Modules, all: &[InfoRequired]) -> Option<usize>
-    ensures { result ≡ position
-        (λ r. not (agrees (provisions modules.now) (requirement_of r))) all.now }
+fn first_differing(all: &[InfoRequired]) -> Option<usize>
+    ensures { result ≡ position (λ r. not (agrees (looked_up r))) all.now }
 {
-    all.iter().position(|required| !agrees(modules, required))
+    all.iter().position(|required| !agrees(required))
 }
 
 /// Whether an info provides what is required.
-fn is_by_info(modules: &Modules, required: &InfoRequired) -> bool
-    ensures { result ≡ is_by_info (provisions modules.now) (requirement_of required.now) }
+fn is_by_info(required: &InfoRequired) -> bool
+    ensures { result ≡ is_by_info (looked_up required.now) }
 {
-    match modules.find(required.name) {
+    match required.module {
         Some(module) => match module.maker {
             Maker::Info(_) => true,
             Maker::Object(_) => false,
@@ -150,10 +149,10 @@ fn is_by_info(modules: &Modules, required: &InfoRequired) -> bool
 }
 
 /// Whether the module of that name has the file that the requirement says.
-fn agrees(modules: &Modules, required: &InfoRequired) -> bool
-    ensures { result ≡ agrees (provisions modules.now) (requirement_of required.now) }
+fn agrees(required: &InfoRequired) -> bool
+    ensures { result ≡ agrees (looked_up required.now) }
 {
-    match modules.find(required.name) {
+    match required.module {
         Some(module) => *module.file == *required.file,
         None => true,
     }

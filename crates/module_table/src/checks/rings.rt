@@ -14,12 +14,13 @@ use crate::modules::{Module, Modules};
 use dep_order::{Digraph, Sorting, order};
 use ninja_text::Failure;
 use std::alloc::{AllocError, Global};
+use std::hash::BuildHasher;
 
 /// M8: no objects need each other's modules in a ring. Each object has a row of the indexes of what
 /// it requires.
-pub(crate) fn check_rings(
+pub(crate) fn check_rings<S: BuildHasher>(
     alloc: Global,
-    modules: &Modules,
+    modules: &Modules<S>,
     required: &[Vec<usize>],
 ) -> Result<(), Failure<TableFault>>
     requires { AreIndexes modules.now (rows required.now) }

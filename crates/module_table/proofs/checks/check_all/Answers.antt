@@ -15,42 +15,42 @@ use Rattle.module_table.proofs.Passing.{for_these_kept, without_fault}
 use Rattle.module_table.proofs.checks.check_all.Goals as goal
 
 pub returns-in_err-modules-clause-fault : goal.returns-in_err-modules-clause-fault
-returns-in_err-modules-clause-fault c =
+returns-in_err-modules-clause-fault g c =
     let t : TableValue = record { objects = c.args.objects.now; infos = c.args.infos.now } in
     let p = err_from_is_err_and c.from_residual.result c.from_residual.ensures.1 in
     rw (p.1, p.2) (for_these_kept t c.args.kept.now _ c.in_err-modules.ensures.fault)
 
 pub check_requirements-requires : goal.check_requirements-requires
-check_requirements-requires c =
+check_requirements-requires g c =
     let same = c.in_ok-modules.ensures.modules in
     subst (λ t. Passed 5 t c.args.kept.now) (sym same) (c.in_ok-modules.ensures.passed c.args.kept.now)
 
 pub returns-in_err-rows-clause-fault : goal.returns-in_err-rows-clause-fault
-returns-in_err-rows-clause-fault c =
+returns-in_err-rows-clause-fault g c =
     let same = c.in_ok-modules.ensures.modules in
     let p = err_from_is_err_and c.from_residual-in_err-rows.result c.from_residual-in_err-rows.ensures.1 in
     rw (p.1, p.2)
     (for_fault _ _ _ (λ fault is. subst (λ t. IsReported t c.args.kept.now fault) same is) c.in_err-rows.ensures.fault)
 
 pub module_graph-requires-clause-origins : goal.module_graph-requires-clause-origins
-module_graph-requires-clause-origins c = c.as_slice-2.ensures.value ∙ c.in_ok-origins.ensures ∙ c.provided.ensures.origins
+module_graph-requires-clause-origins g c = c.as_slice-2.ensures.value ∙ c.in_ok-origins.ensures ∙ c.provided.ensures.origins
 
 pub all_pairs-requires : goal.all_pairs-requires
-all_pairs-requires c = subst (λ vectors. AreIndexes c.in_ok-modules.modules (rows vectors)) (sym c.as_slice.ensures.value) c.in_ok-rows.ensures.indexes
+all_pairs-requires g c = subst (λ vectors. AreIndexes c.in_ok-modules.modules (rows vectors)) (sym c.as_slice.ensures.value) c.in_ok-rows.ensures.indexes
 
 pub returns-clause-no_fault : goal.returns-clause-no_fault
-returns-clause-no_fault c =
+returns-clause-no_fault g c =
     let t : TableValue = record { objects = c.args.objects.now; infos = c.args.infos.now } in
     without_fault t c.args.kept.now (subst (λ u. Passed 11 u c.args.kept.now) c.in_ok-modules.ensures.modules c.in_ok-rows.ensures.passed)
 
 pub returns-clause-names : goal.returns-clause-names
-returns-clause-names c = c.into_names.ensures ∙ ap (λ t. names_of (provisions t)) c.in_ok-modules.ensures.modules
+returns-clause-names g c = c.into_names.ensures ∙ ap (λ t. names_of (provisions t)) c.in_ok-modules.ensures.modules
 
 pub returns-clause-origins : goal.returns-clause-origins
-returns-clause-origins c = c.in_ok-origins.ensures ∙ c.provided.ensures.origins ∙ ap origins_of c.in_ok-modules.ensures.modules
+returns-clause-origins g c = c.in_ok-origins.ensures ∙ c.provided.ensures.origins ∙ ap origins_of c.in_ok-modules.ensures.modules
 
 pub returns-clause-graph : goal.returns-clause-graph
-returns-clause-graph c = subst (λ t. IsModuleGraph t c.in_ok-graph.graph) c.in_ok-modules.ensures.modules c.in_ok-graph.ensures
+returns-clause-graph g c = subst (λ t. IsModuleGraph t c.in_ok-graph.graph) c.in_ok-modules.ensures.modules c.in_ok-graph.ensures
 
 pub returns-clause-required : goal.returns-clause-required
-returns-clause-required c = c.in_ok-required.ensures ∙ ap (λ (t : TableValue). map (required_of t) t.objects) c.in_ok-modules.ensures.modules
+returns-clause-required g c = c.in_ok-required.ensures ∙ ap (λ (t : TableValue). map (required_of t) t.objects) c.in_ok-modules.ensures.modules

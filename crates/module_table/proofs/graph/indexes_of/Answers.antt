@@ -6,7 +6,7 @@ use Rattle.module_table.proofs.graph.indexes_of.Goals as goal
 use Rattle.module_table.proofs.graph.indexes_of.Goals.{in-Some+in_ok-push-in-Some, in-None}
 
 pub loop-pair-preserved : goal.loop-pair-preserved
-loop-pair-preserved c =
+loop-pair-preserved g c =
     let h = λ (pair : List ℕ × List ℕ). index_in c.args.names.now.keys pair.0 in
     let xs = c.args.pairs.now in
     let i = c.loop-pair.pair-index in

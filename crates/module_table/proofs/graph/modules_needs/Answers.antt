@@ -10,7 +10,7 @@ use Rattle.module_table.proofs.Zips.{zip_next}
 use Rattle.module_table.proofs.graph.modules_needs.Goals as goal
 
 pub loop-origin-preserved : goal.loop-origin-preserved
-loop-origin-preserved c =
+loop-origin-preserved g c =
     let origins = c.args.origins.now in
     let i = c.loop-origin.origin-index in
     let same = ap rows c.in_ok-push.ensures.items ∙ map-append (λ (row : Vec ℕ Global). row.items) c.loop-origin.needs.items _ in

@@ -20,7 +20,7 @@ abbrev items_of : Vec ℕ Global → List ℕ
 items_of row = row.items
 
 pub mentions_of-requires-clause-within : goal.mentions_of-requires-clause-within
-mentions_of-requires-clause-within c = λ k d lt.
+mentions_of-requires-clause-within g c = λ k d lt.
     let t = c.args.modules.now in
     let names = names_of (provisions t) in
     let i = c.loop-object.object in
@@ -37,7 +37,7 @@ mentions_of-requires-clause-within c = λ k d lt.
 
 pub loop-object-preserved : goal.loop-object-preserved
 unfolding required_of
-loop-object-preserved c =
+loop-object-preserved g c =
     let t = c.args.modules.now in
     let ps = provisions t in
     let names = names_of ps in
@@ -63,7 +63,7 @@ loop-object-preserved c =
     }
 
 pub returns : goal.returns
-returns c =
+returns g c =
     let t = c.args.modules.now in
     let many = many_rows t (rows c.args.required.now) c.requires in
     let long = length_mapped items_of c.args.required.now in

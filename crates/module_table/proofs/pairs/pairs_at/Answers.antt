@@ -13,7 +13,7 @@ abbrev pair : Provision → List ℕ × List ℕ
 pair p = (p.name, p.file)
 
 pub loop-index-preserved : goal.loop-index-preserved
-loop-index-preserved c =
+loop-index-preserved g c =
     let ps = provisions c.args.modules.now in
     let indexes = c.args.indexes.now in
     let i = c.loop-index.index-index in

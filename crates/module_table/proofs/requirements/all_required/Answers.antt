@@ -1,11 +1,24 @@
-use Rattle.std.proofs.Common.{refl, []}
+use Rattle.std.proofs.Common.{◌∙◌, ap, refl, sym, [], ℕ}
+use Rattle.std.specs.List.{flat_map, enumerate_from}
 use Rattle.std.proofs.lemmas.Option.{slice_get_read}
-use Rattle.module_table.specs.Modules.{requirements_of_info}
+use Rattle.scan_docs.specs.Info.{InfoValue}
+use Rattle.module_table.specs.Modules.{provisions}
+use Rattle.module_table.specs.inner.Found.{lookups_of}
 use Rattle.module_table.proofs.Repetitions.{gathers_next}
+use Rattle.module_table.proofs.InfoRequirements.{lookups}
+use Rattle.module_table.proofs.IndexRows.{take_all}
 use Rattle.module_table.proofs.requirements.all_required.Goals as goal
 
 pub loop-info-preserved : goal.loop-info-preserved
-loop-info-preserved c =
-    gathers_next requirements_of_info c.args.infos.now c.loop-info.info c.index-infos-info.result [] _ _
-    (slice_get_read c.args.infos.now _ c.loop-info.info c.index-infos-info.result refl c.loop-info-test.true c.index-infos-info.is)
-    c.loop-info.invariant c.in_ok-add_info.ensures
+loop-info-preserved g c =
+    let infos = c.infos-infos.result.now in
+    let i = c.loop-info.info in
+    let value = c.index-infos-info.result in
+    gathers_next (λ (info : ℕ × InfoValue). flat_map (lookups_of (provisions c.args.modules.now) info.0 info.1.target) info.1.modules) infos i value [] _ _ (slice_get_read infos _ i value refl c.loop-info-test.true c.index-infos-info.is) c.loop-info.invariant c.in_ok-add_info.ensures
+
+pub returns : goal.returns
+returns g c =
+    let t = c.args.modules.now in
+    c.loop-info.invariant
+    ∙ ap (λ infos. flat_map (λ (info : ℕ × InfoValue). flat_map (lookups_of (provisions t) info.0 info.1.target) info.1.modules) (enumerate_from 0 infos)) (take_all c.infos-infos.result.now c.loop-info.info c.loop-info-test.false ∙ c.infos-infos.ensures)
+    ∙ sym (lookups t)

@@ -1,12 +1,15 @@
-use Rattle.std.proofs.Common.{◌≡◌, ◌≤◌, ◌∙◌, ap, arith, length, subst, sym, refl, slice_get, None, Some, List, ℕ, Vec}
+use Rattle.std.proofs.Common.{◌≡◌, ◌≤◌, ◌∙◌, ap, arith, length, map, not, position, subst, sym, refl, slice_get, None, Some, List, ℕ, Vec}
 use Rattle.std.specs.declared.alloc.Global.{Global}
 use Rattle.std.proofs.lemmas.Option.{slice_get_read, slice_get_within, get_or_from_slice_get}
+use Rattle.scan_docs.specs.Scan.{RuleValue}
 use Rattle.dep_order.specs.Rows.{rows}
+use Rattle.module_table.specs.TableValue.{TableValue}
 use Rattle.module_table.specs.Modules.{Provision, provisions}
+use Rattle.module_table.specs.inner.Numbered.{AreIndexes}
+use Rattle.module_table.specs.inner.Repetition.{AllDiffer}
 use Rattle.module_table.specs.inner.Views.{names_of}
-use Rattle.module_table.specs.inner.Finds.{is_public_at, IsPrivate, RequiresPublic, AcceptsAll, RefusesAt}
+use Rattle.module_table.specs.inner.Finds.{is_public_at, IsPublic, IsPrivate, RequiresPublic, AcceptsAll, RefusesAt}
 use Rattle.module_table.proofs.Places.{to_map, same_some}
-use Rattle.module_table.proofs.Repetitions.{map_same}
 use Rattle.module_table.proofs.IndexRows.{take_all, many_rows, rule_of, name_of_index}
 use Rattle.module_table.proofs.Rings.{length_mapped}
 use Rattle.module_table.proofs.Found.{IsPublicAt, IsPrivateAt, at_index, row_public, row_private}
@@ -17,89 +20,79 @@ use Rattle.module_table.proofs.checks.privacy.check_objects_allowed.Goals as goa
 abbrev items_of : Vec ℕ Global → List ℕ
 items_of row = row.items
 
-pub index-requires : goal.index-requires
-index-requires c =
-    let t = c.args.modules.now in
+-- the private module that the row of an object has first: its index, the rule, and its name
+private_in : (t : TableValue) (vectors : List (Vec ℕ Global)) → AreIndexes t (rows vectors) → AllDiffer (names_of (provisions t)) → (i : ℕ) (row : Vec ℕ Global) → slice_get vectors i ≡ Some row → (k : ℕ) (slice : List ℕ) → slice ≡ row.items → Some k ≡ position (λ index. not (is_public_at (provisions t) index)) slice →
+    (index : ℕ) × (rule : RuleValue) × (name : List ℕ) × (slice_get row.items k ≡ Some index) × (slice_get t.objects i ≡ Some rule) × (slice_get rule.required k ≡ Some name) × (slice_get (names_of (provisions t)) index ≡ Some name) × RefusesAt (IsPublic (provisions t)) (IsPrivate (provisions t)) rule.required k
+private_in t vectors is differ i row at k slice same first =
     let ps = provisions t in
-    let k = c.in-Some.index in
-    let row = c.index-required-object.result in
-    let differ = c.names_differ.ensures in
-    let all = first_refused (λ index. index) (is_public_at ps) (IsPublicAt ps differ) (IsPrivateAt ps differ) (at_index ps differ) c.as_slice.result.now (Some k) (sym c.in-Some.is ∙ c.first_private.ensures) in
-    let found = subst (λ xs. RefusesAt (IsPublicAt ps differ) (IsPrivateAt ps differ) xs k) (map_same c.as_slice.result.now ∙ c.as_slice.ensures.value) all in
-    let within = slice_get_within row.items k found.x found.here in
-    omega (arith, within, row.ok.0)
+    let found = first_refused (λ index. index) (λ index. index) (is_public_at ps) (IsPublicAt ps differ) (IsPrivateAt ps differ) (at_index ps differ) row.items slice (ap (map (λ index. index)) same) (Some k) first in
+    let rule = rule_of t (rows vectors) is i row.items (to_map items_of vectors i row at) in
+    let name = name_of_index (names_of ps) row.items rule.0.required rule.2 k found.x found.here in
+    (found.x, rule.0, name.0, found.here, rule.1, name.1, name.2, row_private ps differ row.items rule.0.required rule.2 k found name.0 name.1)
 
-pub name_at-name-requires : goal.name_at-name-requires
-name_at-name-requires c =
-    let t = c.args.modules.now in
-    let ps = provisions t in
+pub index-requires : goal.index-requires
+index-requires g c =
     let i = c.loop-object.object in
     let k = c.in-Some.index in
     let row = c.index-required-object.result in
-    let differ = c.names_differ.ensures in
-    let all = first_refused (λ index. index) (is_public_at ps) (IsPublicAt ps differ) (IsPrivateAt ps differ) (at_index ps differ) c.as_slice.result.now (Some k) (sym c.in-Some.is ∙ c.first_private.ensures) in
-    let found = subst (λ xs. RefusesAt (IsPublicAt ps differ) (IsPrivateAt ps differ) xs k) (map_same c.as_slice.result.now ∙ c.as_slice.ensures.value) all in
     let at = slice_get_read c.args.required.now _ i row refl c.loop-object-test.true c.index-required-object.is in
-    let rule = rule_of t (rows c.args.required.now) c.requires i row.items (to_map items_of c.args.required.now i row at) in
-    let n = name_of_index (names_of ps) row.items rule.0.required rule.2 k found.x found.here in
-    let same = c.index.ensures ∙ get_or_from_slice_get row.items k found.x c.index.result.now found.here in
-    let within = slice_get_within (names_of ps) found.x n.0 n.2 in
+    let p = private_in c.args.modules.now c.args.required.now c.requires c.names_differ.ensures i row at k c.as_slice.result.now c.as_slice.ensures.value (sym c.in-Some.is ∙ c.first_private.ensures) in
+    let within = slice_get_within row.items k p.0 p.3 in
+    omega (arith, within, row.ok.0)
+
+pub name_at-name-requires : goal.name_at-name-requires
+name_at-name-requires g c =
+    let ps = provisions c.args.modules.now in
+    let i = c.loop-object.object in
+    let k = c.in-Some.index in
+    let row = c.index-required-object.result in
+    let at = slice_get_read c.args.required.now _ i row refl c.loop-object-test.true c.index-required-object.is in
+    let p = private_in c.args.modules.now c.args.required.now c.requires c.names_differ.ensures i row at k c.as_slice.result.now c.as_slice.ensures.value (sym c.in-Some.is ∙ c.first_private.ensures) in
+    let same = c.index.ensures ∙ get_or_from_slice_get row.items k p.0 c.index.result.now p.3 in
+    let within = slice_get_within (names_of ps) p.0 p.2 p.6 in
     let long = length_mapped (λ (p : Provision). p.name) ps in
     omega (arith, within, long, same)
 
 pub private_fault-requires : goal.private_fault-requires
-private_fault-requires c =
-    let t = c.args.modules.now in
-    let ps = provisions t in
+private_fault-requires g c =
+    let ps = provisions c.args.modules.now in
     let i = c.loop-object.object in
     let k = c.in-Some.index in
     let row = c.index-required-object.result in
-    let differ = c.names_differ.ensures in
-    let all = first_refused (λ index. index) (is_public_at ps) (IsPublicAt ps differ) (IsPrivateAt ps differ) (at_index ps differ) c.as_slice.result.now (Some k) (sym c.in-Some.is ∙ c.first_private.ensures) in
-    let found = subst (λ xs. RefusesAt (IsPublicAt ps differ) (IsPrivateAt ps differ) xs k) (map_same c.as_slice.result.now ∙ c.as_slice.ensures.value) all in
     let at = slice_get_read c.args.required.now _ i row refl c.loop-object-test.true c.index-required-object.is in
-    let rule = rule_of t (rows c.args.required.now) c.requires i row.items (to_map items_of c.args.required.now i row at) in
-    let n = name_of_index (names_of ps) row.items rule.0.required rule.2 k found.x found.here in
-    let same = c.index.ensures ∙ get_or_from_slice_get row.items k found.x c.index.result.now found.here in
-    let name : n.0 ≡ c.name_at-name.result.now = same_some _ _ (sym n.2 ∙ ap (slice_get (names_of ps)) (sym same) ∙ c.name_at-name.ensures) in
-    let refused = row_private ps differ row.items rule.0.required rule.2 k found n.0 n.1 in
-    subst (IsPrivate ps) (same_some _ _ (sym refused.here ∙ n.1) ∙ name) refused.refused
+    let p = private_in c.args.modules.now c.args.required.now c.requires c.names_differ.ensures i row at k c.as_slice.result.now c.as_slice.ensures.value (sym c.in-Some.is ∙ c.first_private.ensures) in
+    let same = c.index.ensures ∙ get_or_from_slice_get row.items k p.0 c.index.result.now p.3 in
+    let name : p.2 ≡ c.name_at-name.result.now = same_some _ _ (sym p.6 ∙ ap (slice_get (names_of ps)) (sym same) ∙ c.name_at-name.ensures) in
+    subst (IsPrivate ps) (same_some _ _ (sym p.7.here ∙ p.5) ∙ name) p.7.refused
 
 pub returns-in-Some-clause-fault : goal.returns-in-Some-clause-fault
-returns-in-Some-clause-fault c = λ kept.
+returns-in-Some-clause-fault g c = λ kept.
     let t = c.args.modules.now in
-    let ps = provisions t in
     let i = c.loop-object.object in
     let k = c.in-Some.index in
     let row = c.index-required-object.result in
-    let differ = c.names_differ.ensures in
-    let all = first_refused (λ index. index) (is_public_at ps) (IsPublicAt ps differ) (IsPrivateAt ps differ) (at_index ps differ) c.as_slice.result.now (Some k) (sym c.in-Some.is ∙ c.first_private.ensures) in
-    let found = subst (λ xs. RefusesAt (IsPublicAt ps differ) (IsPrivateAt ps differ) xs k) (map_same c.as_slice.result.now ∙ c.as_slice.ensures.value) all in
     let at = slice_get_read c.args.required.now _ i row refl c.loop-object-test.true c.index-required-object.is in
-    let rule = rule_of t (rows c.args.required.now) c.requires i row.items (to_map items_of c.args.required.now i row at) in
-    let n = name_of_index (names_of ps) row.items rule.0.required rule.2 k found.x found.here in
-    let same = c.index.ensures ∙ get_or_from_slice_get row.items k found.x c.index.result.now found.here in
-    let name : n.0 ≡ c.name_at-name.result.now = same_some _ _ (sym n.2 ∙ ap (slice_get (names_of ps)) (sym same) ∙ c.name_at-name.ensures) in
+    let p = private_in t c.args.required.now c.requires c.names_differ.ensures i row at k c.as_slice.result.now c.as_slice.ensures.value (sym c.in-Some.is ∙ c.first_private.ensures) in
+    let same = c.index.ensures ∙ get_or_from_slice_get row.items k p.0 c.index.result.now p.3 in
+    let name : p.2 ≡ c.name_at-name.result.now = same_some _ _ (sym p.6 ∙ ap (slice_get (names_of (provisions t))) (sym same) ∙ c.name_at-name.ensures) in
     let h = c.in_ok-fault-in-Some.ensures in
-    reports_private_object t kept i rule.0 k c.name_at-name.result.now h.0 c.in_ok-fault-in-Some.fault rule.1 c.loop-object.invariant
-    (row_private ps differ row.items rule.0.required rule.2 k found n.0 n.1)
-    (n.1 ∙ ap (λ x. Some x) name) h.1 h.2
+    reports_private_object t kept i p.1 k c.name_at-name.result.now h.0 c.in_ok-fault-in-Some.fault p.4 c.loop-object.invariant p.7 (p.5 ∙ ap (λ x. Some x) name) h.1 h.2
 
 pub loop-object-preserved : goal.loop-object-preserved
-loop-object-preserved c =
+loop-object-preserved g c =
     let t = c.args.modules.now in
     let ps = provisions t in
     let i = c.loop-object.object in
     let row = c.index-required-object.result in
     let at = slice_get_read c.args.required.now _ i row refl c.loop-object-test.true c.index-required-object.is in
     let rule = rule_of t (rows c.args.required.now) c.requires i row.items (to_map items_of c.args.required.now i row at) in
-    let all = first_refused (λ index. index) (is_public_at ps) (IsPublicAt ps c.names_differ.ensures) (IsPrivateAt ps c.names_differ.ensures) (at_index ps c.names_differ.ensures) c.as_slice.result.now None (sym c.in-None.is ∙ c.first_private.ensures) in
-    let found = subst (AcceptsAll (IsPublicAt ps c.names_differ.ensures)) (map_same c.as_slice.result.now ∙ c.as_slice.ensures.value) all in
+    let differ = c.names_differ.ensures in
+    let found = first_refused (λ index. index) (λ index. index) (is_public_at ps) (IsPublicAt ps differ) (IsPrivateAt ps differ) (at_index ps differ) row.items c.as_slice.result.now (ap (map (λ index. index)) c.as_slice.ensures.value) None (sym c.in-None.is ∙ c.first_private.ensures) in
     accepts_next (RequiresPublic ps) (RequiresPublic ps) t.objects i rule.0 rule.1 c.loop-object.invariant
-    (row_public ps c.names_differ.ensures row.items rule.0.required rule.2 found)
+    (row_public ps differ row.items rule.0.required rule.2 found)
 
 pub returns-clause-ok : goal.returns-clause-ok
-returns-clause-ok c =
+returns-clause-ok g c =
     let t = c.args.modules.now in
     let many = many_rows t (rows c.args.required.now) c.requires in
     let long = length_mapped items_of c.args.required.now in

@@ -7,7 +7,7 @@ use Rattle.module_table.proofs.ReportLemmas.{reported_made}
 use Rattle.module_table.proofs.checks.repeated.check_files.Goals as goal
 
 pub returns-clause-fault : goal.returns-clause-fault
-returns-clause-fault c = λ kept.
+returns-clause-fault g c = λ kept.
     let t = c.args.modules.now in
     let wanted = map (λ (rule : RuleValue). rule.object) t.objects ++ files_of (provisions t) in
     let texts : map (λ (x : Bor (List ℕ)). x.now) c.as_slice.result.now ≡ wanted =
@@ -21,7 +21,7 @@ returns-clause-fault c = λ kept.
     (subst (λ os. IsMadeTwice os (map provision_of c.provided-provided.result.now) c.in-Some.first c.in-Some.second c.in_ok-fault-in-Some.fault) c.objects-objects.ensures c.in_ok-fault-in-Some.ensures))
 
 pub returns-in-None-clause-ok : goal.returns-in-None-clause-ok
-returns-in-None-clause-ok c =
+returns-in-None-clause-ok g c =
     let t = c.args.modules.now in
     let wanted = map (λ (rule : RuleValue). rule.object) t.objects ++ files_of (provisions t) in
     let texts : map (λ (x : Bor (List ℕ)). x.now) c.as_slice.result.now ≡ wanted =

@@ -7,7 +7,7 @@ use Rattle.module_table.proofs.Repetitions.{text_repetition}
 use Rattle.module_table.proofs.checks.repeated.check_objects.Goals as goal
 
 pub returns-clause-fault : goal.returns-clause-fault
-returns-clause-fault c = λ t kept same.
+returns-clause-fault g c = λ t kept same.
     let texts : map (λ (x : Bor (List ℕ)). x.now) c.as_slice.result.now ≡ map (λ x. x.object) c.args.objects.now = ap (map (λ x. x.now)) c.as_slice.ensures.value ∙ c.in_ok-paths.ensures in
     let found = subst (λ xs. FindsRepetition xs c.in_ok-first_repetition.field-0) texts c.in_ok-first_repetition.ensures in
     let repeated : RepeatsFirst (map (λ x. x.object) c.args.objects.now) c.in-Some.first c.in-Some.second = subst (FindsRepetition (map (λ x. x.object) c.args.objects.now)) c.in-Some.is found in

@@ -7,7 +7,7 @@ abbrev text_of : Bor (List ℕ) → List ℕ
 text_of text = text.now
 
 pub returns-then-not-is_new : goal.returns-then-not-is_new
-returns-then-not-is_new c =
+returns-then-not-is_new g c =
     let h = c.in_ok-first.ensures in
     let stored = h.stored in
     repeats_if_found text_of c.args.texts.now c.loop-index.index _ c.loop-index.seen.keys c.insert_full.new.self.keys
@@ -15,7 +15,7 @@ returns-then-not-is_new c =
     c.in_ok-first.first (sym c.if-not-is_new.true ∙ h.added) stored.0 stored.1 stored.2
 
 pub loop-index-preserved : goal.loop-index-preserved
-loop-index-preserved c =
+loop-index-preserved g c =
     let h = c.in_ok-first.ensures in
     let at = slice_get-get_or c.args.texts.now c.loop-index.index _ c.loop-index-test.true in
     record {

@@ -17,7 +17,7 @@ name_at : (provided : List Module) (place : ℕ) (p : Module) → slice_get prov
 name_at provided place p at name same = to_map name_of (map provision_of provided) place (provision_of p) (to_map provision_of provided place p at) ∙ ap (λ n. Some n) (sym same)
 
 pub returns-then-not-is_new-clause-fault : goal.returns-then-not-is_new-clause-fault
-returns-then-not-is_new-clause-fault c = λ t kept same.
+returns-then-not-is_new-clause-fault g c = λ t kept same.
     let list = map provision_of c.args.provided.now in
     let at = name_at c.args.provided.now c.loop-index.index c.index-provided-index.result (slice_get_read c.args.provided.now _ c.loop-index.index c.index-provided-index.result refl c.loop-index-test.true c.index-provided-index.is) c.in_ok-name.name c.in_ok-name.ensures in
     let h = c.in_ok-first.ensures in
@@ -26,7 +26,7 @@ returns-then-not-is_new-clause-fault c = λ t kept same.
     reports_provided_twice t kept c.in_ok-first.first c.loop-index.index c.in_ok-provided_twice.field-0 list same (subst (λ xs. RepeatsFirst xs c.in_ok-first.first c.loop-index.index) (map_same (names_of list)) repeated) c.in_ok-provided_twice.ensures
 
 pub loop-index-preserved : goal.loop-index-preserved
-loop-index-preserved c =
+loop-index-preserved g c =
     let list = map provision_of c.args.provided.now in
     let at = name_at c.args.provided.now c.loop-index.index c.index-provided-index.result (slice_get_read c.args.provided.now _ c.loop-index.index c.index-provided-index.result refl c.loop-index-test.true c.index-provided-index.is) c.in_ok-name.name c.in_ok-name.ensures in
     let h = c.in_ok-first.ensures in

@@ -9,7 +9,7 @@ use Rattle.module_table.proofs.ReportLemmas.{for_fault, reports_unknown}
 use Rattle.module_table.proofs.checks.required.check_objects_known.Goals as goal
 
 pub returns-in_err-row-clause-fault : goal.returns-in_err-row-clause-fault
-returns-in_err-row-clause-fault c =
+returns-in_err-row-clause-fault g c =
     let p = err_from_is_err_and c.from_residual.result c.from_residual.ensures.1 in
     let objects = c.objects-objects.result.now in
     let at = slice_get_read objects _ c.loop-object.object c.index-objects-object.result refl c.loop-object-test.true c.index-objects-object.is in
@@ -19,7 +19,7 @@ returns-in_err-row-clause-fault c =
     c.in_err-row.ensures.fault)
 
 pub returns-clause-ok : goal.returns-clause-ok
-returns-clause-ok c =
+returns-clause-ok g c =
     let objects = c.objects-objects.result.now in
     are_indexes c.args.modules.now c.names-names.result.now.keys c.loop-object.required.items c.names-names.ensures
     (c.loop-object.invariant ∙ ap (map (λ (rule : RuleValue). map (λ name. Some name) rule.required)) (take_all objects c.loop-object.object c.loop-object-test.false ∙ c.objects-objects.ensures))

@@ -7,7 +7,7 @@ use Rattle.module_table.proofs.ReportLemmas.{in_row}
 use Rattle.module_table.proofs.checks.required.indexes_of.Goals as goal
 
 pub returns-in-None-clause-fault : goal.returns-in-None-clause-fault
-returns-in-None-clause-fault c =
+returns-in-None-clause-fault g c =
     let i = c.loop-required.required-index in
     let list : c.deref-required-items.result.now ≡ c.args.rule.now.required = c.deref-required-items.ensures.value ∙ ap (λ (r : RuleValue). r.required) c.rule.view_is in
     let at = ap (λ xs. slice_get xs i) (sym list) ∙ slice_get_read c.deref-required-items.result.now _ i c.required-item.result refl c.loop-required-test.true c.required-item.is in (

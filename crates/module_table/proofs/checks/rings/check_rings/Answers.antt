@@ -10,14 +10,14 @@ use Rattle.module_table.proofs.Rings.{sorting_of, are_nodes}
 use Rattle.module_table.proofs.checks.rings.check_rings.Goals as goal
 
 pub new-graph-requires : goal.new-graph-requires
-new-graph-requires c =
+new-graph-requires g c =
     let t = c.args.modules.now in
     let required = rows c.args.required.now in
     let made = c.in_ok-needs.ensures ∙ ap (λ ps. map (filter_map (maker_at ps)) required) c.provided.ensures.provisions in
     subst NeedsAreNodes (sym made) (are_nodes t (provisions t) required (numbered t required c.names_differ.ensures c.requires))
 
 pub returns-in-Order-clause-ok : goal.returns-in-Order-clause-ok
-returns-in-Order-clause-ok c =
+returns-in-Order-clause-ok g c =
     let t = c.args.modules.now in
     let required = rows c.args.required.now in
     let made = c.in_ok-needs.ensures ∙ ap (λ ps. map (filter_map (maker_at ps)) required) c.provided.ensures.provisions in
@@ -25,7 +25,7 @@ returns-in-Order-clause-ok c =
     (subst (IsSortingOf (length t.objects) (DependsOn t)) c.in-Order.is sorted).0
 
 pub returns-clause-fault : goal.returns-clause-fault
-returns-clause-fault c = λ kept.
+returns-clause-fault g c = λ kept.
     let t = c.args.modules.now in
     let required = rows c.args.required.now in
     let made = c.in_ok-needs.ensures ∙ ap (λ ps. map (filter_map (maker_at ps)) required) c.provided.ensures.provisions in

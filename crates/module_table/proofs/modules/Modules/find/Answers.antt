@@ -8,7 +8,7 @@ use Rattle.module_table.proofs.Found.{named_found, absent_found}
 use Rattle.module_table.proofs.modules.Modules.find.Goals as goal
 
 pub returns-in-Some : goal.returns-in-Some
-returns-in-Some c =
+returns-in-Some g c =
     let t : TableValue = record { objects = c.self.inside.objects.now; infos = c.self.inside.infos.now } in
     let ps = provisions t in
     let k = c.in-Some.index in
@@ -19,7 +19,7 @@ returns-in-Some c =
     (sym (named_found ps c.args.name.now c.self.invariant.3 k _ (at, named_so)))
 
 pub returns-in-None : goal.returns-in-None
-returns-in-None c =
+returns-in-None g c =
     let t : TableValue = record { objects = c.self.inside.objects.now; infos = c.self.inside.infos.now } in
     subst (λ (u : TableValue). None ≡ found (provisions u) c.args.name.now) c.self.view_is
     (sym (absent_found (provisions t) c.args.name.now (subst (λ keys. IsAbsent keys c.args.name.now) c.self.invariant.2 c.in-None.ensures.none)))

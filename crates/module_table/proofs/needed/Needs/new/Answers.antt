@@ -2,10 +2,9 @@ use Rattle.std.proofs.Common.{◌≡◌, ◌∙◌, ◌+◌, ◌<◌, ◌^◌, a
 use Rattle.module_table.specs.TableValue.{TableValue}
 use Rattle.module_table.specs.Modules.{provisions}
 use Rattle.module_table.specs.Needed.{lent}
-use Rattle.module_table.specs.Sound.{IsSound}
 use Rattle.module_table.specs.inner.Origins.{origins_of}
 use Rattle.module_table.specs.inner.Graph.{IsModuleGraph}
-use Rattle.module_table.specs.inner.Ranks.{Numbered, AreNumbers, AreRanks, AreRanked}
+use Rattle.module_table.specs.inner.Ranks.{Numbered, AreNumbers, AreRanks}
 use Rattle.module_table.proofs.Zips.{zip_length}
 use Rattle.module_table.proofs.ModulePlaces.{IsPlaceOf, module_places}
 use Rattle.module_table.proofs.ByName.{are_numbers, are_ranked, lent_modules}
@@ -25,5 +24,4 @@ invariant_of-result c =
     let ranked = are_ranked (provisions t) modules c.in_ok-modules.ensures c.in_ok-ranks.ranks.items ranks (map lent c.in_ok-pairs.pairs.items) pairs in
     let long = zip_length (IsPlaceOf t) (provisions t) (origins_of t) (module_places t) in
     let bound : length (provisions t) + length t.objects < 2 ^ 64 = omega (arith, long, ap length c.requires.origins) in
-    subst (λ (s : TableValue). IsSound s × IsModuleGraph s c.in_ok-reaching.reaching × AreRanked (provisions s) c.in_ok-ranks.ranks.items (map lent c.in_ok-pairs.pairs.items) × (length (provisions s) + length s.objects < 2 ^ 64)) (sym c.requires.table)
     (c.requires.sound, subst (IsModuleGraph t) (sym c.in_ok-reaching.ensures) c.requires.graph, ranked, bound)

@@ -16,7 +16,7 @@ use Rattle.module_table.proofs.needed.Needs.of.Goals as goal
 
 pub from-requires : goal.from-requires
 from-requires c =
-    let t = c.self.inside.table.now in
+    let t : TableValue = record { objects = c.self.inside.objects.now; infos = c.self.inside.infos.now } in
     let within : c.args.object < length t.objects = subst (λ (t : TableValue). c.args.object < length t.objects) (sym c.self.view_is) c.requires in
     let node = node_within t c.self.inside.reaching c.self.invariant.1 c.args.object within in
     let long = zip_length (IsPlaceOf t) (provisions t) (origins_of t) (module_places t) in
@@ -24,7 +24,7 @@ from-requires c =
 
 pub pairs_at-requires : goal.pairs_at-requires
 pairs_at-requires c =
-    let t = c.self.inside.table.now in
+    let t : TableValue = record { objects = c.self.inside.objects.now; infos = c.self.inside.infos.now } in
     let ranks = c.self.inside.ranks.items in
     let nodes = c.in_ok-nodes.nodes.items in
     let within : c.args.object < length t.objects = subst (λ (t : TableValue). c.args.object < length t.objects) (sym c.self.view_is) c.requires in
@@ -39,7 +39,7 @@ pairs_at-requires c =
 
 pub returns-clause-pairs : goal.returns-clause-pairs
 returns-clause-pairs c =
-    let t = c.self.inside.table.now in
+    let t : TableValue = record { objects = c.self.inside.objects.now; infos = c.self.inside.infos.now } in
     let ranks = c.self.inside.ranks.items in
     let nodes = c.in_ok-nodes.nodes.items in
     let within : c.args.object < length t.objects = subst (λ (t : TableValue). c.args.object < length t.objects) (sym c.self.view_is) c.requires in

@@ -9,13 +9,13 @@ use Rattle.module_table.proofs.ModulePlaces.{within_places, found_there, provide
 use Rattle.module_table.proofs.table.Table.lookup.Goals as goal
 
 pub index-origin-requires : goal.index-origin-requires
-index-origin-requires c =
+index-origin-requires g c =
     let t : TableValue = record { objects = c.self.inside.objects.items; infos = c.self.inside.infos.items } in
     let within = within_places t c.self.inside.names.keys c.self.inside.origins.items c.self.invariant.2 c.self.invariant.3 c.in-Some.index c.args.name.now c.in-Some.ensures.found in
     omega (arith, c.self.inside.origins.ok.0)
 
 pub named_at-requires : goal.named_at-requires
-named_at-requires c =
+named_at-requires g c =
     let t : TableValue = record { objects = c.self.inside.objects.items; infos = c.self.inside.infos.items } in
     let names = c.self.inside.names.keys in
     let origins = c.self.inside.origins.items in
@@ -28,7 +28,7 @@ named_at-requires c =
     (name, found.0, same_place t.objects c.deref.result.now t.infos c.deref-in-Some.result.now origin (name, found.0) (sym c.deref.ensures.value) (sym c.deref-in-Some.ensures.value) found.1)
 
 pub returns-in-Some-clause-found : goal.returns-in-Some-clause-found
-returns-in-Some-clause-found c =
+returns-in-Some-clause-found g c =
     let t : TableValue = record { objects = c.self.inside.objects.items; infos = c.self.inside.infos.items } in
     let names = c.self.inside.names.keys in
     let origins = c.self.inside.origins.items in
@@ -43,7 +43,7 @@ returns-in-Some-clause-found c =
     (provided_there t names origins c.self.invariant.2 c.self.invariant.3 index name c.in-Some.ensures.found origin here pair named)
 
 pub returns-in-None-clause-none : goal.returns-in-None-clause-none
-returns-in-None-clause-none c =
+returns-in-None-clause-none g c =
     let t : TableValue = record { objects = c.self.inside.objects.items; infos = c.self.inside.infos.items } in
     subst (λ (s : TableValue). IsUnknown s c.args.name.now) c.self.view_is
     (absent_unknown t c.args.name.now (subst (λ names. IsAbsent names c.args.name.now) c.self.invariant.2 c.in-None.ensures.none))

@@ -1,4 +1,5 @@
 use Rattle.std.proofs.Common.{◌∙◌, ap, sym, subst}
+use Rattle.std.proofs.lemmas.Result.{IfOk-weaker}
 use Rattle.module_table.specs.TableValue.{TableValue}
 use Rattle.module_table.specs.Sound.{IsSound}
 use Rattle.module_table.specs.inner.Origins.{origins_of}
@@ -6,14 +7,15 @@ use Rattle.module_table.specs.inner.Graph.{IsModuleGraph}
 use Rattle.module_table.proofs.IndexRows.{same_table}
 use Rattle.module_table.proofs.table.Table.needs.Goals as goal
 
-pub new-requires-clause-table : goal.new-requires-clause-table
-new-requires-clause-table c = sym (same_table _ _ _ _ c.deref.ensures.value c.deref-2.ensures.value ∙ c.self.view_is)
-
 pub new-requires-clause-sound : goal.new-requires-clause-sound
-new-requires-clause-sound c = subst IsSound (sym (same_table _ _ _ _ c.deref.ensures.value c.deref-2.ensures.value)) c.self.invariant.0
+new-requires-clause-sound g c = subst IsSound (sym (same_table _ _ _ _ c.deref.ensures.value c.deref-2.ensures.value)) c.self.invariant.0
 
 pub new-requires-clause-graph : goal.new-requires-clause-graph
-new-requires-clause-graph c = subst (λ (t : TableValue). IsModuleGraph t c.self.inside.graph) (sym (same_table _ _ _ _ c.deref.ensures.value c.deref-2.ensures.value)) c.self.invariant.4
+new-requires-clause-graph g c = subst (λ (t : TableValue). IsModuleGraph t c.self.inside.graph) (sym (same_table _ _ _ _ c.deref.ensures.value c.deref-2.ensures.value)) c.self.invariant.4
 
 pub new-requires-clause-origins : goal.new-requires-clause-origins
-new-requires-clause-origins c = c.deref-3.ensures.value ∙ c.self.invariant.3 ∙ ap origins_of (sym (same_table _ _ _ _ c.deref.ensures.value c.deref-2.ensures.value))
+new-requires-clause-origins g c = c.deref-3.ensures.value ∙ c.self.invariant.3 ∙ ap origins_of (sym (same_table _ _ _ _ c.deref.ensures.value c.deref-2.ensures.value))
+
+pub returns : goal.returns
+returns g c =
+    IfOk-weaker c.new.result _ _ (λ needs same. same ∙ same_table _ _ _ _ c.deref.ensures.value c.deref-2.ensures.value ∙ c.self.view_is) c.new.ensures

@@ -8,10 +8,10 @@ use Rattle.module_table.specs.inner.Graph.{IsModuleGraph}
 use Rattle.module_table.specs.inner.Views.{names_of}
 use Rattle.module_table.proofs.IndexRows.{same_table}
 use Rattle.module_table.proofs.Faultless.{faultless_is_sound}
-use Rattle.module_table.proofs.table.Table.build.Goals as goal
+use Rattle.module_table.proofs.table.Table.build_with_hasher.Goals as goal
 
 pub invariant_of-result : goal.invariant_of-result
-invariant_of-result c =
+invariant_of-result g c =
     let t : TableValue = record { objects = c.args.objects.items; infos = c.args.infos.items } in
     let same = same_table _ _ _ _ c.as_slice.ensures.value c.as_slice-2.ensures.value in
     let index = c.in_ok-index.index in
@@ -25,17 +25,17 @@ invariant_of-result c =
     )
 
 pub returns-clause-sound : goal.returns-clause-sound
-returns-clause-sound c =
+returns-clause-sound g c =
     let t : TableValue = record { objects = c.args.objects.items; infos = c.args.infos.items } in
     let same = same_table _ _ _ _ c.as_slice.ensures.value c.as_slice-2.ensures.value in
     (faultless_is_sound t c.args.kept.now (omega (arith, c.args.objects.ok.0, c.args.objects.ok.1, c.args.objects.small)) (subst (λ u. HasNoFault u c.args.kept.now) same c.in_ok-index.ensures.no_fault)).0
 
 pub returns-clause-kept : goal.returns-clause-kept
-returns-clause-kept c =
+returns-clause-kept g c =
     let t : TableValue = record { objects = c.args.objects.items; infos = c.args.infos.items } in
     let same = same_table _ _ _ _ c.as_slice.ensures.value c.as_slice-2.ensures.value in
     (faultless_is_sound t c.args.kept.now (omega (arith, c.args.objects.ok.0, c.args.objects.ok.1, c.args.objects.small)) (subst (λ u. HasNoFault u c.args.kept.now) same c.in_ok-index.ensures.no_fault)).1
 
 pub returns-clause-no_fault : goal.returns-clause-no_fault
-returns-clause-no_fault c =
+returns-clause-no_fault g c =
     subst (λ u. HasNoFault u c.args.kept.now) (same_table _ _ _ _ c.as_slice.ensures.value c.as_slice-2.ensures.value) c.in_ok-index.ensures.no_fault

@@ -1,0 +1,17 @@
+use Rattle.std.proofs.Common.{◌≡◌, ◌∙◌, ◌++◌, ap, map, sym, refl, slice_get}
+use Rattle.std.proofs.lemmas.Option.{slice_get_read}
+use Rattle.scan_docs.specs.Info.{InfoValue}
+use Rattle.module_table.specs.Modules.{provisions}
+use Rattle.module_table.specs.inner.Found.{looked_up, lookups_of}
+use Rattle.module_table.proofs.Refusals.{gathers_more}
+use Rattle.module_table.proofs.requirements.add_info.Goals as goal
+
+pub loop-entry-preserved : goal.loop-entry-preserved
+loop-entry-preserved g c =
+    let i = c.loop-entry.entry-index in
+    let modules = c.args.value.now.modules in
+    let entry = c.entry-item.result in
+    let list : c.deref-entry-items.result.now ≡ modules = c.deref-entry-items.ensures.value ∙ ap (λ (r : InfoValue). r.modules) c.value.view_is in
+    let at = ap (λ xs. slice_get xs i) (sym list) ∙ slice_get_read c.deref-entry-items.result.now _ i entry refl c.loop-entry-test.true c.entry-item.is in
+    gathers_more (lookups_of (provisions c.args.modules.now) c.args.info c.args.value.now.target) modules i entry _ _ _ at c.loop-entry.invariant
+    (c.in_ok-add_module.ensures ∙ ap (λ (v : InfoValue). map looked_up c.loop-entry.all.items ++ lookups_of (provisions c.args.modules.now) c.args.info v.target entry) c.value.view_is)

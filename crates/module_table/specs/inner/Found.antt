@@ -1,0 +1,26 @@
+-- What infos' modules require, with the modules of those names.
+use Rattle.std.specs.Prelude.{◌≡◌, ℕ, List, map}
+use Rattle.std.specs.Option.{option_map}
+use Rattle.scan_docs.specs.Info.{ModuleValue}
+use Rattle.module_table.specs.TableValue.{TableValue}
+use Rattle.module_table.specs.Modules.{Provision, provisions, InfoRequirement, info_requirements}
+use Rattle.module_table.specs.inner.Views.{provision_of, requirement_of}
+use Rattle.module_table.specs.inner.Finds.{found, LookedUp}
+use Rattle.module_table.specs.declared.requirements.InfoRequired.{InfoRequired}
+
+-- a requirement, and the module that it was found to be of
+abbrev pub looked_up : InfoRequired → LookedUp
+looked_up r = (requirement_of r, option_map (λ p. provision_of p.now) r.module)
+
+-- a requirement, and the module of that name
+abbrev pub with_module : List Provision → InfoRequirement → LookedUp
+with_module modules r = (r, found modules r.name)
+
+-- the requirements of a module of the info, with the modules of those names
+abbrev pub lookups_of : List Provision → ℕ → List ℕ → ModuleValue → List LookedUp
+lookups_of modules info target entry =
+    map (λ r. with_module modules (record { info = info; target = target; module_name = entry.name; name = r.0; file = r.1 })) entry.required
+
+-- all requirements of infos' modules, each with the module of that name
+abbrev pub AreLookedUp : TableValue → List InfoRequired → Type 0
+AreLookedUp t all = map looked_up all ≡ map (with_module (provisions t)) (info_requirements t)
