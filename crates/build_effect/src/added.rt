@@ -13,12 +13,13 @@ use crate::makers::maker_of;
 use indexmap::{IndexMap, IndexSet};
 use ninja_text::{Failure, Path};
 use std::alloc::{AllocError, Global};
+use std::hash::BuildHasher;
 
 /// E7: no added output is made by an edge of the graph, or added by an earlier statement or earlier
 /// in its own.
-pub(crate) fn check_added(
+pub(crate) fn check_added<S: BuildHasher + Copy>(
     alloc: Global,
-    makers: &IndexMap<&Path, usize>,
+    makers: &IndexMap<&Path, usize, S>,
     additions: &[Addition],
 ) -> Result<(), Failure<EffectFault>>
     ensures ok { OnOk result (AddsFresh (maker_in makers.now) additions.now) }
@@ -46,16 +47,16 @@ fn added_files<'t>(alloc: Global, additions: &'t [Addition]) -> Result<Vec<&'t P
 }
 
 /// The index of the first file that an edge makes or that stands earlier in the list, if there is
-/// one.
-fn first_made(
+/// one. The files are hashed as those of the makers are.
+fn first_made<S: BuildHasher + Copy>(
     alloc: Global,
-    makers: &IndexMap<&Path, usize>,
+    makers: &IndexMap<&Path, usize, S>,
     files: &[&Path],
 ) -> Result<Option<usize>, AllocError>
     ensures made { IfOk result (FindsMadeIn (maker_in makers.now) (lists files.now)) }
     ensures within { IfOk result (λ found. IfSome found (λ k. k < length files.now)) }
 {
-    let mut seen = IndexSet::new(alloc);
+    let mut seen = IndexSet::with_hasher(alloc, *makers.hasher());
     for (file_index, file) in files.iter().enumerate() {
         if maker_of(makers, *file).is_some() {
             return Ok(Some(file_index));

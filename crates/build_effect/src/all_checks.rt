@@ -14,6 +14,7 @@ use crate::statement_edges::{check_mentioned, edges_of_statements, statements_of
 use dyndep_file::Statement;
 use ninja_text::{Failure, Path};
 use std::alloc::Global;
+use std::hash::BuildHasher;
 
 /// Statements without a fault, with canonical paths, and the index of the statement on each edge.
 #[derive(Drop)]
@@ -23,11 +24,12 @@ pub(crate) struct Checked {
 }
 
 /// All checks, in the order in which their faults are reported: E8, E5, E4, E6, E7.
-pub(crate) fn checked_statements(
+pub(crate) fn checked_statements<S: BuildHasher + Copy>(
     alloc: Global,
     edges: &[Edge],
     name: &Path,
     statements: &[Statement],
+    hash_builder: S,
 ) -> Result<Checked, Failure<EffectFault>>
     requires { IsGraph edges.now }
     ensures checked { IfOk result (λ checked. AreChecked edges.now name.now statements.now
@@ -35,7 +37,7 @@ pub(crate) fn checked_statements(
     ensures fault { IfErr result (ForFault (IsEffectFault edges.now name.now statements.now)) }
 {
     let additions = canonical_statements(alloc, statements)?;
-    let makers = makers_of(alloc, edges)?;
+    let makers = makers_of(alloc, edges, hash_builder)?;
     let edge_of = edges_of_statements(alloc, edges, name, &makers, additions.as_slice())?;
     let statement_of = statements_of_edges(
         alloc,

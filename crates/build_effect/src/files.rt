@@ -9,6 +9,7 @@ use crate::edge::Edge;
 use indexmap::IndexSet;
 use ninja_text::Path;
 use std::alloc::{AllocError, Global};
+use std::hash::BuildHasher;
 
 /// The files that the edges make: edge after edge, in each its outputs before its implicit ones.
 pub(crate) fn made_files<'t>(alloc: Global, edges: &'t [Edge]) -> Result<Vec<&'t Path>, AllocError>
@@ -41,13 +42,14 @@ pub(crate) fn add_paths<'t>(paths: &'t [Path], files: &mut Vec<&'t Path>) -> Res
 
 /// The indices of the first file that stands in the list once more: where it stood, and where it
 /// stands again.
-pub(crate) fn first_repetition(
+pub(crate) fn first_repetition<S: BuildHasher + Copy>(
     alloc: Global,
     files: &[&Path],
+    hash_builder: S,
 ) -> Result<Option<(usize, usize)>, AllocError>
     ensures { IfOk result (FindsRepetition (lists files.now)) }
 {
-    let mut seen = IndexSet::new(alloc);
+    let mut seen = IndexSet::with_hasher(alloc, hash_builder);
     for (file_index, file) in files.iter().enumerate() {
         let (first, is_new) = seen.insert_full(*file)?;
         if !is_new {

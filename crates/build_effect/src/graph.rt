@@ -9,6 +9,7 @@ use crate::fault::GraphFault;
 use crate::graph_checks::{check_dyndeps, check_made};
 use ninja_text::Failure;
 use std::alloc::Global;
+use std::hash::{BuildHasher, BuildHasherDefault, FoldHasher};
 use std::marker::Model;
 
 /// Build edges, by index. Each has an explicit output, no file is made twice, and each edge that
@@ -39,12 +40,29 @@ impl Graph {
     /// `DyndepNotInput`: an edge names a dyndep file that is not among its inputs of any kind
     /// ("Dynamic dependencies"); the first such edge is reported. The edges are dropped then, and
     /// where memory is refused.
+    ///
+    /// Paths are hashed with a fixed seed, so whoever chooses them can make them collide, and the
+    /// work is quadratic then. Where strangers choose paths, call [`Graph::new_with_hasher`].
     pub fn new(alloc: Global, edges: Vec<Edge>) -> Result<Graph, Failure<GraphFault>>
         requires { All (λ e. e.outputs ≢ []) edges.items }
         ensures graph { IfOk result (λ graph. graph ≡ edges.items) }
         ensures fault { IfErr result (ForFault (IsGraphFault edges.items)) }
     {
-        check_made(alloc, edges.as_slice())?;
+        Graph::new_with_hasher(alloc, edges, BuildHasherDefault::<FoldHasher>::new())
+    }
+
+    /// What [`Graph::new`] answers, with paths hashed by `hash_builder`: a `RandomState` where
+    /// strangers choose the paths of the edges.
+    pub fn new_with_hasher<S: BuildHasher + Copy>(
+        alloc: Global,
+        edges: Vec<Edge>,
+        hash_builder: S,
+    ) -> Result<Graph, Failure<GraphFault>>
+        requires { All (λ e. e.outputs ≢ []) edges.items }
+        ensures graph { IfOk result (λ graph. graph ≡ edges.items) }
+        ensures fault { IfErr result (ForFault (IsGraphFault edges.items)) }
+    {
+        check_made(alloc, edges.as_slice(), hash_builder)?;
         check_dyndeps(alloc, edges.as_slice())?;
         Ok(Graph { edges })
     }

@@ -10,14 +10,19 @@ use crate::fault::GraphFault;
 use crate::files::{first_repetition, made_files};
 use ninja_text::{Failure, Path};
 use std::alloc::{AllocError, Global};
+use std::hash::BuildHasher;
 
 /// E1: no file is made twice.
-pub(crate) fn check_made(alloc: Global, edges: &[Edge]) -> Result<(), Failure<GraphFault>>
+pub(crate) fn check_made<S: BuildHasher + Copy>(
+    alloc: Global,
+    edges: &[Edge],
+    hash_builder: S,
+) -> Result<(), Failure<GraphFault>>
     ensures ok { OnOk result (MadeOnce edges.now) }
     ensures fault { IfErr result (ForFault (IsGraphFault edges.now)) }
 {
     let files = made_files(alloc, edges)?;
-    match first_repetition(alloc, files.as_slice())? {
+    match first_repetition(alloc, files.as_slice(), hash_builder)? {
         None => Ok(()),
         Some(indices) => {
             let path = files[indices.1].copy(alloc)?;

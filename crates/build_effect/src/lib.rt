@@ -36,6 +36,9 @@
 //! - Each file that an edge makes is put once into an `indexmap` table of its maker (`makers.rt`),
 //!   in which the edge of a statement, the maker of an input and a second maker of an added output
 //!   are found. So the work is linear in the files of the graph and of the statements.
+//! - The plain calls hash paths with a fixed seed. [`Graph::new_with_hasher`],
+//!   [`apply_with_hasher`], [`edge_order_with_hasher`] and [`ListingReader::finish_with_hasher`]
+//!   promise the same and take what builds the hashers, for paths that strangers choose.
 //! - The checks are functions of their own, made in the order of their faults (`all_checks.rt`):
 //!   `canonical_statements` (E8), `edges_of_statements` (E5), `statements_of_edges` (E4),
 //!   `check_mentioned` (E6), `check_added` (E7). `edges_of_statements` and `statements_of_edges`
@@ -72,7 +75,7 @@ mod needs;
 mod statement_edges;
 
 pub use edge::Edge;
-pub use effect::apply;
+pub use effect::{apply, apply_with_hasher};
 pub use fault::{EffectFault, GraphFault};
 pub use graph::Graph;
 pub use laws::{any_order, checks, files_order, level_orders, one_effect};
@@ -80,4 +83,4 @@ pub use listing_faults::{LineCause, LineFault, ListingFault};
 pub use listing_laws::{one_listing, written_listing};
 pub use listing_reader::ListingReader;
 pub use listing_writing::{ListingWriteFault, listing_write};
-pub use needs::edge_order;
+pub use needs::{edge_order, edge_order_with_hasher};

@@ -12,6 +12,7 @@ use crate::listing_rows::row_of;
 use crate::listing_state::{Binding, ListingState, take_row};
 use ninja_text::{CutFault, Failure, Line, LineReader, LineState};
 use std::alloc::Global;
+use std::hash::{BuildHasher, BuildHasherDefault, FoldHasher};
 use std::marker::Model;
 
 /// Reads an edge listing that comes in pieces: build lines with their bindings `dyndep` and
@@ -71,25 +72,46 @@ impl ListingReader {
     ///
     /// E3 `Truncated` where the last line has no end; else E1 or E2 where the edges listed are no
     /// graph. A reader that refused answers the same once more.
+    ///
+    /// Paths are hashed with a fixed seed, so whoever chooses them can make them collide, and the
+    /// work is quadratic then. Where strangers write the listing, call
+    /// [`ListingReader::finish_with_hasher`].
     pub fn finish(self) -> Result<Graph, Failure<ListingFault>>
+        ensures failed { (failure : Failure LineFault) → self.failed ≡ Some failure →
+            result ≡ Err (line_failure failure) }
+        ensures all { (bytes : List ℕ) → HasRead bytes self → Ends bytes result }
+    {
+        self.finish_with_hasher(BuildHasherDefault::<FoldHasher>::new())
+    }
+
+    /// What [`ListingReader::finish`] answers, with paths hashed by `hash_builder`: a `RandomState`
+    /// where strangers write the listing. Nothing is hashed before the end.
+    pub fn finish_with_hasher<S: BuildHasher + Copy>(
+        self,
+        hash_builder: S,
+    ) -> Result<Graph, Failure<ListingFault>>
         ensures failed { (failure : Failure LineFault) → self.failed ≡ Some failure →
             result ≡ Err (line_failure failure) }
         ensures all { (bytes : List ℕ) → HasRead bytes self → Ends bytes result }
     {
         let ListingReader { alloc, lines } = self;
         match lines.finish() {
-            Ok(end) => graph_of(alloc, end.0),
+            Ok(end) => graph_of(alloc, end.0, hash_builder),
             Err(failure) => Err(line_failure(failure)),
         }
     }
 }
 
 /// The graph of the edges listed, or why they are none.
-fn graph_of(alloc: Global, state: ListingState) -> Result<Graph, Failure<ListingFault>>
+fn graph_of<S: BuildHasher + Copy>(
+    alloc: Global,
+    state: ListingState,
+    hash_builder: S,
+) -> Result<Graph, Failure<ListingFault>>
     ensures { GivesGraph state.edges result }
 {
     let ListingState { edges, binding: _ } = state;
-    match Graph::new(alloc, edges) {
+    match Graph::new_with_hasher(alloc, edges, hash_builder) {
         Ok(graph) => Ok(graph),
         Err(failure) => Err(graph_failure(failure)),
     }

@@ -7,25 +7,27 @@ use crate::edge::Edge;
 use indexmap::IndexMap;
 use ninja_text::Path;
 use std::alloc::{AllocError, Global};
+use std::hash::BuildHasher;
 
 /// The table of the edge that makes each file.
-pub(crate) fn makers_of<'t>(
+pub(crate) fn makers_of<'t, S: BuildHasher + Copy>(
     alloc: Global,
     edges: &'t [Edge],
-) -> Result<IndexMap<&'t Path, usize>, AllocError>
+    hash_builder: S,
+) -> Result<IndexMap<&'t Path, usize, S>, AllocError>
     ensures { IfOk result (λ makers. AreMakers edges.now (maker_in makers)) }
 {
-    let mut makers = IndexMap::new(alloc);
+    let mut makers = IndexMap::with_hasher(alloc, hash_builder);
     for (edge_index, edge) in edges.iter().enumerate() {
         add_edge(edge, edge_index, &mut makers)?;
     }
     Ok(makers)
 }
 
-fn add_edge<'t>(
+fn add_edge<'t, S: BuildHasher>(
     edge: &'t Edge,
     edge_index: usize,
-    makers: &mut IndexMap<&'t Path, usize>,
+    makers: &mut IndexMap<&'t Path, usize, S>,
 ) -> Result<(), AllocError>
     ensures { OnOk result (AreAdded (made_by edge.now) edge_index (maker_in makers.old)
         (maker_in makers.new)) }
@@ -35,10 +37,10 @@ fn add_edge<'t>(
     Ok(())
 }
 
-fn add_files<'t>(
+fn add_files<'t, S: BuildHasher>(
     files: &'t [Path],
     edge_index: usize,
-    makers: &mut IndexMap<&'t Path, usize>,
+    makers: &mut IndexMap<&'t Path, usize, S>,
 ) -> Result<(), AllocError>
     ensures { OnOk result
         (AreAdded files.now edge_index (maker_in makers.old) (maker_in makers.new)) }
@@ -50,7 +52,10 @@ fn add_files<'t>(
 }
 
 /// The edge that makes the file, if one does.
-pub(crate) fn maker_of(makers: &IndexMap<&Path, usize>, file: &Path) -> Option<usize>
+pub(crate) fn maker_of<S: BuildHasher>(
+    makers: &IndexMap<&Path, usize, S>,
+    file: &Path,
+) -> Option<usize>
     ensures { result ≡ maker_in makers.now file.now }
 {
     makers.get(&file).copied()

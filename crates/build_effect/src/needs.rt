@@ -13,16 +13,32 @@ use dep_order::{Digraph, Sorting, order};
 use indexmap::IndexMap;
 use ninja_text::Path;
 use std::alloc::{AllocError, Global};
+use std::hash::{BuildHasher, BuildHasherDefault, FoldHasher};
 
 /// The edges, by index, in an order in which they can run: each stands after the makers of its
 /// inputs of all kinds, and of the edges that may come next the one with the smallest index does.
 /// Where there is no such order, the least cycle: each edge in it needs the next, and the last
 /// needs the first.
+///
+/// Paths are hashed with a fixed seed, so whoever chooses them can make them collide, and the
+/// work is quadratic then. Where strangers choose paths, call [`edge_order_with_hasher`].
 pub fn edge_order(alloc: Global, graph: &Graph) -> Result<Sorting, AllocError>
     ensures { IfOk result (IsSortingOf (length graph.now) (EdgeNeeds graph.now)) }
 {
+    edge_order_with_hasher(alloc, graph, BuildHasherDefault::<FoldHasher>::new())
+}
+
+/// What [`edge_order`] answers, with paths hashed by `hash_builder`: a `RandomState` where
+/// strangers choose the paths of the graph.
+pub fn edge_order_with_hasher<S: BuildHasher + Copy>(
+    alloc: Global,
+    graph: &Graph,
+    hash_builder: S,
+) -> Result<Sorting, AllocError>
+    ensures { IfOk result (IsSortingOf (length graph.now) (EdgeNeeds graph.now)) }
+{
     let edges = graph.edges();
-    let makers = makers_of(alloc, edges)?;
+    let makers = makers_of(alloc, edges, hash_builder)?;
     let needs = all_needs(alloc, edges, &makers)?;
     let digraph = Digraph::new(needs);
     let sorting = order(alloc, &digraph)?;
@@ -30,10 +46,10 @@ pub fn edge_order(alloc: Global, graph: &Graph) -> Result<Sorting, AllocError>
 }
 
 /// The makers of each edge's inputs.
-fn all_needs(
+fn all_needs<S: BuildHasher>(
     alloc: Global,
     edges: &[Edge],
-    makers: &IndexMap<&Path, usize>,
+    makers: &IndexMap<&Path, usize, S>,
 ) -> Result<Vec<Vec<usize>>, AllocError>
     ensures { IfOk result (λ needs.
         rows needs.items ≡ map (makers_row (maker_in makers.now)) edges.now) }
@@ -47,10 +63,10 @@ fn all_needs(
 }
 
 /// The makers of the edge's inputs.
-fn edge_needs(
+fn edge_needs<S: BuildHasher>(
     alloc: Global,
     edge: &Edge,
-    makers: &IndexMap<&Path, usize>,
+    makers: &IndexMap<&Path, usize, S>,
 ) -> Result<Vec<usize>, AllocError>
     ensures { IfOk result (λ row. row.items ≡ makers_row (maker_in makers.now) edge.now) }
 {
@@ -62,9 +78,9 @@ fn edge_needs(
 }
 
 /// Appends the makers of those files that an edge makes.
-fn add_makers(
+fn add_makers<S: BuildHasher>(
     files: &[Path],
-    makers: &IndexMap<&Path, usize>,
+    makers: &IndexMap<&Path, usize, S>,
     row: &mut Vec<usize>,
 ) -> Result<(), AllocError>
     ensures { OnOk result

@@ -13,15 +13,16 @@ use crate::makers::maker_of;
 use indexmap::IndexMap;
 use ninja_text::{Failure, Path};
 use std::alloc::Global;
+use std::hash::BuildHasher;
 
 /// E5: the edge of each statement, which makes its output and names the file.
 ///
 /// Only the maker of the output has to be looked at, since no file is made twice.
-pub(crate) fn edges_of_statements(
+pub(crate) fn edges_of_statements<S: BuildHasher>(
     alloc: Global,
     edges: &[Edge],
     name: &Path,
-    makers: &IndexMap<&Path, usize>,
+    makers: &IndexMap<&Path, usize, S>,
     additions: &[Addition],
 ) -> Result<Vec<usize>, Failure<EffectFault>>
     requires makers { AreMakers edges.now (maker_in makers.now) }
@@ -44,10 +45,10 @@ pub(crate) fn edges_of_statements(
 }
 
 /// The edge that makes the output and names the file, if one does.
-fn bound_edge(
+fn bound_edge<S: BuildHasher>(
     edges: &[Edge],
     name: &Path,
-    makers: &IndexMap<&Path, usize>,
+    makers: &IndexMap<&Path, usize, S>,
     output: &Path,
 ) -> Option<usize>
     requires makers { AreMakers edges.now (maker_in makers.now) }

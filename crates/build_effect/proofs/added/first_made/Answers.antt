@@ -13,7 +13,7 @@ abbrev text_of : Bor (List ℕ) → List ℕ
 text_of text = text.now
 
 pub returns-then-is_some-clause-made : goal.returns-then-is_some-clause-made
-returns-then-is_some-clause-made c = λ g are.
+returns-then-is_some-clause-made _ c = λ g are.
     let files = c.args.files.now in
     let i = c.loop-file_index.file_index in
     let maker = maker_in c.args.makers.now in
@@ -22,7 +22,7 @@ returns-then-is_some-clause-made c = λ g are.
     made_here g maker are (map text_of files) i c.loop-file_index.invariant.unmade (subst AllDiffer (map_take text_of i files) c.loop-file_index.invariant.differ) c.index-files-file_index.result.now some.0 at (sym c.maker_of.ensures ∙ some.1)
 
 pub returns-then-not-is_new-clause-made : goal.returns-then-not-is_new-clause-made
-returns-then-not-is_new-clause-made c = λ g are.
+returns-then-not-is_new-clause-made _ c = λ g are.
     let files = c.args.files.now in
     let i = c.loop-file_index.file_index in
     let h = c.in_ok-is_new.ensures in
@@ -32,7 +32,7 @@ returns-then-not-is_new-clause-made c = λ g are.
     repeated_here g (maker_in c.args.makers.now) are (map text_of files) i c.loop-file_index.invariant.unmade (subst AllDiffer (map_take text_of i files) c.loop-file_index.invariant.differ) repeated.0 repeated.1
 
 pub loop-file_index-preserved : goal.loop-file_index-preserved
-loop-file_index-preserved c =
+loop-file_index-preserved _ c =
     let files = c.args.files.now in
     let i = c.loop-file_index.file_index in
     let h = c.in_ok-is_new.ensures in
@@ -45,7 +45,7 @@ loop-file_index-preserved c =
     }
 
 pub returns-clause-made : goal.returns-clause-made
-returns-clause-made c = λ g are k file at before.
+returns-clause-made _ c = λ g are k file at before.
     let files = c.args.files.now in
     let i = c.loop-file_index.file_index in
     let within = slice_get_within (map text_of files) k file at in

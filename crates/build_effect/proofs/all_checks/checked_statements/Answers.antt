@@ -15,7 +15,7 @@ use Rattle.build_effect.proofs.Reports.{reports_bad_path, reports_unbound, repor
 use Rattle.build_effect.proofs.all_checks.checked_statements.Goals as goal
 
 pub returns-in_err-additions-clause-fault : goal.returns-in_err-additions-clause-fault
-returns-in_err-additions-clause-fault c =
+returns-in_err-additions-clause-fault _ c =
     let g : List EdgeValue = c.args.edges.now in
     let name : List ℕ = c.args.name.now in
     let ss : List StatementValue = c.args.statements.now in
@@ -23,7 +23,7 @@ returns-in_err-additions-clause-fault c =
     rw (p.1, p.2) (for_fault (IsBadStatement ss) (IsEffectFault g name ss) (λ fault h. reports_bad_path g name ss fault h) _ c.in_err-additions.ensures.fault)
 
 pub returns-in_err-edge_of-clause-fault : goal.returns-in_err-edge_of-clause-fault
-returns-in_err-edge_of-clause-fault c =
+returns-in_err-edge_of-clause-fault _ c =
     let g : List EdgeValue = c.args.edges.now in
     let name : List ℕ = c.args.name.now in
     let ss : List StatementValue = c.args.statements.now in
@@ -33,7 +33,7 @@ returns-in_err-edge_of-clause-fault c =
     rw (p.1, p.2) (for_fault (IsFirstUnbound g name c.as_slice.result.now) (IsEffectFault g name ss) (λ fault h. reports_unbound g name ss additions fault canonical (subst (λ xs. IsFirstUnbound g name xs fault) c.as_slice.ensures.value h)) _ c.in_err-edge_of.ensures.fault)
 
 pub statements_of_edges-requires-clause-edges : goal.statements_of_edges-requires-clause-edges
-statements_of_edges-requires-clause-edges c =
+statements_of_edges-requires-clause-edges _ c =
     let g : List EdgeValue = c.args.edges.now in
     let name : List ℕ = c.args.name.now in
     let ss : List StatementValue = c.args.statements.now in
@@ -44,7 +44,7 @@ statements_of_edges-requires-clause-edges c =
     subst (All (λ edge. edge < length g)) (sym c.as_slice-2.ensures.value) (edges_within g name ss additions edge_of c.requires.made_once canonical are)
 
 pub returns-in_err-statement_of-clause-fault : goal.returns-in_err-statement_of-clause-fault
-returns-in_err-statement_of-clause-fault c =
+returns-in_err-statement_of-clause-fault _ c =
     let g : List EdgeValue = c.args.edges.now in
     let name : List ℕ = c.args.name.now in
     let ss : List StatementValue = c.args.statements.now in
@@ -56,10 +56,10 @@ returns-in_err-statement_of-clause-fault c =
     rw (p.1, p.2) (for_fault (IsFirstRepeated c.as_slice-2.result.now c.as_slice-3.result.now) (IsEffectFault g name ss) (λ fault h. reports_repeated g name ss additions edge_of c.requires.made_once canonical are fault (subst (λ ps. IsFirstRepeated ps additions fault) c.as_slice-2.ensures.value (subst (λ xs. IsFirstRepeated c.as_slice-2.result.now xs fault) c.as_slice-3.ensures.value h))) _ c.in_err-statement_of.ensures.fault)
 
 pub check_mentioned-requires-clause-outputs : goal.check_mentioned-requires-clause-outputs
-check_mentioned-requires-clause-outputs c = have_outputs c.args.edges.now c.requires
+check_mentioned-requires-clause-outputs _ c = have_outputs c.args.edges.now c.requires
 
 pub returns-in_err-check_mentioned-clause-fault : goal.returns-in_err-check_mentioned-clause-fault
-returns-in_err-check_mentioned-clause-fault c =
+returns-in_err-check_mentioned-clause-fault _ c =
     let g : List EdgeValue = c.args.edges.now in
     let name : List ℕ = c.args.name.now in
     let ss : List StatementValue = c.args.statements.now in
@@ -73,7 +73,7 @@ returns-in_err-check_mentioned-clause-fault c =
     rw (p.1, p.2) (for_fault (IsFirstUnmentioned g name c.as_slice-4.result.now) (IsEffectFault g name ss) (λ fault h. reports_unmentioned g name ss additions edge_of c.requires.made_once canonical are statement_of are_on fault (subst (λ o. IsFirstUnmentioned g name o fault) c.as_slice-4.ensures.value h)) _ c.in_err-check_mentioned.ensures.fault)
 
 pub returns-in_err-check_added-clause-fault : goal.returns-in_err-check_added-clause-fault
-returns-in_err-check_added-clause-fault c =
+returns-in_err-check_added-clause-fault _ c =
     let g : List EdgeValue = c.args.edges.now in
     let name : List ℕ = c.args.name.now in
     let ss : List StatementValue = c.args.statements.now in
@@ -88,7 +88,7 @@ returns-in_err-check_added-clause-fault c =
     rw (p.1, p.2) (for_fault (λ (fault : EffectFault). (g : List EdgeValue) → AreMakers g (maker_in c.in_ok-makers.makers) → IsFirstMade g c.as_slice-5.result.now fault) (IsEffectFault g name ss) (λ fault h. reports_made g name ss additions edge_of c.requires.made_once canonical are statement_of are_on have fault (subst (λ xs. IsFirstMade g xs fault) c.as_slice-5.ensures.value (h g c.in_ok-makers.ensures))) _ c.in_err-check_added.ensures.fault)
 
 pub returns-clause-checked : goal.returns-clause-checked
-returns-clause-checked c =
+returns-clause-checked _ c =
     let g : List EdgeValue = c.args.edges.now in
     let name : List ℕ = c.args.name.now in
     let ss : List StatementValue = c.args.statements.now in

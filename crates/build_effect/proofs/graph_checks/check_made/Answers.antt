@@ -9,13 +9,13 @@ use Rattle.build_effect.proofs.MadeFiles.{made_once, first_of_repetition}
 use Rattle.build_effect.proofs.graph_checks.check_made.Goals as goal
 
 pub returns-in-None-clause-ok : goal.returns-in-None-clause-ok
-returns-in-None-clause-ok c =
+returns-in-None-clause-ok _ c =
     let files : map (λ (x : Bor (List ℕ)). x.now) c.as_slice.result.now ≡ made_files c.args.edges.now = ap (map (λ x. x.now)) c.as_slice.ensures.value ∙ c.in_ok-files.ensures in
     let found = subst (λ xs. FindsRepetition xs c.in_ok-first_repetition.field-0) files c.in_ok-first_repetition.ensures in
     made_once c.args.edges.now (subst (FindsRepetition (made_files c.args.edges.now)) c.in-None.is found)
 
 pub returns-clause-fault : goal.returns-clause-fault
-returns-clause-fault c =
+returns-clause-fault _ c =
     let g = c.args.edges.now in
     let texts : map (λ (x : Bor (List ℕ)). x.now) c.as_slice.result.now ≡ made_files g = ap (map (λ x. x.now)) c.as_slice.ensures.value ∙ c.in_ok-files.ensures in
     let found = subst (λ xs. FindsRepetition xs c.in_ok-first_repetition.field-0) texts c.in_ok-first_repetition.ensures in

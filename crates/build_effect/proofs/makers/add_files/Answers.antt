@@ -5,6 +5,6 @@ use Rattle.build_effect.proofs.MakerTables.{added_next}
 use Rattle.build_effect.proofs.makers.add_files.Goals as goal
 
 pub loop-file-preserved : goal.loop-file-preserved
-loop-file-preserved c =
+loop-file-preserved g c =
     added_next c.args.files.now c.loop-file.file-index c.file-item.result c.args.edge_index (maker_in c.args.makers.now) c.loop-file.makers c.insert.new.self
     (slice_get_read c.args.files.now _ c.loop-file.file-index c.file-item.result refl c.loop-file-test.true c.file-item.is) c.loop-file.invariant c.in_ok-insert.ensures.updates

@@ -5,7 +5,7 @@ use Rattle.build_effect.proofs.MakerTables.{makers_next}
 use Rattle.build_effect.proofs.makers.makers_of.Goals as goal
 
 pub loop-edge_index-preserved : goal.loop-edge_index-preserved
-loop-edge_index-preserved c =
+loop-edge_index-preserved g c =
     let edges = c.args.edges.now in
     let i = c.loop-edge_index.edge_index in
     let edge = c.index-edges-edge_index.result in

@@ -8,7 +8,7 @@ use Rattle.build_effect.proofs.needs.add_makers.Goals as goal
 use Rattle.build_effect.proofs.needs.add_makers.Goals.{in-Some+in_ok-push-in-Some, in-None}
 
 pub loop-file-preserved : goal.loop-file-preserved
-loop-file-preserved c =
+loop-file-preserved g c =
     let h = maker_in c.args.makers.now in
     let xs = c.args.files.now in
     let i = c.loop-file.file-index in

@@ -5,7 +5,7 @@ use Rattle.build_effect.proofs.Bindings.{unbound_maker, no_maker}
 use Rattle.build_effect.proofs.statement_edges.bound_edge.Goals as goal
 
 pub returns-else-names : goal.returns-else-names
-returns-else-names c =
+returns-else-names _ c =
     let g = c.args.edges.now in
     let maker = maker_in c.args.makers.now in
     let found = c.requires.makers.found c.args.output.now c.in-Some.edge (sym c.in-Some.ensures) in
@@ -14,5 +14,5 @@ returns-else-names c =
     (slice_get_read g _ c.in-Some.edge c.index-edges-edge.result refl within c.index-edges-edge.is) c.if-names.ensures
 
 pub returns-in-None : goal.returns-in-None
-returns-in-None c =
+returns-in-None _ c =
     no_maker c.args.edges.now (maker_in c.args.makers.now) c.args.name.now c.args.output.now c.requires.makers (sym c.in-None.ensures)

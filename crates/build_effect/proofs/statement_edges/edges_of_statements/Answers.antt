@@ -6,7 +6,7 @@ use Rattle.build_effect.proofs.Bindings.{more_edges, first_unbound}
 use Rattle.build_effect.proofs.statement_edges.edges_of_statements.Goals as goal
 
 pub returns-in-None-clause-fault : goal.returns-in-None-clause-fault
-returns-in-None-clause-fault c =
+returns-in-None-clause-fault g c =
     let i = c.loop-addition.addition-index in
     let a : StatementValue = c.addition-item.result in
     let same : c.addition.inside.output ≡ a.output = ap (λ (x : StatementValue). x.output) c.addition.view_is in
@@ -15,7 +15,7 @@ returns-in-None-clause-fault c =
     (subst (IsUnboundOutput c.args.edges.now c.args.name.now) same c.in-None.ensures) (c.in_ok-output-in-None.ensures ∙ same)
 
 pub loop-addition-preserved : goal.loop-addition-preserved
-loop-addition-preserved c =
+loop-addition-preserved g c =
     let i = c.loop-addition.addition-index in
     let a : StatementValue = c.addition-item.result in
     let same : c.addition.inside.output ≡ a.output = ap (λ (x : StatementValue). x.output) c.addition.view_is in

@@ -6,10 +6,10 @@ use Rattle.build_effect.specs.EdgeValue.{EdgeValue}
 use Rattle.build_effect.specs.Graphs.{inputs_of}
 use Rattle.build_effect.specs.inner.Makers.{maker_in, AreMakers}
 use Rattle.build_effect.proofs.EdgeSorting.{sorting_of, are_nodes}
-use Rattle.build_effect.proofs.needs.edge_order.Goals as goal
+use Rattle.build_effect.proofs.needs.edge_order_with_hasher.Goals as goal
 
 pub new-digraph-requires : goal.new-digraph-requires
-new-digraph-requires c =
+new-digraph-requires _ c =
     let g = c.args.graph.now in
     let maker = maker_in c.in_ok-makers.makers in
     let are : AreMakers g maker = subst (λ xs. AreMakers xs maker) c.edges-edges.ensures.edges c.in_ok-makers.ensures in
@@ -18,7 +18,7 @@ new-digraph-requires c =
     subst NeedsAreNodes (sym same) (are_nodes g maker c.edges-edges.ensures.graph.made_once are)
 
 pub returns : goal.returns
-returns c =
+returns _ c =
     let g = c.args.graph.now in
     let maker = maker_in c.in_ok-makers.makers in
     let are : AreMakers g maker = subst (λ xs. AreMakers xs maker) c.edges-edges.ensures.edges c.in_ok-makers.ensures in

@@ -9,10 +9,10 @@ use Rattle.build_effect.specs.inner.Extended.{AreExtended}
 use Rattle.build_effect.specs.declared.fault.EffectFault.{EffectFault}
 use Rattle.build_effect.proofs.Failures.{for_fault}
 use Rattle.build_effect.proofs.Extensions.{is_effect, is_graph}
-use Rattle.build_effect.proofs.effect.apply.Goals as goal
+use Rattle.build_effect.proofs.effect.apply_with_hasher.Goals as goal
 
 pub returns-in_err-checked-clause-fault : goal.returns-in_err-checked-clause-fault
-returns-in_err-checked-clause-fault c =
+returns-in_err-checked-clause-fault _ c =
     let g : List EdgeValue = c.args.graph.now in
     let name : List ℕ = c.args.name.now in
     let ss : List StatementValue = c.args.dyndep.now in
@@ -21,7 +21,7 @@ returns-in_err-checked-clause-fault c =
     rw (p.1, p.2) (for_fault (IsEffectFault c.edges-old.result.now name c.deref.result.now) (IsEffectFault g name ss) (λ fault h. (subst (λ xs. IsEffectFault g name xs fault) same (subst (λ es. IsEffectFault es name c.deref.result.now fault) c.edges-old.ensures.edges h))) _ c.in_err-checked.ensures.fault)
 
 pub returns-in_err-checked-clause-no_effect : goal.returns-in_err-checked-clause-no_effect
-returns-in_err-checked-clause-no_effect c =
+returns-in_err-checked-clause-no_effect _ c =
     let g : List EdgeValue = c.args.graph.now in
     let name : List ℕ = c.args.name.now in
     let ss : List StatementValue = c.args.dyndep.now in
@@ -32,7 +32,7 @@ returns-in_err-checked-clause-no_effect c =
     (λ fault h new effect. c.checks.ensures.exclude g name ss fault c.edges-old.ensures.graph.made_once (subst (λ xs. IsEffectFault g name xs fault) same (subst (λ es. IsEffectFault es name c.deref.result.now fault) c.edges-old.ensures.edges h)) new effect) _ c.in_err-checked.ensures.fault)
 
 pub invariant_of-result : goal.invariant_of-result
-invariant_of-result c =
+invariant_of-result _ c =
     let g : List EdgeValue = c.args.graph.now in
     let name : List ℕ = c.args.name.now in
     let ss : List StatementValue = c.args.dyndep.now in
@@ -47,7 +47,7 @@ invariant_of-result c =
     is_graph g name ss additions statement_of new checked are c.edges-old.ensures.graph c.checks.ensures.suffice
 
 pub returns-clause-effect : goal.returns-clause-effect
-returns-clause-effect c =
+returns-clause-effect _ c =
     let g : List EdgeValue = c.args.graph.now in
     let name : List ℕ = c.args.name.now in
     let ss : List StatementValue = c.args.dyndep.now in
