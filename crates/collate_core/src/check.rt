@@ -8,11 +8,12 @@ ghost use Rattle.collate_core.specs.Rehearsal.{HasEffect, LacksEffect, IsOrdered
 
 use crate::collated::Collated;
 use crate::fault::RehearseFault;
-use crate::rehearsal::rehearse;
-use build_effect::{EffectFault, Graph, edge_order, level_orders, one_effect};
+use crate::rehearsal::rehearse_with_hasher;
+use build_effect::{EffectFault, Graph, edge_order_with_hasher, level_orders, one_effect};
 use dep_order::Sorting;
 use ninja_text::{Failure, Path};
 use std::alloc::Global;
+use std::hash::{BuildHasher, BuildHasherDefault, FoldHasher};
 
 /// The order of the edges of the graph after the effect of the collated target's dyndep file, which
 /// has that name, or the least cycle; or why the file has no effect on the graph.
@@ -32,10 +33,29 @@ pub fn check_edges(
     ensures ordered { IfOk result (IsOrderedAt collated.now name.now graph.now) }
     ensures fault { IfErr result (ForFault (LacksEffect collated.now.dyndep name.now graph.now)) }
 {
+    let unkeyed: BuildHasherDefault<FoldHasher> = BuildHasherDefault::new();
+    check_edges_with_hasher(alloc, collated, name, graph, unkeyed)
+}
+
+/// The same, with tables that hash by `hash_builder`, as
+/// [`rehearse_with_hasher`](crate::rehearse_with_hasher) has them.
+pub fn check_edges_with_hasher<S: BuildHasher + Copy>(
+    alloc: Global,
+    collated: &Collated,
+    name: &Path,
+    graph: &Graph,
+    hash_builder: S,
+) -> Result<Sorting, Failure<EffectFault>>
+    ensures sorted { IfOk result (λ sorting.
+        (new : List EdgeValue) × HasEffect collated.now.dyndep name.now graph.now new
+        × IsSortingOf (length new) (EdgeNeeds new) sorting) }
+    ensures ordered { IfOk result (IsOrderedAt collated.now name.now graph.now) }
+    ensures fault { IfErr result (ForFault (LacksEffect collated.now.dyndep name.now graph.now)) }
+{
     one_effect();
     level_orders();
-    match rehearse(alloc, collated.dyndep(), name, graph, &[]) {
-        Ok(new) => match edge_order(alloc, &new) {
+    match rehearse_with_hasher(alloc, collated.dyndep(), name, graph, &[], hash_builder) {
+        Ok(new) => match edge_order_with_hasher(alloc, &new, hash_builder) {
             Ok(sorting) => Ok(sorting),
             Err(_) => Err(Failure::Memory),
         },

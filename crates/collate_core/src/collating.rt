@@ -12,13 +12,13 @@ use crate::info::info_text_of;
 use crate::laws::headline;
 use crate::map_style::MapStyle;
 use crate::object_maps::maps_of;
-use crate::statements::{statements_of, text_of};
+use crate::statements::text_of;
 use crate::table::table_of;
 use crate::target::Target;
 use module_table::{Table, added_files};
 use ninja_text::{Failure, Path};
 use std::alloc::{AllocError, Global};
-use std::mem;
+use std::hash::{BuildHasher, BuildHasherDefault, FoldHasher};
 
 /// Collates a target: its documents make a table, and the objects of the table make the dyndep
 /// file, the info and, with a style, a map for each object (P1689R5 for the scan documents, the
@@ -39,21 +39,36 @@ pub fn collate<M: MapStyle>(
     ensures refused { IfErr result (ForFault (IsRefusal target.now
         (option_map M.written (option_copied style.entry)))) }
 {
+    let unkeyed: BuildHasherDefault<FoldHasher> = BuildHasherDefault::new();
+    collate_with_hasher(alloc, target, style, unkeyed)
+}
+
+/// The same, with tables that hash by `hash_builder`: with a `RandomState` no one who chooses names
+/// of modules, files and targets can make them collide.
+pub fn collate_with_hasher<M: MapStyle, S: BuildHasher + Copy>(
+    alloc: Global,
+    target: &Target<'_>,
+    style: Option<&M>,
+    hash_builder: S,
+) -> Result<Collated, Failure<Refusal>>
+    ensures collated { IfOk result
+        (Collates target.now (option_map M.written (option_copied style.entry))) }
+    ensures headline { IfOk result (IsHeadline target.now) }
+    ensures refused { IfErr result (ForFault (IsRefusal target.now
+        (option_map M.written (option_copied style.entry)))) }
+{
     headline();
     added_files();
-    let table = table_of(alloc, target)?;
-    let statements = statements_of(alloc, &table)?;
-    let text = text_of(alloc, &statements)?;
-    // most memory is held while the maps and the info are made, and neither asks for these
-    mem::drop(statements);
+    let table = table_of(alloc, target, hash_builder)?;
+    let text = text_of(alloc, &table)?;
     let maps = maps_of(alloc, &table, style)?;
-    let info = info_text_of(alloc, target.name, target.kept, &table)?;
+    let info = info_text_of(alloc, target.name, target.kept, &table, hash_builder)?;
     let objects = objects_of(alloc, &table)?;
     Ok(Collated::new(text, info, objects, maps))
 }
 
 /// The objects of a table.
-fn objects_of(alloc: Global, table: &Table) -> Result<Vec<Path>, AllocError>
+fn objects_of<S: BuildHasher>(alloc: Global, table: &Table<S>) -> Result<Vec<Path>, AllocError>
     ensures { IfOk result (λ objects. objects.items ≡ map (λ rule. rule.object) table.now.objects) }
 {
     let mut objects = Vec::new(alloc);

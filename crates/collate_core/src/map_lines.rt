@@ -3,10 +3,9 @@
 ghost use Rattle.std.specs.Prelude.{◌≡◌, ◌<◌, ◌≤◌, ◌==◌, ◌++◌, List, ℕ, [], ◌∷◌, length, map, Some, None, IfOk, OnOk, IfSome, MatchOption, option_copied, position};
 ghost use Rattle.ninja_text.specs.Failure.{Gives};
 ghost use Rattle.std.specs.List.{sum_by};
-ghost use Rattle.dyndep_file.specs.WriteFaults.{capped};
 ghost use Rattle.collate_core.specs.Maps.{pairs_of};
 ghost use Rattle.collate_core.specs.MapLines.{LineForm, is_map_byte, is_fit, first_unfit, named, nameless, lines_of, cut, path_in, name_in, pair_in, read_lines};
-ghost use Rattle.collate_core.specs.inner.Lengths.{line_len};
+ghost use Rattle.collate_core.specs.inner.Lengths.{line_len, capped};
 
 use crate::module_map::{MapEntry, MapFault, ModuleMap};
 use ninja_text::{Failure, Path};

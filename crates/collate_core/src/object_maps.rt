@@ -15,11 +15,12 @@ use crate::pairs::{copy_lent, copy_pairs};
 use module_table::{Needs, Table};
 use ninja_text::Failure;
 use std::alloc::{AllocError, Global};
+use std::hash::BuildHasher;
 
 /// With a style, the text of each object's map, or the first that is refused; without one, none.
-pub(crate) fn maps_of<M: MapStyle>(
+pub(crate) fn maps_of<M: MapStyle, S: BuildHasher>(
     alloc: Global,
-    table: &Table,
+    table: &Table<S>,
     style: Option<&M>,
 ) -> Result<Vec<Vec<u8>>, Failure<Refusal>>
     ensures maps { IfOk result (λ maps.
@@ -35,9 +36,9 @@ pub(crate) fn maps_of<M: MapStyle>(
 }
 
 /// The text of each object's map, or the first that is refused.
-fn texts_of<M: MapStyle>(
+fn texts_of<M: MapStyle, S: BuildHasher>(
     alloc: Global,
-    table: &Table,
+    table: &Table<S>,
     style: &M,
 ) -> Result<Vec<Vec<u8>>, Failure<Refusal>>
     ensures maps { IfOk result (λ maps.
@@ -60,9 +61,9 @@ fn texts_of<M: MapStyle>(
 }
 
 /// The text of an object's map.
-fn text_of<M: MapStyle>(
+fn text_of<M: MapStyle, S: BuildHasher>(
     alloc: Global,
-    table: &Table,
+    table: &Table<S>,
     needs: &mut Needs<'_>,
     object: usize,
     style: &M,
@@ -82,9 +83,9 @@ fn text_of<M: MapStyle>(
 }
 
 /// The map of an object.
-fn map_of(
+fn map_of<S: BuildHasher>(
     alloc: Global,
-    table: &Table,
+    table: &Table<S>,
     needs: &mut Needs<'_>,
     object: usize,
 ) -> Result<ModuleMap, AllocError>

@@ -8,7 +8,7 @@ ghost use Rattle.collate_core.specs.ProjectNeeds.{MapsReadBack};
 ghost use Rattle.collate_core.specs.inner.Parts.{CollatesLinked};
 
 use crate::collated::Collated;
-use crate::collating::collate;
+use crate::collating::collate_with_hasher;
 use crate::fault::Refusal;
 use crate::laws::{project_maps, project_orders};
 use crate::map_style::MapStyle;
@@ -16,6 +16,7 @@ use crate::target::Target;
 use ninja_text::Failure;
 use scan_docs::{Name, Setting, TargetName};
 use std::alloc::{AllocError, Global};
+use std::hash::{BuildHasher, BuildHasherDefault, FoldHasher};
 use std::marker::Model;
 
 /// A target of a project, with its scan documents as bytes, which links earlier ones by index. It
@@ -83,11 +84,42 @@ pub fn project<M: MapStyle>(
         IsProjectRefusal (option_map M.written (option_copied style.entry))
         targets.now refused.0 refused.1)) }
 {
+    let unkeyed: BuildHasherDefault<FoldHasher> = BuildHasherDefault::new();
+    project_with_hasher(alloc, targets, style, unkeyed)
+}
+
+/// The same, with tables that hash by `hash_builder`, as
+/// [`collate_with_hasher`](crate::collate_with_hasher) has them.
+pub fn project_with_hasher<M: MapStyle, S: BuildHasher + Copy>(
+    alloc: Global,
+    targets: &[ProjectTarget<'_>],
+    style: Option<&M>,
+    hash_builder: S,
+) -> Result<ProjectOut, Failure<(usize, Refusal)>>
+    ensures collated { IfOk result (λ out.
+        IsProject (option_map M.written (option_copied style.entry))
+        targets.now out.targets.items) }
+    // the dyndep files may be applied in any order, and all orders end alike
+    ensures orders { IfOk result (λ out. AllOrders (project_tables targets.now out.targets.items)) }
+    // one numbering of all objects puts the maker of each required file below its user
+    ensures numbered { IfOk result (λ out.
+        IsProjectOrdered targets.now (project_tables targets.now out.targets.items)) }
+    // the style reads in each object's map what the object provides and needs in the project
+    ensures maps { IfOk result (λ out. IfSome (option_copied style.entry) (λ s.
+        MapsReadBack (M.entries s) targets.now
+        (project_tables targets.now out.targets.items) out.targets.items)) }
+    // the graph after all dyndep files can be ordered
+    ensures orderable { IfOk result
+        (λ out. EndIsOrderable (project_tables targets.now out.targets.items)) }
+    ensures refused { IfErr result (ForFault (λ refused.
+        IsProjectRefusal (option_map M.written (option_copied style.entry))
+        targets.now refused.0 refused.1)) }
+{
     project_orders();
     project_maps();
     let mut outs = Vec::with_capacity(alloc, targets.len())?;
     for (index, target) in targets.iter().enumerate() {
-        match collate_linked(alloc, target, &outs, style) {
+        match collate_linked(alloc, target, &outs, style, hash_builder) {
             Ok(out) => outs.push(out)?,
             Err(Failure::Memory) => return Err(Failure::Memory),
             Err(Failure::Fault(refusal)) => return Err(Failure::Fault((index, refusal))),
@@ -127,11 +159,12 @@ fn infos_of<'a>(
 
 /// Collates a target with the infos that the targets which it links wrote, all of which are to be
 /// among those given.
-fn collate_linked<M: MapStyle>(
+fn collate_linked<M: MapStyle, S: BuildHasher + Copy>(
     alloc: Global,
     target: &ProjectTarget<'_>,
     outs: &[Collated],
     style: Option<&M>,
+    hash_builder: S,
 ) -> Result<Collated, Failure<Refusal>>
     ensures collated { IfOk result (CollatesLinked
         (option_map M.written (option_copied style.entry)) outs.now target.now) }
@@ -150,5 +183,5 @@ fn collate_linked<M: MapStyle>(
         infos: &infos,
         kept: target.kept,
     };
-    collate(alloc, &with_infos, style)
+    collate_with_hasher(alloc, &with_infos, style, hash_builder)
 }

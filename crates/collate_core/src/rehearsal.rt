@@ -5,17 +5,18 @@ ghost use Rattle.dyndep_file.specs.Reading.{StandsFor};
 ghost use Rattle.collate_core.specs.Rehearsal.{HasEffect, IsReported, IsRehearseFault};
 
 use crate::fault::RehearseFault;
-use build_effect::{Graph, apply};
+use build_effect::{Graph, apply_with_hasher};
 use dyndep_file::{Dyndep, DyndepReader, ReadFault, laws};
 use ninja_text::{Failure, Path};
 use std::alloc::Global;
+use std::hash::{BuildHasher, BuildHasherDefault, FoldHasher};
 
 /// Feeds a text to the reader of dyndep files in pieces of these lengths, and applies what it reads
 /// to a graph as the dyndep file of that name (Ninja 1.11 manual, "Dynamic dependencies"). A length
 /// may be zero, one past the end means the rest, and what remains is the last piece.
 ///
 /// The answer is the same for all lengths: the reader's fault exactly where the text stands for no
-/// statements, else what [`apply`] answers for its statements.
+/// statements, else what [`apply`](build_effect::apply) answers for its statements.
 pub fn rehearse(
     alloc: Global,
     text: &[u8],
@@ -26,10 +27,27 @@ pub fn rehearse(
     ensures effect { IfOk result (HasEffect text.now name.now graph.now) }
     ensures fault { IfErr result (ForFault (IsRehearseFault text.now name.now graph.now)) }
 {
+    let unkeyed: BuildHasherDefault<FoldHasher> = BuildHasherDefault::new();
+    rehearse_with_hasher(alloc, text, name, graph, cuts, unkeyed)
+}
+
+/// The same, with tables that hash by `hash_builder`: with a `RandomState` no one who chooses paths
+/// can make them collide.
+pub fn rehearse_with_hasher<S: BuildHasher + Copy>(
+    alloc: Global,
+    text: &[u8],
+    name: &Path,
+    graph: &Graph,
+    cuts: &[usize],
+    hash_builder: S,
+) -> Result<Graph, Failure<RehearseFault>>
+    ensures effect { IfOk result (HasEffect text.now name.now graph.now) }
+    ensures fault { IfErr result (ForFault (IsRehearseFault text.now name.now graph.now)) }
+{
     laws::one_list();
     laws::list_or_fault();
     match read_pieces(alloc, text, cuts) {
-        Ok(dyndep) => match apply(alloc, graph, name, &dyndep) {
+        Ok(dyndep) => match apply_with_hasher(alloc, graph, name, &dyndep, hash_builder) {
             Ok(new) => Ok(new),
             Err(Failure::Memory) => Err(Failure::Memory),
             Err(Failure::Fault(fault)) => Err(Failure::Fault(RehearseFault::Effect { fault })),

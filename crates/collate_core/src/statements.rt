@@ -1,81 +1,109 @@
-//! The statements of a table's objects, and their text.
-ghost use Rattle.std.specs.Prelude.{◌≡◌, map, None, Ok, All, IfOk, OnOk, IfErr};
+//! The text of the statements of a table's objects.
+ghost use Rattle.std.specs.Prelude.{◌≡◌, ◌++◌, ◌∷◌, List, ℕ, [], Ok, All, IfOk, OnOk, IfErr};
 ghost use Rattle.ninja_text.specs.Failure.{ForFault};
-ghost use Rattle.dyndep_file.specs.WriteFaults.{write_fault, text_or_fault};
+ghost use Rattle.dyndep_file.specs.StatementValue.{StatementValue};
+ghost use Rattle.dyndep_file.specs.WriteFaults.{text_or_fault};
 ghost use Rattle.dyndep_file.specs.Reading.{StandsForOnly};
+ghost use Rattle.dyndep_file.specs.Texts.{IsTextOf};
 ghost use Rattle.collate_core.specs.Statements.{files_of, statement_of, statements_of};
-ghost use Rattle.collate_core.specs.inner.Parts.{IsSpelled, HasSpelled, IsWriteRefusal};
+ghost use Rattle.collate_core.specs.inner.Parts.{lent_files, IsSpelled, HasSpelled, IsWriteRefusal, IsLineRefusal};
 
 use crate::fault::Refusal;
-use dyndep_file::{Dyndep, Statement, WriteFault, laws};
+use dyndep_file::{DyndepText, LentStatement, WriteFault, laws};
 use module_table::Table;
 use ninja_text::{Failure, Path};
 use scan_docs::{Name, Rule};
 use std::alloc::{AllocError, Global};
+use std::hash::BuildHasher;
 
-/// One statement an object, in the order of the objects: its output is the object, its implicit
-/// outputs are the files of the modules that the object provides, in order of provision, and its
-/// implicit inputs the files of those that it requires, in order of first mention. `restat` is on
-/// exactly where it has implicit outputs.
-pub(crate) fn statements_of(alloc: Global, table: &Table) -> Result<Dyndep, AllocError>
-    ensures statements { IfOk result (λ dyndep. dyndep ≡ statements_of table.now) }
-    ensures spelled { IfOk result (All HasSpelled) }
+/// The text of one statement an object, in the order of the objects: its output is the object, its
+/// implicit outputs are the files of the modules that the object provides, in order of provision,
+/// and its implicit inputs the files of those that it requires, in order of first mention. `restat`
+/// is on exactly where it has implicit outputs. Or the first whose build line is too long.
+pub(crate) fn text_of<S: BuildHasher>(
+    alloc: Global,
+    table: &Table<S>,
+) -> Result<Vec<u8>, Failure<Refusal>>
+    ensures text { IfOk result (λ text. text_or_fault (statements_of table.now) ≡ Ok text.items) }
+    ensures meaning { IfOk result (λ text. StandsForOnly text.items (statements_of table.now)) }
+    ensures spelled { OnOk result (All HasSpelled (statements_of table.now)) }
+    ensures refused { IfErr result (ForFault (IsWriteRefusal (statements_of table.now))) }
 {
+    laws::first_fault();
+    let mut text = DyndepText::new(alloc)?;
+    let mut outputs = Vec::new(alloc);
+    let mut inputs = Vec::new(alloc);
     let objects = table.objects();
-    let mut statements = Vec::with_capacity(alloc, objects.len())?;
     for (index, rule) in objects.iter().enumerate() {
         let required = table.required(index);
-        let statement = statement_of(alloc, rule, required)?;
-        statements.push(statement)?;
+        add_object(&mut text, rule, required, &mut outputs, &mut inputs)?;
     }
-    Ok(Dyndep { statements })
+    Ok(text.finish())
 }
 
-/// The statement of an object that requires these modules.
-fn statement_of(
-    alloc: Global,
-    rule: &Rule,
-    required: &[(Name, Path)],
-) -> Result<Statement, AllocError>
-    ensures statement { IfOk result
-        (λ statement. statement ≡ statement_of (rule.now, required.now)) }
-    ensures spelled { IfOk result HasSpelled }
+/// Adds the statement of an object that requires these modules. Files are lent in these lists.
+fn add_object<'t>(
+    text: &mut DyndepText,
+    rule: &'t Rule,
+    required: &'t [(Name, Path)],
+    outputs: &mut Vec<&'t [u8]>,
+    inputs: &mut Vec<&'t [u8]>,
+) -> Result<(), Failure<Refusal>>
+    ensures added { OnOk result ((statements : List StatementValue) →
+        IsTextOf statements text.old →
+        IsTextOf (statements ++ statement_of (rule.now, required.now) ∷ []) text.new) }
+    ensures spelled { OnOk result (HasSpelled (statement_of (rule.now, required.now))) }
+    ensures refused { IfErr result (ForFault
+        (IsLineRefusal text.old.count (statement_of (rule.now, required.now)))) }
 {
-    let output = Vec::from_slice(alloc, rule.object.bytes())?;
-    let implicit_outputs = files_of(alloc, &rule.provided)?;
-    let implicit_inputs = files_of(alloc, required)?;
-    Ok(Statement {
-        output,
-        implicit_outputs,
-        implicit_inputs,
+    lend_files(&rule.provided, outputs)?;
+    lend_files(required, inputs)?;
+    add(text, &lent_statement(rule, outputs, inputs))
+}
+
+/// The statement of an object, with its implicit outputs and inputs as these lists lend them.
+fn lent_statement<'l>(
+    rule: &'l Rule,
+    outputs: &'l [&'l [u8]],
+    inputs: &'l [&'l [u8]],
+) -> LentStatement<'l>
+    requires outputs { lent_files outputs.now ≡ files_of rule.now.provided }
+    requires spelled { All IsSpelled (lent_files outputs.now)
+        × All IsSpelled (lent_files inputs.now) }
+    ensures statement { (required : List (List ℕ × List ℕ)) →
+        lent_files inputs.now ≡ files_of required → result ≡ statement_of (rule.now, required) }
+    ensures spelled { HasSpelled result }
+{
+    LentStatement {
+        output: rule.object.bytes(),
+        implicit_outputs: outputs,
+        implicit_inputs: inputs,
         restat: !rule.provided.is_empty(),
-    })
-}
-
-/// The files of modules.
-fn files_of(alloc: Global, modules: &[(Name, Path)]) -> Result<Vec<Vec<u8>>, AllocError>
-    ensures files { IfOk result
-        (λ files. map (λ file. file.items) files.items ≡ files_of modules.now) }
-    ensures spelled { IfOk result (λ files. All IsSpelled (map (λ file. file.items) files.items)) }
-{
-    let mut files = Vec::with_capacity(alloc, modules.len())?;
-    for module in modules {
-        files.push(Vec::from_slice(alloc, module.1.bytes())?)?;
     }
-    Ok(files)
 }
 
-/// The text of the statements, or the first whose build line is too long.
-pub(crate) fn text_of(alloc: Global, dyndep: &Dyndep) -> Result<Vec<u8>, Failure<Refusal>>
-    requires { All HasSpelled dyndep.now }
-    ensures text { IfOk result (λ text. text_or_fault dyndep.now ≡ Ok text.items) }
-    ensures meaning { IfOk result (λ text. StandsForOnly text.items dyndep.now) }
-    ensures fits { OnOk result (write_fault dyndep.now ≡ None) }
-    ensures refused { IfErr result (ForFault (IsWriteRefusal dyndep.now)) }
+/// Lends the files of modules, in the place of what was lent before.
+fn lend_files<'m>(modules: &'m [(Name, Path)], files: &mut Vec<&'m [u8]>) -> Result<(), AllocError>
+    ensures files { OnOk result (lent_files files.new.items ≡ files_of modules.now) }
+    ensures spelled { OnOk result (All IsSpelled (lent_files files.new.items)) }
+{
+    files.clear();
+    for module in modules {
+        files.push(module.1.bytes())?;
+    }
+    Ok(())
+}
+
+/// Adds a statement to the text. Its paths have spellings, so only its build line can be refused.
+fn add(text: &mut DyndepText, statement: &LentStatement<'_>) -> Result<(), Failure<Refusal>>
+    requires { HasSpelled statement.now }
+    ensures added { OnOk result ((statements : List StatementValue) →
+        IsTextOf statements text.old → IsTextOf (statements ++ statement.now ∷ []) text.new) }
+    ensures refused { IfErr result (ForFault (IsLineRefusal text.old.count statement.now)) }
 {
     laws::long_lines();
-    match dyndep.to_text(alloc) {
-        Ok(text) => Ok(text),
+    match text.add(statement) {
+        Ok(()) => Ok(()),
         Err(Failure::Memory) => Err(Failure::Memory),
         Err(Failure::Fault(fault)) => match fault {
             WriteFault::StatementTooLong { statement } => {

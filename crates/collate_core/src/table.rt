@@ -22,12 +22,17 @@ use module_table::Table;
 use ninja_text::Failure;
 use scan_docs::{DocFault, Info, Place, Rule, Setting, info_read, scan};
 use std::alloc::Global;
+use std::hash::BuildHasher;
 
 /// The most rules of a target.
 pub const RULE_LIMIT: usize = 65536;
 
 /// The table of the target's documents, or the fault of the first that is faulty, or of the table.
-pub(crate) fn table_of(alloc: Global, target: &Target<'_>) -> Result<Table, Failure<Refusal>>
+pub(crate) fn table_of<S: BuildHasher + Copy>(
+    alloc: Global,
+    target: &Target<'_>,
+    hash_builder: S,
+) -> Result<Table<S>, Failure<Refusal>>
     ensures documents { OnOk result (AreAccepted target.now) }
     ensures table { IfOk result (λ table. table ≡ table_of target.now) }
     ensures no_fault { IfOk result
@@ -41,7 +46,7 @@ pub(crate) fn table_of(alloc: Global, target: &Target<'_>) -> Result<Table, Fail
 {
     let objects = rules_of_all(alloc, target.setting, target.scans)?;
     let infos = infos_of_all(alloc, target.infos)?;
-    match Table::build(alloc, objects, infos, target.kept) {
+    match Table::build_with_hasher(alloc, objects, infos, target.kept, hash_builder) {
         Ok(table) => Ok(table),
         Err(Failure::Memory) => Err(Failure::Memory),
         Err(Failure::Fault(fault)) => Err(Failure::Fault(Refusal::Table { fault })),

@@ -1,9 +1,10 @@
 -- What the parts of collating promise one another: definitions for private clauses.
-use Rattle.std.specs.Prelude.{◌≡◌, ℕ, List, length, Option, Some, All}
+use Rattle.std.specs.Prelude.{◌≡◌, ℕ, List, length, map, Option, Some, All}
+use Rattle.std.specs.Borrow.{Bor}
 use Rattle.ninja_text.specs.Paths.{IsPath}
 use Rattle.ninja_text.specs.Escapes.{IsWritable}
 use Rattle.dyndep_file.specs.StatementValue.{StatementValue}
-use Rattle.dyndep_file.specs.WriteFaults.{write_fault, paths_of}
+use Rattle.dyndep_file.specs.WriteFaults.{write_fault, statement_fault, paths_of}
 use Rattle.dyndep_file.specs.declared.writing.WriteFault.TheVariants as write
 use Rattle.scan_docs.specs.Scan.{IsRuleText}
 use Rattle.scan_docs.specs.InfoText.{IsInfoText}
@@ -21,6 +22,10 @@ use Rattle.collate_core.specs.declared.fault.Refusal.TheVariants.{Scan, Info, St
 pub record IsTableText (t : TableValue) : Type 0 where
   pub objects : All IsRuleText t.objects
   pub infos : All IsInfoText t.infos
+
+-- the files that are lent
+abbrev pub lent_files : List (Bor (List ℕ)) → List (List ℕ)
+lent_files files = map (λ file. file.now) files
 
 -- a canonical path, and so one that has a spelling
 pub record IsSpelled (path : List ℕ) : Type 0 where
@@ -46,6 +51,12 @@ abbrev pub IsWriteRefusal : List StatementValue → Refusal → Type 0
 IsWriteRefusal statements (StatementTooLong k) =
     write_fault statements ≡ Some (write.StatementTooLong k)
 IsWriteRefusal statements refusal = ⊥
+
+-- the refusal is of the build line of the statement at this index
+abbrev pub IsLineRefusal : ℕ → StatementValue → Refusal → Type 0
+IsLineRefusal index s (StatementTooLong k) =
+    statement_fault index s ≡ Some (write.StatementTooLong k)
+IsLineRefusal index s refusal = ⊥
 
 -- the refusal is of the objects' maps
 abbrev pub IsMapsRefusal : TableValue → Option Written → Refusal → Type 0

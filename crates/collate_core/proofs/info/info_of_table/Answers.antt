@@ -7,7 +7,7 @@ use Rattle.collate_core.proofs.Tasks.{more_modules}
 use Rattle.collate_core.proofs.info.info_of_table.Goals as goal
 
 pub loop-index-preserved : goal.loop-index-preserved
-loop-index-preserved c =
+loop-index-preserved g c =
     let t : TableValue = c.args.table.now in
     let index : ℕ = c.loop-index.index in
     let rule : RuleValue = c.index-objects-index.result in

@@ -6,7 +6,7 @@ use Rattle.collate_core.proofs.PrivateNames.{one_more_name}
 use Rattle.collate_core.proofs.info.set_of.Goals as goal
 
 pub loop-name-preserved : goal.loop-name-preserved
-loop-name-preserved c = λ name.
+loop-name-preserved g c = λ name.
     let names : List (List ℕ) = c.args.names.now in
     let i : ℕ = c.loop-name.name-index in
     let here : slice_get names i ≡ Some c.name-item.result = slice_get_read names _ i _ refl c.loop-name-test.true c.name-item.is in

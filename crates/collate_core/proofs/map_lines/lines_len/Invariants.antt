@@ -1,7 +1,6 @@
 use Rattle.std.proofs.Common.{◌≡◌, take}
 use Rattle.std.specs.List.{sum_by}
-use Rattle.dyndep_file.specs.WriteFaults.{capped}
-use Rattle.collate_core.specs.inner.Lengths.{line_len}
+use Rattle.collate_core.specs.inner.Lengths.{line_len, capped}
 use Rattle.collate_core.proofs.map_lines.lines_len.Given as goal
 
 -- the lines so far

@@ -1,19 +1,46 @@
-use Rattle.std.proofs.Common.{◌≡◌, Err, sym, ◌∙◌}
-use Rattle.dyndep_file.specs.WriteFaults.{text_or_fault}
-use Rattle.dyndep_file.specs.declared.writing.WriteFault.TheVariants.{Unwritable, StatementTooLong, Io}
-use Rattle.collate_core.proofs.Writing.{all_writable, is_fault}
+use Rattle.std.proofs.Common.{◌≡◌, ℕ, ◌+◌, List, [], ◌∷◌, ◌++◌, map, take, drop, Some, refl, ap, subst, sym, ◌∙◌, append_assoc, All}
+use Rattle.std.specs.Prelude.{slice_get}
+use Rattle.std.proofs.lemmas.Option.{slice_get_read}
+use Rattle.std.proofs.lemmas.List.{map-append, take-append-drop}
+use Rattle.std.proofs.lemmas.List.Elements.{All-push}
+use Rattle.std.proofs.lemmas.Result.{err_from_is_err_and}
+use Rattle.dyndep_file.specs.StatementValue.{StatementValue}
+use Rattle.dyndep_file.specs.Texts.{IsTextOf}
+use Rattle.scan_docs.specs.Scan.{RuleValue}
+use Rattle.module_table.specs.TableValue.{TableValue}
+use Rattle.module_table.specs.Added.{tasks_of}
+use Rattle.collate_core.specs.Statements.{statement_of, statements_of}
+use Rattle.collate_core.specs.inner.Parts.{HasSpelled}
+use Rattle.collate_core.proofs.Tasks.{one_more}
+use Rattle.collate_core.proofs.Writing.{line_refused}
 use Rattle.collate_core.proofs.statements.text_of.Goals as goal
 
-pub unreachable-requires : goal.unreachable-requires
-unreachable-requires c =
-    let meaning : text_or_fault c.args.dyndep.now ≡ Err c.in-Err-Fault.fault = rw c.in-Err-Fault.field-0-is at c.in-Err-Fault.ensures.text in
-    let long = c.long_lines.ensures c.args.dyndep.now c.in-Err-Fault.fault (all_writable c.args.dyndep.now c.requires) (is_fault c.args.dyndep.now c.in-Err-Fault.fault meaning) in
-    let both : Unwritable c.in-Unwritable.statement c.in-Unwritable.path ≡ StatementTooLong long.0 = sym c.in-Unwritable.is ∙ long.1 in
-    cc
+pub loop-index-preserved : goal.loop-index-preserved
+loop-index-preserved g c =
+    let t : TableValue = c.args.table.now in
+    let index : ℕ = c.loop-index.index in
+    let rule : RuleValue = c.index-objects-index.result in
+    let here : slice_get t.objects index ≡ Some rule = rw (← c.objects-objects.ensures.objects) (slice_get_read _ _ _ _ refl c.loop-index-test.true c.index-objects-index.is) in
+    let s : StatementValue = statement_of (rule, c.required-required.result.now) in
+    let next : map statement_of (take index (tasks_of t)) ++ s ∷ [] ≡ map statement_of (take (index + 1) (tasks_of t)) =
+    one_more t index rule c.required-required.result.now s (map statement_of (take index (tasks_of t))) here (c.required-required.ensures rule here) refl refl in
+    record {
+      text = subst (λ xs. IsTextOf xs c.add_object.new.text) next (c.in_ok-add_object.ensures.added (map statement_of (take index (tasks_of t))) c.loop-index.invariant.text);
+      spelled = subst (All HasSpelled) next (All-push HasSpelled (map statement_of (take index (tasks_of t))) s c.loop-index.invariant.spelled c.in_ok-add_object.ensures.spelled);
+    }
 
-pub unreachable-requires-in-Io : goal.unreachable-requires-in-Io
-unreachable-requires-in-Io c =
-    let meaning : text_or_fault c.args.dyndep.now ≡ Err c.in-Err-Fault.fault = rw c.in-Err-Fault.field-0-is at c.in-Err-Fault.ensures.text in
-    let long = c.long_lines.ensures c.args.dyndep.now c.in-Err-Fault.fault (all_writable c.args.dyndep.now c.requires) (is_fault c.args.dyndep.now c.in-Err-Fault.fault meaning) in
-    let both : Io c.in-Io.written ≡ StatementTooLong long.0 = sym c.in-Io.is ∙ long.1 in
-    cc
+pub returns-in_err-add_object-clause-refused : goal.returns-in_err-add_object-clause-refused
+returns-in_err-add_object-clause-refused g c =
+    let p = err_from_is_err_and c.from_residual-in_err-add_object.result c.from_residual-in_err-add_object.ensures.1 in
+    let t : TableValue = c.args.table.now in
+    let index : ℕ = c.loop-index.index in
+    let rule : RuleValue = c.index-objects-index.result in
+    let here : slice_get t.objects index ≡ Some rule = rw (← c.objects-objects.ensures.objects) (slice_get_read _ _ _ _ refl c.loop-index-test.true c.index-objects-index.is) in
+    let s : StatementValue = statement_of (rule, c.required-required.result.now) in
+    let before : List StatementValue = map statement_of (take index (tasks_of t)) in
+    let after : List StatementValue = map statement_of (drop (index + 1) (tasks_of t)) in
+    let next : before ++ s ∷ [] ≡ map statement_of (take (index + 1) (tasks_of t)) =
+    one_more t index rule c.required-required.result.now s before here (c.required-required.ensures rule here) refl refl in
+    let all : before ++ s ∷ after ≡ statements_of t =
+    sym (append_assoc before (s ∷ []) after) ∙ ap (λ xs. xs ++ after) next ∙ sym (map-append statement_of (take (index + 1) (tasks_of t)) (drop (index + 1) (tasks_of t))) ∙ ap (map statement_of) (take-append-drop (index + 1) (tasks_of t)) in
+    rw (p.1, p.2, ← all) (line_refused c.first_fault.ensures before s after c.loop-index.text.count _ c.loop-index.invariant.text.unfaulted c.loop-index.invariant.text.count c.in_err-add_object.ensures.refused)

@@ -11,28 +11,28 @@ use Rattle.build_effect.specs.Effect.{Effect, Gives}
 use Rattle.collate_core.specs.Rehearsal.{IsOrder, IsRehearseFault}
 use Rattle.collate_core.specs.ProjectOrders.{dyndep_file}
 use Rattle.collate_core.proofs.HeadlineLemmas.{are_canonical}
-use Rattle.collate_core.proofs.check.check_edges.Goals as goal
+use Rattle.collate_core.proofs.check.check_edges_with_hasher.Goals as goal
 
 -- of needs that are orderable a sorting is an order
 ordered : (count : ℕ) (Needs : ℕ → ℕ → Type 0) → IsOrderable count Needs → (sorting : Sorting) → IsSortingOf count Needs sorting → IsOrder sorting
 ordered count Needs orderable (Order order) h = tt
 ordered count Needs orderable (Cycle cycle) h = absurd (h.0 orderable)
 
-pub returns-in-Ok-edge_order-clause-ordered : goal.returns-in-Ok-edge_order-clause-ordered
-returns-in-Ok-edge_order-clause-ordered c = λ statements text meets level.
-    let g : List EdgeValue = c.args.graph.now in
+pub returns-in-Ok-edge_order_with_hasher-clause-ordered : goal.returns-in-Ok-edge_order_with_hasher-clause-ordered
+returns-in-Ok-edge_order_with_hasher-clause-ordered g c = λ statements text meets level.
+    let old : List EdgeValue = c.args.graph.now in
     let new : List EdgeValue = c.in-Ok.new in
     let found = c.in-Ok.ensures.effect in
     let here : StandsFor c.args.collated.now.dyndep found.0 = rw (← c.dyndep.ensures.bytes) found.1.stands in
     let same : found.0 ≡ statements = text.dyndep.only found.0 here in
-    let effect : Effect g c.args.name.now statements new = subst (λ xs. Effect g c.args.name.now xs new) same found.2.effect in
-    let gives : Gives g c.args.name.now statements new = c.one_effect.ensures.gives g new c.args.name.now statements statements (are_canonical statements text.canonical) effect in
+    let effect : Effect old c.args.name.now statements new = subst (λ xs. Effect old c.args.name.now xs new) same found.2.effect in
+    let gives : Gives old c.args.name.now statements new = c.one_effect.ensures.gives old new c.args.name.now statements statements (are_canonical statements text.canonical) effect in
     let orderable : IsOrderable (length new) (EdgeNeeds new) =
-    c.level_orders.ensures (dyndep_file c.args.name.now statements) g level.outputs new level.ranks meets gives level.has_outputs level.level text.orderable in
-    ordered (length new) (EdgeNeeds new) orderable c.in-Ok-edge_order.sorting c.in-Ok-edge_order.ensures
+    c.level_orders.ensures (dyndep_file c.args.name.now statements) old level.outputs new level.ranks meets gives level.has_outputs level.level text.orderable in
+    ordered (length new) (EdgeNeeds new) orderable c.in-Ok-edge_order_with_hasher.sorting c.in-Ok-edge_order_with_hasher.ensures
 
 pub unreachable-requires : goal.unreachable-requires
-unreachable-requires c =
+unreachable-requires g c =
     let text : List ℕ = c.dyndep.result.now in
     let fault = subst (ForFault (IsRehearseFault text c.args.name.now c.args.graph.now)) c.in-Err-Fault.field-0-is c.in-Err-Fault.ensures.fault in
     let unread = subst (IsRehearseFault text c.args.name.now c.args.graph.now) c.in-Read.is (subst (IsRehearseFault text c.args.name.now c.args.graph.now) (sym c.in-Err-Fault.fault-is) fault) in

@@ -10,7 +10,7 @@ use Rattle.collate_core.specs.Projects.{IsProject, IsLinkedRefusal}
 use Rattle.collate_core.specs.inner.Parts.{CollatesLinked}
 use Rattle.collate_core.proofs.Lists.{take_next}
 use Rattle.collate_core.proofs.LoopLemmas.{project_push, maps_of_style, refused_here}
-use Rattle.collate_core.proofs.projects.project.Goals as goal
+use Rattle.collate_core.proofs.projects.project_with_hasher.Goals as goal
 
 pub returns-in-Err-Fault-clause-refused : goal.returns-in-Err-Fault-clause-refused
 returns-in-Err-Fault-clause-refused g c =

@@ -1,0 +1,12 @@
+use Rattle.std.proofs.Common.{◌≡◌, take, All}
+use Rattle.collate_core.specs.Statements.{files_of}
+use Rattle.collate_core.specs.inner.Parts.{lent_files, IsSpelled}
+use Rattle.collate_core.proofs.statements.lend_files.Given as goal
+
+-- the files of the modules so far
+abbrev pub invariant-loop-module : goal.invariant-loop-module
+invariant-loop-module l =
+    record {
+      files : lent_files l.files.items ≡ files_of (take l.module-index l.modules);
+      spelled : All IsSpelled (lent_files l.files.items);
+    }
