@@ -1,11 +1,12 @@
-# What the scripts measure.sh share: common.sh is sourced by them, behind a line that sets here to their directory. It
-# builds plain, which does what dyncollate does and proves nothing, and rounds, which measures both; and it proves and
-# builds the program where it is not up to date. Where DYNCOLLATE names a program, that is measured in its place.
-# plain needs RapidJSON, Debian's package rapidjson-dev.
+# What the scripts measure.sh share: common.sh is sourced by them, behind a line that sets here to
+# their directory. It builds plain, which does what dyncollate does and proves nothing, rounds, which
+# measures both, and collide, which finds names that a hash table takes long for; and it proves and
+# builds the program where it is not up to date. Where DYNCOLLATE names a program, that is measured in
+# its place. plain needs RapidJSON, Debian's package rapidjson-dev.
 top=$(cd "$here/../.." && pwd)
 tools=${TMPDIR:-/tmp}/dyncollate-bench/tools
 mkdir -p "$tools"
-for source in plain/plain rounds; do
+for source in plain/plain rounds collide; do
     g++ -O2 -std=c++20 -o "$tools/$(basename "$source")" "$top/bench/$source.cpp"
 done
 # the documents and what is written stand in memory where they can, since disks differ more than programs do
@@ -17,6 +18,12 @@ if [ -z "$program" ]; then
     program=$top/crates/dyncollate/out/dyncollate
 fi
 program=$(realpath "$program")
+
+# generate SCRIPT NAME=VALUE..: runs an awk script of bench/ with names.awk and these variables.
+generate() {
+    local values=("${@:2}")
+    awk "${values[@]/#/-v}" -f "$top/bench/names.awk" -f "$top/bench/$1"
+}
 
 # clear DIR..: the directories program and plain, in which both run, have these directories and nothing else.
 clear() {
@@ -36,9 +43,10 @@ compare() {
     echo "$1" "$2" "$3" $(cat "$work/measured")
 }
 
-# alone LABEL COUNT BYTES ROUNDS DIR PROGRAM WORDS..: the same of another program, which runs in the directory DIR.
+# alone LABEL COUNT BYTES ROUNDS STATUS DIR PROGRAM WORDS..: the same of one program, which runs in
+# the directory DIR.
 alone() {
-    "$tools/rounds" "$4" 0 "$5" "$6" -- "${@:7}" > "$work/measured"
+    "$tools/rounds" "$4" "$5" "$6" "$7" -- "${@:8}" > "$work/measured"
     echo "$1" "$2" "$3" $(cat "$work/measured")
 }
 

@@ -1,7 +1,11 @@
-# Names of sources and modules for the documents that are measured, and numbers drawn from a sequence.
+# Names of sources and modules for the documents that are measured, and numbers drawn from a
+# sequence. Where names is set, it is a file whose lines are the names of modules.
 BEGIN {
     split("core data net view", directories, " ")
     state = 1
+    while (names != "" && (getline line < names) > 0) {
+        given[given_count++] = line
+    }
 }
 
 function directory(number) {
@@ -9,7 +13,7 @@ function directory(number) {
 }
 
 function name(number) {
-    return directory(number) ".m" number
+    return names == "" ? directory(number) ".m" number : given[number]
 }
 
 function path(root, number, ending) {
@@ -41,6 +45,41 @@ function document_begin() {
 
 function document_end() {
     return "],\"version\":1}"
+}
+
+# Texts of a list, from 0 up to the count.
+function texts(before, count, ending,    number, text) {
+    for (number = 0; number < count; number++) {
+        text = text (number == 0 ? "" : ",") "\"" before number ending "\""
+    }
+    return text
+}
+
+function info_name(info, module) {
+    return "lib" info ".m" module
+}
+
+function info_file(info, module) {
+    return "lib" info "/m" module ".gcm"
+}
+
+function info_pair(info, module) {
+    return "\"bmi\":\"" info_file(info, module) "\",\"name\":\"" info_name(info, module) "\""
+}
+
+# Writes an info of so many modules, in chains of five, in the directory d.
+function write_info(info, count,    file, module) {
+    file = d "/lib" info ".json"
+    printf "{\"modules\":[" > file
+    for (module = 0; module < count; module++) {
+        printf "%s{%s,\"requires\":[", module == 0 ? "" : ",", info_pair(info, module) > file
+        if (module % 5 > 0) {
+            printf "{%s}", info_pair(info, module - 1) > file
+        }
+        printf "],\"visibility\":\"public\"}" > file
+    }
+    printf "],\"target\":\"lib%d\",\"version\":2}", info > file
+    close(file)
 }
 
 # A target document, but for the texts of its scans and of the infos that it links.

@@ -4,34 +4,7 @@
 # (all.ddi), ten infos, target documents for the map forms none, gcc and clang of both (each.none.json, all.none.json,
 # ..), and, for cmake, what it reads in place of the target document and of the infos. A target is collated in a
 # directory beside DIR.
-function info_name(info, module) {
-    return "lib" info ".m" module
-}
-
-function info_file(info, module) {
-    return "lib" info "/m" module ".gcm"
-}
-
-function info_pair(info, module) {
-    return "\"bmi\":\"" info_file(info, module) "\",\"name\":\"" info_name(info, module) "\""
-}
-
-# The infos have 100 modules each, in chains of five.
-function write_info(info,    file, module) {
-    file = d "/lib" info ".json"
-    printf "{\"modules\":[" > file
-    for (module = 0; module < 100; module++) {
-        printf "%s{%s,\"requires\":[", module == 0 ? "" : ",", info_pair(info, module) > file
-        if (module % 5 > 0) {
-            printf "{%s}", info_pair(info, module - 1) > file
-        }
-        printf "],\"visibility\":\"public\"}" > file
-    }
-    printf "],\"target\":\"lib%d\",\"version\":2}", info > file
-    close(file)
-}
-
-# The same for cmake: the files of modules, and all that each one needs.
+# What cmake reads in place of an info: the files of modules, and all that each one needs.
 function write_references(info,    file, module, needed, first) {
     file = d "/lib" info "/CXXModules.json"
     printf "{\"modules\":{" > file
@@ -90,14 +63,6 @@ function write_scans(    number, all, file, text) {
     close(all)
 }
 
-# The texts of a list, below the directory, from 0 up to the count.
-function texts(before, count, ending,    number, text) {
-    for (number = 0; number < count; number++) {
-        text = text (number == 0 ? "" : ",") "\"" before number ending "\""
-    }
-    return text
-}
-
 function write_targets(map,    linked) {
     linked = texts("../documents/lib", 10, ".json")
     printf "%s", target_document("t", "mod", texts("../documents/", objects, ".ddi"), linked, "t.dd", "t.json", map) \
@@ -124,7 +89,7 @@ function write_dyndep_info(    file, number) {
 BEGIN {
     write_scans()
     for (info = 0; info < 10; info++) {
-        write_info(info)
+        write_info(info, 100)
         write_references(info)
     }
     write_targets("none")

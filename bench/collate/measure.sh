@@ -33,7 +33,7 @@ measure_cmake() {
     mkdir -p "$directory"
     (cd "$directory" && mkdir -p "${folders[@]}")
     # shellcheck disable=SC2046
-    alone cmake.gcc "$1" "$2" "$3" "$directory" "$(command -v cmake)" -E cmake_ninja_dyndep \
+    alone cmake.gcc "$1" "$2" "$3" 0 "$directory" "$(command -v cmake)" -E cmake_ninja_dyndep \
         --tdi=../documents/DyndepInfo.json --lang=CXX --modmapfmt=gcc --dd=t.dd \
         $(seq -f '../documents/%.0f.ddi' 0 $(($1 - 1)))
     cmp <(what_it_says "$directory/t.dd") <(what_it_says "$work/program/t.dd") >&2
@@ -54,7 +54,7 @@ measure_size() {
     local objects=$1 rounds=$2 files='[0-9]+.ddi|each.none.json|lib[0-9].json'
     rm -rf "$documents"
     mkdir -p "$documents"/lib{0..9}
-    awk -v objects="$objects" -v d="$documents" -f "$top/bench/names.awk" -f "$here/documents.awk"
+    generate collate/documents.awk objects="$objects" d="$documents"
     measure_form each "$objects" "$rounds" "$files"
     if command -v cmake > /dev/null; then
         measure_cmake "$objects" "$(size_of "$files")" "$(((rounds + 3) / 4))" >> "$work/measured.cmake"
@@ -67,7 +67,7 @@ measure_chain() {
     for shape in chain ring; do
         rm -rf "$documents"
         mkdir -p "$documents"
-        awk -v objects=$objects -v d="$documents" -v ring="$status" -f "$top/bench/names.awk" -f "$here/chain.awk"
+        generate collate/chain.awk objects=$objects d="$documents" ring="$status"
         clear
         compare $shape $objects "$(size_of "$shape.*")" "$rounds" "$status" collate ../documents/$shape.json \
             >> "$work/measured.$shape"

@@ -19,7 +19,7 @@ size_of() {
 
 measure_size() {
     local edges=$1 rounds=$2
-    awk -v edges="$edges" -v d="$work" -f "$top/bench/names.awk" -f "$here/listing.awk"
+    generate effect/listing.awk edges="$edges" d="$work"
     clear
     compare effect "$edges" "$(size_of "$work/listing" "$work/listing.dd")" "$rounds" 0 \
         effect t.dd ../listing ../listing.dd >> "$work/measured.effect"
@@ -31,7 +31,7 @@ measure_size() {
 measure_chain() {
     local edges=65536 rounds=$1 status=0 shape
     for shape in chain ring; do
-        awk -v edges=$edges -v ring=$status -f "$top/bench/names.awk" -f "$here/chain.awk" > "$work/$shape"
+        generate effect/chain.awk edges=$edges ring=$status > "$work/$shape"
         clear
         compare $shape $edges "$(size_of "$work/$shape")" "$rounds" $status order ../$shape \
             >> "$work/measured.$shape"

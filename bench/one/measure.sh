@@ -11,7 +11,7 @@ required=${1:-4}
 for size in '1000 100' '10000 40' '60000 20'; do
     read -r rules rounds <<< "$size"
     document=$work/$rules.ddi
-    awk -v rules="$rules" -v required="$required" -f "$top/bench/names.awk" -f "$here/document.awk" > "$document"
+    generate one/document.awk rules="$rules" required="$required" > "$document"
     clear
     compare one "$rules" "$(stat -c %s "$document")" "$rounds" 0 one "$document" mod .bmi
 done | table rules

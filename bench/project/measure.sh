@@ -14,8 +14,7 @@ for map in none clang gcc; do
     for targets in 10 100 1000; do
         rm -rf "$documents"
         mkdir -p "$documents"
-        awk -v targets=$targets -v objects="$objects" -v map=$map -v d="$documents" -f "$top/bench/names.awk" \
-            -f "$here/documents.awk"
+        generate project/documents.awk targets=$targets objects="$objects" map=$map d="$documents"
         clear obj/core obj/data obj/net obj/view
         bytes=$(find "$documents" -type f -printf '%s\n' | awk '{ sum += $1 } END { print sum }')
         compare $map.$targets "$objects" "$bytes" 5 0 project ../documents/project.json
