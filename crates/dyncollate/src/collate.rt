@@ -13,10 +13,13 @@ use crate::edges::{EdgesFault, edges_check, edges_text};
 use crate::reading::{Files, read_each, read_named};
 use crate::refusal::refusal_text;
 use crate::target_document::TargetDocument;
-use collate_core::{Clang, Collated, CollatedParts, Gcc, Refusal, Target, collate, one_outcome};
+use collate_core::{
+    Clang, Collated, CollatedParts, Gcc, Refusal, Target, collate_with_hasher, one_outcome,
+};
 use ninja_text::{Failure, Path};
 use scan_docs::{DocFault, MapForm, TargetSpec};
 use std::alloc::{AllocError, Global};
+use std::hash::RandomState;
 
 /// Runs `collate TARGETFILE` on the bytes of the target document, and on files by name. Of a name
 /// that is there twice the first file counts, and one that is not there counts as a file that can't
@@ -25,13 +28,14 @@ use std::alloc::{AllocError, Global};
 /// have an order after the effect of that dyndep file.
 pub fn collate_run(
     alloc: Global,
+    keys: RandomState,
     spec: &[u8],
     files: &[(String, Vec<u8>)],
 ) -> Result<Answer, AllocError>
     ensures { IfOk result (AnswersCollate spec.now (first_of (map file_value files.now))) }
 {
     match TargetDocument::read(alloc, spec) {
-        Ok(document) => document_run(alloc, &document, &Files::of(alloc, files)?),
+        Ok(document) => document_run(alloc, keys, &document, &Files::of(alloc, keys, files)?),
         Err(Failure::Memory) => Err(AllocError),
         Err(Failure::Fault(fault)) => spec_refused(alloc, &fault),
     }
@@ -48,13 +52,16 @@ fn spec_refused(alloc: Global, fault: &DocFault) -> Result<Answer, AllocError>
 /// The answer to an accepted target document.
 fn document_run(
     alloc: Global,
+    keys: RandomState,
     document: &TargetDocument,
     files: &Files,
 ) -> Result<Answer, AllocError>
     ensures { IfOk result (AnswersSpec (first_of files.now) document.now) }
 {
     match documents_of(alloc, document.spec(), files) {
-        Ok((scans, infos, listing)) => documents_run(alloc, document, &scans, &infos, listing),
+        Ok((scans, infos, listing)) => documents_run(
+            alloc, keys, document, &scans, &infos, listing,
+        ),
         Err(Failure::Memory) => Err(AllocError),
         Err(Failure::Fault(name)) => Answer::unread(alloc, name),
     }
@@ -87,6 +94,7 @@ fn documents_of<'s, 'f>(
 /// The answer to a target document whose files were read.
 fn documents_run(
     alloc: Global,
+    keys: RandomState,
     document: &TargetDocument,
     scans: &[&[u8]],
     infos: &[&[u8]],
@@ -108,12 +116,13 @@ fn documents_run(
         infos,
         kept: &spec.kept,
     };
-    target_run(alloc, &target, document, listing)
+    target_run(alloc, keys, &target, document, listing)
 }
 
 /// The answer to the target of a target document.
 fn target_run(
     alloc: Global,
+    keys: RandomState,
     target: &Target<'_>,
     document: &TargetDocument,
     listing: Option<&[u8]>,
@@ -121,8 +130,8 @@ fn target_run(
     ensures { IfOk result (AnswersTargetOf document.now (option_copied listing.entry) target.now) }
 {
     one_outcome();
-    match collate_in(alloc, target, document.spec().map) {
-        Ok(collated) => collated_run(alloc, collated, document, listing),
+    match collate_in(alloc, keys, target, document.spec().map) {
+        Ok(collated) => collated_run(alloc, keys, collated, document, listing),
         Err(Failure::Memory) => Err(AllocError),
         Err(Failure::Fault(refusal)) => {
             let message = refusal_text(alloc, target, &refusal)?;
@@ -135,6 +144,7 @@ fn target_run(
 /// collated target's dyndep file, which has that name.
 pub fn edges_pass(
     alloc: Global,
+    keys: RandomState,
     listing: Option<&[u8]>,
     name: &Path,
     collated: &Collated,
@@ -145,7 +155,7 @@ pub fn edges_pass(
         (FailsEdges (option_copied listing.entry) name.now collated.now.dyndep)) }
 {
     match listing {
-        Some(text) => edges_check(alloc, text, name, collated),
+        Some(text) => edges_check(alloc, keys, text, name, collated),
         None => Ok(()),
     }
 }
@@ -154,6 +164,7 @@ pub fn edges_pass(
 /// there is one.
 fn collated_run(
     alloc: Global,
+    keys: RandomState,
     collated: Collated,
     document: &TargetDocument,
     listing: Option<&[u8]>,
@@ -162,7 +173,7 @@ fn collated_run(
     ensures { IfOk result (AnswersEdges (option_copied listing.entry) (dyndep_path document.now)
         collated.dyndep (files_of document.now collated)) }
 {
-    match edges_pass(alloc, listing, document.path(), &collated) {
+    match edges_pass(alloc, keys, listing, document.path(), &collated) {
         Ok(()) => {
             let files = files_of(alloc, collated, document.spec())?;
             Ok(Answer::writes(alloc, files))
@@ -178,6 +189,7 @@ fn collated_run(
 /// Collates a target, with maps of this form, if one is given.
 fn collate_in(
     alloc: Global,
+    keys: RandomState,
     target: &Target<'_>,
     form: Option<MapForm>,
 ) -> Result<Collated, Failure<Refusal>>
@@ -185,9 +197,9 @@ fn collate_in(
     ensures refused { IfErr result (ForFault (IsRefusal target.now (style_of form))) }
 {
     match form {
-        None => collate(alloc, target, None::<&Gcc>),
-        Some(MapForm::Gcc) => collate(alloc, target, Some(&Gcc)),
-        Some(MapForm::Clang) => collate(alloc, target, Some(&Clang)),
+        None => collate_with_hasher(alloc, target, None::<&Gcc>, keys),
+        Some(MapForm::Gcc) => collate_with_hasher(alloc, target, Some(&Gcc), keys),
+        Some(MapForm::Clang) => collate_with_hasher(alloc, target, Some(&Clang), keys),
     }
 }
 

@@ -8,10 +8,11 @@ ghost use Rattle.dyncollate.specs.inner.EdgeChecks.{AreFaultyAfter};
 use crate::edge_fault::{cycle_text, effect_text, listing_fault_text};
 use crate::listing::listing_read;
 use build_effect::{EffectFault, Graph, ListingFault};
-use collate_core::{Collated, check_edges};
+use collate_core::{Collated, check_edges_with_hasher};
 use dep_order::Sorting;
 use ninja_text::{Failure, Path};
 use std::alloc::{AllocError, Global};
+use std::hash::RandomState;
 
 /// What is wrong with the edges that a target document names.
 #[derive(Drop)]
@@ -28,6 +29,7 @@ pub enum EdgesFault {
 /// dyndep file, which has that name.
 pub fn edges_check(
     alloc: Global,
+    keys: RandomState,
     text: &[u8],
     name: &Path,
     collated: &Collated,
@@ -35,8 +37,8 @@ pub fn edges_check(
     ensures ordered { OnOk result (ListsOrdered text.now name.now collated.now.dyndep) }
     ensures faulty { IfErr result (ForFault (IsEdgesFault text.now name.now collated.now.dyndep)) }
 {
-    match listing_read(alloc, text) {
-        Ok(graph) => graph_check(alloc, graph, name, collated),
+    match listing_read(alloc, keys, text) {
+        Ok(graph) => graph_check(alloc, keys, graph, name, collated),
         Err(Failure::Memory) => Err(Failure::Memory),
         Err(Failure::Fault(fault)) => Err(Failure::Fault(EdgesFault::Listing(fault))),
     }
@@ -46,6 +48,7 @@ pub fn edges_check(
 #[tactic(auto, using(crate::proofs::EdgeChecks::ordered_after, crate::proofs::EdgeChecks::cycle_after))]
 fn graph_check(
     alloc: Global,
+    keys: RandomState,
     graph: Graph,
     name: &Path,
     collated: &Collated,
@@ -53,7 +56,7 @@ fn graph_check(
     ensures ordered { OnOk result (AreOrderedAfter name.now collated.now.dyndep graph) }
     ensures faulty { IfErr result (ForFault (AreFaultyAfter name.now collated.now.dyndep graph)) }
 {
-    match check_edges(alloc, collated, name, &graph) {
+    match check_edges_with_hasher(alloc, collated, name, &graph, keys) {
         Ok(Sorting::Order(_)) => Ok(()),
         Ok(Sorting::Cycle(cycle)) => Err(Failure::Fault(EdgesFault::Cycle { graph, cycle })),
         Err(Failure::Memory) => Err(Failure::Memory),

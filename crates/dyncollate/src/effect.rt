@@ -13,15 +13,17 @@ use crate::edge_fault::{effect_text, first_output};
 use crate::listing::{is_graph, listing_read, listing_refused};
 use crate::reading::Files;
 use crate::table_fault::joined;
-use build_effect::{Graph, ListingWriteFault, apply, listing_write, one_listing};
+use build_effect::{Graph, ListingWriteFault, apply_with_hasher, listing_write, one_listing};
 use dyndep_file::{Dyndep, laws};
 use ninja_text::{Counted, Failure, Path};
 use std::alloc::{AllocError, Global};
+use std::hash::RandomState;
 
 /// Runs `effect NAME EDGES DYNDEP` on the bytes of the edge listing, where the dyndep file is among
 /// these. Of a name that is there twice the first file counts.
 pub fn effect_files(
     alloc: Global,
+    keys: RandomState,
     name: &str,
     edges: &[u8],
     dyndep: &str,
@@ -30,9 +32,9 @@ pub fn effect_files(
     ensures { IfOk result (AnswersFiles name.now edges.now dyndep.now
         (first_of (map file_value files.now) dyndep.now)) }
 {
-    let files = Files::of(alloc, files)?;
+    let files = Files::of(alloc, keys, files)?;
     match files.get(dyndep) {
-        Some(text) => effect_run(alloc, name, edges, text),
+        Some(text) => effect_run(alloc, keys, name, edges, text),
         None => Answer::unread(alloc, dyndep),
     }
 }
@@ -41,6 +43,7 @@ pub fn effect_files(
 /// at first, then the listing, and then the dyndep file.
 pub fn effect_run(
     alloc: Global,
+    keys: RandomState,
     name: &str,
     edges: &[u8],
     dyndep: &[u8],
@@ -48,7 +51,7 @@ pub fn effect_run(
     ensures { IfOk result (AnswersEffect name.now edges.now dyndep.now) }
 {
     match Path::of(alloc, name.as_bytes()) {
-        Ok(path) => listing_run(alloc, &path, edges, dyndep),
+        Ok(path) => listing_run(alloc, keys, &path, edges, dyndep),
         Err(Failure::Memory) => Err(AllocError),
         Err(Failure::Fault(fault)) => {
             let message = format!(in alloc; "name: {fault}")?;
@@ -60,6 +63,7 @@ pub fn effect_run(
 /// The answer to a listing and a dyndep file of this name.
 fn listing_run(
     alloc: Global,
+    keys: RandomState,
     name: &Path,
     edges: &[u8],
     dyndep: &[u8],
@@ -67,10 +71,10 @@ fn listing_run(
     ensures { IfOk result (AnswersListing (AnswersGraph name.now dyndep.now) edges.now) }
 {
     one_listing();
-    match listing_read(alloc, edges) {
+    match listing_read(alloc, keys, edges) {
         Ok(graph) => {
             is_graph(&graph);
-            dyndep_run(alloc, name, &graph, dyndep)
+            dyndep_run(alloc, keys, name, &graph, dyndep)
         }
         Err(Failure::Memory) => Err(AllocError),
         Err(Failure::Fault(fault)) => listing_refused(alloc, &fault),
@@ -78,14 +82,20 @@ fn listing_run(
 }
 
 /// The answer to a graph and a dyndep file of this name.
-fn dyndep_run(alloc: Global, name: &Path, graph: &Graph, text: &[u8]) -> Result<Answer, AllocError>
+fn dyndep_run(
+    alloc: Global,
+    keys: RandomState,
+    name: &Path,
+    graph: &Graph,
+    text: &[u8],
+) -> Result<Answer, AllocError>
     ensures { IfOk result (AnswersDyndep (AnswersEffectOf name.now graph.now) text.now) }
 {
     laws::one_list();
     laws::list_or_fault();
     laws::one_fault();
     match dyndep_read(alloc, text) {
-        Ok(dyndep) => statements_run(alloc, name, graph, &dyndep),
+        Ok(dyndep) => statements_run(alloc, keys, name, graph, &dyndep),
         Err(Failure::Memory) => Err(AllocError),
         Err(Failure::Fault(fault)) => dyndep_refused(alloc, &fault),
     }
@@ -94,13 +104,14 @@ fn dyndep_run(alloc: Global, name: &Path, graph: &Graph, text: &[u8]) -> Result<
 /// The answer to a graph and the statements of the dyndep file of this name.
 fn statements_run(
     alloc: Global,
+    keys: RandomState,
     name: &Path,
     graph: &Graph,
     dyndep: &Dyndep,
 ) -> Result<Answer, AllocError>
     ensures { IfOk result (AnswersEffectOf name.now graph.now dyndep.now) }
 {
-    match apply(alloc, graph, name, dyndep) {
+    match apply_with_hasher(alloc, graph, name, dyndep, keys) {
         Ok(new) => new_run(alloc, &new),
         Err(Failure::Memory) => Err(AllocError),
         Err(Failure::Fault(fault)) => {

@@ -14,15 +14,20 @@ use crate::edge_fault::listing_fault_text;
 use build_effect::{Graph, LineFault, ListingFault, ListingReader};
 use ninja_text::Failure;
 use std::alloc::{AllocError, Global};
+use std::hash::RandomState;
 
 /// The graph of the edges that a text lists, or why there is none.
-pub fn listing_read(alloc: Global, text: &[u8]) -> Result<Graph, Failure<ListingFault>>
+pub fn listing_read(
+    alloc: Global,
+    keys: RandomState,
+    text: &[u8],
+) -> Result<Graph, Failure<ListingFault>>
     ensures listed { IfOk result (Lists text.now) }
     ensures refused { IfErr result (ForFault (IsListingFault text.now)) }
 {
     let mut reader = ListingReader::new(alloc);
     match reader.feed(text) {
-        Ok(()) => reader.finish(),
+        Ok(()) => reader.finish_with_hasher(keys),
         Err(failure) => Err(line_failure(failure)),
     }
 }

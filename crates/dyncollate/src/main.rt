@@ -30,8 +30,10 @@ use ninja_text::Counted;
 use print::print;
 use run::task_run;
 use std::alloc::AllocError;
+use std::hash::RandomState;
 use std::io::ErrorKind;
 use std::process::ExitCode;
+use std::random::RandomSource;
 use std::rt::{Env, Files};
 use std::{env, fs};
 
@@ -64,7 +66,7 @@ fn main(rt: HostRuntime) -> ExitCode {
 }
 
 /// What the program answers to its arguments.
-fn answer_of<R: Env + Files + AllocGlobal>(rt: &R) -> Result<Answer, AllocError> {
+fn answer_of<R: Env + Files + RandomSource + AllocGlobal>(rt: &R) -> Result<Answer, AllocError> {
     let alloc = rt.alloc();
     let arguments: Vec<String> = match env::args(rt) {
         Ok(arguments) => arguments.collect(alloc)?,
@@ -72,14 +74,21 @@ fn answer_of<R: Env + Files + AllocGlobal>(rt: &R) -> Result<Answer, AllocError>
         Err(_) => return Answer::usage(alloc),
     };
     match task_of(alloc, arguments.as_slice())? {
-        Some(task) => task_answer(rt, &task),
+        Some(task) => match RandomState::new(rt) {
+            Ok(keys) => task_answer(rt, keys, &task),
+            Err(_) => Answer::unread(alloc, "random bytes"),
+        },
         None => Answer::usage(alloc),
     }
 }
 
 /// What the program answers to its task, once it has read the task's files and written those of the
 /// answer.
-fn task_answer<R: Files + AllocGlobal>(rt: &R, task: &Task) -> Result<Answer, AllocError> {
+fn task_answer<R: Files + AllocGlobal>(
+    rt: &R,
+    keys: RandomState,
+    task: &Task,
+) -> Result<Answer, AllocError> {
     let alloc = rt.alloc();
     let read = fs::read(rt, task.file());
     let names = names_of(alloc, task, &read)?;
@@ -87,7 +96,7 @@ fn task_answer<R: Files + AllocGlobal>(rt: &R, task: &Task) -> Result<Answer, Al
     let names = further_names(alloc, task, &files)?;
     let mut further = read_files(alloc, &names, |name: &str| fs::read(rt, name))?;
     files.append(&mut further)?;
-    let answer = task_run(alloc, task, read, &files)?;
+    let answer = task_run(alloc, keys, task, read, &files)?;
     write_files(
         alloc,
         answer,

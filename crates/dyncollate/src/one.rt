@@ -6,15 +6,22 @@ ghost use Rattle.dyncollate.specs.Targets.{AnswersTarget};
 
 use crate::answer::Answer;
 use crate::refusal::refusal_text;
-use collate_core::{Gcc, Target, collate, one_outcome};
+use collate_core::{Gcc, Target, collate_with_hasher, one_outcome};
 use ninja_text::Failure;
 use scan_docs::{Setting, TargetName};
 use std::alloc::{AllocError, Global};
+use std::hash::RandomState;
 
 /// Runs `one SCAN DIR EXT` on the bytes of the scan document, the folder that modules are compiled
 /// to and the ending of their files. The document is collated as a target by itself: a module that
 /// a rule requires is looked up among those that the document's own rules provide.
-pub fn one_run(alloc: Global, document: &[u8], dir: &str, ext: &str) -> Result<Answer, AllocError>
+pub fn one_run(
+    alloc: Global,
+    keys: RandomState,
+    document: &[u8],
+    dir: &str,
+    ext: &str,
+) -> Result<Answer, AllocError>
     ensures { IfOk result (AnswersDocument (setting_of dir.now ext.now) document.now) }
 {
     let name = target_name(alloc)?;
@@ -26,7 +33,7 @@ pub fn one_run(alloc: Global, document: &[u8], dir: &str, ext: &str) -> Result<A
         infos: &[],
         kept: &[],
     };
-    target_run(alloc, &target)
+    target_run(alloc, keys, &target)
 }
 
 /// The name that the target goes by. No answer has it.
@@ -51,11 +58,11 @@ fn setting_of(alloc: Global, dir: &str, ext: &str) -> Result<Setting, AllocError
 }
 
 /// The answer to a target that wants no maps: the text of its dyndep file.
-fn target_run(alloc: Global, target: &Target<'_>) -> Result<Answer, AllocError>
+fn target_run(alloc: Global, keys: RandomState, target: &Target<'_>) -> Result<Answer, AllocError>
     ensures { IfOk result (AnswersTarget PrintsDyndep target.now None) }
 {
     one_outcome();
-    match collate(alloc, target, None::<&Gcc>) {
+    match collate_with_hasher(alloc, target, None::<&Gcc>, keys) {
         Ok(collated) => Ok(Answer::done(alloc, collated.into_parts().dyndep)),
         Err(Failure::Memory) => Err(AllocError),
         Err(Failure::Fault(refusal)) => {

@@ -8,20 +8,21 @@ ghost use Rattle.dyncollate.specs.Order.{order_text, AnswersOrder};
 use crate::answer::{Answer, visible};
 use crate::edge_fault::{cycle_text, first_output};
 use crate::listing::{is_graph, listing_read, listing_refused};
-use build_effect::{Edge, Graph, edge_order, one_listing};
+use build_effect::{Edge, Graph, edge_order_with_hasher, one_listing};
 use dep_order::Sorting;
 use ninja_text::Failure;
 use std::alloc::{AllocError, Global};
+use std::hash::RandomState;
 
 /// Runs `order EDGES` on the bytes of the edge listing. Each edge is named by its first output.
-pub fn order_run(alloc: Global, edges: &[u8]) -> Result<Answer, AllocError>
+pub fn order_run(alloc: Global, keys: RandomState, edges: &[u8]) -> Result<Answer, AllocError>
     ensures { IfOk result (AnswersListing AnswersOrder edges.now) }
 {
     one_listing();
-    match listing_read(alloc, edges) {
+    match listing_read(alloc, keys, edges) {
         Ok(graph) => {
             is_graph(&graph);
-            graph_run(alloc, &graph)
+            graph_run(alloc, keys, &graph)
         }
         Err(Failure::Memory) => Err(AllocError),
         Err(Failure::Fault(fault)) => listing_refused(alloc, &fault),
@@ -29,10 +30,10 @@ pub fn order_run(alloc: Global, edges: &[u8]) -> Result<Answer, AllocError>
 }
 
 /// The answer to a graph: its edges in order, or a cycle.
-fn graph_run(alloc: Global, graph: &Graph) -> Result<Answer, AllocError>
+fn graph_run(alloc: Global, keys: RandomState, graph: &Graph) -> Result<Answer, AllocError>
     ensures { IfOk result (AnswersOrder graph.now) }
 {
-    match edge_order(alloc, graph)? {
+    match edge_order_with_hasher(alloc, graph, keys)? {
         Sorting::Order(order) => {
             let text = order_text(alloc, graph.edges(), &order)?;
             Ok(Answer::done(alloc, text))

@@ -14,10 +14,11 @@ use crate::edges::{EdgesFault, edges_text};
 use crate::project_targets::{ReadTarget, read_targets, target_failed};
 use crate::reading::Files;
 use crate::refusal::refusal_by_names;
-use collate_core::{Clang, Collated, Gcc, ProjectOut, ProjectTarget, Refusal, project};
+use collate_core::{Clang, Collated, Gcc, ProjectOut, ProjectTarget, Refusal, project_with_hasher};
 use ninja_text::Failure;
 use scan_docs::{DocFault, MapForm, TargetName, project_read};
 use std::alloc::{AllocError, Global};
+use std::hash::RandomState;
 
 /// Runs `project FILE` on the bytes of the project document, and on files by name. Of a name that
 /// is there twice the first file counts, and one that is not there counts as a file that can't be
@@ -29,13 +30,14 @@ use std::alloc::{AllocError, Global};
 /// link are not read, since the project writes them.
 pub fn project_run(
     alloc: Global,
+    keys: RandomState,
     document: &[u8],
     files: &[(String, Vec<u8>)],
 ) -> Result<Answer, AllocError>
     ensures { IfOk result (AnswersProject document.now (first_of (map file_value files.now))) }
 {
     match project_read(alloc, document) {
-        Ok(spec) => names_run(alloc, &spec.targets, &Files::of(alloc, files)?),
+        Ok(spec) => names_run(alloc, keys, &spec.targets, &Files::of(alloc, keys, files)?),
         Err(Failure::Memory) => Err(AllocError),
         Err(Failure::Fault(fault)) => project_refused(alloc, &fault),
     }
@@ -50,31 +52,41 @@ fn project_refused(alloc: Global, fault: &DocFault) -> Result<Answer, AllocError
 }
 
 /// The answer to the target documents of these names.
-fn names_run(alloc: Global, names: &[String], files: &Files) -> Result<Answer, AllocError>
+fn names_run(
+    alloc: Global,
+    keys: RandomState,
+    names: &[String],
+    files: &Files,
+) -> Result<Answer, AllocError>
     ensures { IfOk result (AnswersNames (first_of files.now) (map string_bytes names.now)) }
 {
-    match read_targets(alloc, files, names) {
-        Ok(targets) => targets_run(alloc, &targets),
+    match read_targets(alloc, keys, files, names) {
+        Ok(targets) => targets_run(alloc, keys, &targets),
         Err(Failure::Memory) => Err(AllocError),
         Err(Failure::Fault(answer)) => Ok(answer),
     }
 }
 
 /// The answer to targets that were read.
-fn targets_run(alloc: Global, targets: &[ReadTarget]) -> Result<Answer, AllocError>
+fn targets_run(
+    alloc: Global,
+    keys: RandomState,
+    targets: &[ReadTarget],
+) -> Result<Answer, AllocError>
     requires { LinkEarlier targets.now }
     ensures { IfOk result (AnswersReadTargets targets.now) }
 {
-    match collate_all(alloc, targets) {
-        Ok(out) => collated_run(alloc, targets, out.targets),
+    match collate_all(alloc, keys, targets) {
+        Ok(out) => collated_run(alloc, keys, targets, out.targets),
         Err(Failure::Memory) => Err(AllocError),
-        Err(Failure::Fault((index, refusal))) => refused_run(alloc, targets, index, &refusal),
+        Err(Failure::Fault(refused)) => refused_run(alloc, targets, &refused),
     }
 }
 
 /// Collates the targets, with maps of the form of the first one.
 fn collate_all(
     alloc: Global,
+    keys: RandomState,
     targets: &[ReadTarget],
 ) -> Result<ProjectOut, Failure<(usize, Refusal)>>
     ensures collated { IfOk result (λ out. IsProject (style_of (form_of targets.now))
@@ -84,12 +96,13 @@ fn collate_all(
         (map project_target targets.now) refused.0 refused.1)) }
 {
     let parts = in_project(alloc, targets)?;
-    project_in(alloc, &parts, form_of(targets))
+    project_in(alloc, keys, &parts, form_of(targets))
 }
 
 /// Collates targets as a project has them, with maps of this form, if one is given.
 fn project_in(
     alloc: Global,
+    keys: RandomState,
     parts: &[ProjectTarget<'_>],
     form: Option<MapForm>,
 ) -> Result<ProjectOut, Failure<(usize, Refusal)>>
@@ -99,9 +112,9 @@ fn project_in(
         IsProjectRefusal (style_of form) parts.now refused.0 refused.1)) }
 {
     match form {
-        None => project(alloc, parts, None::<&Gcc>),
-        Some(MapForm::Gcc) => project(alloc, parts, Some(&Gcc)),
-        Some(MapForm::Clang) => project(alloc, parts, Some(&Clang)),
+        None => project_with_hasher(alloc, parts, None::<&Gcc>, keys),
+        Some(MapForm::Gcc) => project_with_hasher(alloc, parts, Some(&Gcc), keys),
+        Some(MapForm::Clang) => project_with_hasher(alloc, parts, Some(&Clang), keys),
     }
 }
 
@@ -133,18 +146,18 @@ fn form_of(targets: &[ReadTarget]) -> Option<MapForm>
 fn refused_run(
     alloc: Global,
     targets: &[ReadTarget],
-    index: usize,
-    refusal: &Refusal,
+    refused: &(usize, Refusal),
 ) -> Result<Answer, AllocError>
-    requires { IsReportable targets.now index refusal.now }
+    requires { IsReportable targets.now refused.now.0 refused.now.1 }
     ensures { IfOk result (λ answer. (target : ReadTargetValue)
-        → slice_get targets.now index ≡ Some target
-        → Refuses (refused_text targets.now index target refusal.now) answer) }
+        → slice_get targets.now refused.now.0 ≡ Some target
+        → Refuses (refused_text targets.now refused.now.0 target refused.now.1) answer) }
 {
+    let index = refused.0;
     let target = &targets[index];
     let names = linked_names(alloc, targets, &target.linked)?;
     let setting = target.document.setting();
-    let text = refusal_by_names(alloc, setting, &target.scans, &names, refusal)?;
+    let text = refusal_by_names(alloc, setting, &target.scans, &names, &refused.1)?;
     target_failed(alloc, index, &text)
 }
 
@@ -171,13 +184,14 @@ fn linked_names<'t>(
 /// the first whose edges are faulty.
 fn collated_run(
     alloc: Global,
+    keys: RandomState,
     targets: &[ReadTarget],
     outs: Vec<Collated>,
 ) -> Result<Answer, AllocError>
     requires { AreOuts targets.now outs.items }
     ensures { IfOk result (AnswersCollatedTargets (zip targets.now outs.items)) }
 {
-    match all_pass(alloc, targets, &outs) {
+    match all_pass(alloc, keys, targets, &outs) {
         Ok(()) => {
             let files = all_files(alloc, targets, outs)?;
             Ok(Answer::writes(alloc, files))
@@ -194,6 +208,7 @@ fn collated_run(
 /// is wrong with the edges of the first where they can't.
 fn all_pass(
     alloc: Global,
+    keys: RandomState,
     targets: &[ReadTarget],
     outs: &[Collated],
 ) -> Result<(), Failure<(usize, EdgesFault)>>
@@ -203,7 +218,13 @@ fn all_pass(
         FailsFirst (zip targets.now outs.now) failed.0 failed.1)) }
 {
     for (index, target) in targets.iter().enumerate() {
-        match edges_pass(alloc, target.listing, target.document.path(), &outs[index]) {
+        match edges_pass(
+            alloc,
+            keys,
+            target.listing,
+            target.document.path(),
+            &outs[index],
+        ) {
             Ok(()) => {}
             Err(Failure::Memory) => return Err(Failure::Memory),
             Err(Failure::Fault(fault)) => return Err(Failure::Fault((index, fault))),

@@ -14,6 +14,7 @@ use indexmap::IndexMap;
 use ninja_text::Failure;
 use scan_docs::{DocFault, MapForm, Member, Place, TargetSpec};
 use std::alloc::{AllocError, Global};
+use std::hash::RandomState;
 use std::marker::Model;
 
 /// A target that was read.
@@ -63,7 +64,7 @@ impl<'f> ReadTarget<'f> {
 struct Targets<'f> {
     read: Vec<ReadTarget<'f>>,
     /// Of each info that they write the index of the last target that does.
-    writers: IndexMap<String, usize>,
+    writers: IndexMap<String, usize, RandomState>,
 }
 
 impl<'f> Model for Targets<'f> {
@@ -81,12 +82,12 @@ impl<'f> Model for Targets<'f> {
 
 impl<'f> Targets<'f> {
     /// No targets.
-    fn new(alloc: Global) -> Targets<'f>
+    fn new(alloc: Global, keys: RandomState) -> Targets<'f>
         ensures { result ≡ [] }
     {
         Targets {
             read: Vec::new(alloc),
-            writers: IndexMap::new(alloc),
+            writers: IndexMap::with_hasher(alloc, keys),
         }
     }
 
@@ -141,6 +142,7 @@ impl<'f> Targets<'f> {
 /// The targets of these documents, in order, or how the run ends with the first that can't be read.
 pub fn read_targets<'f>(
     alloc: Global,
+    keys: RandomState,
     files: &Files<'f>,
     names: &[String],
 ) -> Result<Vec<ReadTarget<'f>>, Failure<Answer>>
@@ -149,7 +151,7 @@ pub fn read_targets<'f>(
     ensures fails { IfErr result
         (ForFault (FailsReading (first_of files.now) (map string_bytes names.now))) }
 {
-    let mut targets = Targets::new(alloc);
+    let mut targets = Targets::new(alloc, keys);
     for name in names {
         let target = read_target(alloc, files, &targets, name.as_str())?;
         targets = targets.with(alloc, target)?;

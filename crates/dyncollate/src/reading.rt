@@ -9,6 +9,7 @@ ghost use Rattle.dyncollate.specs.inner.Readings.{reading_of};
 use indexmap::IndexMap;
 use ninja_text::Failure;
 use std::alloc::{AllocError, Global};
+use std::hash::RandomState;
 use std::marker::Model;
 
 /// The files that a command was given. Of a name that is there twice the first file counts.
@@ -16,7 +17,7 @@ use std::marker::Model;
 pub struct Files<'f> {
     given: &'f [(String, Vec<u8>)],
     /// The bytes of the first file of each name.
-    table: IndexMap<&'f str, &'f [u8]>,
+    table: IndexMap<&'f str, &'f [u8], RandomState>,
 }
 
 impl<'f> Model for Files<'f> {
@@ -35,10 +36,14 @@ impl<'f> Model for Files<'f> {
 
 impl<'f> Files<'f> {
     /// These files.
-    pub fn of(alloc: Global, given: &'f [(String, Vec<u8>)]) -> Result<Files<'f>, AllocError>
+    pub fn of(
+        alloc: Global,
+        keys: RandomState,
+        given: &'f [(String, Vec<u8>)],
+    ) -> Result<Files<'f>, AllocError>
         ensures { IfOk result (λ files. files ≡ map file_value given.now) }
     {
-        let table = first_files(alloc, given)?;
+        let table = first_files(alloc, keys, given)?;
         Ok(Files { given, table })
     }
 
@@ -56,12 +61,13 @@ impl<'f> Files<'f> {
 /// The bytes of the first file of each name.
 fn first_files<'f>(
     alloc: Global,
+    keys: RandomState,
     files: &'f [(String, Vec<u8>)],
-) -> Result<IndexMap<&'f str, &'f [u8]>, AllocError>
+) -> Result<IndexMap<&'f str, &'f [u8], RandomState>, AllocError>
     ensures { IfOk result (λ found. (name : List ℕ) →
         reading_of found name ≡ first_of (map file_value files.now) name) }
 {
-    let mut found = IndexMap::new(alloc);
+    let mut found = IndexMap::with_hasher(alloc, keys);
     for file in files {
         let name = file.0.as_str();
         if found.get(&name).is_none() {

@@ -15,6 +15,7 @@ use crate::order::order_run;
 use crate::project::project_run;
 use crate::show::show_run;
 use std::alloc::{AllocError, Global};
+use std::hash::RandomState;
 use std::io;
 use std::io::ErrorKind;
 
@@ -22,6 +23,7 @@ use std::io::ErrorKind;
 /// that were read.
 pub fn task_run(
     alloc: Global,
+    keys: RandomState,
     task: &Task,
     read: io::Result<Vec<u8>>,
     files: &[(String, Vec<u8>)],
@@ -30,7 +32,7 @@ pub fn task_run(
         (AnswersRead (task_value task.now) (first_of (map file_value files.now)) read) }
 {
     match read {
-        Ok(bytes) => bytes_run(alloc, task, &bytes, files),
+        Ok(bytes) => bytes_run(alloc, keys, task, &bytes, files),
         Err(error) if error.kind() == ErrorKind::OutOfMemory => Err(AllocError),
         Err(_) => Answer::unread(alloc, task.file()),
     }
@@ -39,6 +41,7 @@ pub fn task_run(
 /// What a run answers to its task, by the bytes of the task's file and the other files.
 fn bytes_run(
     alloc: Global,
+    keys: RandomState,
     task: &Task,
     bytes: &[u8],
     files: &[(String, Vec<u8>)],
@@ -47,11 +50,11 @@ fn bytes_run(
         (AnswersBytes (task_value task.now) (first_of (map file_value files.now)) bytes.now) }
 {
     match task {
-        Task::One { dir, ext, .. } => one_run(alloc, bytes, dir, ext),
-        Task::Collate { .. } => collate_run(alloc, bytes, files),
+        Task::One { dir, ext, .. } => one_run(alloc, keys, bytes, dir, ext),
+        Task::Collate { .. } => collate_run(alloc, keys, bytes, files),
         Task::Show { .. } => show_run(alloc, bytes),
-        Task::Effect { name, dyndep, .. } => effect_files(alloc, name, bytes, dyndep, files),
-        Task::Order { .. } => order_run(alloc, bytes),
-        Task::Project { .. } => project_run(alloc, bytes, files),
+        Task::Effect { name, dyndep, .. } => effect_files(alloc, keys, name, bytes, dyndep, files),
+        Task::Order { .. } => order_run(alloc, keys, bytes),
+        Task::Project { .. } => project_run(alloc, keys, bytes, files),
     }
 }

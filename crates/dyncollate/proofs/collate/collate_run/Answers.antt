@@ -1,4 +1,5 @@
 use Rattle.std.proofs.Common.{List, map, subst}
+use Rattle.std.specs.Prelude.{IfOk}
 use Rattle.std.proofs.lemmas.Result.{IfOk-weaker}
 use Rattle.ninja_text.specs.Failure.{ForFault}
 use Rattle.scan_docs.specs.Document.{IsRefused}
@@ -31,4 +32,4 @@ returns-in-Err-Fault c =
       accepted = λ spec has. absurd (c.read.ensures.one_answer.not_both spec c.in-Err-Fault.fault has own);
       refused = λ fault is. subst (λ f. Refuses (spec_text f) answer) (c.read.ensures.one_answer.one_fault c.in-Err-Fault.fault fault own is) h;
     })
-    c.spec_refused.ensures
+    (subst (λ f. IfOk c.spec_refused.result (Refuses (spec_text f))) c.in-Err-Fault.fault-is c.spec_refused.ensures)

@@ -9,6 +9,7 @@ use Rattle.dyncollate.specs.Answers.{Fails, Refuses}
 use Rattle.dyncollate.specs.CollateCommand.{style_of, WritesCollated, AnswersTargetOf}
 use Rattle.dyncollate.proofs.Commands.{objects_text}
 use Rattle.dyncollate.proofs.Targets.{collated, refused}
+use Rattle.dyncollate.specs.RefusalTexts.{refusal_text}
 use Rattle.dyncollate.proofs.collate.target_run.Goals as goal
 
 pub collated_run-requires : goal.collated_run-requires
@@ -42,5 +43,5 @@ returns-in_ok-message-in-Err-Fault c =
     (AnswersTargetOf spec listing c.args.target.now)
     (λ answer h. refused c.one_outcome.ensures.one (WritesCollated spec listing)
     c.args.target.now (style_of spec.map_form) answer c.in-Err-Fault.refusal own
-    (subst (λ text. Refuses text answer) (c.deref.ensures.value ∙ c.in_ok-message-in-Err-Fault.ensures) h))
+    (subst (λ text. Refuses text answer) (c.deref.ensures.value ∙ c.in_ok-message-in-Err-Fault.ensures ∙ ap (refusal_text c.args.target.now) c.in-Err-Fault.refusal-is) h))
     c.failed.ensures

@@ -1,4 +1,5 @@
 use Rattle.std.proofs.Common.{subst}
+use Rattle.std.specs.Prelude.{IfOk}
 use Rattle.std.proofs.lemmas.Result.{IfOk-weaker}
 use Rattle.ninja_text.specs.Failure.{ForFault}
 use Rattle.dyndep_file.specs.FaultTexts.{read_fault_text}
@@ -21,4 +22,4 @@ returns-in-Err-Fault c =
     IfOk-weaker c.dyndep_refused.result (Refuses (read_fault_text c.in-Err-Fault.fault)) (AnswersDyndep Answers c.args.text.now)
     (λ answer h. reported Answers c.args.text.now c.in-Err-Fault.fault answer c.list_or_fault.ensures.not_both c.one_fault.ensures
     (subst (ForFault (IsReported c.args.text.now)) c.in-Err-Fault.field-0-is c.in-Err-Fault.ensures.refused) h)
-    c.dyndep_refused.ensures
+    (subst (λ f. IfOk c.dyndep_refused.result (Refuses (read_fault_text f))) c.in-Err-Fault.fault-is c.dyndep_refused.ensures)

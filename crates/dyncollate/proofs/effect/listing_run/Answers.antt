@@ -1,4 +1,5 @@
 use Rattle.std.proofs.Common.{ℕ, List, subst}
+use Rattle.std.specs.Prelude.{IfOk}
 use Rattle.std.proofs.lemmas.Result.{IfOk-weaker}
 use Rattle.ninja_text.specs.Failure.{ForFault}
 use Rattle.dyncollate.specs.Answers.{Refuses}
@@ -22,4 +23,4 @@ returns-in-Err-Fault c =
     let Answers = AnswersGraph c.args.name.now c.args.dyndep.now in
     IfOk-weaker c.listing_refused.result (Refuses (listing_fault_text c.in-Err-Fault.fault)) (AnswersListing Answers text)
     (λ answer h. reported Answers text c.in-Err-Fault.fault answer c.one_listing.ensures.one c.one_listing.ensures.faultless (subst (ForFault (IsListingFault text)) c.in-Err-Fault.field-0-is c.in-Err-Fault.ensures.refused) h)
-    c.listing_refused.ensures
+    (subst (λ f. IfOk c.listing_refused.result (Refuses (listing_fault_text f))) c.in-Err-Fault.fault-is c.listing_refused.ensures)

@@ -5,10 +5,10 @@ use Rattle.dyncollate.proofs.Listings.{listed_at_end, refused_at_end, refused_be
 use Rattle.dyncollate.proofs.listing.listing_read.Goals as goal
 
 pub returns-in-Ok-clause-listed : goal.returns-in-Ok-clause-listed
-returns-in-Ok-clause-listed c = listed_at_end c.args.text.now c.finish.result (c.finish.ensures.all c.args.text.now (c.in-Ok.ensures.all [] c.new-reader.ensures))
+returns-in-Ok-clause-listed c = listed_at_end c.args.text.now c.finish_with_hasher.result (c.finish_with_hasher.ensures.all c.args.text.now (c.in-Ok.ensures.all [] c.new-reader.ensures))
 
 pub returns-in-Ok-clause-refused : goal.returns-in-Ok-clause-refused
-returns-in-Ok-clause-refused c = refused_at_end c.args.text.now c.finish.result (c.finish.ensures.all c.args.text.now (c.in-Ok.ensures.all [] c.new-reader.ensures))
+returns-in-Ok-clause-refused c = refused_at_end c.args.text.now c.finish_with_hasher.result (c.finish_with_hasher.ensures.all c.args.text.now (c.in-Ok.ensures.all [] c.new-reader.ensures))
 
 pub returns-in-Err-clause-refused : goal.returns-in-Err-clause-refused
 returns-in-Err-clause-refused c =

@@ -1,4 +1,5 @@
 use Rattle.std.proofs.Common.{subst}
+use Rattle.std.specs.Prelude.{IfOk}
 use Rattle.std.proofs.lemmas.Result.{IfOk-weaker}
 use Rattle.ninja_text.specs.Failure.{ForFault}
 use Rattle.dyncollate.specs.Answers.{Refuses}
@@ -18,4 +19,4 @@ pub returns-in-Err-Fault : goal.returns-in-Err-Fault
 returns-in-Err-Fault c =
     IfOk-weaker c.listing_refused.result (Refuses (listing_fault_text c.in-Err-Fault.fault)) (AnswersListing AnswersOrder c.args.edges.now)
     (λ answer h. reported AnswersOrder c.args.edges.now c.in-Err-Fault.fault answer c.one_listing.ensures.one c.one_listing.ensures.faultless (subst (ForFault (IsListingFault c.args.edges.now)) c.in-Err-Fault.field-0-is c.in-Err-Fault.ensures.refused) h)
-    c.listing_refused.ensures
+    (subst (λ f. IfOk c.listing_refused.result (Refuses (listing_fault_text f))) c.in-Err-Fault.fault-is c.listing_refused.ensures)

@@ -10,9 +10,9 @@ use Rattle.dyncollate.proofs.project.project_in.Goals as goal
 pub returns-in-Some-Gcc-clause-refused : goal.returns-in-Some-Gcc-clause-refused
 returns-in-Some-Gcc-clause-refused c =
     let form : c.args.form ≡ Some Gcc = search rules in
-    subst (λ (f : Option MapForm). IfErr c.project-in-Some-Gcc.result (ForFault (λ x. IsProjectRefusal (style_of f) c.args.parts.now x.0 x.1))) (sym form) c.project-in-Some-Gcc.ensures.refused
+    subst (λ (f : Option MapForm). IfErr c.project_with_hasher-in-Some-Gcc.result (ForFault (λ x. IsProjectRefusal (style_of f) c.args.parts.now x.0 x.1))) (sym form) c.project_with_hasher-in-Some-Gcc.ensures.refused
 
 pub returns-in-Some-Clang-clause-refused : goal.returns-in-Some-Clang-clause-refused
 returns-in-Some-Clang-clause-refused c =
     let form : c.args.form ≡ Some Clang = search rules in
-    subst (λ (f : Option MapForm). IfErr c.project-in-Some-Clang.result (ForFault (λ x. IsProjectRefusal (style_of f) c.args.parts.now x.0 x.1))) (sym form) c.project-in-Some-Clang.ensures.refused
+    subst (λ (f : Option MapForm). IfErr c.project_with_hasher-in-Some-Clang.result (ForFault (λ x. IsProjectRefusal (style_of f) c.args.parts.now x.0 x.1))) (sym form) c.project_with_hasher-in-Some-Clang.ensures.refused

@@ -1,4 +1,5 @@
 use Rattle.std.proofs.Common.{◌≡◌, List, ℕ, map, string_bytes, ap, subst, ◌∙◌}
+use Rattle.std.specs.Prelude.{IfOk}
 use Rattle.std.proofs.lemmas.Result.{IfOk-weaker}
 use Rattle.ninja_text.specs.Failure.{ForFault}
 use Rattle.scan_docs.specs.Document.{IsRefused}
@@ -36,4 +37,4 @@ returns-in-Err-Fault c =
       accepted = λ project has. absurd (c.project_read.ensures.one_answer.not_both project c.in-Err-Fault.fault has own);
       refused = λ fault is. subst (λ f. Refuses (project_text f) answer) (c.project_read.ensures.one_answer.one_fault c.in-Err-Fault.fault fault own is) h;
     })
-    c.project_refused.ensures
+    (subst (λ f. IfOk c.project_refused.result (Refuses (project_text f))) c.in-Err-Fault.fault-is c.project_refused.ensures)
