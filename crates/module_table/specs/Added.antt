@@ -23,7 +23,8 @@ AddedNeeds t object other = (file : List ℕ) × AddsInput t object file × Adds
 -- the names in order of first mention, each once
 abbrev pub first_mentions : List (List ℕ) → List (List ℕ)
 first_mentions [] = []
-first_mentions (name ∷ names) = name ∷ filter (λ other. not (bytes_eq name other)) (first_mentions names)
+first_mentions (name ∷ names) = name ∷ filter (λ other. not (bytes_eq name other))
+    (first_mentions names)
 
 -- the file of the module of that name
 abbrev pub file_of : List Provision → List ℕ → Option (List ℕ)
@@ -48,7 +49,8 @@ tasks_of t = map (λ rule. (rule, required_of t rule)) t.objects
 -- the pairs of an object are names that it requires, with the files of their modules
 abbrev pub RequiredFiles : Type 0
 RequiredFiles = (t : TableValue) (rule : RuleValue) (k : ℕ) (name file : List ℕ) →
-    slice_get (required_of t rule) k ≡ Some (name, file) → Contains rule.required name × IsProvided t name file
+    slice_get (required_of t rule) k ≡ Some (name, file) → Contains rule.required name
+    × IsProvided t name file
 
 -- what objects gain as inputs from one another can be ordered
 abbrev pub AddedOrderable : Type 0

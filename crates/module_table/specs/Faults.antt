@@ -19,10 +19,12 @@ pub record Claim : Type 0 where
   pub is_module : Bool
 
 abbrev pub own_claims : List RuleValue → List Claim
-own_claims objects = map (λ o. record { maker = Object o.0; file = o.1.object; is_module = false }) (enumerate_from 0 objects)
+own_claims objects = map (λ o. record { maker = Object o.0; file = o.1.object; is_module = false })
+    (enumerate_from 0 objects)
 
 abbrev pub module_claims : List Provision → List Claim
-module_claims provided = map (λ p. record { maker = p.maker; file = p.file; is_module = true }) provided
+module_claims provided = map
+    (λ p. record { maker = p.maker; file = p.file; is_module = true }) provided
 
 abbrev pub claims_of : List RuleValue → List Provision → List Claim
 claims_of objects provided = own_claims objects ++ module_claims provided
@@ -49,7 +51,8 @@ Disagrees t r = (file : List ℕ) × IsInfoProvided t r.name file × (file ≢ r
 
 -- the info provides the name, and the module is private to its target
 abbrev pub HasPrivate : TableValue → ℕ → List ℕ → Type 0
-HasPrivate t info name = (index : ℕ) × (entry : ModuleValue) × InfoProvides t info index entry × (entry.name ≡ name) × (entry.is_private ≡ true)
+HasPrivate t info name = (index : ℕ) × (entry : ModuleValue) × InfoProvides t info index entry
+    × (entry.name ≡ name) × (entry.is_private ≡ true)
 
 -- the module of that name is private to the target of some info
 abbrev pub IsPrivateName : TableValue → List ℕ → Type 0
@@ -61,10 +64,12 @@ IsPrivateElsewhere t r = (info : ℕ) × HasPrivate t info r.name × (info ≢ r
 
 -- some name of the list is one of which P holds
 abbrev pub Requiring : (List ℕ → Type 0) → RuleValue → Type 0
-Requiring P rule = (index : ℕ) × (name : List ℕ) × (slice_get rule.required index ≡ Some name) × P name
+Requiring P rule = (index : ℕ) × (name : List ℕ) × (slice_get rule.required index ≡ Some name)
+    × P name
 
 -- the first object that requires a name of which P holds, and the first such name of it
-pub record IsFirstRequired (P : List ℕ → Type 0) (objects : List RuleValue) (object : ℕ) (name : List ℕ) : Type 0 where
+pub record IsFirstRequired (P : List ℕ → Type 0) (objects : List RuleValue) (object : ℕ)
+    (name : List ℕ) : Type 0 where
   pub rule : RuleValue
   pub index : ℕ
   pub first_object : IsFirst (Requiring P) objects object rule
@@ -72,19 +77,24 @@ pub record IsFirstRequired (P : List ℕ → Type 0) (objects : List RuleValue) 
 
 -- no object provides the name
 abbrev pub IsUnprovided : TableValue → List ℕ → Type 0
-IsUnprovided t name = (object : ℕ) (index : ℕ) (file : List ℕ) → Provides t object index name file → ⊥
+IsUnprovided t name = (object : ℕ) (index : ℕ) (file : List ℕ) → Provides t object index name file
+    → ⊥
 
 -- the fault is present in the table, with these names kept, and this is its data
 abbrev pub IsFault : TableValue → List (List ℕ) → TableFault → Type 0
 -- M1: two objects have one path
 IsFault t kept (ObjectTwice path first second) =
-    (i : ℕ) × (j : ℕ) × IsFirstRepetition (λ a b. a ≡ b) (map (λ rule. rule.object) t.objects) i j path path × (first ≡ Object i) × (second ≡ Object j)
+    (i : ℕ) × (j : ℕ) × IsFirstRepetition (λ a b. a ≡ b)
+    (map (λ rule. rule.object) t.objects) i j path path × (first ≡ Object i)
+    × (second ≡ Object j)
 -- M2: two infos have one target name
 IsFault t kept (InfoTwice target) =
-    (i : ℕ) × (j : ℕ) × IsFirstRepetition (λ a b. a ≡ b) (map (λ info. info.target) t.infos) i j target target
+    (i : ℕ) × (j : ℕ) × IsFirstRepetition (λ a b. a ≡ b)
+    (map (λ info. info.target) t.infos) i j target target
 -- M3: a name is provided twice
 IsFault t kept (ProvidedTwice name first second) =
-    (i : ℕ) × (j : ℕ) × (a : Provision) × (b : Provision) × IsFirstRepetition (λ x y. x.name ≡ y.name) (provisions t) i j a b
+    (i : ℕ) × (j : ℕ) × (a : Provision) × (b : Provision)
+    × IsFirstRepetition (λ x y. x.name ≡ y.name) (provisions t) i j a b
     × (b.name ≡ name) × (a.maker ≡ first) × (b.maker ≡ second)
 -- M4: a file is made twice, at least once as a module's
 IsFault t kept (BmiTwice path first second) =
@@ -103,11 +113,13 @@ IsFault t kept (InfoDisagrees target module_name name) =
 -- M8: objects need each other's modules in a ring
 IsFault t kept (ImportCycle objects) = IsLeastCycle (DependsOn t) objects.items
 -- M9: an object requires a module that is private to the target of an info
-IsFault t kept (ModulePrivate name info (Object object)) = IsFirstRequired (IsPrivateName t) t.objects object name × HasPrivate t info name
+IsFault t kept (ModulePrivate name info (Object object)) =
+    IsFirstRequired (IsPrivateName t) t.objects object name × HasPrivate t info name
 -- M9: or no object does, and a module of another info
 IsFault t kept (ModulePrivate name info (Info user)) =
     ((object : ℕ) (other : List ℕ) → Requires t object other → IsPrivateName t other → ⊥)
-    × ((index : ℕ) × (r : InfoRequirement) × IsFirst (IsPrivateElsewhere t) (info_requirements t) index r
+    × ((index : ℕ) × (r : InfoRequirement)
+    × IsFirst (IsPrivateElsewhere t) (info_requirements t) index r
     × (r.name ≡ name) × (r.info ≡ user) × HasPrivate t info name × (info ≢ user))
 -- M10: a name is to be private, and no object provides it
 IsFault t kept (PrivateUnknown name) = (index : ℕ) × IsFirst (IsUnprovided t) kept index name

@@ -1,4 +1,5 @@
--- Who provides and who requires which module. Names and files are texts; objects, infos and what stands in a list go by index, from 0.
+-- Who provides and who requires which module. Names and files are texts; objects, infos and what
+-- stands in a list go by index, from 0.
 use Rattle.std.specs.Prelude.{◌≡◌, ℕ, Bool, false, List, ◌++◌, map, slice_get, Some, Contains}
 use Rattle.std.specs.List.{flat_map, enumerate_from}
 use Rattle.scan_docs.specs.Scan.{RuleValue}
@@ -11,24 +12,29 @@ use Rattle.module_table.specs.declared.fault.Maker.TheVariants.{Object, Info}
 
 -- the object provides the name at this index, with the file
 abbrev pub Provides : TableValue → ℕ → ℕ → List ℕ → List ℕ → Type 0
-Provides t object index name file = (rule : RuleValue) × (slice_get t.objects object ≡ Some rule) × (slice_get rule.provided index ≡ Some (name, file))
+Provides t object index name file = (rule : RuleValue) × (slice_get t.objects object ≡ Some rule)
+    × (slice_get rule.provided index ≡ Some (name, file))
 
 -- the object requires the name
 abbrev pub Requires : TableValue → ℕ → List ℕ → Type 0
-Requires t object name = (rule : RuleValue) × (slice_get t.objects object ≡ Some rule) × Contains rule.required name
+Requires t object name = (rule : RuleValue) × (slice_get t.objects object ≡ Some rule)
+    × Contains rule.required name
 
 -- this is the info's module at this index
 abbrev pub InfoProvides : TableValue → ℕ → ℕ → ModuleValue → Type 0
-InfoProvides t info index entry = (value : InfoValue) × (slice_get t.infos info ≡ Some value) × (slice_get value.modules index ≡ Some entry)
+InfoProvides t info index entry = (value : InfoValue) × (slice_get t.infos info ≡ Some value)
+    × (slice_get value.modules index ≡ Some entry)
 
 -- this module of an info requires the name, and says that this is its file
 abbrev pub InfoRequires : TableValue → ℕ → ℕ → ModuleValue → List ℕ → List ℕ → Type 0
-InfoRequires t info index entry name file = InfoProvides t info index entry × Contains entry.required (name, file)
+InfoRequires t info index entry name file = InfoProvides t info index entry
+    × Contains entry.required (name, file)
 
 -- the object or the info provides the name with the file
 abbrev pub IsProvidedBy : TableValue → Maker → List ℕ → List ℕ → Type 0
 IsProvidedBy t (Object object) name file = (index : ℕ) × Provides t object index name file
-IsProvidedBy t (Info info) name file = (index : ℕ) × (entry : ModuleValue) × InfoProvides t info index entry × (entry.name ≡ name) × (entry.file ≡ file)
+IsProvidedBy t (Info info) name file = (index : ℕ) × (entry : ModuleValue)
+    × InfoProvides t info index entry × (entry.name ≡ name) × (entry.file ≡ file)
 
 -- somebody provides the name with the file
 abbrev pub IsProvided : TableValue → List ℕ → List ℕ → Type 0
@@ -40,7 +46,8 @@ IsInfoProvided t name file = (info : ℕ) × IsProvidedBy t (Info info) name fil
 
 -- the one object requires a name that the other one provides
 abbrev pub DependsOn : TableValue → ℕ → ℕ → Type 0
-DependsOn t object other = (name : List ℕ) × (file : List ℕ) × (index : ℕ) × Requires t object name × Provides t other index name file
+DependsOn t object other = (name : List ℕ) × (file : List ℕ) × (index : ℕ) × Requires t object name
+    × Provides t other index name file
 
 -- ---- as lists, in the order in which faults are looked for
 
@@ -52,14 +59,19 @@ pub record Provision : Type 0 where
   pub is_private : Bool
 
 abbrev pub object_provisions : ℕ × RuleValue → List Provision
-object_provisions object = map (λ p. record { maker = Object object.0; name = p.0; file = p.1; is_private = false }) object.1.provided
+object_provisions object = map
+    (λ p. record { maker = Object object.0; name = p.0; file = p.1; is_private = false })
+    object.1.provided
 
 abbrev pub info_provisions : ℕ × InfoValue → List Provision
-info_provisions info = map (λ m. record { maker = Info info.0; name = m.name; file = m.file; is_private = m.is_private }) info.1.modules
+info_provisions info = map
+    (λ m. record { maker = Info info.0; name = m.name; file = m.file; is_private = m.is_private })
+    info.1.modules
 
 -- all provided modules: by object and index, then by info and index
 abbrev pub provisions : TableValue → List Provision
-provisions t = flat_map object_provisions (enumerate_from 0 t.objects) ++ flat_map info_provisions (enumerate_from 0 t.infos)
+provisions t = flat_map object_provisions (enumerate_from 0 t.objects)
+    ++ flat_map info_provisions (enumerate_from 0 t.infos)
 
 -- a requirement of an info's module
 pub record InfoRequirement : Type 0 where
@@ -70,7 +82,9 @@ pub record InfoRequirement : Type 0 where
   pub file : List ℕ
 
 abbrev pub module_requirements : ℕ → List ℕ → ModuleValue → List InfoRequirement
-module_requirements info target entry = map (λ r. record { info = info; target = target; module_name = entry.name; name = r.0; file = r.1 }) entry.required
+module_requirements info target entry = map
+    (λ r. record { info = info; target = target; module_name = entry.name; name = r.0; file = r.1 })
+    entry.required
 
 abbrev pub requirements_of_info : ℕ × InfoValue → List InfoRequirement
 requirements_of_info info = flat_map (module_requirements info.0 info.1.target) info.1.modules

@@ -11,8 +11,10 @@ use Rattle.module_table.specs.Modules.{Provides, Requires, InfoRequires, IsProvi
 -- the object or the info's module that provides the first name requires the second
 abbrev pub LeadsTo : TableValue → List ℕ → List ℕ → Type 0
 LeadsTo t first second =
-    ((object : ℕ) × (index : ℕ) × (file : List ℕ) × Provides t object index first file × Requires t object second)
-    ⊎ ((info : ℕ) × (index : ℕ) × (entry : ModuleValue) × (file : List ℕ) × (entry.name ≡ first) × InfoRequires t info index entry second file)
+    ((object : ℕ) × (index : ℕ) × (file : List ℕ) × Provides t object index first file
+    × Requires t object second)
+    ⊎ ((info : ℕ) × (index : ℕ) × (entry : ModuleValue) × (file : List ℕ) × (entry.name ≡ first)
+    × InfoRequires t info index entry second file)
 
 -- the names lead from one to the next, to the last
 abbrev pub Leads : TableValue → List ℕ → List (List ℕ) → List ℕ → Type 0
@@ -21,7 +23,8 @@ Leads t first (second ∷ names) last = LeadsTo t first second × Leads t second
 
 -- the name is at the end of a list of names, of which the object requires the first
 abbrev pub IsNeeded : TableValue → ℕ → List ℕ → List ℕ → Type 0
-IsNeeded t object name file = (first : List ℕ) × (names : List (List ℕ)) × Requires t object first × Leads t first names name × IsProvided t name file
+IsNeeded t object name file = (first : List ℕ) × (names : List (List ℕ)) × Requires t object first
+    × Leads t first names name × IsProvided t name file
 
 -- the first name comes before the second in byte order
 abbrev pub Precedes : List ℕ → List ℕ → Type 0

@@ -16,8 +16,8 @@ abbrev pub SoundHasNoFault : Type 0
 SoundHasNoFault = (t : TableValue) (kept : List (List ℕ)) →
     IsSound t → KeptAreProvided t kept → HasNoFault t kept
 
--- A table without a fault is sound, and its objects provide the kept names. A fault has the objects of a
--- ring in a vector, so they may not be more than a vector holds.
+-- A table without a fault is sound, and its objects provide the kept names. A fault has the objects
+-- of a ring in a vector, so they may not be more than a vector holds.
 abbrev pub FaultlessIsSound : Type 0
 FaultlessIsSound = (t : TableValue) (kept : List (List ℕ)) →
     length t.objects < 2 ^ 63 → HasNoFault t kept → IsSound t × KeptAreProvided t kept

@@ -11,25 +11,33 @@ use Rattle.module_table.specs.Faults.{Claim, claims, Collides, HasPrivate}
 -- No fault from M1 to M9 is present.
 pub record IsSound (t : TableValue) : Type 0 where
   -- no two objects have one path
-  pub objects_differ : (o p : ℕ) (a b : RuleValue) → slice_get t.objects o ≡ Some a → slice_get t.objects p ≡ Some b → a.object ≡ b.object → o ≡ p
+  pub objects_differ : (o p : ℕ) (a b : RuleValue) → slice_get t.objects o ≡ Some a
+      → slice_get t.objects p ≡ Some b → a.object ≡ b.object → o ≡ p
   -- no two infos have one target name
-  pub infos_differ : (i j : ℕ) (a b : InfoValue) → slice_get t.infos i ≡ Some a → slice_get t.infos j ≡ Some b → a.target ≡ b.target → i ≡ j
+  pub infos_differ : (i j : ℕ) (a b : InfoValue) → slice_get t.infos i ≡ Some a
+      → slice_get t.infos j ≡ Some b → a.target ≡ b.target → i ≡ j
   -- no name is provided twice
-  pub names_differ : (i j : ℕ) (a b : Provision) → slice_get (provisions t) i ≡ Some a → slice_get (provisions t) j ≡ Some b → a.name ≡ b.name → i ≡ j
+  pub names_differ : (i j : ℕ) (a b : Provision) → slice_get (provisions t) i ≡ Some a
+      → slice_get (provisions t) j ≡ Some b → a.name ≡ b.name → i ≡ j
   -- no file is that of two modules, or of a module and an object
-  pub files_differ : (i j : ℕ) (a b : Claim) → i < j → slice_get (claims t) i ≡ Some a → slice_get (claims t) j ≡ Some b → Collides a b → ⊥
+  pub files_differ : (i j : ℕ) (a b : Claim) → i < j → slice_get (claims t) i ≡ Some a
+      → slice_get (claims t) j ≡ Some b → Collides a b → ⊥
   -- what an object requires is provided
   pub known : (o : ℕ) (name : List ℕ) → Requires t o name → (file : List ℕ) × IsProvided t name file
   -- what an info's module requires is provided by an info, with the file that it says
-  pub infos_known : (i j : ℕ) (m : ModuleValue) (name file : List ℕ) → InfoRequires t i j m name file → IsInfoProvided t name file
+  pub infos_known : (i j : ℕ) (m : ModuleValue) (name file : List ℕ)
+      → InfoRequires t i j m name file → IsInfoProvided t name file
   -- no objects need each other's modules in a ring
   pub acyclic : (cycle : List ℕ) → IsCycle (DependsOn t) cycle → ⊥
   pub orderable : IsOrderable (length t.objects) (DependsOn t)
   -- no object requires a module that is private to the target of an info
-  pub objects_allowed : (o info : ℕ) (name : List ℕ) → Requires t o name → HasPrivate t info name → ⊥
+  pub objects_allowed : (o info : ℕ) (name : List ℕ) → Requires t o name → HasPrivate t info name
+      → ⊥
   -- and no info's module requires one that is private to another target
-  pub infos_allowed : (i j info : ℕ) (m : ModuleValue) (name file : List ℕ) → InfoRequires t i j m name file → HasPrivate t info name → info ≡ i
+  pub infos_allowed : (i j info : ℕ) (m : ModuleValue) (name file : List ℕ)
+      → InfoRequires t i j m name file → HasPrivate t info name → info ≡ i
 
 -- every name that is to be private is one that an object provides
 abbrev pub KeptAreProvided : TableValue → List (List ℕ) → Type 0
-KeptAreProvided t kept = (name : List ℕ) → Contains kept name → (object : ℕ) × (index : ℕ) × (file : List ℕ) × Provides t object index name file
+KeptAreProvided t kept = (name : List ℕ) → Contains kept name → (object : ℕ) × (index : ℕ)
+    × (file : List ℕ) × Provides t object index name file

@@ -15,9 +15,9 @@ pub enum Maker {
 /// Why a table cannot be built. Of several faults the one with the lowest code is
 /// reported.
 ///
-/// Of M1 to M4 it is the repetition whose later member comes first, with its earliest partner, in the
-/// order: objects' own paths, provided modules by object, modules by info. Of M5 to M7, M9 and M10 it
-/// is the first requirement, by object or by info and module, or the first name.
+/// Of M1 to M4 it is the repetition whose later member comes first, with its earliest partner, in
+/// the order: objects' own paths, provided modules by object, modules by info. Of M5 to M7, M9 and
+/// M10 it is the first requirement, by object or by info and module, or the first name.
 #[derive(Drop)]
 pub enum TableFault {
     /// Two objects have one path.
@@ -53,19 +53,21 @@ pub enum TableFault {
         module_name: Name,
         name: Name,
     },
-    /// A module of an info requires a name with another file than that of the info that provides it.
+    /// A module of an info requires a name with another file than that of the info that provides
+    /// it.
     InfoDisagrees {
         target: TargetName,
         module_name: Name,
         name: Name,
     },
-    /// Objects need each other's modules in a ring: each needs the next, and the last needs the first.
-    /// The first is the least index on any ring, no ring through it is shorter, and of those that are
-    /// as short this list is least.
+    /// Objects need each other's modules in a ring: each needs the next, and the last needs the
+    /// first. The first is the least index on any ring, no ring through it is shorter, and of those
+    /// that are as short this list is least.
     ImportCycle {
         objects: Vec<usize>,
     },
-    /// An object, or a module of another info, requires a module that is private to the target of an info.
+    /// An object, or a module of another info, requires a module that is private to the target of
+    /// an info.
     ModulePrivate {
         name: Name,
         info: usize,

@@ -3,8 +3,8 @@
 ghost use Rattle.module_table.specs.Added.{AddedOrderable, FilesOnce, FilesApart, RequiredFiles, AllRequired, OneFile};
 ghost use Rattle.module_table.specs.Outcomes.{SoundHasNoFault, FaultlessIsSound, OneFault};
 
-/// A table is sound, and its objects provide the names that are to be private, exactly where none of
-/// the faults M1 to M10 is present.
+/// A table is sound, and its objects provide the names that are to be private, exactly where none
+/// of the faults M1 to M10 is present.
 pub fn sound_tables()
     ensures no_fault { SoundHasNoFault }
     ensures sound { FaultlessIsSound }
@@ -16,10 +16,10 @@ pub fn one_fault()
     ensures { OneFault }
 {}
 
-/// What a sound table means for the files that are added to a build: what objects gain as inputs from
-/// one another can be ordered, a file is that of one module of one object at most, and no module's
-/// file is an object. The pairs of an object are all names that it requires, with the files of their
-/// modules, and a name has one file.
+/// What a sound table means for the files that are added to a build: what objects gain as inputs
+/// from one another can be ordered, a file is that of one module of one object at most, and no
+/// module's file is an object. The pairs of an object are all names that it requires, with the
+/// files of their modules, and a name has one file.
 pub fn added_files()
     ensures orderable { AddedOrderable }
     ensures once { FilesOnce }

@@ -1,19 +1,19 @@
 //! The modules of one target and of the targets that it links, by name.
 //!
-//! [`Table::build`] makes a table of a target's rules and of the infos of the targets that it links.
-//! It succeeds exactly where none of the faults M1 to M10 is present (`specs/Faults.antt`,
+//! [`Table::build`] makes a table of a target's rules and of the infos of the targets that it
+//! links. It succeeds exactly where none of the faults M1 to M10 is present (`specs/Faults.antt`,
 //! `IsFault`), and else reports one that is present, with its data, and of the lowest code
 //! (`IsReported`). What holds where none is present is stated in `specs/Sound.antt`. The law
 //! [`sound_tables`] says that this holds exactly there, and [`one_fault`] that no other fault is
 //! reported (`specs/Outcomes.antt`).
 //!
-//! Names, paths, targets and files are looked up by their hashes. `build` hashes with a fixed seed, so
-//! that many of them can be chosen to collide, and the work then grows with their square. Where
+//! Names, paths, targets and files are looked up by their hashes. `build` hashes with a fixed seed,
+//! so that many of them can be chosen to collide, and the work then grows with their square. Where
 //! strangers write the scan documents or the infos, [`Table::build_with_hasher`] does the same with
 //! the keys of a `RandomState`.
 //!
-//! [`Table::lookup`] answers who provides a name, [`Table::provided`] and [`Table::required`] what an
-//! object provides and requires, and [`Table::needed`] the modules at the ends of chains of
+//! [`Table::lookup`] answers who provides a name, [`Table::provided`] and [`Table::required`] what
+//! an object provides and requires, and [`Table::needed`] the modules at the ends of chains of
 //! requirements (`specs/Needed.antt`); [`Table::needs`] answers the same for one object after the
 //! other. The law [`added_files`] says what a sound table means for the files that are added to a
 //! build (`specs/Added.antt`). These definitions are relations over rules and infos
@@ -25,26 +25,26 @@
 //!
 //! # How it works
 //!
-//! - `modules.rt`: who provides which module. A module's index is the one that it has in the list of all that
-//!   objects and infos provide, and that of its name in a table of names. `Modules` keeps both, and
-//!   that they belong together is its invariant.
+//! - `modules.rt`: who provides which module. A module's index is the one that it has in the list
+//!   of all that objects and infos provide, and that of its name in a table of names. `Modules`
+//!   keeps both, and that they belong together is its invariant.
 //! - `checks.rt` makes the checks in the order of the codes, each a function of its own; the first
-//!   that fails reports its fault, so that the lowest code is reported. `checks/repeated.rt` has M1 to
-//!   M4, `checks/required.rt` M5 to M7, `checks/rings.rt` M8, which asks `order` of `dep_order` and
-//!   carries its answer over to `DependsOn`, and `checks/privacy.rt` M9 and M10. What infos' modules
-//!   require is listed in `requirements.rt`, each with the module of that name, which M6, M7 and M9
-//!   ask.
-//! - `table.rt`: a table keeps the names, who provides each, what each object requires with the files
-//!   (`pairs.rt`), and a digraph of modules and objects (`graph.rt`): a module of an object needs the
-//!   object, a module of an info what it requires, an object what it requires.
-//! - `needed.rt`: [`Needs`] asks `Reaching` of `dep_order` in that graph, and sorts what it finds by
-//!   the ranks of the names, which are given once (`ranks.rt`).
+//!   that fails reports its fault, so that the lowest code is reported. `checks/repeated.rt` has M1
+//!   to M4, `checks/required.rt` M5 to M7, `checks/rings.rt` M8, which asks `order` of `dep_order`
+//!   and carries its answer over to `DependsOn`, and `checks/privacy.rt` M9 and M10. What infos'
+//!   modules require is listed in `requirements.rt`, each with the module of that name, which M6,
+//!   M7 and M9 ask.
+//! - `table.rt`: a table keeps the names, who provides each, what each object requires with the
+//!   files (`pairs.rt`), and a digraph of modules and objects (`graph.rt`): a module of an object
+//!   needs the object, a module of an info what it requires, an object what it requires.
+//! - `needed.rt`: [`Needs`] asks `Reaching` of `dep_order` in that graph, and sorts what it finds
+//!   by the ranks of the names, which are given once (`ranks.rt`).
 //!
 //! That one list at most has exactly the pairs of a relation is in `proofs/ForCallers.antt`, which
 //! alone of the proofs is cited by other crates.
 //!
-//! It stands on `scan_docs` for rules, infos and names, on `ninja_text` for paths, on `dep_order` for
-//! rings and for what a module leads to, and on `indexmap` for look-ups.
+//! It stands on `scan_docs` for rules, infos and names, on `ninja_text` for paths, on `dep_order`
+//! for rings and for what a module leads to, and on `indexmap` for look-ups.
 #![tactic(auto)]
 
 mod checks;

@@ -1,4 +1,5 @@
-//! Who provides which module: the modules of a target's objects and of the infos, by index and by name.
+//! Who provides which module: the modules of a target's objects and of the infos, by index and by
+//! name.
 ghost use Rattle.std.specs.Prelude.{◌≡◌, ◌<◌, ◌++◌, ℕ, map, length, slice_get, Some, IfOk, OnOk, IfSome, IfNone};
 ghost use Rattle.std.specs.List.{flat_map, enumerate_from};
 ghost use Rattle.std.specs.Option.{option_map};
@@ -17,8 +18,8 @@ use std::alloc::{AllocError, Global};
 use std::hash::BuildHasher;
 use std::marker::Model;
 
-/// A provided module: who provides it, and at which index among the modules that its maker provides.
-/// Those of objects are not private.
+/// A provided module: who provides it, and at which index among the modules that its maker
+/// provides. Those of objects are not private.
 #[derive(Clone, Copy)]
 pub(crate) struct Module<'t> {
     pub maker: Maker,
@@ -162,7 +163,8 @@ pub(crate) fn provided_modules<'t>(
 
 fn add_objects<'t>(objects: &'t [Rule], all: &mut Vec<Module<'t>>) -> Result<(), AllocError>
     ensures provisions { OnOk result (map provision_of all.new.items
-        ≡ map provision_of all.old.items ++ flat_map object_provisions (enumerate_from 0 objects.now)) }
+        ≡ map provision_of all.old.items
+        ++ flat_map object_provisions (enumerate_from 0 objects.now)) }
     ensures origins { OnOk result (map origin_of all.new.items
         ≡ map origin_of all.old.items ++ flat_map object_origins (enumerate_from 0 objects.now)) }
 {
@@ -235,7 +237,8 @@ pub(crate) fn module_at<'p, 't>(provided: &'p [Module<'t>], index: usize) -> &'p
 /// The index of the name, if it is there.
 pub(crate) fn index_of<S: BuildHasher>(names: &IndexSet<Name, S>, name: &Name) -> Option<usize>
     ensures found { IfSome result (λ index. slice_get names.now.keys index ≡ Some name.now) }
-    ensures none { IfNone result ((index : ℕ) → slice_get names.now.keys index ≡ Some name.now → ⊥) }
+    ensures none { IfNone result
+        ((index : ℕ) → slice_get names.now.keys index ≡ Some name.now → ⊥) }
 {
     names.get_index_of(name)
 }

@@ -18,8 +18,8 @@ use std::alloc::{AllocError, Global};
 use std::marker::Model;
 
 /// The modules that the objects of a table need, one object after the other. It keeps its workspace
-/// from one object to the next, so that the work for an object grows with what it needs, and not with
-/// the table. A contract sees it as the table.
+/// from one object to the next, so that the work for an object grows with what it needs, and not
+/// with the table. A contract sees it as the table.
 #[derive(Drop)]
 pub struct Needs<'t> {
     objects: &'t [Rule],

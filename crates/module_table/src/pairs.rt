@@ -13,8 +13,8 @@ use scan_docs::Name;
 use std::alloc::{AllocError, Global};
 use std::hash::BuildHasher;
 
-/// The modules that each object requires, in order of first mention, each once. Each object has a row
-/// of the indexes of what it requires.
+/// The modules that each object requires, in order of first mention, each once. Each object has a
+/// row of the indexes of what it requires.
 pub(crate) fn all_pairs<S: BuildHasher>(
     alloc: Global,
     modules: &Modules<S>,

@@ -10,7 +10,8 @@ use scan_docs::{Info, InfoModule, Name, TargetName};
 use std::alloc::{AllocError, Global};
 use std::hash::BuildHasher;
 
-/// A requirement of an info's module, with the file that the info says, and the module of that name.
+/// A requirement of an info's module, with the file that the info says, and the module of that
+/// name.
 #[derive(Clone, Copy)]
 pub(crate) struct InfoRequired<'m, 't> {
     pub info: usize,
@@ -60,7 +61,8 @@ fn add_module<'m, 't, S: BuildHasher>(
     all: &mut Vec<InfoRequired<'m, 't>>,
 ) -> Result<(), AllocError>
     ensures { OnOk result (map looked_up all.new.items
-        ≡ map looked_up all.old.items ++ lookups_of (provisions modules.now) info target.now entry.now) }
+        ≡ map looked_up all.old.items
+        ++ lookups_of (provisions modules.now) info target.now entry.now) }
 {
     for pair in &entry.required {
         all.push(InfoRequired {

@@ -53,7 +53,8 @@ impl<S: BuildHasher> Model for Table<S> {
     ghost view = { λ t. table_with t.objects.items t.infos.items };
 
     ghost invariant = { λ t. IsSound (table_with t.objects.items t.infos.items)
-        × (map (λ row. row.items) t.required.items ≡ map (required_of (table_with t.objects.items t.infos.items)) t.objects.items)
+        × (map (λ row. row.items) t.required.items ≡ map
+        (required_of (table_with t.objects.items t.infos.items)) t.objects.items)
         × (t.names.keys ≡ names_of (provisions (table_with t.objects.items t.infos.items)))
         × (t.origins.items ≡ origins_of (table_with t.objects.items t.infos.items))
         × IsModuleGraph (table_with t.objects.items t.infos.items) t.graph };
@@ -84,8 +85,8 @@ impl Table {
 }
 
 impl<S: BuildHasher + Copy> Table<S> {
-    /// The same, where names and files are hashed by `hash_builder`: with the keys of a `RandomState`
-    /// nobody who chooses names can make many of them collide.
+    /// The same, where names and files are hashed by `hash_builder`: with the keys of a
+    /// `RandomState` nobody who chooses names can make many of them collide.
     pub fn build_with_hasher(
         alloc: Global,
         objects: Vec<Rule>,
@@ -131,7 +132,8 @@ impl<S: BuildHasher> Table<S> {
     /// The modules that an object provides, by index.
     pub fn provided(&self, object: usize) -> &[(Name, Path)]
         requires { object < length self.now.objects }
-        ensures { (rule : RuleValue) → slice_get self.now.objects object ≡ Some rule → result.now ≡ rule.provided }
+        ensures { (rule : RuleValue) → slice_get self.now.objects object ≡ Some rule
+            → result.now ≡ rule.provided }
     {
         &self.objects[object].provided
     }
@@ -139,14 +141,16 @@ impl<S: BuildHasher> Table<S> {
     /// The modules that an object requires, in order of first mention, each once.
     pub fn required(&self, object: usize) -> &[(Name, Path)]
         requires { object < length self.now.objects }
-        ensures { (rule : RuleValue) → slice_get self.now.objects object ≡ Some rule → result.now ≡ required_of self.now rule }
+        ensures { (rule : RuleValue) → slice_get self.now.objects object ≡ Some rule
+            → result.now ≡ required_of self.now rule }
     {
         &self.required[object]
     }
 
     /// The file of the module of that name, and who provides it; `None` where nobody does.
     pub fn lookup(&self, name: &Name) -> Option<(&Path, Maker)>
-        ensures found { IfSome result (λ found. IsProvidedBy self.now found.1 name.now found.0.now) }
+        ensures found { IfSome result
+            (λ found. IsProvidedBy self.now found.1 name.now found.0.now) }
         ensures none { IfNone result (IsUnknown self.now name.now) }
     {
         match index_of(&self.names, name) {

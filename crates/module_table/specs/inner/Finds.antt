@@ -1,5 +1,5 @@
--- What the checks ask of the modules that they find by name, and which element of a list is the first
--- that is refused.
+-- What the checks ask of the modules that they find by name, and which element of a list is the
+-- first that is refused.
 use Rattle.std.specs.Prelude.{◌≡◌, ◌≢◌, ℕ, ◌<◌, Bool, true, false, not, ◌||◌, List, slice_get, find, bytes_eq, nat_eq, Option, Some, None}
 use Rattle.scan_docs.specs.Scan.{RuleValue}
 use Rattle.module_table.specs.Modules.{Provision, InfoRequirement}
@@ -79,17 +79,20 @@ Differs modules r = (k : ℕ) × (p : Provision) × IsNamed modules r.name k p �
 
 abbrev pub IsAllowed : List Provision → InfoRequirement → Type 0
 IsAllowed modules r =
-    (k : ℕ) (p : Provision) → IsNamed modules r.name k p → p.is_private ≡ true → p.maker ≡ Info r.info
+    (k : ℕ) (p : Provision) → IsNamed modules r.name k p → p.is_private ≡ true
+    → p.maker ≡ Info r.info
 
 abbrev pub IsNotAllowed : List Provision → InfoRequirement → Type 0
 IsNotAllowed modules r =
-    (k : ℕ) × (p : Provision) × IsNamed modules r.name k p × (p.is_private ≡ true) × (p.maker ≢ Info r.info)
+    (k : ℕ) × (p : Provision) × IsNamed modules r.name k p × (p.is_private ≡ true)
+    × (p.maker ≢ Info r.info)
 
 abbrev pub IsPublic : List Provision → List ℕ → Type 0
 IsPublic modules name = (k : ℕ) (p : Provision) → IsNamed modules name k p → p.is_private ≡ false
 
 abbrev pub IsPrivate : List Provision → List ℕ → Type 0
-IsPrivate modules name = (k : ℕ) × (p : Provision) × IsNamed modules name k p × (p.is_private ≡ true)
+IsPrivate modules name = (k : ℕ) × (p : Provision) × IsNamed modules name k p
+    × (p.is_private ≡ true)
 
 abbrev pub IsByObject : List Provision → List ℕ → Type 0
 IsByObject modules name =
@@ -101,17 +104,20 @@ IsNotByObject modules name = IsByObject modules name → ⊥
 -- only infos have private modules
 abbrev pub ArePrivateByInfos : List Provision → Type 0
 ArePrivateByInfos modules =
-    (k : ℕ) (p : Provision) → slice_get modules k ≡ Some p → p.is_private ≡ true → (info : ℕ) × (p.maker ≡ Info info)
+    (k : ℕ) (p : Provision) → slice_get modules k ≡ Some p → p.is_private ≡ true → (info : ℕ)
+    × (p.maker ≡ Info info)
 
 -- the module of that name is private to this info
 abbrev pub IsPrivateTo : List Provision → List ℕ → ℕ → Type 0
 IsPrivateTo modules name info =
-    (k : ℕ) × (p : Provision) × IsNamed modules name k p × (p.is_private ≡ true) × (p.maker ≡ Info info)
+    (k : ℕ) × (p : Provision) × IsNamed modules name k p × (p.is_private ≡ true)
+    × (p.maker ≡ Info info)
 
 -- ---- in a list
 
 -- the first element that is refused, behind accepted ones
-pub record RefusesAt {X : Type 0} (Accepted Refused : X → Type 0) (xs : List X) (index : ℕ) : Type 0 where
+pub record RefusesAt {X : Type 0} (Accepted Refused : X → Type 0) (xs : List X) (index : ℕ)
+    : Type 0 where
   pub x : X
   pub here : slice_get xs index ≡ Some x
   pub refused : Refused x

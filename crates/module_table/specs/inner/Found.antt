@@ -19,7 +19,9 @@ with_module modules r = (r, found modules r.name)
 -- the requirements of a module of the info, with the modules of those names
 abbrev pub lookups_of : List Provision → ℕ → List ℕ → ModuleValue → List LookedUp
 lookups_of modules info target entry =
-    map (λ r. with_module modules (record { info = info; target = target; module_name = entry.name; name = r.0; file = r.1 })) entry.required
+    map (λ r. with_module modules
+    (record { info = info; target = target; module_name = entry.name; name = r.0; file = r.1 }))
+    entry.required
 
 -- all requirements of infos' modules, each with the module of that name
 abbrev pub AreLookedUp : TableValue → List InfoRequired → Type 0

@@ -23,7 +23,8 @@ indexes_in names pairs = filter_map (λ pair. index_in names pair.0) pairs
 -- module of an info what it requires
 abbrev pub IsModuleRow : List (List ℕ) → List InfoValue → Maker × ℕ → List ℕ → Type 0
 IsModuleRow names infos (Object object, index) row = row ≡ (length names + object) ∷ []
-IsModuleRow names infos (Info info, index) row = (entry : ModuleValue) × IsInfosModule infos info index entry × (row ≡ indexes_in names entry.required)
+IsModuleRow names infos (Info info, index) row = (entry : ModuleValue)
+    × IsInfosModule infos info index entry × (row ≡ indexes_in names entry.required)
 
 -- What each module needs, by index, and behind all modules what each object needs.
 pub record IsModuleGraph (t : TableValue) (graph : List (List ℕ)) : Type 0 where
@@ -31,10 +32,12 @@ pub record IsModuleGraph (t : TableValue) (graph : List (List ℕ)) : Type 0 whe
   pub objects : List (List ℕ)
   pub all : graph ≡ modules ++ objects
   pub of_modules : AllZip (IsModuleRow (names_of (provisions t)) t.infos) (origins_of t) modules
-  pub of_objects : map (λ row. map (slice_get (names_of (provisions t))) row) objects ≡ map (λ rule. map (λ name. Some name) rule.required) t.objects
+  pub of_objects : map (λ row. map (slice_get (names_of (provisions t))) row) objects
+      ≡ map (λ rule. map (λ name. Some name) rule.required) t.objects
 
 -- the names and origins of all modules, the infos, and the rows of indexes of what objects require
-pub record AreGraphParts (t : TableValue) (names : List (List ℕ)) (origins : List (Maker × ℕ)) (infos : List InfoValue) (rows : List (List ℕ)) : Type 0 where
+pub record AreGraphParts (t : TableValue) (names : List (List ℕ)) (origins : List (Maker × ℕ))
+    (infos : List InfoValue) (rows : List (List ℕ)) : Type 0 where
   pub same_names : names ≡ names_of (provisions t)
   pub same_origins : origins ≡ origins_of t
   pub same_infos : infos ≡ t.infos

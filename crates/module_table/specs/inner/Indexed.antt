@@ -9,21 +9,25 @@ use Rattle.module_table.specs.declared.fault.Maker.TheVariants.{Object, Info}
 
 -- this is the pair of the object at this index
 abbrev pub IsObjectsPair : List RuleValue → ℕ → ℕ → List ℕ × List ℕ → Type 0
-IsObjectsPair objects object index pair = (rule : RuleValue) × (slice_get objects object ≡ Some rule) × (slice_get rule.provided index ≡ Some pair)
+IsObjectsPair objects object index pair = (rule : RuleValue)
+    × (slice_get objects object ≡ Some rule) × (slice_get rule.provided index ≡ Some pair)
 
 -- this is the module of the info at this index
 abbrev pub IsInfosModule : List InfoValue → ℕ → ℕ → ModuleValue → Type 0
-IsInfosModule infos info index entry = (value : InfoValue) × (slice_get infos info ≡ Some value) × (slice_get value.modules index ≡ Some entry)
+IsInfosModule infos info index entry = (value : InfoValue) × (slice_get infos info ≡ Some value)
+    × (slice_get value.modules index ≡ Some entry)
 
 -- the module of this origin has this name and this file
 abbrev pub IsNamedAt : List RuleValue → List InfoValue → Maker × ℕ → List ℕ × List ℕ → Type 0
 IsNamedAt objects infos (Object object, index) pair = IsObjectsPair objects object index pair
-IsNamedAt objects infos (Info info, index) pair = (entry : ModuleValue) × IsInfosModule infos info index entry × (entry.name ≡ pair.0) × (entry.file ≡ pair.1)
+IsNamedAt objects infos (Info info, index) pair = (entry : ModuleValue)
+    × IsInfosModule infos info index entry × (entry.name ≡ pair.0) × (entry.file ≡ pair.1)
 
 -- the origin is that of one of so many objects, or of a module of these infos
 abbrev pub IsOriginAmong : ℕ → List InfoValue → Maker × ℕ → Type 0
 IsOriginAmong object_count infos (Object object, index) = object < object_count
-IsOriginAmong object_count infos (Info info, index) = (entry : ModuleValue) × IsInfosModule infos info index entry
+IsOriginAmong object_count infos (Info info, index) = (entry : ModuleValue)
+    × IsInfosModule infos info index entry
 
 -- the name and the file of the module of that index
 abbrev pub pair_at : List Provision → ℕ → Option (List ℕ × List ℕ)

@@ -7,8 +7,8 @@ use Rattle.module_table.specs.inner.Repetition.{AllDiffer}
 abbrev pub name_in : List (List ℕ) → ℕ → List ℕ
 name_in names index = get_or names index []
 
--- whatever the names are, if no two are alike: those of the mentioned indexes are those of all, each
--- once, in order of first mention
+-- whatever the names are, if no two are alike: those of the mentioned indexes are those of all,
+-- each once, in order of first mention
 abbrev pub AreFirsts : ℕ → List ℕ → List ℕ → Type 0
 AreFirsts count indexes mentioned =
     (names : List (List ℕ)) → AllDiffer names → length names ≡ count →
@@ -17,6 +17,7 @@ AreFirsts count indexes mentioned =
 -- what has the mark is what was mentioned
 pub record AreMarked (mark : ℕ) (marks mentioned : List ℕ) : Type 0 where
   pub at_most : All (λ m. m ≤ mark) marks
-  pub met : (i : ℕ) → i < length marks → get_or marks i 0 ≡ mark → (k : ℕ) × (slice_get mentioned k ≡ Some i)
+  pub met : (i : ℕ) → i < length marks → get_or marks i 0 ≡ mark → (k : ℕ)
+      × (slice_get mentioned k ≡ Some i)
   pub within : (k i : ℕ) → slice_get mentioned k ≡ Some i → i < length marks
   pub marked : (k i : ℕ) → slice_get mentioned k ≡ Some i → get_or marks i 0 ≡ mark

@@ -14,10 +14,12 @@ AreIndexes t rows =
     ≡ map (λ rule. map (λ name. Some name) rule.required) t.objects
 
 -- the same of a list of modules, no two of which have one name
-pub record IsNumbered (t : TableValue) (provided : List Provision) (rows : List (List ℕ)) : Type 0 where
+pub record IsNumbered (t : TableValue) (provided : List Provision) (rows : List (List ℕ))
+    : Type 0 where
   pub all_provided : provided ≡ provisions t
   pub differ : AllDiffer (names_of provided)
-  pub numbers : map (λ row. map (slice_get (names_of provided)) row) rows ≡ map (λ rule. map (λ name. Some name) rule.required) t.objects
+  pub numbers : map (λ row. map (slice_get (names_of provided)) row) rows
+      ≡ map (λ rule. map (λ name. Some name) rule.required) t.objects
 
 -- the object, where the maker is one
 abbrev pub object_of : Maker → Option ℕ

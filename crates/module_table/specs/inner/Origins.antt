@@ -20,7 +20,8 @@ info_origins info = map (λ m. (Info info.0, m.0)) (enumerate_from 0 info.1.modu
 
 -- the origins of all provided modules, in their order: by object and index, then by info and index
 abbrev pub origins_of : TableValue → List Origin
-origins_of t = flat_map object_origins (enumerate_from 0 t.objects) ++ flat_map info_origins (enumerate_from 0 t.infos)
+origins_of t = flat_map object_origins (enumerate_from 0 t.objects)
+    ++ flat_map info_origins (enumerate_from 0 t.infos)
 
 -- the origin of a borrowed module
 abbrev pub origin_of : Module → Origin

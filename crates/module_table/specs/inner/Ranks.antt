@@ -10,30 +10,38 @@ abbrev pub Numbered : Type 0
 Numbered = (Bor (List ℕ) × Bor (List ℕ)) × ℕ
 
 -- each module in order of numbers
-pub record AreListed (provided : List Provision) (count : ℕ) (modules : List Numbered) : Type 0 where
+pub record AreListed (provided : List Provision) (count : ℕ) (modules : List Numbered)
+    : Type 0 where
   pub as_many : length modules ≡ count
   pub numbers : (k : ℕ) (m : Numbered) → slice_get modules k ≡ Some m → m.1 ≡ k
-  pub pairs : (k : ℕ) (m : Numbered) → slice_get modules k ≡ Some m → pair_at provided k ≡ Some (lent m.0)
+  pub pairs : (k : ℕ) (m : Numbered) → slice_get modules k ≡ Some m
+      → pair_at provided k ≡ Some (lent m.0)
 
 -- all modules, each once, in byte order of names
 pub record AreByName (provided : List Provision) (modules : List Numbered) : Type 0 where
   pub as_many : length modules ≡ length provided
-  pub pairs : (r : ℕ) (m : Numbered) → slice_get modules r ≡ Some m → pair_at provided m.1 ≡ Some (lent m.0)
-  pub all : (k : ℕ) → k < length provided → (r : ℕ) × (m : Numbered) × (slice_get modules r ≡ Some m) × (m.1 ≡ k)
+  pub pairs : (r : ℕ) (m : Numbered) → slice_get modules r ≡ Some m
+      → pair_at provided m.1 ≡ Some (lent m.0)
+  pub all : (k : ℕ) → k < length provided → (r : ℕ) × (m : Numbered)
+      × (slice_get modules r ≡ Some m) × (m.1 ≡ k)
   pub rising : AllPairs (λ a b. Precedes a.0.0.now b.0.0.now) modules
 
 -- no number stands there twice
 pub record AreNumbers (modules : List Numbered) : Type 0 where
   pub below : (r : ℕ) (m : Numbered) → slice_get modules r ≡ Some m → m.1 < length modules
-  pub once : (r s : ℕ) (m n : Numbered) → slice_get modules r ≡ Some m → slice_get modules s ≡ Some n → m.1 ≡ n.1 → r ≡ s
+  pub once : (r s : ℕ) (m n : Numbered) → slice_get modules r ≡ Some m
+      → slice_get modules s ≡ Some n → m.1 ≡ n.1 → r ≡ s
 
 -- the index of each of the first modules, by its number
 pub record AreRanks (modules : List Numbered) (count : ℕ) (ranks : List ℕ) : Type 0 where
   pub as_many : length ranks ≡ length modules
-  pub each : (r : ℕ) (m : Numbered) → r < count → slice_get modules r ≡ Some m → slice_index ranks m.1 ≡ r
+  pub each : (r : ℕ) (m : Numbered) → r < count → slice_get modules r ≡ Some m
+      → slice_index ranks m.1 ≡ r
 
 -- The names and files of all modules, in byte order of names, and the index of each, by its number.
-pub record AreRanked (provided : List Provision) (ranks : List ℕ) (pairs : List (List ℕ × List ℕ)) : Type 0 where
+pub record AreRanked (provided : List Provision) (ranks : List ℕ) (pairs : List (List ℕ × List ℕ))
+    : Type 0 where
   pub as_many : length ranks ≡ length provided
-  pub each : (k : ℕ) (p : Provision) → slice_get provided k ≡ Some p → (r : ℕ) × (slice_get ranks k ≡ Some r) × (slice_get pairs r ≡ Some (p.name, p.file))
+  pub each : (k : ℕ) (p : Provision) → slice_get provided k ≡ Some p → (r : ℕ)
+      × (slice_get ranks k ≡ Some r) × (slice_get pairs r ≡ Some (p.name, p.file))
   pub rising : AllPairs (λ a b. Precedes a.0 b.0) pairs

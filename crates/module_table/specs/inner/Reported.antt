@@ -5,6 +5,7 @@ use Rattle.module_table.specs.Faults.{IsFault, code_number}
 use Rattle.module_table.specs.declared.fault.TableFault.{TableFault}
 
 -- the fault is present in the table, and has this code
-pub record Reports (code : ℕ) (t : TableValue) (kept : List (List ℕ)) (fault : TableFault) : Type 0 where
+pub record Reports (code : ℕ) (t : TableValue) (kept : List (List ℕ)) (fault : TableFault)
+    : Type 0 where
   pub present : IsFault t kept fault
   pub coded : code_number fault ≡ code

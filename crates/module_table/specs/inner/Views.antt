@@ -10,11 +10,22 @@ use Rattle.module_table.specs.declared.fault.TableFault.TheVariants.{ProvidedTwi
 
 -- a provided module, as a contract sees it
 abbrev pub provision_of : Module → Provision
-provision_of p = record { maker = p.maker; name = p.name.now; file = p.file.now; is_private = p.is_private }
+provision_of p = record {
+  maker = p.maker;
+  name = p.name.now;
+  file = p.file.now;
+  is_private = p.is_private;
+}
 
 -- a requirement of an info's module, as a contract sees it
 abbrev pub requirement_of : InfoRequired → InfoRequirement
-requirement_of r = record { info = r.info; target = r.target.now; module_name = r.module_name.now; name = r.name.now; file = r.file.now }
+requirement_of r = record {
+  info = r.info;
+  target = r.target.now;
+  module_name = r.module_name.now;
+  name = r.name.now;
+  file = r.file.now;
+}
 
 abbrev pub names_of : List Provision → List (List ℕ)
 names_of provided = map (λ p. p.name) provided
@@ -24,12 +35,16 @@ files_of provided = map (λ p. p.file) provided
 
 -- the fault says that these two provide one name
 abbrev pub IsProvidedTwice : List Provision → ℕ → ℕ → TableFault → Type 0
-IsProvidedTwice provided i j fault = (a : Provision) × (b : Provision) × (slice_get provided i ≡ Some a) × (slice_get provided j ≡ Some b)
+IsProvidedTwice provided i j fault = (a : Provision) × (b : Provision)
+    × (slice_get provided i ≡ Some a) × (slice_get provided j ≡ Some b)
     × (fault ≡ ProvidedTwice b.name a.maker b.maker)
 
--- the fault says that the files at these indexes are one: of objects' own paths, and then of modules
+-- the fault says that the files at these indexes are one: of objects' own paths, and then of
+-- modules
 abbrev pub IsMadeTwice : List RuleValue → List Provision → ℕ → ℕ → TableFault → Type 0
-IsMadeTwice objects provided i j fault = (a : Claim) × (b : Claim) × (slice_get (claims_of objects provided) i ≡ Some a) × (slice_get (claims_of objects provided) j ≡ Some b)
+IsMadeTwice objects provided i j fault = (a : Claim) × (b : Claim)
+    × (slice_get (claims_of objects provided) i ≡ Some a)
+    × (slice_get (claims_of objects provided) j ≡ Some b)
     × (fault ≡ BmiTwice b.file a.maker b.maker)
 
 -- no key is the name

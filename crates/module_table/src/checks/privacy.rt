@@ -98,7 +98,8 @@ fn private_fault<S: BuildHasher>(
 ) -> Result<TableFault, AllocError>
     requires { IsPrivate (provisions modules.now) name.now }
     ensures { IfOk result (λ fault. (info : ℕ)
-        × IsPrivateTo (provisions modules.now) name.now info × (fault ≡ ModulePrivate name.now info user)) }
+        × IsPrivateTo (provisions modules.now) name.now info
+        × (fault ≡ ModulePrivate name.now info user)) }
 {
     let info = info_of(modules, name);
     let name = name.copy(alloc)?;
@@ -137,7 +138,8 @@ fn first_not_allowed(all: &[InfoRequired]) -> Option<usize>
 }
 
 fn first_not_by_object<S: BuildHasher>(modules: &Modules<S>, names: &[Name]) -> Option<usize>
-    ensures { result ≡ position (λ name. not (is_by_object (provisions modules.now) name)) names.now }
+    ensures { result ≡ position
+        (λ name. not (is_by_object (provisions modules.now) name)) names.now }
 {
     names.iter().position(|name| !is_by_object(modules, name))
 }

@@ -1,5 +1,5 @@
-//! M1 to M4: what stands twice among the paths of objects, the targets of infos, the names of modules
-//! and the files.
+//! M1 to M4: what stands twice among the paths of objects, the targets of infos, the names of
+//! modules and the files.
 ghost use Rattle.std.specs.Prelude.{◌≡◌, ◌<◌, ◌≤◌, ◌+◌, ◌++◌, ℕ, List, map, length, slice_get, Some, IfOk, IfErr, OnOk};
 ghost use Rattle.ninja_text.specs.Failure.{ForFault};
 ghost use Rattle.module_table.specs.TableValue.{TableValue, table_with};
@@ -121,8 +121,8 @@ fn provided_twice(
     })
 }
 
-/// M4: no file is that of two provided modules, or of a module and an object. No two objects have one
-/// path here, so a file that is made twice is a module's at least once.
+/// M4: no file is that of two provided modules, or of a module and an object. No two objects have
+/// one path here, so a file that is made twice is a module's at least once.
 pub(crate) fn check_files<S: BuildHasher + Copy>(
     alloc: Global,
     modules: &Modules<S>,

@@ -100,7 +100,8 @@ pub(crate) fn check_infos_agree<S: BuildHasher>(
     all: &[InfoRequired],
 ) -> Result<(), Failure<TableFault>>
     requires all { AreLookedUp modules.now all.now }
-    requires known { AcceptsAll (IsByInfo (provisions modules.now)) (info_requirements modules.now) }
+    requires known { AcceptsAll (IsByInfo (provisions modules.now))
+        (info_requirements modules.now) }
     ensures ok { OnOk result
         (AcceptsAll (Agrees (provisions modules.now)) (info_requirements modules.now)) }
     ensures fault { IfErr result (ForFault
