@@ -64,7 +64,7 @@ failure_before (c ∷ cs) b f e = some_step c.holds (Fault c.refusal) f (first_f
 
 -- ---- entries of a list
 
-AllZip-push : {A B : Type 0} (R : A → B → Type 0) (xs : List A) (ys : List B) (x : A) (y : B) → AllZip R xs ys → R x y → AllZip R (xs ++ x ∷ []) (ys ++ y ∷ [])
+pub AllZip-push : {A B : Type 0} (R : A → B → Type 0) (xs : List A) (ys : List B) (x : A) (y : B) → AllZip R xs ys → R x y → AllZip R (xs ++ x ∷ []) (ys ++ y ∷ [])
 AllZip-push R [] [] x y h r = (r, tt)
 AllZip-push R [] (b ∷ ys) x y h r = absurd h
 AllZip-push R (a ∷ xs) [] x y h r = absurd h

@@ -10,6 +10,7 @@ pub mod Parts
 pub mod Texts
 pub mod Dashed
 pub mod Each
+pub mod ScanMembers
 pub mod Values
 pub mod Exact
 pub mod InfoTrees

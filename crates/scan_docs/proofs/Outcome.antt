@@ -1,5 +1,5 @@
 -- What a document's reader answers, from what the reader of the part of its tree that counts answers.
-use Rattle.std.proofs.Common.{◌≡◌, ◌≢◌, ℕ, ◌≤◌, List, length, Result, Ok, Err, IfOk, IfErr, sym, ap, ◌∙◌, subst}
+use Rattle.std.proofs.Common.{inl, inr, ◌≡◌, ◌≢◌, ℕ, ◌≤◌, List, length, Result, Ok, Err, IfOk, IfErr, sym, ap, ◌∙◌, subst}
 use Rattle.json.specs.Json as json
 use Rattle.ninja_text.specs.Failure.{ForFault}
 use Rattle.ninja_text.specs.declared.failure.Failure.{Failure}
@@ -9,9 +9,9 @@ use Rattle.scan_docs.specs.declared.fault.DocFault.{DocFault}
 use Rattle.scan_docs.specs.declared.form.Form.{Form}
 use Rattle.scan_docs.specs.Check.{Check}
 use Rattle.scan_docs.specs.inner.Part.{tree_part, IsPart}
-use Rattle.scan_docs.specs.inner.Reading.{first_failure, Answers}
+use Rattle.scan_docs.specs.inner.Reading.{first_failure, Answers, IsNoTree}
 use Rattle.scan_docs.specs.inner.Tree.{data_of}
-use Rattle.scan_docs.specs.Document.{document_limit, IsAccepted, IsRefused, false_check}
+use Rattle.scan_docs.specs.Document.{document_limit, IsAccepted, IsRefused, large, no_tree, false_check}
 use Rattle.scan_docs.proofs.Each.{none_refused, some_refused}
 
 -- the checks and the meaning look at nothing but what counts in this form
@@ -21,6 +21,14 @@ pub record LooksAt {V : Type 0} (form : Form) (checks : Data → List Check) (me
 
 apart : {F : Type 0} (f : F) → Fault f ≢ Memory
 apart f e = cc
+
+-- bytes without a tree are refused, whatever the checks are
+pub refused_without_tree : (checks : Data → List Check) (bytes : List ℕ) (e : Failure DocFault) → (e ≢ Memory → IsNoTree bytes e) → ForFault (IsRefused checks bytes) e
+refused_without_tree checks bytes Memory h = tt
+refused_without_tree checks bytes (Fault f) h = elim (h (apart f)) [
+  | inl x ↦ let same = x.1 in large x.0 (cc)
+  | inr x ↦ let same = x.2 in no_tree x.0 x.1 (cc)
+]
 
 module _ {T V : Type 0} (see : T → V) (checks : Data → List Check) (means : Data → V → Type 0) {form : Form} (looks : LooksAt form checks means) (bytes : List ℕ) (part : Data) (read : (length bytes ≤ document_limit) × IsPart form bytes part) where
   checks_are : checks part ≡ checks (data_of read.1.whole)

@@ -5,3 +5,4 @@ pub mod Sound
 pub mod Writing
 pub mod Form
 pub mod Part
+pub mod ScanMembers

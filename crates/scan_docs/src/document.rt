@@ -1,11 +1,11 @@
 //! Reading a document's bytes.
 
-ghost use Rattle.std.specs.Prelude.{◌≡◌, ◌≢◌, ◌≤◌, ◌<◌, ◌⊎◌, Some, None, IfOk, IfErr, length};
+ghost use Rattle.std.specs.Prelude.{◌≡◌, ◌≢◌, ◌≤◌, Some, None, IfOk, IfErr, IsUtf8, length};
 ghost use Rattle.json.specs.Value.{value_view};
 ghost use Rattle.ninja_text.specs.declared.failure.Failure.TheVariants.{Memory, Fault};
-ghost use Rattle.serde_json.specs.Data.{Data};
-ghost use Rattle.scan_docs.specs.Document.{IsTree, document_limit};
+ghost use Rattle.scan_docs.specs.Document.{document_limit};
 ghost use Rattle.scan_docs.specs.inner.Part.{IsPart, part_read};
+ghost use Rattle.scan_docs.specs.inner.Reading.{IsNoTree};
 ghost use Rattle.scan_docs.specs.inner.Tree.{view};
 
 use crate::fault::{DocFault, Place};
@@ -20,7 +20,7 @@ use std::str;
 pub const DOCUMENT_LIMIT: usize = 16_777_216;
 
 /// How deep arrays and objects may nest.
-const DEPTH_LIMIT: usize = 127;
+pub(crate) const DEPTH_LIMIT: usize = 127;
 
 /// The part of the bytes' tree that counts. It borrows its texts from the bytes, and those with
 /// escapes from the scratch.
@@ -32,21 +32,28 @@ pub(crate) fn read_tree<'a>(
 ) -> Result<Value<'a>, Failure<DocFault>>
     ensures read { IfOk result
         (λ tree. (length bytes.now ≤ document_limit) × IsPart form bytes.now (view tree)) }
-    ensures refused { IfErr result (λ e. e ≢ Memory
-        → ((document_limit < length bytes.now) × (e ≡ Fault (DocFault.TooLarge Place.Document)))
-        ⊎ ((length bytes.now ≤ document_limit)
-        × ((d : Data) → IsTree bytes.now d → ⊥) × (e ≡ Fault DocFault.NotJson))) }
+    ensures refused { IfErr result (λ e. e ≢ Memory → IsNoTree bytes.now e) }
+{
+    let text = text_of(bytes)?;
+    read_text(alloc, text, form, scratch)
+}
+
+/// The bytes as a text, where they are not too many and UTF-8.
+pub(crate) fn text_of(bytes: &[u8]) -> Result<&str, Failure<DocFault>>
+    ensures text { IfOk result
+        (λ text. (length bytes.now ≤ document_limit)
+        × (text.now ≡ bytes.now) × IsUtf8 bytes.now) }
+    ensures refused { IfErr result (IsNoTree bytes.now) }
 {
     if bytes.len() > DOCUMENT_LIMIT {
         return Err(Failure::Fault(DocFault::TooLarge {
             place: Place::Document,
         }));
     }
-    let text = match str::from_utf8(bytes) {
-        Ok(text) => text,
-        Err(_) => return Err(Failure::Fault(DocFault::NotJson)),
-    };
-    read_text(alloc, text, form, scratch)
+    match str::from_utf8(bytes) {
+        Ok(text) => Ok(text),
+        Err(_) => Err(Failure::Fault(DocFault::NotJson)),
+    }
 }
 
 /// The part of a text's value that counts.
@@ -63,11 +70,21 @@ fn read_text<'a>(
     let mut reader = Reader::new(text, scratch)?;
     let value = match read_part(alloc, &mut reader, DEPTH_LIMIT, form) {
         Ok(value) => value,
-        Err(Error::OutOfMemory) => return Err(Failure::Memory),
-        Err(_) => return Err(Failure::Fault(DocFault::NotJson)),
+        Err(error) => return Err(failure_of(error)),
     };
     if reader.next().is_some() {
         return Err(Failure::Fault(DocFault::NotJson));
     }
     Ok(value)
+}
+
+/// What is answered where a value cannot be read.
+pub(crate) fn failure_of(error: Error) -> Failure<DocFault>
+    ensures memory { error ≡ Error.OutOfMemory → result ≡ Memory }
+    ensures fault { error ≢ Error.OutOfMemory → result ≡ Fault DocFault.NotJson }
+{
+    match error {
+        Error::OutOfMemory => Failure::Memory,
+        _ => Failure::Fault(DocFault::NotJson),
+    }
 }

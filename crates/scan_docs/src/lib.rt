@@ -10,7 +10,8 @@
 //!   `specs/Target.antt` and `specs/Project.antt`; `specs/Document.antt` puts them together.
 //!   `specs/Values.antt` gives the meaning as a function of the bytes.
 //! - Of a document's tree the members are kept that its definitions look at (`src/form.rt`). The
-//!   rest is checked to be JSON as it is passed over, and takes no memory.
+//!   rest is checked to be JSON as it is passed over, and takes no memory. Each rule of a scan
+//!   document is made as soon as it is read, and its tree dropped (`src/scan_members.rt`).
 //! - [`laws`] proves of all bytes that they have one answer at most, and that the value of an
 //!   accepted document is that of the function.
 //! - [`info_write`] gives the one text of an info (`specs/InfoText.antt`), which is read as the
@@ -37,6 +38,7 @@ mod part;
 mod project_document;
 mod rule;
 mod scan_document;
+mod scan_members;
 mod setting;
 mod shape;
 mod target_document;

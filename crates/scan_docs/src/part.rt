@@ -2,7 +2,8 @@
 //!
 //! What does not count is passed over: it is checked like the rest, and takes no memory.
 
-ghost use Rattle.std.specs.Prelude.{◌≡◌, ◌≢◌, ◌<◌, [], ◌∷◌, ◌++◌, if◌then◌else◌, length, Some, None, IfOk, IfErr, OnOk};
+ghost use Rattle.std.specs.Prelude.{◌≡◌, ◌≢◌, ◌<◌, ◌≤◌, [], ◌∷◌, ◌++◌, if◌then◌else◌, length, Some, None, IfOk, IfErr, OnOk};
+ghost use Rattle.json.specs.Reads.{token_of};
 ghost use Rattle.json.specs.Value.{value_view, items_view, members_view};
 ghost use Rattle.scan_docs.specs.inner.Part.{value_read, items_read, members_read};
 
@@ -27,6 +28,26 @@ pub(crate) fn read_part<'a>(
         (λ e. e ≢ Error.OutOfMemory → value_read form depth reader.old ≡ None) }
 {
     let token = reader.next().ok_or(Error::Invalid)?;
+    read_from(alloc, token, reader, depth, form)
+}
+
+/// The same, where this token has been taken from the reader: the value's first.
+#[cycle(part)]
+pub(crate) fn read_from<'a>(
+    alloc: Global,
+    token: Token<'a>,
+    reader: &mut Reader<'a>,
+    depth: usize,
+    form: Form,
+) -> Result<Value<'a>, Error>
+    ensures read { IfOk result
+        (λ v. value_read form depth (token_of token.entry ∷ reader.old)
+        ≡ Some (value_view v, reader.new)) }
+    ensures shorter { OnOk result (length reader.new ≤ length reader.old) }
+    ensures refused { IfErr result
+        (λ e. e ≢ Error.OutOfMemory
+        → value_read form depth (token_of token.entry ∷ reader.old) ≡ None) }
+{
     match token {
         Token::String(text) => Ok(Value::String(text)),
         Token::Number(text) => {

@@ -1,10 +1,14 @@
 -- What the readers of a document's parts answer.
-use Rattle.std.specs.Prelude.{◌≡◌, ◌≢◌, ℕ, List, [], ◌∷◌, true, false, if◌then◌else◌, Option, Some, None, Result, Ok, MatchResult}
+use Rattle.std.specs.Prelude.{◌≡◌, ◌≢◌, ◌≤◌, ◌<◌, ◌⊎◌, ℕ, List, length, [], ◌∷◌, true, false, if◌then◌else◌, Option, Some, None, Result, Ok, MatchResult}
 use Rattle.ninja_text.specs.declared.failure.Failure.{Failure}
 use Rattle.ninja_text.specs.declared.failure.Failure.TheVariants.{Memory, Fault}
 use Rattle.ninja_text.specs.declared.paths.PathFault.{PathFault}
+use Rattle.serde_json.specs.Data.{Data}
 use Rattle.scan_docs.specs.declared.fault.DocFault.{DocFault}
+use Rattle.scan_docs.specs.declared.fault.DocFault.TheVariants.{NotJson, TooLarge}
 use Rattle.scan_docs.specs.declared.fault.Place.{Place}
+use Rattle.scan_docs.specs.declared.fault.Place.TheVariants as place
+use Rattle.scan_docs.specs.Document.{document_limit, IsTree}
 use Rattle.scan_docs.specs.Check.{Check, path_checks}
 use Rattle.scan_docs.specs.Scan.{IsText}
 
@@ -31,3 +35,9 @@ abbrev pub AnswersPath : Place → Result (List ℕ) PathFault → Result (List 
     → Type 0
 AnswersPath place outcome result =
     Answers (path_checks place outcome) (λ path. (outcome ≡ Ok path) × IsText path) result
+
+-- the bytes are too many, or else have no tree
+abbrev pub IsNoTree : List ℕ → Failure DocFault → Type 0
+IsNoTree bytes e =
+    ((document_limit < length bytes) × (e ≡ Fault (TooLarge place.Document)))
+    ⊎ ((length bytes ≤ document_limit) × ((d : Data) → IsTree bytes d → ⊥) × (e ≡ Fault NotJson))

@@ -1,4 +1,4 @@
-use Rattle.std.proofs.Common.{inr, sym, ap, ◌∙◌, arith}
+use Rattle.std.proofs.Common.{inr, sym, ap, ◌∙◌}
 use Rattle.std.proofs.lemmas.Result.{MatchResult-weaker}
 use Rattle.json.specs.Value.{value_view}
 use Rattle.scan_docs.specs.inner.Part.{part_read}
@@ -7,11 +7,11 @@ use Rattle.scan_docs.proofs.document.read_tree.Goals as goal
 
 pub returns-clause-read : goal.returns-clause-read
 returns-clause-read c =
-    let text = c.in-Ok.ensures.cases in
-    MatchResult-weaker c.read_text.result c.read_text.ensures.read (λ v h. (omega arith, is_part c.args.form c.args.bytes.now text.1 (value_view v) (ap (part_read c.args.form) (sym text.0) ∙ h))) (λ e h. h)
+    let text = c.in_ok-text.ensures.text in
+    MatchResult-weaker c.read_text.result c.read_text.ensures.read (λ v h. (text.0, is_part c.args.form c.args.bytes.now text.2 (value_view v) (ap (part_read c.args.form) (sym text.1) ∙ h))) (λ e h. h)
 
 pub returns-clause-refused : goal.returns-clause-refused
 returns-clause-refused c =
-    let text = c.in-Ok.ensures.cases in
+    let text = c.in_ok-text.ensures.text in
     MatchResult-weaker c.read_text.result c.read_text.ensures.refused (λ v h. h)
-    (λ e h ne. inr (omega arith, no_part c.args.form c.args.bytes.now (ap (part_read c.args.form) (sym text.0) ∙ (h ne).0), (h ne).1))
+    (λ e h ne. inr (text.0, no_part c.args.form c.args.bytes.now (ap (part_read c.args.form) (sym text.1) ∙ (h ne).0), (h ne).1))

@@ -103,94 +103,83 @@ read_part-returns-in_err-token-clause-refused t c =
     let empty : c.args.reader.now ≡ [] = grind arith in
     always_refused c.from_residual.result (ap (value_read c.args.form c.args.depth) empty ∙ ap (fitting numbers_fit (part_of c.args.form)) (value_is c.args.depth []))
 
-pub read_part-returns-in-String-clause-read : goal.read_part-returns-in-String-clause-read
-read_part-returns-in-String-clause-read t c =
-    let first : c.args.reader.now ≡ token_of c.in_ok-token.token ∷ c.next.new.self = grind arith in
-    let is : c.args.reader.now ≡ Token.string c.in-String.text.now ∷ c.next.new.self = grind (arith, first) in
+pub read_from-returns-in-String-clause-read : goal.read_from-returns-in-String-clause-read
+read_from-returns-in-String-clause-read t c =
+    let is : token_of c.args.token ∷ c.args.reader.now ≡ Token.string c.in-String.text.now ∷ c.args.reader.now = ap (λ k. token_of k ∷ c.args.reader.now) c.in-String.is in
     let seen : value_view (String c.in-String.text) ≡ Json.string c.in-String.text.now = search (rules, the_lemmas) in
-    ap (value_read c.args.form c.args.depth) is ∙ ap (fitting numbers_fit (part_of c.args.form)) (value_is c.args.depth _) ∙ ap (λ j. Some (j, c.next.new.self)) (sym seen)
+    ap (value_read c.args.form c.args.depth) is ∙ ap (fitting numbers_fit (part_of c.args.form)) (value_is c.args.depth _) ∙ ap (λ j. Some (j, c.args.reader.now)) (sym seen)
 
-pub read_part-returns-in-Bool-clause-read : goal.read_part-returns-in-Bool-clause-read
-read_part-returns-in-Bool-clause-read t c =
-    let first : c.args.reader.now ≡ token_of c.in_ok-token.token ∷ c.next.new.self = grind arith in
-    let is : c.args.reader.now ≡ Token.boolean c.in-Bool.b ∷ c.next.new.self = grind (arith, first) in
+pub read_from-returns-in-Bool-clause-read : goal.read_from-returns-in-Bool-clause-read
+read_from-returns-in-Bool-clause-read t c =
+    let is : token_of c.args.token ∷ c.args.reader.now ≡ Token.boolean c.in-Bool.b ∷ c.args.reader.now = ap (λ k. token_of k ∷ c.args.reader.now) c.in-Bool.is in
     let seen : value_view (Bool c.in-Bool.b) ≡ Json.boolean c.in-Bool.b = search (rules, the_lemmas) in
-    ap (value_read c.args.form c.args.depth) is ∙ ap (fitting numbers_fit (part_of c.args.form)) (value_is c.args.depth _) ∙ ap (λ j. Some (j, c.next.new.self)) (sym seen)
+    ap (value_read c.args.form c.args.depth) is ∙ ap (fitting numbers_fit (part_of c.args.form)) (value_is c.args.depth _) ∙ ap (λ j. Some (j, c.args.reader.now)) (sym seen)
 
-pub read_part-returns-in-Null-clause-read : goal.read_part-returns-in-Null-clause-read
-read_part-returns-in-Null-clause-read t c =
-    let first : c.args.reader.now ≡ token_of c.in_ok-token.token ∷ c.next.new.self = grind arith in
-    let is : c.args.reader.now ≡ Token.null ∷ c.next.new.self = grind (arith, first) in
+pub read_from-returns-in-Null-clause-read : goal.read_from-returns-in-Null-clause-read
+read_from-returns-in-Null-clause-read t c =
+    let is : token_of c.args.token ∷ c.args.reader.now ≡ Token.null ∷ c.args.reader.now = ap (λ k. token_of k ∷ c.args.reader.now) c.in-Null.is in
     let seen : value_view (Null) ≡ Json.null = search (rules, the_lemmas) in
-    ap (value_read c.args.form c.args.depth) is ∙ ap (fitting numbers_fit (part_of c.args.form)) (value_is c.args.depth _) ∙ ap (λ j. Some (j, c.next.new.self)) (sym seen)
+    ap (value_read c.args.form c.args.depth) is ∙ ap (fitting numbers_fit (part_of c.args.form)) (value_is c.args.depth _) ∙ ap (λ j. Some (j, c.args.reader.now)) (sym seen)
 
-pub read_part-returns-then-fits-clause-read : goal.read_part-returns-then-fits-clause-read
-read_part-returns-then-fits-clause-read t c =
+pub read_from-returns-then-fits-clause-read : goal.read_from-returns-then-fits-clause-read
+read_from-returns-then-fits-clause-read t c =
     let s = c.in-Number.text.now in
-    let r = c.next.new.self in
-    let first : c.args.reader.now ≡ token_of c.in_ok-token.token ∷ c.next.new.self = grind arith in
-    let is : c.args.reader.now ≡ Token.number s ∷ r = grind (arith, first) in
+    let r = c.args.reader.now in
+    let is : token_of c.args.token ∷ r ≡ Token.number s ∷ r = ap (λ k. token_of k ∷ r) c.in-Number.is in
     let seen : value_view (Number c.in-Number.text) ≡ Json.number s = search (rules, the_lemmas) in
-    read_number c.args.form c.args.depth s c.args.reader.now r is (Number c.in-Number.text) seen (sym c.fits.ensures ∙ c.if-fits.true)
+    read_number c.args.form c.args.depth s (token_of c.args.token ∷ r) r is (Number c.in-Number.text) seen (sym c.fits.ensures ∙ c.if-fits.true)
 
-pub read_part-returns-else-fits-clause-refused : goal.read_part-returns-else-fits-clause-refused
-read_part-returns-else-fits-clause-refused t c =
+pub read_from-returns-else-fits-clause-refused : goal.read_from-returns-else-fits-clause-refused
+read_from-returns-else-fits-clause-refused t c =
     let s = c.in-Number.text.now in
-    let r = c.next.new.self in
-    let first : c.args.reader.now ≡ token_of c.in_ok-token.token ∷ c.next.new.self = grind arith in
-    let is : c.args.reader.now ≡ Token.number s ∷ r = grind (arith, first) in
-    λ ne. no_number c.args.form c.args.depth s c.args.reader.now r is (sym c.fits.ensures ∙ c.if-fits.false)
+    let r = c.args.reader.now in
+    let is : token_of c.args.token ∷ r ≡ Token.number s ∷ r = ap (λ k. token_of k ∷ r) c.in-Number.is in
+    λ ne. no_number c.args.form c.args.depth s (token_of c.args.token ∷ r) r is (sym c.fits.ensures ∙ c.if-fits.false)
 
-pub read_part-returns-in-EndObject-clause-refused : goal.read_part-returns-in-EndObject-clause-refused
-read_part-returns-in-EndObject-clause-refused t c =
-    let first : c.args.reader.now ≡ token_of c.in_ok-token.token ∷ c.next.new.self = grind arith in
-    let none : value c.args.depth c.args.reader.now ≡ None = rw (value_is c.args.depth c.args.reader.now, first) (grind arith) in
+pub read_from-returns-in-EndObject-clause-refused : goal.read_from-returns-in-EndObject-clause-refused
+read_from-returns-in-EndObject-clause-refused t c =
+    let ts = token_of c.args.token ∷ c.args.reader.now in
+    let none : value c.args.depth ts ≡ None = rw (value_is c.args.depth ts) (grind arith) in
     λ ne. ap (fitting numbers_fit (part_of c.args.form)) none
 
-pub read_part-returns-then-depth-eq0-clause-refused : goal.read_part-returns-then-depth-eq0-clause-refused
+pub read_from-returns-then-depth-eq0-clause-refused : goal.read_from-returns-then-depth-eq0-clause-refused
 unfolding value
-read_part-returns-then-depth-eq0-clause-refused t c =
-    let first : c.args.reader.now ≡ token_of c.in_ok-token.token ∷ c.next.new.self = grind arith in
+read_from-returns-then-depth-eq0-clause-refused t c =
     let none : c.args.depth ≡ 0 = omega arith in
-    λ ne. ap (fitting numbers_fit (part_of c.args.form)) (ap₂ value none (first ∙ ap (λ k. token_of k ∷ c.next.new.self) c.in-BeginArray.is))
+    λ ne. ap (fitting numbers_fit (part_of c.args.form)) (ap₂ value none (ap (λ k. token_of k ∷ c.args.reader.now) c.in-BeginArray.is))
 
-pub read_part-returns-then-depth-eq0-2-clause-refused : goal.read_part-returns-then-depth-eq0-2-clause-refused
+pub read_from-returns-then-depth-eq0-2-clause-refused : goal.read_from-returns-then-depth-eq0-2-clause-refused
 unfolding value
-read_part-returns-then-depth-eq0-2-clause-refused t c =
-    let first : c.args.reader.now ≡ token_of c.in_ok-token.token ∷ c.next.new.self = grind arith in
+read_from-returns-then-depth-eq0-2-clause-refused t c =
     let none : c.args.depth ≡ 0 = omega arith in
-    λ ne. ap (fitting numbers_fit (part_of c.args.form)) (ap₂ value none (first ∙ ap (λ k. token_of k ∷ c.next.new.self) c.in-BeginObject.is))
+    λ ne. ap (fitting numbers_fit (part_of c.args.form)) (ap₂ value none (ap (λ k. token_of k ∷ c.args.reader.now) c.in-BeginObject.is))
 
-pub read_part-returns-in_err-items-in-BeginArray-clause-refused : goal.read_part-returns-in_err-items-in-BeginArray-clause-refused
-read_part-returns-in_err-items-in-BeginArray-clause-refused t c =
+pub read_from-returns-in_err-items-in-BeginArray-clause-refused : goal.read_from-returns-in_err-items-in-BeginArray-clause-refused
+read_from-returns-in_err-items-in-BeginArray-clause-refused t c =
     let d = c.args.depth in
-    let ts = c.next.new.self in
-    let first : c.args.reader.now ≡ token_of c.in_ok-token.token ∷ c.next.new.self = grind arith in
-    let opened = ap (value_read c.args.form d) (first ∙ ap (λ k. token_of k ∷ ts) c.in-BeginArray.is) ∙ read_array c.args.form d ts (omega arith) in
-    let p = err_from_is_err_and c.from_residual-in_err-items-in-BeginArray.result c.from_residual-in_err-items-in-BeginArray.ensures.1 in
+    let ts = c.args.reader.now in
+    let opened = ap (value_read c.args.form d) (ap (λ k. token_of k ∷ ts) c.in-BeginArray.is) ∙ read_array c.args.form d ts (omega arith) in
+    let p = err_from_is_err_and c.from_residual.result c.from_residual.ensures.1 in
     rw (p.1, p.2) (λ ne. opened ∙ ap (parse_map array) (ap (λ g. items_read g (d - 1) (length ts) ts) (sym c.items.ensures) ∙ c.in_err-items-in-BeginArray.ensures.refused ne))
 
-pub read_part-returns-in_ok-items-in-BeginArray-clause-read : goal.read_part-returns-in_ok-items-in-BeginArray-clause-read
-read_part-returns-in_ok-items-in-BeginArray-clause-read t c =
+pub read_from-returns-in_ok-items-in-BeginArray-clause-read : goal.read_from-returns-in_ok-items-in-BeginArray-clause-read
+read_from-returns-in_ok-items-in-BeginArray-clause-read t c =
     let d = c.args.depth in
-    let ts = c.next.new.self in
-    let first : c.args.reader.now ≡ token_of c.in_ok-token.token ∷ c.next.new.self = grind arith in
-    let opened = ap (value_read c.args.form d) (first ∙ ap (λ k. token_of k ∷ ts) c.in-BeginArray.is) ∙ read_array c.args.form d ts (omega arith) in
+    let ts = c.args.reader.now in
+    let opened = ap (value_read c.args.form d) (ap (λ k. token_of k ∷ ts) c.in-BeginArray.is) ∙ read_array c.args.form d ts (omega arith) in
     opened ∙ ap (parse_map array) (ap (λ g. items_read g (d - 1) (length ts) ts) (sym c.items.ensures) ∙ c.in_ok-items-in-BeginArray.ensures.read) ∙ ap (λ j. Some (j, c.read_items.new.reader)) (sym (view-Array c.in_ok-items-in-BeginArray.items))
 
-pub read_part-returns-in_err-members-in-BeginObject-clause-refused : goal.read_part-returns-in_err-members-in-BeginObject-clause-refused
-read_part-returns-in_err-members-in-BeginObject-clause-refused t c =
+pub read_from-returns-in_err-members-in-BeginObject-clause-refused : goal.read_from-returns-in_err-members-in-BeginObject-clause-refused
+read_from-returns-in_err-members-in-BeginObject-clause-refused t c =
     let d = c.args.depth in
-    let ts = c.next.new.self in
-    let first : c.args.reader.now ≡ token_of c.in_ok-token.token ∷ c.next.new.self = grind arith in
-    let opened = ap (value_read c.args.form d) (first ∙ ap (λ k. token_of k ∷ ts) c.in-BeginObject.is) ∙ read_object c.args.form d ts (omega arith) in
+    let ts = c.args.reader.now in
+    let opened = ap (value_read c.args.form d) (ap (λ k. token_of k ∷ ts) c.in-BeginObject.is) ∙ read_object c.args.form d ts (omega arith) in
     let p = err_from_is_err_and c.from_residual-in_err-members-in-BeginObject.result c.from_residual-in_err-members-in-BeginObject.ensures.1 in
     rw (p.1, p.2) (λ ne. opened ∙ ap (parse_map object) (c.in_err-members-in-BeginObject.ensures.refused ne))
 
-pub read_part-returns-in_ok-members-in-BeginObject-clause-read : goal.read_part-returns-in_ok-members-in-BeginObject-clause-read
-read_part-returns-in_ok-members-in-BeginObject-clause-read t c =
+pub read_from-returns-in_ok-members-in-BeginObject-clause-read : goal.read_from-returns-in_ok-members-in-BeginObject-clause-read
+read_from-returns-in_ok-members-in-BeginObject-clause-read t c =
     let d = c.args.depth in
-    let ts = c.next.new.self in
-    let first : c.args.reader.now ≡ token_of c.in_ok-token.token ∷ c.next.new.self = grind arith in
-    let opened = ap (value_read c.args.form d) (first ∙ ap (λ k. token_of k ∷ ts) c.in-BeginObject.is) ∙ read_object c.args.form d ts (omega arith) in
+    let ts = c.args.reader.now in
+    let opened = ap (value_read c.args.form d) (ap (λ k. token_of k ∷ ts) c.in-BeginObject.is) ∙ read_object c.args.form d ts (omega arith) in
     opened ∙ ap (parse_map object) (c.in_ok-members-in-BeginObject.ensures.read) ∙ ap (λ j. Some (j, c.read_members.new.reader)) (sym (view-Object c.in_ok-members-in-BeginObject.members))

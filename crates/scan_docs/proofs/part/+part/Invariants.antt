@@ -5,13 +5,16 @@ use Rattle.scan_docs.specs.inner.Part.{items_read, members_read}
 use Rattle.scan_docs.proofs.part.+part.Given as goal
 
 abbrev pub decreases-read_part : goal.decreases-read_part
-decreases-read_part l = 2 * l.depth
+decreases-read_part l = 3 * l.depth + 1
+
+abbrev pub decreases-read_from : goal.decreases-read_from
+decreases-read_from l = 3 * l.depth
 
 abbrev pub decreases-read_items : goal.decreases-read_items
-decreases-read_items l = 2 * l.depth + 1
+decreases-read_items l = 3 * l.depth + 2
 
 abbrev pub decreases-read_members : goal.decreases-read_members
-decreases-read_members l = 2 * l.depth + 1
+decreases-read_members l = 3 * l.depth + 2
 
 abbrev pub invariant-read_items-loop-alloc : goal.invariant-read_items-loop-alloc
 invariant-read_items-loop-alloc l =
