@@ -5,33 +5,38 @@ ghost use Rattle.std.specs.Option.{SomeIff};
 ghost use Rattle.std.specs.List.{list_all, slice_split};
 ghost use Rattle.scan_docs.specs.Name.{is_name, is_name_byte, is_separator, is_not_empty};
 
+use smallvec::SmallVec;
 use std::alloc::{AllocError, Global};
 use std::cmp::Ordering;
 use std::hash::{Hash, Hasher};
 use std::marker::Model;
+use std::{fmt, str};
 
 /// The most bytes that a name has.
 pub const NAME_LIMIT: usize = 1024;
+
+/// How many bytes of a name are kept without an allocation. Most names have fewer.
+const INLINE_BYTES: usize = 24;
 
 /// The name of a module, or of a module's partition: the logical name of P1689R5.
 ///
 /// It has 1 to 1,024 bytes and one `:` at most, no part between the separators `.` and `:` is
 /// empty, and no byte is a control byte, a space, 127 or one of `/ \ " ' = | $`. A contract sees a
 /// name as its text.
-#[derive(Debug, Drop)]
+#[derive(Drop)]
 pub struct Name {
-    text: String,
+    bytes: SmallVec<u8, INLINE_BYTES>,
 }
 
 impl Model for Name {
-    ghost use Rattle.std.specs.Prelude.{ℕ, List, IsTrue, string_bytes};
+    ghost use Rattle.std.specs.Prelude.{ℕ, List, IsTrue, IsUtf8};
     ghost use Rattle.scan_docs.specs.Name.{is_name};
 
     ghost Value = { List ℕ };
 
-    ghost view = { λ n. string_bytes n.text };
+    ghost view = { λ n. n.bytes.items };
 
-    ghost invariant = { λ n. IsTrue (is_name (string_bytes n.text)) };
+    ghost invariant = { λ n. IsTrue (is_name n.bytes.items) × IsUtf8 n.bytes.items };
 }
 
 impl Name {
@@ -42,8 +47,8 @@ impl Name {
         if !is_name(text.as_bytes()) {
             return Ok(None);
         }
-        let text = String::from_str(alloc, text)?;
-        Ok(Some(Name { text }))
+        let bytes = SmallVec::from_slice(alloc, text.as_bytes())?;
+        Ok(Some(Name { bytes }))
     }
 
     /// The text that the name was made of.
@@ -51,15 +56,24 @@ impl Name {
         ensures text { result.now ≡ self.now }
         ensures accepted { IsTrue (is_name self.now) }
     {
-        self.text.as_str()
+        match str::from_utf8(self.bytes.as_slice()) {
+            Ok(text) => text,
+            Err(_) => unreachable!(),
+        }
     }
 
     /// The same name once more.
     pub fn copy(&self, alloc: Global) -> Result<Name, AllocError>
         ensures { IfOk result (λ copy. copy ≡ self.now) }
     {
-        let text = String::from_str(alloc, self.text.as_str())?;
-        Ok(Name { text })
+        let bytes = SmallVec::from_slice(alloc, self.bytes.as_slice())?;
+        Ok(Name { bytes })
+    }
+
+    fn bytes(&self) -> &[u8]
+        ensures { result.now ≡ self.now }
+    {
+        self.bytes.as_slice()
     }
 }
 
@@ -127,7 +141,7 @@ impl PartialEq for Name {
     ghost laws = { partial_equiv_from_equiv nat_list_eq_equiv };
 
     fn eq(&self, other: &Name) -> bool {
-        self.text.as_bytes() == other.text.as_bytes()
+        self.bytes() == other.bytes()
     }
 }
 
@@ -153,7 +167,7 @@ impl Ord for Name {
     ghost matches_eq = { Prim.search (comparing, rules) };
 
     fn cmp(&self, other: &Name) -> Ordering {
-        self.text.as_bytes().cmp(other.text.as_bytes())
+        self.bytes().cmp(other.bytes())
     }
 }
 
@@ -175,15 +189,26 @@ impl PartialOrd for Name {
 }
 
 impl Hash for Name {
+    ghost use Rattle.std.specs.Prelude.{[], ◌∷◌, ◌++◌, length};
     ghost use Rattle.std.proofs.Common.{rules};
     ghost use Rattle.std.specs.Cmp.Rules.{hashing};
     ghost use Rattle.std.specs.Hash as fed;
 
-    ghost hash_input = { fed.str };
+    ghost hash_input = { λ n. fed.usize (length n) ++ n ∷ [] };
 
     ghost respects_eq = { Prim.search (hashing, rules) };
 
     fn hash<H: Hasher>(&self, state: &mut H) {
-        self.text.hash(state);
+        state.write_usize(self.bytes.len());
+        state.write(self.bytes.as_slice());
+    }
+}
+
+/// A name is shown as its text.
+impl fmt::Debug for Name {
+    ghost use Rattle.std.specs.Prelude.{Some};
+
+    fn fmt<W: fmt::Write>(&self, f: &mut fmt::Formatter<W>) -> fmt::Result {
+        f.write_str(self.text())
     }
 }
