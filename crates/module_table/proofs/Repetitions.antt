@@ -41,6 +41,11 @@ map_take f (suc n) (x ∷ xs) = ap (λ ys. f x ∷ ys) (map_take f n xs)
 pub take_next : {X : Type 0} (xs : List X) (i : ℕ) (x : X) → slice_get xs i ≡ Some x → take (i + 1) xs ≡ take i xs ++ x ∷ []
 take_next xs i x at = take_more xs i x (slice_get_within xs i x at) ∙ ap (λ y. take i xs ++ y ∷ []) (get_or_from_slice_get xs i x x at)
 
+-- the first few of two lists, past the first
+pub take_behind : {X : Type 0} (xs ys : List X) (n : ℕ) → take (length xs + n) (xs ++ ys) ≡ xs ++ take n ys
+take_behind [] ys n = let e : 0 + n ≡ n = omega arith in rw e refl
+take_behind (x ∷ xs) ys n = let e : suc (length xs) + n ≡ suc (length xs + n) = omega arith in rw e (ap (λ zs. x ∷ zs) (take_behind xs ys n))
+
 -- all differ in a list that is one longer by something new
 pub differ_push : {X : Type 0} (xs : List X) (y : X) → AllDiffer xs → ((k : ℕ) → slice_get xs k ≡ Some y → ⊥) → AllDiffer (xs ++ y ∷ [])
 differ_push xs y all new = record { differ = differ }
@@ -65,24 +70,6 @@ module _ {X : Type 0} (f : X → List ℕ) where
       let read : get_or ks k from.0 ≡ from.0 = get_or_from_slice_get ks k from.0 from.0 from.1 in
       let same : bytes_eq (f x) (f (get_or ks k from.0)) ≡ true = (bytes_decides (f x) (f (get_or ks k from.0))).1 (sym from.2 ∙ ap f (sym read)) in
       true≢false (sym (list_any_at (λ z. bytes_eq (f x) (f z)) ks k from.0 within same) ∙ none)
-
-  -- one more text that is new
-  pub differ_next : (xs : List X) (i : ℕ) (x : X) → slice_get xs i ≡ Some x → AllDiffer (map f (take i xs)) → list_any (λ k. bytes_eq (f x) (f k)) (take i xs) ≡ false → AllDiffer (map f (take (i + 1) xs))
-  differ_next xs i x at all none =
-      subst AllDiffer (sym (ap (map f) (take_next xs i x at) ∙ map-append f (take i xs) (x ∷ [])))
-      (differ_push (map f (take i xs)) (f x) all (not_among (take i xs) x none))
-
-  -- one more text that was there
-  pub repeats : (xs : List X) (i j : ℕ) (x y : X) → slice_get xs j ≡ Some x → AllDiffer (map f (take j xs)) → slice_get (take j xs) i ≡ Some y → bytes_eq (f x) (f y) ≡ true → RepeatsFirst (map f xs) i j
-  repeats xs i j x y at all at_y same =
-      let from = from_take j xs i y at_y in
-      record {
-        repeated = f x;
-        earlier = from.0;
-        here = to_map f xs i y from.1 ∙ ap (λ z. Some z) (sym ((bytes_decides (f x) (f y)).0 same));
-        again = to_map f xs j x at;
-        before = subst AllDiffer (map_take f j xs) all;
-      }
 
 pub length_before : {X : Type 0} (xs : List X) (i : ℕ) (x : X) → slice_get xs i ≡ Some x → length (take i xs) ≡ i
 length_before [] i x e = cc
@@ -118,22 +105,32 @@ new_if true e = e
 new_if false e = refl
 
 -- a text is put into a table of the texts before it
-module _ {X : Type 0} (f : X → List ℕ) (xs : List X) (j : ℕ) (x : X) (keys new : List X) (at : slice_get xs j ≡ Some x)
-    (same : keys ≡ take j xs) (all : AllDiffer (map f (take j xs)))
+module _ {X : Type 0} (f : X → List ℕ) (texts : List (List ℕ)) (j : ℕ) (x : X) (keys new : List X) (at : slice_get texts j ≡ Some (f x))
+    (same : map f keys ≡ take j texts) (all : AllDiffer (take j texts))
     (put : new ≡ cond (list_any (λ k. bytes_eq (f x) (f k)) keys) keys (keys ++ x ∷ [])) where
   -- it was there
-  pub repeats_if_found : (i : ℕ) → false ≡ not (list_any (λ k. bytes_eq (f x) (f k)) keys) → (y : X) → slice_get new i ≡ Some y → bytes_eq (f x) (f y) ≡ true → RepeatsFirst (map f xs) i j
+  pub repeats_if_found : (i : ℕ) → false ≡ not (list_any (λ k. bytes_eq (f x) (f k)) keys) → (y : X) → slice_get new i ≡ Some y → bytes_eq (f x) (f y) ≡ true → RepeatsFirst texts i j
   repeats_if_found i old y stored alike =
-      let found = found_if _ old in
-      let kept : new ≡ take j xs = put ∙ ap (λ b. cond b keys (keys ++ x ∷ [])) found ∙ same in
-      repeats f xs i j x y at all (ap (λ ks. slice_get ks i) (sym kept) ∙ stored) alike
+      let kept : new ≡ keys = put ∙ ap (λ b. cond b keys (keys ++ x ∷ [])) (found_if _ old) in
+      let here = ap (λ ts. slice_get ts i) (sym same) ∙ to_map f keys i y (ap (λ ks. slice_get ks i) (sym kept) ∙ stored) in
+      let from = from_take j texts i (f y) here in
+      record {
+        repeated = f x;
+        earlier = from.0;
+        here = from.1 ∙ ap (λ z. Some z) (sym ((bytes_decides (f x) (f y)).0 alike));
+        again = at;
+        before = all;
+      }
 
   -- it was not
-  pub keys_if_new : true ≡ not (list_any (λ k. bytes_eq (f x) (f k)) keys) → new ≡ take (j + 1) xs
-  keys_if_new fresh = put ∙ ap (λ b. cond b keys (keys ++ x ∷ [])) (new_if _ fresh) ∙ ap (λ ks. ks ++ x ∷ []) same ∙ sym (take_next xs j x at)
+  pub keys_if_new : true ≡ not (list_any (λ k. bytes_eq (f x) (f k)) keys) → map f new ≡ take (j + 1) texts
+  keys_if_new fresh =
+      ap (map f) (put ∙ ap (λ b. cond b keys (keys ++ x ∷ [])) (new_if _ fresh)) ∙ map-append f keys (x ∷ []) ∙ ap (λ ts. ts ++ f x ∷ []) same ∙ sym (take_next texts j (f x) at)
 
-  pub differ_if_new : true ≡ not (list_any (λ k. bytes_eq (f x) (f k)) keys) → AllDiffer (map f (take (j + 1) xs))
-  differ_if_new fresh = differ_next f xs j x at all (subst (λ ks. list_any (λ k. bytes_eq (f x) (f k)) ks ≡ false) same (new_if _ fresh))
+  pub differ_if_new : true ≡ not (list_any (λ k. bytes_eq (f x) (f k)) keys) → AllDiffer (take (j + 1) texts)
+  differ_if_new fresh =
+      subst AllDiffer (sym (take_next texts j (f x) at))
+      (differ_push (take j texts) (f x) all (λ k at_k. not_among f keys x (new_if _ fresh) k (ap (λ ts. slice_get ts k) same ∙ at_k)))
 
 -- the first repetition of what is seen of elements
 pub repetition_of : {X : Type 0} (g : X → List ℕ) (xs : List X) (i j : ℕ) → RepeatsFirst (map g xs) i j → (x : X) × (y : X) × IsFirstRepetition (λ a b. g a ≡ g b) xs i j x y

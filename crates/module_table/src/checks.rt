@@ -98,10 +98,10 @@ fn check_repetitions<'t, S: BuildHasher + Copy>(
     ensures fault { IfErr result (ForFault (λ fault. (kept : List (List ℕ)) →
         IsReported (table_with objects.now infos.now) kept fault)) }
 {
-    check_objects(alloc, objects, hash_builder)?;
+    let paths = check_objects(alloc, objects, hash_builder)?;
     check_infos(alloc, infos, hash_builder)?;
     let modules = check_names(alloc, objects, infos, hash_builder)?;
-    check_files(alloc, &modules, hash_builder)?;
+    check_files(alloc, &modules, paths)?;
     Ok(modules)
 }
 

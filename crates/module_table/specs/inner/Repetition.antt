@@ -1,5 +1,5 @@
 -- Whether a text stands in a list twice.
-use Rattle.std.specs.Prelude.{◌≡◌, ℕ, ◌<◌, List, take, slice_get, Option, Some, None}
+use Rattle.std.specs.Prelude.{◌≡◌, ℕ, ◌<◌, List, take, slice_get, Some}
 
 -- nothing stands at two indexes of the list
 pub record AllDiffer {X : Type 0} (xs : List X) : Type 0 where
@@ -12,8 +12,3 @@ pub record RepeatsFirst {X : Type 0} (xs : List X) (i j : ℕ) : Type 0 where
   pub here : slice_get xs i ≡ Some repeated
   pub again : slice_get xs j ≡ Some repeated
   pub before : AllDiffer (take j xs)
-
--- the indexes of the first repetition, or none
-abbrev pub FindsRepetition : {X : Type 0} → List X → Option (ℕ × ℕ) → Type 0
-FindsRepetition xs None = AllDiffer xs
-FindsRepetition xs (Some indexes) = RepeatsFirst xs indexes.0 indexes.1

@@ -1,16 +1,38 @@
 use Rattle.std.proofs.Common.{◌≡◌, ap, map, refl, subst, sym, ◌∙◌, List, ℕ, Bor, Some}
+use Rattle.std.proofs.lemmas.Option.{slice_get_read}
 use Rattle.scan_docs.specs.Scan.{RuleValue}
 use Rattle.module_table.specs.Firsts.{IsFirstRepetition}
-use Rattle.module_table.specs.inner.Repetition.{FindsRepetition, RepeatsFirst}
 use Rattle.module_table.proofs.Places.{to_map}
-use Rattle.module_table.proofs.Repetitions.{text_repetition}
+use Rattle.module_table.proofs.Repetitions.{repeats_if_found, keys_if_new, differ_if_new, text_repetition}
 use Rattle.module_table.proofs.checks.repeated.check_objects.Goals as goal
 
-pub returns-clause-fault : goal.returns-clause-fault
-returns-clause-fault g c = λ t kept same.
-    let texts : map (λ (x : Bor (List ℕ)). x.now) c.as_slice.result.now ≡ map (λ x. x.object) c.args.objects.now = ap (map (λ x. x.now)) c.as_slice.ensures.value ∙ c.in_ok-paths.ensures in
-    let found = subst (λ xs. FindsRepetition xs c.in_ok-first_repetition.field-0) texts c.in_ok-first_repetition.ensures in
-    let repeated : RepeatsFirst (map (λ x. x.object) c.args.objects.now) c.in-Some.first c.in-Some.second = subst (FindsRepetition (map (λ x. x.object) c.args.objects.now)) c.in-Some.is found in
-    let at = to_map (λ x. x.object) c.args.objects.now c.in-Some.second _ c.object_at.ensures ∙ ap (λ x. Some x) (sym (c.in_ok-path-in-Some.ensures ∙ ap (λ (r : RuleValue). r.object) c.behind-objects.view_is)) in
-    let is = subst (λ xs. IsFirstRepetition (λ a b. a ≡ b) (map (λ x. x.object) xs) c.in-Some.first c.in-Some.second c.in_ok-path-in-Some.path c.in_ok-path-in-Some.path) same (text_repetition _ _ _ _ repeated at) in
-    record { present = (c.in-Some.first, c.in-Some.second, is, refl, refl); coded = refl }
+abbrev text_of : Bor (List ℕ) → List ℕ
+text_of path = path.now
+
+abbrev object_of : RuleValue → List ℕ
+object_of rule = rule.object
+
+pub returns-then-not-is_new-clause-fault : goal.returns-then-not-is_new-clause-fault
+returns-then-not-is_new-clause-fault g c = λ t kept same.
+    let objects = c.args.objects.now in
+    let i = c.loop-index.index in
+    let rule = c.index-objects-index.result in
+    let at = to_map object_of objects i rule (slice_get_read objects _ i rule refl c.loop-index-test.true c.index-objects-index.is) ∙ ap (λ (r : RuleValue). Some r.object) (sym c.rule.view_is) in
+    let h = c.in_ok-first.ensures in
+    let stored = h.stored in
+    let repeated = repeats_if_found text_of (map object_of objects) i _ c.loop-index.paths.keys c.insert_full.new.self.keys at c.loop-index.invariant.same c.loop-index.invariant.differ h.keys c.in_ok-first.first (sym c.if-not-is_new.true ∙ h.added) stored.0 stored.1 stored.2 in
+    let is = subst (λ xs. IsFirstRepetition (λ a b. a ≡ b) (map object_of xs) c.in_ok-first.first i c.in_ok-path.path c.in_ok-path.path) same (text_repetition _ _ _ _ repeated (at ∙ ap (λ x. Some x) (sym c.in_ok-path.ensures))) in
+    record { present = (c.in_ok-first.first, i, is, refl, refl); coded = refl }
+
+pub loop-index-preserved : goal.loop-index-preserved
+loop-index-preserved g c =
+    let objects = c.args.objects.now in
+    let i = c.loop-index.index in
+    let rule = c.index-objects-index.result in
+    let at = to_map object_of objects i rule (slice_get_read objects _ i rule refl c.loop-index-test.true c.index-objects-index.is) ∙ ap (λ (r : RuleValue). Some r.object) (sym c.rule.view_is) in
+    let h = c.in_ok-first.ensures in
+    let fresh = sym c.if-not-is_new.false ∙ h.added in
+    record {
+      same = keys_if_new text_of (map object_of objects) i _ c.loop-index.paths.keys c.insert_full.new.self.keys at c.loop-index.invariant.same c.loop-index.invariant.differ h.keys fresh;
+      differ = differ_if_new text_of (map object_of objects) i _ c.loop-index.paths.keys c.insert_full.new.self.keys at c.loop-index.invariant.same c.loop-index.invariant.differ h.keys fresh;
+    }

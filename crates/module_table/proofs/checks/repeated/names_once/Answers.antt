@@ -1,8 +1,7 @@
-use Rattle.std.proofs.Common.{◌≡◌, ◌∙◌, ap, sym, subst, refl, map, List, ℕ, Some, slice_get}
+use Rattle.std.proofs.Common.{◌≡◌, ◌∙◌, ap, sym, refl, map, List, ℕ, Some, slice_get}
 use Rattle.std.proofs.lemmas.Option.{slice_get_read}
 use Rattle.module_table.specs.inner.Views.{provision_of, names_of}
 use Rattle.module_table.specs.Modules.{Provision}
-use Rattle.module_table.specs.inner.Repetition.{RepeatsFirst}
 use Rattle.module_table.specs.declared.modules.Module.{Module}
 use Rattle.module_table.proofs.Places.{to_map}
 use Rattle.module_table.proofs.Repetitions.{repeats_if_found, keys_if_new, differ_if_new, map_same}
@@ -20,17 +19,19 @@ pub returns-then-not-is_new-clause-fault : goal.returns-then-not-is_new-clause-f
 returns-then-not-is_new-clause-fault g c = λ t kept same.
     let list = map provision_of c.args.provided.now in
     let at = name_at c.args.provided.now c.loop-index.index c.index-provided-index.result (slice_get_read c.args.provided.now _ c.loop-index.index c.index-provided-index.result refl c.loop-index-test.true c.index-provided-index.is) c.in_ok-name.name c.in_ok-name.ensures in
+    let before = map_same c.loop-index.names.keys ∙ c.loop-index.invariant.same in
     let h = c.in_ok-first.ensures in
     let stored = h.stored in
-    let repeated = repeats_if_found (λ n. n) (names_of list) c.loop-index.index c.in_ok-name.name c.loop-index.names.keys c.insert_full.new.self.keys at c.loop-index.invariant.same c.loop-index.invariant.differ h.keys c.in_ok-first.first (sym c.if-not-is_new.true ∙ h.added) stored.0 stored.1 stored.2 in
-    reports_provided_twice t kept c.in_ok-first.first c.loop-index.index c.in_ok-provided_twice.field-0 list same (subst (λ xs. RepeatsFirst xs c.in_ok-first.first c.loop-index.index) (map_same (names_of list)) repeated) c.in_ok-provided_twice.ensures
+    let repeated = repeats_if_found (λ n. n) (names_of list) c.loop-index.index c.in_ok-name.name c.loop-index.names.keys c.insert_full.new.self.keys at before c.loop-index.invariant.differ h.keys c.in_ok-first.first (sym c.if-not-is_new.true ∙ h.added) stored.0 stored.1 stored.2 in
+    reports_provided_twice t kept c.in_ok-first.first c.loop-index.index c.in_ok-provided_twice.field-0 list same repeated c.in_ok-provided_twice.ensures
 
 pub loop-index-preserved : goal.loop-index-preserved
 loop-index-preserved g c =
     let list = map provision_of c.args.provided.now in
     let at = name_at c.args.provided.now c.loop-index.index c.index-provided-index.result (slice_get_read c.args.provided.now _ c.loop-index.index c.index-provided-index.result refl c.loop-index-test.true c.index-provided-index.is) c.in_ok-name.name c.in_ok-name.ensures in
+    let before = map_same c.loop-index.names.keys ∙ c.loop-index.invariant.same in
     let h = c.in_ok-first.ensures in
     record {
-      same = keys_if_new (λ n. n) (names_of list) c.loop-index.index c.in_ok-name.name c.loop-index.names.keys c.insert_full.new.self.keys at c.loop-index.invariant.same c.loop-index.invariant.differ h.keys (sym c.if-not-is_new.false ∙ h.added);
-      differ = differ_if_new (λ n. n) (names_of list) c.loop-index.index c.in_ok-name.name c.loop-index.names.keys c.insert_full.new.self.keys at c.loop-index.invariant.same c.loop-index.invariant.differ h.keys (sym c.if-not-is_new.false ∙ h.added);
+      same = sym (map_same c.insert_full.new.self.keys) ∙ keys_if_new (λ n. n) (names_of list) c.loop-index.index c.in_ok-name.name c.loop-index.names.keys c.insert_full.new.self.keys at before c.loop-index.invariant.differ h.keys (sym c.if-not-is_new.false ∙ h.added);
+      differ = differ_if_new (λ n. n) (names_of list) c.loop-index.index c.in_ok-name.name c.loop-index.names.keys c.insert_full.new.self.keys at before c.loop-index.invariant.differ h.keys (sym c.if-not-is_new.false ∙ h.added);
     }
