@@ -1,5 +1,5 @@
 //! What each object requires, with the files of the modules.
-ghost use Rattle.std.specs.Prelude.{◌≡◌, ◌<◌, ◌≤◌, All, length, map, Some, IfOk};
+ghost use Rattle.std.specs.Prelude.{◌≡◌, ◌<◌, ◌≤◌, All, length, map, Some, IfOk, OnOk};
 ghost use Rattle.dep_order.specs.Rows.{rows};
 ghost use Rattle.module_table.specs.Modules.{provisions};
 ghost use Rattle.module_table.specs.Added.{required_of};
@@ -27,40 +27,41 @@ pub(crate) fn all_pairs<S: BuildHasher>(
     modules.names_differ();
     // each module has the number of the last object that mentioned it, counted from 1
     let mut marks = vec![in alloc; 0; modules.provided().len()]?;
+    let mut mentioned = Vec::new(alloc);
     let mut all = Vec::with_capacity(alloc, required.len())?;
     for (object, row) in required.iter().enumerate() {
-        let mentioned = mentions_of(alloc, row.as_slice(), object + 1, &mut marks)?;
+        list_mentions(row.as_slice(), object + 1, &mut marks, &mut mentioned)?;
         let pairs = pairs_at(alloc, modules, mentioned.as_slice())?;
         all.push(pairs)?;
     }
     Ok(all)
 }
 
-/// The indexes in order of first mention, each once. What is mentioned gets the mark, which nothing
-/// had.
-fn mentions_of(
-    alloc: Global,
+/// Puts into `mentioned`, in place of what it held, the indexes in order of first mention, each
+/// once. What is mentioned gets the mark, which nothing had.
+fn list_mentions(
     indexes: &[usize],
     mark: usize,
     marks: &mut Vec<usize>,
-) -> Result<Vec<usize>, AllocError>
+    mentioned: &mut Vec<usize>,
+) -> Result<(), AllocError>
     requires within { All (λ index. index < length marks.old.items) indexes.now }
     requires fresh { All (λ old. old < mark) marks.old.items }
     ensures as_many { length marks.new.items ≡ length marks.old.items }
     ensures at_most { All (λ new. new ≤ mark) marks.new.items }
-    ensures within { IfOk result
-        (λ mentioned. All (λ index. index < length marks.old.items) mentioned.items) }
-    ensures firsts { IfOk result
-        (λ mentioned. AreFirsts (length marks.old.items) indexes.now mentioned.items) }
+    ensures within { OnOk result
+        (All (λ index. index < length marks.old.items) mentioned.new.items) }
+    ensures firsts { OnOk result
+        (AreFirsts (length marks.old.items) indexes.now mentioned.new.items) }
 {
-    let mut mentioned = Vec::new(alloc);
+    mentioned.clear();
     for index in indexes {
         if marks[*index] != mark {
             marks[*index] = mark;
             mentioned.push(*index)?;
         }
     }
-    Ok(mentioned)
+    Ok(())
 }
 
 /// The names and files of these modules.

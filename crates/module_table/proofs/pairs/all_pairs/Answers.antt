@@ -19,8 +19,8 @@ use Rattle.module_table.proofs.pairs.all_pairs.Goals as goal
 abbrev items_of : Vec ℕ Global → List ℕ
 items_of row = row.items
 
-pub mentions_of-requires-clause-within : goal.mentions_of-requires-clause-within
-mentions_of-requires-clause-within g c = λ k d lt.
+pub list_mentions-requires-clause-within : goal.list_mentions-requires-clause-within
+list_mentions-requires-clause-within g c = λ k d lt.
     let t = c.args.modules.now in
     let names = names_of (provisions t) in
     let i = c.loop-object.object in
@@ -47,14 +47,14 @@ loop-object-preserved g c =
     let rule = rule_of t (rows c.args.required.now) c.requires i row.items (to_map items_of c.args.required.now i row at) in
     let many = c.loop-object.invariant.as_many in
     let long = length_mapped (λ (p : Provision). p.name) ps ∙ sym many in
-    let mentioned = c.in_ok-mentioned.mentioned.items in
+    let mentioned = c.list_mentions.new.mentioned.items in
     let pairs = c.in_ok-pairs.pairs.items in
-    let firsts = c.in_ok-mentioned.ensures.firsts names c.names_differ.ensures long ∙ ap (λ xs. first_mentions (map (name_in names) xs)) c.as_slice.ensures.value ∙ ap first_mentions (row_names names row.items rule.0.required rule.2) in
+    let firsts = c.in_ok-list_mentions.ensures.firsts names c.names_differ.ensures long ∙ ap (λ xs. first_mentions (map (name_in names) xs)) c.as_slice.ensures.value ∙ ap first_mentions (row_names names row.items rule.0.required rule.2) in
     let found = pairs_found ps c.names_differ.ensures mentioned pairs (c.in_ok-pairs.ensures ∙ ap (map (pair_at ps)) c.as_slice-in-loop-object.ensures.value) in
     let same : pairs ≡ required_of t rule.0 = sym found ∙ ap (filter_map (pair_of ps)) firsts in
     record {
-      as_many = c.mentions_of.ensures.as_many ∙ many;
-      at_most = c.mentions_of.ensures.at_most;
+      as_many = c.list_mentions.ensures.as_many ∙ many;
+      at_most = c.list_mentions.ensures.at_most;
       found =
           ap (map (λ r. r.items)) c.in_ok-push.ensures.items ∙ map-append (λ r. r.items) c.loop-object.all.items _
           ∙ ap (λ xs. xs ++ pairs ∷ []) c.loop-object.invariant.found

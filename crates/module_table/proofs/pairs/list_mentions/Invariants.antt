@@ -1,6 +1,6 @@
 use Rattle.std.proofs.Common.{◌≡◌, length, take}
 use Rattle.module_table.specs.inner.Mentioned.{AreFirsts, AreMarked}
-use Rattle.module_table.proofs.pairs.mentions_of.Given as goal
+use Rattle.module_table.proofs.pairs.list_mentions.Given as goal
 
 abbrev pub invariant-loop-index : goal.invariant-loop-index
 invariant-loop-index l = record {

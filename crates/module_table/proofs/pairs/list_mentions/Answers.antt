@@ -3,8 +3,8 @@ use Rattle.std.proofs.lemmas.List.{length-set}
 use Rattle.std.proofs.lemmas.Option.{slice_get-get_or, get_or_from_slice_get}
 use Rattle.module_table.specs.inner.Mentioned.{name_in, AreMarked}
 use Rattle.module_table.proofs.Marks.{mark_new, firsts_new, firsts_old}
-use Rattle.module_table.proofs.pairs.mentions_of.Goals as goal
-use Rattle.module_table.proofs.pairs.mentions_of.Goals.{then-index-mark+in_ok-push, else-index-mark}
+use Rattle.module_table.proofs.pairs.list_mentions.Goals as goal
+use Rattle.module_table.proofs.pairs.list_mentions.Goals.{then-index-mark+in_ok-push, else-index-mark}
 
 pub loop-index-preserved : goal.loop-index-preserved
 loop-index-preserved c =
