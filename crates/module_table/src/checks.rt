@@ -132,7 +132,7 @@ fn check_requirements<S: BuildHasher>(
 fn all_origins(alloc: Global, provided: &[Module]) -> Result<Vec<(Maker, usize)>, AllocError>
     ensures { IfOk result (λ origins. origins.items ≡ map origin_of provided.now) }
 {
-    let mut origins = Vec::new(alloc);
+    let mut origins = Vec::with_capacity(alloc, provided.len())?;
     for module in provided {
         origins.push((module.maker, module.index))?;
     }

@@ -55,7 +55,7 @@ fn modules_needs<S: BuildHasher>(
     ensures { IfOk result
         (λ needs. AllZip (IsModuleRow names.now.keys infos.now) origins.now (rows needs.items)) }
 {
-    let mut needs = Vec::new(alloc);
+    let mut needs = Vec::with_capacity(alloc, origins.len() + object_count)?;
     for origin in origins {
         let row = module_needs(alloc, names, infos, origins.len(), object_count, *origin)?;
         needs.push(row)?;
@@ -98,7 +98,7 @@ fn indexes_of<S: BuildHasher>(
 ) -> Result<Vec<usize>, AllocError>
     ensures { IfOk result (λ indexes. indexes.items ≡ indexes_in names.now.keys pairs.now) }
 {
-    let mut indexes = Vec::new(alloc);
+    let mut indexes = Vec::with_capacity(alloc, pairs.len())?;
     for pair in pairs {
         match names.get_index_of(&pair.0) {
             Some(index) => indexes.push(index)?,

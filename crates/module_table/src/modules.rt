@@ -155,7 +155,8 @@ pub(crate) fn provided_modules<'t>(
     ensures origins { IfOk result (λ all. map origin_of all.items
         ≡ origins_of (table_with objects.now infos.now)) }
 {
-    let mut all = Vec::new(alloc);
+    // most objects provide one module at most
+    let mut all = Vec::with_capacity(alloc, objects.len())?;
     add_objects(objects, &mut all)?;
     add_infos(infos, &mut all)?;
     Ok(all)

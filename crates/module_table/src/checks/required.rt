@@ -31,7 +31,7 @@ pub(crate) fn check_objects_known<S: BuildHasher>(
 {
     let names = modules.names();
     let objects = modules.objects();
-    let mut required = Vec::new(alloc);
+    let mut required = Vec::with_capacity(alloc, objects.len())?;
     for (object, rule) in objects.iter().enumerate() {
         let row = indexes_of(alloc, names, object, rule)?;
         required.push(row)?;
@@ -51,7 +51,7 @@ fn indexes_of<S: BuildHasher>(
         × IsFirst (IsAbsent names.now.keys) rule.now.required index name
         × (fault ≡ ModuleUnknown name object))) }
 {
-    let mut row = Vec::new(alloc);
+    let mut row = Vec::with_capacity(alloc, rule.required.len())?;
     for required in &rule.required {
         match index_of(names, required) {
             Some(index) => row.push(index)?,

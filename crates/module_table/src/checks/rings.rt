@@ -46,7 +46,7 @@ fn all_needs(
     ensures { IfOk result (λ needs. rows needs.items
         ≡ map (filter_map (maker_at (map provision_of provided.now))) (rows required.now)) }
 {
-    let mut needs = Vec::new(alloc);
+    let mut needs = Vec::with_capacity(alloc, required.len())?;
     for row in required {
         let objects = makers_of(alloc, provided, row.as_slice())?;
         needs.push(objects)?;
