@@ -14,6 +14,7 @@ pub mod ScanMembers
 pub mod Values
 pub mod Exact
 pub mod InfoTrees
+pub mod InfoTexts
 pub mod Writers
 pub mod Outcome
 pub mod AllNames

@@ -1,11 +1,12 @@
--- The paths of what a document means are text.
+-- The paths of what a document means are text, and the names of its rules are accepted.
 use Rattle.std.proofs.Common.{List, [], ◌∷◌, Bool}
 use Rattle.std.specs.List.{AllZip, All, AllByRecursion}
 use Rattle.std.proofs.lemmas.List.Elements.{All-from_recursion}
 use Rattle.serde_json.specs.Data.{Data}
 use Rattle.scan_docs.specs.declared.member.Member.TheVariants as m
 use Rattle.scan_docs.specs.Shape.{text, entries_of}
-use Rattle.scan_docs.specs.Scan.{SettingValue, RuleValue, IsText, IsProvided, IsRule, AreRules, IsRuleText}
+use Rattle.scan_docs.specs.Name.{IsName}
+use Rattle.scan_docs.specs.Scan.{SettingValue, RuleValue, IsText, IsProvided, IsRequired, IsRule, AreRules, IsRuleText}
 use Rattle.scan_docs.specs.Info.{ModuleValue, InfoValue, IsRequirement, IsModule, IsInfo, has_visibility}
 use Rattle.scan_docs.specs.InfoText.{IsModuleText, IsInfoText}
 
@@ -22,7 +23,9 @@ module _ (s : SettingValue) where
   rule_text : (d : Data) (rule : RuleValue) → IsRule s d rule → IsRuleText rule
   rule_text d rule h = record {
     object = h.is_text;
+    names = second (IsProvided s (text m.WorkDirectory d)) (λ pair. IsName pair.0) (λ entry pair k. k.is_name) (entries_of m.Provides d) rule.provided h.provided;
     provided = second (IsProvided s (text m.WorkDirectory d)) (λ pair. IsText pair.1) (λ entry pair k. k.is_text) (entries_of m.Provides d) rule.provided h.provided;
+    required = second IsRequired IsName (λ entry name k. k.is_name) (entries_of m.Requires d) rule.required h.required;
   }
 
   pub rules_text : (d : Data) (rules : List RuleValue) → AreRules s d rules → All IsRuleText rules

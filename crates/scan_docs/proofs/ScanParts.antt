@@ -75,12 +75,16 @@ file_part s work j = ap₂ (λ a b. file_from s work (unwrap_or a []) b) (text_p
 provided_means : (s : SettingValue) (work : Option (List ℕ)) (j : json.Json) (pair : List ℕ × List ℕ) → IsProvided s work (tree_part Entry j) pair → IsProvided s work (data_of j) pair
 provided_means s work j pair h = record {
   name = sym (text_part Entry Plain m.LogicalName name_counts j) ∙ h.name;
+  is_name = h.is_name;
   file = sym (file_part s work j) ∙ h.file;
   is_text = h.is_text;
 }
 
 required_means : (j : json.Json) (name : List ℕ) → IsRequired (tree_part Entry j) name → IsRequired (data_of j) name
-required_means j name h = sym (text_part Entry Plain m.LogicalName name_counts j) ∙ h
+required_means j name h = record {
+  name = sym (text_part Entry Plain m.LogicalName name_counts j) ∙ h.name;
+  is_name = h.is_name;
+}
 
 -- ---- rules
 

@@ -36,7 +36,7 @@ module _ (s : SettingValue) where
   provided_is work d pair h = ap₂ (λ a b. (a, b)) (some_is (text m.LogicalName d) pair.0 [] h.name) (path_is (file_of s work d) pair.1 h.file)
 
   required_is : (d : Data) (name : List ℕ) → IsRequired d name → name ≡ text_of m.LogicalName d
-  required_is d name h = some_is (text m.LogicalName d) name [] h
+  required_is d name h = some_is (text m.LogicalName d) name [] h.name
 
   rule_is : (d : Data) (rule : RuleValue) → IsRule s d rule → rule ≡ rule_in s d
   rule_is d rule h =

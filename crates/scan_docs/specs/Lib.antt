@@ -14,5 +14,6 @@ pub mod ProjectChecks
 pub mod Info
 pub mod InfoChecks
 pub mod InfoText
+pub mod Sound
 pub mod Values
 pub mod inner

@@ -1,5 +1,5 @@
 -- Which texts are names of modules and of targets.
-use Rattle.std.specs.Prelude.{ℕ, List, [], ◌∷◌, length, count_by, Bool, not, ◌&&◌, ◌||◌, ◌==◌, nat_le, nat_lt}
+use Rattle.std.specs.Prelude.{◌≡◌, ℕ, List, [], ◌∷◌, length, count_by, Bool, true, not, ◌&&◌, ◌||◌, ◌==◌, nat_le, nat_lt, IsUtf8}
 use Rattle.std.specs.List.{list_all, list_any, slice_split}
 use Rattle.scan_docs.specs.declared.name.TheConstants.{NAME_LIMIT}
 
@@ -36,3 +36,13 @@ unfoldable pub is_target_name : List ℕ → Bool
 is_target_name text =
     nat_le 1 (length text) && nat_le (length text) name_limit
     && list_all (λ b. nat_le 32 b && not (b == 127)) text
+
+-- the name of a module is accepted, and is text, as JSON can hold it
+pub record IsName (name : List ℕ) : Type 0 where
+  pub accepted : is_name name ≡ true
+  pub utf8 : IsUtf8 name
+
+-- so is the name of a target
+pub record IsTargetName (name : List ℕ) : Type 0 where
+  pub accepted : is_target_name name ≡ true
+  pub utf8 : IsUtf8 name

@@ -6,6 +6,7 @@ use Rattle.ninja_text.specs.declared.paths.PathFault.{PathFault}
 use Rattle.serde_json.specs.Data.{Data}
 use Rattle.scan_docs.specs.declared.member.Member.TheVariants as m
 use Rattle.scan_docs.specs.Shape.{text, text_of, flag, entries_of}
+use Rattle.scan_docs.specs.Name.{IsName}
 
 -- where a target's modules are compiled to, and the directory that Ninja runs in
 pub record SettingValue : Type 0 where
@@ -75,12 +76,14 @@ pub record IsText (path : List ℕ) : Type 0 where
 pub record IsProvided (s : SettingValue) (work : Option (List ℕ)) (entry : Data)
     (provided : List ℕ × List ℕ) : Type 0 where
   pub name : text m.LogicalName entry ≡ Some provided.0
+  pub is_name : IsName provided.0
   pub file : file_of s work entry ≡ Ok provided.1
   pub is_text : IsText provided.1
 
 -- the name of a required module
-abbrev pub IsRequired : Data → List ℕ → Type 0
-IsRequired entry name = text m.LogicalName entry ≡ Some name
+pub record IsRequired (entry : Data) (required : List ℕ) : Type 0 where
+  pub name : text m.LogicalName entry ≡ Some required
+  pub is_name : IsName required
 
 -- a rule, placed and named as the setting says
 pub record IsRule (s : SettingValue) (d : Data) (rule : RuleValue) : Type 0 where
@@ -94,7 +97,9 @@ pub record IsRule (s : SettingValue) (d : Data) (rule : RuleValue) : Type 0 wher
 abbrev pub AreRules : SettingValue → Data → List RuleValue → Type 0
 AreRules s d rules = AllZip (IsRule s) (entries_of m.Rules d) rules
 
--- all paths of a rule are text
+-- all names of a rule are accepted, and all its paths are text
 pub record IsRuleText (rule : RuleValue) : Type 0 where
   pub object : IsText rule.object
+  pub names : All (λ pair. IsName pair.0) rule.provided
   pub provided : All (λ pair. IsText pair.1) rule.provided
+  pub required : All IsName rule.required

@@ -1,7 +1,6 @@
 -- Definitions that private clauses alone speak of.
 pub mod Tree
 pub mod Reading
-pub mod Sound
 pub mod Writing
 pub mod Form
 pub mod Part

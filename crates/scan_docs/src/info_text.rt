@@ -7,7 +7,7 @@ ghost use Rattle.serde_json.specs.Data.{array};
 ghost use Rattle.serde_json.specs.View.{items_of};
 ghost use Rattle.scan_docs.specs.Scan.{IsText};
 ghost use Rattle.scan_docs.specs.InfoText.{requirement_tree, requirements_tree, visibility_text, module_tree, info_tree, info_text, IsModuleText, IsInfoText, ReadsBack};
-ghost use Rattle.scan_docs.specs.inner.Sound.{IsSound, IsSoundModule, IsSoundInfo};
+ghost use Rattle.scan_docs.specs.Sound.{IsSound, IsSoundModule, IsSoundInfo};
 ghost use Rattle.scan_docs.specs.inner.Writing.{tree_tokens, member_tokens, named_file_tokens, Appends};
 
 use crate::info::Info;

@@ -4,6 +4,8 @@ ghost use Rattle.scan_docs.specs.Document.{IsAccepted, HasOneAnswer};
 ghost use Rattle.scan_docs.specs.Scan.{SettingValue, RuleValue, AreRules};
 ghost use Rattle.scan_docs.specs.ScanChecks.{scan_checks};
 ghost use Rattle.scan_docs.specs.Info.{InfoValue, IsInfo};
+ghost use Rattle.scan_docs.specs.InfoText.{info_text, ReadsBack};
+ghost use Rattle.scan_docs.specs.Sound.{IsSoundInfo};
 ghost use Rattle.scan_docs.specs.InfoChecks.{info_checks};
 ghost use Rattle.scan_docs.specs.Target.{TargetValue, IsTarget};
 ghost use Rattle.scan_docs.specs.TargetChecks.{target_checks};
@@ -35,4 +37,10 @@ pub fn value_of_bytes()
     ensures project { (bytes : List ℕ) (project : ProjectValue)
         → IsAccepted project_checks IsProject bytes project
         → project ≡ project_of bytes }
+{}
+
+/// The text of an info whose names and paths are accepted is read as the same info, and is refused
+/// exactly where it is longer than a document may be.
+pub fn info_again()
+    ensures { (info : InfoValue) → IsSoundInfo info → ReadsBack info (info_text info) }
 {}

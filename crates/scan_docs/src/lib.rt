@@ -15,7 +15,8 @@
 //! - [`laws`] proves of all bytes that they have one answer at most, and that the value of an
 //!   accepted document is that of the function.
 //! - [`info_write`] gives the one text of an info (`specs/InfoText.antt`), which is read as the
-//!   same info; [`lent_info_write`] the same of an info whose parts are lent.
+//!   same info; [`lent_info_write`] the same of an info whose parts are lent. The law
+//!   [`laws::info_again`] says so of the text of every sound info (`specs/Sound.antt`).
 //! - [`Name`] and [`TargetName`] hold texts that are names (`specs/Name.antt`).
 //! - [`DocFault`], [`Place`] and [`Member`] print themselves (`specs/FaultTexts.antt`,
 //!   `specs/Place.antt`, `specs/Member.antt`).

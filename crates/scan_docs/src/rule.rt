@@ -8,7 +8,7 @@ ghost use Rattle.scan_docs.specs.inner.Tree.{view};
 ghost use Rattle.scan_docs.specs.Check.{◌otherwise◌};
 ghost use Rattle.scan_docs.specs.inner.Reading.{Answers, Tests, AnswersPath};
 ghost use Rattle.scan_docs.specs.Shape.{text, entries_of, given};
-ghost use Rattle.scan_docs.specs.Name.{is_name};
+ghost use Rattle.scan_docs.specs.Name.{is_name, IsName};
 ghost use Rattle.scan_docs.specs.Scan.{object_of, names_header, made_file, joined_file, dashed, IsText, IsProvided, IsRequired, IsRule};
 ghost use Rattle.scan_docs.specs.ScanChecks.{rule_shape_checks, provided_checks, all_provided_checks, required_checks, all_required_checks, object_checks, count_checks, rule_checks, lookup_check};
 ghost use Rattle.scan_docs.specs.declared.member.Member.TheVariants as m;
@@ -241,7 +241,7 @@ fn names_header(entry: &Value<'_>, place: Place) -> Result<bool, Failure<DocFaul
 /// The name of a module, which has to be accepted.
 pub(crate) fn read_name(alloc: Global, text: &str, place: Place) -> Result<Name, Failure<DocFault>>
     ensures { Tests (is_name text.now otherwise DocFault.BadName place)
-        (λ name. name ≡ text.now) result }
+        (λ name. (name ≡ text.now) × IsName name) result }
 {
     Name::of(alloc, text)?.ok_or(Failure::Fault(DocFault::BadName { place }))
 }

@@ -1,6 +1,7 @@
-use Rattle.std.proofs.Common.{ap}
+use Rattle.std.proofs.Common.{ap, subst}
 use Rattle.scan_docs.specs.InfoText.{module_tree}
-use Rattle.scan_docs.proofs.Writers.{one, last, last_part}
+use Rattle.scan_docs.specs.Sound.{IsSoundModule}
+use Rattle.scan_docs.proofs.Writers.{one, last, last_part, always}
 use Rattle.scan_docs.proofs.info_text.write_module.Goals as goal
 
 pub write_requirements-requires : goal.write_requirements-requires
@@ -18,3 +19,11 @@ returns-clause-written c =
     (last r c.in_ok-write_member.ensures c.end_object.ensures)))) in
     let v = c.entry.view_is in
     rw (c.visibility_text.ensures, ap (λ v. v.file) v, ap (λ v. v.name) v, ap (λ v. v.required) v, ap (λ v. v.is_private) v) at whole
+
+pub returns-clause-sound : goal.returns-clause-sound
+returns-clause-sound c =
+    always c.end_object.result
+    (subst IsSoundModule c.entry.view_is (record {
+      named = c.in_ok-write_named_file.ensures.sound;
+      required = c.in_ok-write_requirements.ensures.sound;
+    }))

@@ -1,7 +1,7 @@
 use Rattle.std.proofs.Common.{subst, sym}
 use Rattle.scan_docs.specs.Info.{ModuleValue}
 use Rattle.scan_docs.specs.InfoText.{IsModuleText, module_tree}
-use Rattle.scan_docs.specs.inner.Sound.{IsSoundModule}
+use Rattle.scan_docs.specs.Sound.{IsSoundModule}
 use Rattle.scan_docs.specs.inner.Writing.{tree_tokens}
 use Rattle.scan_docs.proofs.Elements.{All-grow, All-end}
 use Rattle.scan_docs.proofs.Writers.{always, entry, array_end}

@@ -2,7 +2,7 @@ use Rattle.std.proofs.Common.{◌∷◌, take}
 use Rattle.std.specs.List.{All, flat_map}
 use Rattle.json.specs.Token.{begin_array}
 use Rattle.scan_docs.specs.InfoText.{module_tree}
-use Rattle.scan_docs.specs.inner.Sound.{IsSoundModule}
+use Rattle.scan_docs.specs.Sound.{IsSoundModule}
 use Rattle.scan_docs.specs.inner.Writing.{tree_tokens, Appends}
 use Rattle.scan_docs.proofs.info_text.write_modules.Given as goal
 

@@ -1,7 +1,7 @@
 use Rattle.std.proofs.Common.{ℕ, List, subst, sym}
 use Rattle.scan_docs.specs.Scan.{IsText}
 use Rattle.scan_docs.specs.InfoText.{requirement_tree, requirements_tree}
-use Rattle.scan_docs.specs.inner.Sound.{IsSound}
+use Rattle.scan_docs.specs.Sound.{IsSound}
 use Rattle.scan_docs.specs.inner.Writing.{tree_tokens}
 use Rattle.scan_docs.proofs.Elements.{All-grow, All-end}
 use Rattle.scan_docs.proofs.Writers.{always, entry, array_end}

@@ -2,7 +2,7 @@ use Rattle.std.proofs.Common.{◌∷◌, take}
 use Rattle.std.specs.List.{All, flat_map}
 use Rattle.json.specs.Token.{begin_array}
 use Rattle.scan_docs.specs.InfoText.{requirement_tree}
-use Rattle.scan_docs.specs.inner.Sound.{IsSound}
+use Rattle.scan_docs.specs.Sound.{IsSound}
 use Rattle.scan_docs.specs.inner.Writing.{tree_tokens, Appends}
 use Rattle.scan_docs.proofs.info_text.write_requirements.Given as goal
 
