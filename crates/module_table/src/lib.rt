@@ -15,8 +15,9 @@
 //! [`Table::lookup`] answers who provides a name, [`Table::provided`] and [`Table::required`] what
 //! an object provides and requires, and [`Table::needed`] the modules at the ends of chains of
 //! requirements (`specs/Needed.antt`); [`Table::needs`] answers the same for one object after the
-//! other. The law [`added_files`] says what a sound table means for the files that are added to a
-//! build (`specs/Added.antt`). These definitions are relations over rules and infos
+//! other. [`Resolved`] has the objects and what each requires, and no look-ups. The law
+//! [`added_files`] says what a sound table means for the files that are added to a build
+//! (`specs/Added.antt`). These definitions are relations over rules and infos
 //! (`specs/Modules.antt`); that the code works with indexes of modules does not show in them. What
 //! private clauses speak of stands below `specs/inner/`.
 //!
@@ -34,9 +35,10 @@
 //!   and carries its answer over to `DependsOn`, and `checks/privacy.rt` M9 and M10. What infos'
 //!   modules require is listed in `requirements.rt`, each with the module of that name, which M6,
 //!   M7 and M9 ask.
-//! - `table.rt`: a table keeps the names, who provides each, what each object requires with the
-//!   files (`pairs.rt`), and a digraph of modules and objects (`graph.rt`): a module of an object
-//!   needs the object, a module of an info what it requires, an object what it requires.
+//! - `table.rt`: a table keeps the objects and what each requires with the files (`resolved.rt`,
+//!   `pairs.rt`), the names, who provides each, and a digraph of modules and objects (`graph.rt`):
+//!   a module of an object needs the object, a module of an info what it requires, an object what
+//!   it requires.
 //! - `needed.rt`: [`Needs`] asks `Reaching` of `dep_order` in that graph, and sorts what it finds
 //!   by the ranks of the names, which are given once (`ranks.rt`).
 //!
@@ -56,9 +58,11 @@ mod needed;
 mod pairs;
 mod ranks;
 mod requirements;
+mod resolved;
 mod table;
 
 pub use fault::{Maker, TableFault};
 pub use laws::{added_files, one_fault, sound_tables};
 pub use needed::Needs;
+pub use resolved::Resolved;
 pub use table::Table;

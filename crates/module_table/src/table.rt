@@ -14,6 +14,7 @@ use crate::checks::check_all;
 use crate::fault::{Maker, TableFault};
 use crate::modules::index_of;
 use crate::needed::{Needs, copy_pairs, named_at};
+use crate::resolved::Resolved;
 use dep_order::Digraph;
 use indexmap::IndexSet;
 use ninja_text::{Failure, Path};
@@ -26,38 +27,30 @@ use std::marker::Model;
 /// an `S`.
 #[derive(Drop)]
 pub struct Table<S: BuildHasher = BuildHasherDefault<FoldHasher>> {
-    objects: Vec<Rule>,
-    infos: Vec<Info>,
+    resolved: Resolved,
     /// The names of all provided modules. A name's index is that of its module.
     names: IndexSet<Name, S>,
     /// Who provides each module, and at which index among its maker's.
     origins: Vec<(Maker, usize)>,
     /// What the modules and the objects need of one another, by index.
     graph: Digraph,
-    /// What each object requires, with the modules' files.
-    required: Vec<Vec<(Name, Path)>>,
 }
 
 impl<S: BuildHasher> Model for Table<S> {
-    ghost use Rattle.std.specs.Prelude.{◌≡◌, map};
-    ghost use Rattle.module_table.specs.TableValue.{TableValue, table_with};
-    ghost use Rattle.module_table.specs.Sound.{IsSound};
+    ghost use Rattle.std.specs.Prelude.{◌≡◌};
+    ghost use Rattle.module_table.specs.TableValue.{TableValue};
     ghost use Rattle.module_table.specs.Modules.{provisions};
-    ghost use Rattle.module_table.specs.Added.{required_of};
     ghost use Rattle.module_table.specs.inner.Views.{names_of};
     ghost use Rattle.module_table.specs.inner.Origins.{origins_of};
     ghost use Rattle.module_table.specs.inner.Graph.{IsModuleGraph};
 
     ghost Value = { TableValue };
 
-    ghost view = { λ t. table_with t.objects.items t.infos.items };
+    ghost view = { λ t. t.resolved };
 
-    ghost invariant = { λ t. IsSound (table_with t.objects.items t.infos.items)
-        × (map (λ row. row.items) t.required.items ≡ map
-        (required_of (table_with t.objects.items t.infos.items)) t.objects.items)
-        × (t.names.keys ≡ names_of (provisions (table_with t.objects.items t.infos.items)))
-        × (t.origins.items ≡ origins_of (table_with t.objects.items t.infos.items))
-        × IsModuleGraph (table_with t.objects.items t.infos.items) t.graph };
+    ghost invariant = { λ t. (t.names.keys ≡ names_of (provisions t.resolved))
+        × (t.origins.items ≡ origins_of t.resolved)
+        × IsModuleGraph t.resolved t.graph };
 }
 
 impl Table {
@@ -110,13 +103,18 @@ impl<S: BuildHasher + Copy> Table<S> {
             hash_builder,
         )?;
         Ok(Table {
-            objects,
-            infos,
+            resolved: Resolved::new(objects, infos, index.required),
             names: index.names,
             origins: index.origins,
             graph: index.graph,
-            required: index.required,
         })
+    }
+
+    /// The objects with what each requires. What is kept for look-ups is freed.
+    pub fn into_resolved(self) -> Resolved
+        ensures { result ≡ self }
+    {
+        self.resolved
     }
 }
 
@@ -126,7 +124,14 @@ impl<S: BuildHasher> Table<S> {
         ensures objects { result.now ≡ self.now.objects }
         ensures sound { IsSound self.now }
     {
-        self.objects.as_slice()
+        self.resolved.objects()
+    }
+
+    /// The objects with what each requires, as they are lent.
+    pub fn resolved(&self) -> &Resolved
+        ensures { result.now ≡ self.now }
+    {
+        &self.resolved
     }
 
     /// The modules that an object provides, by index.
@@ -135,7 +140,8 @@ impl<S: BuildHasher> Table<S> {
         ensures { (rule : RuleValue) → slice_get self.now.objects object ≡ Some rule
             → result.now ≡ rule.provided }
     {
-        &self.objects[object].provided
+        let rule = &self.resolved.objects()[object];
+        &rule.provided
     }
 
     /// The modules that an object requires, in order of first mention, each once.
@@ -144,7 +150,7 @@ impl<S: BuildHasher> Table<S> {
         ensures { (rule : RuleValue) → slice_get self.now.objects object ≡ Some rule
             → result.now ≡ required_of self.now rule }
     {
-        &self.required[object]
+        self.resolved.required(object)
     }
 
     /// The file of the module of that name, and who provides it; `None` where nobody does.
@@ -156,7 +162,7 @@ impl<S: BuildHasher> Table<S> {
         match index_of(&self.names, name) {
             Some(index) => {
                 let origin = self.origins[index];
-                let (_, file) = named_at(&self.objects, &self.infos, origin);
+                let (_, file) = named_at(self.resolved.objects(), self.resolved.infos(), origin);
                 Some((file, origin.0))
             }
             None => None,
@@ -182,8 +188,8 @@ impl<S: BuildHasher> Table<S> {
         Needs::new(
             alloc,
             &self.graph,
-            &self.objects,
-            &self.infos,
+            self.resolved.objects(),
+            self.resolved.infos(),
             &self.origins,
         )
     }

@@ -1,4 +1,4 @@
-use Rattle.std.proofs.Common.{◌≡◌, subst, map, arith}
+use Rattle.std.proofs.Common.{◌≡◌, ◌∙◌, sym, subst, map, arith}
 use Rattle.module_table.specs.TableValue.{TableValue}
 use Rattle.module_table.specs.Modules.{provisions}
 use Rattle.module_table.specs.Added.{required_of}
@@ -10,15 +10,22 @@ use Rattle.module_table.proofs.IndexRows.{same_table}
 use Rattle.module_table.proofs.Faultless.{faultless_is_sound}
 use Rattle.module_table.proofs.table.Table.build_with_hasher.Goals as goal
 
-pub invariant_of-result : goal.invariant_of-result
-invariant_of-result g c =
+pub new-requires-clause-sound : goal.new-requires-clause-sound
+new-requires-clause-sound g c =
     let t : TableValue = record { objects = c.args.objects.items; infos = c.args.infos.items } in
     let same = same_table _ _ _ _ c.as_slice.ensures.value c.as_slice-2.ensures.value in
+    (faultless_is_sound t c.args.kept.now (omega (arith, c.args.objects.ok.0, c.args.objects.ok.1, c.args.objects.small)) (subst (λ u. HasNoFault u c.args.kept.now) same c.in_ok-index.ensures.no_fault)).0
+
+pub new-requires-clause-required : goal.new-requires-clause-required
+new-requires-clause-required g c =
+    subst (λ (u : TableValue). map (λ row. row.items) c.in_ok-index.index.required.items ≡ map (required_of u) u.objects)
+    (same_table _ _ _ _ c.as_slice.ensures.value c.as_slice-2.ensures.value) c.in_ok-index.ensures.required
+
+pub invariant_of-result : goal.invariant_of-result
+invariant_of-result g c =
+    let same = same_table _ _ _ _ c.as_slice.ensures.value c.as_slice-2.ensures.value ∙ sym c.new.ensures in
     let index = c.in_ok-index.index in
-    let h = c.in_ok-index.ensures in
-    let no_fault = subst (λ u. HasNoFault u c.args.kept.now) same h.no_fault in (
-      (faultless_is_sound t c.args.kept.now (omega (arith, c.args.objects.ok.0, c.args.objects.ok.1, c.args.objects.small)) no_fault).0,
-      subst (λ (u : TableValue). map (λ row. row.items) index.required.items ≡ map (required_of u) u.objects) same h.required,
+    let h = c.in_ok-index.ensures in (
       subst (λ (u : TableValue). index.names.keys ≡ names_of (provisions u)) same h.names,
       subst (λ (u : TableValue). index.origins.items ≡ origins_of u) same h.origins,
       subst (λ (u : TableValue). IsModuleGraph u index.graph) same h.graph,
@@ -28,14 +35,14 @@ pub returns-clause-sound : goal.returns-clause-sound
 returns-clause-sound g c =
     let t : TableValue = record { objects = c.args.objects.items; infos = c.args.infos.items } in
     let same = same_table _ _ _ _ c.as_slice.ensures.value c.as_slice-2.ensures.value in
-    (faultless_is_sound t c.args.kept.now (omega (arith, c.args.objects.ok.0, c.args.objects.ok.1, c.args.objects.small)) (subst (λ u. HasNoFault u c.args.kept.now) same c.in_ok-index.ensures.no_fault)).0
+    rw c.new.ensures ((faultless_is_sound t c.args.kept.now (omega (arith, c.args.objects.ok.0, c.args.objects.ok.1, c.args.objects.small)) (subst (λ u. HasNoFault u c.args.kept.now) same c.in_ok-index.ensures.no_fault)).0)
 
 pub returns-clause-kept : goal.returns-clause-kept
 returns-clause-kept g c =
     let t : TableValue = record { objects = c.args.objects.items; infos = c.args.infos.items } in
     let same = same_table _ _ _ _ c.as_slice.ensures.value c.as_slice-2.ensures.value in
-    (faultless_is_sound t c.args.kept.now (omega (arith, c.args.objects.ok.0, c.args.objects.ok.1, c.args.objects.small)) (subst (λ u. HasNoFault u c.args.kept.now) same c.in_ok-index.ensures.no_fault)).1
+    rw c.new.ensures ((faultless_is_sound t c.args.kept.now (omega (arith, c.args.objects.ok.0, c.args.objects.ok.1, c.args.objects.small)) (subst (λ u. HasNoFault u c.args.kept.now) same c.in_ok-index.ensures.no_fault)).1)
 
 pub returns-clause-no_fault : goal.returns-clause-no_fault
 returns-clause-no_fault g c =
-    subst (λ u. HasNoFault u c.args.kept.now) (same_table _ _ _ _ c.as_slice.ensures.value c.as_slice-2.ensures.value) c.in_ok-index.ensures.no_fault
+    rw c.new.ensures (subst (λ u. HasNoFault u c.args.kept.now) (same_table _ _ _ _ c.as_slice.ensures.value c.as_slice-2.ensures.value) c.in_ok-index.ensures.no_fault)

@@ -10,40 +10,40 @@ use Rattle.module_table.proofs.table.Table.lookup.Goals as goal
 
 pub index-origin-requires : goal.index-origin-requires
 index-origin-requires g c =
-    let t : TableValue = record { objects = c.self.inside.objects.items; infos = c.self.inside.infos.items } in
-    let within = within_places t c.self.inside.names.keys c.self.inside.origins.items c.self.invariant.2 c.self.invariant.3 c.in-Some.index c.args.name.now c.in-Some.ensures.found in
+    let t : TableValue = c.self.inside.resolved in
+    let within = within_places t c.self.inside.names.keys c.self.inside.origins.items c.self.invariant.0 c.self.invariant.1 c.in-Some.index c.args.name.now c.in-Some.ensures.found in
     omega (arith, c.self.inside.origins.ok.0)
 
 pub named_at-requires : goal.named_at-requires
 named_at-requires g c =
-    let t : TableValue = record { objects = c.self.inside.objects.items; infos = c.self.inside.infos.items } in
+    let t : TableValue = c.self.inside.resolved in
     let names = c.self.inside.names.keys in
     let origins = c.self.inside.origins.items in
     let index = c.in-Some.index in
     let name = c.args.name.now in
     let origin = c.index-origin.result.now in
-    let within = within_places t names origins c.self.invariant.2 c.self.invariant.3 index name c.in-Some.ensures.found in
+    let within = within_places t names origins c.self.invariant.0 c.self.invariant.1 index name c.in-Some.ensures.found in
     let here = slice_get_read origins _ index origin refl within c.index-origin.ensures in
-    let found = found_there t names origins c.self.invariant.2 c.self.invariant.3 index name c.in-Some.ensures.found origin here in
-    (name, found.0, same_place t.objects c.deref.result.now t.infos c.deref-in-Some.result.now origin (name, found.0) (sym c.deref.ensures.value) (sym c.deref-in-Some.ensures.value) found.1)
+    let found = found_there t names origins c.self.invariant.0 c.self.invariant.1 index name c.in-Some.ensures.found origin here in
+    (name, found.0, same_place t.objects c.objects.result.now t.infos c.infos.result.now origin (name, found.0) (sym c.objects.ensures.objects) (sym c.infos.ensures) found.1)
 
 pub returns-in-Some-clause-found : goal.returns-in-Some-clause-found
 returns-in-Some-clause-found g c =
-    let t : TableValue = record { objects = c.self.inside.objects.items; infos = c.self.inside.infos.items } in
+    let t : TableValue = c.self.inside.resolved in
     let names = c.self.inside.names.keys in
     let origins = c.self.inside.origins.items in
     let index = c.in-Some.index in
     let name = c.args.name.now in
     let origin = c.index-origin.result.now in
-    let within = within_places t names origins c.self.invariant.2 c.self.invariant.3 index name c.in-Some.ensures.found in
+    let within = within_places t names origins c.self.invariant.0 c.self.invariant.1 index name c.in-Some.ensures.found in
     let here = slice_get_read origins _ index origin refl within c.index-origin.ensures in
     let pair : List ℕ × List ℕ = (c.named_at.result.0.now, c.named_at.result.1.now) in
-    let named = same_place c.deref.result.now t.objects c.deref-in-Some.result.now t.infos origin pair c.deref.ensures.value c.deref-in-Some.ensures.value c.named_at.ensures in
+    let named = same_place c.objects.result.now t.objects c.infos.result.now t.infos origin pair c.objects.ensures.objects c.infos.ensures c.named_at.ensures in
     subst (λ (s : TableValue). IsProvidedBy s origin.0 name c.named_at.result.1.now) c.self.view_is
-    (provided_there t names origins c.self.invariant.2 c.self.invariant.3 index name c.in-Some.ensures.found origin here pair named)
+    (provided_there t names origins c.self.invariant.0 c.self.invariant.1 index name c.in-Some.ensures.found origin here pair named)
 
 pub returns-in-None-clause-none : goal.returns-in-None-clause-none
 returns-in-None-clause-none g c =
-    let t : TableValue = record { objects = c.self.inside.objects.items; infos = c.self.inside.infos.items } in
+    let t : TableValue = c.self.inside.resolved in
     subst (λ (s : TableValue). IsUnknown s c.args.name.now) c.self.view_is
-    (absent_unknown t c.args.name.now (subst (λ names. IsAbsent names c.args.name.now) c.self.invariant.2 c.in-None.ensures.none))
+    (absent_unknown t c.args.name.now (subst (λ names. IsAbsent names c.args.name.now) c.self.invariant.0 c.in-None.ensures.none))
