@@ -1,8 +1,8 @@
 -- What a table without a fault gives has exactly one effect, which adds exactly what the objects add.
-use Rattle.std.proofs.Common.{◌≡◌, ℕ, List, [], ◌∷◌, ◌++◌, length, map, Option, Some, refl, ap, subst, sym, ◌∙◌, arith, slice_get}
+use Rattle.std.proofs.Common.{◌≡◌, ℕ, List, [], ◌∷◌, ◌++◌, length, map, Option, Some, refl, ap, subst, sym, ◌∙◌, slice_get}
 use Rattle.std.specs.Prelude.{All}
 use Rattle.std.proofs.lemmas.List.{length-map}
-use Rattle.std.proofs.lemmas.List.Elements.{All-cons, All-head, All-tail}
+use Rattle.std.proofs.lemmas.List.Elements.{All-head, All-tail}
 use Rattle.ninja_text.specs.Paths.{IsPath}
 use Rattle.dep_order.specs.Needs.{IsOrderable}
 use Rattle.dyndep_file.specs.StatementValue.{StatementValue}
@@ -23,16 +23,8 @@ use Rattle.collate_core.specs.Statements.{statement_of, statements_of}
 use Rattle.collate_core.specs.Maps.{Written}
 use Rattle.collate_core.specs.Collation.{HasPaths, Collates}
 use Rattle.collate_core.specs.Headline.{AddsExactly, IsCollatedText, IsHeadline}
-use Rattle.collate_core.proofs.Lists.{all_at}
+use Rattle.collate_core.proofs.Lists.{all_at, all_front, all_back}
 use Rattle.collate_core.proofs.Writing.{all_images}
-
-front : {X : Type 0} (P : X → Type 0) (xs ys : List X) → All P (xs ++ ys) → All P xs
-front P [] ys all = λ k d within. absurd (omega arith)
-front P (x ∷ xs) ys all = All-cons P x xs (All-head P x (xs ++ ys) all) (front P xs ys (All-tail P x (xs ++ ys) all))
-
-back : {X : Type 0} (P : X → Type 0) (xs ys : List X) → All P (xs ++ ys) → All P ys
-back P [] ys all = all
-back P (x ∷ xs) ys all = back P xs ys (All-tail P x (xs ++ ys) all)
 
 -- the canonical form of a statement with canonical paths is that statement
 own_canonical : (s : StatementValue) → HasPaths s → IsCanonical s s
@@ -40,8 +32,8 @@ own_canonical s h =
     let rest = All-tail IsPath s.output (s.implicit_outputs ++ s.implicit_inputs) h in
     record {
       output = All-head IsPath s.output (s.implicit_outputs ++ s.implicit_inputs) h;
-      outputs = all_images s.implicit_outputs (front IsPath s.implicit_outputs s.implicit_inputs rest);
-      inputs = all_images s.implicit_inputs (back IsPath s.implicit_outputs s.implicit_inputs rest);
+      outputs = all_images s.implicit_outputs (all_front IsPath s.implicit_outputs s.implicit_inputs rest);
+      inputs = all_images s.implicit_inputs (all_back IsPath s.implicit_outputs s.implicit_inputs rest);
       restat = refl;
     }
 

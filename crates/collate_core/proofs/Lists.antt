@@ -3,7 +3,7 @@ use Rattle.std.proofs.Common.{◌≡◌, ℕ, zero, suc, ◌+◌, ◌<◌, ◌�
 use Rattle.std.specs.Prelude.{slice_get, All}
 use Rattle.std.specs.List.{flat_map, AllZip, AllByRecursion}
 use Rattle.std.proofs.lemmas.List.{take_more}
-use Rattle.std.proofs.lemmas.List.Elements.{All-get_or, All-nil, All-append}
+use Rattle.std.proofs.lemmas.List.Elements.{All-get_or, All-nil, All-cons, All-head, All-tail, All-append}
 use Rattle.std.proofs.lemmas.Grind.{flat_map-append}
 use Rattle.std.proofs.lemmas.Option.{slice_get_within, get_or_from_slice_get}
 
@@ -30,6 +30,20 @@ zip_map R f same [] [] h = refl
 zip_map R f same [] (y ∷ ys) h = absurd h
 zip_map R f same (x ∷ xs) [] h = absurd h
 zip_map R f same (x ∷ xs) (y ∷ ys) h = ap₂ (λ a b. a ∷ b) (same x y h.0) (zip_map R f same xs ys h.1)
+
+-- what holds of two lists in a row holds of either
+pub all_front : {X : Type 0} (P : X → Type 0) (xs ys : List X) → All P (xs ++ ys) → All P xs
+all_front P [] ys all = All-nil P
+all_front P (x ∷ xs) ys all = All-cons P x xs (All-head P x (xs ++ ys) all) (all_front P xs ys (All-tail P x (xs ++ ys) all))
+
+pub all_back : {X : Type 0} (P : X → Type 0) (xs ys : List X) → All P (xs ++ ys) → All P ys
+all_back P [] ys all = all
+all_back P (x ∷ xs) ys all = all_back P xs ys (All-tail P x (xs ++ ys) all)
+
+-- what holds of a mapped list holds of what each element is mapped to
+pub all_mapped : {A B : Type 0} (P : B → Type 0) (f : A → B) (xs : List A) → All P (map f xs) → All (λ x. P (f x)) xs
+all_mapped P f [] all = All-nil (λ x. P (f x))
+all_mapped P f (x ∷ xs) all = All-cons (λ x. P (f x)) x xs (All-head P (f x) (map f xs) all) (all_mapped P f xs (All-tail P (f x) (map f xs) all))
 
 -- each element of each part
 pub all_parts : {A B : Type 0} (P : B → Type 0) (f : A → List B) (Q : A → Type 0) → ((x : A) → Q x → All P (f x)) → (xs : List A) → AllByRecursion Q xs → All P (flat_map f xs)

@@ -1,5 +1,5 @@
 -- The headline: what a collated target does to a build.
-use Rattle.std.specs.Prelude.{◌≡◌, ◌≢◌, ℕ, not, ◌==◌, ◌||◌, List, ◌++◌, length, map, slice_get, Some, All}
+use Rattle.std.specs.Prelude.{◌≡◌, ◌≢◌, ℕ, not, ◌==◌, ◌||◌, List, ◌++◌, length, map, slice_get, Some, None, All}
 use Rattle.dep_order.specs.Needs.{IsOrderable}
 use Rattle.dyndep_file.specs.StatementValue.{StatementValue}
 use Rattle.dyndep_file.specs.Reading.{StandsForOnly}
@@ -13,7 +13,7 @@ use Rattle.build_effect.specs.Premises.{AddsAt, AddedOnce, AdditionNeeds, Meets}
 use Rattle.collate_core.specs.Values.{TargetValue, CollatedValue}
 use Rattle.collate_core.specs.Documents.{table_of, IsResolved}
 use Rattle.collate_core.specs.Statements.{files_of, statements_of}
-use Rattle.collate_core.specs.Collation.{HasPaths}
+use Rattle.collate_core.specs.Collation.{HasPaths, Collates}
 
 -- modules: pairs of a name and a file
 abbrev pub Modules : Type 0
@@ -52,6 +52,13 @@ pub record IsHeadline (target : TargetValue) (c : CollatedValue) : Type 0 where
       (new : List EdgeValue) × OnlyEffect g name (statements_of (table_of target)) new
       × AddsExactly (table_of target) name g new
   pub orderable : IsOrderable (length (table_of target).objects) (AddedNeeds (table_of target))
+
+-- The text is the dyndep text of what the target collates to without maps, which has the headline.
+pub record IsDyndepOf (target : TargetValue) (text : List ℕ) : Type 0 where
+  pub collated : CollatedValue
+  pub collates : Collates target None collated
+  pub headline : IsHeadline target collated
+  pub same : collated.dyndep ≡ text
 
 -- ---- what the type of collated targets promises of each
 

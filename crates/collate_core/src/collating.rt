@@ -1,9 +1,9 @@
 //! Collating a target.
-ghost use Rattle.std.specs.Prelude.{◌≡◌, map, IfOk, IfErr};
+ghost use Rattle.std.specs.Prelude.{◌≡◌, map, None, IfOk, IfErr};
 ghost use Rattle.std.specs.Option.{option_copied, option_map};
 ghost use Rattle.ninja_text.specs.Failure.{ForFault};
 ghost use Rattle.collate_core.specs.Collation.{Collates};
-ghost use Rattle.collate_core.specs.Headline.{IsHeadline};
+ghost use Rattle.collate_core.specs.Headline.{IsHeadline, IsDyndepOf};
 ghost use Rattle.collate_core.specs.Refusals.{IsRefusal};
 
 use crate::collated::Collated;
@@ -17,6 +17,7 @@ use crate::table::table_of;
 use crate::target::Target;
 use module_table::{Table, added_files};
 use ninja_text::{Failure, Path};
+use scan_docs::laws::info_again;
 use std::alloc::{AllocError, Global};
 use std::hash::{BuildHasher, BuildHasherDefault, FoldHasher};
 
@@ -60,11 +61,43 @@ pub fn collate_with_hasher<M: MapStyle, S: BuildHasher + Copy>(
     headline();
     added_files();
     let table = table_of(alloc, target, hash_builder)?;
-    let text = text_of(alloc, &table)?;
+    let text = text_of(alloc, table.resolved())?;
     let maps = maps_of(alloc, &table, style)?;
     let info = info_text_of(alloc, target.name, target.kept, &table, hash_builder)?;
     let objects = objects_of(alloc, &table)?;
     Ok(Collated::new(text, info, objects, maps))
+}
+
+/// Collates a target to its dyndep text alone: the text that [`collate`] without a style answers.
+///
+/// It succeeds and is refused exactly where that is, and for the same [`Refusal`]. No info is
+/// written, so that it takes less time, and less memory by the info's length.
+pub fn collate_dyndep(alloc: Global, target: &Target<'_>) -> Result<Vec<u8>, Failure<Refusal>>
+    ensures dyndep { IfOk result (λ text. IsDyndepOf target.now text.items) }
+    ensures refused { IfErr result (ForFault (IsRefusal target.now None)) }
+{
+    let unkeyed: BuildHasherDefault<FoldHasher> = BuildHasherDefault::new();
+    collate_dyndep_with_hasher(alloc, target, unkeyed)
+}
+
+/// The same, with tables that hash by `hash_builder`, as those of [`collate_with_hasher`] do.
+pub fn collate_dyndep_with_hasher<S: BuildHasher + Copy>(
+    alloc: Global,
+    target: &Target<'_>,
+    hash_builder: S,
+) -> Result<Vec<u8>, Failure<Refusal>>
+    ensures dyndep { IfOk result (λ text. IsDyndepOf target.now text.items) }
+    ensures refused { IfErr result (ForFault (IsRefusal target.now None)) }
+{
+    headline();
+    added_files();
+    info_again();
+    // The contract speaks of the info too, though it is not written: its name is accepted.
+    let _ = target.name.text();
+    let table = table_of(alloc, target, hash_builder)?;
+    let resolved = table.into_resolved();
+    let dyndep = text_of(alloc, &resolved)?;
+    Ok(dyndep)
 }
 
 /// The objects of a table.

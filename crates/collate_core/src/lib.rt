@@ -6,6 +6,7 @@
 //!   (`specs/Collation.antt`, `Collates`), and else reports the first in that order
 //!   (`specs/Refusals.antt`, `IsRefusal`). The law [`one_outcome`] says that there is never both,
 //!   nor two refusals.
+//!   [`collate_dyndep`] answers the dyndep text alone (`specs/Headline.antt`, `IsDyndepOf`).
 //! - What it answers has the headline (`specs/Headline.antt`, `IsHeadline`): the dyndep text stands
 //!   for one statement an object and for nothing else, and on every build that names the file on
 //!   exactly the objects it has exactly one effect, which adds to each object's edge exactly what
@@ -51,7 +52,7 @@ mod target;
 pub use check::{check_edges, check_edges_with_hasher};
 pub use clang::Clang;
 pub use collated::{Collated, CollatedParts};
-pub use collating::{collate, collate_with_hasher};
+pub use collating::{collate, collate_dyndep, collate_dyndep_with_hasher, collate_with_hasher};
 pub use fault::{Refusal, RehearseFault};
 pub use gcc::Gcc;
 pub use laws::{headline, one_outcome, project_maps, project_orders};

@@ -10,20 +10,16 @@ ghost use Rattle.collate_core.specs.inner.Parts.{lent_files, IsSpelled, HasSpell
 
 use crate::fault::Refusal;
 use dyndep_file::{DyndepText, LentStatement, WriteFault, laws};
-use module_table::Table;
+use module_table::Resolved;
 use ninja_text::{Failure, Path};
 use scan_docs::{Name, Rule};
 use std::alloc::{AllocError, Global};
-use std::hash::BuildHasher;
 
 /// The text of one statement an object, in the order of the objects: its output is the object, its
 /// implicit outputs are the files of the modules that the object provides, in order of provision,
 /// and its implicit inputs the files of those that it requires, in order of first mention. `restat`
 /// is on exactly where it has implicit outputs. Or the first whose build line is too long.
-pub(crate) fn text_of<S: BuildHasher>(
-    alloc: Global,
-    table: &Table<S>,
-) -> Result<Vec<u8>, Failure<Refusal>>
+pub(crate) fn text_of(alloc: Global, table: &Resolved) -> Result<Vec<u8>, Failure<Refusal>>
     ensures text { IfOk result (λ text. text_or_fault (statements_of table.now) ≡ Ok text.items) }
     ensures meaning { IfOk result (λ text. StandsForOnly text.items (statements_of table.now)) }
     ensures spelled { OnOk result (All HasSpelled (statements_of table.now)) }

@@ -6,7 +6,7 @@ ghost use Rattle.dyncollate.specs.Targets.{AnswersTarget};
 
 use crate::answer::Answer;
 use crate::refusal::refusal_text;
-use collate_core::{Gcc, Target, collate_with_hasher, one_outcome};
+use collate_core::{Target, collate_dyndep_with_hasher, one_outcome};
 use ninja_text::Failure;
 use scan_docs::{Setting, TargetName};
 use std::alloc::{AllocError, Global};
@@ -57,13 +57,13 @@ fn setting_of(alloc: Global, dir: &str, ext: &str) -> Result<Setting, AllocError
     })
 }
 
-/// The answer to a target that wants no maps: the text of its dyndep file.
+/// The answer to a target that wants no info and no maps: the text of its dyndep file.
 fn target_run(alloc: Global, keys: RandomState, target: &Target<'_>) -> Result<Answer, AllocError>
     ensures { IfOk result (AnswersTarget PrintsDyndep target.now None) }
 {
     one_outcome();
-    match collate_with_hasher(alloc, target, None::<&Gcc>, keys) {
-        Ok(collated) => Ok(Answer::done(alloc, collated.into_parts().dyndep)),
+    match collate_dyndep_with_hasher(alloc, target, keys) {
+        Ok(text) => Ok(Answer::done(alloc, text)),
         Err(Failure::Memory) => Err(AllocError),
         Err(Failure::Fault(refusal)) => {
             let message = refusal_text(alloc, target, &refusal)?;

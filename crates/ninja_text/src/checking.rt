@@ -26,8 +26,8 @@ pub(crate) fn fault_in(text: &[u8]) -> Option<LexFault>
     None
 }
 
-/// Whether a text has a byte that a fault begins with, or the `$` of a unit of several bytes. Nearly
-/// no text has.
+/// Whether a text has a byte that a fault begins with, or the `$` of a unit of several bytes.
+/// Nearly no text has.
 fn has_suspect(text: &[u8]) -> bool
     ensures { result ≡ list_any is_suspect text.now }
 {

@@ -25,8 +25,8 @@
 //! - How [`PathFault`], [`CutFault`] and [`LexFault`] are printed is proved too
 //!   (`specs/FaultTexts.antt`).
 //!
-//! Definitions that private clauses alone speak of stand below `specs/inner/`, and what other crates
-//! cite of the proofs in `proofs/ForCallers.antt`. The crate stands on `std` alone.
+//! Definitions that private clauses alone speak of stand below `specs/inner/`, and what other
+//! crates cite of the proofs in `proofs/ForCallers.antt`. The crate stands on `std` alone.
 #![tactic(auto)]
 
 mod assigning;

@@ -1,8 +1,9 @@
 //! From a text to its canonical list of components.
 //!
 //! The list is kept as a text, its components joined by slashes and without the slash that an
-//! absolute path begins with. It is never longer than the text that is read. A text whose components
-//! are all names is its own list, and is copied whole; of any other the list is made in one pass.
+//! absolute path begins with. It is never longer than the text that is read. A text whose
+//! components are all names is its own list, and is copied whole; of any other the list is made in
+//! one pass.
 ghost use Rattle.std.specs.Prelude.{◌≡◌, ◌≢◌, ℕ, ◌+◌, ◌-◌, ◌<◌, ◌≤◌, ◌&&◌, ◌||◌, List, [], ◌∷◌, ◌++◌, length, slice_index, take, MatchOption, IfOk, OnOk, true, false, position};
 ghost use Rattle.std.specs.List.{list_any};
 ghost use Rattle.ninja_text.specs.Escapes.{is_unwritable};

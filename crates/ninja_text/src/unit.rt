@@ -85,7 +85,8 @@ pub(crate) fn unit_at(text: &[u8], index: usize) -> LineUnit
     requires { index < length text.now }
     ensures within { index + unit_len result ≤ length text.now }
     ensures some { 0 < unit_len result }
-    ensures first { units (drop index text.now) ≡ result ∷ units (drop (index + unit_len result) text.now) }
+    ensures first { units (drop index text.now)
+        ≡ result ∷ units (drop (index + unit_len result) text.now) }
 {
     first_unit(&text[index..])
 }

@@ -16,7 +16,7 @@ use Rattle.collate_core.proofs.Writing.{line_refused}
 use Rattle.collate_core.proofs.statements.text_of.Goals as goal
 
 pub loop-index-preserved : goal.loop-index-preserved
-loop-index-preserved g c =
+loop-index-preserved c =
     let t : TableValue = c.args.table.now in
     let index : ℕ = c.loop-index.index in
     let rule : RuleValue = c.index-objects-index.result in
@@ -30,7 +30,7 @@ loop-index-preserved g c =
     }
 
 pub returns-in_err-add_object-clause-refused : goal.returns-in_err-add_object-clause-refused
-returns-in_err-add_object-clause-refused g c =
+returns-in_err-add_object-clause-refused c =
     let p = err_from_is_err_and c.from_residual-in_err-add_object.result c.from_residual-in_err-add_object.ensures.1 in
     let t : TableValue = c.args.table.now in
     let index : ℕ = c.loop-index.index in

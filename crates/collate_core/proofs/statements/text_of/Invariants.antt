@@ -7,7 +7,7 @@ use Rattle.collate_core.proofs.statements.text_of.Given as goal
 
 -- the text is that of the statements of the objects so far
 abbrev pub invariant-loop-index : goal.invariant-loop-index
-invariant-loop-index g l =
+invariant-loop-index l =
     record {
       text : IsTextOf (map statement_of (take l.index (tasks_of l.table))) l.text;
       spelled : All HasSpelled (map statement_of (take l.index (tasks_of l.table)));

@@ -1,4 +1,4 @@
-use Rattle.std.proofs.Common.{None, ap, subst, ◌∙◌}
+use Rattle.std.proofs.Common.{None, ap, sym, subst, ◌∙◌}
 use Rattle.std.proofs.lemmas.Result.{IfOk-weaker}
 use Rattle.ninja_text.specs.Failure.{ForFault}
 use Rattle.collate_core.specs.Refusals.{IsRefusal}
@@ -11,10 +11,11 @@ use Rattle.dyncollate.proofs.one.target_run.Goals as goal
 -- the text of what the target collates to
 pub returns-in-Ok : goal.returns-in-Ok
 returns-in-Ok c =
-    collated c.one_outcome.ensures.collate _ _ _ c.done.result c.in-Ok.collated c.in-Ok.ensures.collated
+    let dyndep = c.in-Ok.ensures.dyndep in
+    collated c.one_outcome.ensures.collate PrintsDyndep c.args.target.now None c.done.result dyndep.collated dyndep.collates
     (record {
       status = c.done.ensures.status;
-      out = ap (λ text. text.items) c.done.ensures.out ∙ c.into_parts.ensures.dyndep;
+      out = ap (λ text. text.items) c.done.ensures.out ∙ sym dyndep.same;
       err = c.done.ensures.err;
       files = c.done.ensures.files;
     })
