@@ -2,17 +2,6 @@
 use ninja_text::{Failure, Path};
 use scan_docs::{Name, Setting, TargetName};
 use std::alloc::{AllocError, Global};
-use std::fmt::Debug;
-use std::test::Fail;
-
-/// What a call gave. Where memory was refused the error is `AllocError`, and else the fault.
-pub(crate) fn granted<T, F: Debug + Drop>(answer: Result<T, Failure<F>>) -> Result<T, Fail> {
-    match answer {
-        Ok(value) => Ok(value),
-        Err(Failure::Memory) => Err(Fail::from(AllocError)),
-        Err(Failure::Fault(fault)) => Err(Fail::from(fault)),
-    }
-}
 
 /// The fault that a call answered, if it answered one. The error is that memory was refused.
 pub(crate) fn fault_of<T: Drop, F>(answer: Result<T, Failure<F>>) -> Result<Option<F>, AllocError> {

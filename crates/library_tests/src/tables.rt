@@ -3,7 +3,7 @@
 
 mod growths;
 
-use crate::common::{granted, setting};
+use crate::common::setting;
 use module_table::{Maker, Table, TableFault};
 use ninja_text::{Failure, Path};
 use scan_docs::{Name, Rule, info_read, scan};
@@ -14,7 +14,7 @@ use std::test::Fail;
 fn objects(alloc: Global) -> Result<Vec<Rule>, Fail> {
     let document =
         br#"{"version":1,"rules":[{"primary-output":"main.o","requires":[{"logical-name":"A"}]},{"primary-output":"a.o","provides":[{"logical-name":"A"}],"requires":[{"logical-name":"K"}]}]}"#;
-    granted(scan(alloc, document, &setting(alloc)?))
+    Ok(scan(alloc, document, &setting(alloc)?)?)
 }
 
 /// Whether these are the modules and their files.
@@ -58,8 +58,8 @@ const K_INFO: &[u8] =
 
 /// The table of both objects and this info.
 fn table_of(alloc: Global) -> Result<Table, Fail> {
-    let infos = vec![in alloc; granted(info_read(alloc, K_INFO))?]?;
-    granted(Table::build(alloc, objects(alloc)?, infos, &[]))
+    let infos = vec![in alloc; info_read(alloc, K_INFO)?]?;
+    Ok(Table::build(alloc, objects(alloc)?, infos, &[])?)
 }
 
 /// Whether a module of an object, one of an info and no other is found.
@@ -117,7 +117,7 @@ fn a_fault_tells_makers_by_index(rt: HostRuntime) -> Result<(), Fail> {
     let alloc = rt.alloc();
     let info =
         br#"{"modules":[{"bmi":"lib/A.bmi","name":"A","requires":[],"visibility":"public"}],"target":"l","version":2}"#;
-    let infos = vec![in alloc; granted(info_read(alloc, info))?]?;
+    let infos = vec![in alloc; info_read(alloc, info)?]?;
     assert!(rt; is_a_twice(Table::build(alloc, objects(alloc)?, infos, &[])));
     Ok(())
 }

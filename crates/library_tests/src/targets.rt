@@ -10,7 +10,7 @@ mod rehearsals;
 
 use crate::common::{name, setting, target_name};
 use build_effect::{Graph, ListingReader, listing_write};
-use collate_core::{Collated, MapFault, MapStyle, Refusal, Target, collate};
+use collate_core::{Collated, MapFault, MapStyle, Refusal, Target, collate, collate_dyndep};
 use module_table::TableFault;
 use ninja_text::{Counted, Failure};
 use scan_docs::Name;
@@ -115,6 +115,24 @@ fn answer<M: MapStyle>(
     };
     match collate(alloc, &target, style) {
         Ok(collated) => collated_text(alloc, collated),
+        Err(Failure::Memory) => Err(AllocError),
+        Err(Failure::Fault(refusal)) => refusal_text(alloc, &refusal),
+    }
+}
+
+/// The dyndep text alone of the target `t` of these documents, or why it does not collate.
+fn dyndep_alone(alloc: Global, scans: &[&[u8]], infos: &[&[u8]]) -> Result<Vec<u8>, AllocError> {
+    let name = target_name(alloc, "t")?;
+    let setting = setting(alloc)?;
+    let target = Target {
+        name: &name,
+        setting: &setting,
+        scans,
+        infos,
+        kept: &[],
+    };
+    match collate_dyndep(alloc, &target) {
+        Ok(text) => Ok(text),
         Err(Failure::Memory) => Err(AllocError),
         Err(Failure::Fault(refusal)) => refusal_text(alloc, &refusal),
     }

@@ -1,12 +1,12 @@
 //! Worked documents and names, whose growths of memory `tests/growths` refuses in turn. A test
-//! answers `AllocError` where a call answered that memory was refused, and nowhere else; every
-//! other answer has to be the example's.
+//! answers `AllocError` or `Failure::Memory` where a call answered that memory was refused, and
+//! nowhere else; every other answer has to be the example's.
 
 use super::infos::{TWO_MODULES, is_of_both_modules, is_written_as};
 use super::projects::push_answer;
 use super::scans::{TWO_RULES, are_both_rules, setting};
 use super::targets::{EVERY_MEMBER, has_lists, has_options, has_texts};
-use crate::common::{fault_of, granted};
+use crate::common::fault_of;
 use scan_docs::{DocFault, Member, Name, Place, TargetName, info_read, scan, spec_read};
 use std::alloc::{AllocError, Global};
 use std::test::Fail;
@@ -37,7 +37,7 @@ fn names(rt: HostRuntime) -> Result<(), Fail> {
 #[test]
 fn scan_document(rt: HostRuntime) -> Result<(), Fail> {
     let alloc = rt.alloc();
-    let rules = granted(scan(alloc, TWO_RULES, &setting(alloc)?))?;
+    let rules = scan(alloc, TWO_RULES, &setting(alloc)?)?;
     assert!(rt; are_both_rules(&rules));
     Ok(())
 }
@@ -58,7 +58,7 @@ fn scan_document_that_is_refused(rt: HostRuntime) -> Result<(), Fail> {
 
 #[test]
 fn info(rt: HostRuntime) -> Result<(), Fail> {
-    let info = granted(info_read(rt.alloc(), TWO_MODULES))?;
+    let info = info_read(rt.alloc(), TWO_MODULES)?;
     assert!(rt; is_of_both_modules(&info));
     Ok(())
 }
@@ -82,7 +82,7 @@ fn info_that_is_refused(rt: HostRuntime) -> Result<(), Fail> {
 
 #[test]
 fn target_document(rt: HostRuntime) -> Result<(), Fail> {
-    let spec = granted(spec_read(rt.alloc(), EVERY_MEMBER))?;
+    let spec = spec_read(rt.alloc(), EVERY_MEMBER)?;
     assert!(rt; has_texts(&spec));
     assert!(rt; has_lists(&spec));
     assert!(rt; has_options(&spec));

@@ -1,9 +1,9 @@
 //! Worked tables, whose growths of memory `tests/growths` refuses in turn. A test answers
-//! `AllocError` where a call answered that memory was refused, and nowhere else; every other answer
-//! has to be the example's.
+//! `AllocError` or `Failure::Memory` where a call answered that memory was refused, and nowhere
+//! else; every other answer has to be the example's.
 
 use super::{finds_both, has_both_objects, needs_all_three, table_of};
-use crate::common::{fault_of, granted, setting};
+use crate::common::{fault_of, setting};
 use module_table::{Table, TableFault};
 use ninja_text::Path;
 use scan_docs::{Name, scan};
@@ -31,7 +31,7 @@ fn objects_in_a_ring(rt: HostRuntime) -> Result<(), Fail> {
     let alloc = rt.alloc();
     let document =
         br#"{"version":1,"rules":[{"primary-output":"a.o","provides":[{"logical-name":"A"}],"requires":[{"logical-name":"B"}]},{"primary-output":"b.o","provides":[{"logical-name":"B"}],"requires":[{"logical-name":"A"}]}]}"#;
-    let objects = granted(scan(alloc, document, &setting(alloc)?))?;
+    let objects = scan(alloc, document, &setting(alloc)?)?;
     let fault = fault_of(Table::build(alloc, objects, Vec::new(alloc), &[]))?;
     assert!(rt; is_ring_of_both(fault));
     Ok(())

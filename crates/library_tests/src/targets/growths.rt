@@ -3,12 +3,12 @@
 //! else; every other answer has to be the example's.
 
 use super::maps::{entries_text, is_written, map_of, written};
-use super::own_style::{INFO_K, INFO_L};
+use super::own_style::{INFO_K, INFO_L, NEEDS_B};
 use super::projects::three;
 use super::rehearsals::{
     GENERATED, LIBRARY, LIBRARY_AFTER, bytewise, checked, rehearsed, two_objects,
 };
-use super::{TWO_OBJECTS, TWO_OBJECTS_DYNDEP, answer, graph_of};
+use super::{TWO_OBJECTS, TWO_OBJECTS_DYNDEP, answer, dyndep_alone, graph_of};
 use collate_core::{Clang, Gcc, MapStyle};
 use std::test::Fail;
 
@@ -18,6 +18,28 @@ fn kept_modules_are_private_in_the_info_and_stand_in_maps(rt: HostRuntime) -> Re
     let wanted =
         "ninja_dyndep_version = 1\nbuild a.o | mod/A.bmi: dyndep | mod/B.bmi\n  restat = 1\nbuild b.o | mod/B.bmi: dyndep\n  restat = 1\n{\"modules\":[{\"bmi\":\"mod/A.bmi\",\"name\":\"A\",\"requires\":[{\"bmi\":\"mod/B.bmi\",\"name\":\"B\"}],\"visibility\":\"public\"},{\"bmi\":\"mod/B.bmi\",\"name\":\"B\",\"requires\":[],\"visibility\":\"private\"}],\"target\":\"t\",\"version\":2}\na.o\nA mod/A.bmi\nB mod/B.bmi\nb.o\nB mod/B.bmi\n";
     assert!(rt; found.as_slice() == wanted.as_bytes());
+    Ok(())
+}
+
+#[test]
+fn the_dyndep_text_alone(rt: HostRuntime) -> Result<(), Fail> {
+    let found = dyndep_alone(rt.alloc(), &[TWO_OBJECTS], &[])?;
+    assert!(rt; found.as_slice() == TWO_OBJECTS_DYNDEP);
+    Ok(())
+}
+
+#[test]
+fn the_dyndep_text_alone_has_the_files_of_linked_targets(rt: HostRuntime) -> Result<(), Fail> {
+    let found = dyndep_alone(rt.alloc(), &[NEEDS_B], &[INFO_L])?;
+    let wanted = "ninja_dyndep_version = 1\nbuild main.o: dyndep | lib/B.bmi\n";
+    assert!(rt; found.as_slice() == wanted.as_bytes());
+    Ok(())
+}
+
+#[test]
+fn the_dyndep_text_alone_is_refused_as_the_target_is(rt: HostRuntime) -> Result<(), Fail> {
+    let found = dyndep_alone(rt.alloc(), &[NEEDS_B], &[])?;
+    assert!(rt; found.as_slice() == "M5 ModuleUnknown".as_bytes());
     Ok(())
 }
 

@@ -13,7 +13,7 @@ pub(super) const INFO_K: &[u8] =
     br#"{"modules":[{"bmi":"k/K.bmi","name":"K","requires":[{"bmi":"mod/B.bmi","name":"B"}]}],"target":"k","version":1}"#;
 
 /// One object that requires `B`.
-const NEEDS_B: &[u8] =
+pub(super) const NEEDS_B: &[u8] =
     br#"{"version":1,"rules":[{"primary-output":"main.o","requires":[{"logical-name":"B"}]}]}"#;
 
 #[test]

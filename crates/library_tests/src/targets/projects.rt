@@ -4,9 +4,9 @@
 
 use super::{collated_text, refusal_text};
 use crate::common::{setting, target_name};
-use collate_core::{Gcc, ProjectTarget, project};
+use collate_core::{Collated, Gcc, ProjectTarget, project};
 use ninja_text::Failure;
-use scan_docs::TargetName;
+use scan_docs::{Setting, TargetName};
 use std::alloc::{AllocError, Global};
 use std::test::Fail;
 
@@ -32,27 +32,40 @@ fn linking(
     })
 }
 
-/// The texts of what each target collates to, or the first refusal.
-fn answer(alloc: Global, parts: &[Parts]) -> Result<Vec<u8>, AllocError> {
-    let setting = setting(alloc)?;
+/// The targets of these parts.
+fn targets_of<'a>(
+    alloc: Global,
+    setting: &'a Setting,
+    parts: &'a [Parts],
+) -> Result<Vec<ProjectTarget<'a>>, AllocError> {
     let mut targets = Vec::new(alloc);
     for part in parts {
         targets.push(ProjectTarget {
             name: &part.name,
-            setting: &setting,
+            setting,
             scans: &part.scans,
             linked: &part.linked,
             kept: &[],
         })?;
     }
+    Ok(targets)
+}
+
+/// The texts of what targets collate to, one after the other.
+fn collated_texts(alloc: Global, targets: Vec<Collated>) -> Result<Vec<u8>, AllocError> {
+    let mut out = Vec::new(alloc);
+    for collated in targets {
+        out.extend_from_slice(&collated_text(alloc, collated)?)?;
+    }
+    Ok(out)
+}
+
+/// The texts of what each target collates to, or the first refusal.
+fn answer(alloc: Global, parts: &[Parts]) -> Result<Vec<u8>, AllocError> {
+    let setting = setting(alloc)?;
+    let targets = targets_of(alloc, &setting, parts)?;
     match project(alloc, &targets, Some(&Gcc)) {
-        Ok(done) => {
-            let mut out = Vec::new(alloc);
-            for collated in done.targets {
-                out.extend_from_slice(&collated_text(alloc, collated)?)?;
-            }
-            Ok(out)
-        }
+        Ok(done) => collated_texts(alloc, done.targets),
         Err(Failure::Memory) => Err(AllocError),
         Err(Failure::Fault((_index, refusal))) => refusal_text(alloc, &refusal),
     }

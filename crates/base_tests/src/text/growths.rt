@@ -1,9 +1,8 @@
 //! Worked lines, words and paths, whose growths of memory `tests/growths` refuses in turn. A test
-//! answers `AllocError` where a call answered that memory was refused, and nowhere else; every
-//! other answer has to be the example's.
+//! answers `AllocError` or `Failure::Memory` where a call answered that memory was refused, and
+//! nowhere else; every other answer has to be the example's.
 
 use super::{push_answer, push_built};
-use crate::common::granted;
 use ninja_text::{Failure, Line, LineCutter, Path, assignment, escape_into, place, words};
 use std::alloc::AllocError;
 use std::test::Fail;
@@ -60,7 +59,7 @@ fn push_words(line: Line<'_>, out: &mut Vec<u8>) -> Result<bool, Fail> {
 fn value_of_a_token(rt: HostRuntime) -> Result<(), Fail> {
     let mut cutter = LineCutter::new(rt.alloc());
     let mut out = Vec::from_slice(rt.alloc(), BEFORE)?;
-    granted(cutter.feed(b"a$ word$:of-some-length\n"))?;
+    cutter.feed(b"a$ word$:of-some-length\n")?;
     if let Some(line) = cutter.next_line()? {
         assert!(rt; push_words(line, &mut out)?);
     }
@@ -90,7 +89,7 @@ fn push_value(line: Line<'_>, out: &mut Vec<u8>) -> Result<bool, Fail> {
 fn value_of_an_assignment(rt: HostRuntime) -> Result<(), Fail> {
     let mut cutter = LineCutter::new(rt.alloc());
     let mut out = Vec::from_slice(rt.alloc(), BEFORE)?;
-    granted(cutter.feed(b"dyndep = a$ value of$:some-length\n"))?;
+    cutter.feed(b"dyndep = a$ value of$:some-length\n")?;
     if let Some(line) = cutter.next_line()? {
         assert!(rt; push_value(line, &mut out)?);
     }
@@ -133,7 +132,7 @@ fn canonical_paths(rt: HostRuntime) -> Result<(), Fail> {
 
 #[test]
 fn copied_path(rt: HostRuntime) -> Result<(), Fail> {
-    let path = granted(Path::of(rt.alloc(), b"./obj/a.o"))?;
+    let path = Path::of(rt.alloc(), b"./obj/a.o")?;
     assert!(rt; path.copy(rt.alloc())?.bytes() == b"obj/a.o".as_slice());
     Ok(())
 }

@@ -9,7 +9,6 @@ mod cutter;
 mod growths;
 mod lexing;
 
-use crate::common::granted;
 use ninja_text::{Counted, Failure, Path, PathFault, ReadCall, Stopped, is_writable, place};
 use std::alloc::{AllocError, Global};
 use std::io;
@@ -160,7 +159,7 @@ fn push_built(
     work: Option<&[u8]>,
     path: &[u8],
 ) -> Result<(), Fail> {
-    let build = granted(Path::of(alloc, directory))?;
+    let build = Path::of(alloc, directory)?;
     if build.is_rooted() {
         push_answer(alloc, out, place(alloc, work, Some(&build), path))?;
     }

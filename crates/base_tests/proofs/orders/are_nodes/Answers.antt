@@ -2,7 +2,7 @@ use Rattle.std.proofs.Common.{arith, ◌<◌, ℕ, List, Vec, Global, length, su
 use Rattle.std.specs.List.{All}
 use Rattle.std.proofs.lemmas.List.{take_all}
 use Rattle.dep_order.proofs.ForCallers.{rows_are_nodes}
-use Rattle.library_tests.proofs.orders.are_nodes.Goals as goal
+use Rattle.base_tests.proofs.orders.are_nodes.Goals as goal
 
 pub returns : goal.returns
 returns c = λ _. rows_are_nodes c.args.needs.now
