@@ -1,7 +1,6 @@
 use Rattle.std.proofs.Common.{◌≡◌, List, [], map, None, refl, ap, subst, IsUtf8, All}
-use Rattle.dyndep_file.specs.StatementValue.{StatementValue}
-use Rattle.collate_core.specs.Collation.{HasPaths}
 use Rattle.std.proofs.lemmas.Result.{err_from_is_err_and}
+use Rattle.dyndep_file.specs.StatementValue.{StatementValue}
 use Rattle.scan_docs.specs.Name.{IsTargetName}
 use Rattle.scan_docs.specs.Info.{InfoValue}
 use Rattle.scan_docs.specs.InfoText.{info_text}
@@ -9,7 +8,7 @@ use Rattle.module_table.specs.TableValue.{TableValue}
 use Rattle.collate_core.specs.Values.{TargetValue, CollatedValue}
 use Rattle.collate_core.specs.Statements.{statements_of}
 use Rattle.collate_core.specs.Infos.{info_of_table}
-use Rattle.collate_core.specs.Collation.{Collates}
+use Rattle.collate_core.specs.Collation.{HasPaths, Collates}
 use Rattle.collate_core.proofs.Parts.{collates, resolved, write_refused}
 use Rattle.collate_core.proofs.Texts.{info_is_sound}
 use Rattle.collate_core.proofs.Writing.{has_paths}
