@@ -1,12 +1,12 @@
 -- The search by levels, from step to step.
-use Rattle.std.proofs.Common.{◌≡◌, ◌≢◌, ℕ, ◌+◌, ◌<◌, ◌≤◌, Bool, true, false, not, List, [], ◌∷◌, ◌++◌, length, take, get_or, set, Option, Some, None, refl, sym, ◌∙◌, ap, subst, inl, inr, ◌⊎◌, ⊎_elim, arith, length-set, Vec, vec_len, eqb}
+use Rattle.std.proofs.Common.{◌≡◌, ◌≢◌, ℕ, ◌+◌, ◌<◌, ◌≤◌, Bool, true, false, not, List, [], ◌∷◌, ◌++◌, length, take, get_or, set, Option, Some, None, refl, sym, ◌∙◌, ap, subst, inl, inr, ◌⊎◌, ⊎_elim, arith, length-set, replicate, Vec, vec_len, eqb}
 use Rattle.std.specs.Option.{is_none, is_some}
 use Rattle.std.specs.declared.alloc.Global.{Global}
 use Rattle.std.specs.List.{Contains, All}
 use Rattle.std.proofs.lemmas.Bool.{cases_eq, cases_lt, false≢true}
-use Rattle.std.proofs.lemmas.List.{get_or-set_same, get_or-set_other, get_or_past, get_or_read, length_push, nil_from_length}
+use Rattle.std.proofs.lemmas.List.{get_or-set_same, get_or-set_other, get_or_past, get_or_read, get_or-replicate, length-replicate, length_push, nil_from_length}
 use Rattle.std.proofs.lemmas.List.Elements.{Contains-append_left, Contains-push, Contains-push_cases, Contains-get_or}
-use Rattle.std.proofs.lemmas.List.Sums.{sum_by-set}
+use Rattle.std.proofs.lemmas.List.Sums.{sum_by-set, count_by-le-length}
 use Rattle.dep_order.specs.Needs.{needs_of, NodeNeeds}
 use Rattle.dep_order.specs.inner.Users.{one_if}
 use Rattle.dep_order.specs.inner.Steps.{AreSteps, AreAdvanced}
@@ -127,6 +127,45 @@ pub record IsSearching (rows : List (List ℕ)) (from : ℕ) (steps : List (Opti
   pub of_level : (node : ℕ) → mark_of steps node ≡ Some count → Contains frontier node
   pub closed : (before node k : ℕ) → mark_of steps before ≡ Some k → k < count → NodeNeeds rows before node → (fewer : ℕ) × (mark_of steps node ≡ Some fewer) × (fewer ≤ k + 1)
   pub few : count + unmarked steps + length frontier ≤ length rows
+
+-- before the first level only the start has steps
+pub search_begun : (rows : List (List ℕ)) (from : ℕ) (steps : List (Option ℕ)) → from < length rows → steps ≡ replicate (length rows) None → IsSearching rows from (set steps from (Some 0)) (from ∷ []) 0
+search_begun rows from steps lt e = record {
+  as_many = length-set steps from (Some 0) ∙ many;
+  start = here;
+  only_start = λ node is. (only node 0 is).0;
+  behind = λ node fewer is. absurd (omega (arith, (only node (fewer + 1) is).1));
+  level = λ node k is. omega (arith, (only node k is).1);
+  at_level = λ node has. ⊎_elim (λ n. absurd (has_none node n)) (λ last. subst (λ x. mark_of (set steps from (Some 0)) x ≡ Some 0) last here) (Contains-push_cases [] from node has);
+  of_level = λ node is. subst (Contains (from ∷ [])) (sym (only node 0 is).0) (Contains-push [] from);
+  closed = λ before node k is below leads. absurd (omega (arith, below));
+  few =
+      let before : one_if (is_none (get_or steps from None)) ≡ 1 = ap (λ o. one_if (is_none o)) (nothing from) in
+      omega (arith, sum_by-set (λ o. one_if (is_none o)) steps from (Some 0) None in', before, count_by-le-length is_none steps, many);
+}
+  where
+    many : length steps ≡ length rows
+    many = ap length e ∙ length-replicate {A = Option ℕ} (length rows) None
+
+    in' : from < length steps
+    in' = omega (arith, lt, many)
+
+    here : mark_of (set steps from (Some 0)) from ≡ Some 0
+    here = get_or-set_same steps from (Some 0) None in'
+
+    nothing : (node : ℕ) → mark_of steps node ≡ None
+    nothing node =
+        ⊎_elim
+        (λ below. ap (λ xs. mark_of xs node) e ∙ get_or-replicate (length rows) node None None below)
+        (λ ge. get_or_past steps node None (omega (arith, ge, many)))
+        (cases_lt node (length rows))
+
+    only : (node k : ℕ) → mark_of (set steps from (Some 0)) node ≡ Some k → (node ≡ from) × (k ≡ 0)
+    only node k is =
+        ⊎_elim
+        (λ same. (same, one_value (mark_of (set steps from (Some 0)) from) k 0 (subst (λ x. mark_of (set steps from (Some 0)) x ≡ Some k) same is) here))
+        (λ ne. absurd (none_is_no_some (mark_of steps node) k (nothing node) (sym (get_or-set_other steps from node (Some 0) None ne) ∙ is)))
+        (cases_eq node from)
 
 -- one more level
 pub next_level : (rows : List (List ℕ)) (from : ℕ) (steps new_steps : List (Option ℕ)) (frontier next : List ℕ) (count : ℕ) → 0 < length frontier → IsSearching rows from steps frontier count → AreAdvanced rows frontier (count + 1) steps new_steps next → IsSearching rows from new_steps next (count + 1)

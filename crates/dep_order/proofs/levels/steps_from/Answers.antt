@@ -1,11 +1,18 @@
-use Rattle.std.proofs.Common.{◌<◌, sym, subst, length, ◌+◌}
+use Rattle.std.proofs.Common.{rules, ◌≡◌, ◌<◌, ◌∙◌, ap, arith, replicate, set, sym, subst, length, ◌+◌, Some, None}
 use Rattle.dep_order.specs.Rows.{lists}
 use Rattle.dep_order.specs.Needs.{NodeNeeds}
 use Rattle.dep_order.specs.inner.Steps.{AreSteps, AreAdvanced}
 use Rattle.dep_order.proofs.UserCounts.{length_lists}
-use Rattle.dep_order.proofs.Searches.{next_level, all_levels, nonempty, emptied, frontier_in_range}
+use Rattle.dep_order.proofs.Searches.{IsSearching, search_begun, next_level, all_levels, nonempty, emptied, frontier_in_range}
 use Rattle.std.specs.List.{All}
 use Rattle.dep_order.proofs.levels.steps_from.Goals as goal
+
+pub levels-init : goal.levels-init
+levels-init c =
+    let none : c.in_ok-steps.steps.items ≡ replicate (length c.args.slices.now) None = c.in_ok-steps.ensures.items_if_clones_equal (search rules) in
+    subst (λ xs. IsSearching (lists c.args.slices.now) c.args.start (set c.in_ok-steps.steps.items c.args.start (Some 0)) xs 0) (sym c.in_ok-frontier.ensures.items)
+    (search_begun (lists c.args.slices.now) c.args.start c.in_ok-steps.steps.items (omega (arith, c.requires.start, length_lists c.args.slices.now))
+    (none ∙ ap (λ n. replicate n None) (sym (length_lists c.args.slices.now))))
 
 pub levels-preserved : goal.levels-preserved
 levels-preserved c =
