@@ -1,6 +1,7 @@
 -- Calls of a writer, one after the other.
-use Rattle.std.proofs.Common.{ℕ, ◌<◌, ◌+◌, List, [], ◌∷◌, ◌++◌, drop, Ok, refl}
-use Rattle.ninja_text.specs.Counting.{Call, TakesInTurn, IsTakenInTurn}
+use Rattle.std.proofs.Common.{◌≡◌, ℕ, zero, suc, ◌<◌, ◌≤◌, ◌+◌, List, [], ◌∷◌, ◌++◌, drop, length, Ok, true, refl, arith}
+use Rattle.std.specs.declared.io.Error.{Error}
+use Rattle.ninja_text.specs.Counting.{Call, write_failed, TakesInTurn, IsTakenInTurn}
 
 -- one more call behind the others
 takes-one-more : {W : Type 0} (writes : Call W) (text : List ℕ) (out : W) (index : ℕ) (turns : List (W × ℕ)) (last : W) (end : ℕ) (next : W) (n : ℕ)
@@ -16,3 +17,9 @@ pub taken-one-more : {W : Type 0} (writes : Call W) (text : List ℕ) (out last 
     → IsTakenInTurn writes out next text (taken + n)
 taken-one-more writes text out last next taken n h some call =
     (h.0 ++ (next, n) ∷ [], takes-one-more writes text out 0 h.0 last taken next n h.1 some call)
+
+-- a call that took no byte of some failed
+pub none-taken : (n : ℕ) (rest : List ℕ) → n ≤ 0 → 0 < length rest → write_failed {E = Error} (Ok n) rest ≡ true
+none-taken zero [] none some = absurd (omega arith)
+none-taken zero (b ∷ rest) none some = grind arith
+none-taken (suc n) rest none some = absurd (omega arith)

@@ -13,7 +13,7 @@ use crate::line::Line;
 use crate::unit::unit_at;
 
 /// Where the parts of an assignment stand: the name, and the value, which goes to the end.
-#[derive(Clone, Copy, Debug)]
+#[derive(Drop)]
 pub(crate) struct AssignmentIndexes {
     pub(crate) name_start: usize,
     pub(crate) name_end: usize,

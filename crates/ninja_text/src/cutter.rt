@@ -25,7 +25,7 @@ pub struct LineCutter {
     number: u64,
 }
 
-#[derive(Clone, Copy, Debug)]
+#[derive(Clone, Copy)]
 enum Phase {
     /// The buffer holds the beginning of a line.
     Gathering(ScanState),
@@ -173,7 +173,6 @@ impl LineCutter {
 }
 
 /// How far the line at hand goes into a piece.
-#[derive(Clone, Copy, Debug)]
 enum Reach {
     /// To its end, after so many bytes of the piece; its text has this length.
     Whole { taken: usize, text_len: usize },

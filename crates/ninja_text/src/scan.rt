@@ -4,7 +4,7 @@ ghost use Rattle.std.specs.Prelude.{◌≡◌, ℕ, ◌+◌, ◌^◌, ◌<◌, l
 ghost use Rattle.ninja_text.specs.Scanning.{step_of, scan_from, scan_end};
 
 /// What is known of an unfinished line at its last byte.
-#[derive(Clone, Copy, Debug, PartialEq, Eq)]
+#[derive(Clone, Copy)]
 pub(crate) enum ScanState {
     /// Only spaces so far.
     Start,
@@ -21,7 +21,6 @@ pub(crate) enum ScanState {
 }
 
 /// Where a scan came to.
-#[derive(Clone, Copy, Debug, PartialEq, Eq)]
 pub(crate) enum Scanned {
     /// The line ends: its text's length, and its own.
     End { text_len: usize, line_len: usize },

@@ -6,7 +6,7 @@ ghost use Rattle.ninja_text.specs.inner.Runs.{spaces_at};
 ghost use Rattle.ninja_text.specs.inner.PlainTexts.{is_dollar};
 
 /// A unit of a line that is no comment.
-#[derive(Clone, Copy, Debug, PartialEq, Eq)]
+#[derive(Clone, Copy)]
 pub(crate) enum LineUnit {
     /// `$` and a line's end, with the spaces after it; so many bytes.
     Continuation(usize),

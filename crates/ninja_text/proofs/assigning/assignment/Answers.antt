@@ -1,6 +1,9 @@
-use Rattle.std.proofs.Common.{◌-◌, length, take, drop, subst, sym, arith}
+use Rattle.std.proofs.Common.{◌≡◌, ◌∙◌, ◌-◌, ℕ, List, Some, None, length, take, drop, ap, subst, sym, arith}
 use Rattle.std.specs.Prelude.{slice_range}
-use Rattle.ninja_text.specs.Assignments.{LiesIn}
+use Rattle.std.specs.Option.{option_map}
+use Rattle.ninja_text.specs.Assignments.{LiesIn, SeenAssignment, assignment_of, name_of, with_bytes}
+use Rattle.ninja_text.specs.Lexical.{lexical_fault}
+use Rattle.ninja_text.specs.declared.assigning.AssignmentIndexes.{AssignmentIndexes}
 use Rattle.ninja_text.proofs.SpanLemmas.{lies_in}
 use Rattle.ninja_text.proofs.UnitLemmas.{to_the_end}
 use Rattle.ninja_text.proofs.assigning.assignment.Goals as goal
@@ -15,3 +18,18 @@ returns-in-Some-indexes_in-clause-slices c =
     subst (λ whole. LiesIn whole (record { name_start = indexes.name_start; name = slice_range text indexes.name_start indexes.name_end; raw_value = take (length text - indexes.value_start) (drop indexes.value_start text) }))
     c.text-text.ensures
     (subst (λ value. LiesIn text (record { name_start = indexes.name_start; name = slice_range text indexes.name_start indexes.name_end; raw_value = value })) (sym value_first) parts)
+
+-- an assignment's parts in a text, with the value as a slice has it
+abbrev seen_parts : List ℕ → AssignmentIndexes → List ℕ → SeenAssignment
+seen_parts text indexes value = record { name_start = indexes.name_start; name = name_of text indexes; raw_value = value }
+
+pub returns-in-Some-indexes_in-clause-found : goal.returns-in-Some-indexes_in-clause-found
+returns-in-Some-indexes_in-clause-found c =
+    let text = c.text-text.result.now in
+    let indexes = c.in-Some-indexes_in.indexes in
+    let value = take (length text - indexes.value_start) (drop indexes.value_start text) in
+    subst (λ whole. (lexical_fault whole ≡ None) × (Some (seen_parts text indexes value) ≡ assignment_of whole)) c.text-text.ensures (
+      sym c.fault_in.ensures ∙ c.in_default.is,
+      ap (λ v. Some (seen_parts text indexes v)) (to_the_end indexes.value_start text)
+          ∙ ap (option_map (with_bytes text)) (sym c.in-Some-indexes_in.is ∙ c.indexes_in.ensures.value),
+    )
