@@ -1,6 +1,6 @@
 -- The files that a project reads for one target document more.
 use Rattle.std.proofs.Common.{ℕ, List, [], ◌∷◌, ◌++◌, ap, sym, ◌∙◌, append_assoc, append-nil, refl}
-use Rattle.dyncollate.specs.CollateCommand.{FileValue}
+use Rattle.commands.specs.CollateCommand.{FileValue}
 use Rattle.dyncollate.specs.Files.{NamesInTarget, NamesInTargets}
 
 pub one_more : (documents : List FileValue) (document : FileValue) (names more : List (List ℕ)) →

@@ -1,15 +1,4 @@
-pub mod Commands
-pub mod Documents
-pub mod Dyndeps
-pub mod EdgeChecks
 pub mod Examples
 pub mod FileCalls
 pub mod FileNames
-pub mod Listings
 pub mod Operands
-pub mod ProjectRuns
-pub mod ProjectTargets
-pub mod Readings
-pub mod Results
-pub mod TargetDocuments
-pub mod Targets

@@ -3,11 +3,11 @@ use Rattle.std.specs.Prelude.{◌≡◌, ℕ, List, [], ◌∷◌, ◌++◌, len
 use Rattle.std.specs.Global.{Global}
 use Rattle.std.specs.declared.io.Error.{Error}
 use Rattle.scan_docs.specs.Target as document
-use Rattle.dyncollate.specs.declared.answer.Answer.{Answer}
-use Rattle.dyncollate.specs.Answers.{Fails}
+use Rattle.commands.specs.declared.answer.Answer.{Answer}
+use Rattle.commands.specs.Answers.{Fails}
 use Rattle.scan_docs.specs.Project.{ProjectValue}
-use Rattle.dyncollate.specs.CollateCommand.{FileValue, HasSpec, names_in}
-use Rattle.dyncollate.specs.ProjectCommand.{HasProject, names_of_target}
+use Rattle.commands.specs.CollateCommand.{FileValue, HasSpec, names_in}
+use Rattle.commands.specs.ProjectCommand.{HasProject, names_of_target}
 use Rattle.dyncollate.specs.Tasks.{TaskValue, one, collate, show, effect, order, project}
 
 -- the names are those of the files that the target document names, if it is accepted

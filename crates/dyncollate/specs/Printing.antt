@@ -3,8 +3,8 @@ use Rattle.std.specs.Prelude.{◌≡◌, ℕ, ◌⊎◌, List, [], Option, Resul
 use Rattle.std.specs.declared.alloc.AllocError.{AllocError}
 use Rattle.ninja_text.specs.declared.counting.Counted.{Counted}
 use Rattle.ninja_text.specs.Counting.{IsWritten, IsCutShort}
-use Rattle.dyncollate.specs.declared.answer.Answer.{Answer}
-use Rattle.dyncollate.specs.Answers.{line}
+use Rattle.commands.specs.declared.answer.Answer.{Answer}
+use Rattle.commands.specs.Answers.{line}
 
 -- the status of a run, which may have been refused memory
 abbrev pub status_of : Result Answer AllocError → ℕ

@@ -2,16 +2,16 @@
 use Rattle.std.specs.Prelude.{ℕ, List, ◌++◌, Result, Ok, Err, Vec, codes}
 use Rattle.std.specs.Global.{Global}
 use Rattle.std.specs.declared.io.Error.{Error}
-use Rattle.dyncollate.specs.declared.answer.Answer.{Answer}
-use Rattle.dyncollate.specs.Answers.{Fails}
-use Rattle.dyncollate.specs.CollateCommand.{Reading, AnswersCollate}
-use Rattle.dyncollate.specs.Dyndeps.{AnswersDyndep}
-use Rattle.dyncollate.specs.Effect.{AnswersFiles}
-use Rattle.dyncollate.specs.Listings.{AnswersListing}
-use Rattle.dyncollate.specs.One.{setting_of, AnswersDocument}
-use Rattle.dyncollate.specs.Order.{AnswersOrder}
-use Rattle.dyncollate.specs.ProjectCommand.{AnswersProject}
-use Rattle.dyncollate.specs.Show.{AnswersShow}
+use Rattle.commands.specs.declared.answer.Answer.{Answer}
+use Rattle.commands.specs.Answers.{Fails}
+use Rattle.commands.specs.CollateCommand.{Reading, AnswersCollate}
+use Rattle.commands.specs.Dyndeps.{AnswersDyndep}
+use Rattle.commands.specs.Effect.{AnswersFiles}
+use Rattle.commands.specs.Listings.{AnswersListing}
+use Rattle.commands.specs.One.{setting_of, AnswersDocument}
+use Rattle.commands.specs.Order.{AnswersOrder}
+use Rattle.commands.specs.ProjectCommand.{AnswersProject}
+use Rattle.commands.specs.Show.{AnswersShow}
 use Rattle.dyncollate.specs.Tasks.{TaskValue, one, collate, show, effect, order, project, file_of}
 
 -- what a run answers to the bytes of its file, where others are read like this

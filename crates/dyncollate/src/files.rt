@@ -3,11 +3,11 @@
 ghost use Rattle.std.specs.Prelude.{◌≡◌, map, take, length, string_bytes, All, IfOk};
 ghost use Rattle.std.specs.Fn.{FnReturnsAt, FnReturnsAtPair};
 ghost use Rattle.dyncollate.specs.Tasks.{task_value};
-ghost use Rattle.dyncollate.specs.Answers.{file_value};
+ghost use Rattle.commands.specs.Answers.{file_value};
 ghost use Rattle.dyncollate.specs.Files.{NamesIn, NamesInProject, NamesInTarget, NamesInTargets, NamesOf, FurtherNamesOf, IsRead, EndsReading, IsWritten};
 
-use crate::answer::Answer;
 use crate::arguments::Task;
+use commands::Answer;
 use ninja_text::Failure;
 use scan_docs::{project_read, spec_read};
 use std::alloc::{AllocError, Global};

@@ -5,26 +5,18 @@
 //! written, or memory was refused. For each but 0 one line on standard error says why.
 //!
 //! - `arguments` says which task the arguments call for.
-//! - `run` answers a task by what reading its files gave, and `print` writes an answer and gives
-//!   the status. `files` reads the files that target and project documents name, and writes those
-//!   of an answer, by calls that `main` hands to it. What is left to `main` is to get the
-//!   arguments, to make these calls of the system, and to end with the status.
-//! - `one`, `collate`, `project`, `effect`, `order` and `show` are the commands of these names.
-//!   Their promises are the contracts of `one_run`, `collate_run`, `project_run`, `effect_run`,
-//!   `order_run` and `show_run`.
-//! - `target_document` is an accepted target document, and `project_targets` the targets of a
-//!   project that were read.
-//! - `reading` finds files by their names, `listing` and `dyndep_text` read listings and dyndep
-//!   files, and `edges` checks the edges that a target document names.
-//! - `refusal` reports why a target is refused, `table_fault` why its modules have no table, and
-//!   `edge_fault` what is wrong with edges.
-//! - `answer` is what a command answers, and the line that it fails with.
+//! - `run` answers a task by what reading its files gave: it calls the command, which is a function
+//!   of the library `commands`. `print` writes an answer and gives the status.
+//! - `files` reads the files that target and project documents name, and writes those of an answer,
+//!   by calls that `main` hands to it. What is left to `main` is to get the arguments, to make
+//!   these calls of the system, and to end with the status.
 //!
-//! It stands on the library crates of this repository alone.
+//! It stands on `commands` for what a command answers, on `scan_docs` for the names in documents,
+//! and on `ninja_text` for writers whose calls are counted.
 #![tactic(auto)]
 
-use answer::Answer;
 use arguments::{Task, task_of};
+use commands::Answer;
 use files::{further_names, names_of, read_files, write_files};
 use ninja_text::Counted;
 use print::print;
@@ -37,26 +29,10 @@ use std::random::RandomSource;
 use std::rt::{Env, Files};
 use std::{env, fs};
 
-mod answer;
 mod arguments;
-mod collate;
-mod dyndep_text;
-mod edge_fault;
-mod edges;
-mod effect;
 mod files;
-mod listing;
-mod one;
-mod order;
 mod print;
-mod project;
-mod project_targets;
-mod reading;
-mod refusal;
 mod run;
-mod show;
-mod table_fault;
-mod target_document;
 
 fn main(rt: HostRuntime) -> ExitCode {
     let answer = answer_of(&rt);

@@ -3,7 +3,7 @@
 ghost use Rattle.std.specs.Prelude.{◌≡◌, ◌⊎◌};
 ghost use Rattle.dyncollate.specs.Printing.{status_of, out_of, err_of, IsPrinted, IsUnprinted};
 
-use crate::answer::Answer;
+use commands::Answer;
 use ninja_text::{Counted, WriteCall};
 use std::alloc::AllocError;
 

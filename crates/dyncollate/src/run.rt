@@ -1,19 +1,13 @@
 //! A run of the program, once the files of its task were read or could not be.
 
 ghost use Rattle.std.specs.Prelude.{map, IfOk};
-ghost use Rattle.dyncollate.specs.Answers.{file_value};
-ghost use Rattle.dyncollate.specs.CollateCommand.{first_of};
+ghost use Rattle.commands.specs.Answers.{file_value};
+ghost use Rattle.commands.specs.CollateCommand.{first_of};
 ghost use Rattle.dyncollate.specs.Tasks.{task_value};
 ghost use Rattle.dyncollate.specs.Runs.{AnswersBytes, AnswersRead};
 
-use crate::answer::Answer;
 use crate::arguments::Task;
-use crate::collate::collate_run;
-use crate::effect::effect_files;
-use crate::one::one_run;
-use crate::order::order_run;
-use crate::project::project_run;
-use crate::show::show_run;
+use commands::{Answer, collate_run, effect_files, one_run, order_run, project_run, show_run};
 use std::alloc::{AllocError, Global};
 use std::hash::RandomState;
 use std::io;

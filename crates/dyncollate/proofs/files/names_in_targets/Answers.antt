@@ -1,6 +1,6 @@
 use Rattle.std.proofs.Common.{◌≡◌, ℕ, ◌+◌, List, [], ◌∷◌, ◌++◌, map, take, string_bytes, ap, sym, subst, ◌∙◌}
 use Rattle.std.proofs.lemmas.List.{map-append, take_more}
-use Rattle.dyncollate.specs.Answers.{file_value}
+use Rattle.commands.specs.Answers.{file_value}
 use Rattle.dyncollate.specs.Files.{NamesInTarget, NamesInTargets}
 use Rattle.dyncollate.proofs.FileNames.{one_more}
 use Rattle.dyncollate.proofs.files.names_in_targets.Goals as goal

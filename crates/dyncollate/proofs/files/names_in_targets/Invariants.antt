@@ -1,5 +1,5 @@
 use Rattle.std.proofs.Common.{take, map, string_bytes}
-use Rattle.dyncollate.specs.Answers.{file_value}
+use Rattle.commands.specs.Answers.{file_value}
 use Rattle.dyncollate.specs.Files.{NamesInTargets}
 use Rattle.dyncollate.proofs.files.names_in_targets.Given as goal
 

@@ -5,7 +5,7 @@ use Rattle.std.proofs.lemmas.Fn.{says_at_two}
 use Rattle.std.proofs.lemmas.List.{take_more, take_all}
 use Rattle.std.proofs.lemmas.Option.{slice_get_read}
 use Rattle.std.proofs.lemmas.Result.{IfOk-weaker}
-use Rattle.dyncollate.specs.Answers.{Fails}
+use Rattle.commands.specs.Answers.{Fails}
 use Rattle.dyncollate.specs.Files.{IsTaken, IsWritten, all_written, one_unwritten}
 use Rattle.dyncollate.proofs.FileCalls.{all_more, done_of, error_of}
 use Rattle.dyncollate.proofs.files.write_files.Goals as goal

@@ -3,7 +3,7 @@ use Rattle.std.specs.Prelude.{MatchResult}
 use Rattle.ninja_text.specs.Counting.{IsWritten, IsCutShort}
 use Rattle.ninja_text.specs.declared.counting.Counted.{Counted}
 use Rattle.ninja_text.specs.declared.counting.Stopped.{Stopped}
-use Rattle.dyncollate.specs.Answers.{line}
+use Rattle.commands.specs.Answers.{line}
 use Rattle.dyncollate.specs.Printing.{IsPut}
 use Rattle.dyncollate.proofs.print.print.Goals as goal
 

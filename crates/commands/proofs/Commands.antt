@@ -1,0 +1,68 @@
+-- What a run of `collate` answers.
+use Rattle.std.proofs.Common.{◌≡◌, ℕ, suc, List, [], ◌∷◌, ◌++◌, map, zip, Option, Some, None, refl, ap, sym, subst, ◌∙◌, codes, arith}
+use Rattle.std.specs.Prelude.{All, IsUtf8}
+use Rattle.std.specs.List.{AllZip}
+use Rattle.std.proofs.lemmas.List.Elements.{All-nil, All-cons, All-append, All-map}
+use Rattle.scan_docs.specs.Scan.{SettingValue, RuleValue, IsRule}
+use Rattle.scan_docs.specs.Target as document
+use Rattle.scan_docs.specs.Values.{rules_of}
+use Rattle.collate_core.specs.Values.{TargetValue, CollatedValue}
+use Rattle.collate_core.specs.Documents.{all_rules, table_of, IsScanAccepted}
+use Rattle.collate_core.specs.Maps.{Written}
+use Rattle.collate_core.specs.Collation.{Collates}
+use Rattle.commands.specs.declared.answer.Answer.{Answer}
+use Rattle.commands.specs.Answers.{Fails}
+use Rattle.commands.specs.CollateCommand.{Reading, first_unread, listing_of, names_in, target_in, AnswersTargetOf, AnswersSpec}
+use Rattle.commands.specs.EdgeChecks.{AnswersEdges}
+
+-- ---- the edges
+
+-- the path under another spelling
+pub at_path : {listing : Option (List ℕ)} {p q dyndep : List ℕ} {files : List (List ℕ × List ℕ)} {answer : Answer} → p ≡ q → AnswersEdges listing p dyndep files answer → AnswersEdges listing q dyndep files answer
+at_path {listing} {p} {q} {dyndep} {files} {answer} e h = subst (λ x. AnswersEdges listing x dyndep files answer) e h
+
+-- ---- objects are text
+
+rules_text : {D : Type 0} (R : D → RuleValue → Type 0) → ((d : D) (rule : RuleValue) → R d rule → IsUtf8 rule.object) → (ds : List D) (rules : List RuleValue) → AllZip R ds rules → All (λ (r : RuleValue). IsUtf8 r.object) rules
+rules_text R text [] [] h = All-nil (λ (r : RuleValue). IsUtf8 r.object)
+rules_text R text [] (rule ∷ rules) h = absurd h
+rules_text R text (d ∷ ds) [] h = absurd h
+rules_text R text (d ∷ ds) (rule ∷ rules) h = All-cons (λ (r : RuleValue). IsUtf8 r.object) rule rules (text d rule h.0) (rules_text R text ds rules h.1)
+
+all_rules_text : (s : SettingValue) (scans : List (List ℕ)) → All (IsScanAccepted s) scans → All (λ (r : RuleValue). IsUtf8 r.object) (all_rules s scans)
+all_rules_text s [] h = All-nil (λ (r : RuleValue). IsUtf8 r.object)
+all_rules_text s (scan ∷ scans) h =
+    let first : IsScanAccepted s scan = h 0 scan (omega arith) in
+    All-append (λ (r : RuleValue). IsUtf8 r.object) (rules_of s scan) (all_rules s scans)
+    (rules_text (IsRule s) (λ d rule is. is.is_text.utf8) _ (rules_of s scan) first.meaning)
+    (all_rules_text s scans (λ k d lt. h (suc k) d (omega arith)))
+
+pub objects_text : (target : TargetValue) (style : Option Written) (c : CollatedValue) → Collates target style c → All IsUtf8 c.objects
+objects_text target style c h =
+    subst (All IsUtf8) (sym h.objects) (All-map IsUtf8 (λ (r : RuleValue). r.object) (table_of target).objects (all_rules_text target.setting target.scans h.resolved.documents.scans.each))
+
+-- ---- names and texts
+
+pub zip_map : {A B C D : Type 0} (f : A → C) (g : B → D) (xs : List A) (ys : List B) → map (λ (p : A × B). (f p.0, g p.1)) (zip xs ys) ≡ zip (map f xs) (map g ys)
+zip_map f g [] ys = refl
+zip_map f g (x ∷ xs) [] = refl
+zip_map f g (x ∷ xs) (y ∷ ys) = ap (λ l. (f x, g y) ∷ l) (zip_map f g xs ys)
+
+-- ---- the target document
+
+-- all files are there, and this is the answer to the target
+pub read : (reading : Reading) (spec : document.TargetValue) (answer : Answer) → first_unread reading (names_in spec) ≡ None → AnswersTargetOf spec (listing_of reading spec.edges) (target_in reading spec) answer → AnswersSpec reading spec answer
+read reading spec answer complete h = record {
+  unread = λ name e. let no : Some name ≡ None = sym e ∙ complete in cc;
+  read = λ e. h;
+}
+
+-- this file is the first that is not there
+pub unread : (reading : Reading) (spec : document.TargetValue) (answer : Answer) (name : List ℕ) → first_unread reading (names_in spec) ≡ Some name → Fails 3 (codes "cannot read " ++ name) answer → AnswersSpec reading spec answer
+unread reading spec answer name first h = record {
+  unread = λ other e. subst (λ r. Fails 3 (codes "cannot read " ++ r) answer) (some_same (sym first ∙ e)) h;
+  read = λ complete. let no : Some name ≡ None = sym first ∙ complete in cc;
+}
+  where
+    some_same : {x y : List ℕ} → Some x ≡ Some y → x ≡ y
+    some_same e = cc

@@ -1,0 +1,12 @@
+pub mod Commands
+pub mod Documents
+pub mod Dyndeps
+pub mod EdgeChecks
+pub mod Examples
+pub mod Listings
+pub mod ProjectRuns
+pub mod ProjectTargets
+pub mod Readings
+pub mod Results
+pub mod TargetDocuments
+pub mod Targets

@@ -1,0 +1,129 @@
+-- What a run of `project` answers to targets that are read.
+use Rattle.std.proofs.Common.{◌≡◌, ℕ, zero, suc, ◌+◌, ◌<◌, ◌≤◌, inl, inr, List, [], ◌∷◌, ◌++◌, length, take, get_or, map, zip, Option, Some, None, refl, ap, ap₂, sym, subst, ◌∙◌, arith}
+use Rattle.std.specs.Prelude.{slice_get, All}
+use Rattle.std.specs.Option.{option_map_or}
+use Rattle.std.proofs.lemmas.List.{take_more, take_all, length-map, map_push}
+use Rattle.std.proofs.lemmas.List.Elements.{All-same, All-push, All-nil, All-cons, All-tail, All-head}
+use Rattle.std.proofs.lemmas.Grind.{flat_map-append}
+use Rattle.std.proofs.lemmas.Option.{slice_get_within, get_or_from_slice_get, slice_get-get_or}
+use Rattle.collate_core.specs.Values.{TargetValue, CollatedValue, ProjectTargetValue}
+use Rattle.collate_core.specs.Maps.{Written}
+use Rattle.collate_core.specs.Projects.{target_of, IsProject, IsLinkedRefusal, IsProjectRefusal}
+use Rattle.collate_core.specs.Refusals.{IsRefusal}
+use Rattle.collate_core.specs.declared.fault.Refusal.{Refusal}
+use Rattle.collate_core.specs.declared.fault.Refusal.TheVariants.{Scan, Info, Table, StatementTooLong, Map, LinkedLater}
+use Rattle.commands.specs.CollateCommand.{FileValue, dyndep_path, files_of}
+use Rattle.commands.specs.EdgeChecks.{PassesEdges, FailsEdges}
+use Rattle.commands.specs.ProjectCommand.{ReadTargetValue, project_target, PassesOwn, FailsOwn, names_at, all_files}
+use Rattle.commands.specs.declared.edges.EdgesFault.{EdgesFault}
+use Rattle.commands.specs.inner.ProjectTargets.{LinkEarlier, IsReportable, AreOuts}
+use Rattle.commands.specs.inner.Refusals.{HasObjects}
+use Rattle.commands.proofs.Commands.{objects_text}
+
+some_same : {X : Type 0} {x y : X} → Some x ≡ Some y → x ≡ y
+some_same e = cc
+
+-- ---- the refused target
+
+in_map : {A B : Type 0} (f : A → B) (xs : List A) (n : ℕ) (y : B) → slice_get (map f xs) n ≡ Some y → (x : A) × (slice_get xs n ≡ Some x) × (f x ≡ y)
+in_map f [] n y e = cc
+in_map f (x ∷ xs) zero y e = (x, refl, some_same e)
+in_map f (x ∷ xs) (suc n) y e = in_map f xs n y e
+
+of_refusal : (style : Option Written) (target : TargetValue) (refusal : Refusal) → IsRefusal target style refusal → HasObjects target.setting target.scans refusal
+of_refusal style target (Scan i f) h = tt
+of_refusal style target (Info i f) h = tt
+of_refusal style target (Table f) h = h.0.scans
+of_refusal style target (StatementTooLong k) h = tt
+of_refusal None target (Map o f) h = absurd h
+of_refusal (Some written) target (Map o f) h = h.0.documents.scans
+of_refusal style target LinkedLater h = tt
+
+objects : (style : Option Written) (outs : List CollatedValue) (n : ℕ) (p : ProjectTargetValue) (refusal : Refusal) → IsLinkedRefusal style outs n p refusal → HasObjects p.setting p.scans refusal
+objects style outs n p refusal (inl h) = subst (HasObjects p.setting p.scans) (sym h.1) tt
+objects style outs n p refusal (inr h) = of_refusal style (target_of outs p) refusal h.1
+
+-- what is needed to report a refusal
+pub reported : (style : Option Written) (targets : List ReadTargetValue) (n : ℕ) (refusal : Refusal) → LinkEarlier targets → IsProjectRefusal style (map project_target targets) n refusal → IsReportable targets n refusal
+reported style targets n refusal links h =
+    let found = in_map project_target targets n h.1 h.3 in
+    let t = found.0 in
+    let own : HasObjects (project_target t).setting (project_target t).scans refusal =
+    subst (λ (p : ProjectTargetValue). HasObjects p.setting p.scans refusal) (sym found.2) (objects style h.0 n h.1 refusal h.4) in
+    let within : n < length targets = slice_get_within targets n t found.1 in
+    (t, found.1, (λ k d lt. let below : get_or t.linked k d < n = links n t found.1 k d lt in omega (arith, below, within)), own)
+
+-- the names of the targets so far, and of one more
+pub names_next : (targets : List ReadTargetValue) (linked : List ℕ) (i : ℕ) (t : ReadTargetValue) (so_far : List (List ℕ)) (name : List ℕ) → i < length linked → slice_get targets (get_or linked i 0) ≡ Some t →
+    so_far ≡ names_at targets (take i linked) → name ≡ t.spec.target → so_far ++ name ∷ [] ≡ names_at targets (take (i + 1) linked)
+names_next targets linked i t so_far name within here are is =
+    let name_of : ℕ → List ℕ = λ k. option_map_or (λ (t : ReadTargetValue). t.spec.target) (slice_get targets k) [] in
+    ap₂ (λ a b. a ++ b ∷ []) are (is ∙ sym (ap (λ z. option_map_or (λ (t : ReadTargetValue). t.spec.target) z []) here))
+    ∙ sym (map_push name_of (take i linked) (get_or linked i 0))
+    ∙ ap (map name_of) (sym (take_more linked i 0 within))
+
+-- ---- the collated targets
+
+element_at : {X : Type 0} (xs : List X) (k : ℕ) → k < length xs → (x : X) × (slice_get xs k ≡ Some x)
+element_at [] k within = absurd (omega (arith, within))
+element_at (x ∷ xs) zero within = (x, refl)
+element_at (x ∷ xs) (suc k) within = element_at xs k (omega (arith, within))
+
+pub are_outs : (style : Option Written) (targets : List ReadTargetValue) (outs : List CollatedValue) → IsProject style (map project_target targets) outs → AreOuts targets outs
+are_outs style targets outs project =
+    let count : length outs ≡ length targets = project.count ∙ length-map targets project_target in (
+      count,
+      λ k d within.
+          let in_targets : k < length (map project_target targets) = omega (arith, within, project.count) in
+          let p = element_at (map project_target targets) k in_targets in
+          objects_text (target_of outs p.0) style (get_or outs k d) (project.each k p.0 (get_or outs k d) p.1 (slice_get-get_or outs k d within)),
+    )
+
+-- ---- two lists side by side
+
+pub zip_at : {A B : Type 0} (xs : List A) (ys : List B) (i : ℕ) (x : A) (y : B) → slice_get xs i ≡ Some x → slice_get ys i ≡ Some y → slice_get (zip xs ys) i ≡ Some (x, y)
+zip_at [] ys i x y e f = cc
+zip_at (a ∷ xs) [] i x y e f = cc
+zip_at (a ∷ xs) (b ∷ ys) zero x y e f = ap₂ (λ c d. Some (c, d)) (some_same e) (some_same f)
+zip_at (a ∷ xs) (b ∷ ys) (suc i) x y e f = zip_at xs ys i x y e f
+
+length_zip : {A B : Type 0} (xs : List A) (ys : List B) → length (zip xs ys) ≤ length xs
+length_zip [] ys = omega arith
+length_zip (x ∷ xs) [] = omega arith
+length_zip (x ∷ xs) (y ∷ ys) = let less : length (zip xs ys) ≤ length xs = length_zip xs ys in omega (arith, less)
+
+pub zip_all : {A B : Type 0} (xs : List A) (ys : List B) (i : ℕ) → length xs ≤ i → take i (zip xs ys) ≡ zip xs ys
+zip_all xs ys i le = let less : length (zip xs ys) ≤ length xs = length_zip xs ys in take_all i (zip xs ys) (omega (arith, le, less))
+
+pub second_all : {A B : Type 0} (P : B → Type 0) (xs : List A) (ys : List B) → All P ys → All (λ (p : A × B). P p.1) (zip xs ys)
+second_all P [] ys h = All-nil (λ p. P p.1)
+second_all P (x ∷ xs) [] h = All-nil (λ p. P p.1)
+second_all P (x ∷ xs) (y ∷ ys) h = All-cons (λ p. P p.1) (x, y) (zip xs ys) (All-head P y ys h) (second_all P xs ys (All-tail P y ys h))
+
+take_next : {X : Type 0} (xs : List X) (k : ℕ) (x : X) → slice_get xs k ≡ Some x → take (k + 1) xs ≡ take k xs ++ x ∷ []
+take_next xs k x here = take_more xs k x (slice_get_within xs k x here) ∙ ap (λ z. take k xs ++ z ∷ []) (get_or_from_slice_get xs k x x here)
+
+pub all_next : {X : Type 0} (P : X → Type 0) (xs : List X) (k : ℕ) (x : X) → slice_get xs k ≡ Some x → All P (take k xs) → P x → All P (take (k + 1) xs)
+all_next P xs k x here before h = All-same P (take (k + 1) xs) (take k xs ++ x ∷ []) (take_next xs k x here) (All-push P (take k xs) x before h)
+
+-- ---- edges
+
+pub passes_as : (view t : ReadTargetValue) (c : CollatedValue) (path : List ℕ) → view ≡ t → path ≡ dyndep_path view.spec → PassesEdges view.listing path c.dyndep → PassesOwn (t, c)
+passes_as view t c path is e h = subst (λ (z : ReadTargetValue). PassesOwn (z, c)) is (subst (λ p. PassesEdges view.listing p c.dyndep) e h)
+
+pub fails_as : (view t : ReadTargetValue) (c : CollatedValue) (path : List ℕ) (fault : EdgesFault) → view ≡ t → path ≡ dyndep_path view.spec → FailsEdges view.listing path c.dyndep fault → FailsOwn (t, c) fault
+fails_as view t c path fault is e h = subst (λ (z : ReadTargetValue). FailsOwn (z, c) fault) is (subst (λ p. FailsEdges view.listing p c.dyndep fault) e h)
+
+-- ---- files
+
+nil_right : {X : Type 0} (ys : List X) → ys ++ [] ≡ ys
+nil_right [] = refl
+nil_right (y ∷ ys) = ap (λ zs. y ∷ zs) (nil_right ys)
+
+-- the files of one target more
+pub files_next : (pairs : List (ReadTargetValue × CollatedValue)) (n : ℕ) (pair : ReadTargetValue × CollatedValue) (so_far more : List FileValue) → slice_get pairs n ≡ Some pair →
+    so_far ≡ all_files (take n pairs) → more ≡ files_of pair.0.spec pair.1 → so_far ++ more ≡ all_files (take (n + 1) pairs)
+files_next pairs n pair so_far more here are is =
+    ap₂ (λ a b. a ++ b) are (is ∙ sym (nil_right (files_of pair.0.spec pair.1)))
+    ∙ sym (flat_map-append (λ (p : ReadTargetValue × CollatedValue). files_of p.0.spec p.1) (take n pairs) (pair ∷ []))
+    ∙ ap all_files (sym (take_next pairs n pair here))

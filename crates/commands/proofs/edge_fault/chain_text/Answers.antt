@@ -1,0 +1,22 @@
+use Rattle.std.proofs.Common.{◌≡◌, ℕ, ◌-◌, ◌≤◌, List, [], ◌∷◌, ◌++◌, length, take, drop, get_or, codes, refl, arith}
+use Rattle.std.specs.List.{flat_map}
+use Rattle.std.proofs.lemmas.List.{take_all}
+use Rattle.build_effect.specs.EdgeValue.{EdgeValue}
+use Rattle.commands.specs.EdgeFaults.{first_output, chain_text}
+use Rattle.commands.proofs.edge_fault.chain_text.Goals as goal
+
+-- a chain that has a first edge
+chain_parts : (edges : List EdgeValue) (chain : List ℕ) → 1 ≤ length chain →
+    chain_text edges chain ≡ first_output edges (get_or chain 0 0) ++ flat_map (λ next. codes " -> " ++ first_output edges next) (take (length chain - 1) (drop 1 chain))
+chain_parts edges [] some = absurd (omega (arith, some))
+chain_parts edges (first ∷ others) some =
+    let rest : take (length (first ∷ others) - 1) (drop 1 (first ∷ others)) ≡ others = take_all _ others (omega arith) in
+    rw rest refl
+
+pub returns : goal.returns
+returns c =
+    let edges = c.args.edges.now in
+    let chain = c.args.chain.now in
+    let all = take_all c.loop-next.next-index (take (length chain - 1) (drop 1 chain)) c.loop-next-test.false in
+    let first : c.first_output.result.now ≡ first_output edges (get_or chain 0 0) = c.first_output.ensures in
+    rw (c.loop-next.invariant, all, c.in_ok-extend_from_slice.ensures.items, c.new-text.ensures.items, first, chain_parts edges chain c.in-len1-up.len_at_least) refl

@@ -1,0 +1,5 @@
+use Rattle.commands.proofs.TargetDocuments.{is_placed}
+use Rattle.commands.proofs.target_document.TargetDocument.read.Goals as goal
+
+pub of-requires : goal.of-requires
+of-requires c = is_placed _ _ c.in_ok-spec.ensures.accepted

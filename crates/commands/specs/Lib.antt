@@ -1,0 +1,15 @@
+pub mod Answers
+pub mod CollateCommand
+pub mod Dyndeps
+pub mod EdgeChecks
+pub mod EdgeFaults
+pub mod Effect
+pub mod Listings
+pub mod One
+pub mod Order
+pub mod ProjectCommand
+pub mod RefusalTexts
+pub mod Show
+pub mod TableFaults
+pub mod Targets
+pub mod inner

@@ -1,0 +1,232 @@
+-- What the command `project` answers.
+use Rattle.std.specs.Prelude.{◌≡◌, ℕ, suc, List, [], ◌∷◌, ◌++◌, length, map, zip, take, slice_get, All, Bool, bytes_eq, if◌then◌else◌, Option, Some, None, codes}
+use Rattle.std.specs.Fmt.{decimal}
+use Rattle.std.specs.List.{flat_map}
+use Rattle.std.specs.Option.{option_map_or}
+use Rattle.scan_docs.specs.Document.{IsAccepted, IsRefused}
+use Rattle.scan_docs.specs.FaultTexts.{doc_fault_text}
+use Rattle.scan_docs.specs.Project.{ProjectValue, IsProject}
+use Rattle.scan_docs.specs.ProjectChecks.{project_checks}
+use Rattle.scan_docs.specs.Target as document
+use Rattle.scan_docs.specs.TargetChecks.{target_checks}
+use Rattle.scan_docs.specs.declared.fault.DocFault.{DocFault}
+use Rattle.scan_docs.specs.declared.fault.DocFault.TheVariants.{BadShape}
+use Rattle.scan_docs.specs.declared.fault.Place.TheVariants.{Document}
+use Rattle.scan_docs.specs.declared.map_form.MapForm.{MapForm}
+use Rattle.scan_docs.specs.declared.member.Member.TheVariants.{Map}
+use Rattle.collate_core.specs.Values.{CollatedValue, ProjectTargetValue}
+use Rattle.collate_core.specs.Projects as core
+use Rattle.collate_core.specs.Projects.{IsProjectRefusal}
+use Rattle.collate_core.specs.declared.fault.Refusal.{Refusal}
+use Rattle.commands.specs.declared.answer.Answer.{Answer}
+use Rattle.commands.specs.declared.edges.EdgesFault.{EdgesFault}
+use Rattle.commands.specs.Answers.{Fails, Refuses, Writes}
+use Rattle.commands.specs.CollateCommand.{FileValue, Reading, first_unread, bytes_of, listing_of, list_of, dyndep_path, setting_in, style_of, files_of, HasSpec, spec_text}
+use Rattle.commands.specs.EdgeChecks.{PassesEdges, FailsEdges, edges_text}
+use Rattle.commands.specs.RefusalTexts.{refusal_by_names}
+
+-- ---- the targets that are read
+
+-- what a project reads of a target: its scan documents, and then the listing of edges
+abbrev pub names_of_target : document.TargetValue → List (List ℕ)
+names_of_target spec = spec.scans ++ list_of spec.edges
+
+-- A target that was read: the members of its document, the indexes of the targets that it links,
+-- and the bytes of its scan documents and of the listing of edges, if it names one.
+pub record ReadTargetValue : Type 0 where
+  pub spec : document.TargetValue
+  pub linked : List ℕ
+  pub scans : List (List ℕ)
+  pub listing : Option (List ℕ)
+
+-- the index in a list, if its tail has one, and else that of the head, if that is meant
+abbrev pub index_or_head : Option ℕ → Bool → Option ℕ
+index_or_head (Some index) is_head = Some (suc index)
+index_or_head None is_head = if is_head then Some 0 else None
+
+-- the index of the last of these targets whose info has this name
+abbrev pub last_with : List ReadTargetValue → List ℕ → Option ℕ
+last_with [] info = None
+last_with (head ∷ tail) info = index_or_head (last_with tail info) (bytes_eq head.spec.info info)
+
+-- the maps of a target have the form of those of the first of these
+abbrev pub HasFormOf : List ReadTargetValue → document.TargetValue → Type 0
+HasFormOf [] spec = Unit {0}
+HasFormOf (first ∷ others) spec = spec.map_form ≡ first.spec.map_form
+
+-- The file of this name is there, and is a target document with these members.
+pub record HasDocument (reading : Reading) (name : List ℕ)
+    (spec : document.TargetValue) : Type 0 where
+  pub bytes : List ℕ
+  pub here : reading name ≡ Some bytes
+  pub accepted : HasSpec bytes spec
+
+-- each of these infos is that of a target, and these are the indexes of the last such ones
+abbrev pub LinksTo : List ReadTargetValue → List (List ℕ) → List ℕ → Type 0
+LinksTo earlier infos linked = map (last_with earlier) infos ≡ map Some linked
+
+-- A target is read behind earlier ones: it has their form, what it links is among them, and the
+-- files that it names are there.
+pub record IsReadBehind (reading : Reading) (earlier : List ReadTargetValue)
+    (target : ReadTargetValue) : Type 0 where
+  pub form : HasFormOf earlier target.spec
+  pub linked : LinksTo earlier target.spec.linked target.linked
+  pub complete : first_unread reading (names_of_target target.spec) ≡ None
+  pub scans : target.scans ≡ bytes_of reading target.spec.scans
+  pub listing : target.listing ≡ listing_of reading target.spec.edges
+
+-- The target of the document of this name is read behind earlier ones.
+pub record IsRead (reading : Reading) (earlier : List ReadTargetValue) (name : List ℕ)
+    (target : ReadTargetValue) : Type 0 where
+  pub document : HasDocument reading name target.spec
+  pub behind : IsReadBehind reading earlier target
+
+-- the targets of the documents of these names are read, one behind the other
+pub data AreRead (reading : Reading) : List (List ℕ) → List ReadTargetValue → Type 0 where
+  none : AreRead reading [] []
+  one_more : (names : List (List ℕ)) (targets : List ReadTargetValue) (name : List ℕ)
+      (target : ReadTargetValue) → AreRead reading names targets →
+      IsRead reading targets name target →
+      AreRead reading (names ++ name ∷ []) (targets ++ target ∷ [])
+
+-- what is reported of the target of this index
+abbrev pub target_text : ℕ → List ℕ → List ℕ
+target_text index text = codes "target " ++ decimal index ++ codes ": " ++ text
+
+-- one of these infos is that of no target
+abbrev pub LinksLater : List ReadTargetValue → List (List ℕ) → Type 0
+LinksLater earlier infos =
+    (index : ℕ) × (info : List ℕ) × (slice_get infos index ≡ Some info)
+    × (last_with earlier info ≡ None)
+
+-- A target with these members can't be read behind earlier ones, and the run says why: the first
+-- of these reasons.
+pub data FailsBehind (reading : Reading) (earlier : List ReadTargetValue)
+    (spec : document.TargetValue) (answer : Answer) : Type 0 where
+  -- its maps are of another form than those of the first target
+  other_form : (HasFormOf earlier spec → ⊥) →
+      Refuses (target_text (length earlier) (spec_text (BadShape Document Map))) answer →
+      FailsBehind reading earlier spec answer
+  -- or else it links no earlier target
+  not_earlier : HasFormOf earlier spec → LinksLater earlier spec.linked →
+      Refuses (target_text (length earlier) (codes "K3 LinkedLater")) answer →
+      FailsBehind reading earlier spec answer
+  -- or else a file that it names can't be read
+  incomplete : (linked : List ℕ) (file : List ℕ) → HasFormOf earlier spec →
+      LinksTo earlier spec.linked linked → first_unread reading (names_of_target spec) ≡ Some file →
+      Fails 3 (codes "cannot read " ++ file) answer →
+      FailsBehind reading earlier spec answer
+
+-- The target of the document of this name can't be read behind earlier ones: the document can't be
+-- read, or it is refused, or the target can't be.
+pub data FailsTarget (reading : Reading) (earlier : List ReadTargetValue) (name : List ℕ)
+    (answer : Answer) : Type 0 where
+  unread : reading name ≡ None → Fails 3 (codes "cannot read " ++ name) answer →
+      FailsTarget reading earlier name answer
+  refused : (bytes : List ℕ) (fault : DocFault) → reading name ≡ Some bytes →
+      IsRefused target_checks bytes fault →
+      Refuses (target_text (length earlier) (spec_text fault)) answer →
+      FailsTarget reading earlier name answer
+  fails_behind : (spec : document.TargetValue) → HasDocument reading name spec →
+      FailsBehind reading earlier spec answer → FailsTarget reading earlier name answer
+
+-- The first target that can't be read is that of this index, and the run says why.
+pub record FailsReading (reading : Reading) (names : List (List ℕ)) (answer : Answer) : Type 0 where
+  pub index : ℕ
+  pub name : List ℕ
+  pub here : slice_get names index ≡ Some name
+  pub earlier : List ReadTargetValue
+  pub read : AreRead reading (take index names) earlier
+  pub fails : FailsTarget reading earlier name answer
+
+-- ---- the targets as a project
+
+-- a target of the project
+abbrev pub project_target : ReadTargetValue → ProjectTargetValue
+project_target t = record {
+  name = t.spec.target;
+  setting = setting_in t.spec;
+  scans = t.scans;
+  linked = t.linked;
+  kept = t.spec.kept;
+}
+
+-- the form of all maps: that of the first target's
+abbrev pub form_of : List ReadTargetValue → Option MapForm
+form_of [] = None
+form_of (first ∷ others) = first.spec.map_form
+
+-- the names of the targets of these indexes
+abbrev pub names_at : List ReadTargetValue → List ℕ → List (List ℕ)
+names_at targets indexes =
+    map (λ k. option_map_or (λ t. t.spec.target) (slice_get targets k) []) indexes
+
+-- what is reported of the target of this index where it does not collate
+abbrev pub refused_text : List ReadTargetValue → ℕ → ReadTargetValue → Refusal → List ℕ
+refused_text targets index t refusal = target_text index
+    (refusal_by_names (setting_in t.spec) t.scans (names_at targets t.linked) refusal)
+
+-- the edges that a target names, if any, can be put in order after its own dyndep file
+abbrev pub PassesOwn : ReadTargetValue × CollatedValue → Type 0
+PassesOwn (t, c) = PassesEdges t.listing (dyndep_path t.spec) c.dyndep
+
+-- this is wrong with the edges that a target names
+abbrev pub FailsOwn : ReadTargetValue × CollatedValue → EdgesFault → Type 0
+FailsOwn (t, c) fault = FailsEdges t.listing (dyndep_path t.spec) c.dyndep fault
+
+-- the files of all targets, in order
+abbrev pub all_files : List (ReadTargetValue × CollatedValue) → List FileValue
+all_files pairs = flat_map (λ pair. files_of pair.0.spec pair.1) pairs
+
+-- The edges of the target of this index are faulty, and those of the targets before it are not.
+pub record FailsFirst (pairs : List (ReadTargetValue × CollatedValue)) (index : ℕ)
+    (fault : EdgesFault) : Type 0 where
+  pub before : All PassesOwn (take index pairs)
+  pub pair : ReadTargetValue × CollatedValue
+  pub here : slice_get pairs index ≡ Some pair
+  pub fails : FailsOwn pair fault
+
+-- What a run answers to targets that were read, each with what it collated to: their files, or, of
+-- the first whose edges are faulty, what is wrong with them.
+pub data AnswersCollatedTargets (pairs : List (ReadTargetValue × CollatedValue))
+    (answer : Answer) : Type 0 where
+  all_pass : All PassesOwn pairs → Writes (all_files pairs) answer →
+      AnswersCollatedTargets pairs answer
+  one_fails : (index : ℕ) (fault : EdgesFault) → FailsFirst pairs index fault →
+      Refuses (target_text index (edges_text fault)) answer → AnswersCollatedTargets pairs answer
+
+-- What a run answers to targets that were read: they collate, one after another, or it reports the
+-- refusal of the first that does not.
+pub data AnswersReadTargets (targets : List ReadTargetValue)
+    (answer : Answer) : Type 0 where
+  all_collate : (outs : List CollatedValue) →
+      core.IsProject (style_of (form_of targets)) (map project_target targets) outs →
+      AnswersCollatedTargets (zip targets outs) answer → AnswersReadTargets targets answer
+  one_refused : (index : ℕ) (target : ReadTargetValue) (refusal : Refusal) →
+      slice_get targets index ≡ Some target →
+      IsProjectRefusal (style_of (form_of targets)) (map project_target targets) index refusal →
+      Refuses (refused_text targets index target refusal) answer → AnswersReadTargets targets answer
+
+-- What a run answers to the names of target documents: it goes through them in order, and reports
+-- the first target that can't be read, or answers to all of them.
+pub data AnswersNames (reading : Reading) (names : List (List ℕ)) (answer : Answer) : Type 0 where
+  all_read : (targets : List ReadTargetValue) → AreRead reading names targets →
+      AnswersReadTargets targets answer → AnswersNames reading names answer
+  one_unread : FailsReading reading names answer → AnswersNames reading names answer
+
+-- ---- the project document
+
+-- the document is accepted, and these are its members
+abbrev pub HasProject : List ℕ → ProjectValue → Type 0
+HasProject bytes project = IsAccepted project_checks IsProject bytes project
+
+-- what is reported of a refused project document
+abbrev pub project_text : DocFault → List ℕ
+project_text fault = codes "project: " ++ doc_fault_text fault
+
+-- What a run answers to these bytes of a project document, where files are read like this.
+pub record AnswersProject (bytes : List ℕ) (reading : Reading) (answer : Answer) : Type 0 where
+  pub accepted : (project : ProjectValue) → HasProject bytes project →
+      AnswersNames reading project.targets answer
+  pub refused : (fault : DocFault) → IsRefused project_checks bytes fault →
+      Refuses (project_text fault) answer

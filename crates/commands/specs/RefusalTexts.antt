@@ -1,0 +1,45 @@
+-- How the refusals of a target are reported.
+use Rattle.std.specs.Prelude.{ℕ, List, ◌++◌, map, codes}
+use Rattle.std.specs.Fmt.{decimal}
+use Rattle.dyndep_file.specs.FaultTexts.{write_fault_text}
+use Rattle.dyndep_file.specs.declared.writing.WriteFault.TheVariants as write
+use Rattle.scan_docs.specs.FaultTexts.{doc_fault_text}
+use Rattle.scan_docs.specs.Scan.{SettingValue, RuleValue}
+use Rattle.scan_docs.specs.Values.{info_of}
+use Rattle.scan_docs.specs.declared.fault.DocFault.{DocFault}
+use Rattle.collate_core.specs.Values.{TargetValue}
+use Rattle.collate_core.specs.Documents.{all_rules}
+use Rattle.collate_core.specs.declared.fault.Refusal.{Refusal}
+use Rattle.collate_core.specs.declared.fault.Refusal.TheVariants.{Scan, Info, Table, StatementTooLong, Map, LinkedLater}
+use Rattle.collate_core.specs.declared.module_map.MapFault.{MapFault}
+use Rattle.collate_core.specs.declared.module_map.MapFault.TheVariants.{MapPath, TwoProvided, BadMapLine}
+use Rattle.commands.specs.TableFaults.{object_path, fault_text}
+
+-- a faulty document, by its kind and its index
+abbrev pub document_text : List ℕ → ℕ → DocFault → List ℕ
+document_text kind index fault =
+    kind ++ codes " " ++ decimal index ++ codes ": " ++ doc_fault_text fault
+
+-- why an object has no map: the path that a map can't have, or the object that provides two modules
+abbrev pub map_text : List RuleValue → ℕ → MapFault → List ℕ
+map_text objects object (MapPath path) = codes "K1 MapPath " ++ path
+map_text objects object TwoProvided = codes "K2 TwoProvided " ++ object_path objects object
+map_text objects object (BadMapLine line) = codes "K4 BadMapLine line " ++ decimal line
+
+-- Why a target with this setting and these scan documents is refused, which links targets of these
+-- names. Objects are named by the paths that the scan documents give, and infos by those names.
+abbrev pub refusal_by_names : SettingValue → List (List ℕ) → List (List ℕ) → Refusal → List ℕ
+refusal_by_names setting scans names (Scan index fault) = document_text (codes "scan") index fault
+refusal_by_names setting scans names (Info index fault) = document_text (codes "info") index fault
+refusal_by_names setting scans names (Table fault) =
+    fault_text (all_rules setting scans) names fault
+refusal_by_names setting scans names (StatementTooLong statement) =
+    write_fault_text (write.StatementTooLong statement)
+refusal_by_names setting scans names (Map object fault) =
+    map_text (all_rules setting scans) object fault
+refusal_by_names setting scans names LinkedLater = codes "K3 LinkedLater"
+
+-- Why a target is refused, where infos are named by the names that stand in them.
+abbrev pub refusal_text : TargetValue → Refusal → List ℕ
+refusal_text target refusal = refusal_by_names target.setting target.scans
+    (map (λ info. (info_of info).target) target.infos) refusal

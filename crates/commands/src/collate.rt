@@ -1,0 +1,277 @@
+//! The command `collate`: the files of a target.
+
+ghost use Rattle.std.specs.Prelude.{◌≡◌, Some, None, [], ◌∷◌, ◌++◌, map, zip, string_bytes, option_copied, IsUtf8, All, IfOk, IfErr, OnOk};
+ghost use Rattle.ninja_text.specs.Failure.{ForFault};
+ghost use Rattle.collate_core.specs.Collation.{Collates};
+ghost use Rattle.collate_core.specs.Refusals.{IsRefusal};
+ghost use Rattle.commands.specs.Answers.{file_value, Refuses};
+ghost use Rattle.commands.specs.CollateCommand.{first_of, first_unread, bytes_of, listing_of, names_in, dyndep_path, setting_in, style_of, map_name, files_of, AnswersTargetOf, AnswersSpec, AnswersCollate, spec_text};
+ghost use Rattle.commands.specs.EdgeChecks.{PassesEdges, FailsEdges, AnswersEdges};
+
+use crate::answer::Answer;
+use crate::edges::{EdgesFault, edges_check, edges_text};
+use crate::reading::{Files, read_each, read_named};
+use crate::refusal::refusal_text;
+use crate::target_document::TargetDocument;
+use collate_core::{
+    Clang, Collated, CollatedParts, Gcc, Refusal, Target, collate_with_hasher, one_outcome,
+};
+use ninja_text::{Failure, Path};
+use scan_docs::{DocFault, MapForm, TargetSpec};
+use std::alloc::{AllocError, Global};
+use std::hash::RandomState;
+
+/// Runs `collate TARGETFILE` on the bytes of the target document, and on files by name. Of a name
+/// that is there twice the first file counts, and one that is not there counts as a file that can't
+/// be read. What is to be written are the map of each object, where the document wants maps, then
+/// the info, and last the dyndep file. Where the document names a listing of edges, they have to
+/// have an order after the effect of that dyndep file.
+pub fn collate_run(
+    alloc: Global,
+    keys: RandomState,
+    spec: &[u8],
+    files: &[(String, Vec<u8>)],
+) -> Result<Answer, AllocError>
+    ensures { IfOk result (AnswersCollate spec.now (first_of (map file_value files.now))) }
+{
+    match TargetDocument::read(alloc, spec) {
+        Ok(document) => document_run(alloc, keys, &document, &Files::of(alloc, keys, files)?),
+        Err(Failure::Memory) => Err(AllocError),
+        Err(Failure::Fault(fault)) => spec_refused(alloc, &fault),
+    }
+}
+
+/// The answer to a target document that is refused.
+fn spec_refused(alloc: Global, fault: &DocFault) -> Result<Answer, AllocError>
+    ensures { IfOk result (Refuses (spec_text fault.now)) }
+{
+    let message = format!(in alloc; "target: {fault}")?;
+    Answer::failed(alloc, 1, message.as_bytes())
+}
+
+/// The answer to an accepted target document.
+fn document_run(
+    alloc: Global,
+    keys: RandomState,
+    document: &TargetDocument,
+    files: &Files,
+) -> Result<Answer, AllocError>
+    ensures { IfOk result (AnswersSpec (first_of files.now) document.now) }
+{
+    match documents_of(alloc, document.spec(), files) {
+        Ok((scans, infos, listing)) => documents_run(
+            alloc, keys, document, &scans, &infos, listing,
+        ),
+        Err(Failure::Memory) => Err(AllocError),
+        Err(Failure::Fault(name)) => Answer::unread(alloc, name),
+    }
+}
+
+/// The scan documents, the infos and the listing of edges that a target document names, or the
+/// first name of a file that is not there.
+fn documents_of<'s, 'f>(
+    alloc: Global,
+    spec: &'s TargetSpec,
+    files: &Files<'f>,
+) -> Result<(Vec<&'f [u8]>, Vec<&'f [u8]>, Option<&'f [u8]>), Failure<&'s str>>
+    ensures scans { IfOk result (λ documents. map (λ d. d.now) documents.0.items
+        ≡ bytes_of (first_of files.now) spec.now.scans) }
+    ensures infos { IfOk result (λ documents. map (λ d. d.now) documents.1.items
+        ≡ bytes_of (first_of files.now) spec.now.linked) }
+    ensures listing { IfOk result (λ documents. option_copied documents.2
+        ≡ listing_of (first_of files.now) spec.now.edges) }
+    ensures complete { IfOk result (λ _.
+        first_unread (first_of files.now) (names_in spec.now) ≡ None) }
+    ensures unread { IfErr result (ForFault (λ name.
+        first_unread (first_of files.now) (names_in spec.now) ≡ Some name.now)) }
+{
+    let scans = read_each(alloc, files, &spec.scans)?;
+    let infos = read_each(alloc, files, &spec.linked)?;
+    let listing = read_named(files, &spec.edges)?;
+    Ok((scans, infos, listing))
+}
+
+/// The answer to a target document whose files were read.
+fn documents_run(
+    alloc: Global,
+    keys: RandomState,
+    document: &TargetDocument,
+    scans: &[&[u8]],
+    infos: &[&[u8]],
+    listing: Option<&[u8]>,
+) -> Result<Answer, AllocError>
+    ensures { IfOk result (AnswersTargetOf document.now (option_copied listing.entry) (record {
+      name = document.now.target;
+      setting = setting_in document.now;
+      scans = map (λ d. d.now) scans.now;
+      infos = map (λ d. d.now) infos.now;
+      kept = document.now.kept;
+    })) }
+{
+    let spec = document.spec();
+    let target = Target {
+        name: &spec.target,
+        setting: document.setting(),
+        scans,
+        infos,
+        kept: &spec.kept,
+    };
+    target_run(alloc, keys, &target, document, listing)
+}
+
+/// The answer to the target of a target document.
+fn target_run(
+    alloc: Global,
+    keys: RandomState,
+    target: &Target<'_>,
+    document: &TargetDocument,
+    listing: Option<&[u8]>,
+) -> Result<Answer, AllocError>
+    ensures { IfOk result (AnswersTargetOf document.now (option_copied listing.entry) target.now) }
+{
+    one_outcome();
+    match collate_in(alloc, keys, target, document.spec().map) {
+        Ok(collated) => collated_run(alloc, keys, collated, document, listing),
+        Err(Failure::Memory) => Err(AllocError),
+        Err(Failure::Fault(refusal)) => {
+            let message = refusal_text(alloc, target, &refusal)?;
+            Answer::failed(alloc, 1, &message)
+        }
+    }
+}
+
+/// Whether the edges of a listing, if there is one, can be put in order after the effect of a
+/// collated target's dyndep file, which has that name.
+pub(crate) fn edges_pass(
+    alloc: Global,
+    keys: RandomState,
+    listing: Option<&[u8]>,
+    name: &Path,
+    collated: &Collated,
+) -> Result<(), Failure<EdgesFault>>
+    ensures passes { OnOk result
+        (PassesEdges (option_copied listing.entry) name.now collated.now.dyndep) }
+    ensures fails { IfErr result (ForFault
+        (FailsEdges (option_copied listing.entry) name.now collated.now.dyndep)) }
+{
+    match listing {
+        Some(text) => edges_check(alloc, keys, text, name, collated),
+        None => Ok(()),
+    }
+}
+
+/// The answer to a collated target: its files, or what is wrong with the edges of the listing, if
+/// there is one.
+fn collated_run(
+    alloc: Global,
+    keys: RandomState,
+    collated: Collated,
+    document: &TargetDocument,
+    listing: Option<&[u8]>,
+) -> Result<Answer, AllocError>
+    requires { All IsUtf8 collated.objects }
+    ensures { IfOk result (AnswersEdges (option_copied listing.entry) (dyndep_path document.now)
+        collated.dyndep (files_of document.now collated)) }
+{
+    match edges_pass(alloc, keys, listing, document.path(), &collated) {
+        Ok(()) => {
+            let files = files_of(alloc, collated, document.spec())?;
+            Ok(Answer::writes(alloc, files))
+        }
+        Err(Failure::Memory) => Err(AllocError),
+        Err(Failure::Fault(fault)) => {
+            let message = edges_text(alloc, &fault)?;
+            Answer::failed(alloc, 1, &message)
+        }
+    }
+}
+
+/// Collates a target, with maps of this form, if one is given.
+fn collate_in(
+    alloc: Global,
+    keys: RandomState,
+    target: &Target<'_>,
+    form: Option<MapForm>,
+) -> Result<Collated, Failure<Refusal>>
+    ensures collated { IfOk result (Collates target.now (style_of form)) }
+    ensures refused { IfErr result (ForFault (IsRefusal target.now (style_of form))) }
+{
+    match form {
+        None => collate_with_hasher(alloc, target, None::<&Gcc>, keys),
+        Some(MapForm::Gcc) => collate_with_hasher(alloc, target, Some(&Gcc), keys),
+        Some(MapForm::Clang) => collate_with_hasher(alloc, target, Some(&Clang), keys),
+    }
+}
+
+/// The files of a collated target, whose texts are given up and not copied.
+pub(crate) fn files_of(
+    alloc: Global,
+    collated: Collated,
+    spec: &TargetSpec,
+) -> Result<Vec<(String, Vec<u8>)>, AllocError>
+    requires { All IsUtf8 collated.objects }
+    ensures { IfOk result (λ files. map file_value files.items
+        ≡ files_of spec.now collated) }
+{
+    let CollatedParts {
+        dyndep: dyndep_text,
+        info: info_text,
+        objects,
+        maps,
+    } = collated.into_parts();
+    let mut files = map_files(alloc, &objects, maps)?;
+    files.push((String::from_str(alloc, &spec.info)?, info_text))?;
+    files.push((String::from_str(alloc, &spec.dyndep)?, dyndep_text))?;
+    Ok(files)
+}
+
+/// The map files of these objects, where there are maps.
+fn map_files(
+    alloc: Global,
+    objects: &[Path],
+    maps: Vec<Vec<u8>>,
+) -> Result<Vec<(String, Vec<u8>)>, AllocError>
+    requires { All IsUtf8 objects.now }
+    ensures { IfOk result (λ files. map file_value files.items
+        ≡ zip (map map_name objects.now) (map (λ m. m.items) maps.items)) }
+{
+    if maps.is_empty() {
+        return Ok(Vec::new(alloc));
+    }
+    let names = map_names(alloc, objects)?;
+    paired(alloc, names, maps)
+}
+
+/// The names of the map files of these objects.
+fn map_names(alloc: Global, objects: &[Path]) -> Result<Vec<String>, AllocError>
+    requires { All IsUtf8 objects.now }
+    ensures { IfOk result (λ names. map string_bytes names.items ≡ map map_name objects.now) }
+{
+    let mut names = Vec::with_capacity(alloc, objects.len())?;
+    for object in objects {
+        names.push(map_name(alloc, object)?)?;
+    }
+    Ok(names)
+}
+
+/// Each name with its text.
+fn paired(
+    alloc: Global,
+    names: Vec<String>,
+    texts: Vec<Vec<u8>>,
+) -> Result<Vec<(String, Vec<u8>)>, AllocError>
+    ensures { IfOk result (λ pairs. pairs.items ≡ zip names.items texts.items) }
+{
+    names.into_iter().zip(texts).collect(alloc)
+}
+
+/// The name of an object's map file.
+fn map_name(alloc: Global, object: &Path) -> Result<String, AllocError>
+    requires { IsUtf8 object.now }
+    ensures { IfOk result (λ name. string_bytes name ≡ map_name object.now) }
+{
+    match str::from_utf8(object.bytes()) {
+        Ok(object) => Ok(format!(in alloc; "{object}.modmap")?),
+        Err(_) => unreachable!(),
+    }
+}

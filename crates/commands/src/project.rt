@@ -1,0 +1,252 @@
+//! The command `project`: the files of all targets of a project.
+
+ghost use Rattle.std.specs.Prelude.{◌≡◌, ◌<◌, Some, All, IsUtf8, List, ℕ, length, map, zip, slice_get, string_bytes, IfOk, IfErr, OnOk};
+ghost use Rattle.ninja_text.specs.Failure.{ForFault};
+ghost use Rattle.collate_core.specs.Projects.{IsProject, IsProjectRefusal};
+ghost use Rattle.commands.specs.Answers.{file_value, Refuses};
+ghost use Rattle.commands.specs.CollateCommand.{first_of, style_of};
+ghost use Rattle.commands.specs.ProjectCommand.{ReadTargetValue, project_target, form_of, names_at, refused_text, PassesOwn, FailsFirst, all_files, AnswersCollatedTargets, AnswersReadTargets, AnswersNames, AnswersProject, project_text};
+ghost use Rattle.commands.specs.inner.ProjectTargets.{LinkEarlier, IsReportable, AreOuts};
+
+use crate::answer::Answer;
+use crate::collate::{edges_pass, files_of};
+use crate::edges::{EdgesFault, edges_text};
+use crate::project_targets::{ReadTarget, read_targets, target_failed};
+use crate::reading::Files;
+use crate::refusal::refusal_by_names;
+use collate_core::{Clang, Collated, Gcc, ProjectOut, ProjectTarget, Refusal, project_with_hasher};
+use ninja_text::Failure;
+use scan_docs::{DocFault, MapForm, TargetName, project_read};
+use std::alloc::{AllocError, Global};
+use std::hash::RandomState;
+
+/// Runs `project FILE` on the bytes of the project document, and on files by name. Of a name that
+/// is there twice the first file counts, and one that is not there counts as a file that can't be
+/// read.
+///
+/// All targets are read before the first is collated: the document of each, which may only link
+/// targets before it and has the first one's form of maps, its scan documents and its listing of
+/// edges. What is to be written are the files of `collate`, target by target; infos that targets
+/// link are not read, since the project writes them.
+pub fn project_run(
+    alloc: Global,
+    keys: RandomState,
+    document: &[u8],
+    files: &[(String, Vec<u8>)],
+) -> Result<Answer, AllocError>
+    ensures { IfOk result (AnswersProject document.now (first_of (map file_value files.now))) }
+{
+    match project_read(alloc, document) {
+        Ok(spec) => names_run(alloc, keys, &spec.targets, &Files::of(alloc, keys, files)?),
+        Err(Failure::Memory) => Err(AllocError),
+        Err(Failure::Fault(fault)) => project_refused(alloc, &fault),
+    }
+}
+
+/// The answer to a project document that is refused.
+fn project_refused(alloc: Global, fault: &DocFault) -> Result<Answer, AllocError>
+    ensures { IfOk result (Refuses (project_text fault.now)) }
+{
+    let message = format!(in alloc; "project: {fault}")?;
+    Answer::failed(alloc, 1, message.as_bytes())
+}
+
+/// The answer to the target documents of these names.
+fn names_run(
+    alloc: Global,
+    keys: RandomState,
+    names: &[String],
+    files: &Files,
+) -> Result<Answer, AllocError>
+    ensures { IfOk result (AnswersNames (first_of files.now) (map string_bytes names.now)) }
+{
+    match read_targets(alloc, keys, files, names) {
+        Ok(targets) => targets_run(alloc, keys, &targets),
+        Err(Failure::Memory) => Err(AllocError),
+        Err(Failure::Fault(answer)) => Ok(answer),
+    }
+}
+
+/// The answer to targets that were read.
+fn targets_run(
+    alloc: Global,
+    keys: RandomState,
+    targets: &[ReadTarget],
+) -> Result<Answer, AllocError>
+    requires { LinkEarlier targets.now }
+    ensures { IfOk result (AnswersReadTargets targets.now) }
+{
+    match collate_all(alloc, keys, targets) {
+        Ok(out) => collated_run(alloc, keys, targets, out.targets),
+        Err(Failure::Memory) => Err(AllocError),
+        Err(Failure::Fault(refused)) => refused_run(alloc, targets, &refused),
+    }
+}
+
+/// Collates the targets, with maps of the form of the first one.
+fn collate_all(
+    alloc: Global,
+    keys: RandomState,
+    targets: &[ReadTarget],
+) -> Result<ProjectOut, Failure<(usize, Refusal)>>
+    ensures collated { IfOk result (λ out. IsProject (style_of (form_of targets.now))
+        (map project_target targets.now) out.targets.items) }
+    ensures refused { IfErr result (ForFault (λ refused.
+        IsProjectRefusal (style_of (form_of targets.now))
+        (map project_target targets.now) refused.0 refused.1)) }
+{
+    let parts = in_project(alloc, targets)?;
+    project_in(alloc, keys, &parts, form_of(targets))
+}
+
+/// Collates targets as a project has them, with maps of this form, if one is given.
+fn project_in(
+    alloc: Global,
+    keys: RandomState,
+    parts: &[ProjectTarget<'_>],
+    form: Option<MapForm>,
+) -> Result<ProjectOut, Failure<(usize, Refusal)>>
+    ensures collated { IfOk result (λ out.
+        IsProject (style_of form) parts.now out.targets.items) }
+    ensures refused { IfErr result (ForFault (λ refused.
+        IsProjectRefusal (style_of form) parts.now refused.0 refused.1)) }
+{
+    match form {
+        None => project_with_hasher(alloc, parts, None::<&Gcc>, keys),
+        Some(MapForm::Gcc) => project_with_hasher(alloc, parts, Some(&Gcc), keys),
+        Some(MapForm::Clang) => project_with_hasher(alloc, parts, Some(&Clang), keys),
+    }
+}
+
+/// The targets as a project has them.
+fn in_project<'t>(
+    alloc: Global,
+    targets: &'t [ReadTarget],
+) -> Result<Vec<ProjectTarget<'t>>, AllocError>
+    ensures { IfOk result (λ parts. parts.items ≡ map project_target targets.now) }
+{
+    let mut parts = Vec::with_capacity(alloc, targets.len())?;
+    for target in targets {
+        parts.push(target.in_project())?;
+    }
+    Ok(parts)
+}
+
+/// The form of maps of the first target.
+fn form_of(targets: &[ReadTarget]) -> Option<MapForm>
+    ensures { result ≡ form_of targets.now }
+{
+    match targets.first() {
+        Some(first) => first.document.spec().map,
+        None => None,
+    }
+}
+
+/// The answer to targets of which that of this index is refused.
+fn refused_run(
+    alloc: Global,
+    targets: &[ReadTarget],
+    refused: &(usize, Refusal),
+) -> Result<Answer, AllocError>
+    requires { IsReportable targets.now refused.now.0 refused.now.1 }
+    ensures { IfOk result (λ answer. (target : ReadTargetValue)
+        → slice_get targets.now refused.now.0 ≡ Some target
+        → Refuses (refused_text targets.now refused.now.0 target refused.now.1) answer) }
+{
+    let index = refused.0;
+    let target = &targets[index];
+    let names = linked_names(alloc, targets, &target.linked)?;
+    let setting = target.document.setting();
+    let text = refusal_by_names(alloc, setting, &target.scans, &names, &refused.1)?;
+    target_failed(alloc, index, &text)
+}
+
+/// The names of the targets of these indexes.
+fn linked_names<'t>(
+    alloc: Global,
+    targets: &'t [ReadTarget],
+    linked: &[usize],
+) -> Result<Vec<&'t TargetName>, AllocError>
+    requires { All (λ k. k < length targets.now) linked.now }
+    ensures { IfOk result (λ names.
+        map (λ n. n.now) names.items ≡ names_at targets.now linked.now) }
+{
+    let mut names = Vec::with_capacity(alloc, linked.len())?;
+    for index in linked {
+        let target = &targets[*index];
+        let spec = target.document.spec();
+        names.push(&spec.target)?;
+    }
+    Ok(names)
+}
+
+/// The answer to targets that collated to these: their files, or what is wrong with the edges of
+/// the first whose edges are faulty.
+fn collated_run(
+    alloc: Global,
+    keys: RandomState,
+    targets: &[ReadTarget],
+    outs: Vec<Collated>,
+) -> Result<Answer, AllocError>
+    requires { AreOuts targets.now outs.items }
+    ensures { IfOk result (AnswersCollatedTargets (zip targets.now outs.items)) }
+{
+    match all_pass(alloc, keys, targets, &outs) {
+        Ok(()) => {
+            let files = all_files(alloc, targets, outs)?;
+            Ok(Answer::writes(alloc, files))
+        }
+        Err(Failure::Memory) => Err(AllocError),
+        Err(Failure::Fault((index, fault))) => {
+            let text = edges_text(alloc, &fault)?;
+            target_failed(alloc, index, &text)
+        }
+    }
+}
+
+/// Whether the edges that each target names can be put in order after its own dyndep file, or what
+/// is wrong with the edges of the first where they can't.
+fn all_pass(
+    alloc: Global,
+    keys: RandomState,
+    targets: &[ReadTarget],
+    outs: &[Collated],
+) -> Result<(), Failure<(usize, EdgesFault)>>
+    requires { length outs.now ≡ length targets.now }
+    ensures pass { OnOk result (All PassesOwn (zip targets.now outs.now)) }
+    ensures fail { IfErr result (ForFault (λ failed.
+        FailsFirst (zip targets.now outs.now) failed.0 failed.1)) }
+{
+    for (index, target) in targets.iter().enumerate() {
+        match edges_pass(
+            alloc,
+            keys,
+            target.listing,
+            target.document.path(),
+            &outs[index],
+        ) {
+            Ok(()) => {}
+            Err(Failure::Memory) => return Err(Failure::Memory),
+            Err(Failure::Fault(fault)) => return Err(Failure::Fault((index, fault))),
+        }
+    }
+    Ok(())
+}
+
+/// The files of all targets, which collated to these.
+fn all_files(
+    alloc: Global,
+    targets: &[ReadTarget],
+    outs: Vec<Collated>,
+) -> Result<Vec<(String, Vec<u8>)>, AllocError>
+    requires { All (λ c. All IsUtf8 c.objects) outs.items }
+    ensures { IfOk result (λ files.
+        map file_value files.items ≡ all_files (zip targets.now outs.items)) }
+{
+    let mut files = Vec::new(alloc);
+    for (target, collated) in targets.iter().zip(outs) {
+        let mut more = files_of(alloc, collated, target.document.spec())?;
+        files.append(&mut more)?;
+    }
+    Ok(files)
+}

@@ -1,0 +1,174 @@
+//! How the faults of a module table are reported.
+
+ghost use Rattle.std.specs.Prelude.{◌≡◌, ◌++◌, map, IfOk, codes};
+ghost use Rattle.std.specs.List.{flat_map};
+ghost use Rattle.commands.specs.TableFaults.{object_path, target_name, maker_text, made_twice_text, requirement_text, private_text, ring_text, fault_subject, fault_text};
+
+use module_table::{Maker, TableFault};
+use scan_docs::{Name, Rule, TargetName};
+use std::alloc::{AllocError, Global};
+
+/// What is reported of a fault of the table of these objects and infos: its code, its name and what
+/// it is about. Objects are named by their paths, and infos by their targets.
+pub(crate) fn fault_text(
+    alloc: Global,
+    fault: &TableFault,
+    objects: &[Rule],
+    names: &[&TargetName],
+) -> Result<Vec<u8>, AllocError>
+    ensures { IfOk result (λ text.
+        text.items ≡ fault_text objects.now (map (λ n. n.now) names.now) fault.now) }
+{
+    let subject = fault_subject(alloc, fault, Makers { objects, names })?;
+    joined(alloc, &[fault.name().as_bytes(), b" ", &subject])
+}
+
+/// The objects, and the names of the infos' targets, whose indexes a fault has.
+#[derive(Clone, Copy)]
+struct Makers<'t> {
+    objects: &'t [Rule],
+    names: &'t [&'t TargetName],
+}
+
+/// What a fault is about.
+fn fault_subject(alloc: Global, fault: &TableFault, makers: Makers) -> Result<Vec<u8>, AllocError>
+    ensures { IfOk result (λ text. text.items ≡ fault_subject
+        makers.entry.objects.now (map (λ n. n.now) makers.entry.names.now) fault.now) }
+{
+    match fault {
+        TableFault::ObjectTwice { path, .. } => Vec::from_slice(alloc, path.bytes()),
+        TableFault::InfoTwice { target } => Vec::from_slice(alloc, target.text().as_bytes()),
+        TableFault::ProvidedTwice {
+            name,
+            first,
+            second,
+        } => made_twice_text(alloc, name.text().as_bytes(), *first, *second, makers),
+        TableFault::BmiTwice {
+            path,
+            first,
+            second,
+        } => made_twice_text(alloc, path.bytes(), *first, *second, makers),
+        TableFault::ModuleUnknown { name, object } => {
+            let path = object_path(makers.objects, *object);
+            joined(alloc, &[name.text().as_bytes(), b" in ", path])
+        }
+        TableFault::InfoUnknown {
+            target,
+            module_name,
+            name,
+        }
+        | TableFault::InfoDisagrees {
+            target,
+            module_name,
+            name,
+        } => requirement_text(alloc, target, module_name, name),
+        TableFault::ImportCycle { objects } => ring_text(alloc, objects, makers.objects),
+        TableFault::ModulePrivate { name, info, user } => {
+            private_text(alloc, name, *info, *user, makers)
+        }
+        TableFault::PrivateUnknown { name } => Vec::from_slice(alloc, name.text().as_bytes()),
+    }
+}
+
+/// What two make.
+fn made_twice_text(
+    alloc: Global,
+    made: &[u8],
+    first: Maker,
+    second: Maker,
+    makers: Makers,
+) -> Result<Vec<u8>, AllocError>
+    ensures { IfOk result (λ text. text.items ≡ made_twice_text
+        makers.entry.objects.now (map (λ n. n.now) makers.entry.names.now) made.now first second) }
+{
+    let first = maker_text(alloc, first, makers)?;
+    let second = maker_text(alloc, second, makers)?;
+    joined(alloc, &[made, b" by ", &first, b" and ", &second])
+}
+
+/// A module of a target, and a name that it requires.
+fn requirement_text(
+    alloc: Global,
+    target: &TargetName,
+    module_name: &Name,
+    name: &Name,
+) -> Result<Vec<u8>, AllocError>
+    ensures { IfOk result (λ text.
+        text.items ≡ requirement_text target.now module_name.now name.now) }
+{
+    let target = target.text().as_bytes();
+    let module_name = module_name.text().as_bytes();
+    let name = name.text().as_bytes();
+    joined(alloc, &[target, b" ", module_name, b" ", name])
+}
+
+/// A private module, its target, and who requires it.
+fn private_text(
+    alloc: Global,
+    name: &Name,
+    info: usize,
+    user: Maker,
+    makers: Makers,
+) -> Result<Vec<u8>, AllocError>
+    ensures { IfOk result (λ text. text.items ≡ private_text
+        makers.entry.objects.now (map (λ n. n.now) makers.entry.names.now) name.now info user) }
+{
+    let name = name.text().as_bytes();
+    let target = target_name(makers.names, info);
+    let user = maker_text(alloc, user, makers)?;
+    joined(alloc, &[name, b" of ", target, b" in ", &user])
+}
+
+/// Who makes a file.
+fn maker_text(alloc: Global, maker: Maker, makers: Makers) -> Result<Vec<u8>, AllocError>
+    ensures { IfOk result (λ text. text.items ≡ maker_text
+        makers.entry.objects.now (map (λ n. n.now) makers.entry.names.now) maker) }
+{
+    match maker {
+        Maker::Object(index) => joined(alloc, &[b"object ", object_path(makers.objects, index)]),
+        Maker::Info(index) => joined(alloc, &[b"info ", target_name(makers.names, index)]),
+    }
+}
+
+/// The objects of a ring, in its order.
+fn ring_text(alloc: Global, ring: &[usize], objects: &[Rule]) -> Result<Vec<u8>, AllocError>
+    ensures { IfOk result (λ text. text.items ≡ ring_text objects.now ring.now) }
+{
+    let mut text = Vec::new(alloc);
+    let [first, others @ ..] = ring else {
+        return Ok(text);
+    };
+    text.extend_from_slice(object_path(objects, *first))?;
+    for next in others {
+        text.extend_from_slice(b" -> ")?;
+        text.extend_from_slice(object_path(objects, *next))?;
+    }
+    Ok(text)
+}
+
+/// The path of the object of that index.
+pub(crate) fn object_path(objects: &[Rule], index: usize) -> &[u8]
+    ensures { result.now ≡ object_path objects.now index }
+{
+    match objects.get(index) {
+        Some(rule) => rule.object.bytes(),
+        None => b"",
+    }
+}
+
+/// The name of the target of the info of that index.
+fn target_name<'t>(names: &[&'t TargetName], index: usize) -> &'t [u8]
+    ensures { result.now ≡ target_name (map (λ n. n.now) names.now) index }
+{
+    match names.get(index) {
+        Some(name) => name.text().as_bytes(),
+        None => b"",
+    }
+}
+
+/// The parts, one behind the other.
+pub(crate) fn joined(alloc: Global, parts: &[&[u8]]) -> Result<Vec<u8>, AllocError>
+    ensures { IfOk result (λ text. text.items ≡ flat_map (λ part. part.now) parts.now) }
+{
+    parts.concat(alloc)
+}

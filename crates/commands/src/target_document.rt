@@ -1,0 +1,110 @@
+//! Accepted target documents.
+
+ghost use Rattle.std.specs.Prelude.{◌≡◌, IfOk, IfErr};
+ghost use Rattle.ninja_text.specs.Failure.{ForFault};
+ghost use Rattle.scan_docs.specs.Document.{IsRefused, HasOneAnswer};
+ghost use Rattle.scan_docs.specs.Target.{IsTarget};
+ghost use Rattle.scan_docs.specs.TargetChecks.{target_checks};
+ghost use Rattle.commands.specs.CollateCommand.{dyndep_path, setting_in, HasSpec};
+ghost use Rattle.commands.specs.inner.TargetDocuments.{IsPlaced};
+
+use ninja_text::{Failure, Path, place};
+use scan_docs::{DocFault, Setting, TargetSpec, spec_read};
+use std::alloc::{AllocError, Global};
+use std::marker::Model;
+
+/// An accepted target document: its members, and what they say of where files are.
+#[derive(Drop)]
+pub(crate) struct TargetDocument {
+    spec: TargetSpec,
+    setting: Setting,
+    path: Path,
+}
+
+impl Model for TargetDocument {
+    ghost use Rattle.std.specs.Prelude.{◌≡◌};
+    ghost use Rattle.scan_docs.specs.Target.{TargetValue};
+    ghost use Rattle.commands.specs.CollateCommand.{dyndep_path, setting_in};
+
+    ghost Value = { TargetValue };
+
+    ghost view = { λ d. d.spec };
+
+    ghost invariant = { λ d. (d.setting ≡ setting_in d.spec) × (d.path ≡ dyndep_path d.spec) };
+}
+
+impl TargetDocument {
+    /// The target document of these bytes, or the refusal of the first check that fails.
+    pub(crate) fn read(alloc: Global, bytes: &[u8]) -> Result<TargetDocument, Failure<DocFault>>
+        ensures accepted { IfOk result (HasSpec bytes.now) }
+        ensures refused { IfErr result (ForFault (IsRefused target_checks bytes.now)) }
+        ensures one_answer { HasOneAnswer target_checks IsTarget bytes.now }
+    {
+        let spec = spec_read(alloc, bytes)?;
+        let document = TargetDocument::of(alloc, spec)?;
+        Ok(document)
+    }
+
+    /// The document with these members.
+    fn of(alloc: Global, spec: TargetSpec) -> Result<TargetDocument, AllocError>
+        requires { IsPlaced spec }
+        ensures { IfOk result (λ document. document ≡ spec) }
+    {
+        let setting = setting_in(alloc, &spec)?;
+        let path = dyndep_path(alloc, &spec)?;
+        Ok(TargetDocument {
+            spec,
+            setting,
+            path,
+        })
+    }
+
+    /// The members.
+    pub(crate) fn spec(&self) -> &TargetSpec
+        ensures { result.now ≡ self.now }
+    {
+        &self.spec
+    }
+
+    /// Where the target's modules are compiled to, and where Ninja runs.
+    pub(crate) fn setting(&self) -> &Setting
+        ensures { result.now ≡ setting_in self.now }
+    {
+        &self.setting
+    }
+
+    /// The dyndep file, as Ninja sees it.
+    pub(crate) fn path(&self) -> &Path
+        ensures { result.now ≡ dyndep_path self.now }
+    {
+        &self.path
+    }
+}
+
+/// Where the target's modules are compiled to, and where Ninja runs.
+fn setting_in(alloc: Global, spec: &TargetSpec) -> Result<Setting, AllocError>
+    ensures { IfOk result (λ setting. setting ≡ setting_in spec.now) }
+{
+    let build_dir = match &spec.build_dir {
+        Some(path) => Some(path.copy(alloc)?),
+        None => None,
+    };
+    Ok(Setting {
+        module_dir: String::from_str(alloc, &spec.module_dir)?,
+        module_ext: String::from_str(alloc, &spec.module_ext)?,
+        build_dir,
+    })
+}
+
+/// The dyndep file of a target document, as Ninja sees it.
+#[tactic(auto, using(crate::proofs::TargetDocuments::path_known))]
+fn dyndep_path(alloc: Global, spec: &TargetSpec) -> Result<Path, AllocError>
+    requires { IsPlaced spec.now }
+    ensures { IfOk result (λ path. path ≡ dyndep_path spec.now) }
+{
+    match place(alloc, None, spec.build_dir.as_ref(), spec.dyndep.as_bytes()) {
+        Ok(path) => Ok(path),
+        Err(Failure::Memory) => Err(AllocError),
+        Err(Failure::Fault(_)) => unreachable!(),
+    }
+}

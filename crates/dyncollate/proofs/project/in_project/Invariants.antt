@@ -1,7 +1,0 @@
-use Rattle.std.proofs.Common.{◌≡◌, take, map}
-use Rattle.dyncollate.specs.ProjectCommand.{project_target}
-use Rattle.dyncollate.proofs.project.in_project.Given as goal
-
--- the targets so far
-abbrev pub invariant-loop-target : goal.invariant-loop-target
-invariant-loop-target l = l.parts.items ≡ map project_target (take l.target-index l.targets)

@@ -1,5 +1,0 @@
-use Rattle.dyncollate.proofs.TargetDocuments.{is_placed}
-use Rattle.dyncollate.proofs.target_document.TargetDocument.read.Goals as goal
-
-pub of-requires : goal.of-requires
-of-requires c = is_placed _ _ c.in_ok-spec.ensures.accepted
