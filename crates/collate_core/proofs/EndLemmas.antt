@@ -8,13 +8,13 @@ use Rattle.build_effect.specs.Graphs.{EdgeNeeds}
 use Rattle.build_effect.specs.Premises.{AddsAt, AddedOnce}
 use Rattle.build_effect.specs.Files.{NamedFile, FilesMeet, AreFileIndices, Applies, GainsExactly}
 use Rattle.build_effect.specs.Numbering.{HasOutputsOnly, IsRisingNumbering, IsAboveOthers, AreOrdered, rank_at, FilesOrder}
+use Rattle.module_maps.specs.Maps.{Written}
 use Rattle.collate_core.proofs.ByIndex.{element_at, from_map, to_map, same_some}
 use Rattle.module_table.specs.TableValue.{TableValue}
 use Rattle.module_table.specs.Added.{Task, tasks_of, required_of, RequiredFiles}
 use Rattle.dyndep_file.specs.StatementValue.{StatementValue}
 use Rattle.collate_core.specs.Values.{CollatedValue, ProjectTargetValue}
 use Rattle.collate_core.specs.Statements.{statement_of, statements_of}
-use Rattle.collate_core.specs.Maps.{Written}
 use Rattle.collate_core.specs.Projects.{IsProject, project_tables}
 use Rattle.collate_core.specs.ProjectOrders.{dyndep_files, Sees, ProjectProvides, IsProjectOrdered, AllOrders}
 use Rattle.collate_core.proofs.ProjectLemmas.{in_zip, as_file}

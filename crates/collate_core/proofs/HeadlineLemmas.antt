@@ -12,6 +12,7 @@ use Rattle.build_effect.specs.EdgeValue.{EdgeValue}
 use Rattle.build_effect.specs.Graphs.{Names}
 use Rattle.build_effect.specs.Effect.{IsCanonical, AreCanonical, Gives, extended}
 use Rattle.build_effect.specs.Premises.{AddsAt, AddedOnce, AdditionNeeds, Meets, OneEffect}
+use Rattle.module_maps.specs.Maps.{Written}
 use Rattle.collate_core.proofs.ByIndex.{from_map, to_map, same_some}
 use Rattle.module_table.specs.TableValue.{TableValue}
 use Rattle.module_table.specs.Modules.{Provides}
@@ -20,7 +21,6 @@ use Rattle.module_table.specs.Added.{Task, tasks_of, required_of, AddedNeeds, Ad
 use Rattle.collate_core.specs.Values.{TargetValue, CollatedValue}
 use Rattle.collate_core.specs.Documents.{table_of}
 use Rattle.collate_core.specs.Statements.{statement_of, statements_of}
-use Rattle.collate_core.specs.Maps.{Written}
 use Rattle.collate_core.specs.Collation.{HasPaths, Collates}
 use Rattle.collate_core.specs.Headline.{AddsExactly, IsCollatedText, IsHeadline}
 use Rattle.collate_core.proofs.Lists.{all_at, all_front, all_back}

@@ -20,5 +20,3 @@ pub mod OneRefusal
 pub mod ProjectOutcomes
 pub mod OneProjectRefusal
 pub mod Rows
-pub mod Pushes
-pub mod MapRows

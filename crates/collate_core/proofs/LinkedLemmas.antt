@@ -5,6 +5,7 @@ use Rattle.std.proofs.lemmas.Option.{slice_get_within, get_or_from_slice_get, sl
 use Rattle.scan_docs.specs.Info.{InfoValue, IsInfo}
 use Rattle.scan_docs.specs.InfoChecks.{info_checks}
 use Rattle.scan_docs.specs.Document.{IsAccepted}
+use Rattle.module_maps.specs.Maps.{Written}
 use Rattle.collate_core.proofs.ByIndex.{element_at, from_map, to_map, same_some}
 use Rattle.module_table.specs.TableValue.{TableValue}
 use Rattle.module_table.specs.Sound.{IsSound}
@@ -12,7 +13,6 @@ use Rattle.scan_docs.specs.Values.{info_of}
 use Rattle.collate_core.specs.Values.{CollatedValue, ProjectTargetValue}
 use Rattle.collate_core.specs.Documents.{table_of, IsInfoAccepted}
 use Rattle.collate_core.specs.Infos.{info_of_table}
-use Rattle.collate_core.specs.Maps.{Written}
 use Rattle.collate_core.specs.Collation.{Collates}
 use Rattle.collate_core.specs.Projects.{target_of, linked_infos, project_tables, IsProject}
 use Rattle.collate_core.proofs.Lists.{all_at}

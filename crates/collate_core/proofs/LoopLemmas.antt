@@ -3,17 +3,18 @@ use Rattle.std.proofs.Common.{◌≡◌, ℕ, zero, suc, ◌+◌, ◌<◌, ◌�
 use Rattle.std.specs.Prelude.{All, IfSome}
 use Rattle.std.specs.Option.{option_map, option_map_or}
 use Rattle.std.proofs.lemmas.Option.{slice_get_within}
+use Rattle.module_maps.specs.Values.{ModuleMapValue}
+use Rattle.module_maps.specs.Maps.{Written, AreStyleLaws}
+use Rattle.module_maps.specs.declared.module_map.MapFault.{MapFault}
+use Rattle.module_maps.specs.declared.module_map.MapEntry.{MapEntry}
 use Rattle.collate_core.proofs.ByIndex.{element_at, in_first, in_append, same_some}
-use Rattle.collate_core.specs.Values.{CollatedValue, ModuleMapValue, ProjectTargetValue}
-use Rattle.collate_core.specs.Maps.{Written, AreStyleLaws}
+use Rattle.collate_core.specs.Values.{CollatedValue, ProjectTargetValue}
 use Rattle.collate_core.specs.Collation.{Collates}
 use Rattle.collate_core.specs.Projects.{target_of, linked_infos, IsProject, project_tables, IsLinkedRefusal, IsProjectRefusal}
 use Rattle.collate_core.specs.ProjectNeeds.{MapsReadBack}
 use Rattle.collate_core.specs.Laws.{ProjectMaps}
 use Rattle.collate_core.specs.declared.fault.Refusal.{Refusal}
 use Rattle.std.proofs.lemmas.List.{map-append, length-take-le}
-use Rattle.collate_core.specs.declared.module_map.MapFault.{MapFault}
-use Rattle.collate_core.specs.declared.module_map.MapEntry.{MapEntry}
 
 last : {X : Type 0} (xs : List X) (x : X) (k : ℕ) (y : X) (m : ℕ) → k ≡ length xs + m → slice_get (x ∷ []) m ≡ Some y → (k ≡ length xs) × (x ≡ y)
 last xs x k y zero e h = (omega (arith, e), same_some _ _ h)

@@ -5,6 +5,10 @@ use Rattle.std.specs.List.{flat_map}
 use Rattle.scan_docs.specs.Scan.{RuleValue}
 use Rattle.scan_docs.specs.Info.{InfoValue, ModuleValue}
 use Rattle.build_effect.specs.Premises.{AddsAt}
+use Rattle.module_maps.specs.Values.{ModuleMapValue}
+use Rattle.module_maps.specs.Maps.{Written, AreEntriesOf, AreStyleLaws}
+use Rattle.module_maps.specs.declared.module_map.MapFault.{MapFault}
+use Rattle.module_maps.specs.declared.module_map.MapEntry.{MapEntry}
 use Rattle.collate_core.proofs.ByIndex.{from_map, to_map, same_some, offset, in_flat_map, from_flat_map}
 use Rattle.module_table.specs.TableValue.{TableValue}
 use Rattle.module_table.specs.Modules.{Provides, Requires, InfoProvides, IsProvided, IsProvidedBy}
@@ -13,15 +17,12 @@ use Rattle.module_table.specs.Needed.{LeadsTo, Leads, IsNeeded, ArePairs}
 use Rattle.module_table.specs.Added.{Task, tasks_of, required_of, RequiredFiles, AllRequired, OneFile, FilesOnce}
 use Rattle.module_table.specs.declared.fault.Maker.{Maker}
 use Rattle.module_table.specs.declared.fault.Maker.TheVariants.{Object, Info}
-use Rattle.collate_core.specs.Values.{CollatedValue, ModuleMapValue, ProjectTargetValue}
+use Rattle.collate_core.specs.Values.{CollatedValue, ProjectTargetValue}
 use Rattle.collate_core.specs.Statements.{statement_of, statements_of}
 use Rattle.collate_core.specs.Infos.{info_of_table, module_of, modules_of}
-use Rattle.collate_core.specs.Maps.{Written, AreEntriesOf, AreStyleLaws}
 use Rattle.collate_core.specs.Projects.{IsProject, project_tables}
 use Rattle.collate_core.specs.ProjectOrders.{ProjectProvides}
 use Rattle.collate_core.specs.ProjectNeeds.{IsProjectNeeded, direct, onward, AddedApart, MapsReadBack}
-use Rattle.collate_core.specs.declared.module_map.MapFault.{MapFault}
-use Rattle.collate_core.specs.declared.module_map.MapEntry.{MapEntry}
 use Rattle.collate_core.proofs.LinkedLemmas.{InfoIs, contained, index_of, collation_at, sound_of, info_at, info_of_link}
 
 abbrev pub task_in : TableValue → RuleValue → Task

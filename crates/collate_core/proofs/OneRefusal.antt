@@ -11,16 +11,16 @@ use Rattle.scan_docs.specs.declared.fault.DocFault.TheVariants.{TooLarge}
 use Rattle.scan_docs.specs.declared.fault.Place.TheVariants.{Document}
 use Rattle.module_table.specs.TableValue.{TableValue}
 use Rattle.module_table.specs.Outcomes.{OneFault}
+use Rattle.module_maps.specs.Maps.{Written}
+use Rattle.module_maps.specs.declared.module_map.MapFault.{MapFault}
 use Rattle.collate_core.proofs.ByIndex.{same_some, three_ways}
 use Rattle.scan_docs.specs.Values.{rules_of}
 use Rattle.collate_core.specs.Values.{TargetValue}
 use Rattle.collate_core.specs.Documents.{IsScanAccepted, IsInfoAccepted, AreScansAccepted, all_rules, rule_limit, table_of}
-use Rattle.collate_core.specs.Maps.{Written}
 use Rattle.collate_core.specs.Refusals.{IsScanFault, IsScanRefusal, IsInfoRefusal, IsMapFault, IsMapRefusal}
 use Rattle.collate_core.specs.Laws.{OneRefusal, IsSameRefusal, same_refusal, same_fault}
 use Rattle.collate_core.specs.declared.fault.Refusal.{Refusal}
 use Rattle.collate_core.specs.declared.fault.Refusal.TheVariants.{Scan, Info, Table, StatementTooLong, Map, LinkedLater}
-use Rattle.collate_core.specs.declared.module_map.MapFault.{MapFault}
 use Rattle.collate_core.proofs.Lists.{in_take, take_less}
 use Rattle.collate_core.proofs.Outcomes.{OneAnswer, no_scan, no_info, no_map_fault, one_map}
 

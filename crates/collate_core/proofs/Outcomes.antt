@@ -13,17 +13,18 @@ use Rattle.scan_docs.specs.declared.fault.DocFault.{DocFault}
 use Rattle.module_table.specs.TableValue.{TableValue}
 use Rattle.module_table.specs.Needed.{IsNeeded}
 use Rattle.module_table.proofs.ForCallers.{one_list_of_pairs}
+use Rattle.module_maps.specs.Values.{ModuleMapValue}
+use Rattle.module_maps.specs.Maps.{Written}
+use Rattle.module_maps.specs.declared.module_map.MapFault.{MapFault}
 use Rattle.collate_core.proofs.ByIndex.{element_at}
 use Rattle.scan_docs.specs.Values.{rules_of, info_of}
-use Rattle.collate_core.specs.Values.{ModuleMapValue}
 use Rattle.collate_core.specs.Documents.{all_rules, table_of, IsScanAccepted, IsInfoAccepted, AreScansAccepted}
 use Rattle.collate_core.specs.Statements.{statements_of}
-use Rattle.collate_core.specs.Maps.{IsMapOf, Written}
+use Rattle.collate_core.specs.Maps.{IsMapOf}
 use Rattle.collate_core.specs.Collation.{AreMaps}
 use Rattle.collate_core.specs.Refusals.{IsScanFault, IsScanRefusal, IsInfoRefusal, IsMapFault, IsMapWritten, IsMapRefusal}
 use Rattle.collate_core.specs.Laws.{CollatedIsNotRefused}
 use Rattle.collate_core.specs.declared.fault.Refusal.TheVariants.{Scan, Info, Table, StatementTooLong, Map, LinkedLater}
-use Rattle.collate_core.specs.declared.module_map.MapFault.{MapFault}
 use Rattle.collate_core.proofs.Lists.{all_at, take_next, flat_map_last}
 use Rattle.collate_core.proofs.Writing.{no_fault}
 

@@ -15,12 +15,12 @@ use Rattle.module_table.specs.TableValue.{TableValue}
 use Rattle.module_table.specs.Faults.{IsFault}
 use Rattle.module_table.specs.Sound.{IsSound, KeptAreProvided}
 use Rattle.module_table.specs.declared.fault.TableFault.{TableFault}
+use Rattle.module_maps.specs.Maps.{Written}
 use Rattle.collate_core.proofs.ByIndex.{element_at, in_append, same_some}
 use Rattle.collate_core.specs.Values.{TargetValue, CollatedValue}
 use Rattle.collate_core.specs.Documents.{table_of, AreAccepted, IsResolved}
 use Rattle.collate_core.specs.Statements.{statements_of}
 use Rattle.collate_core.specs.Infos.{info_of_table}
-use Rattle.collate_core.specs.Maps.{Written}
 use Rattle.collate_core.specs.Collation.{IsMapText, AreMaps, Collates}
 use Rattle.collate_core.specs.Refusals.{IsRefusal}
 use Rattle.collate_core.specs.inner.Parts.{IsWriteRefusal, IsMapsRefusal, HasSpelled}

@@ -4,13 +4,13 @@ use Rattle.std.specs.List.{zip}
 use Rattle.build_effect.specs.Effect.{AreCanonical}
 use Rattle.build_effect.specs.Premises.{AddedOnce}
 use Rattle.build_effect.specs.Files.{NamedFile, AreFiles, AnyOrder, OrdersEndAlike}
+use Rattle.module_maps.specs.Maps.{Written}
 use Rattle.collate_core.proofs.ByIndex.{from_map, same_some}
 use Rattle.module_table.specs.TableValue.{TableValue}
 use Rattle.module_table.specs.Added.{AddedOrderable, FilesOnce, FilesApart, RequiredFiles}
 use Rattle.collate_core.specs.Values.{CollatedValue, ProjectTargetValue}
 use Rattle.collate_core.specs.Documents.{table_of}
 use Rattle.collate_core.specs.Statements.{statements_of}
-use Rattle.collate_core.specs.Maps.{Written}
 use Rattle.collate_core.specs.Projects.{target_of, IsProject, project_tables}
 use Rattle.collate_core.specs.ProjectOrders.{dyndep_files, AllOrders}
 use Rattle.collate_core.proofs.HeadlineLemmas.{added_once, are_canonical}

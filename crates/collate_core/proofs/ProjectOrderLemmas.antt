@@ -5,13 +5,13 @@ use Rattle.std.specs.Option.{option_map_or}
 use Rattle.std.specs.List.{flat_map}
 use Rattle.std.proofs.lemmas.Option.{slice_get_within, get_or_from_slice_get}
 use Rattle.build_effect.specs.Numbering.{rank_at}
+use Rattle.module_maps.specs.Maps.{Written}
 use Rattle.collate_core.proofs.ByIndex.{element_at, same_some, choose, offset, in_flat_map}
 use Rattle.collate_core.proofs.Levels.{above, two_levels}
 use Rattle.module_table.specs.TableValue.{TableValue}
 use Rattle.module_table.specs.Modules.{Provides, Requires, IsProvided, DependsOn}
 use Rattle.module_table.specs.Added.{RequiredFiles, AllRequired, OneFile, FilesOnce}
 use Rattle.collate_core.specs.Values.{CollatedValue, ProjectTargetValue}
-use Rattle.collate_core.specs.Maps.{Written}
 use Rattle.collate_core.specs.Projects.{IsProject, project_tables}
 use Rattle.collate_core.specs.ProjectOrders.{ProjectProvides, IsProjectOrdered}
 use Rattle.collate_core.proofs.LinkedLemmas.{InfoIs, index_of, sound_of}

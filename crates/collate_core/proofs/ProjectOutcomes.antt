@@ -5,11 +5,11 @@ use Rattle.std.specs.Option.{option_map_or}
 use Rattle.std.proofs.lemmas.List.{length-take-le}
 use Rattle.std.proofs.lemmas.Option.{slice_get_within}
 use Rattle.scan_docs.specs.InfoText.{info_text}
+use Rattle.module_maps.specs.Maps.{Written}
 use Rattle.collate_core.proofs.ByIndex.{element_at, three_ways}
 use Rattle.collate_core.specs.Values.{TargetValue, CollatedValue, ProjectTargetValue}
 use Rattle.collate_core.specs.Documents.{table_of}
 use Rattle.collate_core.specs.Infos.{info_of_table}
-use Rattle.collate_core.specs.Maps.{Written}
 use Rattle.collate_core.specs.Refusals.{IsRefusal}
 use Rattle.collate_core.specs.Projects.{target_of, linked_infos, IsProject, IsLinkedRefusal, IsProjectRefusal}
 use Rattle.collate_core.specs.declared.fault.Refusal.{Refusal}

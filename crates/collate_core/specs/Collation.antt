@@ -7,11 +7,13 @@ use Rattle.dyndep_file.specs.Reading.{StandsForOnly}
 use Rattle.scan_docs.specs.Scan.{RuleValue}
 use Rattle.scan_docs.specs.InfoText.{info_text, ReadsBack}
 use Rattle.module_table.specs.TableValue.{TableValue}
-use Rattle.collate_core.specs.Values.{TargetValue, CollatedValue, ModuleMapValue}
+use Rattle.module_maps.specs.Values.{ModuleMapValue}
+use Rattle.module_maps.specs.Maps.{Written}
+use Rattle.collate_core.specs.Values.{TargetValue, CollatedValue}
 use Rattle.collate_core.specs.Documents.{table_of, IsResolved}
 use Rattle.collate_core.specs.Statements.{statements_of}
 use Rattle.collate_core.specs.Infos.{info_of_table}
-use Rattle.collate_core.specs.Maps.{IsMapOf, Written}
+use Rattle.collate_core.specs.Maps.{IsMapOf}
 
 -- all paths of the statement are canonical
 abbrev pub HasPaths : StatementValue → Type 0

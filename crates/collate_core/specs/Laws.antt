@@ -4,8 +4,10 @@ use Rattle.module_table.specs.TableValue.{TableValue}
 use Rattle.module_table.specs.Needed.{IsNeeded}
 use Rattle.module_table.specs.Outcomes.{IsSameFault}
 use Rattle.module_table.specs.declared.fault.TableFault.{TableFault}
-use Rattle.collate_core.specs.Values.{TargetValue, CollatedValue, ModuleMapValue, ProjectTargetValue}
-use Rattle.collate_core.specs.Maps.{Written, Entries, AreStyleLaws}
+use Rattle.module_maps.specs.Values.{ModuleMapValue}
+use Rattle.module_maps.specs.Maps.{Written, Entries, AreStyleLaws}
+use Rattle.module_maps.specs.declared.module_map.MapEntry.{MapEntry}
+use Rattle.collate_core.specs.Values.{TargetValue, CollatedValue, ProjectTargetValue}
 use Rattle.collate_core.specs.Collation.{Collates}
 use Rattle.collate_core.specs.Headline.{IsHeadline}
 use Rattle.collate_core.specs.Refusals.{IsRefusal}
@@ -14,7 +16,6 @@ use Rattle.collate_core.specs.ProjectOrders.{AllOrders, IsProjectOrdered, EndIsO
 use Rattle.collate_core.specs.ProjectNeeds.{IsProjectNeeded, AddedApart, MapsReadBack}
 use Rattle.collate_core.specs.declared.fault.Refusal.{Refusal}
 use Rattle.collate_core.specs.declared.fault.Refusal.TheVariants.{Table}
-use Rattle.collate_core.specs.declared.module_map.MapEntry.{MapEntry}
 
 -- whatever a target collates to has the headline
 abbrev pub HeadlineHolds : Type 0

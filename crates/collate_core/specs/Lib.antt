@@ -11,8 +11,4 @@ pub mod Projects
 pub mod ProjectOrders
 pub mod ProjectNeeds
 pub mod Laws
-pub mod MapLines
-pub mod GccMaps
-pub mod ClangMaps
 pub mod inner
-pub mod map_laws

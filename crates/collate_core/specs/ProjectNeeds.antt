@@ -5,11 +5,11 @@ use Rattle.build_effect.specs.Premises.{AddsAt}
 use Rattle.module_table.specs.TableValue.{TableValue}
 use Rattle.module_table.specs.Modules.{Requires}
 use Rattle.module_table.specs.Needed.{ArePairs}
+use Rattle.module_maps.specs.Maps.{Entries, AreEntriesOf}
+use Rattle.module_maps.specs.declared.module_map.MapEntry.{MapEntry}
 use Rattle.collate_core.specs.Values.{CollatedValue, ProjectTargetValue}
 use Rattle.collate_core.specs.Statements.{statements_of}
-use Rattle.collate_core.specs.Maps.{Entries, AreEntriesOf}
 use Rattle.collate_core.specs.ProjectOrders.{ProjectProvides}
-use Rattle.collate_core.specs.declared.module_map.MapEntry.{MapEntry}
 
 -- The name is at the end of a chain of names from object o of target n, each required by the object
 -- that provides the one before it, and looked up from the target of that object.

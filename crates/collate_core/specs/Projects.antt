@@ -2,9 +2,9 @@
 use Rattle.std.specs.Prelude.{◌≡◌, ◌⊎◌, ℕ, ◌<◌, List, [], length, map, take, slice_get, Option, Some, All}
 use Rattle.std.specs.Option.{option_map_or}
 use Rattle.module_table.specs.TableValue.{TableValue}
+use Rattle.module_maps.specs.Maps.{Written}
 use Rattle.collate_core.specs.Values.{TargetValue, CollatedValue, ProjectTargetValue}
 use Rattle.collate_core.specs.Documents.{table_of}
-use Rattle.collate_core.specs.Maps.{Written}
 use Rattle.collate_core.specs.Collation.{Collates}
 use Rattle.collate_core.specs.Refusals.{IsRefusal}
 use Rattle.collate_core.specs.declared.fault.Refusal.{Refusal}

@@ -11,14 +11,16 @@ use Rattle.scan_docs.specs.declared.fault.DocFault.TheVariants.{TooLarge}
 use Rattle.scan_docs.specs.declared.fault.Place.TheVariants.{Document}
 use Rattle.module_table.specs.TableValue.{TableValue}
 use Rattle.module_table.specs.Faults.{IsReported}
-use Rattle.collate_core.specs.Values.{TargetValue, ModuleMapValue}
+use Rattle.module_maps.specs.Values.{ModuleMapValue}
+use Rattle.module_maps.specs.Maps.{Written}
+use Rattle.module_maps.specs.declared.module_map.MapFault.{MapFault}
+use Rattle.collate_core.specs.Values.{TargetValue}
 use Rattle.collate_core.specs.Documents.{IsScanAccepted, IsInfoAccepted, AreScansAccepted, AreAccepted, IsResolved, all_rules, rule_limit, table_of}
 use Rattle.collate_core.specs.Statements.{statements_of}
-use Rattle.collate_core.specs.Maps.{IsMapOf, Written}
+use Rattle.collate_core.specs.Maps.{IsMapOf}
 use Rattle.collate_core.specs.Collation.{IsMapText}
 use Rattle.collate_core.specs.declared.fault.Refusal.{Refusal}
 use Rattle.collate_core.specs.declared.fault.Refusal.TheVariants.{Scan, Info, Table, StatementTooLong, Map, LinkedLater}
-use Rattle.collate_core.specs.declared.module_map.MapFault.{MapFault}
 
 -- the scan document of this index is refused by itself, or takes the rules past the limit
 abbrev pub IsScanFault : SettingValue → List (List ℕ) → ℕ → List ℕ → DocFault → Type 0

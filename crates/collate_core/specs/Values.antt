@@ -1,4 +1,4 @@
--- What contracts see of targets, of what they collate to, and of module maps.
+-- What contracts see of targets, and of what they collate to.
 use Rattle.std.specs.Prelude.{ℕ, List}
 use Rattle.scan_docs.specs.Scan.{SettingValue}
 
@@ -18,11 +18,6 @@ pub record CollatedValue : Type 0 where
   pub info : List ℕ
   pub objects : List (List ℕ)
   pub maps : List (List ℕ)
-
--- the modules that an object provides, and those that it needs: pairs of a name and a file
-pub record ModuleMapValue : Type 0 where
-  pub provided : List (List ℕ × List ℕ)
-  pub needed : List (List ℕ × List ℕ)
 
 -- a target of a project, which links earlier ones by index
 pub record ProjectTargetValue : Type 0 where

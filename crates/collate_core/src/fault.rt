@@ -1,8 +1,7 @@
 //! Why a target does not collate, and why a rehearsal has no graph.
-
-use crate::module_map::MapFault;
 use build_effect::EffectFault;
 use dyndep_file::ReadFault;
+use module_maps::MapFault;
 use module_table::TableFault;
 use scan_docs::DocFault;
 

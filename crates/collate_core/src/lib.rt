@@ -13,34 +13,25 @@
 //!   the object provides and requires.
 //! - [`rehearse`] reads any text in any pieces and applies it to a build, and [`check_edges`] puts
 //!   the edges after the effect in order, or answers the least cycle (`specs/Rehearsal.antt`).
-//! - [`Gcc`] and [`Clang`] are styles of module maps; a caller may write another [`MapStyle`], for
-//!   which [`map_lines`] has what the two share. A style's contract says what it writes of a map,
-//!   and what it reads of a text (`specs/Maps.antt`, `GccMaps`, `ClangMaps`).
 //! - [`project`] collates targets that link earlier ones (`specs/Projects.antt`). Their dyndep
 //!   files may be applied in any order (`ProjectOrders.antt`), and the maps have what each object
 //!   needs over the whole project (`ProjectNeeds.antt`).
 //!
 //! The definitions speak of one table, which is a function of the documents' bytes
 //! (`specs/Documents.antt`, `table_of`). Those that only private clauses speak of stand in
-//! `specs/inner/`, and in `specs/map_laws/` what the styles' laws rest on: lemmas, which no one has
-//! to read for what a contract says.
+//! `specs/inner/`.
 //!
-//! It stands on `scan_docs` for documents, on `module_table` for modules by name, on `dyndep_file`
-//! for the texts, on `build_effect` and `dep_order` for builds, on `ninja_text` for paths, and on
+//! It stands on `scan_docs` for documents, on `module_table` for modules by name, on `module_maps`
+//! for their maps, on `dyndep_file` for the texts, on `build_effect` and `dep_order` for builds, on `ninja_text` for paths, and on
 //! `indexmap` for the set of the names of private modules.
 #![tactic(auto)]
 
 mod check;
-mod clang;
 mod collated;
 mod collating;
 mod fault;
-mod gcc;
 mod info;
 mod laws;
-pub mod map_lines;
-mod map_style;
-mod module_map;
 mod object_maps;
 mod pairs;
 mod projects;
@@ -50,14 +41,10 @@ mod table;
 mod target;
 
 pub use check::{check_edges, check_edges_with_hasher};
-pub use clang::Clang;
 pub use collated::{Collated, CollatedParts};
 pub use collating::{collate, collate_dyndep, collate_dyndep_with_hasher, collate_with_hasher};
 pub use fault::{Refusal, RehearseFault};
-pub use gcc::Gcc;
 pub use laws::{headline, one_outcome, project_maps, project_orders};
-pub use map_style::MapStyle;
-pub use module_map::{MapEntry, MapFault, ModuleMap};
 pub use projects::{ProjectOut, ProjectTarget, project, project_with_hasher};
 pub use rehearsal::{rehearse, rehearse_with_hasher};
 pub use table::RULE_LIMIT;

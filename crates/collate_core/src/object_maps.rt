@@ -9,9 +9,8 @@ ghost use Rattle.collate_core.specs.Refusals.{IsMapFault};
 ghost use Rattle.collate_core.specs.inner.Parts.{IsMapsRefusal};
 
 use crate::fault::Refusal;
-use crate::map_style::MapStyle;
-use crate::module_map::{MapFault, ModuleMap};
 use crate::pairs::{copy_lent, copy_pairs};
+use module_maps::{MapFault, MapStyle, ModuleMap};
 use module_table::{Needs, Table};
 use ninja_text::Failure;
 use std::alloc::{AllocError, Global};

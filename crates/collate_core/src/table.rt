@@ -10,9 +10,9 @@ ghost use Rattle.module_table.specs.Faults.{IsFault};
 ghost use Rattle.module_table.specs.Sound.{IsSound, KeptAreProvided};
 ghost use Rattle.module_table.specs.declared.fault.TableFault.{TableFault};
 ghost use Rattle.scan_docs.specs.Values.{rules_of, info_of};
+ghost use Rattle.module_maps.specs.Maps.{Written};
 ghost use Rattle.collate_core.specs.Values.{TargetValue};
 ghost use Rattle.collate_core.specs.Documents.{all_rules, table_of, IsScanAccepted, IsInfoAccepted, AreScansAccepted, AreAccepted};
-ghost use Rattle.collate_core.specs.Maps.{Written};
 ghost use Rattle.collate_core.specs.Refusals.{IsRefusal, IsScanRefusal, IsInfoRefusal};
 ghost use Rattle.collate_core.specs.inner.Parts.{IsTableText, ForScan, ForInfo};
 

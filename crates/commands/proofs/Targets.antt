@@ -4,9 +4,9 @@ use Rattle.scan_docs.specs.Scan.{RuleValue}
 use Rattle.scan_docs.specs.Values.{info_of}
 use Rattle.module_table.specs.Outcomes.{IsSameFault, same, same_ring}
 use Rattle.module_table.specs.declared.fault.TableFault.{TableFault}
+use Rattle.module_maps.specs.Maps.{Written}
 use Rattle.collate_core.specs.Values.{TargetValue, CollatedValue}
 use Rattle.collate_core.specs.Documents.{all_rules}
-use Rattle.collate_core.specs.Maps.{Written}
 use Rattle.collate_core.specs.Collation.{Collates}
 use Rattle.collate_core.specs.Refusals.{IsRefusal}
 use Rattle.collate_core.specs.Laws.{CollatedIsNotRefused, OneRefusal, IsSameRefusal, same_refusal, same_fault}

@@ -11,10 +11,10 @@ use Rattle.scan_docs.specs.Values.{path_in}
 use Rattle.scan_docs.specs.declared.fault.DocFault.{DocFault}
 use Rattle.scan_docs.specs.declared.map_form.MapForm.{MapForm}
 use Rattle.scan_docs.specs.declared.map_form.MapForm.TheVariants.{Gcc, Clang}
+use Rattle.module_maps.specs.Maps.{Written}
+use Rattle.module_maps.specs.GccMaps.{gcc_written}
+use Rattle.module_maps.specs.ClangMaps.{clang_written}
 use Rattle.collate_core.specs.Values.{TargetValue, CollatedValue}
-use Rattle.collate_core.specs.Maps.{Written}
-use Rattle.collate_core.specs.GccMaps.{gcc_written}
-use Rattle.collate_core.specs.ClangMaps.{clang_written}
 use Rattle.commands.specs.declared.answer.Answer.{Answer}
 use Rattle.commands.specs.Answers.{Fails, Refuses}
 use Rattle.commands.specs.EdgeChecks.{AnswersEdges}

@@ -1,7 +1,7 @@
 -- What a run answers to a target, by what it answers to what the target collates to.
 use Rattle.std.specs.Prelude.{Option}
+use Rattle.module_maps.specs.Maps.{Written}
 use Rattle.collate_core.specs.Values.{TargetValue, CollatedValue}
-use Rattle.collate_core.specs.Maps.{Written}
 use Rattle.collate_core.specs.Collation.{Collates}
 use Rattle.collate_core.specs.Refusals.{IsRefusal}
 use Rattle.collate_core.specs.declared.fault.Refusal.{Refusal}

@@ -13,9 +13,8 @@ use crate::edges::{EdgesFault, edges_check, edges_text};
 use crate::reading::{Files, read_each, read_named};
 use crate::refusal::refusal_text;
 use crate::target_document::TargetDocument;
-use collate_core::{
-    Clang, Collated, CollatedParts, Gcc, Refusal, Target, collate_with_hasher, one_outcome,
-};
+use collate_core::{Collated, CollatedParts, Refusal, Target, collate_with_hasher, one_outcome};
+use module_maps::{Clang, Gcc};
 use ninja_text::{Failure, Path};
 use scan_docs::{DocFault, MapForm, TargetSpec};
 use std::alloc::{AllocError, Global};

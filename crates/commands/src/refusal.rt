@@ -8,8 +8,9 @@ ghost use Rattle.commands.specs.TableFaults.{fault_text};
 ghost use Rattle.commands.specs.inner.Refusals.{HasObjects, HasTable};
 
 use crate::table_fault::{fault_text, joined, object_path};
-use collate_core::{MapFault, Refusal, Target};
+use collate_core::{Refusal, Target};
 use dyndep_file::WriteFault;
+use module_maps::MapFault;
 use module_table::TableFault;
 use ninja_text::Failure;
 use scan_docs::{DocFault, Info, Rule, Setting, TargetName, info_read, scan};

@@ -3,12 +3,12 @@ use Rattle.std.proofs.Common.{◌≡◌, true, ℕ, zero, suc, List, [], ◌∷�
 use Rattle.std.proofs.lemmas.List.Elements.{All-append, All-nil}
 use Rattle.std.proofs.lemmas.List.Splits.{join_with_byte-slice_split}
 use Rattle.ninja_text.specs.Paths.{IsPath}
-use Rattle.collate_core.specs.Values.{ModuleMapValue}
-use Rattle.collate_core.specs.Maps.{IsModule, IsModuleMap, IsWrittenText, AreEntriesOf, pairs_of}
-use Rattle.collate_core.specs.MapLines.{is_fit, first_unfit, nameless, path_in, lines_of}
+use Rattle.module_maps.specs.Values.{ModuleMapValue}
+use Rattle.module_maps.specs.Maps.{IsModule, IsModuleMap, IsWrittenText, AreEntriesOf, pairs_of}
+use Rattle.module_maps.specs.MapLines.{is_fit, first_unfit, nameless, path_in, lines_of}
+use Rattle.module_maps.specs.map_laws.LineLemmas.{Pairs, AreModules, AreFit, text_of, ReadsEach, EachBehind, IsLineOf, lines-only, each-all, none-unfit, some-module, path-is, lines-back, each-fit, all-each, path-back, fit-lacks}
+use Rattle.module_maps.specs.declared.module_map.MapEntry.{MapEntry}
 use Rattle.library_tests.specs.BareMaps.{bare_text, bare_written, bare_kept, bare_entry, bare_form, bare_entries}
-use Rattle.collate_core.specs.map_laws.LineLemmas.{Pairs, AreModules, AreFit, text_of, ReadsEach, EachBehind, IsLineOf, lines-only, each-all, none-unfit, some-module, path-is, lines-back, each-fit, all-each, path-back, fit-lacks}
-use Rattle.collate_core.specs.declared.module_map.MapEntry.{MapEntry}
 
 -- the line of a module, without its end
 abbrev bare_line : List ℕ × List ℕ → List ℕ

@@ -1,12 +1,12 @@
 -- A style of a caller's own: a path a line, and no names.
 use Rattle.std.specs.Prelude.{ℕ, List, [], map, Option, Some, None, Result, Ok, Err}
 use Rattle.std.specs.List.{flat_map}
-use Rattle.collate_core.specs.Values.{ModuleMapValue}
-use Rattle.collate_core.specs.Maps.{pairs_of}
-use Rattle.collate_core.specs.MapLines.{first_unfit, nameless, ended, path_in, LineForm, read_lines, lines_of}
-use Rattle.collate_core.specs.declared.module_map.MapEntry.{MapEntry}
-use Rattle.collate_core.specs.declared.module_map.MapFault.{MapFault}
-use Rattle.collate_core.specs.declared.module_map.MapFault.TheVariants.{MapPath}
+use Rattle.module_maps.specs.Values.{ModuleMapValue}
+use Rattle.module_maps.specs.Maps.{pairs_of}
+use Rattle.module_maps.specs.MapLines.{first_unfit, nameless, ended, path_in, LineForm, read_lines, lines_of}
+use Rattle.module_maps.specs.declared.module_map.MapEntry.{MapEntry}
+use Rattle.module_maps.specs.declared.module_map.MapFault.{MapFault}
+use Rattle.module_maps.specs.declared.module_map.MapFault.TheVariants.{MapPath}
 
 -- the lines, unless a path is unfit
 abbrev pub bare_text : List (List ℕ × List ℕ) → Option (List ℕ) → Result (List ℕ) MapFault

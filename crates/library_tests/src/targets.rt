@@ -10,7 +10,8 @@ mod rehearsals;
 
 use crate::common::{name, setting, target_name};
 use build_effect::{Graph, ListingReader, listing_write};
-use collate_core::{Collated, MapFault, MapStyle, Refusal, Target, collate, collate_dyndep};
+use collate_core::{Collated, Refusal, Target, collate, collate_dyndep};
+use module_maps::{MapFault, MapStyle};
 use module_table::TableFault;
 use ninja_text::{Counted, Failure};
 use scan_docs::Name;

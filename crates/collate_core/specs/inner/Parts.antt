@@ -10,8 +10,8 @@ use Rattle.scan_docs.specs.Scan.{IsRuleText}
 use Rattle.scan_docs.specs.InfoText.{IsInfoText}
 use Rattle.scan_docs.specs.declared.fault.DocFault.{DocFault}
 use Rattle.module_table.specs.TableValue.{TableValue}
+use Rattle.module_maps.specs.Maps.{Written}
 use Rattle.collate_core.specs.Values.{CollatedValue, ProjectTargetValue}
-use Rattle.collate_core.specs.Maps.{Written}
 use Rattle.collate_core.specs.Collation.{Collates}
 use Rattle.collate_core.specs.Refusals.{IsMapRefusal}
 use Rattle.collate_core.specs.Projects.{target_of, LinksEarlier}

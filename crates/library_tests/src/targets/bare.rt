@@ -1,11 +1,11 @@
 //! A style of a caller's own: a path a line, and no names.
 ghost use Rattle.std.specs.Prelude.{◌≡◌, ◌++◌, map, IfOk, OnOk};
 ghost use Rattle.std.specs.List.{flat_map};
-ghost use Rattle.collate_core.specs.Maps.{pairs_of};
-ghost use Rattle.collate_core.specs.MapLines.{ended, nameless};
+ghost use Rattle.module_maps.specs.Maps.{pairs_of};
+ghost use Rattle.module_maps.specs.MapLines.{ended, nameless};
 
-use collate_core::map_lines::{LineForm, first_unfit, path_in, push_nameless, read_lines};
-use collate_core::{MapEntry, MapFault, MapStyle, ModuleMap};
+use module_maps::map_lines::{LineForm, first_unfit, path_in, push_nameless, read_lines};
+use module_maps::{MapEntry, MapFault, MapStyle, ModuleMap};
 use ninja_text::{Failure, Path};
 use scan_docs::Name;
 use std::alloc::{AllocError, Global};

@@ -9,7 +9,7 @@ use super::rehearsals::{
     GENERATED, LIBRARY, LIBRARY_AFTER, bytewise, checked, rehearsed, two_objects,
 };
 use super::{TWO_OBJECTS, TWO_OBJECTS_DYNDEP, answer, dyndep_alone, graph_of};
-use collate_core::{Clang, Gcc, MapStyle};
+use module_maps::{Clang, Gcc, MapStyle};
 use std::test::Fail;
 
 #[test]

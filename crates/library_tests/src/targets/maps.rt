@@ -3,7 +3,7 @@
 use super::bare::Bare;
 use super::{map_fault_text, push_line};
 use crate::common::{name, path};
-use collate_core::{Clang, Gcc, MapEntry, MapStyle, ModuleMap};
+use module_maps::{Clang, Gcc, MapEntry, MapStyle, ModuleMap};
 use ninja_text::{Failure, Path};
 use scan_docs::Name;
 use std::alloc::{AllocError, Global};

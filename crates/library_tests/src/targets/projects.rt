@@ -4,7 +4,8 @@
 
 use super::{collated_text, refusal_text};
 use crate::common::{setting, target_name};
-use collate_core::{Collated, Gcc, ProjectTarget, project};
+use collate_core::{Collated, ProjectTarget, project};
+use module_maps::Gcc;
 use ninja_text::Failure;
 use scan_docs::{Setting, TargetName};
 use std::alloc::{AllocError, Global};

@@ -3,9 +3,10 @@
 use super::{TWO_OBJECTS, TWO_OBJECTS_DYNDEP, graph_of, listing_of};
 use crate::common::{path, setting, target_name};
 use build_effect::{Graph, edge_order};
-use collate_core::{Collated, Gcc, RehearseFault, Target, check_edges, collate, rehearse};
+use collate_core::{Collated, RehearseFault, Target, check_edges, collate, rehearse};
 use dep_order::Sorting;
 use dyndep_file::ReadFault;
+use module_maps::Gcc;
 use ninja_text::Failure;
 use std::alloc::{AllocError, Global};
 use std::test::Fail;

@@ -2,10 +2,10 @@ use Rattle.std.proofs.Common.{rules, ◌≡◌, ℕ, ◌<◌, [], ◌∷◌, len
 use Rattle.ninja_text.specs.Failure.{ForFault}
 use Rattle.scan_docs.specs.Scan.{RuleValue}
 use Rattle.module_table.specs.TableValue.{TableValue}
+use Rattle.module_maps.specs.Maps.{Written}
+use Rattle.module_maps.specs.declared.module_map.MapFault.{MapFault}
 use Rattle.collate_core.proofs.ByIndex.{element_at}
-use Rattle.collate_core.specs.Maps.{Written}
 use Rattle.collate_core.specs.Refusals.{IsMapFault}
-use Rattle.collate_core.specs.declared.module_map.MapFault.{MapFault}
 use Rattle.collate_core.proofs.Parts.{EachMap, more_maps, map_before}
 use Rattle.collate_core.proofs.object_maps.texts_of.Goals as goal
 

@@ -4,8 +4,8 @@ use Rattle.std.specs.Option.{option_copied, option_map}
 use Rattle.std.proofs.lemmas.List.{take_all}
 use Rattle.std.proofs.lemmas.Option.{slice_get_read}
 use Rattle.ninja_text.specs.Failure.{ForFault}
+use Rattle.module_maps.specs.Maps.{Written}
 use Rattle.collate_core.specs.Values.{CollatedValue, ProjectTargetValue}
-use Rattle.collate_core.specs.Maps.{Written}
 use Rattle.collate_core.specs.Projects.{IsProject, IsLinkedRefusal}
 use Rattle.collate_core.specs.inner.Parts.{CollatesLinked}
 use Rattle.collate_core.proofs.Lists.{take_next}

@@ -3,7 +3,7 @@ use Rattle.std.specs.Prelude.{IfOk, slice_get}
 use Rattle.std.specs.declared.alloc.AllocError.{AllocError}
 use Rattle.std.proofs.lemmas.Result.{IfOk-weaker}
 use Rattle.ninja_text.specs.Failure.{ForFault}
-use Rattle.collate_core.specs.Maps.{Written}
+use Rattle.module_maps.specs.Maps.{Written}
 use Rattle.collate_core.specs.Projects.{IsProjectRefusal}
 use Rattle.commands.specs.CollateCommand.{style_of}
 use Rattle.collate_core.specs.declared.fault.Refusal.{Refusal}

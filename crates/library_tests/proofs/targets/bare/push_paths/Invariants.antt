@@ -1,6 +1,6 @@
 use Rattle.std.proofs.Common.{◌≡◌, ◌++◌, take}
 use Rattle.std.specs.List.{flat_map}
-use Rattle.collate_core.specs.MapLines.{ended}
+use Rattle.module_maps.specs.MapLines.{ended}
 use Rattle.library_tests.proofs.targets.bare.push_paths.Given as goal
 
 -- the lines so far

@@ -1,7 +1,0 @@
-use Rattle.std.proofs.Common.{◌≡◌, ◌++◌, take, map}
-use Rattle.collate_core.specs.MapLines.{named}
-use Rattle.collate_core.proofs.map_lines.push_named.Given as goal
-
--- the entries so far
-abbrev pub invariant-loop-pair : goal.invariant-loop-pair
-invariant-loop-pair l = l.entries.items ≡ l.initial.entries.items ++ map named (take l.pair-index l.pairs)

@@ -1,7 +1,0 @@
-use Rattle.std.proofs.Common.{◌≡◌, ◌++◌, take, map}
-use Rattle.collate_core.specs.MapLines.{nameless}
-use Rattle.collate_core.proofs.map_lines.push_nameless.Given as goal
-
--- the entries so far
-abbrev pub invariant-loop-pair : goal.invariant-loop-pair
-invariant-loop-pair l = l.entries.items ≡ l.initial.entries.items ++ map nameless (take l.pair-index l.pairs)

@@ -1,7 +1,0 @@
-use Rattle.std.proofs.Common.{ℕ, ◌<◌, List, get_or}
-use Rattle.collate_core.specs.Maps.{IsModule}
-use Rattle.collate_core.proofs.module_map.learn_modules.Given as goal
-
--- those so far are of names and paths
-abbrev pub invariant-loop-pair : goal.invariant-loop-pair
-invariant-loop-pair l = (k : ℕ) (d : List ℕ × List ℕ) → k < l.pair-index → IsModule (get_or l.pairs k d)

@@ -1,0 +1,6 @@
+use Rattle.std.proofs.Common.{◌≡◌, drop}
+use Rattle.module_maps.specs.MapLines.{first_unfit}
+use Rattle.module_maps.proofs.map_lines.unfit_in.Given as goal
+
+abbrev pub invariant-loop-pair : goal.invariant-loop-pair
+invariant-loop-pair l = first_unfit l.pairs ≡ first_unfit (drop l.pair-index l.pairs)

@@ -1,0 +1,65 @@
+use Rattle.std.proofs.Common.{◌≡◌, ℕ, zero, suc, ◌+◌, ◌-◌, ◌<◌, ◌≤◌, ◌⊎◌, List, length, Some, arith, ap, subst, sym, ◌∙◌, get_or, true, false, refl, slice_get, inl, inr}
+use Rattle.std.proofs.lemmas.Cmp.{nat_list_cmp_total}
+use Rattle.std.proofs.lemmas.Option.{slice_get_read, get_or_from_slice_get}
+use Rattle.module_maps.specs.Maps.{Precedes}
+use Rattle.module_maps.proofs.module_map.is_rising.Goals as goal
+
+-- a number up to another is below it, or is it
+up_to : (a n : ℕ) → a < n + 1 → (a < n) ⊎ (a ≡ n)
+up_to zero zero h = inr refl
+up_to zero (suc n) h = inl (omega arith)
+up_to (suc a) zero h = absurd (omega (arith, h))
+up_to (suc a) (suc n) h = elim (up_to a n (omega (arith, h))) [ inl less ↦ inl (omega (arith, less)) | inr same ↦ inr (ap suc same) ]
+
+abbrev Pairs : Type 0
+Pairs = List (List ℕ × List ℕ)
+
+-- the names before the index rise
+abbrev RiseBelow : Pairs → ℕ → Type 0
+RiseBelow xs n = (a b : ℕ) (d : List ℕ × List ℕ) → a < b → b < n → Precedes (get_or xs a d).0 (get_or xs b d).0
+
+-- each name before the index comes before the one at the index
+to_last : (xs : Pairs) (i : ℕ) (d : List ℕ × List ℕ) → 1 ≤ i → Precedes (get_or xs (i - 1) d).0 (get_or xs i d).0 → RiseBelow xs i → (a : ℕ) → a < i → Precedes (get_or xs a d).0 (get_or xs i d).0
+to_last xs i d some next rise a less =
+    elim (up_to a (i - 1) (omega (arith, some, less))) [
+      | inl before ↦ nat_list_cmp_total.trans (get_or xs a d).0 (get_or xs (i - 1) d).0 (get_or xs i d).0 (rise a (i - 1) d before (omega (arith, some))) next
+      | inr same ↦ subst (λ n. Precedes (get_or xs n d).0 (get_or xs i d).0) (sym same) next
+    ]
+
+rise_more : (xs : Pairs) (i : ℕ) (x y : List ℕ × List ℕ) → 1 ≤ i → slice_get xs (i - 1) ≡ Some x → slice_get xs i ≡ Some y → Precedes x.0 y.0 → RiseBelow xs i → RiseBelow xs (i + 1)
+rise_more xs i x y some at here next rise a b d less within =
+    let first : get_or xs (i - 1) d ≡ x = get_or_from_slice_get xs (i - 1) x d at in
+    let last : get_or xs i d ≡ y = get_or_from_slice_get xs i y d here in
+    let both : Precedes (get_or xs (i - 1) d).0 (get_or xs i d).0 = rw (first, last) next in
+    elim (up_to b i within) [
+      | inl before ↦ rise a b d less before
+      | inr same ↦ subst (λ n. Precedes (get_or xs a d).0 (get_or xs n d).0) (sym same) (to_last xs i d some both rise a (omega (arith, less, same)))
+    ]
+
+pub returns-then-not-precedes : goal.returns-then-not-precedes
+returns-then-not-precedes c =
+    let pairs : Pairs = c.args.pairs.now in
+    let i : ℕ = c.loop-i.i in
+    let x : List ℕ × List ℕ = c.index-pairs-i.result in
+    let y : List ℕ × List ℕ = c.index-pairs-i-in-loop-i.result in
+    let within : i < length pairs = omega arith in
+    let here : slice_get pairs i ≡ Some y = slice_get_read _ _ _ _ refl within c.index-pairs-i-in-loop-i.is in (
+      λ h. absurd (let e : false ≡ true = h in cc),
+      λ all.
+          let p : Precedes (get_or pairs (i - 1) x).0 (get_or pairs i x).0 = all (i - 1) i x (omega arith) within in
+          c.if-not-precedes.ensures.1 (subst (λ (z : List ℕ × List ℕ). Precedes (get_or pairs (i - 1) x).0 z.0) (get_or_from_slice_get pairs i y x here ∙ c.index-pairs-i-in-loop-i.is) p),
+    )
+
+pub loop-i-preserved : goal.loop-i-preserved
+loop-i-preserved c =
+    let pairs : Pairs = c.args.pairs.now in
+    let i : ℕ = c.loop-i.i in
+    let x : List ℕ × List ℕ = c.index-pairs-i.result in
+    let y : List ℕ × List ℕ = c.index-pairs-i-in-loop-i.result in
+    let within : i < length pairs = omega arith in
+    let some : 1 ≤ i = omega arith in
+    let before : i - 1 < length pairs = omega arith in
+    let at : slice_get pairs (i - 1) ≡ Some x = slice_get_read _ _ _ _ refl before c.index-pairs-i.is in
+    let here : slice_get pairs i ≡ Some y = slice_get_read _ _ _ _ refl within c.index-pairs-i-in-loop-i.is in
+    let next : Precedes x.0 y.0 = rw (c.index-pairs-i.is, c.index-pairs-i-in-loop-i.is) (c.if-not-precedes.ensures.0 refl) in
+    rise_more pairs i x y some at here next c.loop-i.invariant

@@ -1,0 +1,7 @@
+pub mod Values
+pub mod Maps
+pub mod MapLines
+pub mod GccMaps
+pub mod ClangMaps
+pub mod inner
+pub mod map_laws

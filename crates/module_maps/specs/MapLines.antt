@@ -1,0 +1,95 @@
+-- What the styles of module maps share: the paths that stand in a map, and how its lines are read.
+use Rattle.std.specs.Prelude.{ℕ, ◌+◌, ◌==◌, Bool, not, ◌&&◌, if◌then◌else◌, nat_le, List, [], ◌∷◌, ◌++◌, length, take, drop, option_map, Option, Some, None, Result, Ok, Err, bytes_eq, position}
+use Rattle.std.specs.List.{list_all, slice_split}
+use Rattle.std.specs.Str.{is_utf8}
+use Rattle.ninja_text.specs.Paths.{path_of, is_empty}
+use Rattle.ninja_text.specs.Bytes.{line_feed}
+use Rattle.ninja_text.specs.declared.paths.PathFault.{PathFault}
+use Rattle.scan_docs.specs.Name.{is_name}
+use Rattle.module_maps.specs.declared.module_map.MapEntry.{MapEntry}
+use Rattle.module_maps.specs.declared.module_map.MapFault.{MapFault}
+use Rattle.module_maps.specs.declared.module_map.MapFault.TheVariants.{BadMapLine}
+
+-- no control byte, no space, no 127, and none of `'`, `"` and `\`
+abbrev pub is_map_byte : ℕ → Bool
+is_map_byte b = nat_le 33 b && not (b == 127) && not (b == 39) && not (b == 34) && not (b == 92)
+
+-- whether a path can stand in a map
+abbrev pub is_fit : List ℕ → Bool
+is_fit path = list_all is_map_byte path
+
+-- the first of the paths that cannot
+abbrev pub first_unfit : List (List ℕ × List ℕ) → Option (List ℕ)
+first_unfit [] = None
+first_unfit (pair ∷ pairs) = if is_fit pair.1 then first_unfit pairs else Some pair.1
+
+abbrev pub is_line_end : ℕ → Bool
+is_line_end b = b == line_feed
+
+-- the lines of a text, without their ends, and behind them what follows the last end
+abbrev pub lines_of : List ℕ → List (List ℕ)
+lines_of text = slice_split is_line_end text
+
+-- the text as a path, if it is the canonical text of the path that it means
+abbrev pub canonical_in : List ℕ → Result (List ℕ) PathFault → Option (List ℕ)
+canonical_in text (Ok path) = if bytes_eq path text then Some text else None
+canonical_in text (Err fault) = None
+
+-- the text as a path of a map
+unfoldable pub path_in : List ℕ → Option (List ℕ)
+path_in text = if is_fit text then canonical_in text (path_of text) else None
+
+-- the text as a name of a module
+unfoldable pub name_in : List ℕ → Option (List ℕ)
+name_in text = if is_utf8 text && is_name text then Some text else None
+
+-- what stands before the first such byte, and what stands behind it
+abbrev pub cut : ℕ → List ℕ → Option (List ℕ × List ℕ)
+cut mark text = option_map (λ i. (take i text, drop (i + 1) text)) (position (λ b. b == mark) text)
+
+-- both, where both are there
+abbrev pub both : Option (List ℕ) → Option (List ℕ) → Option (List ℕ × List ℕ)
+both None path = None
+both (Some name) None = None
+both (Some name) (Some path) = Some (name, path)
+
+-- the name and the path that stand in two texts
+abbrev pub pair_of : Option (List ℕ × List ℕ) → Option (List ℕ × List ℕ)
+pair_of None = None
+pair_of (Some texts) = both (name_in texts.0) (path_in texts.1)
+
+-- the module in a text: a name, the first byte that is the mark, and a path
+unfoldable pub pair_in : ℕ → List ℕ → Option (List ℕ × List ℕ)
+pair_in mark text = pair_of (cut mark text)
+
+-- a line with its end
+abbrev pub ended : List ℕ → List ℕ
+ended line = line ++ line_feed ∷ []
+
+-- the entry of a module with its name, and without
+abbrev pub named : List ℕ × List ℕ → MapEntry
+named pair = record { name = Some pair.0; path = pair.1 }
+
+abbrev pub nameless : List ℕ × List ℕ → MapEntry
+nameless pair = record { name = None; path = pair.1 }
+
+-- what follows a prefix
+abbrev pub behind : List ℕ → List ℕ → Option (List ℕ)
+behind prefix text =
+    if bytes_eq (take (length prefix) text) prefix then Some (drop (length prefix) text) else None
+
+-- how a line is read, without its end, behind the entries of the lines before it
+abbrev pub LineForm : Type 0
+LineForm = List MapEntry → List ℕ → Option MapEntry
+
+-- The entries of earlier lines and of these, which are numbered on from n; the last is what follows
+-- the last line's end, and has to be empty.
+abbrev pub read_lines : LineForm → List MapEntry → ℕ → List (List ℕ) →
+    Result (List MapEntry) MapFault
+read_lines form entries n [] = Ok entries
+read_lines form entries n (last ∷ []) = if is_empty last then Ok entries else Err (BadMapLine n)
+read_lines form entries n (line ∷ next ∷ lines) =
+    elim (form entries line) [
+      | None ↦ Err (BadMapLine n)
+      | Some entry ↦ read_lines form (entries ++ entry ∷ []) (n + 1) (next ∷ lines)
+    ]

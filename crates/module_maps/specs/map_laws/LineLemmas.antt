@@ -1,0 +1,531 @@
+-- The lines of module maps.
+use Rattle.std.proofs.Common.{◌≡◌, ℕ, ◌+◌, ◌<◌, ◌==◌, ◌&&◌, Bool, true, false, cond, nat_lt, nat_le, List, [], ◌∷◌, ◌++◌, length, take, drop, get_or, Option, Some, None, Result, Ok, Err, refl, ap, ap₂, subst, sym, ◌∙◌, arith, position, IsTrue, map, append_assoc, append-nil, suc, eqb-true, length-append, codes}
+use Rattle.std.specs.Prelude.{⊤, bytes_eq, slice_get, IsUtf8, option_map, All}
+use Rattle.std.specs.List.{slice_split, onto_first, position_or_len, join_with_byte, list_all, count_by, flat_map, AllByRecursion}
+use Rattle.std.specs.Str.{is_utf8, IsAscii}
+use Rattle.std.specs.Option.{SomeIff}
+use Rattle.std.proofs.lemmas.List.Quantifiers.{position-Some}
+use Rattle.std.proofs.lemmas.List.Sums.{position_or_len_is, fails_before_first, AllPass-from_list_all}
+use Rattle.std.proofs.lemmas.List.Splits.{slice_split_first, slice_split_none, slice_split_at}
+use Rattle.std.proofs.Math.Seq.{get_or-append_seam, take-append_seam, drop-append-add, drop-cons}
+use Rattle.std.proofs.lemmas.Bool.{eq-eqb}
+use Rattle.std.proofs.lemmas.List.{get_or_append_left, take-append-drop}
+use Rattle.std.proofs.lemmas.List.Elements.{All-cons, All-nil, All-append}
+use Rattle.std.proofs.lemmas.Option.{slice_get-map}
+use Rattle.std.proofs.lemmas.Slice.Eq.{bytes_eq-Decides}
+use Rattle.std.proofs.lemmas.Str.Ascii.{IsAscii-cons, IsAscii-nil}
+use Rattle.std.proofs.lemmas.Str.{IsUtf8-from_ascii, IsUtf8-from_is_utf8, is_utf8-from_IsUtf8}
+use Rattle.ninja_text.specs.Paths.{path_of, is_empty, IsPath}
+use Rattle.ninja_text.specs.declared.paths.PathFault.{PathFault}
+use Rattle.scan_docs.specs.Name.{is_name, is_name_byte, is_not_empty, is_separator, name_limit}
+use Rattle.module_maps.specs.Maps.{IsModule, AreEntriesOf}
+use Rattle.module_maps.specs.MapLines.{is_map_byte, canonical_in, named, ended, is_fit, first_unfit, is_line_end, lines_of, name_in, path_in, cut, both, pair_of, pair_in, LineForm, read_lines}
+use Rattle.module_maps.specs.declared.module_map.MapEntry.{MapEntry}
+use Rattle.module_maps.specs.declared.module_map.MapFault.{MapFault}
+use Rattle.module_maps.specs.declared.module_map.MapFault.TheVariants.{BadMapLine}
+
+-- pairs of a name and a path
+abbrev pub Pairs : Type 0
+Pairs = List (List ℕ × List ℕ)
+
+-- each pair is a module
+abbrev pub AreModules : Pairs → Type 0
+AreModules pairs = AllByRecursion IsModule pairs
+
+-- the path of each pair can stand in a map
+abbrev pub AreFit : Pairs → Type 0
+AreFit pairs = AllByRecursion (λ pair. is_fit pair.1 ≡ true) pairs
+
+-- no byte of the text is the mark
+abbrev pub Lacks : ℕ → List ℕ → Type 0
+Lacks mark text = All (λ b. (b == mark) ≡ false) text
+
+-- ---- cutting a text
+
+-- what stands before the byte of this index, and what stands behind it
+abbrev parts_at : List ℕ → ℕ → List ℕ × List ℕ
+parts_at text i = (take i text, drop (i + 1) text)
+
+-- the text up to the index that is found
+cut-parts : (p : ℕ → Bool) (xs : List ℕ) (i : ℕ) → position p xs ≡ Some i →
+    slice_split p xs ≡ take i xs ∷ slice_split p (drop (i + 1) xs)
+cut-parts p xs i e =
+    let f = position-Some p xs i 0 e in
+    let at : position_or_len p xs ≡ i =
+    position_or_len_is p xs i 0 (omega (arith, f.0)) f.2 (λ _. f.1) in
+    let within : position_or_len p xs < length xs = rw at f.0 in
+    subst (λ n. slice_split p xs ≡ take n xs ∷ slice_split p (drop (n + 1) xs)) at
+    (slice_split_first p xs 0 within)
+
+pass-none : (p : ℕ → Bool) (xs : List ℕ) → position p xs ≡ None → All (λ x. p x ≡ false) xs
+pass-none p xs e k d within = by (nat_lt (position_or_len p xs) (length xs)) refl e
+  where
+    by : (t : Bool) → nat_lt (position_or_len p xs) (length xs) ≡ t →
+        cond t (Some (position_or_len p xs)) None ≡ None → p (get_or xs k d) ≡ false
+    by true is found = absurd (let no : Some (position_or_len p xs) ≡ None = found in cc)
+    by false is found = fails_before_first p xs k d (grind arith)
+
+cut-none : (p : ℕ → Bool) (xs : List ℕ) → position p xs ≡ None → slice_split p xs ≡ xs ∷ []
+cut-none p xs e = slice_split_none p xs (pass-none p xs e)
+
+-- the lines of a text that is cut so at its first line end
+abbrev HasLines : List ℕ → Option (List ℕ × List ℕ) → Type 0
+HasLines text None = lines_of text ≡ text ∷ []
+HasLines text (Some c) = lines_of text ≡ c.0 ∷ lines_of c.1
+
+-- what the index says of the lines
+by-index : (text : List ℕ) (index : Option ℕ) → position is_line_end text ≡ index →
+    (found : Option (List ℕ × List ℕ)) → option_map (parts_at text) index ≡ found →
+    HasLines text found
+by-index text None e None is = cut-none is_line_end text e
+by-index text None e (Some c) is = absurd cc
+by-index text (Some i) e None is = absurd cc
+by-index text (Some i) e (Some c) is =
+    let parts : parts_at text i ≡ c = cc in
+    subst (λ (z : List ℕ × List ℕ). lines_of text ≡ z.0 ∷ lines_of z.1) parts
+    (cut-parts is_line_end text i e)
+
+pub lines-cut : (text first more : List ℕ) → cut 10 text ≡ Some (first, more) →
+    lines_of text ≡ first ∷ lines_of more
+lines-cut text first more e =
+    by-index text (position is_line_end text) refl (Some (first, more)) e
+
+pub lines-whole : (text : List ℕ) → cut 10 text ≡ None → lines_of text ≡ text ∷ []
+lines-whole text e = by-index text (position is_line_end text) refl None e
+
+-- ---- the module in a text
+
+pub pair-of : (mark : ℕ) (text : List ℕ) (texts : Option (List ℕ × List ℕ)) →
+    cut mark text ≡ texts → pair_in mark text ≡ pair_of texts
+unfolding pair_in
+pair-of mark text texts e = ap pair_of e
+
+pub name-text : (text : List ℕ) (name : Option (List ℕ)) →
+    SomeIff name (IsTrue (is_name text)) text → IsUtf8 text → name ≡ name_in text
+unfolding name_in
+name-text text None not_name utf =
+    rw (is_utf8-from_IsUtf8 text utf) (by (is_name text) not_name)
+  where
+    by : (t : Bool) → (IsTrue t → ⊥) → None ≡ cond t (Some text) None
+    by true not_name = absurd (not_name refl)
+    by false not_name = refl
+name-text text (Some name) is utf = rw (is_utf8-from_IsUtf8 text utf) (by (is_name text) is.0)
+  where
+    by : (t : Bool) → IsTrue t → Some name ≡ cond t (Some text) None
+    by true holds = ap (λ n. Some n) is.1
+    by false holds = absurd cc
+
+pub name-other : (text : List ℕ) → (IsUtf8 text → ⊥) → None ≡ name_in text
+unfolding name_in
+name-other text other = by (is_utf8 text) refl
+  where
+    by : (t : Bool) → is_utf8 text ≡ t → None ≡ cond (t && is_name text) (Some text) None
+    by true is = absurd (other (IsUtf8-from_is_utf8 text is))
+    by false is = refl
+
+-- ---- paths that are unfit
+
+pub unfit-front : (xs ys : Pairs) (path : List ℕ) → first_unfit xs ≡ Some path →
+    first_unfit (xs ++ ys) ≡ Some path
+unfit-front [] ys path e = absurd cc
+unfit-front (x ∷ xs) ys path e = by (is_fit x.1) e (unfit-front xs ys path)
+  where
+    by : (t : Bool) → cond t (first_unfit xs) (Some x.1) ≡ Some path →
+        (first_unfit xs ≡ Some path → first_unfit (xs ++ ys) ≡ Some path) →
+        cond t (first_unfit (xs ++ ys)) (Some x.1) ≡ Some path
+    by true e more = more e
+    by false e more = e
+
+pub unfit-back : (xs ys : Pairs) → first_unfit xs ≡ None →
+    first_unfit (xs ++ ys) ≡ first_unfit ys
+unfit-back [] ys e = refl
+unfit-back (x ∷ xs) ys e = by (is_fit x.1) e (unfit-back xs ys)
+  where
+    by : (t : Bool) → cond t (first_unfit xs) (Some x.1) ≡ None →
+        (first_unfit xs ≡ None → first_unfit (xs ++ ys) ≡ first_unfit ys) →
+        cond t (first_unfit (xs ++ ys)) (Some x.1) ≡ first_unfit ys
+    by true e more = more e
+    by false e more = absurd cc
+
+-- ---- reading lines
+
+-- a text has a first line, or what stands for it
+pub some-line : (text : List ℕ) →
+    (line : List ℕ) × (lines : List (List ℕ)) × (lines_of text ≡ line ∷ lines)
+some-line [] = ([], [], refl)
+some-line (b ∷ bs) =
+    let more = some-line bs in
+    by (is_line_end b) (lines_of bs) more.0 more.1 more.2
+  where
+    by : (t : Bool) (parts : List (List ℕ)) (line : List ℕ) (lines : List (List ℕ)) →
+        parts ≡ line ∷ lines →
+        (first : List ℕ) × (rest : List (List ℕ))
+        × (cond t ([] ∷ parts) (onto_first b parts) ≡ first ∷ rest)
+    by true parts line lines e = ([], parts, refl)
+    by false parts line lines e = (b ∷ line, lines, ap (onto_first b) e)
+
+-- how reading goes on behind a line with this entry, or with none
+abbrev read_on : LineForm → List MapEntry → ℕ → List (List ℕ) → Option MapEntry →
+    Result (List MapEntry) MapFault
+read_on form entries n lines None = Err (BadMapLine n)
+read_on form entries n lines (Some entry) =
+    read_lines form (entries ++ entry ∷ []) (n + 1) lines
+
+-- a line is followed by others, if not by an empty one
+line-then : (form : LineForm) (entries : List MapEntry) (n : ℕ) (line text : List ℕ) →
+    read_lines form entries n (line ∷ lines_of text) ≡
+    read_on form entries n (lines_of text) (form entries line)
+line-then form entries n line text =
+    let some = some-line text in
+    subst (λ parts. read_lines form entries n (line ∷ parts) ≡
+    read_on form entries n parts (form entries line)) (sym some.2) refl
+
+-- one line is read, and lines follow
+pub line-read : (form : LineForm) (entries : List MapEntry) (n : ℕ) (line text : List ℕ)
+    (entry : MapEntry) → form entries line ≡ Some entry →
+    read_lines form entries n (line ∷ lines_of text) ≡
+    read_lines form (entries ++ entry ∷ []) (n + 1) (lines_of text)
+line-read form entries n line text entry e =
+    line-then form entries n line text ∙ ap (read_on form entries n (lines_of text)) e
+
+pub line-bad : (form : LineForm) (entries : List MapEntry) (n : ℕ) (line text : List ℕ) →
+    form entries line ≡ None →
+    read_lines form entries n (line ∷ lines_of text) ≡ Err (BadMapLine n)
+line-bad form entries n line text e =
+    line-then form entries n line text ∙ ap (read_on form entries n (lines_of text)) e
+
+-- ---- what was written is read
+
+-- bytes of which a test holds are none of those of which it does not
+pub lacks : (test : ℕ → Bool) (mark : ℕ) → test mark ≡ false → (xs : List ℕ) →
+    list_all test xs ≡ true → Lacks mark xs
+lacks test mark outside xs all k d within = by (get_or xs k d == mark) refl
+  where
+    holds : test (get_or xs k d) ≡ true
+    holds = AllPass-from_list_all test xs all k d within
+
+    by : (t : Bool) → (get_or xs k d == mark) ≡ t → (get_or xs k d == mark) ≡ false
+    by true is =
+        let same : get_or xs k d ≡ mark = eqb-true (get_or xs k d) mark is in
+        let both : test mark ≡ true = subst (λ x. test x ≡ true) same holds in
+        absurd cc
+    by false is = is
+
+-- a text is cut behind what lacks the mark
+cut-at : (mark : ℕ) (first rest : List ℕ) → Lacks mark first →
+    cut mark (first ++ mark ∷ rest) ≡ Some (first, rest)
+cut-at mark first rest none =
+    let text : List ℕ = first ++ mark ∷ rest in
+    let p : ℕ → Bool = (λ b. b == mark) in
+    let size : length text ≡ length first + length (mark ∷ rest) =
+    length-append first (mark ∷ rest) in
+    let more : length (mark ∷ rest) ≡ suc (length rest) = refl in
+    let index : position_or_len p text ≡ length first =
+    position_or_len_is p text (length first) 0 (omega (arith, size))
+    (λ k less. ap p (get_or_append_left first (mark ∷ rest) 0 k less) ∙ none k 0 less)
+    (λ _. ap p (get_or-append_seam first mark rest 0) ∙ eq-eqb mark mark refl) in
+    let before : position_or_len p text < length text = omega (arith, size, more, index) in
+    let within : nat_lt (position_or_len p text) (length text) ≡ true = grind (arith, before) in
+    let found : position p text ≡ Some (length first) =
+    ap (λ t. cond t (Some (position_or_len p text)) None) within ∙ ap (λ n. Some n) index in
+    ap (option_map (parts_at text)) found
+    ∙ ap₂ (λ (a b : List ℕ). Some (a, b)) (take-append_seam first (mark ∷ rest))
+    (drop-append-add first (mark ∷ rest) 1)
+
+-- the last of five tests
+last-test : (a b c d e : Bool) → (a && b && c && d && e) ≡ true → e ≡ true
+last-test a b c d true h = refl
+last-test a b c d false h = grind (arith, h)
+
+pub name-bytes : (text : List ℕ) → is_name text ≡ true → list_all is_name_byte text ≡ true
+unfolding is_name
+name-bytes text h =
+    last-test (nat_le 1 (length text)) (nat_le (length text) name_limit)
+    (nat_le (count_by (λ b. b == 58) text) 1)
+    (list_all is_not_empty (slice_split is_separator text)) (list_all is_name_byte text) h
+
+-- a name has none of the bytes that no name has
+name-lacks : (mark : ℕ) (name : List ℕ) → is_name_byte mark ≡ false → is_name name ≡ true →
+    Lacks mark name
+name-lacks mark name outside is = lacks is_name_byte mark outside name (name-bytes name is)
+
+-- a path of a map has none of the bytes that no such path has
+pub fit-lacks : (mark : ℕ) (path : List ℕ) → is_map_byte mark ≡ false → is_fit path ≡ true →
+    Lacks mark path
+fit-lacks mark path outside fit = lacks is_map_byte mark outside path fit
+
+-- the bytes of the two are none that neither may have
+pub pair-lacks : (mark between : ℕ) (pair : List ℕ × List ℕ) → is_name_byte mark ≡ false →
+    is_map_byte mark ≡ false → (between == mark) ≡ false → IsModule pair →
+    is_fit pair.1 ≡ true → Lacks mark (pair.0 ++ between ∷ pair.1)
+pair-lacks mark between pair no_name no_path other is fit =
+    let IsOther : ℕ → Type 0 = λ b. (b == mark) ≡ false in
+    All-append IsOther pair.0 (between ∷ pair.1) (name-lacks mark pair.0 no_name is.name)
+    (All-cons IsOther between pair.1 other (fit-lacks mark pair.1 no_path fit))
+
+pub path-back : (text : List ℕ) → IsPath text → is_fit text ≡ true → path_in text ≡ Some text
+unfolding path_in
+path-back text is fit =
+    ap (λ t. cond t (canonical_in text (path_of text)) None) fit ∙ ap (canonical_in text) is
+    ∙ ap (λ t. cond t (Some text) None) ((bytes_eq-Decides text text).1 refl)
+
+-- a name that is text and a path that fits are read again
+pub pair-back : (mark : ℕ) (pair : List ℕ × List ℕ) → is_name_byte mark ≡ false →
+    IsModule pair → is_fit pair.1 ≡ true →
+    pair_in mark (pair.0 ++ mark ∷ pair.1) ≡ Some pair
+pair-back mark pair outside is fit =
+    pair-of mark (pair.0 ++ mark ∷ pair.1) (Some pair)
+    (cut-at mark pair.0 pair.1 (name-lacks mark pair.0 outside is.name))
+    ∙ ap₂ both (sym (name-text pair.0 (Some pair.0) (is.name, refl) is.text))
+    (path-back pair.1 is.path fit)
+
+pub all-each : {X : Type 0} (P : X → Type 0) (xs : List X) → All P xs → AllByRecursion P xs
+all-each P [] all = tt
+all-each P (x ∷ xs) all =
+    (all 0 x (omega arith), all-each P xs (λ k d less. all (suc k) d (omega (arith, less))))
+
+-- the lines of things, each with its end
+abbrev pub text_of : {X : Type 0} → (X → List ℕ) → List X → List ℕ
+text_of line xs = flat_map (λ x. ended (line x)) xs
+
+-- each line is read as its entry, behind those before it
+abbrev pub ReadsEach : {X : Type 0} → LineForm → (X → List ℕ) → (X → MapEntry) →
+    List MapEntry → List X → Type 0
+ReadsEach form line entry entries [] = ⊤
+ReadsEach form line entry entries (x ∷ xs) =
+    (form entries (line x) ≡ Some (entry x)) × Lacks 10 (line x)
+    × ReadsEach form line entry (entries ++ entry x ∷ []) xs
+
+pub lines-back : {X : Type 0} (form : LineForm) (line : X → List ℕ) (entry : X → MapEntry)
+    (entries : List MapEntry) (n : ℕ) (xs : List X) → ReadsEach form line entry entries xs →
+    read_lines form entries n (lines_of (text_of line xs)) ≡ Ok (entries ++ map entry xs)
+lines-back form line entry entries n [] reads = ap Ok (sym (append-nil entries))
+lines-back form line entry entries n (x ∷ xs) reads =
+    let rest : List ℕ = text_of line xs in
+    ap (λ t. read_lines form entries n (lines_of t)) (append_assoc (line x) (10 ∷ []) rest)
+    ∙ ap (read_lines form entries n)
+    (slice_split_at is_line_end (line x) 10 rest reads.1 refl)
+    ∙ line-read form entries n (line x) rest (entry x) reads.0
+    ∙ lines-back form line entry (entries ++ entry x ∷ []) (n + 1) xs reads.2
+    ∙ ap Ok (append_assoc entries (entry x ∷ []) (map entry xs))
+
+-- no path is unfit
+pub each-fit : (pairs : Pairs) → first_unfit pairs ≡ None → AreFit pairs
+each-fit [] e = tt
+each-fit (x ∷ xs) e = by (is_fit x.1) refl e (each-fit xs)
+  where
+    by : (t : Bool) → is_fit x.1 ≡ t → cond t (first_unfit xs) (Some x.1) ≡ None →
+        (first_unfit xs ≡ None → AreFit xs) → (is_fit x.1 ≡ true) × AreFit xs
+    by true is e more = (is, more e)
+    by false is e more = absurd cc
+
+-- the entries of modules with their names
+pub named-pairs : (pairs : Pairs) → AreEntriesOf pairs (map named pairs)
+named-pairs pairs = record {
+  paths = paths-of pairs;
+  names = λ k e name here given.
+      at k e name (slice_get pairs k) refl (sym (slice_get-map named pairs k) ∙ here) given;
+}
+  where
+    paths-of : (ps : Pairs) → map (λ e. e.path) (map named ps) ≡ map (λ p. p.1) ps
+    paths-of [] = refl
+    paths-of (x ∷ xs) = ap (λ ps. x.1 ∷ ps) (paths-of xs)
+
+    at : (k : ℕ) (e : MapEntry) (name : List ℕ) (o : Option (List ℕ × List ℕ)) →
+        slice_get pairs k ≡ o → option_map named o ≡ Some e → e.name ≡ Some name →
+        (path : List ℕ) × (slice_get pairs k ≡ Some (name, path))
+    at k e name None is here given = absurd cc
+    at k e name (Some pair) is here given =
+        let entry : named pair ≡ e = cc in
+        let same : Some pair.0 ≡ Some name = ap (λ (z : MapEntry). z.name) entry ∙ given in
+        let first : pair.0 ≡ name = cc in
+        (pair.1, is ∙ ap (λ n. Some (n, pair.1)) first)
+
+-- ---- what is read was written
+
+-- a text that is cut is what stands before the mark, the mark, and what stands behind it
+cut-whole : (mark : ℕ) (text first rest : List ℕ) → cut mark text ≡ Some (first, rest) →
+    text ≡ first ++ mark ∷ rest
+cut-whole mark text first rest e = by (position (λ b. b == mark) text) refl e
+  where
+    by : (index : Option ℕ) → position (λ b. b == mark) text ≡ index →
+        option_map (parts_at text) index ≡ Some (first, rest) → text ≡ first ++ mark ∷ rest
+    by None is found = absurd cc
+    by (Some i) is found =
+        let facts = position-Some (λ b. b == mark) text i 0 is in
+        let within : i < length text = facts.0 in
+        let next : suc i ≡ i + 1 = omega arith in
+        let here : get_or text i 0 ≡ mark = eqb-true (get_or text i 0) mark facts.1 in
+        let parts : parts_at text i ≡ (first, rest) = cc in
+        let front : take i text ≡ first = ap (λ (p : List ℕ × List ℕ). p.0) parts in
+        let back : drop (i + 1) text ≡ rest = ap (λ (p : List ℕ × List ℕ). p.1) parts in
+        let behind : drop i text ≡ mark ∷ rest =
+        drop-cons text i 0 within
+        ∙ ap₂ (λ (x : ℕ) (t : List ℕ). x ∷ t) here (ap (λ n. drop n text) next ∙ back) in
+        sym (take-append-drop i text) ∙ ap (λ t. take i text ++ t) behind
+        ∙ ap (λ t. t ++ mark ∷ rest) front
+
+-- the name is the text, which is one
+abbrev IsNameOf : List ℕ → List ℕ → Type 0
+IsNameOf text name = (name ≡ text) × IsTrue (is_name text) × IsUtf8 text
+
+name-is : (text name : List ℕ) → name_in text ≡ Some name → IsNameOf text name
+unfolding name_in
+name-is text name e = by (is_utf8 text) (is_name text) refl refl e
+  where
+    by : (u n : Bool) → is_utf8 text ≡ u → is_name text ≡ n →
+        cond (u && n) (Some text) None ≡ Some name → IsNameOf text name
+    by true true utf is found =
+        let same : text ≡ name = cc in
+        (sym same, is, IsUtf8-from_is_utf8 text utf)
+    by true false utf is found = absurd cc
+    by false n utf is found = absurd cc
+
+-- the path is the text, which is one and can stand in a map
+abbrev pub IsPathOf : List ℕ → List ℕ → Type 0
+IsPathOf text path = (path ≡ text) × IsPath text × (is_fit text ≡ true)
+
+pub path-is : (text path : List ℕ) → path_in text ≡ Some path → IsPathOf text path
+unfolding path_in
+path-is text path e = by (is_fit text) (path_of text) refl refl e
+  where
+    at : (fit : is_fit text ≡ true) (p : List ℕ) → path_of text ≡ Ok p →
+        (t : Bool) → bytes_eq p text ≡ t → cond t (Some text) None ≡ Some path →
+        IsPathOf text path
+    at fit p is true same found =
+        let e : text ≡ path = cc in
+        (sym e, is ∙ ap (λ t. Ok t) ((bytes_eq-Decides p text).0 same), fit)
+    at fit p is false same found = absurd cc
+
+    by : (f : Bool) (r : Result (List ℕ) PathFault) → is_fit text ≡ f → path_of text ≡ r →
+        cond f (canonical_in text r) None ≡ Some path → IsPathOf text path
+    by false r fit is found = absurd cc
+    by true (Err fault) fit is found = absurd cc
+    by true (Ok p) fit is found = at fit p is (bytes_eq p text) refl found
+
+-- a path that was read without a name is that of a module
+pub some-module : (path : List ℕ) → IsPath path → IsModule (codes "A", path)
+unfolding is_name
+some-module path is =
+    record { name = refl; text = IsUtf8-from_ascii (codes "A") ascii; path = is }
+  where
+    ascii : IsAscii (codes "A")
+    ascii = IsAscii-cons 65 [] (omega arith) IsAscii-nil
+
+-- the text is what is written of the pair, which is a module that can stand in a map
+abbrev pub IsPairOf : ℕ → List ℕ → List ℕ × List ℕ → Type 0
+IsPairOf mark text pair =
+    (text ≡ pair.0 ++ mark ∷ pair.1) × IsModule pair × (is_fit pair.1 ≡ true)
+
+pub pair-is : (mark : ℕ) (text : List ℕ) (pair : List ℕ × List ℕ) →
+    pair_in mark text ≡ Some pair → IsPairOf mark text pair
+pair-is mark text pair e = by (cut mark text) refl
+  where
+    parts : (name file : List ℕ) → cut mark text ≡ Some (name, file) →
+        (n p : Option (List ℕ)) → name_in name ≡ n → path_in file ≡ p → both n p ≡ Some pair →
+        IsPairOf mark text pair
+    parts name file is None p en ep found = absurd cc
+    parts name file is (Some n) None en ep found = absurd cc
+    parts name file is (Some n) (Some p) en ep found =
+        let of_name = name-is name n en in
+        let of_path = path-is file p ep in
+        let same : (n, p) ≡ pair = cc in
+        let pairs : (name, file) ≡ pair =
+        ap₂ (λ (x y : List ℕ). (x, y)) (sym of_name.0) (sym of_path.0) ∙ same in
+        let is_module : IsModule (name, file) =
+        record { name = of_name.1; text = of_name.2; path = of_path.1 } in
+        subst (λ (z : List ℕ × List ℕ). IsPairOf mark text z) pairs
+        (cut-whole mark text name file is, is_module, of_path.2)
+
+    by : (o : Option (List ℕ × List ℕ)) → cut mark text ≡ o → IsPairOf mark text pair
+    by None is = absurd (let no : None ≡ Some pair = sym (pair-of mark text None is) ∙ e in cc)
+    by (Some c) is =
+        parts c.0 c.1 is (name_in c.0) (path_in c.1) refl refl
+        (sym (pair-of mark text (Some c) is) ∙ e)
+
+-- of each thing this holds, behind the entries of those before it
+abbrev pub EachBehind : {X : Type 0} → (X → MapEntry) → (List MapEntry → X → Type 0) →
+    List MapEntry → List X → Type 0
+EachBehind entry Q entries [] = ⊤
+EachBehind entry Q entries (x ∷ xs) =
+    Q entries x × EachBehind entry Q (entries ++ entry x ∷ []) xs
+
+-- Entries that were read behind others are those of what was written in these lines.
+pub record AreWritten {X : Type 0} (line : X → List ℕ) (entry : X → MapEntry)
+    (Q : List MapEntry → X → Type 0) (entries : List MapEntry) (lines : List (List ℕ))
+    (found : List MapEntry) : Type 0 where
+  pub xs : List X
+  pub text : join_with_byte 10 lines ≡ text_of line xs
+  pub all : found ≡ entries ++ map entry xs
+  pub each : EachBehind entry Q entries xs
+
+-- the text is the line of a thing with this entry, of which this holds behind earlier entries
+abbrev pub IsLineOf : {X : Type 0} → (X → List ℕ) → (X → MapEntry) →
+    (List MapEntry → X → Type 0) → List MapEntry → List ℕ → MapEntry → Type 0
+IsLineOf {X} line entry Q entries text e =
+    (x : X) × (text ≡ line x) × (e ≡ entry x) × Q entries x
+
+empty-is : (xs : List ℕ) → is_empty xs ≡ true → xs ≡ []
+empty-is [] e = refl
+empty-is (x ∷ xs) e = absurd cc
+
+-- nothing was written where no line is read
+none-written : {X : Type 0} (line : X → List ℕ) (entry : X → MapEntry)
+    (Q : List MapEntry → X → Type 0) (entries : List MapEntry) (lines : List (List ℕ))
+    (found : List MapEntry) → join_with_byte 10 lines ≡ [] → entries ≡ found →
+    AreWritten line entry Q entries lines found
+none-written line entry Q entries lines found empty same =
+    record { xs = []; text = empty; all = sym same ∙ sym (append-nil entries); each = tt }
+
+pub lines-only : {X : Type 0} (form : LineForm) (line : X → List ℕ) (entry : X → MapEntry)
+    (Q : List MapEntry → X → Type 0) →
+    ((entries : List MapEntry) (text : List ℕ) (e : MapEntry) →
+    form entries text ≡ Some e → IsLineOf line entry Q entries text e) →
+    (entries : List MapEntry) (n : ℕ) (lines : List (List ℕ)) (found : List MapEntry) →
+    read_lines form entries n lines ≡ Ok found → AreWritten line entry Q entries lines found
+lines-only form line entry Q back entries n [] found e =
+    let same : entries ≡ found = cc in
+    none-written line entry Q entries [] found refl same
+lines-only {X} form line entry Q back entries n (last ∷ []) found e =
+    by (is_empty last) refl e
+  where
+    by : (t : Bool) → is_empty last ≡ t →
+        cond t (Ok entries) (Err (BadMapLine n)) ≡ Ok found →
+        AreWritten line entry Q entries (last ∷ []) found
+    by true is read =
+        let same : entries ≡ found = cc in
+        none-written line entry Q entries (last ∷ []) found (empty-is last is) same
+    by false is read = absurd cc
+lines-only {X} form line entry Q back entries n (first ∷ next ∷ lines) found e =
+    by (form entries first) refl e
+    (λ z. lines-only form line entry Q back (entries ++ z ∷ []) (n + 1) (next ∷ lines) found)
+  where
+    by : (o : Option MapEntry) → form entries first ≡ o →
+        read_on form entries n (next ∷ lines) o ≡ Ok found →
+        ((z : MapEntry) → read_lines form (entries ++ z ∷ []) (n + 1) (next ∷ lines) ≡ Ok found →
+        AreWritten line entry Q (entries ++ z ∷ []) (next ∷ lines) found) →
+        AreWritten line entry Q entries (first ∷ next ∷ lines) found
+    by None is read more = absurd cc
+    by (Some z) is read more =
+        let one = back entries first z is in
+        let rest = more z read in
+        record {
+          xs = one.0 ∷ rest.xs;
+          text = ap₂ (λ (a b : List ℕ). a ++ 10 ∷ b) one.1 rest.text
+              ∙ sym (append_assoc (line one.0) (10 ∷ []) (text_of line rest.xs));
+          all = rest.all ∙ append_assoc entries (z ∷ []) (map entry rest.xs)
+              ∙ ap (λ y. entries ++ y ∷ map entry rest.xs) one.2;
+          each = (
+            one.3,
+            subst (λ y. EachBehind entry Q (entries ++ y ∷ []) rest.xs) one.2 rest.each,
+          );
+        }
+
+pub each-all : {X : Type 0} (P : X → Type 0) (xs : List X) → AllByRecursion P xs → All P xs
+each-all P [] each = All-nil P
+each-all P (x ∷ xs) each = All-cons P x xs each.0 (each-all P xs each.1)
+
+pub none-unfit : (pairs : Pairs) → AreFit pairs → first_unfit pairs ≡ None
+none-unfit [] fits = refl
+none-unfit (x ∷ xs) fits =
+    ap (λ t. cond t (first_unfit xs) (Some x.1)) fits.0 ∙ none-unfit xs fits.1

@@ -1,0 +1,205 @@
+//! The maps of Clang.
+ghost use Rattle.std.specs.Prelude.{◌≡◌, ◌++◌, ◌-◌, map, length, slice_get, option_copied, IfOk, OnOk};
+ghost use Rattle.std.specs.List.{flat_map};
+ghost use Rattle.ninja_text.specs.Failure.{Gives};
+ghost use Rattle.module_maps.specs.MapLines.{ended, behind, lines_of};
+ghost use Rattle.module_maps.specs.ClangMaps.{file_flag, file_line, file_pair, output_flag, output_path, output_text, clang_text, rises_behind, read_provided};
+
+use crate::map_lines::{
+    LineForm, cut_line, first_unfit, lines_len, pair_in, path_in, push_named, push_nameless,
+    read_lines,
+};
+use crate::map_style::MapStyle;
+use crate::module_map::{MapEntry, MapFault, ModuleMap};
+use ninja_text::{Failure, Path};
+use scan_docs::Name;
+use std::alloc::{AllocError, Global};
+use std::cmp::Ordering;
+
+/// The style of Clang, for a response file (Clang documentation, "Standard C++ Modules"): where a
+/// module is provided, the lines `-x c++-module` and `-fmodule-output=PATH`; then for each needed
+/// module `-fmodule-file=NAME=PATH`. A map keeps no name of the provided module, and fits where its
+/// paths need no quotes and at most one module is provided.
+pub struct Clang;
+
+impl MapStyle for Clang {
+    ghost use Rattle.module_maps.specs.ClangMaps.{clang_written, clang_kept, clang_entries};
+    ghost use Rattle.module_maps.specs.map_laws.ClangLemmas.{clang-back, clang-only, clang-pairs};
+
+    ghost written = { λ _ m. clang_written m };
+
+    ghost kept = { λ _ m. clang_kept m };
+
+    ghost entries = { λ _ text. clang_entries text };
+
+    ghost reads_back = { λ s m text is e. clang-back m text is e };
+
+    ghost reads_only = { λ s text found e. clang-only text found e };
+
+    ghost keeps_pairs = { λ s m is. clang-pairs m };
+
+    fn fits(&self, map: &ModuleMap) -> bool {
+        first_unfit(map).is_none() && map.provided().len() <= 1
+    }
+
+    fn keeps(&self, alloc: Global, map: &ModuleMap) -> Result<Vec<MapEntry>, AllocError> {
+        let mut entries = Vec::new(alloc);
+        push_nameless(alloc, &mut entries, map.provided())?;
+        push_named(alloc, &mut entries, map.needed())?;
+        Ok(entries)
+    }
+
+    fn write(&self, alloc: Global, map: &ModuleMap) -> Result<Vec<u8>, Failure<MapFault>> {
+        match first_unfit(map) {
+            Some(path) => {
+                let path = path.copy(alloc)?;
+                Err(Failure::Fault(MapFault::MapPath { path }))
+            }
+            None => {
+                if map.provided().len() > 1 {
+                    return Err(Failure::Fault(MapFault::TwoProvided));
+                }
+                let text = text_of(alloc, map)?;
+                Ok(text)
+            }
+        }
+    }
+
+    fn read(&self, alloc: Global, text: &[u8]) -> Result<Vec<MapEntry>, Failure<MapFault>> {
+        match cut_line(text) {
+            Some((first, rest)) => {
+                if first == b"-x c++-module".as_slice() {
+                    read_provided(alloc, rest)
+                } else {
+                    read_lines(alloc, self, Vec::new(alloc), 1, text)
+                }
+            }
+            None => read_lines(alloc, self, Vec::new(alloc), 1, text),
+        }
+    }
+}
+
+/// The lines of needed modules.
+impl LineForm for Clang {
+    ghost use Rattle.module_maps.specs.ClangMaps.{clang_form};
+
+    ghost form = { λ _. clang_form };
+
+    fn entry(
+        &self,
+        alloc: Global,
+        entries: &[MapEntry],
+        line: &[u8],
+    ) -> Result<Option<MapEntry>, AllocError> {
+        match file_pair(alloc, line)? {
+            Some((name, path)) => {
+                if rises_behind(entries, &name) {
+                    Ok(Some(MapEntry {
+                        name: Some(name),
+                        path,
+                    }))
+                } else {
+                    Ok(None)
+                }
+            }
+            None => Ok(None),
+        }
+    }
+}
+
+/// The lines behind the first, which says that a module is provided.
+fn read_provided(alloc: Global, text: &[u8]) -> Result<Vec<MapEntry>, Failure<MapFault>>
+    ensures { Gives (λ found. found.items) result (read_provided (lines_of text.now)) }
+{
+    match cut_line(text) {
+        Some((line, rest)) => match output_path(alloc, line)? {
+            Some(path) => {
+                let mut entries = Vec::new(alloc);
+                entries.push(MapEntry { name: None, path })?;
+                read_lines(alloc, &Clang, entries, 3, rest)
+            }
+            None => Err(Failure::Fault(MapFault::BadMapLine { line: 2 })),
+        },
+        None => Err(Failure::Fault(MapFault::BadMapLine { line: 2 })),
+    }
+}
+
+/// The path of a provided module's line.
+fn output_path(alloc: Global, line: &[u8]) -> Result<Option<Path>, AllocError>
+    ensures { IfOk result (λ path. path ≡ output_path (behind output_flag line.now)) }
+{
+    match behind(b"-fmodule-output=", line) {
+        Some(rest) => path_in(alloc, rest),
+        None => Ok(None),
+    }
+}
+
+/// The module of a needed module's line.
+fn file_pair(alloc: Global, line: &[u8]) -> Result<Option<(Name, Path)>, AllocError>
+    ensures { IfOk result (λ pair. pair ≡ file_pair (behind file_flag line.now)) }
+{
+    match behind(b"-fmodule-file=", line) {
+        Some(rest) => pair_in(alloc, b'=', rest),
+        None => Ok(None),
+    }
+}
+
+/// What follows a prefix.
+fn behind<'t>(prefix: &[u8], text: &'t [u8]) -> Option<&'t [u8]>
+    ensures { option_copied result ≡ behind prefix.now text.now }
+{
+    text.strip_prefix(prefix)
+}
+
+/// Whether a name comes behind that of the last entry, if it has one.
+fn rises_behind(entries: &[MapEntry], name: &Name) -> bool
+    ensures { result ≡ rises_behind (slice_get entries.now (length entries.now - 1)) name.now }
+{
+    match entries.last() {
+        Some(entry) => match &entry.name {
+            Some(before) => match before.cmp(name) {
+                Ordering::Less => true,
+                _ => false,
+            },
+            None => true,
+        },
+        None => true,
+    }
+}
+
+/// The lines of a map.
+fn text_of(alloc: Global, map: &ModuleMap) -> Result<Vec<u8>, AllocError>
+    ensures { IfOk result (λ text. text.items ≡ clang_text map.now) }
+{
+    let outputs = lines_len(map.provided(), b"-x c++-module\n-fmodule-output=\n".len());
+    let files = lines_len(map.needed(), b"-fmodule-file==\n".len());
+    let mut text = Vec::with_capacity(alloc, outputs.saturating_add(files))?;
+    push_outputs(&mut text, map.provided())?;
+    push_files(&mut text, map.needed())?;
+    Ok(text)
+}
+
+fn push_outputs(text: &mut Vec<u8>, pairs: &[(Name, Path)]) -> Result<(), AllocError>
+    ensures { OnOk result (text.new.items ≡ text.old.items ++ flat_map output_text pairs.now) }
+{
+    for pair in pairs {
+        text.extend_from_slice(b"-x c++-module\n-fmodule-output=")?;
+        text.extend_from_slice(pair.1.bytes())?;
+        text.push(b'\n')?;
+    }
+    Ok(())
+}
+
+fn push_files(text: &mut Vec<u8>, pairs: &[(Name, Path)]) -> Result<(), AllocError>
+    ensures { OnOk result (text.new.items ≡
+        text.old.items ++ flat_map (λ pair. ended (file_line pair)) pairs.now) }
+{
+    for pair in pairs {
+        text.extend_from_slice(b"-fmodule-file=")?;
+        text.extend_from_slice(pair.0.text().as_bytes())?;
+        text.push(b'=')?;
+        text.extend_from_slice(pair.1.bytes())?;
+        text.push(b'\n')?;
+    }
+    Ok(())
+}

@@ -1,0 +1,111 @@
+//! The maps of GCC.
+ghost use Rattle.std.specs.Prelude.{◌≡◌, ◌++◌, ℕ, List, Ok, IfOk, OnOk};
+ghost use Rattle.std.specs.List.{flat_map};
+ghost use Rattle.module_maps.specs.Maps.{pairs_of};
+ghost use Rattle.module_maps.specs.MapLines.{ended};
+ghost use Rattle.module_maps.specs.GccMaps.{gcc_line};
+ghost use Rattle.module_maps.specs.declared.module_map.MapEntry.{MapEntry};
+
+use crate::map_lines::{LineForm, first_unfit, lines_len, pair_in, push_named, read_lines};
+use crate::map_style::MapStyle;
+use crate::module_map::{MapEntry, MapFault, ModuleMap};
+use ninja_text::{Failure, Path};
+use scan_docs::Name;
+use std::alloc::{AllocError, Global};
+
+/// The style of GCC's module mapper files (GCC manual, "C++ Module Mapper"): for each module a line
+/// with its name, a space and its path. A map keeps all names, and fits where no path has a byte
+/// below 33, 127, or one of `'`, `"`, `\`.
+pub struct Gcc;
+
+impl MapStyle for Gcc {
+    ghost use Rattle.module_maps.specs.GccMaps.{gcc_written, gcc_kept, gcc_entries};
+    ghost use Rattle.module_maps.specs.map_laws.GccLemmas.{gcc-back, gcc-only, gcc-pairs};
+
+    ghost written = { λ _ m. gcc_written m };
+
+    ghost kept = { λ _ m. gcc_kept m };
+
+    ghost entries = { λ _ text. gcc_entries text };
+
+    ghost reads_back = { λ s m text is e. gcc-back m text is e };
+
+    ghost reads_only = { λ s text found e. gcc-only text found e };
+
+    ghost keeps_pairs = { λ s m is. gcc-pairs m };
+
+    fn fits(&self, map: &ModuleMap) -> bool {
+        first_unfit(map).is_none()
+    }
+
+    fn keeps(&self, alloc: Global, map: &ModuleMap) -> Result<Vec<MapEntry>, AllocError> {
+        let mut entries = Vec::new(alloc);
+        push_named(alloc, &mut entries, map.provided())?;
+        push_named(alloc, &mut entries, map.needed())?;
+        Ok(entries)
+    }
+
+    fn write(&self, alloc: Global, map: &ModuleMap) -> Result<Vec<u8>, Failure<MapFault>> {
+        match first_unfit(map) {
+            Some(path) => {
+                let path = path.copy(alloc)?;
+                Err(Failure::Fault(MapFault::MapPath { path }))
+            }
+            None => {
+                let text = text_of(alloc, map)?;
+                Ok(text)
+            }
+        }
+    }
+
+    fn read(&self, alloc: Global, text: &[u8]) -> Result<Vec<MapEntry>, Failure<MapFault>> {
+        read_lines(alloc, self, Vec::new(alloc), 1, text)
+    }
+}
+
+impl LineForm for Gcc {
+    ghost use Rattle.module_maps.specs.GccMaps.{gcc_form};
+
+    ghost form = { λ _. gcc_form };
+
+    fn entry(
+        &self,
+        alloc: Global,
+        _entries: &[MapEntry],
+        line: &[u8],
+    ) -> Result<Option<MapEntry>, AllocError> {
+        match pair_in(alloc, b' ', line)? {
+            Some((name, path)) => Ok(Some(MapEntry {
+                name: Some(name),
+                path,
+            })),
+            None => Ok(None),
+        }
+    }
+}
+
+/// The lines of a map.
+fn text_of(alloc: Global, map: &ModuleMap) -> Result<Vec<u8>, AllocError>
+    ensures { IfOk result (λ text.
+        text.items ≡ flat_map (λ pair. ended (gcc_line pair)) (pairs_of map.now)) }
+{
+    let provided = lines_len(map.provided(), b" \n".len());
+    let needed = lines_len(map.needed(), b" \n".len());
+    let mut text = Vec::with_capacity(alloc, provided.saturating_add(needed))?;
+    push_lines(&mut text, map.provided())?;
+    push_lines(&mut text, map.needed())?;
+    Ok(text)
+}
+
+fn push_lines(text: &mut Vec<u8>, pairs: &[(Name, Path)]) -> Result<(), AllocError>
+    ensures { OnOk result (text.new.items ≡
+        text.old.items ++ flat_map (λ pair. ended (gcc_line pair)) pairs.now) }
+{
+    for pair in pairs {
+        text.extend_from_slice(pair.0.text().as_bytes())?;
+        text.push(b' ')?;
+        text.extend_from_slice(pair.1.bytes())?;
+        text.push(b'\n')?;
+    }
+    Ok(())
+}

@@ -1,0 +1,224 @@
+//! What the styles of module maps share, and what helps to write another: the paths that stand in a
+//! map, and how its lines are read.
+ghost use Rattle.std.specs.Prelude.{◌≡◌, ◌<◌, ◌≤◌, ◌==◌, ◌++◌, List, ℕ, [], ◌∷◌, length, map, Some, None, IfOk, OnOk, IfSome, MatchOption, option_copied, position};
+ghost use Rattle.ninja_text.specs.Failure.{Gives};
+ghost use Rattle.std.specs.List.{sum_by};
+ghost use Rattle.module_maps.specs.Maps.{pairs_of};
+ghost use Rattle.module_maps.specs.MapLines.{LineForm, is_map_byte, is_fit, first_unfit, named, nameless, lines_of, cut, path_in, name_in, pair_in, read_lines};
+ghost use Rattle.module_maps.specs.inner.Lengths.{line_len, capped};
+
+use crate::module_map::{MapEntry, MapFault, ModuleMap};
+use ninja_text::{Failure, Path};
+use scan_docs::Name;
+use std::alloc::{AllocError, Global};
+use std::str;
+
+/// The form of a style's lines.
+pub trait LineForm {
+    /// How a line is read, without its end, behind the entries of the lines before it.
+    ghost form: { Self → LineForm };
+
+    /// The entry of a line, if it is of the form. `AllocError`: want of memory.
+    fn entry(
+        &self,
+        alloc: Global,
+        entries: &[MapEntry],
+        line: &[u8],
+    ) -> Result<Option<MapEntry>, AllocError>
+        ensures { IfOk result (λ entry. entry ≡ form self.now entries.now line.now) };
+}
+
+/// The entries that there are, and those of the lines of a text, which are numbered on from
+/// `number`, 3 at most: what stands before them is no more than two lines. Or K4 with the first
+/// line that is not of the form, or has no end. `Memory`: want of memory.
+pub fn read_lines<F: LineForm>(
+    alloc: Global,
+    form: &F,
+    earlier: Vec<MapEntry>,
+    number: u64,
+    text: &[u8],
+) -> Result<Vec<MapEntry>, Failure<MapFault>>
+    requires { number ≤ 3 }
+    ensures { Gives (λ found. found.items) result
+        (read_lines (F.form form.now) earlier.items number (lines_of text.now)) }
+{
+    let mut entries = earlier;
+    let mut line = number;
+    let mut rest = text;
+    while let Some((first, more)) = cut_line(rest) {
+        match form.entry(alloc, &entries, first)? {
+            Some(entry) => entries.push(entry)?,
+            None => return Err(Failure::Fault(MapFault::BadMapLine { line })),
+        }
+        rest = more;
+        line += 1;
+    }
+    if rest.is_empty() {
+        Ok(entries)
+    } else {
+        Err(Failure::Fault(MapFault::BadMapLine { line }))
+    }
+}
+
+/// The first line of a text, without its end, and what follows it.
+pub(crate) fn cut_line(text: &[u8]) -> Option<(&[u8], &[u8])>
+    ensures lines { MatchOption result (lines_of text.now ≡ text.now ∷ [])
+        (λ c. lines_of text.now ≡ c.0.now ∷ lines_of c.1.now) }
+    ensures less { IfSome result (λ c. length c.1.now < length text.now) }
+{
+    cut(text, b'\n')
+}
+
+/// What stands before the first such byte, and what stands behind it.
+fn cut(text: &[u8], mark: u8) -> Option<(&[u8], &[u8])>
+    ensures cut { MatchOption result (cut mark text.now ≡ None)
+        (λ c. cut mark text.now ≡ Some (c.0.now, c.1.now)) }
+    ensures less { IfSome result (λ c. length c.1.now < length text.now) }
+{
+    match index_of(text, mark) {
+        Some(index) => Some((&text[..index], &text[index + 1..])),
+        None => None,
+    }
+}
+
+fn index_of(text: &[u8], mark: u8) -> Option<usize>
+    ensures index { result ≡ position (λ b. b == mark) text.now }
+    ensures within { IfSome result (λ i. i < length text.now) }
+{
+    text.iter().position(|b| *b == mark)
+}
+
+/// The module in a text: a name, the first byte that is the mark, and a path of a map.
+/// `AllocError`: want of memory.
+pub fn pair_in(alloc: Global, mark: u8, text: &[u8]) -> Result<Option<(Name, Path)>, AllocError>
+    ensures { IfOk result (λ pair. pair ≡ pair_in mark text.now) }
+{
+    match cut(text, mark) {
+        Some((name, path)) => match name_in(alloc, name)? {
+            Some(name) => match path_in(alloc, path)? {
+                Some(path) => Ok(Some((name, path))),
+                None => Ok(None),
+            },
+            None => Ok(None),
+        },
+        None => Ok(None),
+    }
+}
+
+/// The text as a name of a module.
+#[tactic(auto, unfolding(crate::specs::MapLines::name_in))]
+fn name_in(alloc: Global, text: &[u8]) -> Result<Option<Name>, AllocError>
+    ensures { IfOk result (λ name. name ≡ name_in text.now) }
+{
+    match str::from_utf8(text) {
+        Ok(text) => Name::of(alloc, text),
+        Err(_) => Ok(None),
+    }
+}
+
+/// The text as a path of a map: the canonical text of a path, with no byte that needs quotes.
+/// `AllocError`: want of memory.
+#[tactic(auto, unfolding(crate::specs::MapLines::path_in))]
+pub fn path_in(alloc: Global, text: &[u8]) -> Result<Option<Path>, AllocError>
+    ensures { IfOk result (λ path. path ≡ path_in text.now) }
+{
+    if !is_fit(text) {
+        return Ok(None);
+    }
+    match Path::of(alloc, text) {
+        Ok(path) => {
+            if path.bytes() == text {
+                Ok(Some(path))
+            } else {
+                Ok(None)
+            }
+        }
+        Err(Failure::Memory) => Err(AllocError),
+        Err(Failure::Fault(_)) => Ok(None),
+    }
+}
+
+/// Whether a path can stand in a map.
+fn is_fit(path: &[u8]) -> bool
+    ensures { result ≡ is_fit path.now }
+{
+    path.iter().all(|b| is_map_byte(*b))
+}
+
+fn is_map_byte(byte: u8) -> bool
+    ensures { result ≡ is_map_byte byte }
+{
+    byte >= 33 && byte != 127 && byte != b'\'' && byte != b'"' && byte != b'\\'
+}
+
+/// The first path of a map that cannot stand in it, since a byte of it needs quotes.
+pub fn first_unfit(map: &ModuleMap) -> Option<&Path>
+    ensures { option_copied result ≡ first_unfit (pairs_of map.now) }
+{
+    match unfit_in(map.provided()) {
+        Some(path) => Some(path),
+        None => unfit_in(map.needed()),
+    }
+}
+
+fn unfit_in(pairs: &[(Name, Path)]) -> Option<&Path>
+    ensures { option_copied result ≡ first_unfit pairs.now }
+{
+    for pair in pairs {
+        if !is_fit(pair.1.bytes()) {
+            return Some(&pair.1);
+        }
+    }
+    None
+}
+
+/// How many bytes the lines of modules have, each with so many beside its name and its path, or the
+/// greatest number where they have more.
+pub(crate) fn lines_len(pairs: &[(Name, Path)], beside: usize) -> usize
+    ensures { result ≡ capped (sum_by (line_len beside) pairs.now) }
+{
+    let mut len: usize = 0;
+    for pair in pairs {
+        let name = pair.0.text().as_bytes();
+        let path = pair.1.bytes();
+        len = len
+            .saturating_add(name.len())
+            .saturating_add(path.len())
+            .saturating_add(beside);
+    }
+    len
+}
+
+/// Adds the entries of modules, with their names. `AllocError`: want of memory.
+pub fn push_named(
+    alloc: Global,
+    entries: &mut Vec<MapEntry>,
+    pairs: &[(Name, Path)],
+) -> Result<(), AllocError>
+    ensures { OnOk result (entries.new.items ≡ entries.old.items ++ map named pairs.now) }
+{
+    for pair in pairs {
+        let name = pair.0.copy(alloc)?;
+        let path = pair.1.copy(alloc)?;
+        entries.push(MapEntry {
+            name: Some(name),
+            path,
+        })?;
+    }
+    Ok(())
+}
+
+/// Adds the entries of modules, without their names. `AllocError`: want of memory.
+pub fn push_nameless(
+    alloc: Global,
+    entries: &mut Vec<MapEntry>,
+    pairs: &[(Name, Path)],
+) -> Result<(), AllocError>
+    ensures { OnOk result (entries.new.items ≡ entries.old.items ++ map nameless pairs.now) }
+{
+    for pair in pairs {
+        let path = pair.1.copy(alloc)?;
+        entries.push(MapEntry { name: None, path })?;
+    }
+    Ok(())
+}

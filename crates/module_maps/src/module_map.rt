@@ -1,0 +1,116 @@
+//! Module maps.
+ghost use Rattle.std.specs.Prelude.{◌≡◌, ◌↔◌, IsSome, IfSome, IsTrue};
+ghost use Rattle.std.specs.List.{All};
+ghost use Rattle.module_maps.specs.Maps.{Precedes};
+ghost use Rattle.module_maps.specs.Maps.{IsModuleMap, IsModule, IsRising};
+
+use ninja_text::Path;
+use scan_docs::Name;
+use std::cmp::Ordering;
+use std::marker::Model;
+
+/// Why a map is not written, or a text not read as one.
+#[derive(Drop)]
+pub enum MapFault {
+    /// This path cannot stand in a map of the style (K1).
+    MapPath { path: Path },
+    /// The object provides two modules, and a map of the style has one (K2).
+    TwoProvided,
+    /// This line of the text, from 1, is not one that the style writes there (K4).
+    BadMapLine { line: u64 },
+}
+
+/// A module as a map has it: its path, and its name where the style keeps it.
+#[derive(Drop)]
+pub struct MapEntry {
+    pub name: Option<Name>,
+    pub path: Path,
+}
+
+/// The modules that an object provides, and those that it needs, whose names rise.
+#[derive(Drop)]
+pub struct ModuleMap {
+    provided: Vec<(Name, Path)>,
+    needed: Vec<(Name, Path)>,
+}
+
+impl Model for ModuleMap {
+    ghost use Rattle.module_maps.specs.Values.{ModuleMapValue};
+    ghost use Rattle.module_maps.specs.Maps.{IsModuleMap};
+
+    ghost Value = { ModuleMapValue };
+
+    ghost view = { λ m. record { provided = m.provided.items; needed = m.needed.items } };
+
+    ghost invariant = { λ m. IsModuleMap (record {
+      provided = m.provided.items;
+      needed = m.needed.items;
+    }) };
+}
+
+impl ModuleMap {
+    /// The map of these modules, or `None` exactly where the needed names do not rise strictly in
+    /// byte order.
+    pub fn new(provided: Vec<(Name, Path)>, needed: Vec<(Name, Path)>) -> Option<ModuleMap>
+        ensures map { IfSome result
+            (λ map. map ≡ record { provided = provided.items; needed = needed.items }) }
+        ensures rising { IsSome result ↔ IsRising needed.items }
+        ensures is_map { IfSome result IsModuleMap }
+    {
+        if !is_rising(&needed) {
+            return None;
+        }
+        learn_modules(&provided);
+        learn_modules(&needed);
+        Some(ModuleMap { provided, needed })
+    }
+
+    /// The modules that the object provides, in order of provision.
+    pub fn provided(&self) -> &[(Name, Path)]
+        ensures pairs { result.now ≡ self.now.provided }
+        ensures map { IsModuleMap self.now }
+    {
+        &self.provided
+    }
+
+    /// The modules that it needs, in byte order of names.
+    pub fn needed(&self) -> &[(Name, Path)]
+        ensures pairs { result.now ≡ self.now.needed }
+        ensures map { IsModuleMap self.now }
+    {
+        &self.needed
+    }
+}
+
+/// Learns that the pairs are of names and paths. Each of their types promises so of a value that is
+/// looked at, but of the elements of a list nothing is known before.
+fn learn_modules(pairs: &[(Name, Path)])
+    ensures { All IsModule pairs.now }
+{
+    for pair in pairs {
+        let _ = pair.0.text();
+        let _ = pair.1.bytes();
+    }
+}
+
+/// Whether the first name comes before the second in byte order.
+fn precedes(a: &Name, b: &Name) -> bool
+    ensures { IsTrue result ↔ Precedes a.now b.now }
+{
+    match a.text().as_bytes().cmp(b.text().as_bytes()) {
+        Ordering::Less => true,
+        _ => false,
+    }
+}
+
+/// Whether the names rise strictly in byte order.
+fn is_rising(pairs: &[(Name, Path)]) -> bool
+    ensures { IsTrue result ↔ IsRising pairs.now }
+{
+    for i in 1..pairs.len() {
+        if !precedes(&pairs[i - 1].0, &pairs[i].0) {
+            return false;
+        }
+    }
+    true
+}
