@@ -22,8 +22,8 @@
 //! `specs/inner/`.
 //!
 //! It stands on `scan_docs` for documents, on `module_table` for modules by name, on `module_maps`
-//! for their maps, on `dyndep_file` for the texts, on `build_effect` and `dep_order` for builds, on `ninja_text` for paths, and on
-//! `indexmap` for the set of the names of private modules.
+//! for their maps, on `dyndep_file` for the texts, on `build_effect` and `dep_order` for builds, on
+//! `ninja_text` for paths, and on `indexmap` for the set of the names of private modules.
 #![tactic(auto)]
 
 mod check;

@@ -1,19 +1,19 @@
-//! Module maps: texts that say to a compiler, for one object, where the compiled modules are that it
-//! provides and needs.
+//! Module maps: texts that say to a compiler, for one object, where the compiled modules are that
+//! it provides and needs.
 //!
 //! - [`ModuleMap`] is what a map is to say: what the object provides, in order of provision, and
 //!   what it needs, in byte order of names (`specs/Maps.antt`, `IsModuleMap`).
 //! - [`Gcc`] and [`Clang`] are styles of maps; a caller may write another [`MapStyle`], for which
-//!   [`map_lines`] has what the two share. A style's contract says what it writes of a map, and what
-//!   it reads of a text (`specs/GccMaps.antt`, `specs/ClangMaps.antt`).
+//!   [`map_lines`] has what the two share. A style's contract says what it writes of a map, and
+//!   what it reads of a text (`specs/GccMaps.antt`, `specs/ClangMaps.antt`).
 //! - Each style keeps to three laws, which are part of the trait and proved for both: what was
 //!   written for a map is read as what the style keeps of it, no other text is read, and what is
 //!   kept are the map's paths in order, each name given being that of its pair (`specs/Maps.antt`,
 //!   `ReadsWritten`, `ReadsWrittenOnly`, `KeepsPairs`).
 //!
-//! `specs/map_laws/` has the lemmas that the laws rest on, and `specs/inner/` definitions for private
-//! clauses: no one has to read them for what a contract says. `proofs/MapRows.antt` has the worked
-//! rows.
+//! `specs/map_laws/` has the lemmas that the laws rest on, and `specs/inner/` definitions for
+//! private clauses: no one has to read them for what a contract says. `proofs/MapRows.antt` has the
+//! worked rows.
 //!
 //! It stands on `ninja_text` for paths and on `scan_docs` for names, and knows of no table: which
 //! modules an object needs is told by who makes its map.

@@ -1,8 +1,7 @@
 //! Module maps.
 ghost use Rattle.std.specs.Prelude.{◌≡◌, ◌↔◌, IsSome, IfSome, IsTrue};
 ghost use Rattle.std.specs.List.{All};
-ghost use Rattle.module_maps.specs.Maps.{Precedes};
-ghost use Rattle.module_maps.specs.Maps.{IsModuleMap, IsModule, IsRising};
+ghost use Rattle.module_maps.specs.Maps.{IsModuleMap, IsModule, Precedes, IsRising};
 
 use ninja_text::Path;
 use scan_docs::Name;
