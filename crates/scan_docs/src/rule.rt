@@ -9,7 +9,7 @@ ghost use Rattle.scan_docs.specs.Check.{◌otherwise◌};
 ghost use Rattle.scan_docs.specs.inner.Reading.{Answers, Tests, AnswersPath};
 ghost use Rattle.scan_docs.specs.Shape.{text, entries_of, given};
 ghost use Rattle.scan_docs.specs.Name.{is_name, IsName};
-ghost use Rattle.scan_docs.specs.Scan.{object_of, names_header, made_file, joined_file, dashed, IsText, IsProvided, IsRequired, IsRule};
+ghost use Rattle.scan_docs.specs.Scan.{object_of, file_from, names_header, made_file, joined_file, dashed, IsText, IsProvided, IsRequired, IsRule};
 ghost use Rattle.scan_docs.specs.ScanChecks.{rule_shape_checks, provided_checks, all_provided_checks, required_checks, all_required_checks, object_checks, count_checks, rule_checks, lookup_check};
 ghost use Rattle.scan_docs.specs.declared.member.Member.TheVariants as m;
 
@@ -180,14 +180,29 @@ fn read_provided(
         return Err(Failure::Fault(DocFault::HeaderUnit { place }));
     }
     let name = read_name(alloc, name, place)?;
-    let file = match file {
-        Some(path) => read_path(alloc, setting, work, path.as_bytes(), place)?,
-        None => {
-            let path = made_file(alloc, setting, &name)?;
-            read_path(alloc, setting, None, &path, place)?
-        }
-    };
+    let file = read_file(alloc, setting, work, place, &name, file)?;
     Ok((name, file))
+}
+
+/// Where the file of a module of that name lies, of which the document may give the path.
+fn read_file(
+    alloc: Global,
+    setting: &Setting,
+    work: Option<&str>,
+    place: Place,
+    name: &Name,
+    path: Option<&str>,
+) -> Result<Path, Failure<DocFault>>
+    ensures { AnswersPath place (file_from setting.now (option_copied work.entry) name.now
+        (option_copied path.entry)) result }
+{
+    match path {
+        Some(path) => read_path(alloc, setting, work, path.as_bytes(), place),
+        None => {
+            let path = made_file(alloc, setting, name)?;
+            read_path(alloc, setting, None, &path, place)
+        }
+    }
 }
 
 #[tactic(auto, unfolding(crate::specs::ScanChecks::all_required_checks))]
