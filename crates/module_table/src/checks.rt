@@ -9,6 +9,7 @@ ghost use Rattle.module_table.specs.Modules.{provisions};
 ghost use Rattle.module_table.specs.Added.{required_of};
 ghost use Rattle.module_table.specs.Faults.{IsReported};
 ghost use Rattle.module_table.specs.Outcomes.{HasNoFault};
+ghost use Rattle.module_table.specs.inner.Repetition.{AllDiffer};
 ghost use Rattle.module_table.specs.inner.Views.{names_of};
 ghost use Rattle.module_table.specs.inner.Origins.{origins_of, origin_of};
 ghost use Rattle.module_table.specs.inner.Passed.{Passed};
@@ -98,7 +99,29 @@ fn check_repetitions<'t, S: BuildHasher + Copy>(
     ensures fault { IfErr result (ForFault (λ fault. (kept : List (List ℕ)) →
         IsReported (table_with objects.now infos.now) kept fault)) }
 {
-    let paths = check_objects(alloc, objects, hash_builder)?;
+    let mut paths = check_objects(alloc, objects, hash_builder)?;
+    check_provided(alloc, objects, infos, &mut paths, hash_builder)
+}
+
+/// M2 to M4, and the modules by index. `paths` are those of the objects, which differ by M1; the
+/// modules' files come behind them.
+fn check_provided<'t, S: BuildHasher + Copy>(
+    alloc: Global,
+    objects: &'t [Rule],
+    infos: &'t [Info],
+    paths: &mut IndexSet<&'t Path, S>,
+    hash_builder: S,
+) -> Result<Modules<'t, S>, Failure<TableFault>>
+    requires paths { map (λ path. path.now) paths.old.keys
+        ≡ map (λ rule. rule.object) objects.now }
+    requires differ { AllDiffer (map (λ rule. rule.object) objects.now) }
+    ensures modules { IfOk result
+        (λ modules. modules ≡ table_with objects.now infos.now) }
+    ensures passed { OnOk result ((kept : List (List ℕ)) →
+        Passed 5 (table_with objects.now infos.now) kept) }
+    ensures fault { IfErr result (ForFault (λ fault. (kept : List (List ℕ)) →
+        IsReported (table_with objects.now infos.now) kept fault)) }
+{
     check_infos(alloc, infos, hash_builder)?;
     let modules = check_names(alloc, objects, infos, hash_builder)?;
     check_files(alloc, &modules, paths)?;

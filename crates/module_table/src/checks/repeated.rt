@@ -1,6 +1,7 @@
 //! M1 to M4: what stands twice among the paths of objects, the targets of infos, the names of
 //! modules and the files.
 ghost use Rattle.std.specs.Prelude.{◌≡◌, ◌<◌, ◌+◌, ◌++◌, ℕ, List, map, length, slice_get, Some, IfOk, IfErr, OnOk};
+ghost use Rattle.indexmap.specs.IndexSet.{IsEmpty};
 ghost use Rattle.ninja_text.specs.Failure.{ForFault};
 ghost use Rattle.module_table.specs.TableValue.{TableValue, table_with};
 ghost use Rattle.module_table.specs.Modules.{provisions};
@@ -13,7 +14,7 @@ use crate::fault::{Maker, TableFault};
 use crate::modules::{Module, Modules, module_at, provided_modules};
 use indexmap::IndexSet;
 use ninja_text::{Failure, Path};
-use scan_docs::{Info, Name, Rule};
+use scan_docs::{Info, Name, Rule, TargetName};
 use std::alloc::{AllocError, Global};
 use std::hash::BuildHasher;
 
@@ -30,6 +31,23 @@ pub(crate) fn check_objects<'t, S: BuildHasher + Copy>(
         objects.now ≡ t.objects → Reports 1 t kept fault)) }
 {
     let mut paths = IndexSet::with_capacity_and_hasher(alloc, objects.len(), hash_builder)?;
+    add_paths(alloc, objects, &mut paths)?;
+    Ok(paths)
+}
+
+/// Puts the objects' paths into the empty set, if none is there twice.
+fn add_paths<'t, S: BuildHasher>(
+    alloc: Global,
+    objects: &'t [Rule],
+    paths: &mut IndexSet<&'t Path, S>,
+) -> Result<(), Failure<TableFault>>
+    requires { IsEmpty paths.old }
+    ensures paths { OnOk result
+        (map (λ path. path.now) paths.new.keys ≡ map (λ rule. rule.object) objects.now) }
+    ensures differ { OnOk result (AllDiffer (map (λ rule. rule.object) objects.now)) }
+    ensures fault { IfErr result (ForFault (λ fault. (t : TableValue) (kept : List (List ℕ)) →
+        objects.now ≡ t.objects → Reports 1 t kept fault)) }
+{
     for (index, rule) in objects.iter().enumerate() {
         let (first, is_new) = paths.insert_full(&rule.object)?;
         if !is_new {
@@ -41,7 +59,7 @@ pub(crate) fn check_objects<'t, S: BuildHasher + Copy>(
             }));
         }
     }
-    Ok(paths)
+    Ok(())
 }
 
 /// M2: no two infos have one target name.
@@ -55,6 +73,20 @@ pub(crate) fn check_infos<S: BuildHasher + Copy>(
         infos.now ≡ t.infos → Reports 2 t kept fault)) }
 {
     let mut targets = IndexSet::with_capacity_and_hasher(alloc, infos.len(), hash_builder)?;
+    add_targets(alloc, infos, &mut targets)
+}
+
+/// Puts the infos' targets into the empty set, if none is there twice.
+fn add_targets<'t, S: BuildHasher>(
+    alloc: Global,
+    infos: &'t [Info],
+    targets: &mut IndexSet<&'t TargetName, S>,
+) -> Result<(), Failure<TableFault>>
+    requires { IsEmpty targets.old }
+    ensures ok { OnOk result (AllDiffer (map (λ info. info.target) infos.now)) }
+    ensures fault { IfErr result (ForFault (λ fault. (t : TableValue) (kept : List (List ℕ)) →
+        infos.now ≡ t.infos → Reports 2 t kept fault)) }
+{
     for info in infos {
         let (_, is_new) = targets.insert_full(&info.target)?;
         if !is_new {
@@ -95,6 +127,22 @@ fn names_once<S: BuildHasher + Copy>(
         map provision_of provided.now ≡ provisions t → Reports 3 t kept fault)) }
 {
     let mut names = IndexSet::with_capacity_and_hasher(alloc, provided.len(), hash_builder)?;
+    add_names(alloc, provided, &mut names)?;
+    Ok(names)
+}
+
+/// Puts the modules' names into the empty set, if none is there twice.
+fn add_names<S: BuildHasher>(
+    alloc: Global,
+    provided: &[Module],
+    names: &mut IndexSet<Name, S>,
+) -> Result<(), Failure<TableFault>>
+    requires { IsEmpty names.old }
+    ensures names { OnOk result (names.new.keys ≡ names_of (map provision_of provided.now)) }
+    ensures differ { OnOk result (AllDiffer names.new.keys) }
+    ensures fault { IfErr result (ForFault (λ fault. (t : TableValue) (kept : List (List ℕ)) →
+        map provision_of provided.now ≡ provisions t → Reports 3 t kept fault)) }
+{
     for (index, module) in provided.iter().enumerate() {
         let name = module.name.copy(alloc)?;
         let (first, is_new) = names.insert_full(name)?;
@@ -102,7 +150,7 @@ fn names_once<S: BuildHasher + Copy>(
             return Err(Failure::Fault(provided_twice(alloc, provided, first, index)?));
         }
     }
-    Ok(names)
+    Ok(())
 }
 
 fn provided_twice(
@@ -126,14 +174,14 @@ fn provided_twice(
 }
 
 /// M4: no file is that of two provided modules, or of a module and an object. No two objects have
-/// one path here, so a file that is made twice is a module's at least once. `paths` are those of
-/// the objects, behind which the modules' files come.
-pub(crate) fn check_files<'t, S: BuildHasher + Copy>(
+/// one path here, so a file that is made twice is a module's at least once. `files` has the objects'
+/// paths, behind which the modules' files come.
+pub(crate) fn check_files<'t, S: BuildHasher>(
     alloc: Global,
     modules: &Modules<'t, S>,
-    paths: IndexSet<&'t Path, S>,
+    files: &mut IndexSet<&'t Path, S>,
 ) -> Result<(), Failure<TableFault>>
-    requires paths { map (λ path. path.now) paths.keys
+    requires paths { map (λ path. path.now) files.old.keys
         ≡ map (λ rule. rule.object) modules.now.objects }
     requires differ { AllDiffer (map (λ rule. rule.object) modules.now.objects) }
     ensures ok { OnOk result (AllDiffer
@@ -143,7 +191,6 @@ pub(crate) fn check_files<'t, S: BuildHasher + Copy>(
 {
     let objects = modules.objects();
     let provided = modules.provided();
-    let mut files = paths;
     files.reserve(provided.len())?;
     for (index, module) in provided.iter().enumerate() {
         let (first, is_new) = files.insert_full(module.file)?;

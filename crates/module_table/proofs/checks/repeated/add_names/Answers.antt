@@ -6,7 +6,7 @@ use Rattle.module_table.specs.declared.modules.Module.{Module}
 use Rattle.module_table.proofs.Places.{to_map}
 use Rattle.module_table.proofs.Repetitions.{repeats_if_found, keys_if_new, differ_if_new, map_same}
 use Rattle.module_table.proofs.ReportLemmas.{reports_provided_twice}
-use Rattle.module_table.proofs.checks.repeated.names_once.Goals as goal
+use Rattle.module_table.proofs.checks.repeated.add_names.Goals as goal
 
 abbrev name_of : Provision → List ℕ
 name_of p = p.name
