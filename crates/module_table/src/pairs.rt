@@ -7,7 +7,7 @@ ghost use Rattle.module_table.specs.inner.Numbered.{AreIndexes};
 ghost use Rattle.module_table.specs.inner.Indexed.{pair_at};
 ghost use Rattle.module_table.specs.inner.Mentioned.{AreFirsts};
 
-use crate::modules::{Modules, module_at};
+use crate::modules::{Module, Modules, module_at};
 use ninja_text::Path;
 use scan_docs::Name;
 use std::alloc::{AllocError, Global};
@@ -77,10 +77,18 @@ fn pairs_at<S: BuildHasher>(
     let provided = modules.provided();
     let mut pairs = Vec::with_capacity(alloc, indexes.len())?;
     for index in indexes {
-        let module = module_at(provided, *index);
-        let name = module.name.copy(alloc)?;
-        let file = module.file.copy(alloc)?;
-        pairs.push((name, file))?;
+        let pair = copy_pair(alloc, module_at(provided, *index))?;
+        pairs.push(pair)?;
     }
     Ok(pairs)
+}
+
+/// The module's name and file.
+fn copy_pair(alloc: Global, module: &Module) -> Result<(Name, Path), AllocError>
+    ensures name { IfOk result (λ pair. pair.0 ≡ module.now.name.now) }
+    ensures file { IfOk result (λ pair. pair.1 ≡ module.now.file.now) }
+{
+    let name = module.name.copy(alloc)?;
+    let file = module.file.copy(alloc)?;
+    Ok((name, file))
 }

@@ -19,11 +19,12 @@ loop-index-preserved g c =
     let i = c.loop-index.index-index in
     let v = get_or indexes i 0 in
     let at = slice_get-get_or indexes i 0 c.loop-index-test.true in
-    let found = ap (λ xs. slice_get xs v) (sym c.provided-provided.ensures.provisions) ∙ to_map provision_of c.provided-provided.result.now v _ c.module_at-module.ensures in
-    let found_module = c.module_at-module.result.now in
-    let same : Some (c.in_ok-name.name, c.in_ok-file.file) ≡ pair_at ps v =
-    ap (λ n. Some (n, c.in_ok-file.file)) c.in_ok-name.ensures ∙ ap (λ x. Some (found_module.name.now, x)) c.in_ok-file.ensures ∙ sym (ap (option_map pair) found) in
+    let found = ap (λ xs. slice_get xs v) (sym c.provided-provided.ensures.provisions) ∙ to_map provision_of c.provided-provided.result.now v _ c.module_at.ensures in
+    let found_module = c.module_at.result.now in
+    let copied = c.in_ok-pair.pair in
+    let same : Some copied ≡ pair_at ps v =
+    ap (λ n. Some (n, copied.1)) c.in_ok-pair.ensures.name ∙ ap (λ x. Some (found_module.name.now, x)) c.in_ok-pair.ensures.file ∙ sym (ap (option_map pair) found) in
     ap (map (λ p. Some p)) c.in_ok-push.ensures.items ∙ map-append (λ p. Some p) c.loop-index.pairs.items _
-    ∙ ap (λ xs. xs ++ Some (c.in_ok-name.name, c.in_ok-file.file) ∷ []) c.loop-index.invariant
+    ∙ ap (λ xs. xs ++ Some copied ∷ []) c.loop-index.invariant
     ∙ ap (λ x. map (pair_at ps) (take i indexes) ++ x ∷ []) same
     ∙ sym (ap (map (pair_at ps)) (take_next indexes i v at) ∙ map-append (pair_at ps) (take i indexes) (v ∷ []))
