@@ -16,8 +16,8 @@ use crate::modules::{Modules, index_of};
 use crate::requirements::{InfoRequired, required_at};
 use indexmap::IndexSet;
 use ninja_text::Failure;
-use scan_docs::{Name, Rule};
-use std::alloc::Global;
+use scan_docs::{Name, Rule, TargetName};
+use std::alloc::{AllocError, Global};
 use std::hash::BuildHasher;
 
 /// The indexes of the modules that each object requires. M5: each is provided.
@@ -80,10 +80,7 @@ pub(crate) fn check_infos_known<S: BuildHasher>(
     match first_not_by_info(all) {
         None => Ok(()),
         Some(index) => {
-            let required = required_at(all, index);
-            let target = required.target.copy(alloc)?;
-            let module_name = required.module_name.copy(alloc)?;
-            let name = required.name.copy(alloc)?;
+            let (target, module_name, name) = copy_names(alloc, required_at(all, index))?;
             Err(Failure::Fault(TableFault::InfoUnknown {
                 target,
                 module_name,
@@ -111,10 +108,7 @@ pub(crate) fn check_infos_agree<S: BuildHasher>(
     match first_differing(all) {
         None => Ok(()),
         Some(index) => {
-            let required = required_at(all, index);
-            let target = required.target.copy(alloc)?;
-            let module_name = required.module_name.copy(alloc)?;
-            let name = required.name.copy(alloc)?;
+            let (target, module_name, name) = copy_names(alloc, required_at(all, index))?;
             Err(Failure::Fault(TableFault::InfoDisagrees {
                 target,
                 module_name,
@@ -122,6 +116,21 @@ pub(crate) fn check_infos_agree<S: BuildHasher>(
             }))
         }
     }
+}
+
+/// The names of the target, of the module that requires, and of what it requires.
+fn copy_names(
+    alloc: Global,
+    required: &InfoRequired,
+) -> Result<(TargetName, Name, Name), AllocError>
+    ensures target { IfOk result (λ names. names.0 ≡ required.now.target.now) }
+    ensures module_name { IfOk result (λ names. names.1 ≡ required.now.module_name.now) }
+    ensures name { IfOk result (λ names. names.2 ≡ required.now.name.now) }
+{
+    let target = required.target.copy(alloc)?;
+    let module_name = required.module_name.copy(alloc)?;
+    let name = required.name.copy(alloc)?;
+    Ok((target, module_name, name))
 }
 
 fn first_not_by_info(all: &[InfoRequired]) -> Option<usize>
