@@ -131,25 +131,20 @@ module _ (t : TableValue) (kept : List (List ℕ)) where
         pub after_files : AllDiffer (map (λ (rule : RuleValue). rule.object) t.objects ++ files_of (provisions t)) → Passed 5 t kept
         after_files files = next_passed 4 after_names (files_lack files)
 
-  module _ (rows : List (List ℕ)) (is : AreIndexes t rows) (passed : Passed 5 t kept) where
-    pub after_known : Passed 6 t kept
-    after_known = next_passed 5 passed (requirements_lack (rows_known rows is))
+  pub after_known : (rows : List (List ℕ)) → AreIndexes t rows → Passed 5 t kept → Passed 6 t kept
+  after_known rows is passed = next_passed 5 passed (requirements_lack (rows_known rows is))
 
-    module _ (by_infos : AcceptsAll (IsByInfo (provisions t)) (info_requirements t)) where
-      pub after_infos_known : Passed 7 t kept
-      after_infos_known = next_passed 6 after_known (unknown_lacks by_infos)
+  pub after_infos_known : AcceptsAll (IsByInfo (provisions t)) (info_requirements t) → Passed 6 t kept → Passed 7 t kept
+  after_infos_known by_infos passed = next_passed 6 passed (unknown_lacks by_infos)
 
-      module _ (agree : AcceptsAll (Agrees (provisions t)) (info_requirements t)) where
-        pub after_agreement : Passed 8 t kept
-        after_agreement = next_passed 7 after_infos_known (disagreeing_lacks agree)
+  pub after_agreement : AcceptsAll (Agrees (provisions t)) (info_requirements t) → Passed 7 t kept → Passed 8 t kept
+  after_agreement agree passed = next_passed 7 passed (disagreeing_lacks agree)
 
-        module _ (orderable : IsOrderable (length t.objects) (DependsOn t)) where
-          pub after_rings : Passed 9 t kept
-          after_rings = next_passed 8 after_agreement (rings_lack orderable)
+  pub after_rings : IsOrderable (length t.objects) (DependsOn t) → Passed 8 t kept → Passed 9 t kept
+  after_rings orderable passed = next_passed 8 passed (rings_lack orderable)
 
-          module _ (public : AcceptsAll (RequiresPublic (provisions t)) t.objects) (allowed : AcceptsAll (IsAllowed (provisions t)) (info_requirements t)) where
-            pub after_allowed : Passed 10 t kept
-            after_allowed = next_passed 9 after_rings (private_lacks public allowed)
+  pub after_allowed : AcceptsAll (RequiresPublic (provisions t)) t.objects → AcceptsAll (IsAllowed (provisions t)) (info_requirements t) → Passed 9 t kept → Passed 10 t kept
+  after_allowed public allowed passed = next_passed 9 passed (private_lacks public allowed)
 
-            pub after_kept : AcceptsAll (IsByObject (provisions t)) kept → Passed 11 t kept
-            after_kept own = next_passed 10 after_allowed (kept_lack own)
+  pub after_kept : AcceptsAll (IsByObject (provisions t)) kept → Passed 10 t kept → Passed 11 t kept
+  after_kept own passed = next_passed 10 passed (kept_lack own)

@@ -12,6 +12,7 @@ ghost use Rattle.module_table.specs.Outcomes.{HasNoFault};
 ghost use Rattle.module_table.specs.inner.Repetition.{AllDiffer};
 ghost use Rattle.module_table.specs.inner.Views.{names_of};
 ghost use Rattle.module_table.specs.inner.Origins.{origins_of, origin_of};
+ghost use Rattle.module_table.specs.inner.Found.{AreLookedUp};
 ghost use Rattle.module_table.specs.inner.Passed.{Passed};
 ghost use Rattle.module_table.specs.inner.Numbered.{AreIndexes};
 ghost use Rattle.module_table.specs.inner.Graph.{IsModuleGraph};
@@ -20,7 +21,7 @@ use crate::fault::{Maker, TableFault};
 use crate::graph::module_graph;
 use crate::modules::{Module, Modules};
 use crate::pairs::all_pairs;
-use crate::requirements::all_required;
+use crate::requirements::{InfoRequired, all_required};
 use dep_order::Digraph;
 use indexmap::IndexSet;
 use ninja_text::{Failure, Path};
@@ -74,15 +75,48 @@ pub(crate) fn check_all<S: BuildHasher + Copy>(
 {
     let modules = check_repetitions(alloc, objects, infos, hash_builder)?;
     let rows = check_requirements(alloc, &modules, kept)?;
+    Ok(Index::new(alloc, modules, rows)?)
+}
+
+impl<S: BuildHasher + Copy> Index<S> {
+    /// What a table keeps of these modules, where the objects require those of these indexes.
+    fn new(
+        alloc: Global,
+        modules: Modules<S>,
+        required: Vec<Vec<usize>>,
+    ) -> Result<Index<S>, AllocError>
+        requires { AreIndexes modules (rows required.items) }
+        ensures names { IfOk result
+            (λ index. index.names.keys ≡ names_of (provisions modules.entry)) }
+        ensures origins { IfOk result (λ index. index.origins.items ≡ origins_of modules.entry) }
+        ensures graph { IfOk result (λ index. IsModuleGraph modules.entry index.graph) }
+        ensures required { IfOk result (λ index. map (λ row. row.items) index.required.items
+            ≡ map (required_of modules.entry) modules.entry.objects) }
+    {
+        let pairs = all_pairs(alloc, &modules, required.as_slice())?;
+        let (origins, graph) = origins_and_graph(alloc, &modules, required)?;
+        Ok(Index {
+            names: modules.into_names(),
+            origins,
+            graph,
+            required: pairs,
+        })
+    }
+}
+
+/// Who provides each module, and what the modules and the objects need of one another.
+fn origins_and_graph<S: BuildHasher>(
+    alloc: Global,
+    modules: &Modules<S>,
+    required: Vec<Vec<usize>>,
+) -> Result<(Vec<(Maker, usize)>, Digraph), AllocError>
+    requires { AreIndexes modules.now (rows required.items) }
+    ensures origins { IfOk result (λ both. both.0.items ≡ origins_of modules.now) }
+    ensures graph { IfOk result (λ both. IsModuleGraph modules.now both.1) }
+{
     let origins = all_origins(alloc, modules.provided())?;
-    let required = all_pairs(alloc, &modules, rows.as_slice())?;
-    let graph = module_graph(alloc, &modules, origins.as_slice(), rows)?;
-    Ok(Index {
-        names: modules.into_names(),
-        origins,
-        graph,
-        required,
-    })
+    let graph = module_graph(alloc, modules, origins.as_slice(), required)?;
+    Ok((origins, graph))
 }
 
 /// M1 to M4, and the modules by index.
@@ -140,15 +174,48 @@ fn check_requirements<S: BuildHasher>(
     ensures fault { IfErr result (ForFault (IsReported modules.now kept.now)) }
 {
     let rows = check_objects_known(alloc, modules)?;
-    let all = all_required(alloc, modules)?;
-    let required = all.as_slice();
+    let required = all_required(alloc, modules)?;
+    check_infos_required(alloc, modules, required.as_slice())?;
+    check_rings_and_privacy(alloc, modules, rows.as_slice(), required.as_slice(), kept)?;
+    Ok(rows)
+}
+
+/// M6 and M7: what infos' modules require.
+fn check_infos_required<S: BuildHasher>(
+    alloc: Global,
+    modules: &Modules<S>,
+    required: &[InfoRequired],
+) -> Result<(), Failure<TableFault>>
+    requires { AreLookedUp modules.now required.now }
+    ensures passed { OnOk result
+        ((kept : List (List ℕ)) → Passed 6 modules.now kept → Passed 8 modules.now kept) }
+    ensures fault { IfErr result (ForFault (λ fault. (kept : List (List ℕ)) →
+        Passed 6 modules.now kept → IsReported modules.now kept fault)) }
+{
     check_infos_known(alloc, modules, required)?;
     check_infos_agree(alloc, modules, required)?;
-    check_rings(alloc, modules, rows.as_slice())?;
-    check_objects_allowed(alloc, modules, rows.as_slice())?;
-    check_infos_allowed(alloc, modules, required)?;
+    Ok(())
+}
+
+/// M8 to M10. Each object has a row of the indexes of what it requires.
+fn check_rings_and_privacy<S: BuildHasher>(
+    alloc: Global,
+    modules: &Modules<S>,
+    objects_required: &[Vec<usize>],
+    infos_required: &[InfoRequired],
+    kept: &[Name],
+) -> Result<(), Failure<TableFault>>
+    requires indexes { AreIndexes modules.now (rows objects_required.now) }
+    requires lookups { AreLookedUp modules.now infos_required.now }
+    requires passed { Passed 8 modules.now kept.now }
+    ensures passed { OnOk result (Passed 11 modules.now kept.now) }
+    ensures fault { IfErr result (ForFault (IsReported modules.now kept.now)) }
+{
+    check_rings(alloc, modules, objects_required)?;
+    check_objects_allowed(alloc, modules, objects_required)?;
+    check_infos_allowed(alloc, modules, infos_required)?;
     check_kept(alloc, modules, kept)?;
-    Ok(rows)
+    Ok(())
 }
 
 /// Who provides each module, and at which index among its maker's.

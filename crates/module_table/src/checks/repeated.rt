@@ -174,8 +174,8 @@ fn provided_twice(
 }
 
 /// M4: no file is that of two provided modules, or of a module and an object. No two objects have
-/// one path here, so a file that is made twice is a module's at least once. `files` has the objects'
-/// paths, behind which the modules' files come.
+/// one path here, so a file that is made twice is a module's at least once. `files` has the paths
+/// of the objects, behind which the modules' files come.
 pub(crate) fn check_files<'t, S: BuildHasher>(
     alloc: Global,
     modules: &Modules<'t, S>,

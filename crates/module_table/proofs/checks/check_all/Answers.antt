@@ -8,7 +8,6 @@ use Rattle.module_table.specs.Faults.{IsReported}
 use Rattle.module_table.specs.inner.Views.{names_of}
 use Rattle.module_table.specs.inner.Origins.{origins_of}
 use Rattle.module_table.specs.inner.Passed.{Passed}
-use Rattle.module_table.specs.inner.Numbered.{AreIndexes}
 use Rattle.module_table.specs.inner.Graph.{IsModuleGraph}
 use Rattle.module_table.proofs.ReportLemmas.{for_fault}
 use Rattle.module_table.proofs.Passing.{for_these_kept, without_fault}
@@ -32,25 +31,19 @@ returns-in_err-rows-clause-fault g c =
     rw (p.1, p.2)
     (for_fault _ _ _ (λ fault is. subst (λ t. IsReported t c.args.kept.now fault) same is) c.in_err-rows.ensures.fault)
 
-pub module_graph-requires-clause-origins : goal.module_graph-requires-clause-origins
-module_graph-requires-clause-origins g c = c.as_slice-2.ensures.value ∙ c.in_ok-origins.ensures ∙ c.provided.ensures.origins
-
-pub all_pairs-requires : goal.all_pairs-requires
-all_pairs-requires g c = subst (λ vectors. AreIndexes c.in_ok-modules.modules (rows vectors)) (sym c.as_slice.ensures.value) c.in_ok-rows.ensures.indexes
-
 pub returns-clause-no_fault : goal.returns-clause-no_fault
 returns-clause-no_fault g c =
     let t : TableValue = record { objects = c.args.objects.now; infos = c.args.infos.now } in
     without_fault t c.args.kept.now (subst (λ u. Passed 11 u c.args.kept.now) c.in_ok-modules.ensures.modules c.in_ok-rows.ensures.passed)
 
 pub returns-clause-names : goal.returns-clause-names
-returns-clause-names g c = c.into_names.ensures ∙ ap (λ t. names_of (provisions t)) c.in_ok-modules.ensures.modules
+returns-clause-names g c = c.in_ok-new.ensures.names ∙ ap (λ t. names_of (provisions t)) c.in_ok-modules.ensures.modules
 
 pub returns-clause-origins : goal.returns-clause-origins
-returns-clause-origins g c = c.in_ok-origins.ensures ∙ c.provided.ensures.origins ∙ ap origins_of c.in_ok-modules.ensures.modules
+returns-clause-origins g c = c.in_ok-new.ensures.origins ∙ ap origins_of c.in_ok-modules.ensures.modules
 
 pub returns-clause-graph : goal.returns-clause-graph
-returns-clause-graph g c = subst (λ t. IsModuleGraph t c.in_ok-graph.graph) c.in_ok-modules.ensures.modules c.in_ok-graph.ensures
+returns-clause-graph g c = subst (λ t. IsModuleGraph t c.in_ok-new.field-0.graph) c.in_ok-modules.ensures.modules c.in_ok-new.ensures.graph
 
 pub returns-clause-required : goal.returns-clause-required
-returns-clause-required g c = c.in_ok-required.ensures ∙ ap (λ (t : TableValue). map (required_of t) t.objects) c.in_ok-modules.ensures.modules
+returns-clause-required g c = c.in_ok-new.ensures.required ∙ ap (λ (t : TableValue). map (required_of t) t.objects) c.in_ok-modules.ensures.modules
