@@ -1,5 +1,5 @@
 //! What each object requires, with the files of the modules.
-ghost use Rattle.std.specs.Prelude.{◌≡◌, ◌<◌, ◌≤◌, All, length, map, Some, IfOk, OnOk};
+ghost use Rattle.std.specs.Prelude.{◌≡◌, ◌<◌, ◌≤◌, [], All, length, map, Some, IfOk, OnOk};
 ghost use Rattle.dep_order.specs.Rows.{rows};
 ghost use Rattle.module_table.specs.Modules.{provisions};
 ghost use Rattle.module_table.specs.Added.{required_of};
@@ -24,17 +24,36 @@ pub(crate) fn all_pairs<S: BuildHasher>(
     ensures { IfOk result (λ all. map (λ row. row.items) all.items
         ≡ map (required_of modules.now) modules.now.objects) }
 {
-    modules.names_differ();
-    // each module has the number of the last object that mentioned it, counted from 1
     let mut marks = vec![in alloc; 0; modules.provided().len()]?;
-    let mut mentioned = Vec::new(alloc);
     let mut all = Vec::with_capacity(alloc, required.len())?;
+    add_pairs(alloc, modules, required, &mut marks, &mut all)?;
+    Ok(all)
+}
+
+/// Puts what each object requires into the empty list. A module's mark is the number of the last
+/// object that mentioned it, counted from 1.
+fn add_pairs<S: BuildHasher>(
+    alloc: Global,
+    modules: &Modules<S>,
+    required: &[Vec<usize>],
+    marks: &mut Vec<usize>,
+    all: &mut Vec<Vec<(Name, Path)>>,
+) -> Result<(), AllocError>
+    requires indexes { AreIndexes modules.now (rows required.now) }
+    requires as_many { length marks.old.items ≡ length (provisions modules.now) }
+    requires unmarked { All (λ mark. mark ≤ 0) marks.old.items }
+    requires empty { all.old.items ≡ [] }
+    ensures { OnOk result (map (λ row. row.items) all.new.items
+        ≡ map (required_of modules.now) modules.now.objects) }
+{
+    modules.names_differ();
+    let mut mentioned = Vec::new(alloc);
     for (object, row) in required.iter().enumerate() {
-        list_mentions(row.as_slice(), object + 1, &mut marks, &mut mentioned)?;
+        list_mentions(row.as_slice(), object + 1, marks, &mut mentioned)?;
         let pairs = pairs_at(alloc, modules, mentioned.as_slice())?;
         all.push(pairs)?;
     }
-    Ok(all)
+    Ok(())
 }
 
 /// Puts into `mentioned`, in place of what it held, the indexes in order of first mention, each

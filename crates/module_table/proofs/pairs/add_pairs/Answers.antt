@@ -14,7 +14,7 @@ use Rattle.module_table.proofs.Repetitions.{take_next}
 use Rattle.module_table.proofs.Rings.{length_mapped}
 use Rattle.module_table.proofs.IndexRows.{take_all, many_rows, rule_of, name_of_index}
 use Rattle.module_table.proofs.Marks.{row_names, pairs_found}
-use Rattle.module_table.proofs.pairs.all_pairs.Goals as goal
+use Rattle.module_table.proofs.pairs.add_pairs.Goals as goal
 
 abbrev items_of : Vec ℕ Global → List ℕ
 items_of row = row.items
@@ -27,7 +27,7 @@ list_mentions-requires-clause-within g c = λ k d lt.
     let row = c.index-required-object.result in
     let slice = c.as_slice.result.now in
     let at = slice_get_read c.args.required.now _ i row refl c.loop-object-test.true c.index-required-object.is in
-    let rule = rule_of t (rows c.args.required.now) c.requires i row.items (to_map items_of c.args.required.now i row at) in
+    let rule = rule_of t (rows c.args.required.now) c.requires.indexes i row.items (to_map items_of c.args.required.now i row at) in
     let here = ap (λ xs. slice_get xs k) (sym c.as_slice.ensures.value) ∙ slice_get-get_or slice k d lt in
     let n = name_of_index names row.items rule.0.required rule.2 k (get_or slice k d) here in
     let inside = slice_get_within names (get_or slice k d) n.0 n.2 in
@@ -44,7 +44,7 @@ loop-object-preserved g c =
     let i = c.loop-object.object in
     let row = c.index-required-object.result in
     let at = slice_get_read c.args.required.now _ i row refl c.loop-object-test.true c.index-required-object.is in
-    let rule = rule_of t (rows c.args.required.now) c.requires i row.items (to_map items_of c.args.required.now i row at) in
+    let rule = rule_of t (rows c.args.required.now) c.requires.indexes i row.items (to_map items_of c.args.required.now i row at) in
     let many = c.loop-object.invariant.as_many in
     let long = length_mapped (λ (p : Provision). p.name) ps ∙ sym many in
     let mentioned = c.list_mentions.new.mentioned.items in
@@ -65,7 +65,7 @@ loop-object-preserved g c =
 pub returns : goal.returns
 returns g c =
     let t = c.args.modules.now in
-    let many = many_rows t (rows c.args.required.now) c.requires in
+    let many = many_rows t (rows c.args.required.now) c.requires.indexes in
     let long = length_mapped items_of c.args.required.now in
     let all : length t.objects ≤ c.loop-object.object = omega (arith, c.loop-object-test.false, many, long) in
     c.loop-object.invariant.found ∙ ap (map (required_of t)) (take_all t.objects c.loop-object.object all)
