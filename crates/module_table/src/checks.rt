@@ -133,7 +133,8 @@ fn check_repetitions<'t, S: BuildHasher + Copy>(
     ensures fault { IfErr result (ForFault (λ fault. (kept : List (List ℕ)) →
         IsReported (table_with objects.now infos.now) kept fault)) }
 {
-    let mut paths = check_objects(alloc, objects, hash_builder)?;
+    let mut paths = IndexSet::with_hasher(alloc, hash_builder);
+    check_objects(alloc, objects, &mut paths)?;
     check_provided(alloc, objects, infos, &mut paths, hash_builder)
 }
 

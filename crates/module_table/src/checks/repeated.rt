@@ -18,25 +18,8 @@ use scan_docs::{Info, Name, Rule, TargetName};
 use std::alloc::{AllocError, Global};
 use std::hash::BuildHasher;
 
-/// M1: no two objects have one path. Answers the paths, each with its object's index.
-pub(crate) fn check_objects<'t, S: BuildHasher + Copy>(
-    alloc: Global,
-    objects: &'t [Rule],
-    hash_builder: S,
-) -> Result<IndexSet<&'t Path, S>, Failure<TableFault>>
-    ensures paths { IfOk result (λ paths.
-        map (λ path. path.now) paths.keys ≡ map (λ rule. rule.object) objects.now) }
-    ensures differ { OnOk result (AllDiffer (map (λ rule. rule.object) objects.now)) }
-    ensures fault { IfErr result (ForFault (λ fault. (t : TableValue) (kept : List (List ℕ)) →
-        objects.now ≡ t.objects → Reports 1 t kept fault)) }
-{
-    let mut paths = IndexSet::with_capacity_and_hasher(alloc, objects.len(), hash_builder)?;
-    add_paths(alloc, objects, &mut paths)?;
-    Ok(paths)
-}
-
-/// Puts the objects' paths into the empty set, if none is there twice.
-fn add_paths<'t, S: BuildHasher>(
+/// M1: no two objects have one path. Puts the paths into the empty set, each at its object's index.
+pub(crate) fn check_objects<'t, S: BuildHasher>(
     alloc: Global,
     objects: &'t [Rule],
     paths: &mut IndexSet<&'t Path, S>,
@@ -48,6 +31,7 @@ fn add_paths<'t, S: BuildHasher>(
     ensures fault { IfErr result (ForFault (λ fault. (t : TableValue) (kept : List (List ℕ)) →
         objects.now ≡ t.objects → Reports 1 t kept fault)) }
 {
+    paths.reserve(objects.len())?;
     for (index, rule) in objects.iter().enumerate() {
         let (first, is_new) = paths.insert_full(&rule.object)?;
         if !is_new {
@@ -72,7 +56,7 @@ pub(crate) fn check_infos<S: BuildHasher + Copy>(
     ensures fault { IfErr result (ForFault (λ fault. (t : TableValue) (kept : List (List ℕ)) →
         infos.now ≡ t.infos → Reports 2 t kept fault)) }
 {
-    let mut targets = IndexSet::with_capacity_and_hasher(alloc, infos.len(), hash_builder)?;
+    let mut targets = IndexSet::with_hasher(alloc, hash_builder);
     add_targets(alloc, infos, &mut targets)
 }
 
@@ -87,6 +71,7 @@ fn add_targets<'t, S: BuildHasher>(
     ensures fault { IfErr result (ForFault (λ fault. (t : TableValue) (kept : List (List ℕ)) →
         infos.now ≡ t.infos → Reports 2 t kept fault)) }
 {
+    targets.reserve(infos.len())?;
     for info in infos {
         let (_, is_new) = targets.insert_full(&info.target)?;
         if !is_new {
@@ -111,27 +96,12 @@ pub(crate) fn check_names<'t, S: BuildHasher + Copy>(
         Reports 3 (table_with objects.now infos.now) kept fault)) }
 {
     let provided = provided_modules(alloc, objects, infos)?;
-    let names = names_once(alloc, provided.as_slice(), hash_builder)?;
+    let mut names = IndexSet::with_hasher(alloc, hash_builder);
+    add_names(alloc, provided.as_slice(), &mut names)?;
     Ok(Modules::new(objects, infos, provided, names))
 }
 
-/// The names of the modules, each with its module's index, if none is there twice.
-fn names_once<S: BuildHasher + Copy>(
-    alloc: Global,
-    provided: &[Module],
-    hash_builder: S,
-) -> Result<IndexSet<Name, S>, Failure<TableFault>>
-    ensures names { IfOk result (λ names. names.keys ≡ names_of (map provision_of provided.now)) }
-    ensures differ { IfOk result (λ names. AllDiffer names.keys) }
-    ensures fault { IfErr result (ForFault (λ fault. (t : TableValue) (kept : List (List ℕ)) →
-        map provision_of provided.now ≡ provisions t → Reports 3 t kept fault)) }
-{
-    let mut names = IndexSet::with_capacity_and_hasher(alloc, provided.len(), hash_builder)?;
-    add_names(alloc, provided, &mut names)?;
-    Ok(names)
-}
-
-/// Puts the modules' names into the empty set, if none is there twice.
+/// Puts the modules' names into the empty set, each at its module's index, if none is there twice.
 fn add_names<S: BuildHasher>(
     alloc: Global,
     provided: &[Module],
@@ -143,6 +113,7 @@ fn add_names<S: BuildHasher>(
     ensures fault { IfErr result (ForFault (λ fault. (t : TableValue) (kept : List (List ℕ)) →
         map provision_of provided.now ≡ provisions t → Reports 3 t kept fault)) }
 {
+    names.reserve(provided.len())?;
     for (index, module) in provided.iter().enumerate() {
         let name = module.name.copy(alloc)?;
         let (first, is_new) = names.insert_full(name)?;

@@ -4,9 +4,9 @@ use Rattle.module_table.specs.TableValue.{TableValue}
 use Rattle.module_table.proofs.Passing.{for_every_kept, reported, none_passed}
 use Rattle.module_table.proofs.checks.check_repetitions.Goals as goal
 
-pub returns-in_err-paths-clause-fault : goal.returns-in_err-paths-clause-fault
-returns-in_err-paths-clause-fault g c =
+pub returns-in_err-check_objects-clause-fault : goal.returns-in_err-check_objects-clause-fault
+returns-in_err-check_objects-clause-fault g c =
     let t : TableValue = record { objects = c.args.objects.now; infos = c.args.infos.now } in
     let p = err_from_is_err_and c.from_residual.result c.from_residual.ensures.1 in
     rw (p.1, p.2)
-    (for_every_kept t _ _ (λ kept fault is. reported t kept 1 fault (is t kept refl) (none_passed t kept)) c.in_err-paths.ensures.fault)
+    (for_every_kept t _ _ (λ kept fault is. reported t kept 1 fault (is t kept refl) (none_passed t kept)) c.in_err-check_objects.ensures.fault)

@@ -4,7 +4,7 @@ use Rattle.scan_docs.specs.Scan.{RuleValue}
 use Rattle.module_table.specs.Firsts.{IsFirstRepetition}
 use Rattle.module_table.proofs.Places.{to_map}
 use Rattle.module_table.proofs.Repetitions.{repeats_if_found, keys_if_new, differ_if_new, text_repetition}
-use Rattle.module_table.proofs.checks.repeated.add_paths.Goals as goal
+use Rattle.module_table.proofs.checks.repeated.check_objects.Goals as goal
 
 abbrev text_of : Bor (List ℕ) → List ℕ
 text_of path = path.now

@@ -1,6 +1,6 @@
 use Rattle.std.proofs.Common.{◌≡◌, map, take}
 use Rattle.module_table.specs.inner.Repetition.{AllDiffer}
-use Rattle.module_table.proofs.checks.repeated.add_paths.Given as goal
+use Rattle.module_table.proofs.checks.repeated.check_objects.Given as goal
 
 abbrev pub invariant-loop-index : goal.invariant-loop-index
 invariant-loop-index g l = record { same : map (λ path. path.now) l.paths.keys ≡ take l.index (map (λ rule. rule.object) l.objects); differ : AllDiffer (take l.index (map (λ rule. rule.object) l.objects)) }
