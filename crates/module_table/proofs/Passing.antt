@@ -116,20 +116,17 @@ module _ (t : TableValue) (kept : List (List ℕ)) where
 
   -- ---- M1 to M4, and M5 to M10, in turn
 
-  module _ (objects : AllDiffer (map (λ (rule : RuleValue). rule.object) t.objects)) where
-    pub after_objects : Passed 2 t kept
-    after_objects = next_passed 1 none_passed (objects_lack objects)
+  pub after_objects : AllDiffer (map (λ (rule : RuleValue). rule.object) t.objects) → Passed 2 t kept
+  after_objects objects = next_passed 1 none_passed (objects_lack objects)
 
-    module _ (infos : AllDiffer (map (λ (info : InfoValue). info.target) t.infos)) where
-      pub after_infos : Passed 3 t kept
-      after_infos = next_passed 2 after_objects (infos_lack infos)
+  pub after_infos : AllDiffer (map (λ (info : InfoValue). info.target) t.infos) → Passed 2 t kept → Passed 3 t kept
+  after_infos infos passed = next_passed 2 passed (infos_lack infos)
 
-      module _ (names : AllDiffer (names_of (provisions t))) where
-        pub after_names : Passed 4 t kept
-        after_names = next_passed 3 after_infos (names_lack names)
+  pub after_names : AllDiffer (names_of (provisions t)) → Passed 3 t kept → Passed 4 t kept
+  after_names names passed = next_passed 3 passed (names_lack names)
 
-        pub after_files : AllDiffer (map (λ (rule : RuleValue). rule.object) t.objects ++ files_of (provisions t)) → Passed 5 t kept
-        after_files files = next_passed 4 after_names (files_lack files)
+  pub after_files : AllDiffer (map (λ (rule : RuleValue). rule.object) t.objects ++ files_of (provisions t)) → Passed 4 t kept → Passed 5 t kept
+  after_files files passed = next_passed 4 passed (files_lack files)
 
   pub after_known : (rows : List (List ℕ)) → AreIndexes t rows → Passed 5 t kept → Passed 6 t kept
   after_known rows is passed = next_passed 5 passed (requirements_lack (rows_known rows is))

@@ -3,6 +3,7 @@
 //! M10 in `privacy.rt`.
 ghost use Rattle.std.specs.Prelude.{◌≡◌, ℕ, List, map, IfOk, IfErr, OnOk};
 ghost use Rattle.ninja_text.specs.Failure.{ForFault};
+ghost use Rattle.indexmap.specs.IndexSet.{IsEmpty};
 ghost use Rattle.dep_order.specs.Rows.{rows};
 ghost use Rattle.module_table.specs.TableValue.{table_with};
 ghost use Rattle.module_table.specs.Modules.{provisions};
@@ -74,32 +75,42 @@ pub(crate) fn check_all<S: BuildHasher + Copy>(
         (IsReported (table_with objects.now infos.now) kept.now)) }
 {
     let modules = check_repetitions(alloc, objects, infos, hash_builder)?;
-    let rows = check_requirements(alloc, &modules, kept)?;
-    Ok(Index::new(alloc, modules, rows)?)
+    let lookups = check_modules(alloc, &modules, kept)?;
+    Ok(Index {
+        names: modules.into_names(),
+        origins: lookups.origins,
+        graph: lookups.graph,
+        required: lookups.required,
+    })
 }
 
-impl<S: BuildHasher + Copy> Index<S> {
-    /// What a table keeps of these modules, where the objects require those of these indexes.
-    fn new(
+/// What is kept in an index beside the names.
+#[derive(Drop)]
+struct Lookups {
+    origins: Vec<(Maker, usize)>,
+    graph: Digraph,
+    required: Vec<Vec<(Name, Path)>>,
+}
+
+impl Lookups {
+    /// Those of the modules, where each object requires the modules of a row of indexes.
+    fn new<S: BuildHasher>(
         alloc: Global,
-        modules: Modules<S>,
-        required: Vec<Vec<usize>>,
-    ) -> Result<Index<S>, AllocError>
-        requires { AreIndexes modules (rows required.items) }
-        ensures names { IfOk result
-            (λ index. index.names.keys ≡ names_of (provisions modules.entry)) }
-        ensures origins { IfOk result (λ index. index.origins.items ≡ origins_of modules.entry) }
-        ensures graph { IfOk result (λ index. IsModuleGraph modules.entry index.graph) }
-        ensures required { IfOk result (λ index. map (λ row. row.items) index.required.items
-            ≡ map (required_of modules.entry) modules.entry.objects) }
+        modules: &Modules<S>,
+        rows: Vec<Vec<usize>>,
+    ) -> Result<Lookups, AllocError>
+        requires { AreIndexes modules.now (map (λ row. row.items) rows.items) }
+        ensures origins { IfOk result (λ l. l.origins.items ≡ origins_of modules.now) }
+        ensures graph { IfOk result (λ l. IsModuleGraph modules.now l.graph) }
+        ensures required { IfOk result (λ l. map (λ row. row.items) l.required.items
+            ≡ map (required_of modules.now) modules.now.objects) }
     {
-        let pairs = all_pairs(alloc, &modules, required.as_slice())?;
-        let (origins, graph) = origins_and_graph(alloc, &modules, required)?;
-        Ok(Index {
-            names: modules.into_names(),
+        let required = all_pairs(alloc, modules, rows.as_slice())?;
+        let (origins, graph) = origins_and_graph(alloc, modules, rows)?;
+        Ok(Lookups {
             origins,
             graph,
-            required: pairs,
+            required,
         })
     }
 }
@@ -134,12 +145,33 @@ fn check_repetitions<'t, S: BuildHasher + Copy>(
         IsReported (table_with objects.now infos.now) kept fault)) }
 {
     let mut paths = IndexSet::with_hasher(alloc, hash_builder);
-    check_objects(alloc, objects, &mut paths)?;
+    check_objects_and_infos(alloc, objects, infos, &mut paths, hash_builder)?;
     check_provided(alloc, objects, infos, &mut paths, hash_builder)
 }
 
-/// M2 to M4, and the modules by index. `paths` are those of the objects, which differ by M1; the
-/// modules' files come behind them.
+/// M1 and M2. Puts the paths of the objects into the empty set.
+fn check_objects_and_infos<'t, S: BuildHasher + Copy>(
+    alloc: Global,
+    objects: &'t [Rule],
+    infos: &[Info],
+    paths: &mut IndexSet<&'t Path, S>,
+    hash_builder: S,
+) -> Result<(), Failure<TableFault>>
+    requires { IsEmpty paths.old }
+    ensures paths { OnOk result
+        (map (λ path. path.now) paths.new.keys ≡ map (λ rule. rule.object) objects.now) }
+    ensures differ { OnOk result (AllDiffer (map (λ rule. rule.object) objects.now)) }
+    ensures passed { OnOk result ((kept : List (List ℕ)) →
+        Passed 3 (table_with objects.now infos.now) kept) }
+    ensures fault { IfErr result (ForFault (λ fault. (kept : List (List ℕ)) →
+        IsReported (table_with objects.now infos.now) kept fault)) }
+{
+    check_objects(alloc, objects, paths)?;
+    check_infos(alloc, infos, hash_builder)?;
+    Ok(())
+}
+
+/// M3 and M4, and the modules by index. The modules' files come behind the paths of the objects.
 fn check_provided<'t, S: BuildHasher + Copy>(
     alloc: Global,
     objects: &'t [Rule],
@@ -150,6 +182,7 @@ fn check_provided<'t, S: BuildHasher + Copy>(
     requires paths { map (λ path. path.now) paths.old.keys
         ≡ map (λ rule. rule.object) objects.now }
     requires differ { AllDiffer (map (λ rule. rule.object) objects.now) }
+    requires passed { (kept : List (List ℕ)) → Passed 3 (table_with objects.now infos.now) kept }
     ensures modules { IfOk result
         (λ modules. modules ≡ table_with objects.now infos.now) }
     ensures passed { OnOk result ((kept : List (List ℕ)) →
@@ -157,10 +190,27 @@ fn check_provided<'t, S: BuildHasher + Copy>(
     ensures fault { IfErr result (ForFault (λ fault. (kept : List (List ℕ)) →
         IsReported (table_with objects.now infos.now) kept fault)) }
 {
-    check_infos(alloc, infos, hash_builder)?;
     let modules = check_names(alloc, objects, infos, hash_builder)?;
     check_files(alloc, &modules, paths)?;
     Ok(modules)
+}
+
+/// M5 to M10, and what is kept of the modules beside their names.
+fn check_modules<S: BuildHasher>(
+    alloc: Global,
+    modules: &Modules<S>,
+    kept: &[Name],
+) -> Result<Lookups, Failure<TableFault>>
+    requires { Passed 5 modules.now kept.now }
+    ensures passed { OnOk result (Passed 11 modules.now kept.now) }
+    ensures origins { IfOk result (λ l. l.origins.items ≡ origins_of modules.now) }
+    ensures graph { IfOk result (λ l. IsModuleGraph modules.now l.graph) }
+    ensures required { IfOk result (λ l. map (λ row. row.items) l.required.items
+        ≡ map (required_of modules.now) modules.now.objects) }
+    ensures fault { IfErr result (ForFault (IsReported modules.now kept.now)) }
+{
+    let rows = check_requirements(alloc, modules, kept)?;
+    Ok(Lookups::new(alloc, modules, rows)?)
 }
 
 /// M5 to M10, and the indexes of the modules that each object requires.

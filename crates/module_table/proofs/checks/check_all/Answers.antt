@@ -19,31 +19,31 @@ returns-in_err-modules-clause-fault g c =
     let p = err_from_is_err_and c.from_residual.result c.from_residual.ensures.1 in
     rw (p.1, p.2) (for_these_kept t c.args.kept.now _ c.in_err-modules.ensures.fault)
 
-pub check_requirements-requires : goal.check_requirements-requires
-check_requirements-requires g c =
+pub check_modules-requires : goal.check_modules-requires
+check_modules-requires g c =
     let same = c.in_ok-modules.ensures.modules in
     subst (λ t. Passed 5 t c.args.kept.now) (sym same) (c.in_ok-modules.ensures.passed c.args.kept.now)
 
-pub returns-in_err-rows-clause-fault : goal.returns-in_err-rows-clause-fault
-returns-in_err-rows-clause-fault g c =
+pub returns-in_err-lookups-clause-fault : goal.returns-in_err-lookups-clause-fault
+returns-in_err-lookups-clause-fault g c =
     let same = c.in_ok-modules.ensures.modules in
-    let p = err_from_is_err_and c.from_residual-in_err-rows.result c.from_residual-in_err-rows.ensures.1 in
+    let p = err_from_is_err_and c.from_residual-in_err-lookups.result c.from_residual-in_err-lookups.ensures.1 in
     rw (p.1, p.2)
-    (for_fault _ _ _ (λ fault is. subst (λ t. IsReported t c.args.kept.now fault) same is) c.in_err-rows.ensures.fault)
+    (for_fault _ _ _ (λ fault is. subst (λ t. IsReported t c.args.kept.now fault) same is) c.in_err-lookups.ensures.fault)
 
 pub returns-clause-no_fault : goal.returns-clause-no_fault
 returns-clause-no_fault g c =
     let t : TableValue = record { objects = c.args.objects.now; infos = c.args.infos.now } in
-    without_fault t c.args.kept.now (subst (λ u. Passed 11 u c.args.kept.now) c.in_ok-modules.ensures.modules c.in_ok-rows.ensures.passed)
+    without_fault t c.args.kept.now (subst (λ u. Passed 11 u c.args.kept.now) c.in_ok-modules.ensures.modules c.in_ok-lookups.ensures.passed)
 
 pub returns-clause-names : goal.returns-clause-names
-returns-clause-names g c = c.in_ok-new.ensures.names ∙ ap (λ t. names_of (provisions t)) c.in_ok-modules.ensures.modules
+returns-clause-names g c = c.into_names.ensures ∙ ap (λ t. names_of (provisions t)) c.in_ok-modules.ensures.modules
 
 pub returns-clause-origins : goal.returns-clause-origins
-returns-clause-origins g c = c.in_ok-new.ensures.origins ∙ ap origins_of c.in_ok-modules.ensures.modules
+returns-clause-origins g c = c.in_ok-lookups.ensures.origins ∙ ap origins_of c.in_ok-modules.ensures.modules
 
 pub returns-clause-graph : goal.returns-clause-graph
-returns-clause-graph g c = subst (λ t. IsModuleGraph t c.in_ok-new.field-0.graph) c.in_ok-modules.ensures.modules c.in_ok-new.ensures.graph
+returns-clause-graph g c = subst (λ t. IsModuleGraph t c.in_ok-lookups.lookups.graph) c.in_ok-modules.ensures.modules c.in_ok-lookups.ensures.graph
 
 pub returns-clause-required : goal.returns-clause-required
-returns-clause-required g c = c.in_ok-new.ensures.required ∙ ap (λ (t : TableValue). map (required_of t) t.objects) c.in_ok-modules.ensures.modules
+returns-clause-required g c = c.in_ok-lookups.ensures.required ∙ ap (λ (t : TableValue). map (required_of t) t.objects) c.in_ok-modules.ensures.modules

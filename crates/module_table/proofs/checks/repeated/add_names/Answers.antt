@@ -1,11 +1,14 @@
 use Rattle.std.proofs.Common.{◌≡◌, ◌∙◌, ap, sym, refl, map, List, ℕ, Some, slice_get}
 use Rattle.std.proofs.lemmas.Option.{slice_get_read}
-use Rattle.module_table.specs.inner.Views.{provision_of, names_of}
-use Rattle.module_table.specs.Modules.{Provision}
+use Rattle.module_table.specs.inner.Views.{provision_of, names_of, IsProvidedTwice}
+use Rattle.module_table.specs.inner.Reported.{Reports}
+use Rattle.module_table.specs.declared.fault.TableFault.{TableFault}
+use Rattle.module_table.specs.TableValue.{TableValue}
+use Rattle.module_table.specs.Modules.{Provision, provisions}
 use Rattle.module_table.specs.declared.modules.Module.{Module}
 use Rattle.module_table.proofs.Places.{to_map}
 use Rattle.module_table.proofs.Repetitions.{repeats_if_found, keys_if_new, differ_if_new, map_same}
-use Rattle.module_table.proofs.ReportLemmas.{reports_provided_twice}
+use Rattle.module_table.proofs.ReportLemmas.{for_fault, for_made, reports_provided_twice}
 use Rattle.module_table.proofs.checks.repeated.add_names.Goals as goal
 
 abbrev name_of : Provision → List ℕ
@@ -16,14 +19,19 @@ name_at : (provided : List Module) (place : ℕ) (p : Module) → slice_get prov
 name_at provided place p at name same = to_map name_of (map provision_of provided) place (provision_of p) (to_map provision_of provided place p at) ∙ ap (λ n. Some n) (sym same)
 
 pub returns-then-not-is_new-clause-fault : goal.returns-then-not-is_new-clause-fault
-returns-then-not-is_new-clause-fault g c = λ t kept same.
+returns-then-not-is_new-clause-fault g c =
     let list = map provision_of c.args.provided.now in
-    let at = name_at c.args.provided.now c.loop-index.index c.index-provided-index.result (slice_get_read c.args.provided.now _ c.loop-index.index c.index-provided-index.result refl c.loop-index-test.true c.index-provided-index.is) c.in_ok-name.name c.in_ok-name.ensures in
+    let i = c.loop-index.index in
+    let first = c.in_ok-first.first in
+    let at = name_at c.args.provided.now i c.index-provided-index.result (slice_get_read c.args.provided.now _ i c.index-provided-index.result refl c.loop-index-test.true c.index-provided-index.is) c.in_ok-name.name c.in_ok-name.ensures in
     let before = map_same c.loop-index.names.keys ∙ c.loop-index.invariant.same in
     let h = c.in_ok-first.ensures in
     let stored = h.stored in
-    let repeated = repeats_if_found (λ n. n) (names_of list) c.loop-index.index c.in_ok-name.name c.loop-index.names.keys c.insert_full.new.self.keys at before c.loop-index.invariant.differ h.keys c.in_ok-first.first (sym c.if-not-is_new.true ∙ h.added) stored.0 stored.1 stored.2 in
-    reports_provided_twice t kept c.in_ok-first.first c.loop-index.index c.in_ok-provided_twice.field-0 list same repeated c.in_ok-provided_twice.ensures
+    let repeated = repeats_if_found (λ n. n) (names_of list) i c.in_ok-name.name c.loop-index.names.keys c.insert_full.new.self.keys at before c.loop-index.invariant.differ h.keys first (sym c.if-not-is_new.true ∙ h.added) stored.0 stored.1 stored.2 in
+    let is_twice : TableFault → Type 0 = IsProvidedTwice list first i in
+    for_fault is_twice (λ fault. (t : TableValue) (kept : List (List ℕ)) → list ≡ provisions t → Reports 3 t kept fault) _
+    (λ fault is t kept same. reports_provided_twice t kept first i fault list same repeated is)
+    (for_made is_twice c.provided_twice.result c.failure.result c.failure.ensures.fault c.failure.ensures.memory c.provided_twice.ensures)
 
 pub loop-index-preserved : goal.loop-index-preserved
 loop-index-preserved g c =
