@@ -76,12 +76,7 @@ pub(crate) fn check_all<S: BuildHasher + Copy>(
 {
     let modules = check_repetitions(alloc, objects, infos, hash_builder)?;
     let lookups = check_modules(alloc, &modules, kept)?;
-    Ok(Index {
-        names: modules.into_names(),
-        origins: lookups.origins,
-        graph: lookups.graph,
-        required: lookups.required,
-    })
+    Ok(lookups.with_names(modules.into_names()))
 }
 
 /// What is kept in an index beside the names.
@@ -112,6 +107,21 @@ impl Lookups {
             graph,
             required,
         })
+    }
+
+    /// The index with these names.
+    fn with_names<S: BuildHasher>(self, names: IndexSet<Name, S>) -> Index<S>
+        ensures names { result.names.keys ≡ names.keys }
+        ensures origins { result.origins.items ≡ self.origins.items }
+        ensures graph { result.graph ≡ self.graph }
+        ensures required { result.required.items ≡ self.required.items }
+    {
+        Index {
+            names,
+            origins: self.origins,
+            graph: self.graph,
+            required: self.required,
+        }
     }
 }
 

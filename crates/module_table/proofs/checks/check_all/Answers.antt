@@ -37,13 +37,16 @@ returns-clause-no_fault g c =
     without_fault t c.args.kept.now (subst (λ u. Passed 11 u c.args.kept.now) c.in_ok-modules.ensures.modules c.in_ok-lookups.ensures.passed)
 
 pub returns-clause-names : goal.returns-clause-names
-returns-clause-names g c = c.into_names.ensures ∙ ap (λ t. names_of (provisions t)) c.in_ok-modules.ensures.modules
+returns-clause-names g c = c.with_names.ensures.names ∙ c.into_names.ensures ∙ ap (λ t. names_of (provisions t)) c.in_ok-modules.ensures.modules
 
 pub returns-clause-origins : goal.returns-clause-origins
-returns-clause-origins g c = c.in_ok-lookups.ensures.origins ∙ ap origins_of c.in_ok-modules.ensures.modules
+returns-clause-origins g c = c.with_names.ensures.origins ∙ c.in_ok-lookups.ensures.origins ∙ ap origins_of c.in_ok-modules.ensures.modules
 
 pub returns-clause-graph : goal.returns-clause-graph
-returns-clause-graph g c = subst (λ t. IsModuleGraph t c.in_ok-lookups.lookups.graph) c.in_ok-modules.ensures.modules c.in_ok-lookups.ensures.graph
+returns-clause-graph g c =
+    subst (IsModuleGraph (record { objects = c.args.objects.now; infos = c.args.infos.now })) (sym c.with_names.ensures.graph)
+    (subst (λ t. IsModuleGraph t c.in_ok-lookups.lookups.graph) c.in_ok-modules.ensures.modules c.in_ok-lookups.ensures.graph)
 
 pub returns-clause-required : goal.returns-clause-required
-returns-clause-required g c = c.in_ok-lookups.ensures.required ∙ ap (λ (t : TableValue). map (required_of t) t.objects) c.in_ok-modules.ensures.modules
+returns-clause-required g c =
+    ap (map (λ row. row.items)) c.with_names.ensures.required ∙ c.in_ok-lookups.ensures.required ∙ ap (λ (t : TableValue). map (required_of t) t.objects) c.in_ok-modules.ensures.modules
