@@ -73,10 +73,10 @@ module _ (g : List EdgeValue) (name : List ℕ) (ss additions : List StatementVa
       let at : (e : EdgeValue) × (slice_get g i ≡ Some e) = element_at g i (omega (arith, within, gives.same_edges)) in
       elim (on_or_not (statement_on statement_of i)) [
         | inl none ↦
-            let unnamed : at.0.dyndep ≢ Some name = λ names. (let k = checked.have i at.0 at.1 names in let both : None ≡ Some k.0 = sym none ∙ k.1 in cc) in
+            let unnamed : at.0.dyndep ≢ Some name = λ names. (let k = checked.matched.have i at.0 at.1 names in let both : None ≡ Some k.0 = sym none ∙ k.1 in cc) in
             same_some _ _ (sym at_x ∙ gives.others i at.0 at.1 unnamed ∙ sym (are.plain i at.0 at.1 none) ∙ at_y)
         | inr some ↦
-            let p = checked.on i some.0 some.1 in
+            let p = checked.matched.on i some.0 some.1 in
             let edge : p.2.0 ≡ at.0 = same_some _ _ (sym p.2.1 ∙ at.1) in
             let names : Names name at.0 = subst (λ (z : EdgeValue). Names name z) edge p.2.2 in
             let q = gives.named i at.0 at.1 names in
@@ -87,7 +87,7 @@ module _ (g : List EdgeValue) (name : List ℕ) (ss additions : List StatementVa
 
   pub is_effect : IsGraph g → ChecksSuffice → Gives g name additions new × OnlyEffect g name ss new
   is_effect graph suffice =
-      let r = suffice g name ss additions graph.made_once checked.canonical checked.bound checked.single checked.mentioned checked.fresh in
+      let r = suffice g name ss additions graph.made_once checked.canonical checked.matched.bound checked.matched.single checked.matched.mentioned checked.fresh in
       let same = given_are r.0 r.1 in
       (subst (Gives g name additions) same r.1, subst (OnlyEffect g name ss) same r.2)
 
@@ -98,7 +98,7 @@ module _ (g : List EdgeValue) (name : List ℕ) (ss additions : List StatementVa
       let at : (e : EdgeValue) × (slice_get g i ≡ Some e) = element_at g i (omega (arith, within, are.as_many)) in
       elim (on_or_not (statement_on statement_of i)) [
         | inl none ↦ (at.0, at.1, inl (same_some _ _ (sym at_x ∙ are.plain i at.0 at.1 none)))
-        | inr some ↦ let p = checked.on i some.0 some.1 in (at.0, at.1, inr (p.0, same_some _ _ (sym at_x ∙ are.more i some.0 at.0 p.0 at.1 some.1 p.1)))
+        | inr some ↦ let p = checked.matched.on i some.0 some.1 in (at.0, at.1, inr (p.0, same_some _ _ (sym at_x ∙ are.more i some.0 at.0 p.0 at.1 some.1 p.1)))
       ]
 
   still_reads : (e : EdgeValue) (a : StatementValue) (file : List ℕ) → Reads e file → Reads (extended e a) file

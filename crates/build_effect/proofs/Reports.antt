@@ -5,11 +5,11 @@ use Rattle.dyndep_file.specs.StatementValue.{StatementValue}
 use Rattle.build_effect.specs.EdgeValue.{EdgeValue}
 use Rattle.build_effect.specs.Graphs.{MadeOnce, Names, IsGraph}
 use Rattle.build_effect.specs.Effect.{AreCanonical, IsOn, AllBound}
-use Rattle.build_effect.specs.Faults.{IsRepeated, NoneRepeated, IsMentioned, AllMentioned, NoneMadeBefore, IsEffectFault}
+use Rattle.build_effect.specs.Faults.{IsRepeated, NoneRepeated, IsMentioned, AllMentioned, IsEffectFault}
 use Rattle.build_effect.specs.inner.BadPaths.{IsBadStatement}
 use Rattle.build_effect.specs.inner.StatementEdges.{IsBoundTo, AreEdgesOf, IsFirstUnbound, statement_on, AreInverse, IsFirstRepeated, HaveStatements, IsFirstUnmentioned}
 use Rattle.build_effect.specs.inner.Added.{IsFirstMade}
-use Rattle.build_effect.specs.inner.Checked.{AreChecked}
+use Rattle.build_effect.specs.inner.Checked.{AreMatched, IsFaultOf}
 use Rattle.build_effect.specs.declared.fault.EffectFault.{EffectFault}
 use Rattle.build_effect.specs.declared.fault.EffectFault.TheVariants.{BadPath}
 use Rattle.build_effect.proofs.Lists.{same_some, element_at}
@@ -23,10 +23,10 @@ reports_bad_path g name ss fault (k, s, first, (j, text, inner, bad)) =
     let is : fault ≡ BadPath k j bad.0 = bad.2 ∙ ap (λ n. BadPath k n bad.0) same_index in
     subst (IsEffectFault g name ss) (sym is) (s, text, first, inner, bad.1)
 
-pub reports_unbound : (g : List EdgeValue) (name : List ℕ) (ss additions : List StatementValue) (fault : EffectFault) → AreCanonical ss additions → IsFirstUnbound g name additions fault → IsEffectFault g name ss fault
-reports_unbound g name ss additions fault canonical h = subst (IsEffectFault g name ss) (sym h.3) (additions, h.0, h.1, canonical, h.2, refl)
+pub reports_unbound : (g : List EdgeValue) (name : List ℕ) (additions : List StatementValue) (fault : EffectFault) → IsFirstUnbound g name additions fault → IsFaultOf g name additions fault
+reports_unbound g name additions fault h ss canonical = subst (IsEffectFault g name ss) (sym h.3) (additions, h.0, h.1, canonical, h.2, refl)
 
-module _ (g : List EdgeValue) (name : List ℕ) (ss additions : List StatementValue) (edge_of : List ℕ) (once : MadeOnce g) (canonical : AreCanonical ss additions) (are : AreEdgesOf g name additions edge_of) where
+module _ (g : List EdgeValue) (name : List ℕ) (additions : List StatementValue) (edge_of : List ℕ) (once : MadeOnce g) (are : AreEdgesOf g name additions edge_of) where
   pub all_bound : AllBound g name additions
   all_bound k a at = let p = bound_of g name additions edge_of k a are at in (p.0, p.2.0, p.2.1, p.2.2, p.2.3)
 
@@ -47,8 +47,8 @@ module _ (g : List EdgeValue) (name : List ℕ) (ss additions : List StatementVa
       let a : (a : StatementValue) × (slice_get additions k ≡ Some a) = element_at additions k (omega (arith, within, are.count)) in
       (a.0, a.1, are.each k a.0 i a.1 at)
 
-  pub reports_repeated : (fault : EffectFault) → IsFirstRepeated edge_of additions fault → IsEffectFault g name ss fault
-  reports_repeated fault (j, k, a, r, at, is) =
+  pub reports_repeated : (fault : EffectFault) → IsFirstRepeated edge_of additions fault → IsFaultOf g name additions fault
+  reports_repeated fault (j, k, a, r, at, is) ss canonical =
       subst (IsEffectFault g name ss) (sym is) (additions, k, a, canonical, all_bound, record { here = at; holds = holds; before = before }, refl)
     where
       holds : IsRepeated g additions k a
@@ -70,8 +70,8 @@ module _ (g : List EdgeValue) (name : List ℕ) (ss additions : List StatementVa
         let same : j ≡ k = same_some _ _ (sym q ∙ p) in
         omega (arith, same, less)
 
-    pub reports_unmentioned : (fault : EffectFault) → IsFirstUnmentioned g name statement_of fault → IsEffectFault g name ss fault
-    reports_unmentioned fault (i, e, output, first, out, is) =
+    pub reports_unmentioned : (fault : EffectFault) → IsFirstUnmentioned g name statement_of fault → IsFaultOf g name additions fault
+    reports_unmentioned fault (i, e, output, first, out, is) ss canonical =
         subst (IsEffectFault g name ss) (sym is) (additions, i, e, canonical, all_bound, none_repeated, record { here = first.here; holds = (first.holds.0, not_mentioned); before = before }, out)
       where
         not_mentioned : IsMentioned additions e → ⊥
@@ -97,18 +97,12 @@ module _ (g : List EdgeValue) (name : List ℕ) (ss additions : List StatementVa
           let edge : a.2.0 ≡ e = same_some _ _ (sym a.2.1 ∙ here) in
           (k.0, a.0, a.1, subst (IsOn a.0) edge a.2.3)
 
-      pub reports_made : (fault : EffectFault) → IsFirstMade g additions fault → IsEffectFault g name ss fault
-      reports_made fault (k, file, first, is) =
-          subst (IsEffectFault g name ss) (sym is) (additions, k, canonical, all_bound, none_repeated, all_mentioned, first)
-
-      pub all_checked : NoneMadeBefore g additions → AreChecked g name ss additions statement_of
-      all_checked fresh =
+      pub all_matched : AreMatched g name additions statement_of
+      all_matched =
           record {
-            canonical = canonical;
             bound = all_bound;
             single = none_repeated;
             mentioned = all_mentioned;
-            fresh = fresh;
             as_many = inverse.as_many;
             on = λ i k is. statement_at k i (inverse.from i k is);
             have = have;
@@ -120,6 +114,10 @@ module _ (g : List EdgeValue) (name : List ℕ) (ss additions : List StatementVa
       let i = get_or edge_of k d in
       let a = statement_at k i (slice_get-get_or edge_of k d lt) in
       slice_get_within g i a.2.0 a.2.1
+
+pub reports_made : (g : List EdgeValue) (name : List ℕ) (additions : List StatementValue) (statement_of : List (Option ℕ)) (fault : EffectFault) → AreMatched g name additions statement_of → IsFirstMade g additions fault → IsFaultOf g name additions fault
+reports_made g name additions statement_of fault are (k, file, first, is) ss canonical =
+    subst (IsEffectFault g name ss) (sym is) (additions, k, canonical, are.bound, are.single, are.mentioned, first)
 
 pub have_outputs : (g : List EdgeValue) → IsGraph g → All (λ e. e.outputs ≢ []) g
 have_outputs g graph k d lt = graph.outputs k (get_or g k d) (slice_get-get_or g k d lt)

@@ -9,8 +9,8 @@ ghost use Rattle.build_effect.specs.inner.Makers.{maker_in};
 use crate::addition::Addition;
 use crate::fault::EffectFault;
 use crate::files::add_paths;
-use crate::makers::maker_of;
-use indexmap::{IndexMap, IndexSet};
+use crate::makers::Makers;
+use indexmap::IndexSet;
 use ninja_text::{Failure, Path};
 use std::alloc::{AllocError, Global};
 use std::hash::BuildHasher;
@@ -19,11 +19,11 @@ use std::hash::BuildHasher;
 /// in its own.
 pub(crate) fn check_added<S: BuildHasher + Copy>(
     alloc: Global,
-    makers: &IndexMap<&Path, usize, S>,
+    makers: &Makers<'_, S>,
     additions: &[Addition],
 ) -> Result<(), Failure<EffectFault>>
-    ensures ok { OnOk result (AddsFresh (maker_in makers.now) additions.now) }
-    ensures fault { IfErr result (ForFault (AddsMade (maker_in makers.now) additions.now)) }
+    ensures ok { OnOk result (AddsFresh (maker_in makers.now.table) additions.now) }
+    ensures fault { IfErr result (ForFault (AddsMade (maker_in makers.now.table) additions.now)) }
 {
     let files = added_files(alloc, additions)?;
     match first_made(alloc, makers, files.as_slice())? {
@@ -50,15 +50,15 @@ fn added_files<'t>(alloc: Global, additions: &'t [Addition]) -> Result<Vec<&'t P
 /// one. The files are hashed as those of the makers are.
 fn first_made<S: BuildHasher + Copy>(
     alloc: Global,
-    makers: &IndexMap<&Path, usize, S>,
+    makers: &Makers<'_, S>,
     files: &[&Path],
 ) -> Result<Option<usize>, AllocError>
-    ensures made { IfOk result (FindsMadeIn (maker_in makers.now) (lists files.now)) }
+    ensures made { IfOk result (FindsMadeIn (maker_in makers.now.table) (lists files.now)) }
     ensures within { IfOk result (λ found. IfSome found (λ k. k < length files.now)) }
 {
-    let mut seen = IndexSet::with_hasher(alloc, *makers.hasher());
+    let mut seen = IndexSet::with_hasher(alloc, makers.hash_builder());
     for (file_index, file) in files.iter().enumerate() {
-        if maker_of(makers, *file).is_some() {
+        if makers.maker_of(*file).is_some() {
             return Ok(Some(file_index));
         }
         let is_new = seen.insert(*file)?;

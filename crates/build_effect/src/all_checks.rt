@@ -2,14 +2,15 @@
 ghost use Rattle.std.specs.Prelude.{IfOk, IfErr};
 ghost use Rattle.ninja_text.specs.Failure.{ForFault};
 ghost use Rattle.build_effect.specs.Graphs.{IsGraph};
-ghost use Rattle.build_effect.specs.Faults.{IsEffectFault};
-ghost use Rattle.build_effect.specs.inner.Checked.{AreChecked};
+ghost use Rattle.build_effect.specs.Faults.{IsEffectFault, NoneMadeBefore};
+ghost use Rattle.build_effect.specs.inner.Makers.{maker_in, AreMakers};
+ghost use Rattle.build_effect.specs.inner.Checked.{AreMatched, AreChecked, IsFaultOf};
 
 use crate::added::check_added;
 use crate::addition::{Addition, canonical_statements};
 use crate::edge::Edge;
 use crate::fault::EffectFault;
-use crate::makers::makers_of;
+use crate::makers::Makers;
 use crate::statement_edges::{check_mentioned, edges_of_statements, statements_of_edges};
 use dyndep_file::Statement;
 use ninja_text::{Failure, Path};
@@ -37,18 +38,49 @@ pub(crate) fn checked_statements<S: BuildHasher + Copy>(
     ensures fault { IfErr result (ForFault (IsEffectFault edges.now name.now statements.now)) }
 {
     let additions = canonical_statements(alloc, statements)?;
-    let makers = makers_of(alloc, edges, hash_builder)?;
-    let edge_of = edges_of_statements(alloc, edges, name, &makers, additions.as_slice())?;
-    let statement_of = statements_of_edges(
-        alloc,
-        edges.len(),
-        edge_of.as_slice(),
-        additions.as_slice(),
-    )?;
-    check_mentioned(alloc, edges, name, statement_of.as_slice())?;
-    check_added(alloc, &makers, additions.as_slice())?;
+    let statement_of = checked_additions(alloc, edges, name, additions.as_slice(), hash_builder)?;
     Ok(Checked {
         additions,
         statement_of,
     })
+}
+
+/// The checks of statements whose paths are canonical: E5, E4, E6, E7. The statement on each edge.
+fn checked_additions<S: BuildHasher + Copy>(
+    alloc: Global,
+    edges: &[Edge],
+    name: &Path,
+    additions: &[Addition],
+    hash_builder: S,
+) -> Result<Vec<Option<usize>>, Failure<EffectFault>>
+    requires { IsGraph edges.now }
+    ensures matched { IfOk result (λ statement_of.
+        AreMatched edges.now name.now additions.now statement_of.items) }
+    ensures fresh { IfOk result (λ _. NoneMadeBefore edges.now additions.now) }
+    ensures fault { IfErr result (ForFault (IsFaultOf edges.now name.now additions.now)) }
+{
+    let makers = Makers::of(alloc, edges, hash_builder)?;
+    let statement_of = matched_additions(alloc, edges, name, &makers, additions)?;
+    check_added(alloc, &makers, additions)?;
+    Ok(statement_of)
+}
+
+/// The checks of where the statements are: E5, E4, E6. The statement on each edge.
+fn matched_additions<S: BuildHasher + Copy>(
+    alloc: Global,
+    edges: &[Edge],
+    name: &Path,
+    makers: &Makers<'_, S>,
+    additions: &[Addition],
+) -> Result<Vec<Option<usize>>, Failure<EffectFault>>
+    requires graph { IsGraph edges.now }
+    requires makers { AreMakers edges.now (maker_in makers.now.table) }
+    ensures matched { IfOk result (λ statement_of.
+        AreMatched edges.now name.now additions.now statement_of.items) }
+    ensures fault { IfErr result (ForFault (IsFaultOf edges.now name.now additions.now)) }
+{
+    let edge_of = edges_of_statements(alloc, edges, name, makers, additions)?;
+    let statement_of = statements_of_edges(alloc, edges.len(), edge_of.as_slice(), additions)?;
+    check_mentioned(alloc, edges, name, statement_of.as_slice())?;
+    Ok(statement_of)
 }

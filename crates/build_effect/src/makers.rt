@@ -9,8 +9,35 @@ use ninja_text::Path;
 use std::alloc::{AllocError, Global};
 use std::hash::BuildHasher;
 
-/// The table of the edge that makes each file.
-pub(crate) fn makers_of<'t, S: BuildHasher + Copy>(
+/// The edge that makes each file, by its index.
+#[derive(Drop)]
+pub(crate) struct Makers<'t, S: BuildHasher> {
+    pub(crate) table: IndexMap<&'t Path, usize, S>,
+}
+
+impl<'t, S: BuildHasher + Copy> Makers<'t, S> {
+    /// The makers of the files that these edges make.
+    pub(crate) fn of(alloc: Global, edges: &'t [Edge], hash_builder: S) -> Result<Self, AllocError>
+        ensures { IfOk result (λ makers. AreMakers edges.now (maker_in makers.table)) }
+    {
+        let table = makers_of(alloc, edges, hash_builder)?;
+        Ok(Makers { table })
+    }
+
+    /// The edge that makes the file, if one does.
+    pub(crate) fn maker_of(&self, file: &Path) -> Option<usize>
+        ensures { result ≡ maker_in self.now.table file.now }
+    {
+        self.table.get(&file).copied()
+    }
+
+    /// What builds the hashers of the files.
+    pub(crate) fn hash_builder(&self) -> S {
+        *self.table.hasher()
+    }
+}
+
+fn makers_of<'t, S: BuildHasher + Copy>(
     alloc: Global,
     edges: &'t [Edge],
     hash_builder: S,
@@ -49,14 +76,4 @@ fn add_files<'t, S: BuildHasher>(
         makers.insert(file, edge_index)?;
     }
     Ok(())
-}
-
-/// The edge that makes the file, if one does.
-pub(crate) fn maker_of<S: BuildHasher>(
-    makers: &IndexMap<&Path, usize, S>,
-    file: &Path,
-) -> Option<usize>
-    ensures { result ≡ maker_in makers.now file.now }
-{
-    makers.get(&file).copied()
 }

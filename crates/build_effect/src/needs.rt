@@ -8,9 +8,8 @@ ghost use Rattle.build_effect.specs.inner.Makers.{maker_in, makers_row};
 
 use crate::edge::Edge;
 use crate::graph::Graph;
-use crate::makers::{maker_of, makers_of};
+use crate::makers::Makers;
 use dep_order::{Digraph, Sorting, order};
-use indexmap::IndexMap;
 use ninja_text::Path;
 use std::alloc::{AllocError, Global};
 use std::hash::{BuildHasher, BuildHasherDefault, FoldHasher};
@@ -38,7 +37,7 @@ pub fn edge_order_with_hasher<S: BuildHasher + Copy>(
     ensures { IfOk result (IsSortingOf (length graph.now) (EdgeNeeds graph.now)) }
 {
     let edges = graph.edges();
-    let makers = makers_of(alloc, edges, hash_builder)?;
+    let makers = Makers::of(alloc, edges, hash_builder)?;
     let needs = all_needs(alloc, edges, &makers)?;
     let digraph = Digraph::new(needs);
     let sorting = order(alloc, &digraph)?;
@@ -46,13 +45,13 @@ pub fn edge_order_with_hasher<S: BuildHasher + Copy>(
 }
 
 /// The makers of each edge's inputs.
-fn all_needs<S: BuildHasher>(
+fn all_needs<S: BuildHasher + Copy>(
     alloc: Global,
     edges: &[Edge],
-    makers: &IndexMap<&Path, usize, S>,
+    makers: &Makers<'_, S>,
 ) -> Result<Vec<Vec<usize>>, AllocError>
     ensures { IfOk result (λ needs.
-        rows needs.items ≡ map (makers_row (maker_in makers.now)) edges.now) }
+        rows needs.items ≡ map (makers_row (maker_in makers.now.table)) edges.now) }
 {
     let mut needs = Vec::with_capacity(alloc, edges.len())?;
     for edge in edges {
@@ -63,12 +62,12 @@ fn all_needs<S: BuildHasher>(
 }
 
 /// The makers of the edge's inputs.
-fn edge_needs<S: BuildHasher>(
+fn edge_needs<S: BuildHasher + Copy>(
     alloc: Global,
     edge: &Edge,
-    makers: &IndexMap<&Path, usize, S>,
+    makers: &Makers<'_, S>,
 ) -> Result<Vec<usize>, AllocError>
-    ensures { IfOk result (λ row. row.items ≡ makers_row (maker_in makers.now) edge.now) }
+    ensures { IfOk result (λ row. row.items ≡ makers_row (maker_in makers.now.table) edge.now) }
 {
     let mut row = Vec::new(alloc);
     add_makers(&edge.inputs, makers, &mut row)?;
@@ -78,16 +77,16 @@ fn edge_needs<S: BuildHasher>(
 }
 
 /// Appends the makers of those files that an edge makes.
-fn add_makers<S: BuildHasher>(
+fn add_makers<S: BuildHasher + Copy>(
     files: &[Path],
-    makers: &IndexMap<&Path, usize, S>,
+    makers: &Makers<'_, S>,
     row: &mut Vec<usize>,
 ) -> Result<(), AllocError>
     ensures { OnOk result
-        (row.new.items ≡ row.old.items ++ filter_map (maker_in makers.now) files.now) }
+        (row.new.items ≡ row.old.items ++ filter_map (maker_in makers.now.table) files.now) }
 {
     for file in files {
-        match maker_of(makers, file) {
+        match makers.maker_of(file) {
             Some(edge) => row.push(edge)?,
             None => {}
         }

@@ -9,8 +9,7 @@ use crate::addition::Addition;
 use crate::edge::Edge;
 use crate::fault::EffectFault;
 use crate::graph_checks::first_output;
-use crate::makers::maker_of;
-use indexmap::IndexMap;
+use crate::makers::Makers;
 use ninja_text::{Failure, Path};
 use std::alloc::Global;
 use std::hash::BuildHasher;
@@ -18,14 +17,14 @@ use std::hash::BuildHasher;
 /// E5: the edge of each statement, which makes its output and names the file.
 ///
 /// Only the maker of the output has to be looked at, since no file is made twice.
-pub(crate) fn edges_of_statements<S: BuildHasher>(
+pub(crate) fn edges_of_statements<S: BuildHasher + Copy>(
     alloc: Global,
     edges: &[Edge],
     name: &Path,
-    makers: &IndexMap<&Path, usize, S>,
+    makers: &Makers<'_, S>,
     additions: &[Addition],
 ) -> Result<Vec<usize>, Failure<EffectFault>>
-    requires makers { AreMakers edges.now (maker_in makers.now) }
+    requires makers { AreMakers edges.now (maker_in makers.now.table) }
     requires made_once { MadeOnce edges.now }
     ensures edges { IfOk result (λ edge_of.
         AreEdgesOf edges.now name.now additions.now edge_of.items) }
@@ -45,18 +44,18 @@ pub(crate) fn edges_of_statements<S: BuildHasher>(
 }
 
 /// The edge that makes the output and names the file, if one does.
-fn bound_edge<S: BuildHasher>(
+fn bound_edge<S: BuildHasher + Copy>(
     edges: &[Edge],
     name: &Path,
-    makers: &IndexMap<&Path, usize, S>,
+    makers: &Makers<'_, S>,
     output: &Path,
 ) -> Option<usize>
-    requires makers { AreMakers edges.now (maker_in makers.now) }
+    requires makers { AreMakers edges.now (maker_in makers.now.table) }
     requires made_once { MadeOnce edges.now }
     ensures { MatchOption result (IsUnboundOutput edges.now name.now output.now)
         (IsBoundOutput edges.now name.now output.now) }
 {
-    match maker_of(makers, output) {
+    match makers.maker_of(output) {
         Some(edge) => {
             if names(&edges[edge], name) {
                 Some(edge)

@@ -16,7 +16,7 @@ pub returns-then-is_some-clause-made : goal.returns-then-is_some-clause-made
 returns-then-is_some-clause-made _ c = λ g are.
     let files = c.args.files.now in
     let i = c.loop-file_index.file_index in
-    let maker = maker_in c.args.makers.now in
+    let maker = maker_in c.args.makers.now.table in
     let at = to_map text_of files i c.index-files-file_index.result (slice_get_read files _ i c.index-files-file_index.result refl c.loop-file_index-test.true c.index-files-file_index.is) in
     let some = some_if c.maker_of.result (sym c.is_some.ensures ∙ c.if-is_some.true) in
     made_here g maker are (map text_of files) i c.loop-file_index.invariant.unmade (subst AllDiffer (map_take text_of i files) c.loop-file_index.invariant.differ) c.index-files-file_index.result.now some.0 at (sym c.maker_of.ensures ∙ some.1)
@@ -29,7 +29,7 @@ returns-then-not-is_new-clause-made _ c = λ g are.
     let at = slice_get_read files _ i c.index-files-file_index.result refl c.loop-file_index-test.true c.index-files-file_index.is in
     let repeated = repeats_if_there text_of files i c.index-files-file_index.result c.loop-file_index.seen.keys c.insert.new.self.keys at c.loop-file_index.invariant.same c.loop-file_index.invariant.differ h.keys
     (sym c.if-not-is_new.true ∙ h.added) in
-    repeated_here g (maker_in c.args.makers.now) are (map text_of files) i c.loop-file_index.invariant.unmade (subst AllDiffer (map_take text_of i files) c.loop-file_index.invariant.differ) repeated.0 repeated.1
+    repeated_here g (maker_in c.args.makers.now.table) are (map text_of files) i c.loop-file_index.invariant.unmade (subst AllDiffer (map_take text_of i files) c.loop-file_index.invariant.differ) repeated.0 repeated.1
 
 pub loop-file_index-preserved : goal.loop-file_index-preserved
 loop-file_index-preserved _ c =
@@ -40,7 +40,7 @@ loop-file_index-preserved _ c =
     record {
       same = keys_if_new text_of files i c.index-files-file_index.result c.loop-file_index.seen.keys c.insert.new.self.keys at c.loop-file_index.invariant.same c.loop-file_index.invariant.differ h.keys (sym c.if-not-is_new.false ∙ h.added);
       differ = differ_if_new text_of files i c.index-files-file_index.result c.loop-file_index.seen.keys c.insert.new.self.keys at c.loop-file_index.invariant.same c.loop-file_index.invariant.differ h.keys (sym c.if-not-is_new.false ∙ h.added);
-      unmade = more_unmade (maker_in c.args.makers.now) (map text_of files) i c.index-files-file_index.result.now (to_map text_of files i c.index-files-file_index.result at) c.loop-file_index.invariant.unmade
+      unmade = more_unmade (maker_in c.args.makers.now.table) (map text_of files) i c.index-files-file_index.result.now (to_map text_of files i c.index-files-file_index.result at) c.loop-file_index.invariant.unmade
           (sym c.maker_of.ensures ∙ none_if c.maker_of.result (sym c.is_some.ensures ∙ c.if-is_some.false));
     }
 
@@ -49,5 +49,5 @@ returns-clause-made _ c = λ g are k file at before.
     let files = c.args.files.now in
     let i = c.loop-file_index.file_index in
     let within = slice_get_within (map text_of files) k file at in
-    none_before g (maker_in c.args.makers.now) are (map text_of files) i c.loop-file_index.invariant.unmade (subst AllDiffer (map_take text_of i files) c.loop-file_index.invariant.differ) k file
+    none_before g (maker_in c.args.makers.now.table) are (map text_of files) i c.loop-file_index.invariant.unmade (subst AllDiffer (map_take text_of i files) c.loop-file_index.invariant.differ) k file
     (omega (arith, within, length-map files text_of, c.loop-file_index-test.false)) at before

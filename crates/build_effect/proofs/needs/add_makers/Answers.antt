@@ -9,7 +9,7 @@ use Rattle.build_effect.proofs.needs.add_makers.Goals.{in-Some+in_ok-push-in-Som
 
 pub loop-file-preserved : goal.loop-file-preserved
 loop-file-preserved g c =
-    let h = maker_in c.args.makers.now in
+    let h = maker_in c.args.makers.now.table in
     let xs = c.args.files.now in
     let i = c.loop-file.file-index in
     let file = c.file-item.result in

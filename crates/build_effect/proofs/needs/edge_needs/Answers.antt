@@ -7,7 +7,7 @@ use Rattle.build_effect.proofs.needs.edge_needs.Goals as goal
 
 pub returns : goal.returns
 returns g c =
-    let h = maker_in c.args.makers.now in
+    let h = maker_in c.args.makers.now.table in
     let e : EdgeValue = c.args.edge.now in
     let first : c.add_makers.new.row.items ≡ [] ++ filter_map h e.inputs = c.in_ok-add_makers.ensures ∙ ap (λ l. l ++ filter_map h c.deref.result.now) c.new-row.ensures.items ∙ ap (filter_map h) (c.deref.ensures.value ∙ ap (λ (e : EdgeValue). e.inputs) c.edge.view_is) in
     let second : c.add_makers-2.new.row.items ≡ c.add_makers.new.row.items ++ filter_map h e.implicit_inputs = c.in_ok-add_makers-2.ensures ∙ ap (λ l. c.add_makers.new.row.items ++ filter_map h l) (c.deref-2.ensures.value ∙ ap (λ (e : EdgeValue). e.implicit_inputs) c.edge.view_is) in

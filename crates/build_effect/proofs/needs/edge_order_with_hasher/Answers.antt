@@ -11,7 +11,7 @@ use Rattle.build_effect.proofs.needs.edge_order_with_hasher.Goals as goal
 pub new-digraph-requires : goal.new-digraph-requires
 new-digraph-requires _ c =
     let g = c.args.graph.now in
-    let maker = maker_in c.in_ok-makers.makers in
+    let maker = maker_in c.in_ok-makers.makers.table in
     let are : AreMakers g maker = subst (λ xs. AreMakers xs maker) c.edges-edges.ensures.edges c.in_ok-makers.ensures in
     let row = λ (e : EdgeValue). filter_map maker (inputs_of e) in
     let same : rows c.in_ok-needs.needs.items ≡ map row g = c.in_ok-needs.ensures ∙ ap (map row) c.edges-edges.ensures.edges in
@@ -20,7 +20,7 @@ new-digraph-requires _ c =
 pub returns : goal.returns
 returns _ c =
     let g = c.args.graph.now in
-    let maker = maker_in c.in_ok-makers.makers in
+    let maker = maker_in c.in_ok-makers.makers.table in
     let are : AreMakers g maker = subst (λ xs. AreMakers xs maker) c.edges-edges.ensures.edges c.in_ok-makers.ensures in
     let row = λ (e : EdgeValue). filter_map maker (inputs_of e) in
     let same : rows c.in_ok-needs.needs.items ≡ map row g = c.in_ok-needs.ensures ∙ ap (map row) c.edges-edges.ensures.edges in

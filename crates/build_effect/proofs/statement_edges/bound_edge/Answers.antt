@@ -7,7 +7,7 @@ use Rattle.build_effect.proofs.statement_edges.bound_edge.Goals as goal
 pub returns-else-names : goal.returns-else-names
 returns-else-names _ c =
     let g = c.args.edges.now in
-    let maker = maker_in c.args.makers.now in
+    let maker = maker_in c.args.makers.now.table in
     let found = c.requires.makers.found c.args.output.now c.in-Some.edge (sym c.in-Some.ensures) in
     let within = slice_get_within g c.in-Some.edge found.1.0 found.1.1 in
     unbound_maker g maker c.args.name.now c.args.output.now c.in-Some.edge c.index-edges-edge.result c.requires.made_once c.requires.makers (sym c.in-Some.ensures)
@@ -15,4 +15,4 @@ returns-else-names _ c =
 
 pub returns-in-None : goal.returns-in-None
 returns-in-None _ c =
-    no_maker c.args.edges.now (maker_in c.args.makers.now) c.args.name.now c.args.output.now c.requires.makers (sym c.in-None.ensures)
+    no_maker c.args.edges.now (maker_in c.args.makers.now.table) c.args.name.now c.args.output.now c.requires.makers (sym c.in-None.ensures)
