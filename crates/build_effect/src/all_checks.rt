@@ -66,7 +66,7 @@ fn checked_additions<S: BuildHasher + Copy>(
 }
 
 /// The checks of where the statements are: E5, E4, E6. The statement on each edge.
-fn matched_additions<S: BuildHasher + Copy>(
+fn matched_additions<S: BuildHasher>(
     alloc: Global,
     edges: &[Edge],
     name: &Path,

@@ -1,5 +1,5 @@
 //! Files of edges in one list, lent, and the first that stands there twice.
-ghost use Rattle.std.specs.Prelude.{◌≡◌, ◌++◌, IfOk, OnOk};
+ghost use Rattle.std.specs.Prelude.{◌≡◌, ◌++◌, [], IfOk, OnOk};
 ghost use Rattle.build_effect.specs.Graphs.{made_by};
 ghost use Rattle.build_effect.specs.Faults.{made_files};
 ghost use Rattle.dep_order.specs.Rows.{lists};
@@ -50,6 +50,18 @@ pub(crate) fn first_repetition<S: BuildHasher + Copy>(
     ensures { IfOk result (FindsRepetition (lists files.now)) }
 {
     let mut seen = IndexSet::with_hasher(alloc, hash_builder);
+    first_seen(files, &mut seen)
+}
+
+/// The indices of the first file that was passed before: where it stood, and where it stands again.
+/// The set is empty, and takes the files that are passed.
+fn first_seen<'t, S: BuildHasher>(
+    files: &[&'t Path],
+    seen: &mut IndexSet<&'t Path, S>,
+) -> Result<Option<(usize, usize)>, AllocError>
+    requires { seen.old.keys ≡ [] }
+    ensures { IfOk result (FindsRepetition (lists files.now)) }
+{
     for (file_index, file) in files.iter().enumerate() {
         let (first, is_new) = seen.insert_full(*file)?;
         if !is_new {

@@ -12,7 +12,7 @@ use std::hash::BuildHasher;
 /// The edge that makes each file, by its index.
 #[derive(Drop)]
 pub(crate) struct Makers<'t, S: BuildHasher> {
-    pub(crate) table: IndexMap<&'t Path, usize, S>,
+    table: IndexMap<&'t Path, usize, S>,
 }
 
 impl<'t, S: BuildHasher + Copy> Makers<'t, S> {
@@ -24,16 +24,18 @@ impl<'t, S: BuildHasher + Copy> Makers<'t, S> {
         Ok(Makers { table })
     }
 
+    /// What builds the hashers of the files.
+    pub(crate) fn hash_builder(&self) -> S {
+        *self.table.hasher()
+    }
+}
+
+impl<S: BuildHasher> Makers<'_, S> {
     /// The edge that makes the file, if one does.
     pub(crate) fn maker_of(&self, file: &Path) -> Option<usize>
         ensures { result ≡ maker_in self.now.table file.now }
     {
         self.table.get(&file).copied()
-    }
-
-    /// What builds the hashers of the files.
-    pub(crate) fn hash_builder(&self) -> S {
-        *self.table.hasher()
     }
 }
 

@@ -4,7 +4,7 @@ ghost use Rattle.std.specs.List.{filter_map};
 ghost use Rattle.dep_order.specs.Rows.{rows};
 ghost use Rattle.dep_order.specs.Sortings.{IsSortingOf};
 ghost use Rattle.build_effect.specs.Graphs.{EdgeNeeds};
-ghost use Rattle.build_effect.specs.inner.Makers.{maker_in, makers_row};
+ghost use Rattle.build_effect.specs.inner.Makers.{maker_in, makers_row, AreNeeds};
 
 use crate::edge::Edge;
 use crate::graph::Graph;
@@ -36,16 +36,25 @@ pub fn edge_order_with_hasher<S: BuildHasher + Copy>(
 ) -> Result<Sorting, AllocError>
     ensures { IfOk result (IsSortingOf (length graph.now) (EdgeNeeds graph.now)) }
 {
-    let edges = graph.edges();
-    let makers = Makers::of(alloc, edges, hash_builder)?;
-    let needs = all_needs(alloc, edges, &makers)?;
+    let needs = needs_of(alloc, graph.edges(), hash_builder)?;
     let digraph = Digraph::new(needs);
-    let sorting = order(alloc, &digraph)?;
-    Ok(sorting)
+    order(alloc, &digraph)
 }
 
 /// The makers of each edge's inputs.
-fn all_needs<S: BuildHasher + Copy>(
+fn needs_of<S: BuildHasher + Copy>(
+    alloc: Global,
+    edges: &[Edge],
+    hash_builder: S,
+) -> Result<Vec<Vec<usize>>, AllocError>
+    ensures { IfOk result (λ needs. AreNeeds edges.now (rows needs.items)) }
+{
+    let makers = Makers::of(alloc, edges, hash_builder)?;
+    all_needs(alloc, edges, &makers)
+}
+
+/// The makers of each edge's inputs, given the makers of files.
+fn all_needs<S: BuildHasher>(
     alloc: Global,
     edges: &[Edge],
     makers: &Makers<'_, S>,
@@ -62,7 +71,7 @@ fn all_needs<S: BuildHasher + Copy>(
 }
 
 /// The makers of the edge's inputs.
-fn edge_needs<S: BuildHasher + Copy>(
+fn edge_needs<S: BuildHasher>(
     alloc: Global,
     edge: &Edge,
     makers: &Makers<'_, S>,
@@ -77,7 +86,7 @@ fn edge_needs<S: BuildHasher + Copy>(
 }
 
 /// Appends the makers of those files that an edge makes.
-fn add_makers<S: BuildHasher + Copy>(
+fn add_makers<S: BuildHasher>(
     files: &[Path],
     makers: &Makers<'_, S>,
     row: &mut Vec<usize>,

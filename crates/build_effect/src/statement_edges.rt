@@ -17,7 +17,7 @@ use std::hash::BuildHasher;
 /// E5: the edge of each statement, which makes its output and names the file.
 ///
 /// Only the maker of the output has to be looked at, since no file is made twice.
-pub(crate) fn edges_of_statements<S: BuildHasher + Copy>(
+pub(crate) fn edges_of_statements<S: BuildHasher>(
     alloc: Global,
     edges: &[Edge],
     name: &Path,
@@ -44,7 +44,7 @@ pub(crate) fn edges_of_statements<S: BuildHasher + Copy>(
 }
 
 /// The edge that makes the output and names the file, if one does.
-fn bound_edge<S: BuildHasher + Copy>(
+fn bound_edge<S: BuildHasher>(
     edges: &[Edge],
     name: &Path,
     makers: &Makers<'_, S>,

@@ -7,7 +7,7 @@ use Rattle.build_effect.proofs.Lists.{to_map}
 use Rattle.build_effect.proofs.Bindings.{none_if, some_if}
 use Rattle.build_effect.proofs.MadeBefore.{none_before, made_here, repeated_here, more_unmade}
 use Rattle.build_effect.proofs.Repetitions.{repeats_if_there, keys_if_new, differ_if_new, map_take}
-use Rattle.build_effect.proofs.added.first_made.Goals as goal
+use Rattle.build_effect.proofs.added.first_made_or_seen.Goals as goal
 
 abbrev text_of : Bor (List ℕ) → List ℕ
 text_of text = text.now
