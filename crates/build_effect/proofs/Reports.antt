@@ -4,7 +4,7 @@ use Rattle.std.proofs.lemmas.Option.{slice_get_within, slice_get-get_or}
 use Rattle.dyndep_file.specs.StatementValue.{StatementValue}
 use Rattle.build_effect.specs.EdgeValue.{EdgeValue}
 use Rattle.build_effect.specs.Graphs.{MadeOnce, Names, IsGraph}
-use Rattle.build_effect.specs.Effect.{AreCanonical, IsOn, AllBound}
+use Rattle.build_effect.specs.Effect.{IsOn, AllBound}
 use Rattle.build_effect.specs.Faults.{IsRepeated, NoneRepeated, IsMentioned, AllMentioned, IsEffectFault}
 use Rattle.build_effect.specs.inner.BadPaths.{IsBadStatement}
 use Rattle.build_effect.specs.inner.StatementEdges.{IsBoundTo, AreEdgesOf, IsFirstUnbound, statement_on, AreInverse, IsFirstRepeated, HaveStatements, IsFirstUnmentioned}

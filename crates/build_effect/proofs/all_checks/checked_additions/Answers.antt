@@ -18,3 +18,9 @@ returns-in_err-check_added-clause-fault _ c =
     let p = err_from_is_err_and c.from_residual-in_err-check_added.result c.from_residual-in_err-check_added.ensures.1 in
     rw (p.1, p.2) (for_fault (AddsMade (maker_in c.in_ok-makers.makers.table) additions) (IsFaultOf g name additions)
     (λ fault h. reports_made g name additions statement_of fault c.in_ok-statement_of.ensures.matched (h g c.in_ok-makers.ensures)) _ c.in_err-check_added.ensures.fault)
+
+pub returns-clause-matched : goal.returns-clause-matched
+returns-clause-matched _ c = c.in_ok-statement_of.ensures.matched
+
+pub returns-clause-fresh : goal.returns-clause-fresh
+returns-clause-fresh _ c = c.in_ok-check_added.ensures.ok c.args.edges.now c.in_ok-makers.ensures

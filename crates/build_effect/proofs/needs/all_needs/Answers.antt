@@ -1,0 +1,15 @@
+use Rattle.std.proofs.Common.{ℕ, Vec, refl}
+use Rattle.std.specs.declared.alloc.Global.{Global}
+use Rattle.std.proofs.lemmas.Option.{slice_get_read}
+use Rattle.build_effect.specs.EdgeValue.{EdgeValue}
+use Rattle.build_effect.specs.inner.Makers.{maker_in, makers_row}
+use Rattle.build_effect.proofs.EdgeSorting.{mapped_next}
+use Rattle.build_effect.proofs.needs.all_needs.Goals as goal
+
+pub loop-edge-preserved : goal.loop-edge-preserved
+loop-edge-preserved _ c =
+    let edges = c.args.edges.now in
+    let i = c.loop-edge.edge-index in
+    let edge : EdgeValue = c.edge-item.result in
+    let at = slice_get_read edges _ i edge refl c.loop-edge-test.true c.edge-item.is in
+    mapped_next (λ (row : Vec ℕ Global). row.items) (makers_row (maker_in c.args.makers.now.table)) edges i edge c.loop-edge.needs.items c.push.new.self.items c.in_ok-row.row at c.loop-edge.invariant c.in_ok-push.ensures.items c.in_ok-row.ensures
