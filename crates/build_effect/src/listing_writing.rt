@@ -4,7 +4,7 @@ ghost use Rattle.std.specs.List.{flat_map};
 ghost use Rattle.ninja_text.specs.Counting.{held, IsWritten};
 ghost use Rattle.ninja_text.specs.Failure.{Gives};
 ghost use Rattle.dyndep_file.specs.Writing.{spaced};
-ghost use Rattle.build_effect.specs.ListingWriting.{part_text, edge_line, dyndep_line, restat_line, listing_text, first_too_long, LeavesWriter, WritesInTurn, AnswersFault};
+ghost use Rattle.build_effect.specs.ListingWriting.{part_text, left_text, right_text, edge_line, dyndep_line, restat_line, listing_text, first_too_long, LeavesWriter, WritesInTurn, AnswersFault};
 ghost use Rattle.build_effect.specs.ListingWriting.{text_or_fault};
 
 use crate::edge::Edge;
@@ -91,16 +91,30 @@ fn edge_line(alloc: Global, edge: &Edge) -> Result<Vec<u8>, AllocError>
     ensures { IfOk result (λ line. line.items ≡ edge_line edge.now) }
 {
     let mut line = Vec::new(alloc);
-    line.extend_from_slice(b"build")?;
-    push_spaced(&mut line, &edge.outputs)?;
-    push_part(&mut line, b" |", &edge.implicit_outputs)?;
+    push_left(&mut line, edge)?;
     line.extend_from_slice(b": ")?;
-    line.extend_from_slice(&edge.rule)?;
-    push_spaced(&mut line, &edge.inputs)?;
-    push_part(&mut line, b" |", &edge.implicit_inputs)?;
-    push_part(&mut line, b" ||", &edge.order_only)?;
+    push_right(&mut line, edge)?;
     line.extend_from_slice(b"\n")?;
     Ok(line)
+}
+
+/// Appends what stands on the left of a build line's colon.
+fn push_left(line: &mut Vec<u8>, edge: &Edge) -> Result<(), AllocError>
+    ensures { OnOk result (line.new.items ≡ line.old.items ++ left_text edge.now) }
+{
+    line.extend_from_slice(b"build")?;
+    push_spaced(line, &edge.outputs)?;
+    push_part(line, b" |", &edge.implicit_outputs)
+}
+
+/// Appends what stands on the right of a build line's colon.
+fn push_right(line: &mut Vec<u8>, edge: &Edge) -> Result<(), AllocError>
+    ensures { OnOk result (line.new.items ≡ line.old.items ++ right_text edge.now) }
+{
+    line.extend_from_slice(&edge.rule)?;
+    push_spaced(line, &edge.inputs)?;
+    push_part(line, b" |", &edge.implicit_inputs)?;
+    push_part(line, b" ||", &edge.order_only)
 }
 
 /// Appends the lines of an edge's bindings.
