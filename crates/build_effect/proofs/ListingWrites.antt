@@ -1,8 +1,9 @@
 -- What a call that writes a listing answers, by the text that was made or not.
-use Rattle.std.proofs.Common.{◌≡◌, ℕ, ◌+◌, ◌<◌, ◌≤◌, suc, List, ◌∷◌, ◌++◌, length, drop, get_or, add-one, drop-cons, append_assoc, refl, sym, ap, ◌∙◌, Option, Some, None, Ok, Err}
+use Rattle.std.proofs.Common.{◌≡◌, ℕ, ◌+◌, ◌<◌, ◌≤◌, suc, List, [], ◌∷◌, ◌++◌, length, drop, get_or, add-one, drop-cons, append_assoc, refl, sym, ap, ◌∙◌, Option, Some, None, Ok, Err}
 use Rattle.std.specs.Prelude.{Result, Vec}
 use Rattle.std.specs.declared.alloc.Global.{Global}
 use Rattle.std.proofs.lemmas.Bool.{le-ltb}
+use Rattle.std.proofs.lemmas.List.{append-nil, drop_all}
 use Rattle.ninja_text.specs.Lines.{line_limit}
 use Rattle.ninja_text.specs.Failure.{Gives}
 use Rattle.ninja_text.specs.Counting.{Call}
@@ -69,3 +70,11 @@ text_goes_on edges i e text line new within is l n so_far =
 pub none_goes_on : (edges : List EdgeValue) (i : ℕ) (e : EdgeValue) → i < length edges → e ≡ get_or edges i e → length (edge_line e) ≤ line_limit
     → too_long_from 0 edges ≡ too_long_from i (drop i edges) → too_long_from 0 edges ≡ too_long_from (i + 1) (drop (i + 1) edges)
 none_goes_on edges i e within is short so_far = so_far ∙ ap (too_long_from i) (drop_item edges i e within is) ∙ rw (le-ltb line_limit (length (edge_line e)) short) refl
+
+-- no edge is left, so the text is whole
+pub all_written : (edges : List EdgeValue) (i : ℕ) (text : List ℕ) → length edges ≤ i → text ++ listing_text (drop i edges) ≡ listing_text edges
+    → too_long_from 0 edges ≡ too_long_from i (drop i edges) → text_or_fault edges ≡ Ok text
+all_written edges i text over so_far none =
+    let none_left : drop i edges ≡ [] = drop_all i edges over in
+    let whole : text ≡ listing_text edges = sym (append-nil text) ∙ ap (λ xs. text ++ listing_text xs) (sym none_left) ∙ so_far in
+    ap (λ o. text_unless o edges) (none ∙ ap (too_long_from i) none_left) ∙ ap (λ t. Ok t) (sym whole)

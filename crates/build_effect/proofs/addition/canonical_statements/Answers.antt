@@ -1,4 +1,5 @@
-use Rattle.std.proofs.Common.{◌≡◌, ℕ, ◌+◌, Some, take, refl, sym, subst, slice_get}
+use Rattle.std.proofs.Common.{◌≡◌, ℕ, ◌+◌, Some, length, take, refl, ap, sym, subst, slice_get}
+use Rattle.std.proofs.lemmas.List.{take_all}
 use Rattle.std.proofs.lemmas.Option.{slice_get_read}
 use Rattle.build_effect.specs.inner.BadPaths.{IsBadTextOf, IsBadStatement}
 use Rattle.build_effect.specs.Effect.{AreCanonical}
@@ -22,3 +23,11 @@ loop-statement_index-preserved c =
     let s = c.index-statements-statement_index.result in
     let at : slice_get ss i ≡ Some s = slice_get_read ss _ i s refl c.loop-statement_index-test.true c.index-statements-statement_index.is in
     subst (AreCanonical (take (i + 1) ss)) (sym c.in_ok-push-in-Ok.ensures.items) (more_statements ss c.loop-statement_index.additions.items i s c.in-Ok.addition at c.loop-statement_index.invariant c.in-Ok.ensures.canonical)
+
+pub loop-statement_index-init : goal.loop-statement_index-init
+loop-statement_index-init c = record { count = ap length (sym c.in_ok-additions.ensures.items); each = λ k s a at at_a. cc }
+
+pub returns-clause-canonical : goal.returns-clause-canonical
+returns-clause-canonical c =
+    let ss = c.args.statements.now in
+    subst (λ xs. AreCanonical xs c.loop-statement_index.additions.items) (take_all c.loop-statement_index.statement_index ss c.loop-statement_index-test.false) c.loop-statement_index.invariant

@@ -1,9 +1,11 @@
-use Rattle.std.proofs.Common.{◌≡◌, ◌∙◌, ℕ, List, Option, subst}
+use Rattle.std.proofs.Common.{◌≡◌, ◌∙◌, ◌<◌, ℕ, List, Option, Some, length, ap, sym, subst}
+use Rattle.std.proofs.lemmas.Option.{slice_get_within}
 use Rattle.std.proofs.lemmas.Result.{err_from_is_err_and}
 use Rattle.dyndep_file.specs.StatementValue.{StatementValue}
 use Rattle.build_effect.specs.EdgeValue.{EdgeValue}
 use Rattle.build_effect.specs.Effect.{HasNoEffect}
 use Rattle.build_effect.specs.Faults.{IsEffectFault}
+use Rattle.build_effect.specs.inner.StatementEdges.{statement_on}
 use Rattle.build_effect.specs.inner.Checked.{AreChecked}
 use Rattle.build_effect.specs.inner.Extended.{AreExtended}
 use Rattle.build_effect.specs.declared.fault.EffectFault.{EffectFault}
@@ -30,6 +32,15 @@ returns-in_err-checked-clause-no_effect _ c =
     rw (p.1, p.2)
     (for_fault (IsEffectFault c.edges-old.result.now name c.deref.result.now) (λ (_ : EffectFault). HasNoEffect g name ss)
     (λ fault h new effect. c.checks.ensures.exclude g name ss fault c.edges-old.ensures.graph.made_once (subst (λ xs. IsEffectFault g name xs fault) same (subst (λ es. IsEffectFault es name c.deref.result.now fault) c.edges-old.ensures.edges h)) new effect) _ c.in_err-checked.ensures.fault)
+
+pub extended_edges-requires-clause-each : goal.extended_edges-requires-clause-each
+extended_edges-requires-clause-each _ c = ap length c.as_slice-2.ensures.value ∙ c.in_ok-checked.ensures.checked.matched.as_many
+
+pub extended_edges-requires-clause-within : goal.extended_edges-requires-clause-within
+extended_edges-requires-clause-within _ c = λ i k is.
+    let additions : List StatementValue = c.in_ok-checked.checked.additions.items in
+    let on = c.in_ok-checked.ensures.checked.matched.on i k (subst (λ o. statement_on o i ≡ Some k) c.as_slice-2.ensures.value is) in
+    subst (λ xs. k < length xs) (sym c.as_slice.ensures.value) (slice_get_within additions k on.0 on.1)
 
 pub invariant_of-result : goal.invariant_of-result
 invariant_of-result _ c =

@@ -1,7 +1,7 @@
-use Rattle.std.proofs.Common.{◌≡◌, ◌≤◌, ◌∙◌, ◌++◌, length, ap, subst}
+use Rattle.std.proofs.Common.{◌≡◌, ◌≤◌, ◌∙◌, ◌++◌, length, refl, ap, subst}
 use Rattle.ninja_text.specs.Lines.{line_limit}
-use Rattle.build_effect.specs.ListingWriting.{edge_line, dyndep_line, restat_line}
-use Rattle.build_effect.proofs.ListingWrites.{text_goes_on, none_goes_on}
+use Rattle.build_effect.specs.ListingWriting.{edge_line, dyndep_line, restat_line, listing_text}
+use Rattle.build_effect.proofs.ListingWrites.{text_goes_on, none_goes_on, all_written}
 use Rattle.build_effect.proofs.listing_writing.text_of.Goals as goal
 
 pub loop-edge_index-preserved : goal.loop-edge_index-preserved
@@ -18,3 +18,10 @@ loop-edge_index-preserved c =
           c.loop-edge_index.invariant.text;
       none = none_goes_on c.args.edges.now i e c.loop-edge_index-test.true c.index-edges-edge_index.is short c.loop-edge_index.invariant.none;
     }
+
+pub loop-edge_index-init : goal.loop-edge_index-init
+loop-edge_index-init c = record { text = ap (λ t. t ++ listing_text c.args.edges.now) c.new-text.ensures.items; none = refl }
+
+pub returns : goal.returns
+returns c =
+    all_written c.args.edges.now c.loop-edge_index.edge_index c.loop-edge_index.text.items c.loop-edge_index-test.false c.loop-edge_index.invariant.text c.loop-edge_index.invariant.none

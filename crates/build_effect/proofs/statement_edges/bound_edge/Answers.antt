@@ -1,8 +1,20 @@
-use Rattle.std.proofs.Common.{refl, sym}
+use Rattle.std.proofs.Common.{◌≡◌, ◌∙◌, ℕ, List, Some, refl, sym, subst, slice_get}
 use Rattle.std.proofs.lemmas.Option.{slice_get_read, slice_get_within}
 use Rattle.build_effect.specs.inner.Makers.{maker_in}
+use Rattle.build_effect.specs.EdgeValue.{EdgeValue}
+use Rattle.build_effect.specs.Graphs.{made_by}
+use Rattle.build_effect.proofs.Lists.{same_some}
 use Rattle.build_effect.proofs.Bindings.{unbound_maker, no_maker}
 use Rattle.build_effect.proofs.statement_edges.bound_edge.Goals as goal
+
+pub returns-then-names : goal.returns-then-names
+returns-then-names _ c =
+    let g : List EdgeValue = c.args.edges.now in
+    let i : ℕ = c.in-Some.edge in
+    let e : EdgeValue = c.index-edges-edge.result in
+    let found = c.requires.makers.found c.args.output.now i (sym c.in-Some.ensures) in
+    let at : slice_get g i ≡ Some e = slice_get_read g _ i e refl (slice_get_within g i found.1.0 found.1.1) c.index-edges-edge.is in
+    (e, at, c.if-names.ensures, (found.0, subst (λ x. slice_get (made_by x) found.0 ≡ Some c.args.output.now) (same_some _ _ (sym found.1.1 ∙ at)) found.1.2))
 
 pub returns-else-names : goal.returns-else-names
 returns-else-names _ c =

@@ -1,4 +1,5 @@
-use Rattle.std.proofs.Common.{◌≡◌, ◌+◌, take, refl, ap, sym, subst, ◌∙◌}
+use Rattle.std.proofs.Common.{◌≡◌, ◌+◌, List, length, take, refl, ap, sym, subst, ◌∙◌}
+use Rattle.std.proofs.lemmas.List.{take_all}
 use Rattle.std.proofs.lemmas.Option.{slice_get_read}
 use Rattle.dyndep_file.specs.StatementValue.{StatementValue}
 use Rattle.build_effect.specs.inner.StatementEdges.{AreEdgesOf, IsBoundOutput, IsUnboundOutput}
@@ -23,3 +24,11 @@ loop-addition-preserved g c =
     (more_edges c.args.edges.now c.args.name.now c.args.additions.now c.loop-addition.edge_of.items i a c.in-Some.edge
     (slice_get_read c.args.additions.now _ i a refl c.loop-addition-test.true c.addition-item.is) c.loop-addition.invariant
     (subst (λ o. IsBoundOutput c.args.edges.now c.args.name.now o c.in-Some.edge) same c.in-Some.ensures))
+
+pub loop-addition-init : goal.loop-addition-init
+loop-addition-init g c = record { count = ap length c.in_ok-edge_of.ensures.items; each = λ k a i at at_i. cc }
+
+pub returns-clause-edges : goal.returns-clause-edges
+returns-clause-edges g c =
+    let additions : List StatementValue = c.args.additions.now in
+    subst (λ xs. AreEdgesOf c.args.edges.now c.args.name.now xs c.loop-addition.edge_of.items) (take_all c.loop-addition.addition-index additions c.loop-addition-test.false) c.loop-addition.invariant
