@@ -30,10 +30,7 @@ use Rattle.collate_core.proofs.Writing.{has_paths}
 
 -- What the parts give, of a table and of statements.
 pub record Given (target : TargetValue) (style : Option Written) (t : TableValue) (ss : List StatementValue) (c : CollatedValue) : Type 0 where
-  pub documents : AreAccepted target
-  pub no_fault : (fault : TableFault) → IsFault t target.kept fault → ⊥
-  pub sound : IsSound t
-  pub kept : KeptAreProvided t target.kept
+  pub resolved : IsResolved target
   pub spelled : All HasSpelled ss
   pub stands : StandsForOnly c.dyndep ss
   pub text : text_or_fault ss ≡ Ok c.dyndep
@@ -44,7 +41,7 @@ pub record Given (target : TargetValue) (style : Option Written) (t : TableValue
 
 of_table : (target : TargetValue) (style : Option Written) (c : CollatedValue) → Given target style (table_of target) (statements_of (table_of target)) c → Collates target style c
 of_table target style c h = record {
-  resolved = record { documents = h.documents; no_fault = h.no_fault; sound = h.sound; kept = h.kept };
+  resolved = h.resolved;
   text = h.text;
   dyndep = h.stands;
   canonical = has_paths (statements_of (table_of target)) h.spelled;

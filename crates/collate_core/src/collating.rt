@@ -2,9 +2,11 @@
 ghost use Rattle.std.specs.Prelude.{◌≡◌, map, None, IfOk, IfErr};
 ghost use Rattle.std.specs.Option.{option_copied, option_map};
 ghost use Rattle.ninja_text.specs.Failure.{ForFault};
+ghost use Rattle.collate_core.specs.Documents.{IsResolved, table_of};
 ghost use Rattle.collate_core.specs.Collation.{Collates};
 ghost use Rattle.collate_core.specs.Headline.{IsHeadline, IsDyndepOf};
 ghost use Rattle.collate_core.specs.Refusals.{IsRefusal};
+ghost use Rattle.collate_core.specs.inner.Parts.{IsTableText};
 
 use crate::collated::Collated;
 use crate::fault::Refusal;
@@ -58,13 +60,33 @@ pub fn collate_with_hasher<M: MapStyle, S: BuildHasher + Copy>(
     ensures refused { IfErr result (ForFault (IsRefusal target.now
         (option_map M.written (option_copied style.entry)))) }
 {
+    let table = table_of(alloc, target, hash_builder)?;
+    collated_of(alloc, target, &table, style, hash_builder)
+}
+
+/// What a target collates to whose documents have this table.
+fn collated_of<M: MapStyle, S: BuildHasher + Copy>(
+    alloc: Global,
+    target: &Target<'_>,
+    table: &Table<S>,
+    style: Option<&M>,
+    hash_builder: S,
+) -> Result<Collated, Failure<Refusal>>
+    requires table { table.now ≡ table_of target.now }
+    requires resolved { IsResolved target.now }
+    requires text { IsTableText table.now }
+    ensures collated { IfOk result
+        (Collates target.now (option_map M.written (option_copied style.entry))) }
+    ensures headline { IfOk result (IsHeadline target.now) }
+    ensures refused { IfErr result (ForFault (IsRefusal target.now
+        (option_map M.written (option_copied style.entry)))) }
+{
     headline();
     added_files();
-    let table = table_of(alloc, target, hash_builder)?;
     let text = text_of(alloc, table.resolved())?;
-    let maps = maps_of(alloc, &table, style)?;
-    let info = info_text_of(alloc, target.name, target.kept, &table, hash_builder)?;
-    let objects = objects_of(alloc, &table)?;
+    let maps = maps_of(alloc, table, style)?;
+    let info = info_text_of(alloc, target.name, target.kept, table, hash_builder)?;
+    let objects = objects_of(alloc, table)?;
     Ok(Collated::new(text, info, objects, maps))
 }
 

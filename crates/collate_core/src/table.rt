@@ -6,13 +6,10 @@ ghost use Rattle.scan_docs.specs.ScanChecks.{scan_checks};
 ghost use Rattle.scan_docs.specs.InfoText.{IsInfoText};
 ghost use Rattle.scan_docs.specs.InfoChecks.{info_checks};
 ghost use Rattle.scan_docs.specs.Document.{IsRefused};
-ghost use Rattle.module_table.specs.Faults.{IsFault};
-ghost use Rattle.module_table.specs.Sound.{IsSound, KeptAreProvided};
-ghost use Rattle.module_table.specs.declared.fault.TableFault.{TableFault};
 ghost use Rattle.scan_docs.specs.Values.{rules_of, info_of};
 ghost use Rattle.module_maps.specs.Maps.{Written};
 ghost use Rattle.collate_core.specs.Values.{TargetValue};
-ghost use Rattle.collate_core.specs.Documents.{all_rules, table_of, IsScanAccepted, IsInfoAccepted, AreScansAccepted, AreAccepted};
+ghost use Rattle.collate_core.specs.Documents.{all_rules, table_of, IsScanAccepted, IsInfoAccepted, AreScansAccepted, IsResolved};
 ghost use Rattle.collate_core.specs.Refusals.{IsRefusal, IsScanRefusal, IsInfoRefusal};
 ghost use Rattle.collate_core.specs.inner.Parts.{IsTableText, ForScan, ForInfo};
 
@@ -33,12 +30,8 @@ pub(crate) fn table_of<S: BuildHasher + Copy>(
     target: &Target<'_>,
     hash_builder: S,
 ) -> Result<Table<S>, Failure<Refusal>>
-    ensures documents { OnOk result (AreAccepted target.now) }
     ensures table { IfOk result (λ table. table ≡ table_of target.now) }
-    ensures no_fault { IfOk result
-        (λ table. (fault : TableFault) → IsFault table target.now.kept fault → ⊥) }
-    ensures sound { IfOk result IsSound }
-    ensures kept { IfOk result (λ table. KeptAreProvided table target.now.kept) }
+    ensures resolved { OnOk result (IsResolved target.now) }
     ensures text { IfOk result IsTableText }
     // whatever the style, since maps come later
     ensures refused { IfErr result (ForFault (λ refusal.

@@ -9,7 +9,7 @@ use Rattle.collate_core.specs.Values.{TargetValue, CollatedValue}
 use Rattle.collate_core.specs.Statements.{statements_of}
 use Rattle.collate_core.specs.Infos.{info_of_table}
 use Rattle.collate_core.specs.Collation.{HasPaths, Collates}
-use Rattle.collate_core.proofs.Parts.{collates, resolved, write_refused}
+use Rattle.collate_core.proofs.Parts.{collates, write_refused}
 use Rattle.collate_core.proofs.Texts.{info_is_sound}
 use Rattle.collate_core.proofs.Writing.{has_paths}
 use Rattle.collate_core.proofs.collating.collate_dyndep_with_hasher.Goals as goal
@@ -19,7 +19,7 @@ returns-in_err-dyndep-clause-refused g c =
     let p = err_from_is_err_and c.from_residual-in_err-dyndep.result c.from_residual-in_err-dyndep.ensures.1 in
     let table = c.in_ok-table.ensures in
     rw (p.1, p.2) (write_refused c.args.target.now None c.in_ok-table.table (statements_of c.into_resolved-resolved.result) table.table (ap statements_of c.into_resolved-resolved.ensures)
-    (resolved c.args.target.now c.in_ok-table.table table.table table.documents table.no_fault table.sound table.kept) _ c.in_err-dyndep.ensures.refused)
+    table.resolved _ c.in_err-dyndep.ensures.refused)
 
 -- what the target collates to has the text, and the info that is not written
 pub returns-clause-dyndep : goal.returns-clause-dyndep
@@ -37,10 +37,7 @@ returns-clause-dyndep g c =
     let collated : CollatedValue = record { dyndep = c.in_ok-dyndep.dyndep.items; info = info_text info; objects = map (λ rule. rule.object) t.objects; maps = [] } in
     let is : Collates target None collated =
     collates target None t statements collated table.table are (record {
-      documents = table.documents;
-      no_fault = table.no_fault;
-      sound = table.sound;
-      kept = table.kept;
+      resolved = table.resolved;
       spelled = text.spelled;
       stands = text.meaning;
       text = text.text;
