@@ -1,5 +1,5 @@
 //! The maps of a table's objects.
-ghost use Rattle.std.specs.Prelude.{◌≡◌, ◌<◌, ℕ, List, length, map, slice_get, Some, IfOk, IfErr};
+ghost use Rattle.std.specs.Prelude.{◌≡◌, ◌<◌, ℕ, List, [], length, map, slice_get, Some, IfOk, OnOk, IfErr};
 ghost use Rattle.std.specs.Option.{option_copied, option_map};
 ghost use Rattle.ninja_text.specs.Failure.{ForFault};
 ghost use Rattle.scan_docs.specs.Scan.{RuleValue};
@@ -47,8 +47,27 @@ fn texts_of<M: MapStyle, S: BuildHasher>(
 {
     let mut needs = table.needs(alloc)?;
     let mut texts = Vec::with_capacity(alloc, table.objects().len())?;
+    add_texts(alloc, table, &mut needs, style, &mut texts)?;
+    Ok(texts)
+}
+
+/// Adds the text of each object's map, up to the first that is refused.
+fn add_texts<M: MapStyle, S: BuildHasher>(
+    alloc: Global,
+    table: &Table<S>,
+    needs: &mut Needs<'_>,
+    style: &M,
+    texts: &mut Vec<Vec<u8>>,
+) -> Result<(), Failure<Refusal>>
+    requires needs { needs.old ≡ table.now }
+    requires none { texts.old.items ≡ [] }
+    ensures maps { OnOk result
+        (AreMaps table.now (Some (M.written style.now)) (map (λ m. m.items) texts.new.items)) }
+    ensures refused { IfErr result
+        (ForFault (IsMapsRefusal table.now (Some (M.written style.now)))) }
+{
     for object in 0..table.objects().len() {
-        match text_of(alloc, table, &mut needs, object, style) {
+        match text_of(alloc, table, needs, object, style) {
             Ok(text) => texts.push(text)?,
             Err(Failure::Memory) => return Err(Failure::Memory),
             Err(Failure::Fault(fault)) => {
@@ -56,7 +75,7 @@ fn texts_of<M: MapStyle, S: BuildHasher>(
             }
         }
     }
-    Ok(texts)
+    Ok(())
 }
 
 /// The text of an object's map.

@@ -7,7 +7,7 @@ use Rattle.module_maps.specs.declared.module_map.MapFault.{MapFault}
 use Rattle.collate_core.proofs.ByIndex.{element_at}
 use Rattle.collate_core.specs.Refusals.{IsMapFault}
 use Rattle.collate_core.proofs.Parts.{EachMap, more_maps, map_before}
-use Rattle.collate_core.proofs.object_maps.texts_of.Goals as goal
+use Rattle.collate_core.proofs.object_maps.add_texts.Goals as goal
 
 pub returns-in-Err-Fault-clause-refused : goal.returns-in-Err-Fault-clause-refused
 returns-in-Err-Fault-clause-refused g c =
