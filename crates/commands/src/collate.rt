@@ -4,14 +4,14 @@ ghost use Rattle.std.specs.Prelude.{◌≡◌, Some, None, [], ◌∷◌, ◌++�
 ghost use Rattle.ninja_text.specs.Failure.{ForFault};
 ghost use Rattle.collate_core.specs.Collation.{Collates};
 ghost use Rattle.collate_core.specs.Refusals.{IsRefusal};
-ghost use Rattle.commands.specs.Answers.{file_value, Refuses};
+ghost use Rattle.commands.specs.Answers.{file_value, Writes, Refuses};
 ghost use Rattle.commands.specs.CollateCommand.{first_of, first_unread, bytes_of, listing_of, names_in, dyndep_path, setting_in, style_of, map_name, files_of, AnswersTargetOf, AnswersSpec, AnswersCollate, spec_text};
 ghost use Rattle.commands.specs.EdgeChecks.{PassesEdges, FailsEdges, AnswersEdges};
 
 use crate::answer::Answer;
-use crate::edges::{EdgesFault, edges_check, edges_text};
+use crate::edges::{EdgesFault, edges_check, edges_refused};
 use crate::reading::{Files, read_each, read_named};
-use crate::refusal::refusal_text;
+use crate::refusal::target_refused;
 use crate::target_document::TargetDocument;
 use collate_core::{Collated, CollatedParts, Refusal, Target, collate_with_hasher, one_outcome};
 use module_maps::{Clang, Gcc};
@@ -34,7 +34,7 @@ pub fn collate_run(
     ensures { IfOk result (AnswersCollate spec.now (first_of (map file_value files.now))) }
 {
     match TargetDocument::read(alloc, spec) {
-        Ok(document) => document_run(alloc, keys, &document, &Files::of(alloc, keys, files)?),
+        Ok(document) => accepted_run(alloc, keys, &document, files),
         Err(Failure::Memory) => Err(AllocError),
         Err(Failure::Fault(fault)) => spec_refused(alloc, &fault),
     }
@@ -46,6 +46,19 @@ fn spec_refused(alloc: Global, fault: &DocFault) -> Result<Answer, AllocError>
 {
     let message = format!(in alloc; "target: {fault}")?;
     Answer::failed(alloc, 1, message.as_bytes())
+}
+
+/// The answer to an accepted target document, of these files.
+fn accepted_run(
+    alloc: Global,
+    keys: RandomState,
+    document: &TargetDocument,
+    files: &[(String, Vec<u8>)],
+) -> Result<Answer, AllocError>
+    ensures { IfOk result (AnswersSpec (first_of (map file_value files.now)) document.now) }
+{
+    let files = Files::of(alloc, keys, files)?;
+    document_run(alloc, keys, document, &files)
 }
 
 /// The answer to an accepted target document.
@@ -132,10 +145,7 @@ fn target_run(
     match collate_in(alloc, keys, target, document.spec().map) {
         Ok(collated) => collated_run(alloc, keys, collated, document, listing),
         Err(Failure::Memory) => Err(AllocError),
-        Err(Failure::Fault(refusal)) => {
-            let message = refusal_text(alloc, target, &refusal)?;
-            Answer::failed(alloc, 1, &message)
-        }
+        Err(Failure::Fault(refusal)) => target_refused(alloc, target, &refusal),
     }
 }
 
@@ -173,16 +183,19 @@ fn collated_run(
         collated.dyndep (files_of document.now collated)) }
 {
     match edges_pass(alloc, keys, listing, document.path(), &collated) {
-        Ok(()) => {
-            let files = files_of(alloc, collated, document.spec())?;
-            Ok(Answer::writes(alloc, files))
-        }
+        Ok(()) => files_run(alloc, collated, document.spec()),
         Err(Failure::Memory) => Err(AllocError),
-        Err(Failure::Fault(fault)) => {
-            let message = edges_text(alloc, &fault)?;
-            Answer::failed(alloc, 1, &message)
-        }
+        Err(Failure::Fault(fault)) => edges_refused(alloc, &fault),
     }
+}
+
+/// The answer that writes the files of a collated target.
+fn files_run(alloc: Global, collated: Collated, spec: &TargetSpec) -> Result<Answer, AllocError>
+    requires { All IsUtf8 collated.objects }
+    ensures { IfOk result (Writes (files_of spec.now collated)) }
+{
+    let files = files_of(alloc, collated, spec)?;
+    Ok(Answer::writes(alloc, files))
 }
 
 /// Collates a target, with maps of this form, if one is given.

@@ -2,9 +2,11 @@
 
 ghost use Rattle.std.specs.Prelude.{◌≡◌, IfOk, IfErr, OnOk};
 ghost use Rattle.ninja_text.specs.Failure.{ForFault};
+ghost use Rattle.commands.specs.Answers.{Refuses};
 ghost use Rattle.commands.specs.EdgeChecks.{AreOrderedAfter, ListsOrdered, IsEdgesFault, edges_text};
 ghost use Rattle.commands.specs.inner.EdgeChecks.{AreFaultyAfter};
 
+use crate::answer::Answer;
 use crate::edge_fault::{cycle_text, effect_text, listing_fault_text};
 use crate::listing::listing_read;
 use build_effect::{EffectFault, Graph, ListingFault};
@@ -62,6 +64,14 @@ fn graph_check(
         Err(Failure::Memory) => Err(Failure::Memory),
         Err(Failure::Fault(fault)) => Err(Failure::Fault(EdgesFault::Effect(fault))),
     }
+}
+
+/// The answer to edges that are faulty.
+pub(crate) fn edges_refused(alloc: Global, fault: &EdgesFault) -> Result<Answer, AllocError>
+    ensures { IfOk result (Refuses (edges_text fault.now)) }
+{
+    let message = edges_text(alloc, fault)?;
+    Answer::failed(alloc, 1, &message)
 }
 
 /// What is reported of edges that are faulty.

@@ -5,7 +5,7 @@ ghost use Rattle.commands.specs.One.{setting_of, PrintsDyndep, AnswersDocument};
 ghost use Rattle.commands.specs.Targets.{AnswersTarget};
 
 use crate::answer::Answer;
-use crate::refusal::refusal_text;
+use crate::refusal::target_refused;
 use collate_core::{Target, collate_dyndep_with_hasher, one_outcome};
 use ninja_text::Failure;
 use scan_docs::{Setting, TargetName};
@@ -65,9 +65,6 @@ fn target_run(alloc: Global, keys: RandomState, target: &Target<'_>) -> Result<A
     match collate_dyndep_with_hasher(alloc, target, keys) {
         Ok(text) => Ok(Answer::done(alloc, text)),
         Err(Failure::Memory) => Err(AllocError),
-        Err(Failure::Fault(refusal)) => {
-            let message = refusal_text(alloc, target, &refusal)?;
-            Answer::failed(alloc, 1, &message)
-        }
+        Err(Failure::Fault(refusal)) => target_refused(alloc, target, &refusal),
     }
 }

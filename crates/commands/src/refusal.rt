@@ -3,10 +3,12 @@
 ghost use Rattle.std.specs.Prelude.{◌≡◌, map, codes, All, IfOk};
 ghost use Rattle.scan_docs.specs.Values.{info_of};
 ghost use Rattle.collate_core.specs.Documents.{all_rules, IsScanAccepted, IsInfoAccepted};
+ghost use Rattle.commands.specs.Answers.{Refuses};
 ghost use Rattle.commands.specs.RefusalTexts.{document_text, map_text, refusal_by_names, refusal_text};
 ghost use Rattle.commands.specs.TableFaults.{fault_text};
 ghost use Rattle.commands.specs.inner.Refusals.{HasObjects, HasTable};
 
+use crate::answer::Answer;
 use crate::table_fault::{fault_text, joined, object_path};
 use collate_core::{Refusal, Target};
 use dyndep_file::WriteFault;
@@ -16,15 +18,24 @@ use ninja_text::Failure;
 use scan_docs::{DocFault, Info, Rule, Setting, TargetName, info_read, scan};
 use std::alloc::{AllocError, Global};
 
+/// The answer to this target, which is refused.
+pub(crate) fn target_refused(
+    alloc: Global,
+    target: &Target,
+    refusal: &Refusal,
+) -> Result<Answer, AllocError>
+    requires { HasTable target.now refusal.now }
+    ensures { IfOk result (Refuses (refusal_text target.now refusal.now)) }
+{
+    let message = refusal_text(alloc, target, refusal)?;
+    Answer::failed(alloc, 1, &message)
+}
+
 /// What is reported of a refusal of this target.
 ///
 /// A refusal has the indexes of objects and infos, and the line has their paths and names. So the
 /// documents are read once more, which only a run that is refused pays for.
-pub(crate) fn refusal_text(
-    alloc: Global,
-    target: &Target,
-    refusal: &Refusal,
-) -> Result<Vec<u8>, AllocError>
+fn refusal_text(alloc: Global, target: &Target, refusal: &Refusal) -> Result<Vec<u8>, AllocError>
     requires { HasTable target.now refusal.now }
     ensures { IfOk result (λ text. text.items ≡ refusal_text target.now refusal.now) }
 {

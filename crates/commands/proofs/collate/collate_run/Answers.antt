@@ -1,25 +1,23 @@
-use Rattle.std.proofs.Common.{List, map, subst}
+use Rattle.std.proofs.Common.{map, subst}
 use Rattle.std.specs.Prelude.{IfOk}
 use Rattle.std.proofs.lemmas.Result.{IfOk-weaker}
 use Rattle.ninja_text.specs.Failure.{ForFault}
 use Rattle.scan_docs.specs.Document.{IsRefused}
 use Rattle.scan_docs.specs.TargetChecks.{target_checks}
 use Rattle.commands.specs.Answers.{file_value, Refuses}
-use Rattle.commands.specs.CollateCommand.{FileValue, Reading, first_of, AnswersSpec, AnswersCollate, spec_text}
+use Rattle.commands.specs.CollateCommand.{Reading, first_of, AnswersSpec, AnswersCollate, spec_text}
 use Rattle.commands.proofs.collate.collate_run.Goals as goal
 
 -- the members that were read are the ones that the document has
-pub returns-in_ok-of-in-Ok : goal.returns-in_ok-of-in-Ok
-returns-in_ok-of-in-Ok c =
+pub returns-in-Ok : goal.returns-in-Ok
+returns-in-Ok c =
     let reading : Reading = first_of (map file_value c.args.files.now) in
-    IfOk-weaker c.document_run-in-Ok.result _ (AnswersCollate c.args.spec.now reading)
-    (λ answer h.
-    let own : AnswersSpec reading c.in-Ok.document answer = subst (λ (files : List FileValue). AnswersSpec (first_of files) c.in-Ok.document answer) c.in_ok-of-in-Ok.ensures h in
-    record {
+    IfOk-weaker c.accepted_run.result _ (AnswersCollate c.args.spec.now reading)
+    (λ answer own. record {
       accepted = λ spec has. subst (λ s. AnswersSpec reading s answer) (c.read.ensures.one_answer.one_value c.in-Ok.document spec c.in-Ok.ensures.accepted has) own;
       refused = λ fault is. absurd (c.read.ensures.one_answer.not_both c.in-Ok.document fault c.in-Ok.ensures.accepted is);
     })
-    c.document_run-in-Ok.ensures
+    c.accepted_run.ensures
 
 -- a refused document has no members, and no other fault
 pub returns-in-Err-Fault : goal.returns-in-Err-Fault

@@ -1,8 +1,9 @@
-use Rattle.std.proofs.Common.{subst, ◌∙◌}
+use Rattle.std.proofs.Common.{subst}
+use Rattle.std.specs.Prelude.{IfOk}
 use Rattle.std.proofs.lemmas.Result.{IfOk-weaker}
 use Rattle.ninja_text.specs.Failure.{ForFault}
-use Rattle.commands.specs.Answers.{Fails, Refuses}
-use Rattle.commands.specs.EdgeChecks.{FailsEdges, AnswersEdges, fails}
+use Rattle.commands.specs.Answers.{Refuses}
+use Rattle.commands.specs.EdgeChecks.{FailsEdges, AnswersEdges, edges_text, fails}
 use Rattle.commands.specs.CollateCommand.{dyndep_path}
 use Rattle.commands.proofs.Commands.{at_path}
 use Rattle.commands.proofs.collate.collated_run.Goals as goal
@@ -10,8 +11,7 @@ use Rattle.commands.proofs.collate.collated_run.Goals as goal
 -- the edges are faulty
 pub returns : goal.returns
 returns c =
-    IfOk-weaker c.failed.result (Fails 1 c.deref.result.now) (AnswersEdges _ (dyndep_path c.args.document.now) _ _)
+    IfOk-weaker c.edges_refused.result (Refuses (edges_text c.in-Err-Fault.fault)) (AnswersEdges _ (dyndep_path c.args.document.now) _ _)
     (λ answer h. at_path c.path.ensures (fails c.in-Err-Fault.fault
-    (subst (ForFault (FailsEdges _ _ _)) c.in-Err-Fault.field-0-is c.in-Err-Fault.ensures.fails)
-    (subst (λ text. Refuses text answer) (c.deref.ensures.value ∙ c.in_ok-message-in-Err-Fault.ensures) h)))
-    c.failed.ensures
+    (subst (ForFault (FailsEdges _ _ _)) c.in-Err-Fault.field-0-is c.in-Err-Fault.ensures.fails) h))
+    (subst (λ f. IfOk c.edges_refused.result (Refuses (edges_text f))) c.in-Err-Fault.fault-is c.edges_refused.ensures)

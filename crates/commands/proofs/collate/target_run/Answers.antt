@@ -1,11 +1,11 @@
 use Rattle.std.proofs.Common.{◌≡◌, ap, subst, ◌∙◌}
-use Rattle.std.specs.Prelude.{option_copied}
+use Rattle.std.specs.Prelude.{IfOk, option_copied}
 use Rattle.std.proofs.lemmas.Result.{IfOk-weaker}
 use Rattle.ninja_text.specs.Failure.{ForFault}
 use Rattle.scan_docs.specs.Target as document
 use Rattle.collate_core.specs.Collation.{Collates}
 use Rattle.collate_core.specs.Refusals.{IsRefusal}
-use Rattle.commands.specs.Answers.{Fails, Refuses}
+use Rattle.commands.specs.Answers.{Refuses}
 use Rattle.commands.specs.CollateCommand.{style_of, WritesCollated, AnswersTargetOf}
 use Rattle.commands.proofs.Commands.{objects_text}
 use Rattle.commands.proofs.Targets.{collated, refused}
@@ -30,8 +30,8 @@ returns-in-Ok c =
     c.collated_run.ensures
 
 -- the line of the target's refusal
-pub returns-in_ok-message-in-Err-Fault : goal.returns-in_ok-message-in-Err-Fault
-returns-in_ok-message-in-Err-Fault c =
+pub returns-in-Err-Fault : goal.returns-in-Err-Fault
+returns-in-Err-Fault c =
     let spec = c.args.document.now in
     let listing = option_copied c.args.listing in
     let form : c.behind-document.inside.map ≡ spec.map_form =
@@ -39,9 +39,8 @@ returns-in_ok-message-in-Err-Fault c =
     let own : IsRefusal c.args.target.now (style_of spec.map_form) c.in-Err-Fault.refusal =
     subst (λ f. IsRefusal c.args.target.now (style_of f) c.in-Err-Fault.refusal) form
     (subst (ForFault (IsRefusal _ _)) c.in-Err-Fault.field-0-is c.in-Err-Fault.ensures.refused) in
-    IfOk-weaker c.failed.result (Fails 1 c.deref.result.now)
+    IfOk-weaker c.target_refused.result (Refuses (refusal_text c.args.target.now c.in-Err-Fault.refusal))
     (AnswersTargetOf spec listing c.args.target.now)
     (λ answer h. refused c.one_outcome.ensures.one (WritesCollated spec listing)
-    c.args.target.now (style_of spec.map_form) answer c.in-Err-Fault.refusal own
-    (subst (λ text. Refuses text answer) (c.deref.ensures.value ∙ c.in_ok-message-in-Err-Fault.ensures ∙ ap (refusal_text c.args.target.now) c.in-Err-Fault.refusal-is) h))
-    c.failed.ensures
+    c.args.target.now (style_of spec.map_form) answer c.in-Err-Fault.refusal own h)
+    (subst (λ r. IfOk c.target_refused.result (Refuses (refusal_text c.args.target.now r))) c.in-Err-Fault.refusal-is c.target_refused.ensures)
