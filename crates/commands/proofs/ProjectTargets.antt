@@ -1,17 +1,13 @@
 -- One more target of a project.
-use Rattle.std.proofs.Common.{◌≡◌, ℕ, zero, suc, ◌+◌, ◌<◌, ◌⊎◌, inl, inr, Bool, true, false, cond, List, [], ◌∷◌, ◌++◌, length, take, get_or, map, Option, Some, None, refl, ap, sym, subst, ◌∙◌, bytes_eq, arith}
-use Rattle.std.specs.Prelude.{slice_get, option_map, All, String}
-use Rattle.std.specs.HashMap as hash
-use Rattle.std.specs.HashMap.{HashMap}
-use Rattle.std.specs.String.{string_bytes, string_eq}
+use Rattle.std.proofs.Common.{◌≡◌, ℕ, zero, suc, ◌+◌, ◌<◌, ◌⊎◌, inl, inr, Bool, true, false, cond, List, [], ◌∷◌, ◌++◌, length, take, get_or, map, Option, Some, None, refl, ap, ap₂, sym, subst, ◌∙◌, bytes_eq, arith}
+use Rattle.std.specs.Prelude.{slice_get, option_map, All}
 use Rattle.std.proofs.lemmas.List.{take-map}
 use Rattle.std.proofs.lemmas.List.Elements.{All-nil, All-cons}
-use Rattle.std.proofs.lemmas.Map.Text.{hash_map_updates_text}
 use Rattle.std.proofs.lemmas.Option.{slice_get_within, slice_get-get_or, slice_get-map}
 use Rattle.commands.specs.CollateCommand.{Reading}
 use Rattle.commands.specs.ProjectCommand.{ReadTargetValue, index_or_head, last_with, LinksTo, IsRead, AreRead, none, one_more, FailsTarget, FailsReading}
 use Rattle.commands.specs.declared.answer.Answer.{Answer}
-use Rattle.commands.specs.inner.ProjectTargets.{writer_of, LinkEarlier}
+use Rattle.commands.specs.inner.ProjectTargets.{LinkEarlier}
 use Rattle.commands.proofs.Readings.{mapped_next}
 
 some_same : {X : Type 0} {x y : X} → Some x ≡ Some y → x ≡ y
@@ -37,14 +33,15 @@ last_with_within (h ∷ ts) info k e = go (last_with ts info) (bytes_eq h.spec.i
     go None true within e = let same : 0 ≡ k = some_same e in omega (arith, same)
     go None false within e = cc
 
--- the table of one target more
-pub writer_push : {Y S : Type 0} (ts : List ReadTargetValue) (t : ReadTargetValue) (key : List ℕ) (m n : HashMap (String Y) ℕ S) →
-    ((info : List ℕ) → writer_of m info ≡ last_with ts info) → key ≡ t.spec.info → hash.UpdatesBy string_eq (λ k. bytes_eq key (string_bytes k)) m n (Some (length ts)) →
-    (info : List ℕ) → writer_of n info ≡ last_with (ts ++ t ∷ []) info
-writer_push ts t key m n before is updates info =
-    hash_map_updates_text key m n (Some (length ts)) updates info
-    ∙ ap (cond (bytes_eq key info) (Some (length ts))) (before info)
-    ∙ ap (λ k. cond (bytes_eq k info) (Some (length ts)) (last_with ts info)) is
+-- the writers of one target more
+pub writer_push : (ts : List ReadTargetValue) (t : ReadTargetValue) (key : List ℕ) (index : ℕ) (old new : List ℕ → Option ℕ) →
+    ((info : List ℕ) → old info ≡ last_with ts info) → key ≡ t.spec.info → index ≡ length ts →
+    ((info : List ℕ) → new info ≡ cond (bytes_eq key info) (Some index) (old info)) →
+    (info : List ℕ) → new info ≡ last_with (ts ++ t ∷ []) info
+writer_push ts t key index old new before is at updates info =
+    updates info
+    ∙ ap (cond (bytes_eq key info) (Some index)) (before info)
+    ∙ ap₂ (λ k n. cond (bytes_eq k info) (Some n) (last_with ts info)) is at
     ∙ sym (last_with_push ts t info)
 
 -- ---- links

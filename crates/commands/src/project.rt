@@ -3,9 +3,10 @@
 ghost use Rattle.std.specs.Prelude.{◌≡◌, ◌<◌, Some, All, IsUtf8, List, ℕ, length, map, zip, slice_get, string_bytes, IfOk, IfErr, OnOk};
 ghost use Rattle.ninja_text.specs.Failure.{ForFault};
 ghost use Rattle.collate_core.specs.Projects.{IsProject, IsProjectRefusal};
-ghost use Rattle.commands.specs.Answers.{file_value, Refuses};
+ghost use Rattle.commands.specs.Answers.{file_value, Writes, Refuses};
 ghost use Rattle.commands.specs.CollateCommand.{first_of, style_of};
-ghost use Rattle.commands.specs.ProjectCommand.{ReadTargetValue, project_target, form_of, names_at, refused_text, PassesOwn, FailsFirst, all_files, AnswersCollatedTargets, AnswersReadTargets, AnswersNames, AnswersProject, project_text};
+ghost use Rattle.commands.specs.EdgeChecks.{edges_text};
+ghost use Rattle.commands.specs.ProjectCommand.{ReadTargetValue, target_text, project_target, form_of, names_at, refused_text, PassesOwn, FailsFirst, all_files, AnswersCollatedTargets, AnswersReadTargets, AnswersNames, AnswersProject, project_text};
 ghost use Rattle.commands.specs.inner.ProjectTargets.{LinkEarlier, IsReportable, AreOuts};
 
 use crate::answer::Answer;
@@ -193,16 +194,31 @@ fn collated_run(
     ensures { IfOk result (AnswersCollatedTargets (zip targets.now outs.items)) }
 {
     match all_pass(alloc, keys, targets, &outs) {
-        Ok(()) => {
-            let files = all_files(alloc, targets, outs)?;
-            Ok(Answer::writes(alloc, files))
-        }
+        Ok(()) => files_run(alloc, targets, outs),
         Err(Failure::Memory) => Err(AllocError),
-        Err(Failure::Fault((index, fault))) => {
-            let text = edges_text(alloc, &fault)?;
-            target_failed(alloc, index, &text)
-        }
+        Err(Failure::Fault((index, fault))) => edges_failed(alloc, index, &fault),
     }
+}
+
+/// The answer that writes the files of all targets, which collated to these.
+fn files_run(
+    alloc: Global,
+    targets: &[ReadTarget],
+    outs: Vec<Collated>,
+) -> Result<Answer, AllocError>
+    requires { All (λ c. All IsUtf8 c.objects) outs.items }
+    ensures { IfOk result (Writes (all_files (zip targets.now outs.items))) }
+{
+    let files = all_files(alloc, targets, outs)?;
+    Ok(Answer::writes(alloc, files))
+}
+
+/// The answer to a target of this index whose edges are faulty.
+fn edges_failed(alloc: Global, index: usize, fault: &EdgesFault) -> Result<Answer, AllocError>
+    ensures { IfOk result (Refuses (target_text index (edges_text fault.now))) }
+{
+    let text = edges_text(alloc, fault)?;
+    target_failed(alloc, index, &text)
 }
 
 /// Whether the edges that each target names can be put in order after its own dyndep file, or what

@@ -1,10 +1,11 @@
 //! The targets of a project, as their documents and the files that these name are read.
 
-ghost use Rattle.std.specs.Prelude.{◌≡◌, ◌++◌, ◌∷◌, [], None, Some, map, string_bytes, option_copied, IfOk, IfErr, IfNone, IfSome, IsTrue, Decides, length};
+ghost use Rattle.std.specs.Prelude.{◌≡◌, ◌++◌, ◌∷◌, [], List, ℕ, None, Some, map, string_bytes, bytes_eq, if◌then◌else◌, option_copied, IfOk, IfErr, OnOk, IfNone, IfSome, IsTrue, Decides, length};
 ghost use Rattle.ninja_text.specs.Failure.{ForFault};
 ghost use Rattle.commands.specs.Answers.{Refuses};
 ghost use Rattle.commands.specs.CollateCommand.{first_of, first_unread, bytes_of, listing_of, spec_text};
-ghost use Rattle.commands.specs.ProjectCommand.{names_of_target, last_with, target_text, project_target, LinksTo, LinksLater, HasFormOf, IsReadBehind, IsRead, AreRead, FailsBehind, FailsTarget, FailsReading};
+ghost use Rattle.commands.specs.ProjectCommand.{names_of_target, last_with, target_text, project_target, LinksTo, LinksLater, HasDocument, HasFormOf, IsReadBehind, IsRead, AreRead, FailsBehind, FailsTarget, FailsReading};
+ghost use Rattle.commands.specs.inner.ProjectTargets.{writer_of};
 
 use crate::answer::Answer;
 use crate::reading::{Files, read_each, read_named};
@@ -63,8 +64,7 @@ impl<'f> ReadTarget<'f> {
 #[derive(Drop)]
 struct Targets<'f> {
     read: Vec<ReadTarget<'f>>,
-    /// Of each info that they write the index of the last target that does.
-    writers: IndexMap<String, usize, RandomState>,
+    writers: Writers,
 }
 
 impl<'f> Model for Targets<'f> {
@@ -77,7 +77,7 @@ impl<'f> Model for Targets<'f> {
     ghost view = { λ t. t.read.items };
 
     ghost invariant = { λ t. (info : List ℕ) →
-        writer_of t.writers info ≡ last_with t.read.items info };
+        writer_of t.writers.indexes info ≡ last_with t.read.items info };
 }
 
 impl<'f> Targets<'f> {
@@ -87,7 +87,7 @@ impl<'f> Targets<'f> {
     {
         Targets {
             read: Vec::new(alloc),
-            writers: IndexMap::with_hasher(alloc, keys),
+            writers: Writers::new(alloc, keys),
         }
     }
 
@@ -98,8 +98,7 @@ impl<'f> Targets<'f> {
         let Targets { read, writers } = self;
         let mut read = read;
         let mut writers = writers;
-        let info = String::from_str(alloc, &target.document.spec().info)?;
-        writers.insert(info, read.len())?;
+        writers.insert(alloc, &target.document.spec().info, read.len())?;
         read.push(target)?;
         Ok(Targets { read, writers })
     }
@@ -115,10 +114,7 @@ impl<'f> Targets<'f> {
     fn writer(&self, info: &str) -> Option<usize>
         ensures { result ≡ last_with self.now info.now }
     {
-        match self.writers.get(info) {
-            Some(index) => Some(*index),
-            None => None,
-        }
+        self.writers.get(info)
     }
 
     /// Whether a target with maps of this form has the form of the first one.
@@ -136,6 +132,43 @@ impl<'f> Targets<'f> {
         ensures { result.items ≡ self.entry }
     {
         self.read
+    }
+}
+
+/// Of each info that targets write the index of the last one that does.
+#[derive(Drop)]
+struct Writers {
+    indexes: IndexMap<String, usize, RandomState>,
+}
+
+impl Writers {
+    /// No info has a writer.
+    fn new(alloc: Global, keys: RandomState) -> Writers
+        ensures { (info : List ℕ) → writer_of result.indexes info ≡ None }
+    {
+        Writers {
+            indexes: IndexMap::with_hasher(alloc, keys),
+        }
+    }
+
+    /// This target writes that info.
+    fn insert(&mut self, alloc: Global, info: &str, index: usize) -> Result<(), AllocError>
+        ensures { OnOk result ((other : List ℕ) → writer_of self.new.indexes other
+            ≡ (if bytes_eq info.now other then Some index else writer_of self.old.indexes other)) }
+    {
+        let info = String::from_str(alloc, info)?;
+        self.indexes.insert(info, index)?;
+        Ok(())
+    }
+
+    /// The index of the last target that writes this info, if one does.
+    fn get(&self, info: &str) -> Option<usize>
+        ensures { result ≡ writer_of self.now.indexes info.now }
+    {
+        match self.indexes.get(info) {
+            Some(index) => Some(*index),
+            None => None,
+        }
     }
 }
 
@@ -171,19 +204,33 @@ fn read_target<'f>(
     ensures fails { IfErr result
         (ForFault (FailsTarget (first_of files.now) earlier.now name.now)) }
 {
+    let document = document_of(alloc, files, earlier, name)?;
+    let (linked, scans, listing) = parts_of(alloc, files, earlier, &document)?;
+    Ok(ReadTarget {
+        document,
+        linked,
+        scans,
+        listing,
+    })
+}
+
+/// The target document of this name behind earlier ones, or how the run ends where it can't be
+/// read.
+fn document_of(
+    alloc: Global,
+    files: &Files,
+    earlier: &Targets,
+    name: &str,
+) -> Result<TargetDocument, Failure<Answer>>
+    ensures read { IfOk result (HasDocument (first_of files.now) name.now) }
+    ensures fails { IfErr result
+        (ForFault (FailsTarget (first_of files.now) earlier.now name.now)) }
+{
     let Some(bytes) = files.get(name) else {
         return Err(Failure::Fault(Answer::unread(alloc, name)?));
     };
     match TargetDocument::read(alloc, bytes) {
-        Ok(document) => {
-            let (linked, scans, listing) = parts_of(alloc, files, earlier, &document)?;
-            Ok(ReadTarget {
-                document,
-                linked,
-                scans,
-                listing,
-            })
-        }
+        Ok(document) => Ok(document),
         Err(Failure::Memory) => Err(Failure::Memory),
         Err(Failure::Fault(fault)) => {
             let answer = spec_refused(alloc, earlier.len(), &fault)?;
