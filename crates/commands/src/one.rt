@@ -5,9 +5,8 @@ ghost use Rattle.commands.specs.One.{setting_of, PrintsDyndep, AnswersDocument};
 ghost use Rattle.commands.specs.Targets.{AnswersTarget};
 
 use crate::answer::Answer;
-use crate::refusal::target_refused;
+use crate::refusal::target_failed;
 use collate_core::{Target, collate_dyndep_with_hasher, one_outcome};
-use ninja_text::Failure;
 use scan_docs::{Setting, TargetName};
 use std::alloc::{AllocError, Global};
 use std::hash::RandomState;
@@ -64,7 +63,6 @@ fn target_run(alloc: Global, keys: RandomState, target: &Target<'_>) -> Result<A
     one_outcome();
     match collate_dyndep_with_hasher(alloc, target, keys) {
         Ok(text) => Ok(Answer::done(alloc, text)),
-        Err(Failure::Memory) => Err(AllocError),
-        Err(Failure::Fault(refusal)) => target_refused(alloc, target, &refusal),
+        Err(failure) => target_failed(alloc, target, failure),
     }
 }

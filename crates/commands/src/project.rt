@@ -1,10 +1,10 @@
 //! The command `project`: the files of all targets of a project.
 
-ghost use Rattle.std.specs.Prelude.{◌≡◌, ◌<◌, Some, All, IsUtf8, List, ℕ, length, map, zip, slice_get, string_bytes, IfOk, IfErr, OnOk};
+ghost use Rattle.std.specs.Prelude.{◌≡◌, ◌<◌, ◌++◌, Some, All, IsUtf8, List, ℕ, length, map, zip, slice_get, string_bytes, IfOk, IfErr, OnOk};
 ghost use Rattle.ninja_text.specs.Failure.{ForFault};
 ghost use Rattle.collate_core.specs.Projects.{IsProject, IsProjectRefusal};
 ghost use Rattle.commands.specs.Answers.{file_value, Writes, Refuses};
-ghost use Rattle.commands.specs.CollateCommand.{first_of, style_of};
+ghost use Rattle.commands.specs.CollateCommand.{first_of, style_of, files_of};
 ghost use Rattle.commands.specs.EdgeChecks.{edges_text};
 ghost use Rattle.commands.specs.ProjectCommand.{ReadTargetValue, target_text, project_target, form_of, names_at, refused_text, PassesOwn, FailsFirst, all_files, AnswersCollatedTargets, AnswersReadTargets, AnswersNames, AnswersProject, project_text};
 ghost use Rattle.commands.specs.inner.ProjectTargets.{LinkEarlier, IsReportable, AreOuts};
@@ -18,7 +18,7 @@ use crate::refusal::refusal_by_names;
 use collate_core::{Collated, ProjectOut, ProjectTarget, Refusal, project_with_hasher};
 use module_maps::{Clang, Gcc};
 use ninja_text::Failure;
-use scan_docs::{DocFault, MapForm, TargetName, project_read};
+use scan_docs::{DocFault, MapForm, TargetName, TargetSpec, project_read};
 use std::alloc::{AllocError, Global};
 use std::hash::RandomState;
 
@@ -262,8 +262,22 @@ fn all_files(
 {
     let mut files = Vec::new(alloc);
     for (target, collated) in targets.iter().zip(outs) {
-        let mut more = files_of(alloc, collated, target.document.spec())?;
-        files.append(&mut more)?;
+        append_files(alloc, &mut files, collated, target.document.spec())?;
     }
     Ok(files)
+}
+
+/// Appends the files of a collated target.
+fn append_files(
+    alloc: Global,
+    files: &mut Vec<(String, Vec<u8>)>,
+    collated: Collated,
+    spec: &TargetSpec,
+) -> Result<(), AllocError>
+    requires { All IsUtf8 collated.objects }
+    ensures { OnOk result (map file_value files.new.items
+        ≡ map file_value files.old.items ++ files_of spec.now collated) }
+{
+    let mut more = files_of(alloc, collated, spec)?;
+    files.append(&mut more)
 }

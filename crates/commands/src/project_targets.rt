@@ -98,8 +98,9 @@ impl<'f> Targets<'f> {
         let Targets { read, writers } = self;
         let mut read = read;
         let mut writers = writers;
-        writers.insert(alloc, &target.document.spec().info, read.len())?;
+        let index = read.len();
         read.push(target)?;
+        writers.insert(alloc, &read[index].document.spec().info, index)?;
         Ok(Targets { read, writers })
     }
 

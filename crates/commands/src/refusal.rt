@@ -1,12 +1,13 @@
 //! How the refusals of a target are reported.
 
 ghost use Rattle.std.specs.Prelude.{◌≡◌, map, codes, All, IfOk};
+ghost use Rattle.ninja_text.specs.Failure.{ForFault};
 ghost use Rattle.scan_docs.specs.Values.{info_of};
 ghost use Rattle.collate_core.specs.Documents.{all_rules, IsScanAccepted, IsInfoAccepted};
 ghost use Rattle.commands.specs.Answers.{Refuses};
 ghost use Rattle.commands.specs.RefusalTexts.{document_text, map_text, refusal_by_names, refusal_text};
 ghost use Rattle.commands.specs.TableFaults.{fault_text};
-ghost use Rattle.commands.specs.inner.Refusals.{HasObjects, HasTable};
+ghost use Rattle.commands.specs.inner.Refusals.{HasObjects, HasTable, AnswersFailure};
 
 use crate::answer::Answer;
 use crate::table_fault::{fault_text, joined, object_path};
@@ -18,12 +19,23 @@ use ninja_text::Failure;
 use scan_docs::{DocFault, Info, Rule, Setting, TargetName, info_read, scan};
 use std::alloc::{AllocError, Global};
 
-/// The answer to this target, which is refused.
-pub(crate) fn target_refused(
+/// The answer to this target, which failed to collate.
+pub(crate) fn target_failed(
     alloc: Global,
     target: &Target,
-    refusal: &Refusal,
+    failure: Failure<Refusal>,
 ) -> Result<Answer, AllocError>
+    requires { ForFault (HasTable target.now) failure }
+    ensures { IfOk result (AnswersFailure target.now failure) }
+{
+    match failure {
+        Failure::Memory => Err(AllocError),
+        Failure::Fault(refusal) => target_refused(alloc, target, &refusal),
+    }
+}
+
+/// The answer to this target, which is refused.
+fn target_refused(alloc: Global, target: &Target, refusal: &Refusal) -> Result<Answer, AllocError>
     requires { HasTable target.now refusal.now }
     ensures { IfOk result (Refuses (refusal_text target.now refusal.now)) }
 {

@@ -2,11 +2,19 @@ use Rattle.std.proofs.Common.{subst}
 use Rattle.std.specs.Prelude.{IfOk}
 use Rattle.std.proofs.lemmas.Result.{IfOk-weaker}
 use Rattle.ninja_text.specs.Failure.{ForFault}
-use Rattle.commands.specs.Answers.{Refuses}
-use Rattle.commands.specs.EdgeChecks.{FailsEdges, AnswersEdges, edges_text, fails}
-use Rattle.commands.specs.CollateCommand.{dyndep_path}
+use Rattle.commands.specs.Answers.{Writes, Refuses}
+use Rattle.commands.specs.EdgeChecks.{FailsEdges, AnswersEdges, edges_text, passes, fails}
+use Rattle.commands.specs.CollateCommand.{dyndep_path, files_of}
 use Rattle.commands.proofs.Commands.{at_path}
 use Rattle.commands.proofs.collate.collated_run.Goals as goal
+
+-- the edges can be put in order
+pub returns-in-Ok : goal.returns-in-Ok
+returns-in-Ok c =
+    IfOk-weaker c.files_run.result (Writes (files_of c.spec.result.now c.args.collated)) (AnswersEdges _ (dyndep_path c.args.document.now) _ _)
+    (λ answer h. at_path c.path.ensures (passes c.in-Ok.ensures.passes
+    (subst (λ s. Writes (files_of s c.args.collated) answer) c.spec.ensures h)))
+    c.files_run.ensures
 
 -- the edges are faulty
 pub returns : goal.returns

@@ -1,13 +1,9 @@
-use Rattle.std.proofs.Common.{None, ap, sym, subst, ◌∙◌}
-use Rattle.std.specs.Prelude.{IfOk}
+use Rattle.std.proofs.Common.{None, ap, sym, ◌∙◌}
 use Rattle.std.proofs.lemmas.Result.{IfOk-weaker}
-use Rattle.ninja_text.specs.Failure.{ForFault}
-use Rattle.collate_core.specs.Refusals.{IsRefusal}
-use Rattle.commands.specs.Answers.{Refuses}
 use Rattle.commands.specs.One.{PrintsDyndep}
-use Rattle.commands.specs.RefusalTexts.{refusal_text}
 use Rattle.commands.specs.Targets.{AnswersTarget}
-use Rattle.commands.proofs.Targets.{collated, refused}
+use Rattle.commands.specs.inner.Refusals.{AnswersFailure}
+use Rattle.commands.proofs.Targets.{collated, failed, reported}
 use Rattle.commands.proofs.one.target_run.Goals as goal
 
 -- the text of what the target collates to
@@ -22,11 +18,13 @@ returns-in-Ok c =
       files = c.done.ensures.files;
     })
 
--- the line of the target's refusal
-pub returns-in-Err-Fault : goal.returns-in-Err-Fault
-returns-in-Err-Fault c =
-    IfOk-weaker c.target_refused.result (Refuses (refusal_text c.args.target.now c.in-Err-Fault.refusal))
+pub target_failed-requires : goal.target_failed-requires
+target_failed-requires c = reported c.args.target.now None c.in-Err.failure c.in-Err.ensures.refused
+
+-- the answer to its failure
+pub returns-in-Err : goal.returns-in-Err
+returns-in-Err c =
+    IfOk-weaker c.target_failed.result (AnswersFailure c.args.target.now c.in-Err.failure)
     (AnswersTarget PrintsDyndep c.args.target.now None)
-    (λ answer h. refused c.one_outcome.ensures.one PrintsDyndep c.args.target.now None answer c.in-Err-Fault.refusal
-    (subst (ForFault (IsRefusal c.args.target.now None)) c.in-Err-Fault.field-0-is c.in-Err-Fault.ensures.refused) h)
-    (subst (λ r. IfOk c.target_refused.result (Refuses (refusal_text c.args.target.now r))) c.in-Err-Fault.refusal-is c.target_refused.ensures)
+    (λ answer h. failed c.one_outcome.ensures.one PrintsDyndep c.args.target.now None answer c.in-Err.failure c.in-Err.ensures.refused h)
+    c.target_failed.ensures

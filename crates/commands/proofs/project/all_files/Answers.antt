@@ -3,11 +3,10 @@ use Rattle.std.specs.Prelude.{All, IsUtf8}
 use Rattle.std.proofs.lemmas.Iterator.{YieldsList-from_slice, YieldsList-from_zip}
 use Rattle.std.proofs.lemmas.Iterator.Adapters.{YieldsList-from_vec}
 use Rattle.std.proofs.lemmas.Iterator.Consumers.{YieldsList-turn, YieldsList-end}
-use Rattle.std.proofs.lemmas.List.{length_push, map-append, take_all}
+use Rattle.std.proofs.lemmas.List.{length_push, take_all}
 use Rattle.std.proofs.lemmas.List.Elements.{All-get_or}
 use Rattle.scan_docs.specs.Target as document
 use Rattle.collate_core.specs.Values.{CollatedValue}
-use Rattle.commands.specs.Answers.{file_value}
 use Rattle.commands.specs.CollateCommand.{files_of}
 use Rattle.commands.specs.ProjectCommand.{ReadTargetValue, all_files}
 use Rattle.commands.proofs.ProjectTargets.{at_index}
@@ -15,8 +14,8 @@ use Rattle.commands.proofs.ProjectRuns.{second_all, files_next}
 use Rattle.commands.proofs.project.all_files.Goals as goal
 
 -- the objects of this target are text
-pub files_of-requires : goal.files_of-requires
-files_of-requires c =
+pub append_files-requires : goal.append_files-requires
+append_files-requires c =
     let targets = c.args.targets.now in
     let outs = c.args.outs.items in
     let turn = YieldsList-turn (YieldsList-from_zip {s = c.into_iter-target-iterator.result} (YieldsList-from_slice targets (cc)) (YieldsList-from_vec outs (cc) (cc))) c.loop-target.yielded c.loop-target.target-iterator c.loop-target.yielded_by c.next.result c.next.new.self (c.in-Some.target, c.in-Some.collated) c.in-Some.is c.next.ensures.steps in
@@ -31,9 +30,10 @@ loop-target-preserved c =
     let n : ℕ = length c.loop-target.yielded in
     let turn = YieldsList-turn (YieldsList-from_zip {s = c.into_iter-target-iterator.result} (YieldsList-from_slice targets (cc)) (YieldsList-from_vec outs (cc) (cc))) c.loop-target.yielded c.loop-target.target-iterator c.loop-target.yielded_by c.next.result c.next.new.self (c.in-Some.target, c.in-Some.collated) c.in-Some.is c.next.ensures.steps in
     let here = at_index (zip targets outs) n (c.in-Some.target.now, c.in-Some.collated) turn.0 turn.1 in
-    rw (length_push c.loop-target.yielded (c.in-Some.target, c.in-Some.collated), c.in_ok-append.ensures.items, map-append file_value)
-    (files_next (zip targets outs) n (c.in-Some.target.now, c.in-Some.collated) _ _ here c.loop-target.invariant
-    (c.in_ok-more.ensures ∙ ap (λ (s : document.TargetValue). files_of s c.in-Some.collated) (c.spec.ensures ∙ ap (λ (t : ReadTargetValue). t.spec) c.target.view_is)))
+    rw (length_push c.loop-target.yielded (c.in-Some.target, c.in-Some.collated))
+    (c.in_ok-append_files.ensures
+    ∙ files_next (zip targets outs) n (c.in-Some.target.now, c.in-Some.collated) _ _ here c.loop-target.invariant
+    (ap (λ (s : document.TargetValue). files_of s c.in-Some.collated) (c.spec.ensures ∙ ap (λ (t : ReadTargetValue). t.spec) c.target.view_is)))
 
 pub returns : goal.returns
 returns c =

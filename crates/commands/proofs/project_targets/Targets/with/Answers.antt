@@ -1,4 +1,6 @@
-use Rattle.std.proofs.Common.{rules, ◌≡◌, length, string_bytes}
+use Rattle.std.proofs.Common.{rules, ◌≡◌, length, get_or, ap, sym, ◌∙◌}
+use Rattle.std.proofs.lemmas.List.{get_or_push}
+use Rattle.commands.specs.ProjectCommand.{ReadTargetValue}
 use Rattle.commands.specs.inner.ProjectTargets.{writer_of}
 use Rattle.commands.proofs.ProjectTargets.{writer_push}
 use Rattle.commands.proofs.project_targets.Targets.with.Goals as goal
@@ -7,7 +9,11 @@ use Rattle.commands.proofs.project_targets.Targets.with.Goals as goal
 pub invariant_of-result : goal.invariant_of-result
 invariant_of-result c =
     let ts = c.self.inside.read.items in
-    let named : c.deref.result.now ≡ c.args.target.spec.info = search rules in
-    let at : c.len.result ≡ length ts = search rules in
+    let target = c.args.target in
+    let at : c.len-index.result ≡ length ts = search rules in
+    let here : c.index.result.now ≡ target =
+    c.index.ensures ∙ ap (λ read. get_or read c.len-index.result c.index.result.now) c.in_ok-push.ensures.items ∙ get_or_push ts target c.index.result.now c.len-index.result (sym at) in
+    let named : c.deref.result.now ≡ c.index.result.now.spec.info = search rules in
     rw c.in_ok-push.ensures.items
-    (writer_push ts c.args.target c.deref.result.now c.len.result (writer_of c.self.inside.writers.indexes) (writer_of c.insert.new.self.indexes) c.self.invariant named at c.in_ok-insert.ensures)
+    (writer_push ts target c.deref.result.now c.len-index.result (writer_of c.self.inside.writers.indexes) (writer_of c.insert.new.self.indexes) c.self.invariant
+    (named ∙ ap (λ (t : ReadTargetValue). t.spec.info) here) at c.in_ok-insert.ensures)
