@@ -11,7 +11,7 @@ ghost use Rattle.commands.specs.EdgeChecks.{PassesEdges, FailsEdges, AnswersEdge
 use crate::answer::Answer;
 use crate::edges::{EdgesFault, edges_check, edges_refused};
 use crate::reading::{Files, read_each, read_named};
-use crate::refusal::target_failed;
+use crate::refusal::failed_run;
 use crate::target_document::TargetDocument;
 use collate_core::{Collated, CollatedParts, Refusal, Target, collate_with_hasher, one_outcome};
 use module_maps::{Clang, Gcc};
@@ -144,7 +144,7 @@ fn target_run(
     one_outcome();
     match collate_in(alloc, keys, target, document.spec().map) {
         Ok(collated) => collated_run(alloc, keys, collated, document, listing),
-        Err(failure) => target_failed(alloc, target, failure),
+        Err(failure) => failed_run(alloc, target, failure),
     }
 }
 

@@ -5,7 +5,7 @@ ghost use Rattle.commands.specs.One.{setting_of, PrintsDyndep, AnswersDocument};
 ghost use Rattle.commands.specs.Targets.{AnswersTarget};
 
 use crate::answer::Answer;
-use crate::refusal::target_failed;
+use crate::refusal::failed_run;
 use collate_core::{Target, collate_dyndep_with_hasher, one_outcome};
 use scan_docs::{Setting, TargetName};
 use std::alloc::{AllocError, Global};
@@ -63,6 +63,6 @@ fn target_run(alloc: Global, keys: RandomState, target: &Target<'_>) -> Result<A
     one_outcome();
     match collate_dyndep_with_hasher(alloc, target, keys) {
         Ok(text) => Ok(Answer::done(alloc, text)),
-        Err(failure) => target_failed(alloc, target, failure),
+        Err(failure) => failed_run(alloc, target, failure),
     }
 }

@@ -20,7 +20,7 @@ use scan_docs::{DocFault, Info, Rule, Setting, TargetName, info_read, scan};
 use std::alloc::{AllocError, Global};
 
 /// The answer to this target, which failed to collate.
-pub(crate) fn target_failed(
+pub(crate) fn failed_run(
     alloc: Global,
     target: &Target,
     failure: Failure<Refusal>,

@@ -28,8 +28,8 @@ returns-in-Ok c =
     c.args.target.now (style_of spec.map_form) answer c.in-Ok.collated own h)
     c.collated_run.ensures
 
-pub target_failed-requires : goal.target_failed-requires
-target_failed-requires c = reported c.args.target.now _ c.in-Err.failure c.in-Err.ensures.refused
+pub failed_run-requires : goal.failed_run-requires
+failed_run-requires c = reported c.args.target.now _ c.in-Err.failure c.in-Err.ensures.refused
 
 -- the answer to its failure
 pub returns-in-Err : goal.returns-in-Err
@@ -40,8 +40,8 @@ returns-in-Err c =
     ap (λ (s : document.TargetValue). s.map_form) (c.behind-document.view_is ∙ c.spec.ensures) in
     let own : ForFault (IsRefusal c.args.target.now (style_of spec.map_form)) c.in-Err.failure =
     subst (λ f. ForFault (IsRefusal c.args.target.now (style_of f)) c.in-Err.failure) form c.in-Err.ensures.refused in
-    IfOk-weaker c.target_failed.result (AnswersFailure c.args.target.now c.in-Err.failure)
+    IfOk-weaker c.failed_run.result (AnswersFailure c.args.target.now c.in-Err.failure)
     (AnswersTargetOf spec listing c.args.target.now)
     (λ answer h. failed c.one_outcome.ensures.one (WritesCollated spec listing)
     c.args.target.now (style_of spec.map_form) answer c.in-Err.failure own h)
-    c.target_failed.ensures
+    c.failed_run.ensures

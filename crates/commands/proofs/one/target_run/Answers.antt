@@ -18,13 +18,13 @@ returns-in-Ok c =
       files = c.done.ensures.files;
     })
 
-pub target_failed-requires : goal.target_failed-requires
-target_failed-requires c = reported c.args.target.now None c.in-Err.failure c.in-Err.ensures.refused
+pub failed_run-requires : goal.failed_run-requires
+failed_run-requires c = reported c.args.target.now None c.in-Err.failure c.in-Err.ensures.refused
 
 -- the answer to its failure
 pub returns-in-Err : goal.returns-in-Err
 returns-in-Err c =
-    IfOk-weaker c.target_failed.result (AnswersFailure c.args.target.now c.in-Err.failure)
+    IfOk-weaker c.failed_run.result (AnswersFailure c.args.target.now c.in-Err.failure)
     (AnswersTarget PrintsDyndep c.args.target.now None)
     (λ answer h. failed c.one_outcome.ensures.one PrintsDyndep c.args.target.now None answer c.in-Err.failure c.in-Err.ensures.refused h)
-    c.target_failed.ensures
+    c.failed_run.ensures

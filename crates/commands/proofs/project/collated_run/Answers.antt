@@ -1,12 +1,20 @@
 use Rattle.std.proofs.Common.{List, zip, subst}
-use Rattle.std.specs.Prelude.{IfOk}
+use Rattle.std.specs.Prelude.{All, IfOk}
 use Rattle.std.proofs.lemmas.Result.{IfOk-weaker}
 use Rattle.ninja_text.specs.Failure.{ForFault}
 use Rattle.collate_core.specs.Values.{CollatedValue}
-use Rattle.commands.specs.Answers.{Refuses}
+use Rattle.commands.specs.Answers.{Writes, Refuses}
 use Rattle.commands.specs.EdgeChecks.{edges_text}
-use Rattle.commands.specs.ProjectCommand.{FailsFirst, target_text, one_fails}
+use Rattle.commands.specs.ProjectCommand.{PassesOwn, FailsFirst, target_text, all_files, all_pass, one_fails}
 use Rattle.commands.proofs.project.collated_run.Goals as goal
+
+-- the edges of all targets can be put in order
+pub returns-in-Ok : goal.returns-in-Ok
+returns-in-Ok c =
+    IfOk-weaker c.files_run.result (Writes (all_files (zip c.args.targets.now c.args.outs.items))) _
+    (λ answer h. all_pass
+    (subst (λ (outs : List CollatedValue). All PassesOwn (zip c.args.targets.now outs)) c.deref.ensures.value c.in-Ok.ensures.pass) h)
+    c.files_run.ensures
 
 -- the edges of a target are faulty
 pub returns : goal.returns
