@@ -1,11 +1,12 @@
-//! What no clause says: that calls succeed where memory is ample. Which targets have a table, and
-//! what it says, is a table of tests/rows, whose rows are given to the built program.
+//! What no clause says: that calls succeed where memory is ample, as those of the worked tables in
+//! `growths` do. Which targets have a table, and what it says, is a table of tests/rows, whose rows
+//! are given to the built program.
 
 mod growths;
 
-use crate::common::setting;
+use crate::common::{fault_of, setting};
 use module_table::{Maker, Table, TableFault};
-use ninja_text::{Failure, Path};
+use ninja_text::Path;
 use scan_docs::{Name, Rule, info_read, scan};
 use std::alloc::{AllocError, Global};
 use std::test::Fail;
@@ -62,21 +63,15 @@ fn table_of(alloc: Global) -> Result<Table, Fail> {
     Ok(Table::build(alloc, objects(alloc)?, infos, &[])?)
 }
 
-/// Whether a module of an object, one of an info and no other is found.
-fn finds_both(alloc: Global, table: &Table) -> Result<bool, AllocError> {
+/// Whether the table has both objects, and a module of an object, one of an info and no other is
+/// found.
+fn tells_both(alloc: Global, table: &Table) -> Result<bool, AllocError> {
     Ok(
-        is_found(alloc, table, "A", ("mod/A.bmi", Maker::Object(1)))?
+        has_both_objects(table)
+            && is_found(alloc, table, "A", ("mod/A.bmi", Maker::Object(1)))?
             && is_found(alloc, table, "J", ("k/J.bmi", Maker::Info(0)))?
             && !is_found(alloc, table, "X", ("x", Maker::Info(0)))?,
     )
-}
-
-#[test]
-fn a_table_tells_what_objects_provide_and_require(rt: HostRuntime) -> Result<(), Fail> {
-    let table = table_of(rt.alloc())?;
-    assert!(rt; has_both_objects(&table));
-    assert!(rt; finds_both(rt.alloc(), &table)?);
-    Ok(())
 }
 
 /// Whether the first object needs the three modules in byte order.
@@ -89,25 +84,16 @@ fn needs_all_three(alloc: Global, table: &Table) -> Result<bool, AllocError> {
     Ok(are_pairs(&needed, &wanted))
 }
 
-#[test]
-fn modules_that_others_require_are_needed(rt: HostRuntime) -> Result<(), Fail> {
-    let table = table_of(rt.alloc())?;
-    assert!(rt; needs_all_three(rt.alloc(), &table)?);
-    Ok(())
-}
-
 /// Whether `A` is provided by the second object and the first info.
-fn is_a_twice(answer: Result<Table, Failure<TableFault>>) -> bool {
-    match answer {
-        Err(
-            Failure::Fault(
-                TableFault::ProvidedTwice {
-                    name,
-                    first,
-                    second,
-                },
-            ),
-        ) => name.text() == "A" && first == Maker::Object(1) && second == Maker::Info(0),
+fn is_a_twice(fault: &Option<TableFault>) -> bool {
+    match fault {
+        Some(
+            TableFault::ProvidedTwice {
+                name,
+                first,
+                second,
+            },
+        ) => name.text() == "A" && *first == Maker::Object(1) && *second == Maker::Info(0),
         _ => false,
     }
 }
@@ -118,6 +104,7 @@ fn a_fault_tells_makers_by_index(rt: HostRuntime) -> Result<(), Fail> {
     let info =
         br#"{"modules":[{"bmi":"lib/A.bmi","name":"A","requires":[],"visibility":"public"}],"target":"l","version":2}"#;
     let infos = vec![in alloc; info_read(alloc, info)?]?;
-    assert!(rt; is_a_twice(Table::build(alloc, objects(alloc)?, infos, &[])));
+    let fault = fault_of(Table::build(alloc, objects(alloc)?, infos, &[]))?;
+    assert!(rt; is_a_twice(&fault));
     Ok(())
 }

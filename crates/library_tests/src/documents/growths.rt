@@ -5,7 +5,7 @@
 use super::infos::{TWO_MODULES, is_of_both_modules, is_written_as};
 use super::projects::push_answer;
 use super::scans::{TWO_RULES, are_both_rules, setting};
-use super::targets::{EVERY_MEMBER, has_lists, has_options, has_texts};
+use super::targets::{EVERY_MEMBER, has_every_member};
 use crate::common::fault_of;
 use scan_docs::{DocFault, Member, Name, Place, TargetName, info_read, scan, spec_read};
 use std::alloc::{AllocError, Global};
@@ -83,9 +83,7 @@ fn info_that_is_refused(rt: HostRuntime) -> Result<(), Fail> {
 #[test]
 fn target_document(rt: HostRuntime) -> Result<(), Fail> {
     let spec = spec_read(rt.alloc(), EVERY_MEMBER)?;
-    assert!(rt; has_texts(&spec));
-    assert!(rt; has_lists(&spec));
-    assert!(rt; has_options(&spec));
+    assert!(rt; has_every_member(&spec));
     Ok(())
 }
 

@@ -39,12 +39,6 @@ pub(super) const TWO_MODULES: &[u8] =
     br#"{"modules":[{"bmi":"./lib//A.bmi","name":"A","requires":[{"bmi":"b","name":"B"}],"visibility":"public"},{"bmi":"b","name":"B","requires":[],"visibility":"private"}],"target":"t","version":2}"#;
 
 #[test]
-fn modules_of_version_2_tell_their_visibility(rt: HostRuntime) -> Result<(), Fail> {
-    assert!(rt; is_of_both_modules(&info_read(rt.alloc(), TWO_MODULES)?));
-    Ok(())
-}
-
-#[test]
 fn modules_of_version_1_are_public(rt: HostRuntime) -> Result<(), Fail> {
     let document =
         br#"{"modules":[{"bmi":"./lib//B.bmi","name":"B","requires":[],"visibility":"private"},

@@ -1,7 +1,6 @@
 use ninja_text::{Failure, Path};
-use scan_docs::{Rule, Setting, scan};
+use scan_docs::{Rule, Setting};
 use std::alloc::{AllocError, Global};
-use std::test::Fail;
 
 /// Modules go to `mod` and end in `.bmi`; the build directory is `/w`.
 pub(super) fn setting(alloc: Global) -> Result<Setting, AllocError> {
@@ -38,11 +37,3 @@ pub(super) fn are_both_rules(rules: &[Rule]) -> bool {
 /// Two rules, the first of which has every member that is read.
 pub(super) const TWO_RULES: &[u8] =
     br#"{"version":1,"rules":[{"primary-output":"../o/a.o","work-directory":"/w/b","provides":[{"logical-name":"M:P"}],"requires":[{"logical-name":"B"}]},{"primary-output":"/w/b.o"}]}"#;
-
-#[test]
-fn a_scan_document_in_the_setting_of_a_target(rt: HostRuntime) -> Result<(), Fail> {
-    let alloc = rt.alloc();
-    let rules = scan(alloc, TWO_RULES, &setting(alloc)?)?;
-    assert!(rt; are_both_rules(&rules));
-    Ok(())
-}

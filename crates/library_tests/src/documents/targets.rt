@@ -1,8 +1,12 @@
-use scan_docs::{MapForm, TargetSpec, spec_read};
-use std::test::Fail;
+use scan_docs::{MapForm, TargetSpec};
+
+/// Whether the specification says all that is in the document.
+pub(super) fn has_every_member(spec: &TargetSpec) -> bool {
+    has_texts(spec) && has_lists(spec) && has_options(spec)
+}
 
 /// Whether the scan documents, the infos and the private modules are those of the document.
-pub(super) fn has_lists(spec: &TargetSpec) -> bool {
+fn has_lists(spec: &TargetSpec) -> bool {
     let ([a, b], [linked], [first, second]) = (
         spec.scans.as_slice(),
         spec.linked.as_slice(),
@@ -18,7 +22,7 @@ pub(super) fn has_lists(spec: &TargetSpec) -> bool {
 }
 
 /// Whether the members that may be left out are those of the document.
-pub(super) fn has_options(spec: &TargetSpec) -> bool {
+fn has_options(spec: &TargetSpec) -> bool {
     let (Some(build_dir), Some(map), Some(edges)) = (&spec.build_dir, spec.map, &spec.edges) else {
         return false;
     };
@@ -28,7 +32,7 @@ pub(super) fn has_options(spec: &TargetSpec) -> bool {
 }
 
 /// Whether the texts are those of the document.
-pub(super) fn has_texts(spec: &TargetSpec) -> bool {
+fn has_texts(spec: &TargetSpec) -> bool {
     spec.target.text() == "t"
         && spec.module_dir.as_str() == "mod"
         && spec.module_ext.as_str() == ".bmi"
@@ -40,12 +44,3 @@ pub(super) fn has_texts(spec: &TargetSpec) -> bool {
 pub(super) const EVERY_MEMBER: &[u8] =
     br#"{"version":1,"target":"t","module-dir":"mod","module-ext":".bmi","build-dir":"/w//b/.","scans":["a.ddi","./b.ddi"],
         "linked":["l.json"],"private":["A","A:B"],"dyndep":"/w/b/../b/t.dd","info":"t.json","map":"gcc","edges":"e.ninja","other":7}"#;
-
-#[test]
-fn a_document_with_every_member(rt: HostRuntime) -> Result<(), Fail> {
-    let spec = spec_read(rt.alloc(), EVERY_MEMBER)?;
-    assert!(rt; has_texts(&spec));
-    assert!(rt; has_lists(&spec));
-    assert!(rt; has_options(&spec));
-    Ok(())
-}

@@ -1,25 +1,46 @@
 //! Worked tables, whose growths of memory `tests/growths` refuses in turn. A test answers
 //! `AllocError` or `Failure::Memory` where a call answered that memory was refused, and nowhere
 //! else; every other answer has to be the example's.
+ghost use Rattle.std.specs.Prelude.{◌≡◌, ◌<◌, length};
 
-use super::{finds_both, has_both_objects, needs_all_three, table_of};
+use super::{needs_all_three, table_of, tells_both};
 use crate::common::{fault_of, setting};
-use module_table::{Table, TableFault};
+use module_table::{Needs, Table, TableFault};
 use ninja_text::Path;
 use scan_docs::{Name, scan};
 use std::alloc::{AllocError, Global};
 use std::test::Fail;
 
+/// What a test asks of the table.
+#[derive(Clone, Copy)]
+enum Question {
+    Lookups,
+    Needed,
+    NeedsInTurn,
+}
+
+/// Whether the table of both objects answers as it has to.
+fn is_answered(alloc: Global, question: Question) -> Result<bool, Fail> {
+    let table = table_of(alloc)?;
+    answers(alloc, &table, question)
+}
+
+fn answers(alloc: Global, table: &Table, question: Question) -> Result<bool, Fail> {
+    Ok(match question {
+        Question::Lookups => tells_both(alloc, table)?,
+        Question::Needed => needs_all_three(alloc, table)?,
+        Question::NeedsInTurn => needs_of_both(alloc, table)?,
+    })
+}
+
 #[test]
 fn building(rt: HostRuntime) -> Result<(), Fail> {
-    let table = table_of(rt.alloc())?;
-    assert!(rt; has_both_objects(&table));
-    assert!(rt; finds_both(rt.alloc(), &table)?);
+    assert!(rt; is_answered(rt.alloc(), Question::Lookups)?);
     Ok(())
 }
 
 /// Whether the objects need each other's modules.
-fn is_ring_of_both(fault: Option<TableFault>) -> bool {
+fn is_ring_of_both(fault: &Option<TableFault>) -> bool {
     match fault {
         Some(TableFault::ImportCycle { objects }) => objects.as_slice() == [0, 1].as_slice(),
         _ => false,
@@ -33,14 +54,13 @@ fn objects_in_a_ring(rt: HostRuntime) -> Result<(), Fail> {
         br#"{"version":1,"rules":[{"primary-output":"a.o","provides":[{"logical-name":"A"}],"requires":[{"logical-name":"B"}]},{"primary-output":"b.o","provides":[{"logical-name":"B"}],"requires":[{"logical-name":"A"}]}]}"#;
     let objects = scan(alloc, document, &setting(alloc)?)?;
     let fault = fault_of(Table::build(alloc, objects, Vec::new(alloc), &[]))?;
-    assert!(rt; is_ring_of_both(fault));
+    assert!(rt; is_ring_of_both(&fault));
     Ok(())
 }
 
 #[test]
 fn needed(rt: HostRuntime) -> Result<(), Fail> {
-    let table = table_of(rt.alloc())?;
-    assert!(rt; needs_all_three(rt.alloc(), &table)?);
+    assert!(rt; is_answered(rt.alloc(), Question::Needed)?);
     Ok(())
 }
 
@@ -54,28 +74,35 @@ fn names_of(alloc: Global, pairs: &[(&Name, &Path)]) -> Result<Vec<u8>, AllocErr
     Ok(names)
 }
 
-/// What both objects need, one after the other. The first is asked for a second time where memory
-/// was refused.
-fn needs_of_both(alloc: Global, table: &Table) -> Result<Option<Vec<u8>>, AllocError> {
+/// Whether both objects need what they have to, one after the other.
+fn needs_of_both(alloc: Global, table: &Table) -> Result<bool, AllocError> {
     if table.objects().len() != 2 {
-        return Ok(None);
+        return Ok(false);
     }
     let mut needs = table.needs(alloc)?;
-    let first = match needs.of(alloc, 0) {
+    Ok(needs_are(alloc, &mut needs, 0, b"A J K ")? && needs_are(alloc, &mut needs, 1, b"J K ")?)
+}
+
+/// Whether the object needs the modules of these names. It is asked for a second time where memory
+/// was refused.
+fn needs_are(
+    alloc: Global,
+    needs: &mut Needs<'_>,
+    object: usize,
+    wanted: &[u8],
+) -> Result<bool, AllocError>
+    requires { object < length needs.old.objects }
+    ensures { needs.new ≡ needs.old }
+{
+    let pairs = match needs.of(alloc, object) {
         Ok(pairs) => pairs,
-        Err(_refused) => needs.of(alloc, 0)?,
+        Err(_refused) => needs.of(alloc, object)?,
     };
-    let second = needs.of(alloc, 1)?;
-    let mut names = names_of(alloc, &first)?;
-    names.extend_from_slice(&names_of(alloc, &second)?)?;
-    Ok(Some(names))
+    Ok(names_of(alloc, &pairs)?.as_slice() == wanted)
 }
 
 #[test]
 fn needs(rt: HostRuntime) -> Result<(), Fail> {
-    let table = table_of(rt.alloc())?;
-    let found = needs_of_both(rt.alloc(), &table)?;
-    let wanted = Vec::from_slice(rt.alloc(), b"A J K J K ")?;
-    assert!(rt; found == Some(wanted));
+    assert!(rt; is_answered(rt.alloc(), Question::NeedsInTurn)?);
     Ok(())
 }
