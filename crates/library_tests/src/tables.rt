@@ -4,10 +4,10 @@
 
 mod growths;
 
-use crate::common::{fault_of, setting};
+use crate::common::setting;
 use module_table::{Maker, Table, TableFault};
-use ninja_text::Path;
-use scan_docs::{Name, Rule, info_read, scan};
+use ninja_text::{Failure, Path};
+use scan_docs::{Info, Name, Rule, info_read, scan};
 use std::alloc::{AllocError, Global};
 use std::test::Fail;
 
@@ -84,17 +84,28 @@ fn needs_all_three(alloc: Global, table: &Table) -> Result<bool, AllocError> {
     Ok(are_pairs(&needed, &wanted))
 }
 
-/// Whether `A` is provided by the second object and the first info.
-fn is_a_twice(fault: &Option<TableFault>) -> bool {
+/// What the fault is of, for those faults that the tests meet.
+fn fault_text(alloc: Global, fault: &TableFault) -> Result<String, AllocError> {
     match fault {
-        Some(
-            TableFault::ProvidedTwice {
-                name,
-                first,
-                second,
-            },
-        ) => name.text() == "A" && *first == Maker::Object(1) && *second == Maker::Info(0),
-        _ => false,
+        TableFault::ProvidedTwice {
+            name,
+            first,
+            second,
+        } => {
+            let name = name.text();
+            format!(in alloc; "{name} {first:?} {second:?}")
+        }
+        TableFault::ImportCycle { objects } => format!(in alloc; "{objects:?}"),
+        _ => String::from_str(alloc, "another fault"),
+    }
+}
+
+/// What the fault of the table of these objects and infos is of.
+fn refused(alloc: Global, objects: Vec<Rule>, infos: Vec<Info>) -> Result<String, AllocError> {
+    match Table::build(alloc, objects, infos, &[]) {
+        Ok(_table) => String::from_str(alloc, "no fault"),
+        Err(Failure::Memory) => Err(AllocError),
+        Err(Failure::Fault(fault)) => fault_text(alloc, &fault),
     }
 }
 
@@ -104,7 +115,7 @@ fn a_fault_tells_makers_by_index(rt: HostRuntime) -> Result<(), Fail> {
     let info =
         br#"{"modules":[{"bmi":"lib/A.bmi","name":"A","requires":[],"visibility":"public"}],"target":"l","version":2}"#;
     let infos = vec![in alloc; info_read(alloc, info)?]?;
-    let fault = fault_of(Table::build(alloc, objects(alloc)?, infos, &[]))?;
-    assert!(rt; is_a_twice(&fault));
+    let found = refused(alloc, objects(alloc)?, infos)?;
+    assert!(rt; found.as_str() == "A Object(1) Info(0)");
     Ok(())
 }

@@ -114,7 +114,16 @@ fn answer<M: MapStyle>(
         infos,
         kept: &kept,
     };
-    match collate(alloc, &target, style) {
+    answer_of(alloc, &target, style)
+}
+
+/// What the target collates to, or why it does not.
+fn answer_of<M: MapStyle>(
+    alloc: Global,
+    target: &Target<'_>,
+    style: Option<&M>,
+) -> Result<Vec<u8>, AllocError> {
+    match collate(alloc, target, style) {
         Ok(collated) => collated_text(alloc, collated),
         Err(Failure::Memory) => Err(AllocError),
         Err(Failure::Fault(refusal)) => refusal_text(alloc, &refusal),

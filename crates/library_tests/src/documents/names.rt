@@ -12,16 +12,27 @@ fn number_of(alloc: Global, numbered: &Name, name: &Name) -> Result<Option<u32>,
     Ok(numbers.get(name).copied())
 }
 
+/// Whether the first name comes before the second, and is the key of what is found under it alone.
+fn are_keys(alloc: Global, a: &Name, b: &Name) -> Result<bool, AllocError> {
+    Ok(
+        a.cmp(b) == Ordering::Less
+            && number_of(alloc, a, a)? == Some(7)
+            && number_of(alloc, a, b)?.is_none(),
+    )
+}
+
 #[test]
 fn names_are_keys(rt: HostRuntime) -> Result<(), Fail> {
-    let alloc = rt.alloc();
-    let a = name(alloc, "a.b:\u{e9}")?;
-    let b = name(alloc, "b")?;
-    assert!(rt; a.text() == "a.b:\u{e9}");
-    assert!(rt; a.cmp(&b) == Ordering::Less);
-    assert!(rt; number_of(alloc, &a, &a)? == Some(7));
-    assert!(rt; number_of(alloc, &a, &b)?.is_none());
-    assert!(rt; Name::of(alloc, "a..b")?.is_none());
+    let a = name(rt.alloc(), "a.b:\u{e9}")?;
+    let b = name(rt.alloc(), "b")?;
+    assert!(rt; are_keys(rt.alloc(), &a, &b)?);
+    Ok(())
+}
+
+#[test]
+fn texts_that_are_no_names(rt: HostRuntime) -> Result<(), Fail> {
+    assert!(rt; Name::of(rt.alloc(), "a..b")?.is_none());
+    assert!(rt; TargetName::of(rt.alloc(), "")?.is_none());
     Ok(())
 }
 
@@ -36,15 +47,19 @@ fn target_number_of(
     Ok(numbers.get(name).copied())
 }
 
+/// The same of names of targets.
+fn are_target_keys(alloc: Global, a: &TargetName, b: &TargetName) -> Result<bool, AllocError> {
+    Ok(
+        a.cmp(b) == Ordering::Less
+            && target_number_of(alloc, a, a)? == Some(7)
+            && target_number_of(alloc, a, b)?.is_none(),
+    )
+}
+
 #[test]
 fn names_of_targets_are_keys(rt: HostRuntime) -> Result<(), Fail> {
-    let alloc = rt.alloc();
-    let a = target_name(alloc, "my target: $x/\u{e9}")?;
-    let b = target_name(alloc, "z")?;
-    assert!(rt; a.text() == "my target: $x/\u{e9}");
-    assert!(rt; a.cmp(&b) == Ordering::Less);
-    assert!(rt; target_number_of(alloc, &a, &a)? == Some(7));
-    assert!(rt; target_number_of(alloc, &a, &b)?.is_none());
-    assert!(rt; TargetName::of(alloc, "")?.is_none());
+    let a = target_name(rt.alloc(), "my target: $x/\u{e9}")?;
+    let b = target_name(rt.alloc(), "z")?;
+    assert!(rt; are_target_keys(rt.alloc(), &a, &b)?);
     Ok(())
 }

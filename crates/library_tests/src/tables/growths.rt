@@ -3,9 +3,9 @@
 //! else; every other answer has to be the example's.
 ghost use Rattle.std.specs.Prelude.{◌≡◌, ◌<◌, length};
 
-use super::{needs_all_three, table_of, tells_both};
-use crate::common::{fault_of, setting};
-use module_table::{Needs, Table, TableFault};
+use super::{needs_all_three, refused, table_of, tells_both};
+use crate::common::setting;
+use module_table::{Needs, Table};
 use ninja_text::Path;
 use scan_docs::{Name, scan};
 use std::alloc::{AllocError, Global};
@@ -39,22 +39,14 @@ fn building(rt: HostRuntime) -> Result<(), Fail> {
     Ok(())
 }
 
-/// Whether the objects need each other's modules.
-fn is_ring_of_both(fault: &Option<TableFault>) -> bool {
-    match fault {
-        Some(TableFault::ImportCycle { objects }) => objects.as_slice() == [0, 1].as_slice(),
-        _ => false,
-    }
-}
-
 #[test]
 fn objects_in_a_ring(rt: HostRuntime) -> Result<(), Fail> {
     let alloc = rt.alloc();
     let document =
         br#"{"version":1,"rules":[{"primary-output":"a.o","provides":[{"logical-name":"A"}],"requires":[{"logical-name":"B"}]},{"primary-output":"b.o","provides":[{"logical-name":"B"}],"requires":[{"logical-name":"A"}]}]}"#;
     let objects = scan(alloc, document, &setting(alloc)?)?;
-    let fault = fault_of(Table::build(alloc, objects, Vec::new(alloc), &[]))?;
-    assert!(rt; is_ring_of_both(&fault));
+    let found = refused(alloc, objects, Vec::new(alloc))?;
+    assert!(rt; found.as_str() == "[0, 1]");
     Ok(())
 }
 

@@ -80,19 +80,14 @@ pub(super) fn is_written<M: MapStyle>(
     )
 }
 
+/// The same of GCC's and Clang's maps are tests of `growths`.
 #[test]
-fn each_style_writes_its_lines_and_reads_them_back(rt: HostRuntime) -> Result<(), Fail> {
-    let alloc = rt.alloc();
-    let map = map_of(alloc, &[("A", "mod/A.bmi")], &[("B", "mod/B.bmi")])?;
-    let gcc = "A mod/A.bmi\nB mod/B.bmi\n";
-    let clang = "-x c++-module\n-fmodule-output=mod/A.bmi\n-fmodule-file=B=mod/B.bmi\n";
-    let nameless = "- mod/A.bmi\nB mod/B.bmi\n";
-    let bare = "mod/A.bmi\nmod/B.bmi\n";
-    assert!(rt; is_written(alloc, &Gcc, &map, gcc, gcc)?);
-    assert!(rt; is_written(alloc, &Clang, &map, clang, nameless)?);
-    assert!(rt; is_written(alloc, &Bare, &map, bare, "- mod/A.bmi\n- mod/B.bmi\n")?);
-    let kept = entries_text(alloc, &Clang.keeps(alloc, &map)?)?;
-    assert!(rt; kept.as_slice() == nameless.as_bytes());
+fn a_style_of_a_callers_own_writes_its_lines_and_reads_them_back(
+    rt: HostRuntime,
+) -> Result<(), Fail> {
+    let map = map_of(rt.alloc(), &[("A", "mod/A.bmi")], &[("B", "mod/B.bmi")])?;
+    let entries = "- mod/A.bmi\n- mod/B.bmi\n";
+    assert!(rt; is_written(rt.alloc(), &Bare, &map, "mod/A.bmi\nmod/B.bmi\n", entries)?);
     Ok(())
 }
 
@@ -107,23 +102,36 @@ fn answers<M: MapStyle>(
     Ok(style.fits(map) == fits && written(alloc, style, map)?.as_slice() == text.as_bytes())
 }
 
+#[test]
+fn two_provided_modules_fit_a_map_of_gcc_alone(rt: HostRuntime) -> Result<(), Fail> {
+    let map = map_of(rt.alloc(), &[("A", "a"), ("B", "b")], &[])?;
+    assert!(rt; answers(rt.alloc(), &Gcc, &map, true, "A a\nB b\n")?);
+    assert!(rt; answers(rt.alloc(), &Clang, &map, false, "K2 TwoProvided")?);
+    Ok(())
+}
+
+/// Whether no style writes the map, for this reason.
+fn is_unfit(alloc: Global, map: &ModuleMap, text: &str) -> Result<bool, AllocError> {
+    Ok(
+        answers(alloc, &Gcc, map, false, text)?
+            && answers(alloc, &Bare, map, false, text)?
+            && answers(alloc, &Clang, map, false, text)?,
+    )
+}
+
 /// K1 comes before K2.
 #[test]
-fn a_map_fits_where_the_style_writes_it(rt: HostRuntime) -> Result<(), Fail> {
-    let alloc = rt.alloc();
-    let two = map_of(alloc, &[("A", "a"), ("B", "b")], &[])?;
-    assert!(rt; answers(alloc, &Gcc, &two, true, "A a\nB b\n")?);
-    assert!(rt; answers(alloc, &Clang, &two, false, "K2 TwoProvided")?);
-    let spaced = map_of(
-        alloc,
-        &[("A", "a"), ("B", "b")],
-        &[("C", "my mods/C"), ("D", "it's")],
-    )?;
-    let unfit = "K1 MapPath my mods/C";
-    assert!(rt; answers(alloc, &Gcc, &spaced, false, unfit)?);
-    assert!(rt; answers(alloc, &Bare, &spaced, false, unfit)?);
-    assert!(rt; answers(alloc, &Clang, &spaced, false, unfit)?);
-    assert!(rt; answers(alloc, &Clang, &map_of(alloc, &[], &[])?, true, "")?);
+fn a_path_that_a_map_cannot_have_fits_no_style(rt: HostRuntime) -> Result<(), Fail> {
+    let needed = [("C", "my mods/C"), ("D", "it's")];
+    let map = map_of(rt.alloc(), &[("A", "a"), ("B", "b")], &needed)?;
+    assert!(rt; is_unfit(rt.alloc(), &map, "K1 MapPath my mods/C")?);
+    Ok(())
+}
+
+#[test]
+fn a_map_of_no_modules_is_empty(rt: HostRuntime) -> Result<(), Fail> {
+    let map = map_of(rt.alloc(), &[], &[])?;
+    assert!(rt; answers(rt.alloc(), &Clang, &map, true, "")?);
     Ok(())
 }
 

@@ -65,7 +65,12 @@ fn collated_texts(alloc: Global, targets: Vec<Collated>) -> Result<Vec<u8>, Allo
 fn answer(alloc: Global, parts: &[Parts]) -> Result<Vec<u8>, AllocError> {
     let setting = setting(alloc)?;
     let targets = targets_of(alloc, &setting, parts)?;
-    match project(alloc, &targets, Some(&Gcc)) {
+    answer_of(alloc, &targets)
+}
+
+/// The same of the project of these targets.
+fn answer_of(alloc: Global, targets: &[ProjectTarget<'_>]) -> Result<Vec<u8>, AllocError> {
+    match project(alloc, targets, Some(&Gcc)) {
         Ok(done) => collated_texts(alloc, done.targets),
         Err(Failure::Memory) => Err(AllocError),
         Err(Failure::Fault((_index, refusal))) => refusal_text(alloc, &refusal),
