@@ -164,19 +164,35 @@ fn two_faulty(alloc: Global, output: &[u8], input: &[u8]) -> Result<Dyndep, Allo
     Ok(Dyndep { statements })
 }
 
-/// In one statement a path without a spelling comes before too long a line; of several paths the
-/// first counts, and of several statements.
+/// Whether this is the fault of two statements of which the first has these paths.
+fn is_first_fault(
+    alloc: Global,
+    output: &[u8],
+    input: &[u8],
+    wanted: &[u8],
+) -> Result<bool, AllocError> {
+    let statements = two_faulty(alloc, output, input)?;
+    is_text(alloc, &statements, wanted)
+}
+
+/// Of several paths without a spelling the first counts, and of several statements.
 #[test]
 fn the_first_fault_of_the_first_statement_counts(rt: HostRuntime) -> Result<(), Fail> {
-    let alloc = rt.alloc();
-    let long = vec![in alloc; b'a'; 1_048_562]?;
-    let third = b"Y1 Unwritable statement 0 path 2";
-    assert!(rt; is_text(alloc, &two_faulty(alloc, &long, b"|")?, third)?);
-    let first = b"Y1 Unwritable statement 0 path 0";
-    assert!(rt; is_text(alloc, &two_faulty(alloc, b"|", &long)?, first)?);
-    assert!(rt; is_text(alloc, &two_faulty(alloc, b"", b"")?, first)?);
+    let wanted = b"Y1 Unwritable statement 0 path 0";
+    assert!(rt; is_first_fault(rt.alloc(), b"|", b"|", wanted)?);
+    assert!(rt; is_first_fault(rt.alloc(), b"", b"", wanted)?);
+    Ok(())
+}
+
+#[test]
+fn in_a_statement_a_path_without_a_spelling_comes_before_too_long_a_line(
+    rt: HostRuntime,
+) -> Result<(), Fail> {
+    let long = vec![in rt.alloc(); b'a'; 1_048_562]?;
+    let unwritable = b"Y1 Unwritable statement 0 path 2";
+    assert!(rt; is_first_fault(rt.alloc(), &long, b"|", unwritable)?);
     let too_long = b"Y2 StatementTooLong statement 0";
-    assert!(rt; is_text(alloc, &two_faulty(alloc, &long, b"x")?, too_long)?);
+    assert!(rt; is_first_fault(rt.alloc(), &long, b"x", too_long)?);
     Ok(())
 }
 

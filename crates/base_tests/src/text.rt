@@ -11,6 +11,7 @@ mod lexing;
 
 use ninja_text::{Counted, Failure, Path, PathFault, ReadCall, Stopped, is_writable, place};
 use std::alloc::{AllocError, Global};
+use std::cmp::Ordering;
 use std::io;
 use std::io::{ErrorKind, Read, Write};
 use std::process::Abort;
@@ -98,18 +99,25 @@ fn around(alloc: Global, front: &[u8], count: usize, back: &[u8]) -> Result<Vec<
     Ok(text)
 }
 
-/// Whether a text is a path of 4,096 bytes `a`.
-fn is_longest(alloc: Global, text: &[u8]) -> Result<bool, Failure<PathFault>> {
-    let path = Path::of(alloc, text)?;
+/// Whether the text of 4,096 bytes `a` behind these is a path of those bytes.
+fn is_longest(alloc: Global, front: &[u8]) -> Result<bool, Failure<PathFault>> {
+    let text = around(alloc, front, 4096, b"")?;
+    let path = Path::of(alloc, &text)?;
     Ok(path.bytes().len() == 4096 && path.bytes().iter().all(|byte| *byte == b'a'))
 }
 
-/// The canonical text is counted, and the faults before this one are answered before it.
+/// The canonical text is counted.
 #[test]
-fn a_path_has_at_most_4096_bytes(rt: HostRuntime) -> Result<(), Fail> {
+fn a_path_may_have_4096_bytes(rt: HostRuntime) -> Result<(), Fail> {
+    assert!(rt; is_longest(rt.alloc(), b"")?);
+    assert!(rt; is_longest(rt.alloc(), b"./b/../")?);
+    Ok(())
+}
+
+/// The faults before this one are answered before it.
+#[test]
+fn a_path_has_no_more_bytes(rt: HostRuntime) -> Result<(), Fail> {
     let alloc = rt.alloc();
-    assert!(rt; is_longest(alloc, &around(alloc, b"", 4096, b"")?)?);
-    assert!(rt; is_longest(alloc, &around(alloc, b"./b/../", 4096, b"")?)?);
     let mut found = Vec::new(alloc);
     for (front, count, back) in [
         (b"".as_slice(), 4097, b"".as_slice()),
@@ -211,6 +219,13 @@ fn a_copy_is_the_same_path(rt: HostRuntime) -> Result<(), Fail> {
     Ok(())
 }
 
+/// Whether the paths are in this order, by each way of comparing them.
+fn are_in_order(low: &Path, high: &Path, order: Ordering) -> bool {
+    low.cmp(high) == order
+        && (*low < *high) == (order == Ordering::Less)
+        && (*low == *high) == (order == Ordering::Equal)
+}
+
 #[test]
 fn paths_are_in_byte_order(rt: HostRuntime) -> Result<(), Fail> {
     let rows: [&[u8]; 6] = [b"../b", b"/b", b"a", b"a-b", b"a/b", b"ab"];
@@ -218,9 +233,7 @@ fn paths_are_in_byte_order(rt: HostRuntime) -> Result<(), Fail> {
         let low = Path::of(rt.alloc(), low)?;
         for (k, high) in rows.into_iter().enumerate() {
             let high = Path::of(rt.alloc(), high)?;
-            assert!(rt; low.cmp(&high) == i.cmp(&k));
-            assert!(rt; (low < high) == (i < k));
-            assert!(rt; (low == high) == (i == k));
+            assert!(rt; are_in_order(&low, &high, i.cmp(&k)));
         }
     }
     Ok(())
@@ -397,11 +410,21 @@ fn each_write_is_one_call_and_counted_where_it_fails(rt: HostRuntime) -> Result<
     assert!(rt; takes(&mut out, b"f", 0, 1));
     assert!(rt; takes(&mut out, b"", 0, 1));
     assert!(rt; takes(&mut out, b"fg", 0, 2));
-    let mut writer = out.into_inner();
+    let writer = out.into_inner();
     assert!(rt; writer.got.as_slice() == b"abcde".as_slice());
     assert!(rt; writer.calls == 6);
-    writer.refusal = Refusal::Error;
-    let mut out = Counted::new(writer);
+    Ok(())
+}
+
+#[test]
+fn a_write_that_answers_an_error_is_counted(rt: HostRuntime) -> Result<(), Fail> {
+    let mut out = Counted::new(Refusing {
+        left: 0,
+        most: 3,
+        refusal: Refusal::Error,
+        calls: 0,
+        got: Vec::new(rt.alloc()),
+    });
     assert!(rt; out.failures() == 0);
     assert!(rt; is_interrupted(out.write(b"f")));
     assert!(rt; out.failures() == 1);

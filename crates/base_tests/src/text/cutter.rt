@@ -66,19 +66,24 @@ fn bytes_that_end_with_a_line_end_well(rt: HostRuntime) -> Result<(), Fail> {
     Ok(())
 }
 
+/// Whether the cutter refuses one more byte, and answers the same from then on.
+fn refuses_from_now_on(cutter: &mut LineCutter) -> bool {
+    let too_long = CutFault::LineTooLong { line: 1 };
+    cutter.feed(b"x") == Err(Failure::Fault(too_long))
+        && cutter.feed(b"\n") == Err(Failure::Fault(too_long))
+        && cutter.next_line().err() == Some(too_long)
+        && cutter.finish() == Err(too_long)
+}
+
 #[test]
 fn a_line_without_an_end_within_the_limit_is_refused_at_once_and_from_then_on(
     rt: HostRuntime,
 ) -> Result<(), Fail> {
-    let too_long = CutFault::LineTooLong { line: 1 };
     let text = vec![in rt.alloc(); b'x'; LINE_LIMIT - 1]?;
     let mut cutter = LineCutter::new(rt.alloc());
     assert!(rt; cutter.feed(text.as_slice()) == Ok(LINE_LIMIT - 1));
     assert!(rt; cutter.next_line()?.is_none());
-    assert!(rt; cutter.feed(b"x") == Err(Failure::Fault(too_long)));
-    assert!(rt; cutter.feed(b"\n") == Err(Failure::Fault(too_long)));
-    assert!(rt; cutter.next_line().err() == Some(too_long));
-    assert!(rt; cutter.finish() == Err(too_long));
+    assert!(rt; refuses_from_now_on(&mut cutter));
     Ok(())
 }
 
