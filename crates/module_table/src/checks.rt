@@ -92,16 +92,17 @@ impl Lookups {
     fn new<S: BuildHasher>(
         alloc: Global,
         modules: &Modules<S>,
-        rows: Vec<Vec<usize>>,
+        indexes: Vec<Vec<usize>>,
     ) -> Result<Lookups, AllocError>
-        requires { AreIndexes modules.now (map (λ row. row.items) rows.items) }
-        ensures origins { IfOk result (λ l. l.origins.items ≡ origins_of modules.now) }
-        ensures graph { IfOk result (λ l. IsModuleGraph modules.now l.graph) }
-        ensures required { IfOk result (λ l. map (λ row. row.items) l.required.items
+        requires { AreIndexes modules.now (rows indexes.items) }
+        ensures origins { IfOk result
+            (λ lookups. lookups.origins.items ≡ origins_of modules.now) }
+        ensures graph { IfOk result (λ lookups. IsModuleGraph modules.now lookups.graph) }
+        ensures required { IfOk result (λ lookups. map (λ row. row.items) lookups.required.items
             ≡ map (required_of modules.now) modules.now.objects) }
     {
-        let required = all_pairs(alloc, modules, rows.as_slice())?;
-        let (origins, graph) = origins_and_graph(alloc, modules, rows)?;
+        let required = all_pairs(alloc, modules, indexes.as_slice())?;
+        let (origins, graph) = origins_and_graph(alloc, modules, indexes)?;
         Ok(Lookups {
             origins,
             graph,
@@ -213,9 +214,9 @@ fn check_modules<S: BuildHasher>(
 ) -> Result<Lookups, Failure<TableFault>>
     requires { Passed 5 modules.now kept.now }
     ensures passed { OnOk result (Passed 11 modules.now kept.now) }
-    ensures origins { IfOk result (λ l. l.origins.items ≡ origins_of modules.now) }
-    ensures graph { IfOk result (λ l. IsModuleGraph modules.now l.graph) }
-    ensures required { IfOk result (λ l. map (λ row. row.items) l.required.items
+    ensures origins { IfOk result (λ lookups. lookups.origins.items ≡ origins_of modules.now) }
+    ensures graph { IfOk result (λ lookups. IsModuleGraph modules.now lookups.graph) }
+    ensures required { IfOk result (λ lookups. map (λ row. row.items) lookups.required.items
         ≡ map (required_of modules.now) modules.now.objects) }
     ensures fault { IfErr result (ForFault (IsReported modules.now kept.now)) }
 {

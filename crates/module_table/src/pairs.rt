@@ -103,11 +103,11 @@ fn pairs_at<S: BuildHasher>(
 }
 
 /// The module's name and file.
-fn copy_pair(alloc: Global, module: &Module) -> Result<(Name, Path), AllocError>
-    ensures name { IfOk result (λ pair. pair.0 ≡ module.now.name.now) }
-    ensures file { IfOk result (λ pair. pair.1 ≡ module.now.file.now) }
+fn copy_pair(alloc: Global, provided: &Module) -> Result<(Name, Path), AllocError>
+    ensures name { IfOk result (λ pair. pair.0 ≡ provided.now.name.now) }
+    ensures file { IfOk result (λ pair. pair.1 ≡ provided.now.file.now) }
 {
-    let name = module.name.copy(alloc)?;
-    let file = module.file.copy(alloc)?;
+    let name = provided.name.copy(alloc)?;
+    let file = provided.file.copy(alloc)?;
     Ok((name, file))
 }
