@@ -191,6 +191,8 @@ fn in_a_statement_a_path_without_a_spelling_comes_before_too_long_a_line(
     let long = vec![in rt.alloc(); b'a'; 1_048_562]?;
     let unwritable = b"Y1 Unwritable statement 0 path 2";
     assert!(rt; is_first_fault(rt.alloc(), &long, b"|", unwritable)?);
+    let first = b"Y1 Unwritable statement 0 path 0";
+    assert!(rt; is_first_fault(rt.alloc(), b"|", &long, first)?);
     let too_long = b"Y2 StatementTooLong statement 0";
     assert!(rt; is_first_fault(rt.alloc(), &long, b"x", too_long)?);
     Ok(())

@@ -61,6 +61,7 @@ fn applying(rt: HostRuntime) -> Result<(), Fail> {
     let graph = graph_of(&rt, alloc, BEFORE)?;
     let after = listing_after(alloc, &graph)?;
     assert!(rt; after.as_slice() == AFTER);
+    assert!(rt; listing(alloc, &graph)?.as_slice() == BEFORE);
     Ok(())
 }
 
