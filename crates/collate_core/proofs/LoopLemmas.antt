@@ -3,6 +3,9 @@ use Rattle.std.proofs.Common.{◌≡◌, ℕ, zero, suc, ◌+◌, ◌<◌, ◌�
 use Rattle.std.specs.Prelude.{All, IfSome}
 use Rattle.std.specs.Option.{option_map, option_map_or}
 use Rattle.std.proofs.lemmas.Option.{slice_get_within}
+use Rattle.ninja_text.specs.Failure.{Turns, ForFault}
+use Rattle.ninja_text.specs.declared.failure.Failure.{Failure}
+use Rattle.ninja_text.specs.declared.failure.Failure.TheVariants.{Memory, Fault}
 use Rattle.module_maps.specs.Values.{ModuleMapValue}
 use Rattle.module_maps.specs.Maps.{Written, AreStyleLaws}
 use Rattle.module_maps.specs.declared.module_map.MapFault.{MapFault}
@@ -87,9 +90,15 @@ pub map_push : {A B : Type 0} (f : A → B) (xs : List A) (x : A) (ys : List B) 
 map_push f xs x ys y e h = rw (map-append, e, h) refl
 
 -- the refusal of a target whose predecessors all collate is that of the project
-pub refused_here : (style : Option Written) (targets : List ProjectTargetValue) (n : ℕ) (outs : List CollatedValue) (p : ProjectTargetValue) → IsProject style (take n targets) outs → slice_get targets n ≡ Some p →
+refused_here : (style : Option Written) (targets : List ProjectTargetValue) (n : ℕ) (outs : List CollatedValue) (p : ProjectTargetValue) → IsProject style (take n targets) outs → slice_get targets n ≡ Some p →
     (refusal : Refusal) → IsLinkedRefusal style outs (length outs) p refusal → IsProjectRefusal style targets n refusal
 refused_here style targets n outs p project at refusal h =
     let within : n < length targets = slice_get_within _ _ _ at in
     let count : length (take n targets) ≡ n = length-take-le n targets (omega (arith, within)) in
     (outs, p, project, at, subst (λ m. IsLinkedRefusal style outs m p refusal) (project.count ∙ count) h)
+
+-- the failure of the target of this index, with the index
+pub failed_here : (style : Option Written) (targets : List ProjectTargetValue) (n : ℕ) (outs : List CollatedValue) (p : ProjectTargetValue) → IsProject style (take n targets) outs → slice_get targets n ≡ Some p →
+    (failure : Failure Refusal) (result : Failure (ℕ × Refusal)) → Turns (λ refusal refused. refused ≡ (n, refusal)) failure result → ForFault (IsLinkedRefusal style outs (length outs) p) failure → ForFault (λ refused. IsProjectRefusal style targets refused.0 refused.1) result
+failed_here style targets n outs p project at Memory result turned h = rw turned tt
+failed_here style targets n outs p project at (Fault refusal) result turned h = rw (turned.2, turned.1) (refused_here style targets n outs p project at refusal h)

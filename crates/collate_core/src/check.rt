@@ -54,11 +54,27 @@ pub fn check_edges_with_hasher<S: BuildHasher + Copy>(
 {
     one_effect();
     level_orders();
+    let new = rehearsed(alloc, collated, name, graph, hash_builder)?;
+    match edge_order_with_hasher(alloc, &new, hash_builder) {
+        Ok(sorting) => Ok(sorting),
+        Err(_) => Err(Failure::Memory),
+    }
+}
+
+/// The graph after the effect of the collated target's dyndep file. Its text stands for statements,
+/// so that it is always read.
+fn rehearsed<S: BuildHasher + Copy>(
+    alloc: Global,
+    collated: &Collated,
+    name: &Path,
+    graph: &Graph,
+    hash_builder: S,
+) -> Result<Graph, Failure<EffectFault>>
+    ensures effect { IfOk result (HasEffect collated.now.dyndep name.now graph.now) }
+    ensures fault { IfErr result (ForFault (LacksEffect collated.now.dyndep name.now graph.now)) }
+{
     match rehearse_with_hasher(alloc, collated.dyndep(), name, graph, &[], hash_builder) {
-        Ok(new) => match edge_order_with_hasher(alloc, &new, hash_builder) {
-            Ok(sorting) => Ok(sorting),
-            Err(_) => Err(Failure::Memory),
-        },
+        Ok(new) => Ok(new),
         Err(Failure::Memory) => Err(Failure::Memory),
         Err(Failure::Fault(fault)) => match fault {
             RehearseFault::Effect { fault } => Err(Failure::Fault(fault)),

@@ -1,7 +1,7 @@
 //! Projects: targets that link earlier ones.
 ghost use Rattle.std.specs.Prelude.{◌≡◌, ◌↔◌, ◌<◌, List, IfOk, IfErr, IfSome, IsTrue, All, map, length};
 ghost use Rattle.std.specs.Option.{option_copied, option_map};
-ghost use Rattle.ninja_text.specs.Failure.{ForFault};
+ghost use Rattle.ninja_text.specs.Failure.{Turns, ForFault};
 ghost use Rattle.collate_core.specs.Projects.{IsProject, IsProjectRefusal, IsLinkedRefusal, linked_infos, project_tables};
 ghost use Rattle.collate_core.specs.ProjectOrders.{AllOrders, IsProjectOrdered, EndIsOrderable};
 ghost use Rattle.collate_core.specs.ProjectNeeds.{MapsReadBack};
@@ -121,11 +121,20 @@ pub fn project_with_hasher<M: MapStyle, S: BuildHasher + Copy>(
     for (index, target) in targets.iter().enumerate() {
         match collate_linked(alloc, target, &outs, style, hash_builder) {
             Ok(out) => outs.push(out)?,
-            Err(Failure::Memory) => return Err(Failure::Memory),
-            Err(Failure::Fault(refusal)) => return Err(Failure::Fault((index, refusal))),
+            Err(failure) => return Err(failed_at(index, failure)),
         }
     }
     Ok(ProjectOut { targets: outs })
+}
+
+/// The failure of the target of this index.
+fn failed_at(index: usize, failure: Failure<Refusal>) -> Failure<(usize, Refusal)>
+    ensures { Turns (λ refusal refused. refused ≡ (index, refusal)) failure result }
+{
+    match failure {
+        Failure::Memory => Failure::Memory,
+        Failure::Fault(refusal) => Failure::Fault((index, refusal)),
+    }
 }
 
 /// Whether all indexes are below this one.

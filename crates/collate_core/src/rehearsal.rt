@@ -2,7 +2,9 @@
 ghost use Rattle.std.specs.Prelude.{IfOk, IfErr};
 ghost use Rattle.ninja_text.specs.Failure.{ForFault};
 ghost use Rattle.dyndep_file.specs.Reading.{StandsFor};
-ghost use Rattle.collate_core.specs.Rehearsal.{HasEffect, IsReported, IsRehearseFault};
+ghost use Rattle.build_effect.specs.Effect.{OnlyEffect};
+ghost use Rattle.collate_core.specs.Rehearsal.{HasEffect, IsWithoutEffect, IsReported, IsRehearseFault};
+ghost use Rattle.collate_core.specs.inner.Parts.{ForEffect};
 
 use crate::fault::RehearseFault;
 use build_effect::{Graph, apply_with_hasher};
@@ -47,13 +49,28 @@ pub fn rehearse_with_hasher<S: BuildHasher + Copy>(
     laws::one_list();
     laws::list_or_fault();
     match read_pieces(alloc, text, cuts) {
-        Ok(dyndep) => match apply_with_hasher(alloc, graph, name, &dyndep, hash_builder) {
-            Ok(new) => Ok(new),
-            Err(Failure::Memory) => Err(Failure::Memory),
-            Err(Failure::Fault(fault)) => Err(Failure::Fault(RehearseFault::Effect { fault })),
-        },
+        Ok(dyndep) => applied(alloc, graph, name, &dyndep, hash_builder),
         Err(Failure::Memory) => Err(Failure::Memory),
         Err(Failure::Fault(fault)) => Err(Failure::Fault(RehearseFault::Read { fault })),
+    }
+}
+
+/// The graph after the effect of these statements, as the dyndep file of that name.
+fn applied<S: BuildHasher + Copy>(
+    alloc: Global,
+    graph: &Graph,
+    name: &Path,
+    dyndep: &Dyndep,
+    hash_builder: S,
+) -> Result<Graph, Failure<RehearseFault>>
+    ensures effect { IfOk result (OnlyEffect graph.now name.now dyndep.now) }
+    ensures fault { IfErr result
+        (ForFault (ForEffect (IsWithoutEffect graph.now name.now dyndep.now))) }
+{
+    match apply_with_hasher(alloc, graph, name, dyndep, hash_builder) {
+        Ok(new) => Ok(new),
+        Err(Failure::Memory) => Err(Failure::Memory),
+        Err(Failure::Fault(fault)) => Err(Failure::Fault(RehearseFault::Effect { fault })),
     }
 }
 

@@ -7,17 +7,21 @@ ghost use Rattle.scan_docs.specs.InfoText.{IsInfoText};
 ghost use Rattle.scan_docs.specs.InfoChecks.{info_checks};
 ghost use Rattle.scan_docs.specs.Document.{IsRefused};
 ghost use Rattle.scan_docs.specs.Values.{rules_of, info_of};
+ghost use Rattle.module_table.specs.TableValue.{table_with};
+ghost use Rattle.module_table.specs.Faults.{IsFault, IsReported};
+ghost use Rattle.module_table.specs.Sound.{IsSound, KeptAreProvided};
+ghost use Rattle.module_table.specs.declared.fault.TableFault.{TableFault};
 ghost use Rattle.module_maps.specs.Maps.{Written};
 ghost use Rattle.collate_core.specs.Values.{TargetValue};
 ghost use Rattle.collate_core.specs.Documents.{all_rules, table_of, IsScanAccepted, IsInfoAccepted, AreScansAccepted, IsResolved};
 ghost use Rattle.collate_core.specs.Refusals.{IsRefusal, IsScanRefusal, IsInfoRefusal};
-ghost use Rattle.collate_core.specs.inner.Parts.{IsTableText, ForScan, ForInfo};
+ghost use Rattle.collate_core.specs.inner.Parts.{IsTableText, ForScan, ForInfo, ForTable};
 
 use crate::fault::Refusal;
 use crate::target::Target;
 use module_table::Table;
 use ninja_text::Failure;
-use scan_docs::{DocFault, Info, Place, Rule, Setting, info_read, scan};
+use scan_docs::{DocFault, Info, Name, Place, Rule, Setting, info_read, scan};
 use std::alloc::Global;
 use std::hash::BuildHasher;
 
@@ -39,7 +43,27 @@ pub(crate) fn table_of<S: BuildHasher + Copy>(
 {
     let objects = rules_of_all(alloc, target.setting, target.scans)?;
     let infos = infos_of_all(alloc, target.infos)?;
-    match Table::build_with_hasher(alloc, objects, infos, target.kept, hash_builder) {
+    built(alloc, objects, infos, target.kept, hash_builder)
+}
+
+/// The table of these rules and infos, where the target keeps modules of these names to itself, or
+/// its fault.
+fn built<S: BuildHasher + Copy>(
+    alloc: Global,
+    objects: Vec<Rule>,
+    infos: Vec<Info>,
+    kept: &[Name],
+    hash_builder: S,
+) -> Result<Table<S>, Failure<Refusal>>
+    ensures table { IfOk result (λ table. table ≡ table_with objects.items infos.items) }
+    ensures sound { IfOk result IsSound }
+    ensures kept { IfOk result (λ table. KeptAreProvided table kept.now) }
+    ensures no_fault { IfOk result
+        (λ table. (fault : TableFault) → IsFault table kept.now fault → ⊥) }
+    ensures fault { IfErr result
+        (ForFault (ForTable (IsReported (table_with objects.items infos.items) kept.now))) }
+{
+    match Table::build_with_hasher(alloc, objects, infos, kept, hash_builder) {
         Ok(table) => Ok(table),
         Err(Failure::Memory) => Err(Failure::Memory),
         Err(Failure::Fault(fault)) => Err(Failure::Fault(Refusal::Table { fault })),

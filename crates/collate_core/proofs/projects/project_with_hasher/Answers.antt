@@ -1,28 +1,25 @@
-use Rattle.std.proofs.Common.{◌≡◌, ℕ, ◌+◌, List, [], ◌∷◌, ◌++◌, length, take, Option, Some, refl, subst, sym}
+use Rattle.std.proofs.Common.{◌≡◌, ℕ, ◌+◌, List, [], ◌∷◌, ◌++◌, take, Option, Some, refl, subst}
 use Rattle.std.specs.Prelude.{slice_get}
 use Rattle.std.specs.Option.{option_copied, option_map}
 use Rattle.std.proofs.lemmas.List.{take_all}
 use Rattle.std.proofs.lemmas.Option.{slice_get_read}
-use Rattle.ninja_text.specs.Failure.{ForFault}
 use Rattle.module_maps.specs.Maps.{Written}
 use Rattle.collate_core.specs.Values.{CollatedValue, ProjectTargetValue}
-use Rattle.collate_core.specs.Projects.{IsProject, IsLinkedRefusal}
+use Rattle.collate_core.specs.Projects.{IsProject}
 use Rattle.collate_core.specs.inner.Parts.{CollatesLinked}
 use Rattle.collate_core.proofs.Lists.{take_next}
-use Rattle.collate_core.proofs.LoopLemmas.{project_push, maps_of_style, refused_here}
+use Rattle.collate_core.proofs.LoopLemmas.{project_push, maps_of_style, failed_here}
 use Rattle.collate_core.proofs.projects.project_with_hasher.Goals as goal
 
-pub returns-in-Err-Fault-clause-refused : goal.returns-in-Err-Fault-clause-refused
-returns-in-Err-Fault-clause-refused g c =
+pub returns-in-Err-clause-refused : goal.returns-in-Err-clause-refused
+returns-in-Err-clause-refused g c =
     let style : Option Written = option_map g.M.MapStyle.written (option_copied c.args.style) in
     let targets : List ProjectTargetValue = c.args.targets.now in
     let outs : List CollatedValue = c.loop-index.outs.items in
     let n : ℕ = c.loop-index.index in
     let p : ProjectTargetValue = c.index-targets-index.result in
     let here : slice_get targets n ≡ Some p = slice_get_read targets _ n _ refl c.loop-index-test.true c.index-targets-index.is in
-    refused_here style targets n outs p c.loop-index.invariant here _
-    (subst (IsLinkedRefusal style outs (length outs) p) (sym c.in-Err-Fault.refusal-is)
-    (subst (ForFault (IsLinkedRefusal style outs (length outs) p)) c.in-Err-Fault.field-0-is (rw (← c.deref.ensures.value) c.in-Err-Fault.ensures.refused)))
+    failed_here style targets n outs p c.loop-index.invariant here c.in-Err.failure c.failed_at.result c.failed_at.ensures (rw (← c.deref.ensures.value) c.in-Err.ensures.refused)
 
 pub loop-index-preserved : goal.loop-index-preserved
 loop-index-preserved g c =

@@ -1,14 +1,19 @@
 use Rattle.std.proofs.Common.{ℕ, List, subst, sym}
+use Rattle.std.proofs.lemmas.Result.{IfOk-weaker, IfErr-weaker}
 use Rattle.ninja_text.specs.Failure.{ForFault}
+use Rattle.ninja_text.specs.declared.failure.Failure.{Failure}
+use Rattle.ninja_text.specs.declared.failure.Failure.TheVariants.{Memory, Fault}
 use Rattle.dyndep_file.specs.StatementValue.{StatementValue}
 use Rattle.dyndep_file.specs.Reading.{StandsFor, StandsForOnly}
 use Rattle.dyndep_file.specs.Laws.{OneList, NotBoth}
 use Rattle.dyndep_file.specs.declared.faults.ReadFault.{ReadFault}
 use Rattle.dyndep_file.specs.declared.faults.ReadFault.TheVariants.{AtLine, Io}
-use Rattle.build_effect.specs.Effect.{HasNoEffect}
-use Rattle.build_effect.specs.Faults.{IsEffectFault}
-use Rattle.build_effect.specs.declared.fault.EffectFault.{EffectFault}
-use Rattle.collate_core.specs.Rehearsal.{IsReported}
+use Rattle.build_effect.specs.EdgeValue.{EdgeValue}
+use Rattle.build_effect.specs.Effect.{OnlyEffect}
+use Rattle.collate_core.specs.Rehearsal.{HasEffect, IsWithoutEffect, IsReported, IsRehearseFault}
+use Rattle.collate_core.specs.inner.Parts.{ForEffect}
+use Rattle.collate_core.specs.declared.fault.RehearseFault.{RehearseFault}
+use Rattle.collate_core.specs.declared.fault.RehearseFault.TheVariants.{Read, Effect}
 use Rattle.collate_core.proofs.rehearsal.rehearse_with_hasher.Goals as goal
 
 only : OneList → (text : List ℕ) (statements : List StatementValue) → StandsFor text statements → StandsForOnly text statements
@@ -18,22 +23,27 @@ none : NotBoth → (text : List ℕ) (fault : ReadFault) → IsReported text fau
 none not_both text (AtLine line fault) reported statements h = not_both text statements (record { line = line; fault = fault }) h reported
 none not_both text Io reported statements h = reported
 
-pub returns-in-Ok-apply_with_hasher-clause-effect : goal.returns-in-Ok-apply_with_hasher-clause-effect
-returns-in-Ok-apply_with_hasher-clause-effect g c =
-    (c.in-Ok.dyndep, only c.one_list.ensures c.args.text.now c.in-Ok.dyndep c.in-Ok.ensures.read, c.in-Ok-apply_with_hasher.ensures.effect)
+lacks : (text name : List ℕ) (old : List EdgeValue) (statements : List StatementValue) → StandsForOnly text statements → (failure : Failure RehearseFault) →
+    ForFault (ForEffect (IsWithoutEffect old name statements)) failure → ForFault (IsRehearseFault text name old) failure
+lacks text name old statements stands Memory h = tt
+lacks text name old statements stands (Fault (Effect fault)) h = (statements, stands, h)
+lacks text name old statements stands (Fault (Read fault)) h = absurd h
+
+pub returns-in-Ok-clause-effect : goal.returns-in-Ok-clause-effect
+returns-in-Ok-clause-effect g c =
+    let statements : List StatementValue = c.in-Ok.dyndep in
+    IfOk-weaker c.applied.result (OnlyEffect c.args.graph.now c.args.name.now statements) (HasEffect c.args.text.now c.args.name.now c.args.graph.now)
+    (λ new h. (statements, only c.one_list.ensures c.args.text.now statements c.in-Ok.ensures.read, h))
+    c.applied.ensures.effect
 
 pub returns-in-Ok-clause-fault : goal.returns-in-Ok-clause-fault
 returns-in-Ok-clause-fault g c =
-    let fault : EffectFault = c.in-Err-Fault-apply_with_hasher.fault in (
-      c.in-Ok.dyndep,
-      only c.one_list.ensures c.args.text.now c.in-Ok.dyndep c.in-Ok.ensures.read,
-      record {
-        reason = subst (ForFault (IsEffectFault c.args.graph.now c.args.name.now c.in-Ok.dyndep)) c.in-Err-Fault-apply_with_hasher.field-0-is c.in-Err-Fault-apply_with_hasher.ensures.fault;
-        none = subst (ForFault (λ (f : EffectFault). HasNoEffect c.args.graph.now c.args.name.now c.in-Ok.dyndep)) c.in-Err-Fault-apply_with_hasher.field-0-is c.in-Err-Fault-apply_with_hasher.ensures.no_effect;
-      },
-    )
+    let statements : List StatementValue = c.in-Ok.dyndep in
+    IfErr-weaker c.applied.result (ForFault (ForEffect (IsWithoutEffect c.args.graph.now c.args.name.now statements))) (ForFault (IsRehearseFault c.args.text.now c.args.name.now c.args.graph.now))
+    (lacks c.args.text.now c.args.name.now c.args.graph.now statements (only c.one_list.ensures c.args.text.now statements c.in-Ok.ensures.read))
+    c.applied.ensures.fault
 
-pub returns-clause-fault : goal.returns-clause-fault
-returns-clause-fault g c =
+pub returns-in-Err-Fault-clause-fault : goal.returns-in-Err-Fault-clause-fault
+returns-in-Err-Fault-clause-fault g c =
     let reported = subst (ForFault (IsReported c.args.text.now)) c.in-Err-Fault.field-0-is c.in-Err-Fault.ensures.refused in
     (subst (IsReported c.args.text.now) (sym c.in-Err-Fault.fault-is) reported, none c.list_or_fault.ensures.not_both c.args.text.now c.in-Err-Fault.fault reported)
