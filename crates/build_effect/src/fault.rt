@@ -39,16 +39,22 @@ impl fmt::Display for GraphFault {
     ghost output = { λ fault. Some (graph_fault_text fault) };
 
     fn fmt<W: fmt::Write>(&self, f: &mut fmt::Formatter<W>) -> fmt::Result {
-        match self {
-            GraphFault::ProducedTwice { .. } => f.write_str("E1 ProducedTwice"),
-            GraphFault::DyndepNotInput { .. } => f.write_str("E2 DyndepNotInput"),
-        }
+        f.write_str(match self {
+            GraphFault::ProducedTwice { .. } => "E1 ProducedTwice",
+            GraphFault::DyndepNotInput { .. } => "E2 DyndepNotInput",
+        })
     }
 }
 
+/// `Debug` prints what `Display` prints.
 impl fmt::Debug for GraphFault {
+    ghost use Rattle.std.specs.Prelude.{Some};
+    ghost use Rattle.build_effect.specs.FaultTexts.{graph_fault_text};
+
+    ghost debug_output = { λ fault. Some (graph_fault_text fault) };
+
     fn fmt<W: fmt::Write>(&self, f: &mut fmt::Formatter<W>) -> fmt::Result {
-        write!(f, "{self}")
+        fmt::Display::fmt(self, f)
     }
 }
 
@@ -104,23 +110,30 @@ impl fmt::Display for EffectFault {
     ghost output = { λ fault. Some (effect_fault_text fault) };
 
     fn fmt<W: fmt::Write>(&self, f: &mut fmt::Formatter<W>) -> fmt::Result {
-        match self {
+        let name = match self {
             EffectFault::BadPath {
                 statement,
                 path,
                 fault,
-            } => write!(f, "E8 BadPath statement {statement} path {path} {fault}"),
-            EffectFault::NotBound { .. } => f.write_str("E5 NotBound"),
-            EffectFault::StatementTwice { .. } => f.write_str("E4 StatementTwice"),
-            EffectFault::NotMentioned { .. } => f.write_str("E6 NotMentioned"),
-            EffectFault::AddedTwice { .. } => f.write_str("E7 AddedTwice"),
-        }
+            } => return write!(f, "E8 BadPath statement {statement} path {path} {fault}"),
+            EffectFault::NotBound { .. } => "E5 NotBound",
+            EffectFault::StatementTwice { .. } => "E4 StatementTwice",
+            EffectFault::NotMentioned { .. } => "E6 NotMentioned",
+            EffectFault::AddedTwice { .. } => "E7 AddedTwice",
+        };
+        f.write_str(name)
     }
 }
 
+/// `Debug` prints what `Display` prints.
 impl fmt::Debug for EffectFault {
+    ghost use Rattle.std.specs.Prelude.{Some};
+    ghost use Rattle.build_effect.specs.FaultTexts.{effect_fault_text};
+
+    ghost debug_output = { λ fault. Some (effect_fault_text fault) };
+
     fn fmt<W: fmt::Write>(&self, f: &mut fmt::Formatter<W>) -> fmt::Result {
-        write!(f, "{self}")
+        fmt::Display::fmt(self, f)
     }
 }
 

@@ -7,7 +7,7 @@ use std::fmt;
 
 /// What is wrong with a line of an edge listing (Ninja 1.11 manual, "Build statements", "Lexical
 /// syntax").
-#[derive(Clone, Copy, Debug, PartialEq, Eq)]
+#[derive(Clone, Copy, PartialEq, Eq)]
 pub enum LineCause {
     /// N5: the first 1,048,576 bytes of the line hold no end.
     LineTooLong,
@@ -28,13 +28,26 @@ impl fmt::Display for LineCause {
     ghost output = { λ cause. Some (line_cause_text cause) };
 
     fn fmt<W: fmt::Write>(&self, f: &mut fmt::Formatter<W>) -> fmt::Result {
-        match self {
-            LineCause::LineTooLong => f.write_str("N5 LineTooLong"),
-            LineCause::Truncated => f.write_str("N6 Truncated"),
-            LineCause::Lexical(fault) => write!(f, "{fault}"),
-            LineCause::Form => f.write_str("E3 Form"),
-            LineCause::BadPath(fault) => write!(f, "E3 Path {fault}"),
-        }
+        let name = match self {
+            LineCause::LineTooLong => "N5 LineTooLong",
+            LineCause::Truncated => "N6 Truncated",
+            LineCause::Lexical(fault) => return fmt::Display::fmt(fault, f),
+            LineCause::Form => "E3 Form",
+            LineCause::BadPath(fault) => return write!(f, "E3 Path {fault}"),
+        };
+        f.write_str(name)
+    }
+}
+
+/// `Debug` prints what `Display` prints.
+impl fmt::Debug for LineCause {
+    ghost use Rattle.std.specs.Prelude.{Some};
+    ghost use Rattle.build_effect.specs.ListingFaultTexts.{line_cause_text};
+
+    ghost debug_output = { λ cause. Some (line_cause_text cause) };
+
+    fn fmt<W: fmt::Write>(&self, f: &mut fmt::Formatter<W>) -> fmt::Result {
+        fmt::Display::fmt(self, f)
     }
 }
 
@@ -42,7 +55,7 @@ impl Error for LineCause {}
 
 /// E3: the first faulty line of an edge listing, or its end, and what is wrong there. Lines are
 /// counted from 1, and a line with continuations has the number of its first one.
-#[derive(Clone, Copy, Debug, PartialEq, Eq)]
+#[derive(Clone, Copy, PartialEq, Eq)]
 pub struct LineFault {
     pub line: u64,
     pub cause: LineCause,
@@ -56,6 +69,18 @@ impl fmt::Display for LineFault {
 
     fn fmt<W: fmt::Write>(&self, f: &mut fmt::Formatter<W>) -> fmt::Result {
         write!(f, "line {}: {}", self.line, self.cause)
+    }
+}
+
+/// `Debug` prints what `Display` prints.
+impl fmt::Debug for LineFault {
+    ghost use Rattle.std.specs.Prelude.{Some};
+    ghost use Rattle.build_effect.specs.ListingFaultTexts.{line_fault_text};
+
+    ghost debug_output = { λ fault. Some (line_fault_text fault) };
+
+    fn fmt<W: fmt::Write>(&self, f: &mut fmt::Formatter<W>) -> fmt::Result {
+        fmt::Display::fmt(self, f)
     }
 }
 
@@ -79,15 +104,21 @@ impl fmt::Display for ListingFault {
 
     fn fmt<W: fmt::Write>(&self, f: &mut fmt::Formatter<W>) -> fmt::Result {
         match self {
-            ListingFault::AtLine(fault) => write!(f, "{fault}"),
-            ListingFault::NoGraph(fault) => write!(f, "{fault}"),
+            ListingFault::AtLine(fault) => fmt::Display::fmt(fault, f),
+            ListingFault::NoGraph(fault) => fmt::Display::fmt(fault, f),
         }
     }
 }
 
+/// `Debug` prints what `Display` prints.
 impl fmt::Debug for ListingFault {
+    ghost use Rattle.std.specs.Prelude.{Some};
+    ghost use Rattle.build_effect.specs.ListingFaultTexts.{listing_fault_text};
+
+    ghost debug_output = { λ fault. Some (listing_fault_text fault) };
+
     fn fmt<W: fmt::Write>(&self, f: &mut fmt::Formatter<W>) -> fmt::Result {
-        write!(f, "{self}")
+        fmt::Display::fmt(self, f)
     }
 }
 
