@@ -38,35 +38,17 @@ pub(crate) fn checked_statements<S: BuildHasher + Copy>(
     ensures fault { IfErr result (ForFault (IsEffectFault edges.now name.now statements.now)) }
 {
     let additions = canonical_statements(alloc, statements)?;
-    let statement_of = checked_additions(alloc, edges, name, additions.as_slice(), hash_builder)?;
+    let makers = Makers::of(alloc, edges, hash_builder)?;
+    let statement_of = checked_additions(alloc, edges, name, &makers, additions.as_slice())?;
     Ok(Checked {
         additions,
         statement_of,
     })
 }
 
-/// The checks of statements whose paths are canonical: E5, E4, E6, E7. The statement on each edge.
+/// The checks of statements whose paths are canonical, given which edge makes which file: E5, E4,
+/// E6, E7. The statement on each edge.
 fn checked_additions<S: BuildHasher + Copy>(
-    alloc: Global,
-    edges: &[Edge],
-    name: &Path,
-    additions: &[Addition],
-    hash_builder: S,
-) -> Result<Vec<Option<usize>>, Failure<EffectFault>>
-    requires { IsGraph edges.now }
-    ensures matched { IfOk result (λ statement_of.
-        AreMatched edges.now name.now additions.now statement_of.items) }
-    ensures fresh { IfOk result (λ _. NoneMadeBefore edges.now additions.now) }
-    ensures fault { IfErr result (ForFault (IsFaultOf edges.now name.now additions.now)) }
-{
-    let makers = Makers::of(alloc, edges, hash_builder)?;
-    let statement_of = matched_additions(alloc, edges, name, &makers, additions)?;
-    check_added(alloc, &makers, additions)?;
-    Ok(statement_of)
-}
-
-/// The checks of where the statements are: E5, E4, E6. The statement on each edge.
-fn matched_additions<S: BuildHasher>(
     alloc: Global,
     edges: &[Edge],
     name: &Path,
@@ -77,10 +59,12 @@ fn matched_additions<S: BuildHasher>(
     requires makers { AreMakers edges.now (maker_in makers.now.table) }
     ensures matched { IfOk result (λ statement_of.
         AreMatched edges.now name.now additions.now statement_of.items) }
+    ensures fresh { IfOk result (λ _. NoneMadeBefore edges.now additions.now) }
     ensures fault { IfErr result (ForFault (IsFaultOf edges.now name.now additions.now)) }
 {
     let edge_of = edges_of_statements(alloc, edges, name, makers, additions)?;
     let statement_of = statements_of_edges(alloc, edges.len(), edge_of.as_slice(), additions)?;
     check_mentioned(alloc, edges, name, statement_of.as_slice())?;
+    check_added(alloc, makers, additions)?;
     Ok(statement_of)
 }
