@@ -1,12 +1,16 @@
 //! What can be wrong with a dyndep file.
 
+ghost use Rattle.std.specs.Prelude.{◌≡◌, MatchResult};
+ghost use Rattle.ninja_text.specs.FaultTexts.{lex_fault_text};
+ghost use Rattle.dyndep_file.specs.FaultTexts.{line_fault_text};
+
 use ninja_text::LexFault;
 use std::error::Error;
 use std::fmt;
 
 /// What is wrong with a line of a dyndep file (Ninja 1.11 manual, "Dyndep file reference" and
-/// "Lexical syntax").
-#[derive(Clone, Copy, Debug, PartialEq, Eq)]
+/// "Lexical syntax"). `Debug` prints what `Display` prints.
+#[derive(Clone, Copy, PartialEq, Eq)]
 pub enum LineFault {
     /// The first 1,048,576 bytes of the line hold no end.
     LineTooLong,
@@ -43,6 +47,34 @@ pub enum LineFault {
     BadBinding,
 }
 
+impl LineFault {
+    /// The code and the name, as they are printed, or the lexical fault, which has its own.
+    fn name(self) -> Result<&'static str, LexFault>
+        ensures { MatchResult result
+            (λ name. name.now ≡ line_fault_text self)
+            (λ fault. lex_fault_text fault ≡ line_fault_text self) }
+    {
+        let name = match self {
+            LineFault::Lexical(fault) => return Err(fault),
+            LineFault::LineTooLong => "N5 LineTooLong",
+            LineFault::Truncated => "N6 Truncated",
+            LineFault::NoVersion => "Y4 NoVersion",
+            LineFault::BadVersion => "Y5 BadVersion",
+            LineFault::SecondVersion => "Y6 SecondVersion",
+            LineFault::Indent => "Y7 Indent",
+            LineFault::BadLine => "Y8 BadLine",
+            LineFault::NoOutput => "Y9 NoOutput",
+            LineFault::SecondOutput => "Y10 SecondOutput",
+            LineFault::BadRule => "Y11 BadRule",
+            LineFault::ExplicitInput => "Y12 ExplicitInput",
+            LineFault::OrderOnly => "Y13 OrderOnly",
+            LineFault::Validation => "Y14 Validation",
+            LineFault::BadBinding => "Y15 BadBinding",
+        };
+        Ok(name)
+    }
+}
+
 impl fmt::Display for LineFault {
     ghost use Rattle.std.specs.Prelude.{Some};
     ghost use Rattle.dyndep_file.specs.FaultTexts.{line_fault_text};
@@ -50,30 +82,28 @@ impl fmt::Display for LineFault {
     ghost output = { λ fault. Some (line_fault_text fault) };
 
     fn fmt<W: fmt::Write>(&self, f: &mut fmt::Formatter<W>) -> fmt::Result {
-        match self {
-            LineFault::LineTooLong => f.write_str("N5 LineTooLong"),
-            LineFault::Truncated => f.write_str("N6 Truncated"),
-            LineFault::Lexical(fault) => write!(f, "{fault}"),
-            LineFault::NoVersion => f.write_str("Y4 NoVersion"),
-            LineFault::BadVersion => f.write_str("Y5 BadVersion"),
-            LineFault::SecondVersion => f.write_str("Y6 SecondVersion"),
-            LineFault::Indent => f.write_str("Y7 Indent"),
-            LineFault::BadLine => f.write_str("Y8 BadLine"),
-            LineFault::NoOutput => f.write_str("Y9 NoOutput"),
-            LineFault::SecondOutput => f.write_str("Y10 SecondOutput"),
-            LineFault::BadRule => f.write_str("Y11 BadRule"),
-            LineFault::ExplicitInput => f.write_str("Y12 ExplicitInput"),
-            LineFault::OrderOnly => f.write_str("Y13 OrderOnly"),
-            LineFault::Validation => f.write_str("Y14 Validation"),
-            LineFault::BadBinding => f.write_str("Y15 BadBinding"),
+        match self.name() {
+            Ok(name) => f.write_str(name),
+            Err(fault) => fmt::Display::fmt(&fault, f),
         }
+    }
+}
+
+impl fmt::Debug for LineFault {
+    ghost use Rattle.std.specs.Prelude.{Some};
+    ghost use Rattle.dyndep_file.specs.FaultTexts.{line_fault_text};
+
+    ghost debug_output = { λ fault. Some (line_fault_text fault) };
+
+    fn fmt<W: fmt::Write>(&self, f: &mut fmt::Formatter<W>) -> fmt::Result {
+        fmt::Display::fmt(self, f)
     }
 }
 
 impl Error for LineFault {}
 
-/// Why a dyndep file was not read.
-#[derive(Clone, Copy, Debug, PartialEq, Eq)]
+/// Why a dyndep file was not read. `Debug` prints what `Display` prints.
+#[derive(Clone, Copy, PartialEq, Eq)]
 pub enum ReadFault {
     /// The first faulty line, or the end of the file, and what is wrong there. Lines are counted
     /// from 1, and a line with continuations has the number of its first one.
@@ -94,6 +124,17 @@ impl fmt::Display for ReadFault {
             ReadFault::AtLine { line, fault } => write!(f, "line {line}: {fault}"),
             ReadFault::Io => f.write_str("Y16 Io"),
         }
+    }
+}
+
+impl fmt::Debug for ReadFault {
+    ghost use Rattle.std.specs.Prelude.{Some};
+    ghost use Rattle.dyndep_file.specs.FaultTexts.{read_fault_text};
+
+    ghost debug_output = { λ fault. Some (read_fault_text fault) };
+
+    fn fmt<W: fmt::Write>(&self, f: &mut fmt::Formatter<W>) -> fmt::Result {
+        fmt::Display::fmt(self, f)
     }
 }
 

@@ -13,8 +13,8 @@ use std::error::Error;
 use std::fmt;
 
 /// Why a list of statements was not written. The first statement with a fault counts, and in it a
-/// path before the line.
-#[derive(Clone, Copy, Debug, PartialEq, Eq)]
+/// path before the line. `Debug` prints what `Display` prints.
+#[derive(Clone, Copy, PartialEq, Eq)]
 pub enum WriteFault {
     /// A path is empty or holds `|`, NUL, CR or LF, which no spelling stands for. Paths are counted
     /// from 0: the output, the implicit outputs, the implicit inputs.
@@ -44,6 +44,17 @@ impl fmt::Display for WriteFault {
             ),
             WriteFault::Io { written } => write!(f, "Y3 Io written {written}"),
         }
+    }
+}
+
+impl fmt::Debug for WriteFault {
+    ghost use Rattle.std.specs.Prelude.{Some};
+    ghost use Rattle.dyndep_file.specs.FaultTexts.{write_fault_text};
+
+    ghost debug_output = { λ fault. Some (write_fault_text fault) };
+
+    fn fmt<W: fmt::Write>(&self, f: &mut fmt::Formatter<W>) -> fmt::Result {
+        fmt::Display::fmt(self, f)
     }
 }
 
