@@ -17,7 +17,7 @@ use ninja_text::{Assignment, Failure, Words};
 use std::alloc::{AllocError, Global};
 
 /// What stands before a line, and so which lines may come next.
-#[derive(Clone, Copy, Debug, PartialEq, Eq)]
+#[derive(Clone, Copy)]
 pub(crate) enum Stage {
     /// No version line has come.
     BeforeVersion,
