@@ -9,8 +9,8 @@ use std::error::Error;
 use std::fmt;
 
 /// Where in a document a fault is. Rules, modules and entries have the index that they have in
-/// their list.
-#[derive(Clone, Copy, Debug, PartialEq, Eq)]
+/// their list. `Debug` prints what `Display` prints.
+#[derive(Clone, Copy, PartialEq, Eq)]
 pub enum Place {
     /// The document itself.
     Document,
@@ -47,10 +47,21 @@ impl fmt::Display for Place {
     }
 }
 
+impl fmt::Debug for Place {
+    ghost use Rattle.std.specs.Prelude.{Some};
+    ghost use Rattle.scan_docs.specs.Place.{place_text};
+
+    ghost debug_output = { λ place. Some (place_text place) };
+
+    fn fmt<W: fmt::Write>(&self, f: &mut fmt::Formatter<W>) -> fmt::Result {
+        fmt::Display::fmt(self, f)
+    }
+}
+
 /// Why a document is refused: the first check of the document that fails. The checks are those of
 /// the document's kind, in the order of its list, and their order has nothing to do with that of
-/// the codes.
-#[derive(Clone, Copy, Debug, PartialEq, Eq)]
+/// the codes. `Debug` prints what `Display` prints.
+#[derive(Clone, Copy, PartialEq, Eq)]
 pub enum DocFault {
     /// The bytes are not the UTF-8 text of a JSON value (RFC 8259), or of one that `serde_json`
     /// reads: it refuses nesting deeper than 127 levels and numbers that no float can hold.
@@ -91,6 +102,17 @@ impl fmt::Display for DocFault {
             DocFault::BadPath { place, fault } => write!(f, "S7 BadPath {place} {fault}"),
             DocFault::TooLarge { place } => write!(f, "S8 TooLarge {place}"),
         }
+    }
+}
+
+impl fmt::Debug for DocFault {
+    ghost use Rattle.std.specs.Prelude.{Some};
+    ghost use Rattle.scan_docs.specs.FaultTexts.{doc_fault_text};
+
+    ghost debug_output = { λ fault. Some (doc_fault_text fault) };
+
+    fn fmt<W: fmt::Write>(&self, f: &mut fmt::Formatter<W>) -> fmt::Result {
+        fmt::Display::fmt(self, f)
     }
 }
 
