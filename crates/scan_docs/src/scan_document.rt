@@ -8,7 +8,7 @@ ghost use Rattle.scan_docs.specs.inner.Reading.{Answers};
 ghost use Rattle.scan_docs.specs.inner.ScanMembers.{IsDocument};
 ghost use Rattle.scan_docs.specs.Document.{IsAccepted, IsRefused, HasOneAnswer};
 ghost use Rattle.scan_docs.specs.Scan.{SettingValue, AreRules, IsRuleText};
-ghost use Rattle.scan_docs.specs.ScanChecks.{scan_checks};
+ghost use Rattle.scan_docs.specs.ScanChecks.{scan_checks, is_scan_version};
 ghost use Rattle.scan_docs.specs.Values.{rules_of};
 
 use crate::document::text_of;
@@ -54,9 +54,8 @@ fn checked_rules(found: Option<ScanMembers>) -> Result<Vec<Rule>, Failure<DocFau
 {
     let place = Place::Document;
     let members = found.ok_or(bad_shape(place, Member::Document))?;
-    match members.version {
-        Some(0 | 1) => {}
-        _ => return Err(Failure::Fault(DocFault::BadVersion)),
+    if !is_scan_version(members.version) {
+        return Err(Failure::Fault(DocFault::BadVersion));
     }
     let rules = members.rules.ok_or(bad_shape(place, Member::Rules))?;
     if rules.count > COUNT_LIMIT {
@@ -66,4 +65,10 @@ fn checked_rules(found: Option<ScanMembers>) -> Result<Vec<Rule>, Failure<DocFau
         Some(refusal) => Err(refusal),
         None => Ok(rules.rules),
     }
+}
+
+fn is_scan_version(version: Option<u64>) -> bool
+    ensures { result ≡ is_scan_version version }
+{
+    matches!(version, Some(0 | 1))
 }

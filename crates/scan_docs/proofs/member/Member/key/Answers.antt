@@ -1,0 +1,7 @@
+use Rattle.std.proofs.Common.{arith}
+use Rattle.std.proofs.lemmas.Grind.{common_steps}
+use Rattle.scan_docs.specs.Member.{key}
+use Rattle.scan_docs.proofs.member.Member.key.Goals as goal
+
+pub returns-in-Bmi : goal.returns-in-Bmi
+returns-in-Bmi c = unfold key in grind (arith, common_steps)
