@@ -4,23 +4,19 @@
 //! Status 0: done. 1: refused. 2: the arguments are no proper call. 3: a file could not be read or
 //! written, or memory was refused. For each but 0 one line on standard error says why.
 //!
-//! - `arguments` says which task the arguments call for.
-//! - `run` answers a task by what reading its files gave: it calls the command, which is a function
-//!   of the library `commands`. `print` writes an answer and gives the status.
-//! - `files` reads the files that target and project documents name, and writes those of an answer,
-//!   by calls that `main` hands to it. What is left to `main` is to get the arguments, to make
-//!   these calls of the system, and to end with the status.
+//! What it does between the calls of the system stands, with its promises, in the library
+//! `command_line`. What is left to `main` is to get the arguments and random bytes, to hand the
+//! calls that read and write files to the library, and to end with the status.
 //!
-//! It stands on `commands` for what a command answers, on `scan_docs` for the names in documents,
-//! and on `ninja_text` for writers whose calls are counted.
+//! It stands on `command_line`, on `commands` for the answer of a run, and on `ninja_text` for
+//! writers whose calls are counted.
 #![tactic(auto)]
 
-use arguments::{Task, task_of};
+use command_line::{
+    Task, further_names, names_of, print, read_files, task_of, task_run, write_files,
+};
 use commands::Answer;
-use files::{further_names, names_of, read_files, write_files};
 use ninja_text::Counted;
-use print::print;
-use run::task_run;
 use std::alloc::AllocError;
 use std::hash::RandomState;
 use std::io::ErrorKind;
@@ -28,11 +24,6 @@ use std::process::ExitCode;
 use std::random::RandomSource;
 use std::rt::{Env, Files};
 use std::{env, fs};
-
-mod arguments;
-mod files;
-mod print;
-mod run;
 
 fn main(rt: HostRuntime) -> ExitCode {
     let answer = answer_of(&rt);
