@@ -11,7 +11,6 @@ mod lexing;
 
 use ninja_text::{Counted, Failure, Path, PathFault, ReadCall, Stopped, is_writable, place};
 use std::alloc::{AllocError, Global};
-use std::cmp::Ordering;
 use std::io;
 use std::io::{ErrorKind, Read, Write};
 use std::process::Abort;
@@ -35,11 +34,19 @@ fn push_answer(alloc: Global, out: &mut Vec<u8>, answer: Answer) -> Result<(), A
     Ok(())
 }
 
+/// The answers to these texts.
+fn answers_to(alloc: Global, texts: &[&[u8]]) -> Result<Vec<u8>, AllocError> {
+    let mut found = Vec::new(alloc);
+    for text in texts {
+        push_answer(alloc, &mut found, Path::of(alloc, text))?;
+    }
+    Ok(found)
+}
+
 #[test]
 fn a_text_means_its_canonical_path(rt: HostRuntime) -> Result<(), Fail> {
-    let mut found = Vec::new(rt.alloc());
-    for text in [
-        b"./obj//x/../a.o".as_slice(),
+    let texts: &[&[u8]] = &[
+        b"./obj//x/../a.o",
         b"obj/a.o",
         b"/w/b",
         b"/w/bc/x",
@@ -47,21 +54,18 @@ fn a_text_means_its_canonical_path(rt: HostRuntime) -> Result<(), Fail> {
         b"a/../../x",
         b"//w/./b/",
         b"a b$c:d\t\xff",
-    ] {
-        push_answer(rt.alloc(), &mut found, Path::of(rt.alloc(), text))?;
-    }
+    ];
     let wanted =
         b"obj/a.o\nobj/a.o\n/w/b\n/w/bc/x\n../../x\n../x\n/w/b\na b$c:d\t\xff\n".as_slice();
-    assert!(rt; found.as_slice() == wanted);
+    assert!(rt; answers_to(rt.alloc(), texts)?.as_slice() == wanted);
     Ok(())
 }
 
 /// Where there are two faults, the first in the order of the codes is answered.
 #[test]
 fn a_text_that_is_no_path_has_its_fault(rt: HostRuntime) -> Result<(), Fail> {
-    let mut found = Vec::new(rt.alloc());
-    for text in [
-        b"".as_slice(),
+    let texts: &[&[u8]] = &[
+        b"",
         b"/",
         b"./.",
         b"a/..",
@@ -72,9 +76,7 @@ fn a_text_that_is_no_path_has_its_fault(rt: HostRuntime) -> Result<(), Fail> {
         b"ab\n|",
         b"a|b/..",
         b"/../a|b",
-    ] {
-        push_answer(rt.alloc(), &mut found, Path::of(rt.alloc(), text))?;
-    }
+    ];
     let wanted = "N1 Empty
 N1 Empty
 N1 Empty
@@ -87,7 +89,7 @@ N3 at 2
 N1 Empty
 N2 AboveRoot
 ";
-    assert!(rt; found.as_slice() == wanted.as_bytes());
+    assert!(rt; answers_to(rt.alloc(), texts)?.as_slice() == wanted.as_bytes());
     Ok(())
 }
 
@@ -134,28 +136,33 @@ fn a_path_has_no_more_bytes(rt: HostRuntime) -> Result<(), Fail> {
     Ok(())
 }
 
+/// Where each path is placed by its work directory.
+fn placed_by_work(alloc: Global, rows: &[(Option<&[u8]>, &[u8])]) -> Result<Vec<u8>, AllocError> {
+    let mut found = Vec::new(alloc);
+    for (work, path) in rows {
+        push_answer(alloc, &mut found, place(alloc, *work, None, path))?;
+    }
+    Ok(found)
+}
+
 /// In a fault the index is that in the text that is read, work directory included.
 #[test]
 fn a_path_is_placed_by_its_work_directory(rt: HostRuntime) -> Result<(), Fail> {
-    let alloc = rt.alloc();
-    let mut found = Vec::new(alloc);
-    push_answer(alloc, &mut found, place(alloc, None, None, b"a.o"))?;
-    for (work, path) in [
-        (b"/w".as_slice(), b"a.o".as_slice()),
-        (b"/w/b", b"../o/a.o"),
-        (b"../w", b"a.o"),
-        (b"/w", b"/x/y"),
-        (b"", b"./a.o"),
-        (b"/w", b""),
-        (b"/w", b".."),
-        (b"/w", b"../../x"),
-        (b"/w", b"a|b"),
-    ] {
-        push_answer(alloc, &mut found, place(alloc, Some(work), None, path))?;
-    }
+    let rows: &[(Option<&[u8]>, &[u8])] = &[
+        (None, b"a.o"),
+        (Some(b"/w"), b"a.o"),
+        (Some(b"/w/b"), b"../o/a.o"),
+        (Some(b"../w"), b"a.o"),
+        (Some(b"/w"), b"/x/y"),
+        (Some(b""), b"./a.o"),
+        (Some(b"/w"), b""),
+        (Some(b"/w"), b".."),
+        (Some(b"/w"), b"../../x"),
+        (Some(b"/w"), b"a|b"),
+    ];
     let wanted =
         "a.o\n/w/a.o\n/w/o/a.o\n../w/a.o\n/x/y\na.o\nN1 Empty\nN1 Empty\nN2 AboveRoot\nN3 at 4\n";
-    assert!(rt; found.as_slice() == wanted.as_bytes());
+    assert!(rt; placed_by_work(rt.alloc(), rows)?.as_slice() == wanted.as_bytes());
     Ok(())
 }
 
@@ -204,38 +211,6 @@ fn the_length_is_counted_below_the_build_directory(rt: HostRuntime) -> Result<()
     push_built(alloc, &mut found, b"/w", Some(b"/w"), &name)?;
     push_answer(alloc, &mut found, place(alloc, Some(b"/w"), None, &name))?;
     assert!(rt; found.as_slice() == around(alloc, b"", 4096, b"\nN4 TooLong\n")?.as_slice());
-    Ok(())
-}
-
-#[test]
-fn a_copy_is_the_same_path(rt: HostRuntime) -> Result<(), Fail> {
-    let alloc = rt.alloc();
-    let path = Path::of(alloc, b"./obj/a.o")?;
-    let copy = path.copy(alloc)?;
-    assert!(rt; copy == path);
-    assert!(rt; copy.bytes() == b"obj/a.o".as_slice());
-    assert!(rt; !copy.is_rooted());
-    assert!(rt; copy != Path::of(alloc, b"/obj/a.o")?);
-    Ok(())
-}
-
-/// Whether the paths are in this order, by each way of comparing them.
-fn are_in_order(low: &Path, high: &Path, order: Ordering) -> bool {
-    low.cmp(high) == order
-        && (*low < *high) == (order == Ordering::Less)
-        && (*low == *high) == (order == Ordering::Equal)
-}
-
-#[test]
-fn paths_are_in_byte_order(rt: HostRuntime) -> Result<(), Fail> {
-    let rows: [&[u8]; 6] = [b"../b", b"/b", b"a", b"a-b", b"a/b", b"ab"];
-    for (i, low) in rows.into_iter().enumerate() {
-        let low = Path::of(rt.alloc(), low)?;
-        for (k, high) in rows.into_iter().enumerate() {
-            let high = Path::of(rt.alloc(), high)?;
-            assert!(rt; are_in_order(&low, &high, i.cmp(&k)));
-        }
-    }
     Ok(())
 }
 

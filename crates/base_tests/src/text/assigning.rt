@@ -45,35 +45,34 @@ fn assignment_of(alloc: Global, text: &[u8]) -> Result<Vec<u8>, Fail> {
     Ok(out)
 }
 
+/// What these lines are, one after another.
+fn assignments_of(alloc: Global, texts: &[&[u8]]) -> Result<Vec<u8>, Fail> {
+    let mut found = Vec::new(alloc);
+    for text in texts {
+        found.extend_from_slice(&assignment_of(alloc, text)?)?;
+    }
+    Ok(found)
+}
+
 #[test]
 fn a_binding_has_a_name_and_a_value_to_the_end_of_the_line(rt: HostRuntime) -> Result<(), Fail> {
-    let mut found = Vec::new(rt.alloc());
-    for text in [
-        b"  restat = 1\n".as_slice(),
+    let texts: &[&[u8]] = &[
+        b"  restat = 1\n",
         b"  restat =\r\n",
         b"ninja_dyndep_version=1.0-extra\n",
         b"a = x | $: $$ \n",
         b" $\n a.b-c_1$\n =$\r\n x $\n y \n",
-    ] {
-        found.extend_from_slice(&assignment_of(rt.alloc(), text)?)?;
-    }
+    ];
     let wanted =
         "restat 2 1 = 1;\nrestat 2  = ;\nninja_dyndep_version 0 1.0-extra = 1.0-extra;\na 0 x | $: $$  = x | : $ ;\na.b-c_1 4 x $\n y  = x y ;\n";
-    assert!(rt; found.as_slice() == wanted.as_bytes());
+    assert!(rt; assignments_of(rt.alloc(), texts)?.as_slice() == wanted.as_bytes());
     Ok(())
 }
 
 #[test]
 fn without_a_name_or_a_sign_there_is_no_assignment(rt: HostRuntime) -> Result<(), Fail> {
-    let mut found = Vec::new(rt.alloc());
-    for text in [
-        b"= 1\n".as_slice(),
-        b"build a: dyndep = 1\n",
-        b"restat\n",
-        b"\n",
-    ] {
-        found.extend_from_slice(&assignment_of(rt.alloc(), text)?)?;
-    }
-    assert!(rt; found.as_slice() == b"none\nnone\nnone\nnone\n".as_slice());
+    let texts: &[&[u8]] = &[b"= 1\n", b"build a: dyndep = 1\n", b"restat\n", b"\n"];
+    let wanted = b"none\nnone\nnone\nnone\n".as_slice();
+    assert!(rt; assignments_of(rt.alloc(), texts)?.as_slice() == wanted);
     Ok(())
 }

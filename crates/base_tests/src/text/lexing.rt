@@ -1,5 +1,5 @@
-//! Rows of words: tokens with their spans and values, and the lexical faults.
-use ninja_text::{Line, LineCutter, Token, Words, assignment, words};
+//! Rows of words: tokens with their spans and values. The lexical faults are rows of tests/rows.
+use ninja_text::{Line, LineCutter, Token, Words, words};
 use std::alloc::{AllocError, Global};
 use std::test::Fail;
 
@@ -37,20 +37,6 @@ fn push_tokens(alloc: Global, tokens: Words<'_>, out: &mut Vec<u8>) -> Result<()
     Ok(())
 }
 
-/// Appends the fault that `assignment` answers of a line, or `none`.
-fn push_fault(alloc: Global, line: Line<'_>, out: &mut Vec<u8>) -> Result<(), AllocError> {
-    if line.is_comment() {
-        return out.extend_from_slice(b"comment\n");
-    }
-    match assignment(line) {
-        Ok(_) => out.extend_from_slice(b"none\n"),
-        Err(fault) => {
-            let text = format!(in alloc; "{fault}\n")?;
-            out.extend_from_slice(text.as_bytes())
-        }
-    }
-}
-
 /// The tokens of a line, its end included, or its fault.
 fn words_of(alloc: Global, text: &[u8]) -> Result<Vec<u8>, Fail> {
     let mut out = Vec::new(alloc);
@@ -62,102 +48,45 @@ fn words_of(alloc: Global, text: &[u8]) -> Result<Vec<u8>, Fail> {
     Ok(out)
 }
 
-/// The fault of a line, its end included, as `words` and `assignment` both answer it.
-fn faults_of(alloc: Global, text: &[u8]) -> Result<Vec<u8>, Fail> {
-    let mut out = Vec::new(alloc);
-    let mut cutter = LineCutter::new(alloc);
-    cutter.feed(text)?;
-    if let Some(line) = cutter.next_line()? {
-        push_words(alloc, line, &mut out)?;
-        push_fault(alloc, line, &mut out)?;
-    }
-    Ok(out)
+/// Whether these are the tokens of a line.
+fn has_words(alloc: Global, text: &[u8], wanted: &str) -> Result<bool, Fail> {
+    Ok(words_of(alloc, text)?.as_slice() == wanted.as_bytes())
 }
 
 #[test]
 fn a_word_goes_on_over_a_continuation(rt: HostRuntime) -> Result<(), Fail> {
-    let found = words_of(rt.alloc(), b"build a$\n  b.o: dyndep\n")?;
     let wanted = "Word 0 5 build\nWord 6 14 ab.o\nColon 14 15 :\nWord 16 22 dyndep\n";
-    assert!(rt; found.as_slice() == wanted.as_bytes());
-    let found = words_of(rt.alloc(), b"build a$\r\n  b.o: dyndep\r\n")?;
+    assert!(rt; has_words(rt.alloc(), b"build a$\n  b.o: dyndep\n", wanted)?);
     let wanted = "Word 0 5 build\nWord 6 15 ab.o\nColon 15 16 :\nWord 17 23 dyndep\n";
-    assert!(rt; found.as_slice() == wanted.as_bytes());
+    assert!(rt; has_words(rt.alloc(), b"build a$\r\n  b.o: dyndep\r\n", wanted)?);
     Ok(())
 }
 
 #[test]
 fn a_space_before_a_continuation_ends_the_word(rt: HostRuntime) -> Result<(), Fail> {
-    let found = words_of(rt.alloc(), b"a $\n b\n")?;
-    assert!(rt; found.as_slice() == "Word 0 1 a\nWord 5 6 b\n".as_bytes());
-    let found = words_of(rt.alloc(), b"build a.o $\n: dyndep\n")?;
+    assert!(rt; has_words(rt.alloc(), b"a $\n b\n", "Word 0 1 a\nWord 5 6 b\n")?);
     let wanted = "Word 0 5 build\nWord 6 9 a.o\nColon 12 13 :\nWord 14 20 dyndep\n";
-    assert!(rt; found.as_slice() == wanted.as_bytes());
+    assert!(rt; has_words(rt.alloc(), b"build a.o $\n: dyndep\n", wanted)?);
     Ok(())
 }
 
 #[test]
 fn of_the_bars_the_longest_is_the_token(rt: HostRuntime) -> Result<(), Fail> {
-    let found = words_of(rt.alloc(), b"a|||@b| |\n")?;
     let wanted = "Word 0 1 a\nDoubleBar 1 3 ||\nBarAt 3 5 |@\nWord 5 6 b\nBar 6 7 |\nBar 8 9 |\n";
-    assert!(rt; found.as_slice() == wanted.as_bytes());
+    assert!(rt; has_words(rt.alloc(), b"a|||@b| |\n", wanted)?);
     Ok(())
 }
 
 #[test]
 fn an_escape_stands_for_its_second_byte(rt: HostRuntime) -> Result<(), Fail> {
-    let found = words_of(rt.alloc(), b"my$ mods/$$x$:y/A.bmi: dyndep\n")?;
     let wanted = "Word 0 21 my mods/$x:y/A.bmi\nColon 21 22 :\nWord 23 29 dyndep\n";
-    assert!(rt; found.as_slice() == wanted.as_bytes());
+    assert!(rt; has_words(rt.alloc(), b"my$ mods/$$x$:y/A.bmi: dyndep\n", wanted)?);
     Ok(())
 }
 
 #[test]
 fn a_tab_is_an_ordinary_byte_and_spaces_alone_have_no_token(rt: HostRuntime) -> Result<(), Fail> {
-    let found = words_of(rt.alloc(), b"\ta b\n")?;
-    assert!(rt; found.as_slice() == "Word 0 2 \ta\nWord 3 4 b\n".as_bytes());
-    let found = faults_of(rt.alloc(), b" $\n  \n")?;
-    assert!(rt; found.as_slice() == "none\n".as_bytes());
-    Ok(())
-}
-
-#[test]
-fn faults_are_found_at_their_places(rt: HostRuntime) -> Result<(), Fail> {
-    let mut found = Vec::new(rt.alloc());
-    for text in [
-        b"build a\0b: dyndep\n".as_slice(),
-        b"build a\rb: dyndep\n",
-        b"build a$\rb: dyndep\n",
-        b"build a: dyndep\r\r\n",
-        b"build $x: dyndep\n",
-        b"build ${x}: dyndep\n",
-        b"build a$.b: dyndep\n",
-        b"a$\0\r\n",
-        b"build a: dyndep\r\n",
-    ] {
-        found.extend_from_slice(&faults_of(rt.alloc(), text)?)?;
-    }
-    let wanted = "N7 Nul at 7
-N7 Nul at 7
-N8 LoneCr at 7
-N8 LoneCr at 7
-N10 BadEscape at 7
-N10 BadEscape at 7
-N8 LoneCr at 15
-N8 LoneCr at 15
-N9 Variable at 6
-N9 Variable at 6
-N9 Variable at 6
-N9 Variable at 6
-N10 BadEscape at 7
-N10 BadEscape at 7
-N10 BadEscape at 1
-N10 BadEscape at 1
-Word 0 5 build
-Word 6 7 a
-Colon 7 8 :
-Word 9 15 dyndep
-none
-";
-    assert!(rt; found.as_slice() == wanted.as_bytes());
+    assert!(rt; has_words(rt.alloc(), b"\ta b\n", "Word 0 2 \ta\nWord 3 4 b\n")?);
+    assert!(rt; has_words(rt.alloc(), b" $\n  \n", "")?);
     Ok(())
 }
