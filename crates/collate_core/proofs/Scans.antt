@@ -3,7 +3,7 @@ use Rattle.std.proofs.Common.{◌≡◌, ℕ, zero, suc, ◌+◌, ◌<◌, ◌�
 use Rattle.std.specs.Prelude.{slice_get, All, option_map}
 use Rattle.std.proofs.lemmas.Option.{slice_get-map, slice_get_read}
 use Rattle.std.specs.List.{flat_map}
-use Rattle.std.proofs.lemmas.List.{map_push}
+use Rattle.std.proofs.lemmas.List.{map_push, take_all, length-map}
 use Rattle.std.proofs.lemmas.List.Elements.{All-push, All-append}
 use Rattle.ninja_text.specs.Failure.{ForFault}
 use Rattle.ninja_text.specs.declared.failure.Failure.{Failure}
@@ -13,12 +13,13 @@ use Rattle.scan_docs.specs.ScanChecks.{scan_checks}
 use Rattle.scan_docs.specs.Scan.{SettingValue, RuleValue, IsRuleText}
 use Rattle.scan_docs.specs.Info.{InfoValue}
 use Rattle.scan_docs.specs.InfoText.{IsInfoText}
+use Rattle.scan_docs.specs.InfoChecks.{info_checks}
 use Rattle.scan_docs.specs.Values.{rules_of, info_of}
 use Rattle.scan_docs.specs.declared.fault.DocFault.{DocFault}
 use Rattle.scan_docs.specs.declared.fault.DocFault.TheVariants.{TooLarge}
 use Rattle.scan_docs.specs.declared.fault.Place.TheVariants.{Document}
 use Rattle.collate_core.specs.Documents.{all_rules, rule_limit, IsScanAccepted, IsInfoAccepted, AreScansAccepted}
-use Rattle.collate_core.specs.Refusals.{IsScanRefusal}
+use Rattle.collate_core.specs.Refusals.{IsScanRefusal, IsInfoRefusal}
 use Rattle.collate_core.proofs.Lists.{take_next, flat_map_last}
 
 -- The first scan documents are accepted, and these are their rules.
@@ -97,6 +98,31 @@ refused_scan bytes documents i other s rules failure fault within so_far is refu
   scan = bytes (get_or documents i other);
   here = document_at bytes documents i other within;
   faulty = inl (subst (ForFault (IsRefused (scan_checks s) (bytes (get_or documents i other)))) is refused);
+}
+
+-- all documents stand among the first ones
+all_taken : {X : Type 0} (bytes : X → List ℕ) (documents : List X) (i : ℕ) → length documents ≤ i → take i (map bytes documents) ≡ map bytes documents
+all_taken bytes documents i past = take_all i (map bytes documents) (subst (λ n. n ≤ i) (sym (length-map documents bytes)) past)
+
+pub all_scans : {X : Type 0} (bytes : X → List ℕ) (documents : List X) (i : ℕ) (s : SettingValue) (rules : List RuleValue) → length documents ≤ i → ScansSoFar s (map bytes documents) i rules → AreScansAccepted s (map bytes documents)
+all_scans bytes documents i s rules past so_far = subst (AreScansAccepted s) (all_taken bytes documents i past) so_far.accepted
+
+pub rules_of_scans : {X : Type 0} (bytes : X → List ℕ) (documents : List X) (i : ℕ) (s : SettingValue) (rules : List RuleValue) → length documents ≤ i → ScansSoFar s (map bytes documents) i rules → rules ≡ all_rules s (map bytes documents)
+rules_of_scans bytes documents i s rules past so_far = so_far.same ∙ ap (all_rules s) (all_taken bytes documents i past)
+
+pub all_accepted : {X : Type 0} (bytes : X → List ℕ) (documents : List X) (i : ℕ) (infos : List InfoValue) → length documents ≤ i → InfosSoFar (map bytes documents) i infos → All IsInfoAccepted (map bytes documents)
+all_accepted bytes documents i infos past so_far = subst (All IsInfoAccepted) (all_taken bytes documents i past) so_far.accepted
+
+pub all_infos : {X : Type 0} (bytes : X → List ℕ) (documents : List X) (i : ℕ) (infos : List InfoValue) → length documents ≤ i → InfosSoFar (map bytes documents) i infos → infos ≡ map info_of (map bytes documents)
+all_infos bytes documents i infos past so_far = so_far.same ∙ ap (map info_of) (all_taken bytes documents i past)
+
+pub refused_info : {X : Type 0} (bytes : X → List ℕ) (documents : List X) (i : ℕ) (other : X) (infos : List InfoValue) (failure : Failure DocFault) (fault : DocFault) → i < length documents →
+    InfosSoFar (map bytes documents) i infos → failure ≡ Fault fault → ForFault (IsRefused info_checks (bytes (get_or documents i other))) failure → IsInfoRefusal (map bytes documents) i fault
+refused_info bytes documents i other infos failure fault within so_far is refused = record {
+  before = so_far.accepted;
+  info = bytes (get_or documents i other);
+  here = document_at bytes documents i other within;
+  faulty = subst (ForFault (IsRefused info_checks (bytes (get_or documents i other)))) is refused;
 }
 
 pub lent_infos : {X : Type 0} (bytes : X → List ℕ) (documents : List X) (i : ℕ) (other : X) (infos : List InfoValue) (info : InfoValue) → i < length documents → InfosSoFar (map bytes documents) i infos →

@@ -1,15 +1,15 @@
--- One more object, with what it requires.
-use Rattle.std.proofs.Common.{◌≡◌, ℕ, ◌+◌, List, [], ◌∷◌, ◌++◌, map, take, Some, refl, ap, sym, ◌∙◌}
+-- One more object, with what it requires, and all objects.
+use Rattle.std.proofs.Common.{◌≡◌, ℕ, ◌+◌, ◌≤◌, List, [], ◌∷◌, ◌++◌, length, map, take, Some, refl, ap, subst, sym, ◌∙◌}
 use Rattle.std.specs.Prelude.{slice_get, option_map}
 use Rattle.std.specs.List.{flat_map}
-use Rattle.std.proofs.lemmas.List.{map-append}
+use Rattle.std.proofs.lemmas.List.{map-append, take_all, length-map}
 use Rattle.std.proofs.lemmas.Option.{slice_get-map}
 use Rattle.scan_docs.specs.Scan.{RuleValue}
 use Rattle.scan_docs.specs.Info.{ModuleValue}
 use Rattle.dyndep_file.specs.StatementValue.{StatementValue}
 use Rattle.module_table.specs.TableValue.{TableValue}
 use Rattle.module_table.specs.Added.{Task, tasks_of, required_of}
-use Rattle.collate_core.specs.Statements.{statement_of}
+use Rattle.collate_core.specs.Statements.{statement_of, statements_of}
 use Rattle.collate_core.specs.Infos.{modules_of}
 use Rattle.collate_core.proofs.Lists.{take_next, flat_map_last}
 
@@ -25,6 +25,11 @@ pub one_more : (t : TableValue) (index : ℕ) (rule : RuleValue) (required : Lis
     statements ≡ map statement_of (take index (tasks_of t)) → statements ++ statement ∷ [] ≡ map statement_of (take (index + 1) (tasks_of t))
 one_more t index rule required statement statements here same is so_far =
     rw (take_next (tasks_of t) index (rule, required) (task_here t index rule required here same), map-append, so_far, is) refl
+
+-- the statements of all objects
+pub all_statements : (t : TableValue) (index : ℕ) → length t.objects ≤ index → map statement_of (take index (tasks_of t)) ≡ statements_of t
+all_statements t index past =
+    ap (map statement_of) (take_all index (tasks_of t) (subst (λ n. n ≤ index) (sym (length-map t.objects (λ (r : RuleValue). let x : Task = (r, required_of t r) in x))) past))
 
 -- the modules of one more object
 pub more_modules : (kept : List (List ℕ)) (t : TableValue) (index : ℕ) (rule : RuleValue) (required : List (List ℕ × List ℕ)) (modules : List ModuleValue) →

@@ -1,4 +1,5 @@
 use Rattle.std.proofs.Common.{rules, ◌≡◌, ℕ, ◌<◌, [], ◌∷◌, length, map, Some, subst, sym, ap, ◌∙◌, arith, slice_get, length-append}
+use Rattle.std.proofs.lemmas.List.{length-map}
 use Rattle.ninja_text.specs.Failure.{ForFault}
 use Rattle.scan_docs.specs.Scan.{RuleValue}
 use Rattle.module_table.specs.TableValue.{TableValue}
@@ -35,3 +36,7 @@ loop-object-preserved g c =
       each = subst (λ xs. EachMap t written (map (λ m. m.items) xs)) (sym items)
           (more_maps t written c.loop-object.texts.items c.loop-object.object c.in-Ok.text c.loop-object.invariant.count c.loop-object.invariant.each c.in-Ok.ensures.text);
     }
+
+pub returns-clause-maps : goal.returns-clause-maps
+returns-clause-maps g c =
+    (omega (arith, length-map c.loop-object.texts.items (λ m. m.items), c.loop-object.invariant.count, c.loop-object-test.false, c.loop-object.auto.object-end, ap length c.objects-object-end.ensures.objects), c.loop-object.invariant.each)

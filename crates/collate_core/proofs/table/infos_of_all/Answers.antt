@@ -1,9 +1,25 @@
 use Rattle.std.proofs.Common.{ℕ, ◌+◌, map, subst, sym}
-use Rattle.collate_core.proofs.Scans.{InfosSoFar, lent_infos}
+use Rattle.collate_core.specs.Refusals.{IsInfoRefusal}
+use Rattle.collate_core.proofs.Scans.{InfosSoFar, all_accepted, all_infos, lent_infos, refused_info}
 use Rattle.collate_core.proofs.table.infos_of_all.Goals as goal
+
+pub returns-in-Err-Fault-clause-refused : goal.returns-in-Err-Fault-clause-refused
+returns-in-Err-Fault-clause-refused c =
+    let i : ℕ = c.loop-index.index in
+    subst (IsInfoRefusal (map (λ info. info.now) c.args.documents.now) i) (sym c.in-Err-Fault.fault-is)
+    (refused_info (λ info. info.now) c.args.documents.now i _ c.loop-index.infos.items c.in-Err-Fault.field-0 c.in-Err-Fault.fault c.loop-index-test.true c.loop-index.invariant c.in-Err-Fault.field-0-is c.in-Err-Fault.ensures.refused)
 
 pub loop-index-preserved : goal.loop-index-preserved
 loop-index-preserved c =
     let i : ℕ = c.loop-index.index in
     subst (InfosSoFar (map (λ info. info.now) c.args.documents.now) (i + 1)) (sym c.in_ok-push-in-Ok.ensures.items)
     (lent_infos (λ info. info.now) c.args.documents.now i _ c.loop-index.infos.items c.in-Ok.info c.loop-index-test.true c.loop-index.invariant c.in-Ok.ensures.accepted c.in-Ok.ensures.info c.in-Ok.ensures.text)
+
+pub returns-clause-accepted : goal.returns-clause-accepted
+returns-clause-accepted c = all_accepted (λ info. info.now) c.args.documents.now c.loop-index.index c.loop-index.infos.items c.loop-index-test.false c.loop-index.invariant
+
+pub returns-clause-infos : goal.returns-clause-infos
+returns-clause-infos c = all_infos (λ info. info.now) c.args.documents.now c.loop-index.index c.loop-index.infos.items c.loop-index-test.false c.loop-index.invariant
+
+pub returns-clause-text : goal.returns-clause-text
+returns-clause-text c = c.loop-index.invariant.text

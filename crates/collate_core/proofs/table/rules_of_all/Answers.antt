@@ -1,7 +1,7 @@
 use Rattle.std.proofs.Common.{ℕ, ◌+◌, ◌<◌, ◌≤◌, List, ◌++◌, length, map, subst, sym, arith, length-append}
 use Rattle.scan_docs.specs.Scan.{RuleValue}
 use Rattle.collate_core.specs.Refusals.{IsScanRefusal}
-use Rattle.collate_core.proofs.Scans.{ScansSoFar, lent_scans, past_limit, refused_scan}
+use Rattle.collate_core.proofs.Scans.{ScansSoFar, all_scans, rules_of_scans, lent_scans, past_limit, refused_scan}
 use Rattle.collate_core.proofs.table.rules_of_all.Goals as goal
 
 pub returns-then-len-clause-refused : goal.returns-then-len-clause-refused
@@ -25,3 +25,12 @@ loop-index-preserved c =
     let short : length (rules ++ more) ≤ 65536 = omega (arith, length-append rules more, c.loop-index.invariant.short, c.if-len.false, c.len.ensures, c.len-in-Ok.ensures) in
     subst (ScansSoFar c.args.setting.now (map (λ scan. scan.now) c.args.scans.now) (i + 1)) (sym c.in_ok-append-in-Ok.ensures.items)
     (lent_scans (λ scan. scan.now) c.args.scans.now i _ c.args.setting.now rules more c.loop-index-test.true c.loop-index.invariant c.in-Ok.ensures.accepted c.in-Ok.ensures.rules c.in-Ok.ensures.text short)
+
+pub returns-clause-accepted : goal.returns-clause-accepted
+returns-clause-accepted c = all_scans (λ scan. scan.now) c.args.scans.now c.loop-index.index c.args.setting.now c.loop-index.rules.items c.loop-index-test.false c.loop-index.invariant
+
+pub returns-clause-rules : goal.returns-clause-rules
+returns-clause-rules c = rules_of_scans (λ scan. scan.now) c.args.scans.now c.loop-index.index c.args.setting.now c.loop-index.rules.items c.loop-index-test.false c.loop-index.invariant
+
+pub returns-clause-text : goal.returns-clause-text
+returns-clause-text c = c.loop-index.invariant.text
