@@ -1,16 +1,28 @@
-use Rattle.std.proofs.Common.{◌≡◌, ◌∙◌, ◌++◌, ◌∷◌, [], ap, get_or, map, slice_get, sym, take, Some, List, ℕ}
+use Rattle.std.proofs.Common.{◌≡◌, ◌∙◌, ◌++◌, ◌∷◌, [], ap, arith, get_or, length, map, slice_get, sym, take, Some, List, ℕ}
 use Rattle.std.specs.Option.{option_map}
 use Rattle.std.proofs.lemmas.List.{map-append}
 use Rattle.std.proofs.lemmas.Option.{slice_get-get_or}
 use Rattle.module_table.specs.Modules.{Provision, provisions}
 use Rattle.module_table.specs.inner.Indexed.{pair_at}
 use Rattle.module_table.specs.inner.Views.{provision_of}
+use Rattle.module_table.proofs.IndexRows.{take_all}
 use Rattle.module_table.proofs.Places.{to_map}
 use Rattle.module_table.proofs.Repetitions.{take_next}
+use Rattle.module_table.proofs.Rings.{length_mapped}
 use Rattle.module_table.proofs.pairs.pairs_at.Goals as goal
 
 abbrev pair : Provision → List ℕ × List ℕ
 pair p = (p.name, p.file)
+
+pub loop-index-init : goal.loop-index-init
+loop-index-init g c = ap (map (λ p. Some p)) c.in_ok-pairs.ensures.items
+
+pub module_at-requires : goal.module_at-requires
+module_at-requires g c =
+    let inside = c.requires c.loop-index.index-index 0 c.loop-index-test.true in
+    let long = length_mapped provision_of c.provided-provided.result.now in
+    let same = ap length c.provided-provided.ensures.provisions in
+    omega (arith, inside, long, same)
 
 pub loop-index-preserved : goal.loop-index-preserved
 loop-index-preserved g c =
@@ -28,3 +40,9 @@ loop-index-preserved g c =
     ∙ ap (λ xs. xs ++ Some copied ∷ []) c.loop-index.invariant
     ∙ ap (λ x. map (pair_at ps) (take i indexes) ++ x ∷ []) same
     ∙ sym (ap (map (pair_at ps)) (take_next indexes i v at) ∙ map-append (pair_at ps) (take i indexes) (v ∷ []))
+
+pub returns : goal.returns
+returns g c =
+    let indexes = c.args.indexes.now in
+    let all = take_all indexes c.loop-index.index-index c.loop-index-test.false in
+    c.loop-index.invariant ∙ ap (map (pair_at (provisions c.args.modules.now))) all
