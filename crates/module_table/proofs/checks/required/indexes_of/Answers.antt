@@ -1,10 +1,9 @@
-use Rattle.std.proofs.Common.{◌≡◌, ◌∙◌, ◌≤◌, ◌++◌, ◌∷◌, [], ap, arith, length, map, sym, refl, take, slice_get, Some}
-use Rattle.std.proofs.lemmas.List.{map-append}
+use Rattle.std.proofs.Common.{◌≡◌, ◌∙◌, ◌≤◌, ap, arith, length, map, sym, refl, take, slice_get, Some}
 use Rattle.std.proofs.lemmas.Option.{slice_get_read}
 use Rattle.scan_docs.specs.Scan.{RuleValue}
 use Rattle.module_table.specs.declared.fault.TableFault.TheVariants.{ModuleUnknown}
 use Rattle.module_table.proofs.IndexRows.{take_all}
-use Rattle.module_table.proofs.Repetitions.{in_take, take_next}
+use Rattle.module_table.proofs.Repetitions.{in_take}
 use Rattle.module_table.proofs.ReportLemmas.{in_row}
 use Rattle.module_table.proofs.checks.required.indexes_of.Goals as goal
 
@@ -27,18 +26,6 @@ returns-in-None-clause-fault g c =
       },
       ap (λ name. ModuleUnknown name c.args.object) c.in_ok-name-in-None.ensures,
     )
-
-pub loop-required-preserved : goal.loop-required-preserved
-loop-required-preserved g c =
-    let keys = c.args.names.now.keys in
-    let required = c.args.rule.now.required in
-    let i = c.loop-required.required-index in
-    let list : c.deref-required-items.result.now ≡ required = c.deref-required-items.ensures.value ∙ ap (λ (r : RuleValue). r.required) c.rule.view_is in
-    let at = ap (λ xs. slice_get xs i) (sym list) ∙ slice_get_read c.deref-required-items.result.now _ i c.required-item.result refl c.loop-required-test.true c.required-item.is in
-    ap (map (slice_get keys)) c.in_ok-push-in-Some.ensures.items ∙ map-append (slice_get keys) c.loop-required.row.items _
-    ∙ ap (λ xs. xs ++ slice_get keys c.in-Some.index ∷ []) c.loop-required.invariant
-    ∙ ap (λ x. map (λ name. Some name) (take i required) ++ x ∷ []) c.in-Some.ensures.found
-    ∙ sym (ap (map (λ name. Some name)) (take_next required i c.required-item.result at) ∙ map-append (λ name. Some name) (take i required) _)
 
 pub returns-clause-ok : goal.returns-clause-ok
 returns-clause-ok g c =
