@@ -231,9 +231,24 @@ pub(crate) fn files_of(
         maps,
     } = collated.into_parts();
     let mut files = map_files(alloc, &objects, maps)?;
-    files.push((String::from_str(alloc, &spec.info)?, info_text))?;
-    files.push((String::from_str(alloc, &spec.dyndep)?, dyndep_text))?;
+    push_file(alloc, &mut files, spec.info.as_str(), info_text)?;
+    push_file(alloc, &mut files, spec.dyndep.as_str(), dyndep_text)?;
     Ok(files)
+}
+
+/// Puts a file of this name behind those that are there.
+fn push_file(
+    alloc: Global,
+    files: &mut Vec<(String, Vec<u8>)>,
+    name: &str,
+    text: Vec<u8>,
+) -> Result<(), AllocError>
+    ensures { OnOk result (map file_value files.new.items
+        ≡ map file_value files.old.items ++ (name.now, text.items) ∷ []) }
+{
+    let name = String::from_str(alloc, name)?;
+    files.push((name, text))?;
+    Ok(())
 }
 
 /// The map files of these objects, where there are maps.
