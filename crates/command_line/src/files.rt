@@ -1,9 +1,10 @@
 //! The files that a task reads besides its own, and those that it writes.
 
-ghost use Rattle.std.specs.Prelude.{◌≡◌, map, take, length, string_bytes, All, IfOk};
+ghost use Rattle.std.specs.Prelude.{◌≡◌, ◌++◌, map, option_map, take, length, string_bytes, All, IfOk};
 ghost use Rattle.std.specs.Fn.{FnReturnsAt, FnReturnsAtPair};
 ghost use Rattle.command_line.specs.Tasks.{task_value};
 ghost use Rattle.commands.specs.Answers.{file_value};
+ghost use Rattle.commands.specs.CollateCommand.{list_of};
 ghost use Rattle.command_line.specs.Files.{NamesIn, NamesInProject, NamesInTarget, NamesInTargets, NamesOf, FurtherNamesOf, IsRead, EndsReading, IsWritten};
 
 use crate::arguments::Task;
@@ -89,14 +90,7 @@ fn names_in_target(alloc: Global, bytes: &[u8]) -> Result<Vec<String>, AllocErro
     ensures { IfOk result (λ names. NamesInTarget bytes.now (map string_bytes names.items)) }
 {
     match spec_read(alloc, bytes) {
-        Ok(spec) => {
-            let mut names = spec.scans;
-            let edges = spec.edges;
-            if let Some(edges) = edges {
-                names.push(edges)?;
-            }
-            Ok(names)
-        }
+        Ok(spec) => with_listing(spec.scans, spec.edges),
         Err(Failure::Memory) => Err(AllocError),
         Err(Failure::Fault(_)) => Ok(Vec::new(alloc)),
     }
@@ -107,19 +101,37 @@ fn names_in(alloc: Global, bytes: &[u8]) -> Result<Vec<String>, AllocError>
     ensures { IfOk result (λ names. NamesIn bytes.now (map string_bytes names.items)) }
 {
     match spec_read(alloc, bytes) {
-        Ok(spec) => {
-            let mut names = spec.scans;
-            let mut linked = spec.linked;
-            let edges = spec.edges;
-            names.append(&mut linked)?;
-            if let Some(edges) = edges {
-                names.push(edges)?;
-            }
-            Ok(names)
-        }
+        Ok(spec) => with_infos(spec.scans, spec.linked, spec.edges),
         Err(Failure::Memory) => Err(AllocError),
         Err(Failure::Fault(_)) => Ok(Vec::new(alloc)),
     }
+}
+
+/// The names of scan documents, of infos, and of a listing of edges, if there is one.
+fn with_infos(
+    scans: Vec<String>,
+    infos: Vec<String>,
+    edges: Option<String>,
+) -> Result<Vec<String>, AllocError>
+    ensures { IfOk result (λ names. map string_bytes names.items ≡ map string_bytes scans.items
+        ++ (map string_bytes infos.items ++ list_of (option_map string_bytes edges))) }
+{
+    let mut names = scans;
+    let mut infos = infos;
+    names.append(&mut infos)?;
+    with_listing(names, edges)
+}
+
+/// The names of files, and of a listing of edges, if there is one.
+fn with_listing(names: Vec<String>, edges: Option<String>) -> Result<Vec<String>, AllocError>
+    ensures { IfOk result (λ all. map string_bytes all.items
+        ≡ map string_bytes names.items ++ list_of (option_map string_bytes edges)) }
+{
+    let mut names = names;
+    if let Some(edges) = edges {
+        names.push(edges)?;
+    }
+    Ok(names)
 }
 
 /// The files of these names, read in order by this call, up to the first that can't be read.
