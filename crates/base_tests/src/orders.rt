@@ -1,6 +1,6 @@
-//! Small graphs against lists that are known, and large ones. All graphs of up to three nodes are
-//! given to the built program by tests/rows, against a plain search.
-ghost use Rattle.std.specs.Prelude.{◌<◌, ◌↔◌, length, All, IsTrue};
+//! Searches one after the other, and large graphs. All graphs of up to three nodes are given to the
+//! built program by tests/rows, against a plain search.
+ghost use Rattle.std.specs.Prelude.{◌≡◌, ◌<◌, ◌↔◌, length, All, IsTrue};
 ghost use Rattle.dep_order.specs.Needs.{NeedsAreNodes};
 ghost use Rattle.dep_order.specs.Rows.{rows};
 
@@ -37,180 +37,156 @@ fn sorting_of(alloc: Global, needs: Vec<Vec<usize>>) -> Result<Option<Sorting>, 
     }
 }
 
-/// What the node reaches by these rows, or none where a need or itself is no node.
-fn reach_of(
+/// Whether the node reaches these by these rows.
+fn reaches(
     alloc: Global,
     needs: Vec<Vec<usize>>,
     from: usize,
-) -> Result<Option<Vec<usize>>, AllocError> {
+    wanted: &[usize],
+) -> Result<bool, AllocError> {
     if are_nodes(needs.as_slice()) && from < needs.len() {
-        Ok(Some(reach(alloc, &Digraph::new(needs), from)?))
+        Ok(reach(alloc, &Digraph::new(needs), from)?.as_slice() == wanted)
     } else {
-        Ok(None)
+        Ok(false)
     }
+}
+
+/// Puts rows behind those that are there.
+fn push_rows(
+    alloc: Global,
+    needs: &mut Vec<Vec<usize>>,
+    rows: &[&[usize]],
+) -> Result<(), AllocError> {
+    for row in rows {
+        needs.push(Vec::from_slice(alloc, row)?)?;
+    }
+    Ok(())
 }
 
 /// The rows as vectors.
 fn rows_of(alloc: Global, rows: &[&[usize]]) -> Result<Vec<Vec<usize>>, AllocError> {
     let mut needs = Vec::new(alloc);
-    for row in rows {
-        needs.push(Vec::from_slice(alloc, row)?)?;
-    }
+    push_rows(alloc, &mut needs, rows)?;
     Ok(needs)
 }
 
-/// The order of these rows, if they have one.
-fn order_of(alloc: Global, needs: Vec<Vec<usize>>) -> Result<Option<Vec<usize>>, AllocError> {
-    match sorting_of(alloc, needs)? {
-        Some(Sorting::Order(nodes)) => Ok(Some(nodes)),
-        _ => Ok(None),
-    }
-}
-
-/// The cycle of these rows, if they have one.
-fn cycle_of(alloc: Global, needs: Vec<Vec<usize>>) -> Result<Option<Vec<usize>>, AllocError> {
-    match sorting_of(alloc, needs)? {
-        Some(Sorting::Cycle(nodes)) => Ok(Some(nodes)),
-        _ => Ok(None),
-    }
-}
-
-fn is_order(alloc: Global, rows: &[&[usize]], want: &[usize]) -> Result<bool, AllocError> {
-    match order_of(alloc, rows_of(alloc, rows)?)? {
-        Some(nodes) => Ok(nodes.as_slice() == want),
-        None => Ok(false),
-    }
-}
-
-fn is_cycle(alloc: Global, rows: &[&[usize]], want: &[usize]) -> Result<bool, AllocError> {
-    match cycle_of(alloc, rows_of(alloc, rows)?)? {
-        Some(nodes) => Ok(nodes.as_slice() == want),
-        None => Ok(false),
-    }
-}
-
-fn is_reach(
+/// Whether a search finds these nodes.
+fn finds(
     alloc: Global,
-    rows: &[&[usize]],
-    from: usize,
-    want: &[usize],
-) -> Result<bool, AllocError> {
-    match reach_of(alloc, rows_of(alloc, rows)?, from)? {
-        Some(nodes) => Ok(nodes.as_slice() == want),
-        None => Ok(false),
+    reaching: &mut Reaching<'_>,
+    node: usize,
+    wanted: &[usize],
+) -> Result<bool, AllocError>
+    requires { node < length reaching.old }
+    ensures { reaching.new ≡ reaching.old }
+{
+    let mut found = reaching.from(alloc, node)?;
+    found.sort_unstable();
+    Ok(found.as_slice() == wanted)
+}
+
+/// Whether one search in a digraph of four nodes finds what the last one reaches, and then what the
+/// second one does.
+fn finds_both(alloc: Global, reaching: &mut Reaching<'_>) -> Result<bool, AllocError>
+    requires { length reaching.old ≡ 4 }
+{
+    if !finds(alloc, reaching, 3, &[0, 1, 2, 3])? {
+        return Ok(false);
     }
+    finds(alloc, reaching, 1, &[1, 2])
 }
 
-#[test]
-fn known_graphs_have_their_orders_and_cycles(rt: HostRuntime) -> Result<(), AllocError> {
-    let alloc = rt.alloc();
-    assert!(rt; is_order(alloc, &[], &[])?);
-    assert!(rt; is_order(alloc, &[&[2], &[], &[]], &[1, 2, 0])?);
-    assert!(rt; is_order(alloc, &[&[1, 1], &[]], &[1, 0])?);
-    assert!(rt; is_cycle(alloc, &[&[0]], &[0])?);
-    assert!(rt; is_cycle(alloc, &[&[1], &[2], &[3], &[1]], &[1, 2, 3])?);
-    assert!(rt; is_cycle(alloc, &[&[1, 2], &[2], &[0]], &[0, 2])?);
-    assert!(rt; is_cycle(alloc, &[&[2, 1], &[0], &[0]], &[0, 1])?);
-    Ok(())
-}
-
-#[test]
-fn known_nodes_are_reached(rt: HostRuntime) -> Result<(), AllocError> {
-    let alloc = rt.alloc();
-    assert!(rt; is_reach(alloc, &[&[1], &[2], &[], &[0]], 0, &[0, 1, 2])?);
-    assert!(rt; is_reach(alloc, &[&[0]], 0, &[0])?);
-    Ok(())
-}
-
-/// What these nodes reach by these rows, one after the other, or none where one is no node.
-fn reaches_of(
-    alloc: Global,
-    rows: &[&[usize]],
-    nodes: &[usize],
-) -> Result<Option<Vec<Vec<usize>>>, AllocError> {
-    let needs = rows_of(alloc, rows)?;
-    if !are_nodes(needs.as_slice()) {
-        return Ok(None);
+/// The same of four rows.
+fn finds_both_of(alloc: Global, needs: Vec<Vec<usize>>) -> Result<bool, AllocError> {
+    if !are_nodes(needs.as_slice()) || needs.len() != 4 {
+        return Ok(false);
     }
-    let count = needs.len();
     let graph = Digraph::new(needs);
     let mut reaching = Reaching::new(alloc, &graph)?;
-    let mut all = Vec::new(alloc);
-    for node in nodes {
-        if *node >= count {
-            return Ok(None);
-        }
-        let mut reached = reaching.from(alloc, *node)?;
-        reached.sort_unstable();
-        all.push(reached)?;
-    }
-    Ok(Some(all))
+    finds_both(alloc, &mut reaching)
 }
 
 #[test]
 fn one_search_finds_nothing_of_the_search_before(rt: HostRuntime) -> Result<(), AllocError> {
-    let alloc = rt.alloc();
-    let rows: [&[usize]; 4] = [&[1], &[2], &[], &[0, 1]];
-    let all = reaches_of(alloc, &rows, &[3, 1, 2, 0])?;
-    let want = rows_of(alloc, &[&[0, 1, 2, 3], &[1, 2], &[2], &[0, 1, 2]])?;
-    assert!(rt; all == Some(want));
+    let needs = rows_of(rt.alloc(), &[&[1], &[2], &[], &[0, 1]])?;
+    assert!(rt; finds_both_of(rt.alloc(), needs)?);
     Ok(())
 }
 
-/// Node i needs node i + 1, and the last one needs the node `back`, if it is one.
-fn chain(alloc: Global, count: usize, back: usize) -> Result<Vec<Vec<usize>>, AllocError> {
+/// What a node of a chain needs: the next one, and the last of them this one, if any.
+fn next_of(count: usize, last: Option<usize>, node: usize) -> Option<usize> {
+    if node.saturating_add(1) < count {
+        Some(node + 1)
+    } else {
+        last
+    }
+}
+
+/// Node i needs node i + 1, and the last one needs this one, if any.
+fn chain(alloc: Global, count: usize, last: Option<usize>) -> Result<Vec<Vec<usize>>, AllocError> {
     let mut needs = Vec::new(alloc);
     for node in 0..count {
         let mut row = Vec::new(alloc);
-        if count - node > 1 {
-            row.push(node + 1)?;
-        } else if back < count {
-            row.push(back)?;
+        if let Some(needed) = next_of(count, last, node) {
+            row.push(needed)?;
         }
         needs.push(row)?;
     }
     Ok(needs)
 }
 
-/// A line of so many nodes, which leads from one ring of two to another: these four have the
-/// highest numbers.
-fn bridge(alloc: Global, count: usize) -> Result<Vec<Vec<usize>>, AllocError>
-    requires { count < 65536 }
-{
-    let mut needs = chain(alloc, count, count)?;
-    if let Some(last) = needs.last_mut() {
-        last.push(count + 2)?;
-    }
-    needs.push(vec![in alloc; count + 1]?)?;
-    needs.push(vec![in alloc; count, 0]?)?;
-    needs.push(vec![in alloc; count + 3]?)?;
-    needs.push(vec![in alloc; count + 2]?)?;
+/// A line of 65,532 nodes, which leads from one ring of two to another: these four have the highest
+/// numbers.
+fn bridge(alloc: Global) -> Result<Vec<Vec<usize>>, AllocError> {
+    let mut needs = chain(alloc, 65532, Some(65534))?;
+    push_rows(
+        alloc,
+        &mut needs,
+        &[&[65533], &[65532, 0], &[65535], &[65534]],
+    )?;
     Ok(needs)
 }
 
-/// How many nodes there are, and the first of them.
-fn ends_of(nodes: &[usize]) -> (usize, Option<usize>) {
-    (nodes.len(), nodes.first().copied())
+/// Whether it is an order of so many nodes that begins with these.
+fn is_order(sorting: &Option<Sorting>, count: usize, first: &[usize]) -> bool {
+    match sorting {
+        Some(Sorting::Order(nodes)) => nodes.len() == count && nodes.starts_with(first),
+        _ => false,
+    }
+}
+
+/// Whether it is a cycle of so many nodes that begins with these.
+fn is_cycle(sorting: &Option<Sorting>, count: usize, first: &[usize]) -> bool {
+    match sorting {
+        Some(Sorting::Cycle(nodes)) => nodes.len() == count && nodes.starts_with(first),
+        _ => false,
+    }
 }
 
 #[test]
-fn large_graphs_are_sorted_without_deep_calls(rt: HostRuntime) -> Result<(), AllocError> {
-    let alloc = rt.alloc();
-    let line = order_of(alloc, chain(alloc, 65536, 65536)?)?;
-    assert!(rt; line.map(|nodes| ends_of(nodes.as_slice())) == Some((65536, Some(65535))));
-    let ring = cycle_of(alloc, chain(alloc, 65536, 0)?)?;
-    assert!(rt; ring.map(|nodes| ends_of(nodes.as_slice())) == Some((65536, Some(0))));
+fn a_long_line_is_sorted_without_deep_calls(rt: HostRuntime) -> Result<(), AllocError> {
+    let line = sorting_of(rt.alloc(), chain(rt.alloc(), 65536, None)?)?;
+    assert!(rt; is_order(&line, 65536, &[65535, 65534]));
     Ok(())
 }
 
 #[test]
-fn nodes_that_only_lead_to_cycles_are_passed_over_at_once(
-    rt: HostRuntime,
-) -> Result<(), AllocError> {
-    let alloc = rt.alloc();
-    let tail = cycle_of(alloc, chain(alloc, 65536, 65535)?)?;
-    assert!(rt; tail == Some(vec![in alloc; 65535]?));
-    let rings = cycle_of(alloc, bridge(alloc, 65532)?)?;
-    assert!(rt; rings == Some(vec![in alloc; 65532, 65533]?));
+fn a_long_ring_is_found_without_deep_calls(rt: HostRuntime) -> Result<(), AllocError> {
+    let ring = sorting_of(rt.alloc(), chain(rt.alloc(), 65536, Some(0))?)?;
+    assert!(rt; is_cycle(&ring, 65536, &[0, 1]));
+    Ok(())
+}
+
+#[test]
+fn a_line_to_a_cycle_is_passed_over_at_once(rt: HostRuntime) -> Result<(), AllocError> {
+    let cycle = sorting_of(rt.alloc(), chain(rt.alloc(), 65536, Some(65535))?)?;
+    assert!(rt; is_cycle(&cycle, 1, &[65535]));
+    Ok(())
+}
+
+#[test]
+fn a_line_between_cycles_is_passed_over_at_once(rt: HostRuntime) -> Result<(), AllocError> {
+    let cycle = sorting_of(rt.alloc(), bridge(rt.alloc())?)?;
+    assert!(rt; is_cycle(&cycle, 2, &[65532, 65533]));
     Ok(())
 }

@@ -1,62 +1,80 @@
 //! Worked dyndep files, whose growths of memory `tests/growths` refuses in turn. A test answers
-//! `AllocError` where a call answered that memory was refused, and nowhere else; every other answer
-//! has to be the example's.
+//! `AllocError` or `Failure::Memory` where a call answered that memory was refused, and nowhere
+//! else; every other answer has to be the example's.
 
-use super::reading::{answered, read_bytewise};
-use super::{TWO_STATEMENTS, only_output, text_of, two_statements, written};
-use dyndep_file::read_all;
-use ninja_text::Counted;
+use super::reading::{answers_in_pieces, is_answer, line_fault};
+use super::{Row, TWO_ROWS, TWO_STATEMENTS, dyndep_of, text_of};
+use dyndep_file::{LineFault, WriteFault, read_all, write};
+use ninja_text::{Counted, Failure};
+use std::alloc::{AllocError, Global};
 use std::test::Fail;
-
-/// The two statements, as they are listed.
-const LISTED: &[u8] = b"a.o +mod/A.bmi <mod/B.bmi !\nb.o +mod/B.bmi !\n";
 
 /// A reader that answered that memory was refused answers so again.
 #[test]
 fn reading_byte_by_byte(rt: HostRuntime) -> Result<(), Fail> {
-    let found = read_bytewise(rt.alloc(), TWO_STATEMENTS)?;
-    assert!(rt; found.as_slice() == LISTED);
+    assert!(rt; answers_in_pieces(rt.alloc(), TWO_STATEMENTS, 1, Ok(TWO_STATEMENTS))?);
     Ok(())
 }
 
 #[test]
 fn reading_a_text_that_is_refused(rt: HostRuntime) -> Result<(), Fail> {
     let text = b"ninja_dyndep_version = 1\nbuild a.o | mod/A.bmi: dyndep | $\n  mod/B.bmi || x\n";
-    let found = read_bytewise(rt.alloc(), text)?;
-    assert!(rt; found.as_slice() == b"line 2: Y13 OrderOnly\n".as_slice());
+    let wanted = Err(line_fault(2, LineFault::OrderOnly));
+    assert!(rt; answers_in_pieces(rt.alloc(), text, 1, wanted)?);
     Ok(())
 }
 
 #[test]
 fn reading_to_the_end(rt: HostRuntime) -> Result<(), Fail> {
     let mut input = Counted::new(TWO_STATEMENTS);
-    let found = answered(rt.alloc(), read_all(rt.alloc(), &mut input))?;
-    assert!(rt; found.as_slice() == LISTED);
+    let answer = read_all(rt.alloc(), &mut input);
+    assert!(rt; is_answer(rt.alloc(), answer, Ok(TWO_STATEMENTS))?);
     Ok(())
+}
+
+/// What is written of these rows to a vector that has room for so many bytes, or the failure, where
+/// nothing is.
+fn written(alloc: Global, rows: &[Row], room: usize) -> Result<Vec<u8>, Failure<WriteFault>> {
+    let mut out = Counted::new(Vec::with_capacity(alloc, room)?);
+    let dyndep = dyndep_of(alloc, rows)?;
+    let answer = write(alloc, &dyndep, &mut out);
+    let bytes = out.into_inner();
+    match answer {
+        Err(failure) if bytes.is_empty() => Err(failure),
+        _ => Ok(bytes),
+    }
 }
 
 /// Where memory was refused, nothing was written.
 #[test]
 fn writing(rt: HostRuntime) -> Result<(), Fail> {
-    let found = written(
-        rt.alloc(),
-        &two_statements(rt.alloc())?,
-        TWO_STATEMENTS.len(),
-    )?;
+    let found = written(rt.alloc(), TWO_ROWS, TWO_STATEMENTS.len())?;
     assert!(rt; found.as_slice() == TWO_STATEMENTS);
     Ok(())
 }
 
 #[test]
 fn a_text_in_memory(rt: HostRuntime) -> Result<(), Fail> {
-    let found = text_of(rt.alloc(), &two_statements(rt.alloc())?)?;
+    let found = text_of(rt.alloc(), TWO_ROWS)?;
     assert!(rt; found.as_slice() == TWO_STATEMENTS);
     Ok(())
 }
 
+/// Whether nothing is written for this fault.
+fn is_unwritten(alloc: Global, rows: &[Row], fault: WriteFault) -> Result<bool, AllocError> {
+    match written(alloc, rows, 0) {
+        Ok(_bytes) => Ok(false),
+        Err(Failure::Memory) => Err(AllocError),
+        Err(Failure::Fault(found)) => Ok(found == fault),
+    }
+}
+
 #[test]
 fn a_path_without_a_spelling(rt: HostRuntime) -> Result<(), Fail> {
-    let found = written(rt.alloc(), &only_output(rt.alloc(), b"a|b")?, 0)?;
-    assert!(rt; found.as_slice() == b"Y1 Unwritable statement 0 path 0".as_slice());
+    let fault = WriteFault::Unwritable {
+        statement: 0,
+        path: 0,
+    };
+    assert!(rt; is_unwritten(rt.alloc(), &[(b"a|b", &[], &[])], fault)?);
     Ok(())
 }

@@ -1,78 +1,55 @@
-//! Rows of assignments: where the name and the value stand, and what the value stands for.
-use ninja_text::{Assignment, Line, LineCutter, assignment, place};
-use std::alloc::{AllocError, Global};
-use std::test::Fail;
+//! Where the name and the value of an assignment stand. What values stand for is asked of the built
+//! program, in rows of tests/rows.
+use ninja_text::{Line, LineCutter, assignment};
+use std::alloc::Global;
 
-/// Appends the name and its index.
-fn push_name(alloc: Global, found: &Assignment, out: &mut Vec<u8>) -> Result<(), AllocError> {
-    out.extend_from_slice(found.name())?;
-    let place = format!(in alloc; " {} ", found.name_start())?;
-    out.extend_from_slice(place.as_bytes())
-}
+/// The index of a name, the name, and the value's bytes.
+type Parts = Option<(usize, &'static [u8], &'static [u8])>;
 
-/// Appends the raw value and the value.
-fn push_value(found: &Assignment, out: &mut Vec<u8>) -> Result<(), AllocError> {
-    out.extend_from_slice(found.raw_value())?;
-    out.extend_from_slice(b" = ")?;
-    found.value_into(out)?;
-    out.extend_from_slice(b";\n")
-}
-
-/// Appends the assignment that a line is, or that it is none.
-fn push_assignment(alloc: Global, line: Line<'_>, out: &mut Vec<u8>) -> Result<(), Fail> {
+/// Whether the line is an assignment of these parts, or none.
+fn has_parts(line: Line<'_>, wanted: Parts) -> bool {
     if line.is_comment() {
-        out.extend_from_slice(b"comment\n")?;
-        return Ok(());
+        return false;
     }
-    match assignment(line)? {
-        Some(found) => {
-            push_name(alloc, &found, out)?;
-            push_value(&found, out)?
+    match (assignment(line), wanted) {
+        (Ok(Some(found)), Some((start, name, raw))) => {
+            found.name_start() == start && found.name() == name && found.raw_value() == raw
         }
-        None => out.extend_from_slice(b"none\n")?,
+        (Ok(None), None) => true,
+        _ => false,
     }
-    Ok(())
 }
 
-/// The assignment that a line is, its end included.
-fn assignment_of(alloc: Global, text: &[u8]) -> Result<Vec<u8>, Fail> {
-    let mut out = Vec::new(alloc);
+/// The same of a line with its end.
+fn is_assignment(alloc: Global, text: &[u8], wanted: Parts) -> bool {
     let mut cutter = LineCutter::new(alloc);
-    cutter.feed(text)?;
-    if let Some(line) = cutter.next_line()? {
-        push_assignment(alloc, line, &mut out)?;
+    let _ = cutter.feed(text);
+    match cutter.next_line() {
+        Ok(Some(line)) => has_parts(line, wanted),
+        _ => false,
     }
-    Ok(out)
-}
-
-/// What these lines are, one after another.
-fn assignments_of(alloc: Global, texts: &[&[u8]]) -> Result<Vec<u8>, Fail> {
-    let mut found = Vec::new(alloc);
-    for text in texts {
-        found.extend_from_slice(&assignment_of(alloc, text)?)?;
-    }
-    Ok(found)
 }
 
 #[test]
-fn a_binding_has_a_name_and_a_value_to_the_end_of_the_line(rt: HostRuntime) -> Result<(), Fail> {
-    let texts: &[&[u8]] = &[
-        b"  restat = 1\n",
-        b"  restat =\r\n",
-        b"ninja_dyndep_version=1.0-extra\n",
-        b"a = x | $: $$ \n",
-        b" $\n a.b-c_1$\n =$\r\n x $\n y \n",
+fn a_binding_has_a_name_and_a_value_to_the_end_of_the_line(rt: HostRuntime) {
+    let rows: &[(&[u8], Parts)] = &[
+        (b"  restat = 1\n", Some((2, b"restat", b"1"))),
+        (b"  restat =\r\n", Some((2, b"restat", b""))),
+        (
+            b"ninja_dyndep_version=1.0-extra\n",
+            Some((0, b"ninja_dyndep_version", b"1.0-extra")),
+        ),
+        (b"a = x | $: $$ \n", Some((0, b"a", b"x | $: $$ "))),
+        (
+            b" $\n a.b-c_1$\n =$\r\n x $\n y \n",
+            Some((4, b"a.b-c_1", b"x $\n y ")),
+        ),
+        (b"= 1\n", None),
+        (b"build a: dyndep = 1\n", None),
+        (b"restat\n", None),
+        (b"\n", None),
     ];
-    let wanted =
-        "restat 2 1 = 1;\nrestat 2  = ;\nninja_dyndep_version 0 1.0-extra = 1.0-extra;\na 0 x | $: $$  = x | : $ ;\na.b-c_1 4 x $\n y  = x y ;\n";
-    assert!(rt; assignments_of(rt.alloc(), texts)?.as_slice() == wanted.as_bytes());
-    Ok(())
-}
-
-#[test]
-fn without_a_name_or_a_sign_there_is_no_assignment(rt: HostRuntime) -> Result<(), Fail> {
-    let texts: &[&[u8]] = &[b"= 1\n", b"build a: dyndep = 1\n", b"restat\n", b"\n"];
-    let wanted = b"none\nnone\nnone\nnone\n".as_slice();
-    assert!(rt; assignments_of(rt.alloc(), texts)?.as_slice() == wanted);
-    Ok(())
+    for (text, wanted) in rows {
+        assert!(rt; is_assignment(rt.alloc(), text, *wanted));
+    }
 }

@@ -1,132 +1,168 @@
 //! Worked lines, words and paths, whose growths of memory `tests/growths` refuses in turn. A test
 //! answers `AllocError` or `Failure::Memory` where a call answered that memory was refused, and
-//! nowhere else; every other answer has to be the example's.
+//! nowhere else; every other answer has to be the example's. Where a call leaves all as it was, it
+//! is made a second time.
 
-use super::{push_answer, push_built};
-use ninja_text::{Failure, Line, LineCutter, Path, assignment, escape_into, place, words};
-use std::alloc::AllocError;
+use ninja_text::{
+    Failure, Line, LineCutter, Path, PathFault, assignment, escape_into, place, words,
+};
+use std::alloc::{AllocError, Global};
 use std::test::Fail;
 
-/// Feeds a byte, a second time where memory was refused, and writes the line that comes, with `;`
-/// behind it. It says whether the byte was taken.
-fn feed_byte(cutter: &mut LineCutter, byte: u8, out: &mut Vec<u8>) -> Result<bool, Fail> {
-    let mut taken = cutter.feed(&[byte]);
-    if taken == Err(Failure::Memory) {
-        taken = cutter.feed(&[byte]);
-    }
-    if let Some(line) = cutter.next_line()? {
-        out.extend_from_slice(line.text())?;
-        out.push(b';')?;
-    }
-    Ok(taken == Ok(1))
+/// Whether the piece is taken, if only the second time.
+fn takes(cutter: &mut LineCutter, piece: &[u8]) -> bool {
+    let taken = cutter.feed(piece);
+    taken == Ok(piece.len())
+        || taken == Err(Failure::Memory) && cutter.feed(piece) == Ok(piece.len())
 }
 
-/// Where memory was refused, the cutter is as before and goes on.
-#[test]
-fn lines_byte_by_byte(rt: HostRuntime) -> Result<(), Fail> {
-    let text = b"build a$\r\n  b.o: dyndep |@ a-longer-word\r\n# $\nbuild b\n".as_slice();
-    let lines = b"build a$\r\n  b.o: dyndep |@ a-longer-word;# $;build b;".as_slice();
-    let mut out = Vec::with_capacity(rt.alloc(), text.len())?;
-    let mut cutter = LineCutter::new(rt.alloc());
-    for byte in text {
-        assert!(rt; feed_byte(&mut cutter, *byte, &mut out)?);
+/// Whether these bytes are taken one by one, and then this line is lent.
+fn lends_bytewise(cutter: &mut LineCutter, bytes: &[u8], text: &[u8]) -> bool {
+    for byte in bytes {
+        if !takes(cutter, &[*byte]) {
+            return false;
+        }
     }
-    assert!(rt; out.as_slice() == lines);
-    Ok(())
+    match cutter.next_line() {
+        Ok(Some(line)) => line.text() == text,
+        _ => false,
+    }
+}
+
+#[test]
+fn lines_byte_by_byte(rt: HostRuntime) {
+    let mut cutter = LineCutter::new(rt.alloc());
+    let lines: &[(&[u8], &[u8])] = &[
+        (
+            b"build a$\r\n  b.o: dyndep |@ a-longer-word\r\n",
+            b"build a$\r\n  b.o: dyndep |@ a-longer-word",
+        ),
+        (b"# $\n", b"# $"),
+        (b"build b\n", b"build b"),
+    ];
+    for (bytes, text) in lines {
+        assert!(rt; lends_bytewise(&mut cutter, bytes, text));
+    }
 }
 
 /// What stands in a vector before something is appended.
 const BEFORE: &[u8] = b"was ";
 
-/// Appends the value of each token, a second time where memory was refused. Then the vector is as
-/// before.
-fn push_words(line: Line<'_>, out: &mut Vec<u8>) -> Result<bool, Fail> {
+/// Appends the value of the line's first token, and says whether there is one.
+fn appends_token(line: Line<'_>, out: &mut Vec<u8>) -> bool {
     if line.is_comment() {
-        return Ok(false);
+        return false;
     }
-    for token in words(line)? {
-        if token.value_into(out).is_err() {
-            if out.as_slice() != BEFORE {
-                return Ok(false);
-            }
-            token.value_into(out)?;
+    let first = match words(line) {
+        Ok(mut tokens) => tokens.next(),
+        Err(_fault) => None,
+    };
+    match first {
+        Some(token) => {
+            token.value_into(out).is_ok()
+                || out.as_slice() == BEFORE && token.value_into(out).is_ok()
         }
+        None => false,
     }
-    Ok(true)
+}
+
+/// The same of a line with its end.
+fn appends_token_of(alloc: Global, text: &[u8], out: &mut Vec<u8>) -> bool {
+    let mut cutter = LineCutter::new(alloc);
+    takes(&mut cutter, text)
+        && match cutter.next_line() {
+            Ok(Some(line)) => appends_token(line, out),
+            _ => false,
+        }
 }
 
 #[test]
 fn value_of_a_token(rt: HostRuntime) -> Result<(), Fail> {
-    let mut cutter = LineCutter::new(rt.alloc());
     let mut out = Vec::from_slice(rt.alloc(), BEFORE)?;
-    cutter.feed(b"a$ word$:of-some-length\n")?;
-    if let Some(line) = cutter.next_line()? {
-        assert!(rt; push_words(line, &mut out)?);
-    }
+    assert!(rt; appends_token_of(rt.alloc(), b"a$ word$:of-some-length\n", &mut out));
     assert!(rt; out.as_slice() == b"was a word:of-some-length".as_slice());
     Ok(())
 }
 
-/// Appends the value of the assignment, a second time where memory was refused. Then the vector is
-/// as before.
-fn push_value(line: Line<'_>, out: &mut Vec<u8>) -> Result<bool, Fail> {
+/// Appends the value of the assignment, and says whether the line is one.
+fn appends_value(line: Line<'_>, out: &mut Vec<u8>) -> bool {
     if line.is_comment() {
-        return Ok(false);
+        return false;
     }
-    let Some(found) = assignment(line)? else {
-        return Ok(false);
-    };
-    if found.value_into(out).is_err() {
-        if out.as_slice() != BEFORE {
-            return Ok(false);
+    match assignment(line) {
+        Ok(Some(found)) => {
+            found.value_into(out).is_ok()
+                || out.as_slice() == BEFORE && found.value_into(out).is_ok()
         }
-        found.value_into(out)?;
+        _ => false,
     }
-    Ok(true)
+}
+
+/// The same of a line with its end.
+fn appends_value_of(alloc: Global, text: &[u8], out: &mut Vec<u8>) -> bool {
+    let mut cutter = LineCutter::new(alloc);
+    takes(&mut cutter, text)
+        && match cutter.next_line() {
+            Ok(Some(line)) => appends_value(line, out),
+            _ => false,
+        }
 }
 
 #[test]
 fn value_of_an_assignment(rt: HostRuntime) -> Result<(), Fail> {
-    let mut cutter = LineCutter::new(rt.alloc());
     let mut out = Vec::from_slice(rt.alloc(), BEFORE)?;
-    cutter.feed(b"dyndep = a$ value of$:some-length\n")?;
-    if let Some(line) = cutter.next_line()? {
-        assert!(rt; push_value(line, &mut out)?);
-    }
+    let text = b"dyndep = a$ value of$:some-length\n";
+    assert!(rt; appends_value_of(rt.alloc(), text, &mut out));
     assert!(rt; out.as_slice() == b"was a value of:some-length".as_slice());
     Ok(())
 }
 
-/// Appends the spelling of a path, a second time where memory was refused. Then the vector is as
-/// before.
-fn push_spelling(out: &mut Vec<u8>) -> Result<bool, AllocError> {
-    if escape_into(b"my mods/$x:y/A.bmi", out).is_err() {
-        if out.as_slice() != BEFORE {
-            return Ok(false);
-        }
-        escape_into(b"my mods/$x:y/A.bmi", out)?;
-    }
-    Ok(true)
+/// Appends the spelling of a path.
+fn appends_spelling(out: &mut Vec<u8>) -> bool {
+    let path = b"my mods/$x:y/A.bmi";
+    escape_into(path, out).is_ok() || out.as_slice() == BEFORE && escape_into(path, out).is_ok()
 }
 
 #[test]
 fn spelling_of_a_path(rt: HostRuntime) -> Result<(), Fail> {
     let mut out = Vec::from_slice(rt.alloc(), BEFORE)?;
-    assert!(rt; push_spelling(&mut out)?);
+    assert!(rt; appends_spelling(&mut out));
     assert!(rt; out.as_slice() == b"was my$ mods/$$x$:y/A.bmi".as_slice());
     Ok(())
 }
 
+type Answer = Result<Path, Failure<PathFault>>;
+
+/// Whether the answer is this path.
+fn is_path(answer: Answer, wanted: &[u8]) -> Result<bool, Failure<PathFault>> {
+    Ok(answer?.bytes() == wanted)
+}
+
+/// Whether the answer is this fault.
+fn is_fault(answer: Answer, wanted: PathFault) -> Result<bool, AllocError> {
+    match answer {
+        Ok(_path) => Ok(false),
+        Err(Failure::Memory) => Err(AllocError),
+        Err(Failure::Fault(fault)) => Ok(fault == wanted),
+    }
+}
+
+/// Where a path is placed by a work directory and a build directory.
+fn placed(alloc: Global, work: &[u8], directory: &[u8], path: &[u8]) -> Answer {
+    let build = Path::of(alloc, directory)?;
+    if build.is_rooted() {
+        place(alloc, Some(work), Some(&build), path)
+    } else {
+        Ok(build)
+    }
+}
+
 #[test]
 fn canonical_paths(rt: HostRuntime) -> Result<(), Fail> {
-    let mut found = Vec::new(rt.alloc());
-    push_answer(
-        rt.alloc(),
-        &mut found,
-        Path::of(rt.alloc(), b"./obj//x/../a.o"),
-    )?;
-    push_answer(rt.alloc(), &mut found, Path::of(rt.alloc(), b"a|b/../c"))?;
-    assert!(rt; found.as_slice() == b"obj/a.o\nN3 at 1\n".as_slice());
+    let alloc = rt.alloc();
+    assert!(rt; is_path(Path::of(alloc, b"./obj//x/../a.o"), b"obj/a.o")?);
+    let unwritable = PathFault::Unwritable { place: 1 };
+    assert!(rt; is_fault(Path::of(alloc, b"a|b/../c"), unwritable)?);
     Ok(())
 }
 
@@ -137,16 +173,14 @@ fn copied_path(rt: HostRuntime) -> Result<(), Fail> {
     Ok(())
 }
 
+/// In a fault the index is that in the text that is read, work directory included.
 #[test]
 fn placed_paths(rt: HostRuntime) -> Result<(), Fail> {
-    let mut found = Vec::new(rt.alloc());
-    push_answer(
-        rt.alloc(),
-        &mut found,
-        place(rt.alloc(), Some(b"../w"), None, b"a.o"),
-    )?;
-    push_built(rt.alloc(), &mut found, b"/w", Some(b"/w/b"), b"../o/a.o")?;
-    push_built(rt.alloc(), &mut found, b"/w", Some(b"/w/b"), b"../..")?;
-    assert!(rt; found.as_slice() == b"../w/a.o\no/a.o\nN1 Empty\n".as_slice());
+    let alloc = rt.alloc();
+    assert!(rt; is_path(place(alloc, Some(b"../w"), None, b"a.o"), b"../w/a.o")?);
+    assert!(rt; is_path(placed(alloc, b"/w/b", b"/w", b"../o/a.o"), b"o/a.o")?);
+    assert!(rt; is_fault(placed(alloc, b"/w/b", b"/w", b"../.."), PathFault::Empty)?);
+    let unwritable = PathFault::Unwritable { place: 4 };
+    assert!(rt; is_fault(place(alloc, Some(b"/w"), None, b"a|b"), unwritable)?);
     Ok(())
 }
