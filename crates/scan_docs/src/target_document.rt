@@ -1,6 +1,6 @@
 //! Target documents.
 
-ghost use Rattle.std.specs.Prelude.{◌≡◌, [], Some, Ok, true, IfOk, IfErr, is_none, is_some, ◌||◌, map, string_bytes, option_map, option_copied};
+ghost use Rattle.std.specs.Prelude.{◌≡◌, ◌++◌, Some, Ok, true, IfOk, IfErr, is_none, is_some, ◌||◌, map, string_bytes, option_map, option_copied};
 ghost use Rattle.std.specs.List.{list_all};
 ghost use Rattle.std.specs.Option.{ForSome};
 ghost use Rattle.ninja_text.specs.Failure.{ForFault};
@@ -94,7 +94,6 @@ pub fn spec_read(alloc: Global, bytes: &[u8]) -> Result<TargetSpec, Failure<DocF
     read_spec(alloc, &tree)
 }
 
-#[tactic(auto, unfolding(crate::specs::TargetChecks::target_checks), using(crate::proofs::Each::failure_of_both))]
 fn read_spec(alloc: Global, tree: &Value<'_>) -> Result<TargetSpec, Failure<DocFault>>
     ensures { Answers (target_checks (view tree.now))
         (λ spec. IsTarget (view tree.now) spec) result }
@@ -102,22 +101,20 @@ fn read_spec(alloc: Global, tree: &Value<'_>) -> Result<TargetSpec, Failure<DocF
     read_head(tree)?;
     let target = read_target_name(alloc, tree)?;
     let (module_dir, module_ext, build_dir) = read_directories(alloc, tree)?;
-    let (scans, linked) = read_lists(alloc, tree)?;
-    let kept = read_private(alloc, tree)?;
-    let dyndep = read_dyndep(alloc, tree, build_dir.as_ref())?;
-    let (info, map, edges) = read_files(alloc, tree)?;
+    let read = read_inputs(alloc, tree)?;
+    let written = read_outputs(alloc, tree, build_dir.as_ref())?;
     Ok(TargetSpec {
         target,
         module_dir,
         module_ext,
         build_dir,
-        scans,
-        linked,
-        kept,
-        dyndep,
-        info,
-        map,
-        edges,
+        scans: read.scans,
+        linked: read.linked,
+        kept: read.kept,
+        dyndep: written.dyndep,
+        info: written.info,
+        map: written.map,
+        edges: written.edges,
     })
 }
 
@@ -193,18 +190,29 @@ fn read_build_dir(alloc: Global, tree: &Value<'_>) -> Result<Option<Path>, Failu
     }
 }
 
+/// The documents that are read, and the private modules.
+#[derive(Drop)]
+struct Inputs {
+    scans: Vec<String>,
+    linked: Vec<String>,
+    kept: Vec<Name>,
+}
+
 #[tactic(auto, unfolding(crate::specs::TargetChecks::list_checks))]
-fn read_lists(
-    alloc: Global,
-    tree: &Value<'_>,
-) -> Result<(Vec<String>, Vec<String>), Failure<DocFault>>
-    ensures { Answers (list_checks (view tree.now))
-        (λ found. (texts_of m.Scans (view tree.now) ≡ map string_bytes found.0.items)
-        × (texts_of m.Linked (view tree.now) ≡ map string_bytes found.1.items)) result }
+fn read_inputs(alloc: Global, tree: &Value<'_>) -> Result<Inputs, Failure<DocFault>>
+    ensures { Answers (list_checks (view tree.now) ++ kept_checks (view tree.now))
+        (λ found. (texts_of m.Scans (view tree.now) ≡ map string_bytes found.scans.items)
+        × (texts_of m.Linked (view tree.now) ≡ map string_bytes found.linked.items)
+        × (texts_of m.Private (view tree.now) ≡ found.kept.items)) result }
 {
     let scans = shape::texts(alloc, tree, Member::Scans, Place::Document)?;
     let linked = shape::texts(alloc, tree, Member::Linked, Place::Document)?;
-    Ok((scans, linked))
+    let kept = read_private(alloc, tree)?;
+    Ok(Inputs {
+        scans,
+        linked,
+        kept,
+    })
 }
 
 #[tactic(auto, unfolding(crate::specs::TargetChecks::kept_checks))]
@@ -228,6 +236,38 @@ fn read_names(alloc: Global, texts: &[String]) -> Result<Vec<Name>, Failure<DocF
         names.push(name)?;
     }
     Ok(names)
+}
+
+/// The files that are written, the form of the module maps, and the listing of edges.
+#[derive(Drop)]
+struct Outputs {
+    dyndep: String,
+    info: String,
+    map: Option<MapForm>,
+    edges: Option<String>,
+}
+
+fn read_outputs(
+    alloc: Global,
+    tree: &Value<'_>,
+    build: Option<&Path>,
+) -> Result<Outputs, Failure<DocFault>>
+    requires { ForSome (option_copied build) (λ path. is_rooted path ≡ true) }
+    ensures { build_dir (view tree.now) ≡ option_copied build.entry
+        → Answers (dyndep_checks (view tree.now) ++ file_checks (view tree.now))
+        (λ found. (text m.Dyndep (view tree.now) ≡ Some (string_bytes found.dyndep))
+        × (text m.Info (view tree.now) ≡ Some (string_bytes found.info))
+        × (map_form (view tree.now) ≡ found.map)
+        × (text m.Edges (view tree.now) ≡ option_map string_bytes found.edges)) result }
+{
+    let dyndep = read_dyndep(alloc, tree, build)?;
+    let (info, map, edges) = read_files(alloc, tree)?;
+    Ok(Outputs {
+        dyndep,
+        info,
+        map,
+        edges,
+    })
 }
 
 #[tactic(auto, unfolding(crate::specs::TargetChecks::dyndep_checks))]
