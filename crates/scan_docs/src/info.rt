@@ -83,7 +83,6 @@ pub fn info_read(alloc: Global, bytes: &[u8]) -> Result<Info, Failure<DocFault>>
     read_info(alloc, &tree)
 }
 
-#[tactic(auto, unfolding(crate::specs::InfoChecks::info_checks), using(crate::proofs::Each::failure_of_both))]
 fn read_info(alloc: Global, tree: &Value<'_>) -> Result<Info, Failure<DocFault>>
     ensures { Answers (info_checks (view tree.now)) (λ info. IsInfo (view tree.now) info) result }
 {
@@ -140,7 +139,6 @@ fn read_all_modules(
     Ok(found)
 }
 
-#[tactic(auto, unfolding(crate::specs::InfoChecks::module_checks), using(crate::proofs::Each::failure_of_both))]
 fn read_module(
     alloc: Global,
     with_visibility: bool,
