@@ -1,7 +1,7 @@
 -- Checks that are made one after another, and entries that are read one after another, each with its checks.
-use Rattle.std.proofs.Common.{◌≡◌, ℕ, suc, ◌+◌, ◌<◌, List, [], ◌∷◌, ◌++◌, map, length, take, drop, get_or, Bool, true, false, cond, Option, Some, None, append_assoc, refl, sym, ap, ◌∙◌, subst, add-one}
+use Rattle.std.proofs.Common.{◌≡◌, ℕ, suc, ◌+◌, ◌<◌, ◌≤◌, List, [], ◌∷◌, ◌++◌, map, length, take, drop, get_or, Bool, true, false, cond, Option, Some, None, append_assoc, refl, sym, ap, ◌∙◌, subst, add-one}
 use Rattle.std.proofs.Math.Seq.{drop-cons}
-use Rattle.std.proofs.lemmas.List.{get_or-map, take_more, length-map}
+use Rattle.std.proofs.lemmas.List.{get_or-map, take_more, take_all, at_drop_all, length-map}
 use Rattle.std.specs.List.{AllZip}
 use Rattle.std.specs.Option.{option_or}
 use Rattle.serde_json.specs.Data.{Data}
@@ -104,3 +104,7 @@ module _ {V T : Type 0} (g : V → Data) (checks : ℕ → Data → List Check) 
       → SoFar checks means (map g vs) i found → first_failure (each_from checks 0 (map g vs)) ≡ Some f
   refused_at i v f found lt is stops so_far =
       sym so_far.reported ∙ ap (λ ds. first_failure (each_from checks i ds)) (front g vs i v lt is) ∙ failure_before (checks i (g v)) (each_from checks (i + 1) (drop (i + 1) (map g vs))) f stops
+
+  pub all_read : (i : ℕ) (found : List T) → length vs ≤ i → SoFar checks means (map g vs) i found → (first_failure (each_from checks 0 (map g vs)) ≡ None) × AllZip means (map g vs) found
+  all_read i found le so_far = let all : length (map g vs) ≤ i = rw length-map le in
+      (sym so_far.reported ∙ at_drop_all (λ ds. first_failure (each_from checks i ds)) (map g vs) i all, subst (λ ds. AllZip means ds found) (take_all i (map g vs) all) so_far.read)

@@ -4,7 +4,7 @@ use Rattle.scan_docs.specs.Info.{IsRequirement}
 use Rattle.scan_docs.specs.InfoChecks.{requirement_checks}
 use Rattle.scan_docs.specs.declared.fault.Place.TheVariants as place
 use Rattle.scan_docs.specs.InfoChecks.{all_requirement_checks}
-use Rattle.scan_docs.proofs.Each.{one_more, refused_at}
+use Rattle.scan_docs.proofs.Each.{one_more, refused_at, all_read}
 use Rattle.scan_docs.proofs.info.read_all_requirements.Goals as goal
 
 pub returns-in_err-pair : goal.returns-in_err-pair
@@ -16,3 +16,7 @@ returns-in_err-pair c =
 pub loop-entry-preserved : goal.loop-entry-preserved
 loop-entry-preserved c =
     rw c.in_ok-push.ensures.items (one_more view (λ entry d. requirement_checks (place.ModuleRequires c.args.index entry) d) IsRequirement c.args.values.now c.loop-entry.entry c.index-values-entry.result c.in_ok-pair.pair c.loop-entry.found.items c.loop-entry-test.true c.index-values-entry.is c.in_ok-pair.ensures.0 c.in_ok-pair.ensures.1 c.loop-entry.invariant)
+
+pub returns : goal.returns
+unfolding all_requirement_checks
+returns c = all_read view (λ entry d. requirement_checks (place.ModuleRequires c.args.index entry) d) IsRequirement c.args.values.now c.loop-entry.entry c.loop-entry.found.items c.loop-entry-test.false c.loop-entry.invariant
