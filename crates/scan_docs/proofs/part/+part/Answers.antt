@@ -183,3 +183,13 @@ read_from-returns-in_ok-members-in-BeginObject-clause-read t c =
     let ts = c.args.reader.now in
     let opened = ap (value_read c.args.form d) (ap (λ k. token_of k ∷ ts) c.in-BeginObject.is) ∙ read_object c.args.form d ts (omega arith) in
     opened ∙ ap (parse_map object) (c.in_ok-members-in-BeginObject.ensures.read) ∙ ap (λ j. Some (j, c.read_members.new.reader)) (sym (view-Object c.in_ok-members-in-BeginObject.members))
+
+pub read_part-returns-clause-read : goal.read_part-returns-clause-read
+read_part-returns-clause-read t c =
+    let first : c.args.reader.now ≡ token_of c.in_ok-token.token ∷ c.next.new.self = grind arith in
+    rw first c.read_from.ensures.read
+
+pub read_part-returns-clause-refused : goal.read_part-returns-clause-refused
+read_part-returns-clause-refused t c =
+    let first : c.args.reader.now ≡ token_of c.in_ok-token.token ∷ c.next.new.self = grind arith in
+    rw first c.read_from.ensures.refused
