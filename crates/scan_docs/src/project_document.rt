@@ -54,7 +54,6 @@ pub fn project_read(alloc: Global, bytes: &[u8]) -> Result<ProjectSpec, Failure<
     read_project(alloc, &tree)
 }
 
-#[tactic(auto, unfolding(crate::specs::ProjectChecks::project_checks), using(crate::proofs::Each::failure_of_both))]
 fn read_project(alloc: Global, tree: &Value<'_>) -> Result<ProjectSpec, Failure<DocFault>>
     ensures { Answers (project_checks (view tree.now))
         (λ project. IsProject (view tree.now) project) result }

@@ -1,0 +1,20 @@
+use Rattle.std.proofs.lemmas.Result.{err_from_is_err_and}
+use Rattle.scan_docs.specs.ProjectChecks.{project_checks}
+use Rattle.scan_docs.proofs.Each.{failure_of_both}
+use Rattle.scan_docs.proofs.project_document.read_project.Goals as goal
+
+pub returns-in_err-read_head : goal.returns-in_err-read_head
+unfolding project_checks
+returns-in_err-read_head c =
+    let p = err_from_is_err_and c.from_residual.result c.from_residual.ensures.1 in
+    rw (p.1, p.2) (λ ne. rw (failure_of_both, c.in_err-read_head.ensures ne))
+
+pub returns-in_err-targets : goal.returns-in_err-targets
+unfolding project_checks
+returns-in_err-targets c =
+    let p = err_from_is_err_and c.from_residual-in_err-targets.result c.from_residual-in_err-targets.ensures.1 in
+    rw (p.1, p.2) (λ ne. rw (failure_of_both, c.in_ok-read_head.ensures.0, c.in_err-targets.ensures ne))
+
+pub returns : goal.returns
+unfolding project_checks
+returns c = (rw (failure_of_both, c.in_ok-read_head.ensures.0, c.in_ok-targets.ensures.0), record { targets = c.in_ok-targets.ensures.1 })
