@@ -1,6 +1,8 @@
 -- The edges that a reader of listings has: the last one changed, one more, and that each has an output.
-use Rattle.std.proofs.Common.{◌≡◌, ◌≢◌, append_assoc, ℕ, ◌+◌, Bool, true, false, zero, suc, List, [], ◌∷◌, ◌++◌, length, refl, sym, ap, ◌∙◌, Some, None, Ok, Err, arith}
+use Rattle.std.proofs.Common.{◌≡◌, ◌≢◌, append_assoc, ℕ, ◌+◌, ◌<◌, drop, get_or, Vec, Global, Bool, true, false, zero, suc, List, [], ◌∷◌, ◌++◌, length, refl, sym, ap, ◌∙◌, Some, None, Ok, Err, arith}
 use Rattle.std.specs.Prelude.{Result, All, slice_set, slice_index_or}
+use Rattle.std.proofs.lemmas.List.{append-nil, at_drop_more}
+use Rattle.dep_order.specs.Rows.{rows}
 use Rattle.ninja_text.specs.Paths.{path_of}
 use Rattle.ninja_text.specs.declared.paths.PathFault.{PathFault}
 use Rattle.build_effect.specs.EdgeValue.{EdgeValue}
@@ -68,6 +70,30 @@ behind_one_more paths path found (Err fault) is = rw is refl
 pub behind_none : (paths : List (List ℕ)) (found : Result (List ℕ) PathFault) (fault : PathFault) (more : Result (List (List ℕ)) PathFault) → found ≡ Err fault
     → behind paths (with_path found more) ≡ Err fault
 behind_none paths found fault more is = rw is refl
+
+-- before the first path stand those to come
+pub behind_nothing : (more : Result (List (List ℕ)) PathFault) → behind [] more ≡ more
+behind_nothing (Ok more) = refl
+behind_nothing (Err fault) = refl
+
+-- and behind the last one stand no more
+pub nothing_behind : (paths : List (List ℕ)) → behind paths (paths_of []) ≡ Ok paths
+nothing_behind paths = ap Ok (append-nil paths)
+
+-- the text at hand is the first of those to come
+text_at_hand : (texts : List (Vec ℕ Global)) (i : ℕ) (text : Vec ℕ Global) → i < length texts → text ≡ get_or texts i text
+    → paths_of (rows (drop i texts)) ≡ with_path (path_of text.items) (paths_of (rows (drop (i + 1) texts)))
+text_at_hand texts i text within is =
+    at_drop_more (λ ts. paths_of (rows ts)) texts i text within
+    ∙ ap (λ (t : Vec ℕ Global). with_path (path_of t.items) (paths_of (rows (drop (i + 1) texts)))) (sym is)
+
+-- one more path in a loop over the texts
+pub paths_go_on : (texts : List (Vec ℕ Global)) (i : ℕ) (text : Vec ℕ Global) (paths new : List (List ℕ)) (path : List ℕ) → i < length texts → text ≡ get_or texts i text
+    → path_of text.items ≡ Ok path → new ≡ paths ++ path ∷ [] → paths_of (rows texts) ≡ behind paths (paths_of (rows (drop i texts)))
+    → paths_of (rows texts) ≡ behind new (paths_of (rows (drop (i + 1) texts)))
+paths_go_on texts i text paths new path within is found pushed so_far =
+    let more = paths_of (rows (drop (i + 1) texts)) in
+    so_far ∙ ap (behind paths) (text_at_hand texts i text within is) ∙ behind_one_more paths path (path_of text.items) more found ∙ ap (λ ps. behind ps more) (sym pushed)
 
 -- texts that are there have a path for each
 pub paths_somehow : (texts paths : List (List ℕ)) → paths_of texts ≡ Ok paths → texts ≢ [] → paths ≢ []

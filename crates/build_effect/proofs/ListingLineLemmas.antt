@@ -1,21 +1,41 @@
 -- The row of a line, by its tokens or its assignment, and what a build line says, by its parts.
-use Rattle.std.proofs.Common.{◌≡◌, ◌≢◌, ℕ, ◌==◌, ◌&&◌, Bool, true, false, List, [], ◌∷◌, map, refl, sym, ap, ◌∙◌, Option, Some, None}
+use Rattle.std.proofs.Common.{◌≡◌, ◌≢◌, ℕ, ◌==◌, ◌&&◌, Bool, true, false, List, [], ◌∷◌, ◌++◌, append_assoc, map, Vec, Global, Ok, Err, refl, sym, ap, ◌∙◌, Option, Some, None}
 use Rattle.std.specs.Prelude.{codes, not, if◌then◌else◌}
+use Rattle.std.proofs.lemmas.List.{map-append}
+use Rattle.dep_order.specs.Rows.{rows}
 use Rattle.ninja_text.specs.Lexical.{lexical_fault}
-use Rattle.ninja_text.specs.Tokens.{TokenAt, SeenToken, tokens, raw, with_raw, seen_tokens}
+use Rattle.ninja_text.specs.Tokens.{TokenAt, SeenToken, tokens, raw, with_raw, seen_tokens, value_of}
 use Rattle.ninja_text.specs.Assignments.{assignment_of}
+use Rattle.ninja_text.specs.declared.faults.LexFault.{LexFault}
 use Rattle.ninja_text.specs.declared.token.TokenKind.{TokenKind}
 use Rattle.ninja_text.specs.declared.token.TokenKind.TheVariants.{Word, Bar, DoubleBar, BarAt, Colon}
 use Rattle.dyndep_file.specs.Classes.{Symbol, WordSymbol, SignSymbol, symbol, symbols, begins_at_start, begins_with_space}
 use Rattle.dyndep_file.specs.Faults.{is_empty, after_build}
 use Rattle.dyndep_file.specs.BuildTokens.{symbol_of, is_word}
-use Rattle.build_effect.specs.ListingLines.{row_of, binding_row, unindented_row, edge_texts, right_texts, front_words, past_words, past_sign, part_words, past_part, is_rule_name}
+use Rattle.build_effect.specs.ListingLines.{CommentRow, BlankRow, row_of, binding_row, unindented_row, edge_texts, right_texts, front_words, past_words, past_sign, part_words, past_part, is_rule_name}
 use Rattle.build_effect.specs.inner.ListingRows.{RulePassed}
+use Rattle.build_effect.specs.declared.listing_faults.LineCause.TheVariants.{Lexical}
 
 -- where there is a first token, the line is not blank
 not_blank : (text : List ℕ) (ts : List TokenAt) (head : SeenToken) (others : List SeenToken) → head ∷ others ≡ map (with_raw text) ts → is_empty ts ≡ false
 not_blank text [] head others h = absurd (let x : head ∷ others ≡ [] = h in cc)
 not_blank text (t ∷ ts) head others h = refl
+
+-- a comment
+pub comment_row : (text : List ℕ) (comment : Bool) → comment ≡ true → row_of text comment ≡ Ok CommentRow
+comment_row text comment is = rw is refl
+
+-- a line with a lexical fault
+pub faulty_row : (text : List ℕ) (comment : Bool) (fault : LexFault) → comment ≡ false → lexical_fault text ≡ Some fault → row_of text comment ≡ Err (Lexical fault)
+faulty_row text comment fault no_comment is = rw (no_comment, is) refl
+
+-- where there is no token, the line is blank
+no_token : (text : List ℕ) (ts : List TokenAt) → [] ≡ map (with_raw text) ts → is_empty ts ≡ true
+no_token text [] h = refl
+no_token text (t ∷ ts) h = absurd (let x : [] ≡ with_raw text t ∷ map (with_raw text) ts = h in cc)
+
+pub blank_row : (text : List ℕ) (comment : Bool) → comment ≡ false → lexical_fault text ≡ None → [] ≡ seen_tokens text → row_of text comment ≡ Ok BlankRow
+blank_row text comment no_comment sound all = rw (no_comment, sound, no_token text (tokens text) all) refl
 
 -- the symbols of tokens
 symbols_are : (text : List ℕ) (ts : List TokenAt) → map symbol_of (map (with_raw text) ts) ≡ map (λ t. symbol t.kind (raw text t)) ts
@@ -71,6 +91,13 @@ no_rule outputs implicit_outputs None new h = refl
 no_rule outputs implicit_outputs (Some []) new h = refl
 no_rule outputs implicit_outputs (Some (SignSymbol sign ∷ more)) new h = refl
 no_rule outputs implicit_outputs (Some (WordSymbol word ∷ more)) new h = absurd (let x : _ ∷ _ ≡ [] = h.0 in cc)
+
+-- one more word in a loop
+pub words_go_on : (values new : List (Vec ℕ Global)) (value : Vec ℕ Global) (word : List ℕ) (all : List (List ℕ)) (symbols more : List Symbol) → symbols ≡ WordSymbol word ∷ more
+    → value.items ≡ value_of word → new ≡ values ++ value ∷ [] → rows values ++ front_words symbols ≡ all → rows new ++ front_words more ≡ all
+words_go_on values new value word all symbols more at is pushed so_far =
+    ap (λ vs. vs ++ front_words more) (ap rows pushed ∙ map-append (λ (v : Vec ℕ Global). v.items) values (value ∷ [])) ∙ append_assoc (rows values) (value.items ∷ []) (front_words more)
+    ∙ ap (λ w. rows values ++ w ∷ front_words more) is ∙ ap (λ s. rows values ++ front_words s) (sym at) ∙ so_far
 
 -- what it says by what stands on the right of the colon
 pub right_are : (outputs implicit_outputs inputs implicit_inputs order_only : List (List ℕ)) (rule name : List ℕ) (s0 s1 s2 s3 : List Symbol) → name ≡ rule → inputs ≡ front_words s0

@@ -1,15 +1,19 @@
 -- What a call that writes a listing answers, by the text that was made or not.
 use Rattle.std.proofs.Common.{◌≡◌, ℕ, ◌+◌, ◌<◌, ◌≤◌, suc, List, [], ◌∷◌, ◌++◌, length, drop, get_or, add-one, drop-cons, append_assoc, refl, sym, ap, ◌∙◌, Option, Some, None, Ok, Err}
 use Rattle.std.specs.Prelude.{Result, Vec}
+use Rattle.std.specs.List.{flat_map}
 use Rattle.std.specs.declared.alloc.Global.{Global}
-use Rattle.std.proofs.lemmas.Bool.{le-ltb}
-use Rattle.std.proofs.lemmas.List.{append-nil, drop_all}
+use Rattle.std.proofs.lemmas.Bool.{le-ltb, lt-ltb}
+use Rattle.std.proofs.lemmas.List.{append-nil, at_drop_more, drop_all}
+use Rattle.ninja_text.specs.Bytes.{space}
+use Rattle.ninja_text.specs.Escapes.{escaped}
 use Rattle.ninja_text.specs.Lines.{line_limit}
 use Rattle.ninja_text.specs.Failure.{Gives}
 use Rattle.ninja_text.specs.Counting.{Call}
 use Rattle.ninja_text.specs.declared.counting.Counted.{Counted}
 use Rattle.ninja_text.specs.declared.failure.Failure.{Failure}
 use Rattle.ninja_text.specs.declared.failure.Failure.TheVariants.{Memory, Fault}
+use Rattle.dyndep_file.specs.Writing.{spaced}
 use Rattle.build_effect.specs.EdgeValue.{EdgeValue}
 use Rattle.build_effect.specs.ListingWriting.{edge_line, dyndep_line, restat_line, too_long_from, listing_text, first_too_long, LeavesWriter, WritesInTurn, AnswersFault}
 use Rattle.build_effect.specs.ListingWriting.{text_unless, text_or_fault}
@@ -70,6 +74,21 @@ text_goes_on edges i e text line new within is l n so_far =
 pub none_goes_on : (edges : List EdgeValue) (i : ℕ) (e : EdgeValue) → i < length edges → e ≡ get_or edges i e → length (edge_line e) ≤ line_limit
     → too_long_from 0 edges ≡ too_long_from i (drop i edges) → too_long_from 0 edges ≡ too_long_from (i + 1) (drop (i + 1) edges)
 none_goes_on edges i e within is short so_far = so_far ∙ ap (too_long_from i) (drop_item edges i e within is) ∙ rw (le-ltb line_limit (length (edge_line e)) short) refl
+
+-- the edge at hand is the first whose build line is too long
+pub too_long_here : (edges : List EdgeValue) (i : ℕ) (e : EdgeValue) → i < length edges → e ≡ get_or edges i e → line_limit < length (edge_line e)
+    → too_long_from 0 edges ≡ too_long_from i (drop i edges) → text_or_fault edges ≡ Err (ListingTooLong i)
+too_long_here edges i e within is long none =
+    let here : too_long_from i (e ∷ drop (i + 1) edges) ≡ Some i = rw (lt-ltb line_limit (length (edge_line e)) long) refl in
+    ap (λ o. text_unless o edges) (none ∙ ap (too_long_from i) (drop_item edges i e within is) ∙ here)
+
+-- one more path after a space
+pub spaced_goes_on : (paths : List (List ℕ)) (i : ℕ) (path start text new : List ℕ) → i < length paths → path ≡ get_or paths i path → new ≡ (text ++ space ∷ []) ++ escaped path
+    → text ++ flat_map spaced (drop i paths) ≡ start → new ++ flat_map spaced (drop (i + 1) paths) ≡ start
+spaced_goes_on paths i path start text new within is n so_far =
+    let rest = flat_map spaced (drop (i + 1) paths) in
+    ap (λ x. x ++ rest) (n ∙ append_assoc text (space ∷ []) (escaped path)) ∙ append_assoc text (spaced path) rest
+    ∙ ap (λ x. text ++ x) (sym (at_drop_more (flat_map spaced) paths i path within ∙ ap (λ p. spaced p ++ rest) (sym is))) ∙ so_far
 
 -- no edge is left, so the text is whole
 pub all_written : (edges : List EdgeValue) (i : ℕ) (text : List ℕ) → length edges ≤ i → text ++ listing_text (drop i edges) ≡ listing_text edges

@@ -1,5 +1,5 @@
 -- Lists in which all differ, the first repetition in a list, and one more element in a loop.
-use Rattle.std.proofs.Common.{◌≡◌, ℕ, zero, suc, ◌+◌, ◌<◌, ◌⊎◌, Bool, true, false, List, [], ◌∷◌, ◌++◌, length, map, take, get_or, Some, refl, ap, subst, sym, ◌∙◌, inl, inr, ⊎_elim, arith, slice_get, true≢false, bytes_eq, not, cond}
+use Rattle.std.proofs.Common.{◌≡◌, ℕ, zero, suc, ◌+◌, ◌<◌, ◌⊎◌, Bool, true, false, List, [], ◌∷◌, ◌++◌, length, map, take, get_or, Some, refl, ap, subst, sym, ◌∙◌, inl, inr, ⊎_elim, arith, slice_get, append_assoc, Bor, true≢false, bytes_eq, not, cond}
 use Rattle.std.specs.List.{flat_map, list_any}
 use Rattle.std.specs.Cmp.Lexicographic.{bytes_decides}
 use Rattle.std.proofs.lemmas.List.{append-nil, take_more, map-append}
@@ -40,6 +40,18 @@ take_next xs i x at = take_more xs i x (slice_get_within xs i x at) ∙ ap (λ y
 
 pub flat_map_next : {X Y : Type 0} (f : X → List Y) (xs : List X) (i : ℕ) (x : X) → slice_get xs i ≡ Some x → flat_map f (take (i + 1) xs) ≡ flat_map f (take i xs) ++ f x
 flat_map_next f xs i x at = ap (flat_map f) (take_next xs i x at) ∙ flat_map-append f (take i xs) (x ∷ []) ∙ ap (λ ys. flat_map f (take i xs) ++ ys) (append-nil (f x))
+
+-- one more of the list is copied
+pub copied_next : {X : Type 0} (xs : List X) (i : ℕ) (x copy : X) (start now new : List X) → slice_get xs i ≡ Some x → copy ≡ x → new ≡ now ++ copy ∷ [] → now ≡ start ++ take i xs → new ≡ start ++ take (i + 1) xs
+copied_next xs i x copy start now new at same more before =
+    more ∙ ap (λ ys. ys ++ copy ∷ []) before ∙ append_assoc start (take i xs) (copy ∷ [])
+    ∙ ap (λ ys. start ++ ys) (ap (λ y. take i xs ++ y ∷ []) same ∙ sym (take_next xs i x at))
+
+-- or lent
+pub lent_next : {X : Type 0} (xs : List X) (i : ℕ) (x : X) (lent : Bor X) (start now new : List (Bor X)) → slice_get xs i ≡ Some x → lent.now ≡ x → new ≡ now ++ lent ∷ []
+    → map (λ (b : Bor X). b.now) now ≡ map (λ (b : Bor X). b.now) start ++ take i xs → map (λ (b : Bor X). b.now) new ≡ map (λ (b : Bor X). b.now) start ++ take (i + 1) xs
+lent_next xs i x lent start now new at same more before =
+    copied_next xs i x lent.now (map (λ b. b.now) start) (map (λ b. b.now) now) (map (λ b. b.now) new) at same (ap (map (λ b. b.now)) more ∙ map-append (λ b. b.now) now (lent ∷ [])) before
 
 -- all differ in a list that is one longer by something new
 pub differ_push : {X : Type 0} (xs : List X) (y : X) → AllDiffer xs → ((k : ℕ) → slice_get xs k ≡ Some y → ⊥) → AllDiffer (xs ++ y ∷ [])

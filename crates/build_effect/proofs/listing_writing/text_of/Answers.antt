@@ -1,7 +1,7 @@
-use Rattle.std.proofs.Common.{◌≡◌, ◌≤◌, ◌∙◌, ◌++◌, length, refl, ap, subst}
+use Rattle.std.proofs.Common.{◌≡◌, ◌<◌, ◌≤◌, ◌∙◌, ◌++◌, length, refl, ap, subst}
 use Rattle.ninja_text.specs.Lines.{line_limit}
 use Rattle.build_effect.specs.ListingWriting.{edge_line, dyndep_line, restat_line, listing_text}
-use Rattle.build_effect.proofs.ListingWrites.{text_goes_on, none_goes_on, all_written}
+use Rattle.build_effect.proofs.ListingWrites.{text_goes_on, none_goes_on, too_long_here, all_written}
 use Rattle.build_effect.proofs.listing_writing.text_of.Goals as goal
 
 pub loop-edge_index-preserved : goal.loop-edge_index-preserved
@@ -25,3 +25,9 @@ loop-edge_index-init c = record { text = ap (λ t. t ++ listing_text c.args.edge
 pub returns : goal.returns
 returns c =
     all_written c.args.edges.now c.loop-edge_index.edge_index c.loop-edge_index.text.items c.loop-edge_index-test.false c.loop-edge_index.invariant.text c.loop-edge_index.invariant.none
+
+pub returns-then-len-gt-LINE_LIMIT : goal.returns-then-len-gt-LINE_LIMIT
+returns-then-len-gt-LINE_LIMIT c =
+    let e = c.index-edges-edge_index.result in
+    let long : line_limit < length (edge_line e) = subst (λ n. line_limit < n) (c.len.ensures ∙ c.in_ok-line.line.ok.0 ∙ ap length c.in_ok-line.ensures) c.if-len-gt-LINE_LIMIT.true in
+    too_long_here c.args.edges.now c.loop-edge_index.edge_index e c.loop-edge_index-test.true c.index-edges-edge_index.is long c.loop-edge_index.invariant.none
