@@ -3,7 +3,7 @@ use Rattle.std.specs.List.{All}
 use Rattle.std.proofs.lemmas.List.Elements.{All-contains}
 use Rattle.dep_order.specs.Rows.{lists}
 use Rattle.dep_order.specs.Needs.{NodeNeeds, needs_of}
-use Rattle.dep_order.specs.inner.Steps.{AreSteps, LeadsBack, IsLeastAt}
+use Rattle.dep_order.specs.inner.Steps.{AreSteps, LeadsBack, IsLeastAt, SomeIsAway}
 use Rattle.dep_order.proofs.UserCounts.{length_lists}
 use Rattle.dep_order.proofs.Answered.{row_nodes}
 use Rattle.dep_order.proofs.Greedy.{IsChosen, first_chosen, next_chosen, all_chosen}
@@ -34,3 +34,10 @@ returns c =
     let end : c.loop-chosen.chosen ≡ c.args.count = omega arith in
     all_chosen (lists c.args.needs.now) c.args.first c.args.count c.args.steps.now c.loop-chosen.cycle.items c.loop-chosen.node s c.requires.fewest
     (subst (λ n. IsChosen (lists c.args.needs.now) c.args.first c.args.count c.args.steps.now c.loop-chosen.cycle.items c.loop-chosen.node n) end c.loop-chosen.invariant)
+
+pub overflow_sub-count : goal.overflow_sub-count
+overflow_sub-count c = omega (arith, c.loop-chosen-test.true)
+
+pub least_at-node-requires-clause-some : goal.least_at-node-requires-clause-some
+least_at-node-requires-clause-some c =
+    subst (λ row. SomeIsAway row c.args.steps.now (c.args.count - c.loop-chosen.chosen)) (sym c.row_of.ensures) c.loop-chosen.invariant.ahead.0

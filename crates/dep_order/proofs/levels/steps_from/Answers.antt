@@ -28,3 +28,9 @@ pub advance-requires-clause-frontier : goal.advance-requires-clause-frontier
 advance-requires-clause-frontier c =
     subst (All (λ node. node < length c.args.slices.now)) (sym c.as_slice.ensures.value)
     (frontier_in_range (lists c.args.slices.now) c.args.start c.levels.steps.items c.levels.frontier.items c.levels.count (length c.args.slices.now) (length_lists c.args.slices.now) c.levels.invariant)
+
+pub advance-requires-clause-as_many : goal.advance-requires-clause-as_many
+advance-requires-clause-as_many c = c.levels.invariant.as_many ∙ length_lists c.args.slices.now
+
+pub levels-smaller : goal.levels-smaller
+levels-smaller c = omega (arith, c.in_ok-frontier-2.ensures.accounted, nonempty c.levels.frontier c.levels-test.ensures)

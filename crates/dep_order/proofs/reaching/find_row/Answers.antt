@@ -2,8 +2,9 @@ use Rattle.std.proofs.Common.{◌≡◌, ◌<◌, ◌∙◌, ◌+◌, [], ◌∷
 use Rattle.std.specs.declared.alloc.Global.{Global}
 use Rattle.std.specs.List.{Contains}
 use Rattle.std.proofs.lemmas.Bool.{false≢true}
-use Rattle.dep_order.specs.inner.Found.{IsRowFound}
-use Rattle.dep_order.proofs.Reached.{row_old, row_new}
+use Rattle.dep_order.specs.inner.Found.{IsRowFound, AreFound}
+use Rattle.dep_order.proofs.Reached.{row_old, row_new, row_begun}
+use Rattle.std.proofs.lemmas.List.{take_all}
 use Rattle.dep_order.proofs.reaching.find_row.Goals as goal
 use Rattle.dep_order.proofs.reaching.find_row.Goals.{then-not-is_found+in_ok-push, else-not-is_found}
 
@@ -31,3 +32,26 @@ loop-node-preserved c =
           (subst (λ (v : Vec ℕ Global). IsRowFound (take (i + 1) row) indexes found now_indexes v.items) (sym w.found-is)
           (row_old row indexes found now_indexes now_found i c.loop-node-test.true c.loop-node.invariant known))
     ]
+
+pub loop-node-init : goal.loop-node-init
+loop-node-init c = row_begun c.args.indexes.now.items c.args.found.now.items c.requires.found
+
+pub is_found-requires-clause-node : goal.is_found-requires-clause-node
+is_found-requires-clause-node c =
+    omega (arith, c.requires.row c.loop-node.node-index 0 c.loop-node-test.true, c.loop-node.invariant.as_many, ap length c.deref.ensures.value)
+
+pub is_found-requires-clause-found : goal.is_found-requires-clause-found
+is_found-requires-clause-found c =
+    subst (λ indexes. AreFound indexes c.deref-in-loop-node.result.now) (sym c.deref.ensures.value)
+    (subst (AreFound c.loop-node.indexes.items) (sym c.deref-in-loop-node.ensures.value) c.loop-node.invariant.are_found)
+
+pub index_mut-requires : goal.index_mut-requires
+index_mut-requires c = omega (arith, c.requires.row c.loop-node.node-index 0 c.loop-node-test.true, c.loop-node.invariant.as_many, c.loop-node.indexes.ok.0)
+
+pub returns-clause-as_many : goal.returns-clause-as_many
+returns-clause-as_many c = c.loop-node.invariant.as_many
+
+pub returns-clause-found : goal.returns-clause-found
+returns-clause-found c =
+    subst (λ row. IsRowFound row c.args.indexes.now.items c.args.found.now.items c.loop-node.indexes.items c.loop-node.found.items) (take_all c.loop-node.node-index c.args.row.now c.loop-node-test.false)
+    c.loop-node.invariant
