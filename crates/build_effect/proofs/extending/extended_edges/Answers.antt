@@ -1,4 +1,4 @@
-use Rattle.std.proofs.Common.{ℕ, ◌+◌, length, take, refl, ap, sym, subst}
+use Rattle.std.proofs.Common.{ℕ, ◌+◌, length, take, refl, ap, sym, subst, arith}
 use Rattle.std.proofs.lemmas.List.{take_all}
 use Rattle.std.proofs.lemmas.Option.{slice_get_read}
 use Rattle.build_effect.specs.EdgeValue.{EdgeValue}
@@ -21,3 +21,9 @@ pub returns : goal.returns
 returns c =
     let g = c.args.edges.now in
     subst (λ es. AreExtended es c.args.additions.now c.args.statement_of.now c.loop-edge_index.new.items) (take_all c.loop-edge_index.edge_index g c.loop-edge_index-test.false) c.loop-edge_index.invariant
+
+pub bounds-statement_of-edge_index : goal.bounds-statement_of-edge_index
+bounds-statement_of-edge_index c = omega (arith, c.loop-edge_index-test.true, c.requires.each)
+
+pub edge_after-requires : goal.edge_after-requires
+edge_after-requires c = λ k at. c.requires.within c.loop-edge_index.edge_index k at

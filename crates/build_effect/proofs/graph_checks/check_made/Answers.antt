@@ -8,6 +8,20 @@ use Rattle.build_effect.proofs.Lists.{to_map}
 use Rattle.build_effect.proofs.MadeFiles.{made_once, first_of_repetition}
 use Rattle.build_effect.proofs.graph_checks.check_made.Goals as goal
 
+-- where a file repeats, there is one that was lent
+repeated_within : (files : List (Bor (List ℕ))) (all : List (List ℕ)) (i j : ℕ) → map (λ (x : Bor (List ℕ)). x.now) files ≡ all → RepeatsFirst all i j → j < length files
+repeated_within files all i j are repeated =
+    let within = slice_get_within all j repeated.repeated repeated.again in
+    omega (arith, within, ap length are, length-map files (λ (x : Bor (List ℕ)). x.now))
+
+pub index-requires : goal.index-requires
+index-requires _ c =
+    let g = c.args.edges.now in
+    let texts : map (λ (x : Bor (List ℕ)). x.now) c.as_slice.result.now ≡ made_files g = ap (map (λ x. x.now)) c.as_slice.ensures.value ∙ c.in_ok-files.ensures in
+    let found = subst (λ xs. FindsRepetition xs c.in_ok-first_repetition.field-0) texts c.in_ok-first_repetition.ensures in
+    let repeated : RepeatsFirst (made_files g) c.in-Some.indices.0 c.in-Some.indices.1 = subst (FindsRepetition (made_files g)) c.in-Some.is found in
+    omega (arith, repeated_within c.in_ok-files.files.items (made_files g) c.in-Some.indices.0 c.in-Some.indices.1 c.in_ok-files.ensures repeated, c.in_ok-files.files.ok.0)
+
 pub returns-in-None-clause-ok : goal.returns-in-None-clause-ok
 returns-in-None-clause-ok _ c =
     let files : map (λ (x : Bor (List ℕ)). x.now) c.as_slice.result.now ≡ made_files c.args.edges.now = ap (map (λ x. x.now)) c.as_slice.ensures.value ∙ c.in_ok-files.ensures in
@@ -20,8 +34,7 @@ returns-clause-fault _ c =
     let texts : map (λ (x : Bor (List ℕ)). x.now) c.as_slice.result.now ≡ made_files g = ap (map (λ x. x.now)) c.as_slice.ensures.value ∙ c.in_ok-files.ensures in
     let found = subst (λ xs. FindsRepetition xs c.in_ok-first_repetition.field-0) texts c.in_ok-first_repetition.ensures in
     let repeated : RepeatsFirst (made_files g) c.in-Some.indices.0 c.in-Some.indices.1 = subst (FindsRepetition (made_files g)) c.in-Some.is found in
-    let within : c.in-Some.indices.1 < length (made_files g) = slice_get_within (made_files g) c.in-Some.indices.1 repeated.repeated repeated.again in
-    let short : c.in-Some.indices.1 < length c.in_ok-files.files.items = omega (arith, within, ap length c.in_ok-files.ensures, length-map c.in_ok-files.files.items (λ (x : Bor (List ℕ)). x.now)) in
+    let short = repeated_within c.in_ok-files.files.items (made_files g) c.in-Some.indices.0 c.in-Some.indices.1 c.in_ok-files.ensures repeated in
     let here = to_map (λ (x : Bor (List ℕ)). x.now) c.in_ok-files.files.items c.in-Some.indices.1 c.index.result.now (slice_get_read c.in_ok-files.files.items _ c.in-Some.indices.1 c.index.result.now refl short c.index.ensures) in
     let at : slice_get (made_files g) c.in-Some.indices.1 ≡ Some c.in_ok-path-in-Some.path = ap (λ xs. slice_get xs c.in-Some.indices.1) (sym c.in_ok-files.ensures) ∙ here ∙ ap (λ x. Some x) (sym c.in_ok-path-in-Some.ensures) in
     (c.in-Some.indices.1, first_of_repetition (made_files g) c.in-Some.indices.0 c.in-Some.indices.1 c.in_ok-path-in-Some.path repeated at)

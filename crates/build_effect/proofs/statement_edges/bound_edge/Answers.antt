@@ -7,6 +7,11 @@ use Rattle.build_effect.proofs.Lists.{same_some}
 use Rattle.build_effect.proofs.Bindings.{unbound_maker, no_maker}
 use Rattle.build_effect.proofs.statement_edges.bound_edge.Goals as goal
 
+pub bounds-edges-edge : goal.bounds-edges-edge
+bounds-edges-edge _ c =
+    let found = c.requires.makers.found c.args.output.now c.in-Some.edge (sym c.in-Some.ensures) in
+    slice_get_within c.args.edges.now c.in-Some.edge found.1.0 found.1.1
+
 pub returns-then-names : goal.returns-then-names
 returns-then-names _ c =
     let g : List EdgeValue = c.args.edges.now in
