@@ -1,5 +1,6 @@
 use Rattle.std.proofs.Common.{◌≡◌, ℕ, List, Bool, ◌<◌, ◌+◌, ◌++◌, ◌∷◌, [], length, arith, subst, sym, ◌∙◌, set, slice_index, true, false, not, cond, Some, None, ap}
 use Rattle.std.specs.List.{All, Contains, count_by}
+use Rattle.std.proofs.lemmas.Bool.{false≢true}
 use Rattle.std.proofs.lemmas.List.{get_or_read, get_or-set_same}
 use Rattle.std.proofs.lemmas.List.Elements.{Contains-push}
 use Rattle.std.proofs.lemmas.List.Sums.{sum_by-set}
@@ -9,6 +10,7 @@ use Rattle.dep_order.specs.inner.Postorders.{is_seen, IsInDepth, IsFirstUnseen}
 use Rattle.dep_order.proofs.UserCounts.{length_lists}
 use Rattle.dep_order.proofs.Answered.{row_nodes}
 use Rattle.dep_order.proofs.Postorders.{begun, entered, left_behind, sees_more, path_seen, seen_in_range, first_unseen_at}
+use Rattle.dep_order.proofs.Searches.{emptied_by}
 use Rattle.dep_order.proofs.depth_first.search_from.Goals as goal
 
 -- each node of the row of the node at the path's end is a node of the graph
@@ -111,3 +113,20 @@ loop-node-smaller-in-Continue-branch-3 c =
     let next_lt = row_in_range (lists c.args.needs.now) c.loop-node.seen.items c.loop-node.scanned.items c.loop-node.path.items c.pop.new.self.items c.loop-node.left.items c.row_of-row.result.now c.in-Some.node c.in-Some.ensures.items c.row_of-row.ensures c.requires.nodes c.loop-node.invariant.in_depth c.in-Some-first_unseen.index 0 c.in-Some-first_unseen.ensures.1 in
     let unseen : is_seen c.loop-node.seen.items (slice_index c.row_of-row.result.now c.in-Some-first_unseen.index) ≡ false = rw c.as_slice.ensures.value at c.in-Some-first_unseen.ensures.2 in
     omega (arith, fewer_unseen c.loop-node.seen.items (slice_index c.row_of-row.result.now c.in-Some-first_unseen.index) next_lt unseen, c.in-Some.ensures.len, c.in_ok-push-in-Some-first_unseen.ensures.len, c.in_ok-push-in-Some-first_unseen-2.ensures.len)
+
+pub index-requires : goal.index-requires
+index-requires c = omega (arith, c.requires.root, c.requires.so_far.seen_each, length_lists c.args.needs.now, c.args.seen.now.ok.0)
+
+pub index_mut-requires : goal.index_mut-requires
+index_mut-requires c = omega (arith, c.requires.root, c.requires.so_far.seen_each, length_lists c.args.needs.now, c.args.seen.now.ok.0)
+
+pub returns-clause-searched : goal.returns-clause-searched
+returns-clause-searched c =
+    subst (λ path. IsInDepth (lists c.args.needs.now) c.loop-node.seen.items c.loop-node.scanned.items path c.loop-node.left.items)
+    (emptied_by c.loop-node.path (λ lt. false≢true (c.in_default.ensures.variant.1 lt))) c.loop-node.invariant.in_depth
+
+pub returns-clause-root : goal.returns-clause-root
+returns-clause-root c = c.loop-node.invariant.root_seen
+
+pub returns-clause-kept : goal.returns-clause-kept
+returns-clause-kept c = c.loop-node.invariant.kept
