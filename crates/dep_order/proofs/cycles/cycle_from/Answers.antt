@@ -41,3 +41,6 @@ overflow_sub-count c = omega (arith, c.loop-chosen-test.true)
 pub least_at-node-requires-clause-some : goal.least_at-node-requires-clause-some
 least_at-node-requires-clause-some c =
     subst (λ row. SomeIsAway row c.args.steps.now (c.args.count - c.loop-chosen.chosen)) (sym c.row_of.ensures) c.loop-chosen.invariant.ahead.0
+
+pub row_of-requires : goal.row_of-requires
+row_of-requires c = omega (arith, c.loop-chosen.invariant.node_in, length_lists c.args.needs.now)

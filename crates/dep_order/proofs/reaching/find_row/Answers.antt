@@ -1,4 +1,4 @@
-use Rattle.std.proofs.Common.{◌≡◌, ◌<◌, ◌∙◌, ◌+◌, [], ◌∷◌, ◌++◌, ap, sym, subst, length, slice_index, take, set, arith, ℕ, Vec, List}
+use Rattle.std.proofs.Common.{length-set, ◌≡◌, ◌<◌, ◌∙◌, ◌+◌, [], ◌∷◌, ◌++◌, ap, sym, subst, length, slice_index, take, set, arith, ℕ, Vec, List}
 use Rattle.std.specs.declared.alloc.Global.{Global}
 use Rattle.std.specs.List.{Contains}
 use Rattle.std.proofs.lemmas.Bool.{false≢true}
@@ -55,3 +55,6 @@ pub returns-clause-found : goal.returns-clause-found
 returns-clause-found c =
     subst (λ row. IsRowFound row c.args.indexes.now.items c.args.found.now.items c.loop-node.indexes.items c.loop-node.found.items) (take_all c.loop-node.node-index c.args.row.now c.loop-node-test.false)
     c.loop-node.invariant
+
+pub returns-in_err-push-clause-as_many : goal.returns-in_err-push-clause-as_many
+returns-in_err-push-clause-as_many c = length-set c.loop-node.indexes.items (slice_index c.args.row.now c.loop-node.node-index) _ ∙ c.loop-node.invariant.as_many
