@@ -51,3 +51,16 @@ returns-clause-made _ c = λ g are k file at before.
     let within = slice_get_within (map text_of files) k file at in
     none_before g (maker_in c.args.makers.now.table) are (map text_of files) i c.loop-file_index.invariant.unmade (subst AllDiffer (map_take text_of i files) c.loop-file_index.invariant.differ) k file
     (omega (arith, within, length-map files text_of, c.loop-file_index-test.false)) at before
+
+pub loop-file_index-init : goal.loop-file_index-init
+loop-file_index-init _ c = record {
+  same = c.requires;
+  differ = record { differ = λ i j x lt at again. cc };
+  unmade = λ k file lt at. absurd (omega (arith, lt));
+}
+
+pub returns-then-is_some-clause-within : goal.returns-then-is_some-clause-within
+returns-then-is_some-clause-within _ c = c.loop-file_index-test.true
+
+pub returns-then-not-is_new-clause-within : goal.returns-then-not-is_new-clause-within
+returns-then-not-is_new-clause-within _ c = c.loop-file_index-test.true

@@ -32,3 +32,9 @@ pub returns-clause-edges : goal.returns-clause-edges
 returns-clause-edges g c =
     let additions : List StatementValue = c.args.additions.now in
     subst (λ xs. AreEdgesOf c.args.edges.now c.args.name.now xs c.loop-addition.edge_of.items) (take_all c.loop-addition.addition-index additions c.loop-addition-test.false) c.loop-addition.invariant
+
+pub bound_edge-requires-clause-makers : goal.bound_edge-requires-clause-makers
+bound_edge-requires-clause-makers g c = c.requires.makers
+
+pub bound_edge-requires-clause-made_once : goal.bound_edge-requires-clause-made_once
+bound_edge-requires-clause-made_once g c = c.requires.made_once
