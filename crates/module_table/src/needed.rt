@@ -10,7 +10,7 @@ ghost use Rattle.module_table.specs.inner.Graph.{IsModuleGraph};
 
 use crate::fault::Maker;
 use crate::graph::module_at;
-use crate::ranks::{modules_by_name, pairs_of, ranks_of};
+use crate::ranks::ranked_modules;
 use dep_order::{Digraph, Reaching};
 use ninja_text::Path;
 use scan_docs::{Info, Name, Rule};
@@ -66,9 +66,7 @@ impl<'t> Needs<'t> {
         requires origins { origins.now ≡ origins_of (table_with objects.now infos.now) }
         ensures { IfOk result (λ needs. needs ≡ table_with objects.now infos.now) }
     {
-        let modules = modules_by_name(alloc, objects, infos, origins)?;
-        let ranks = ranks_of(alloc, modules.as_slice())?;
-        let pairs = pairs_of(alloc, modules.as_slice())?;
+        let (ranks, pairs) = ranked_modules(alloc, objects, infos, origins)?;
         let reaching = Reaching::new(alloc, graph)?;
         Ok(Needs {
             objects,

@@ -2,9 +2,10 @@
 ghost use Rattle.std.specs.Prelude.{◌≡◌, ℕ, List, map, length, IfOk};
 ghost use Rattle.module_table.specs.TableValue.{table_with};
 ghost use Rattle.module_table.specs.Modules.{provisions};
+ghost use Rattle.module_table.specs.Needed.{lent};
 ghost use Rattle.module_table.specs.Sound.{IsSound};
 ghost use Rattle.module_table.specs.inner.Origins.{origins_of};
-ghost use Rattle.module_table.specs.inner.Ranks.{AreByName, AreNumbers, AreRanks};
+ghost use Rattle.module_table.specs.inner.Ranks.{AreByName, AreNumbers, AreRanks, AreRanked};
 
 use crate::fault::Maker;
 use crate::needed::named_at;
@@ -12,8 +13,28 @@ use ninja_text::Path;
 use scan_docs::{Info, Name, Rule};
 use std::alloc::{AllocError, Global};
 
+/// The index of each module in byte order of names, by its own index, and the names and files of
+/// the modules in that order.
+pub(crate) fn ranked_modules<'t>(
+    alloc: Global,
+    objects: &'t [Rule],
+    infos: &'t [Info],
+    origins: &[(Maker, usize)],
+) -> Result<(Vec<usize>, Vec<(&'t Name, &'t Path)>), AllocError>
+    requires sound { IsSound (table_with objects.now infos.now) }
+    requires origins { origins.now ≡ origins_of (table_with objects.now infos.now) }
+    ensures { IfOk result (λ ranked.
+        AreRanked (provisions (table_with objects.now infos.now)) ranked.0.items
+        (map lent ranked.1.items)) }
+{
+    let modules = modules_by_name(alloc, objects, infos, origins)?;
+    let ranks = ranks_of(alloc, modules.as_slice())?;
+    let pairs = pairs_of(alloc, modules.as_slice())?;
+    Ok((ranks, pairs))
+}
+
 /// The name and the file of each module, and its index, in byte order of names.
-pub(crate) fn modules_by_name<'t>(
+fn modules_by_name<'t>(
     alloc: Global,
     objects: &'t [Rule],
     infos: &'t [Info],
@@ -33,10 +54,7 @@ pub(crate) fn modules_by_name<'t>(
 }
 
 /// The index of each module, by its own index.
-pub(crate) fn ranks_of(
-    alloc: Global,
-    modules: &[((&Name, &Path), usize)],
-) -> Result<Vec<usize>, AllocError>
+fn ranks_of(alloc: Global, modules: &[((&Name, &Path), usize)]) -> Result<Vec<usize>, AllocError>
     requires { AreNumbers modules.now }
     ensures { IfOk result (λ ranks. AreRanks modules.now (length modules.now) ranks.items) }
 {
@@ -48,7 +66,7 @@ pub(crate) fn ranks_of(
 }
 
 /// The names and files of the modules.
-pub(crate) fn pairs_of<'t>(
+fn pairs_of<'t>(
     alloc: Global,
     modules: &[((&'t Name, &'t Path), usize)],
 ) -> Result<Vec<(&'t Name, &'t Path)>, AllocError>
