@@ -27,6 +27,10 @@ take_all [] (suc n) h = refl
 take_all (x ∷ xs) zero h = absurd (omega arith)
 take_all (x ∷ xs) (suc n) h = ap (λ ys. x ∷ ys) (take_all xs n (omega arith))
 
+-- and what is made of each element
+pub map_take_all : {X Y : Type 0} (f : X → Y) (xs : List X) (n : ℕ) → length xs ≤ n → take n (map f xs) ≡ map f xs
+map_take_all f xs n h = take_all (map f xs) n (omega (arith, length_mapped f xs))
+
 pub numbered : (t : TableValue) (rows : List (List ℕ)) → AllDiffer (names_of (provisions t)) → AreIndexes t rows → IsNumbered t (provisions t) rows
 numbered t rows differ is = record { all_provided = refl; differ = differ; numbers = is }
 

@@ -10,6 +10,8 @@ ghost use Rattle.module_table.specs.Faults.{Claim, claims_of};
 ghost use Rattle.module_table.specs.inner.Repetition.{AllDiffer};
 ghost use Rattle.module_table.specs.inner.Views.{provision_of, names_of, files_of, IsProvidedTwice, IsMadeTwice};
 ghost use Rattle.module_table.specs.inner.Reported.{Reports};
+ghost use Rattle.module_table.specs.declared.fault.Maker.TheVariants.{Object};
+ghost use Rattle.module_table.specs.declared.fault.TableFault.TheVariants.{ObjectTwice, InfoTwice};
 
 use crate::fault::{Maker, TableFault};
 use crate::modules::{Module, Modules, module_at, provided_modules};
@@ -36,15 +38,28 @@ pub(crate) fn check_objects<'t, S: BuildHasher>(
     for (index, rule) in objects.iter().enumerate() {
         let (first, is_new) = paths.insert_full(&rule.object)?;
         if !is_new {
-            let path = rule.object.copy(alloc)?;
-            return Err(Failure::Fault(TableFault::ObjectTwice {
-                path,
-                first: Maker::Object(first),
-                second: Maker::Object(index),
-            }));
+            return Err(failure(object_twice(alloc, &rule.object, first, index)));
         }
     }
     Ok(())
+}
+
+/// The fault that two objects have this path.
+fn object_twice(
+    alloc: Global,
+    path: &Path,
+    first: usize,
+    second: usize,
+) -> Result<TableFault, AllocError>
+    ensures { IfOk result
+        (λ fault. fault ≡ ObjectTwice path.now (Object first) (Object second)) }
+{
+    let path = path.copy(alloc)?;
+    Ok(TableFault::ObjectTwice {
+        path,
+        first: Maker::Object(first),
+        second: Maker::Object(second),
+    })
 }
 
 /// M2: no two infos have one target name.
@@ -76,11 +91,18 @@ fn add_targets<'t, S: BuildHasher>(
     for info in infos {
         let (_, is_new) = targets.insert_full(&info.target)?;
         if !is_new {
-            let target = info.target.copy(alloc)?;
-            return Err(Failure::Fault(TableFault::InfoTwice { target }));
+            return Err(failure(info_twice(alloc, &info.target)));
         }
     }
     Ok(())
+}
+
+/// The fault that two infos have this target name.
+fn info_twice(alloc: Global, target: &TargetName) -> Result<TableFault, AllocError>
+    ensures { IfOk result (λ fault. fault ≡ InfoTwice target.now) }
+{
+    let target = target.copy(alloc)?;
+    Ok(TableFault::InfoTwice { target })
 }
 
 /// All provided modules. M3: no name is provided twice.

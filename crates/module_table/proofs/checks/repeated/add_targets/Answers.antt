@@ -1,9 +1,16 @@
 use Rattle.std.proofs.Common.{◌≡◌, ap, map, refl, subst, sym, ◌∙◌, List, ℕ, Bor, Some}
 use Rattle.std.proofs.lemmas.Option.{slice_get_read}
 use Rattle.scan_docs.specs.Info.{InfoValue}
+use Rattle.module_table.specs.TableValue.{TableValue}
 use Rattle.module_table.specs.Firsts.{IsFirstRepetition}
+use Rattle.module_table.specs.declared.fault.TableFault.{TableFault}
+use Rattle.module_table.specs.declared.fault.TableFault.TheVariants.{InfoTwice}
+use Rattle.module_table.specs.inner.Repetition.{AllDiffer}
+use Rattle.module_table.specs.inner.Reported.{Reports}
+use Rattle.module_table.proofs.IndexRows.{map_take_all}
 use Rattle.module_table.proofs.Places.{to_map}
 use Rattle.module_table.proofs.Repetitions.{repeats_if_found, keys_if_new, differ_if_new, text_repetition}
+use Rattle.module_table.proofs.ReportLemmas.{for_fault, for_made, reports_same}
 use Rattle.module_table.proofs.checks.repeated.add_targets.Goals as goal
 
 abbrev text_of : Bor (List ℕ) → List ℕ
@@ -12,17 +19,28 @@ text_of target = target.now
 abbrev target_of : InfoValue → List ℕ
 target_of info = info.target
 
+pub loop-info-init : goal.loop-info-init
+loop-info-init g c = record {
+  same = ap (map text_of) (c.in_ok-reserve.ensures.keys ∙ c.requires);
+  differ = record { differ = λ i j x lt at again. cc };
+}
+
 pub returns-then-not-is_new-clause-fault : goal.returns-then-not-is_new-clause-fault
-returns-then-not-is_new-clause-fault g c = λ t kept same.
+returns-then-not-is_new-clause-fault g c =
     let infos = c.args.infos.now in
     let i = c.loop-info.info-index in
-    let info = c.info-item.result in
-    let at = to_map target_of infos i info (slice_get_read infos _ i info refl c.loop-info-test.true c.info-item.is) ∙ ap (λ (r : InfoValue). Some r.target) (sym c.info.view_is) in
+    let first = c.in_ok-is_new.field-0-0 in
+    let target : List ℕ = c.info.inside.target in
+    let at = to_map target_of infos i _ (slice_get_read infos _ i _ refl c.loop-info-test.true c.info-item.is) ∙ ap (λ (r : InfoValue). Some r.target) (sym c.info.view_is) in
     let h = c.in_ok-is_new.ensures in
     let stored = h.stored in
-    let repeated = repeats_if_found text_of (map target_of infos) i _ c.loop-info.targets.keys c.insert_full.new.self.keys at c.loop-info.invariant.same c.loop-info.invariant.differ h.keys c.in_ok-is_new.field-0-0 (sym c.if-not-is_new.true ∙ h.added) stored.0 stored.1 stored.2 in
-    let is = subst (λ xs. IsFirstRepetition (λ a b. a ≡ b) (map target_of xs) c.in_ok-is_new.field-0-0 i c.in_ok-target.target c.in_ok-target.target) same (text_repetition _ _ _ _ repeated (at ∙ ap (λ x. Some x) (sym c.in_ok-target.ensures))) in
-    record { present = (c.in_ok-is_new.field-0-0, i, is); coded = refl }
+    let repeated = repeats_if_found text_of (map target_of infos) i _ c.loop-info.targets.keys c.insert_full.new.self.keys at c.loop-info.invariant.same c.loop-info.invariant.differ h.keys first (sym c.if-not-is_new.true ∙ h.added) stored.0 stored.1 stored.2 in
+    let is = text_repetition (map target_of infos) first i target repeated at in
+    let is_twice : TableFault → Type 0 = λ fault. fault ≡ InfoTwice target in
+    for_fault is_twice (λ fault. (t : TableValue) (kept : List (List ℕ)) → infos ≡ t.infos → Reports 2 t kept fault) _
+    (λ fault made t kept same.
+    reports_same 2 t kept fault _ made (record { present = (first, i, subst (λ xs. IsFirstRepetition (λ a b. a ≡ b) (map target_of xs) first i target target) same is); coded = refl }))
+    (for_made is_twice c.info_twice.result c.failure.result c.failure.ensures.fault c.failure.ensures.memory c.info_twice.ensures)
 
 pub loop-info-preserved : goal.loop-info-preserved
 loop-info-preserved g c =
@@ -36,3 +54,6 @@ loop-info-preserved g c =
       same = keys_if_new text_of (map target_of infos) i _ c.loop-info.targets.keys c.insert_full.new.self.keys at c.loop-info.invariant.same c.loop-info.invariant.differ h.keys fresh;
       differ = differ_if_new text_of (map target_of infos) i _ c.loop-info.targets.keys c.insert_full.new.self.keys at c.loop-info.invariant.same c.loop-info.invariant.differ h.keys fresh;
     }
+
+pub returns-clause-ok : goal.returns-clause-ok
+returns-clause-ok g c = subst AllDiffer (map_take_all target_of c.args.infos.now c.loop-info.info-index c.loop-info-test.false) c.loop-info.invariant.differ

@@ -1,9 +1,17 @@
 use Rattle.std.proofs.Common.{◌≡◌, ap, map, refl, subst, sym, ◌∙◌, List, ℕ, Bor, Some}
 use Rattle.std.proofs.lemmas.Option.{slice_get_read}
 use Rattle.scan_docs.specs.Scan.{RuleValue}
+use Rattle.module_table.specs.TableValue.{TableValue}
 use Rattle.module_table.specs.Firsts.{IsFirstRepetition}
+use Rattle.module_table.specs.declared.fault.Maker.TheVariants.{Object}
+use Rattle.module_table.specs.declared.fault.TableFault.{TableFault}
+use Rattle.module_table.specs.declared.fault.TableFault.TheVariants.{ObjectTwice}
+use Rattle.module_table.specs.inner.Repetition.{AllDiffer}
+use Rattle.module_table.specs.inner.Reported.{Reports}
+use Rattle.module_table.proofs.IndexRows.{map_take_all}
 use Rattle.module_table.proofs.Places.{to_map}
 use Rattle.module_table.proofs.Repetitions.{repeats_if_found, keys_if_new, differ_if_new, text_repetition}
+use Rattle.module_table.proofs.ReportLemmas.{for_fault, for_made, reports_same}
 use Rattle.module_table.proofs.checks.repeated.check_objects.Goals as goal
 
 abbrev text_of : Bor (List ℕ) → List ℕ
@@ -12,17 +20,28 @@ text_of path = path.now
 abbrev object_of : RuleValue → List ℕ
 object_of rule = rule.object
 
+pub loop-index-init : goal.loop-index-init
+loop-index-init g c = record {
+  same = ap (map text_of) (c.in_ok-reserve.ensures.keys ∙ c.requires);
+  differ = record { differ = λ i j x lt at again. cc };
+}
+
 pub returns-then-not-is_new-clause-fault : goal.returns-then-not-is_new-clause-fault
-returns-then-not-is_new-clause-fault g c = λ t kept same.
+returns-then-not-is_new-clause-fault g c =
     let objects = c.args.objects.now in
     let i = c.loop-index.index in
-    let rule = c.index-objects-index.result in
-    let at = to_map object_of objects i rule (slice_get_read objects _ i rule refl c.loop-index-test.true c.index-objects-index.is) ∙ ap (λ (r : RuleValue). Some r.object) (sym c.rule.view_is) in
+    let first = c.in_ok-first.first in
+    let path : List ℕ = c.rule.inside.object in
+    let at = to_map object_of objects i _ (slice_get_read objects _ i _ refl c.loop-index-test.true c.index-objects-index.is) ∙ ap (λ (r : RuleValue). Some r.object) (sym c.rule.view_is) in
     let h = c.in_ok-first.ensures in
     let stored = h.stored in
-    let repeated = repeats_if_found text_of (map object_of objects) i _ c.loop-index.paths.keys c.insert_full.new.self.keys at c.loop-index.invariant.same c.loop-index.invariant.differ h.keys c.in_ok-first.first (sym c.if-not-is_new.true ∙ h.added) stored.0 stored.1 stored.2 in
-    let is = subst (λ xs. IsFirstRepetition (λ a b. a ≡ b) (map object_of xs) c.in_ok-first.first i c.in_ok-path.path c.in_ok-path.path) same (text_repetition _ _ _ _ repeated (at ∙ ap (λ x. Some x) (sym c.in_ok-path.ensures))) in
-    record { present = (c.in_ok-first.first, i, is, refl, refl); coded = refl }
+    let repeated = repeats_if_found text_of (map object_of objects) i _ c.loop-index.paths.keys c.insert_full.new.self.keys at c.loop-index.invariant.same c.loop-index.invariant.differ h.keys first (sym c.if-not-is_new.true ∙ h.added) stored.0 stored.1 stored.2 in
+    let is = text_repetition (map object_of objects) first i path repeated at in
+    let is_twice : TableFault → Type 0 = λ fault. fault ≡ ObjectTwice path (Object first) (Object i) in
+    for_fault is_twice (λ fault. (t : TableValue) (kept : List (List ℕ)) → objects ≡ t.objects → Reports 1 t kept fault) _
+    (λ fault made t kept same.
+    reports_same 1 t kept fault _ made (record { present = (first, i, subst (λ xs. IsFirstRepetition (λ a b. a ≡ b) (map object_of xs) first i path path) same is, refl, refl); coded = refl }))
+    (for_made is_twice c.object_twice.result c.failure.result c.failure.ensures.fault c.failure.ensures.memory c.object_twice.ensures)
 
 pub loop-index-preserved : goal.loop-index-preserved
 loop-index-preserved g c =
@@ -36,3 +55,9 @@ loop-index-preserved g c =
       same = keys_if_new text_of (map object_of objects) i _ c.loop-index.paths.keys c.insert_full.new.self.keys at c.loop-index.invariant.same c.loop-index.invariant.differ h.keys fresh;
       differ = differ_if_new text_of (map object_of objects) i _ c.loop-index.paths.keys c.insert_full.new.self.keys at c.loop-index.invariant.same c.loop-index.invariant.differ h.keys fresh;
     }
+
+pub returns-clause-paths : goal.returns-clause-paths
+returns-clause-paths g c = c.loop-index.invariant.same ∙ map_take_all object_of c.args.objects.now c.loop-index.index c.loop-index-test.false
+
+pub returns-clause-differ : goal.returns-clause-differ
+returns-clause-differ g c = subst AllDiffer (map_take_all object_of c.args.objects.now c.loop-index.index c.loop-index-test.false) c.loop-index.invariant.differ
