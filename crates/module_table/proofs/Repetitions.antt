@@ -1,9 +1,9 @@
 -- Lists in which all differ, and the first repetition in a list.
-use Rattle.std.proofs.Common.{◌≡◌, ℕ, zero, suc, ◌+◌, ◌<◌, ◌⊎◌, Bool, true, false, List, [], ◌∷◌, ◌++◌, length, map, take, get_or, Option, Some, refl, ap, subst, sym, ◌∙◌, inl, inr, ⊎_elim, arith, slice_get, true≢false, bytes_eq, append_assoc, append-nil, not, cond, None, IfSome, IfNone, is_some, position}
+use Rattle.std.proofs.Common.{◌≡◌, ℕ, zero, suc, ◌+◌, ◌<◌, ◌≤◌, ◌⊎◌, Bool, true, false, List, [], ◌∷◌, ◌++◌, length, map, take, get_or, Option, Some, refl, ap, subst, sym, ◌∙◌, inl, inr, ⊎_elim, arith, slice_get, true≢false, bytes_eq, append_assoc, append-nil, not, cond, None, IfSome, IfNone, is_some, position}
 use Rattle.std.specs.List.{list_any, flat_map, enumerate_from}
 use Rattle.std.proofs.lemmas.Grind.{flat_map-append}
 use Rattle.std.specs.Cmp.Lexicographic.{bytes_decides}
-use Rattle.std.proofs.lemmas.List.{take_more, map-append}
+use Rattle.std.proofs.lemmas.List.{take_more, take_all, map-append}
 use Rattle.std.proofs.lemmas.List.Folds.{list_any_at}
 use Rattle.std.proofs.lemmas.Option.{slice_get_within, get_or_from_slice_get, slice_get-get_or}
 use Rattle.std.proofs.lemmas.List.Quantifiers.{position-Some}
@@ -95,6 +95,10 @@ parts_next f xs i x at =
 pub gathers_next : {X A : Type 0} (f : ℕ × X → List A) (xs : List X) (i : ℕ) (x : X) (old now new : List A) → slice_get xs i ≡ Some x → now ≡ old ++ flat_map f (enumerate_from 0 (take i xs)) → new ≡ now ++ f (i, x) → new ≡ old ++ flat_map f (enumerate_from 0 (take (i + 1) xs))
 gathers_next f xs i x old now new at before more =
     more ∙ ap (λ ys. ys ++ f (i, x)) before ∙ append_assoc old (flat_map f (enumerate_from 0 (take i xs))) (f (i, x)) ∙ ap (λ ys. old ++ ys) (sym (parts_next f xs i x at))
+
+-- and its end
+pub gathers_all : {X A : Type 0} (f : ℕ × X → List A) (xs : List X) (i : ℕ) (old now : List A) → length xs ≤ i → now ≡ old ++ flat_map f (enumerate_from 0 (take i xs)) → now ≡ old ++ flat_map f (enumerate_from 0 xs)
+gathers_all f xs i old now past so_far = so_far ∙ ap (λ ys. old ++ flat_map f (enumerate_from 0 ys)) (take_all i xs past)
 
 pub found_if : (b : Bool) → false ≡ not b → b ≡ true
 found_if true e = refl

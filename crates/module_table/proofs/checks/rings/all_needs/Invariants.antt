@@ -6,4 +6,4 @@ use Rattle.module_table.specs.inner.Views.{provision_of}
 use Rattle.module_table.proofs.checks.rings.all_needs.Given as goal
 
 abbrev pub invariant-loop-row : goal.invariant-loop-row
-invariant-loop-row l = rows l.needs.items ≡ map (filter_map (maker_at (map provision_of l.provided))) (rows (take l.row-index l.required))
+invariant-loop-row l = rows l.needs.items ≡ map (filter_map (maker_at (map provision_of l.provided))) (take l.row-index (rows l.required))
