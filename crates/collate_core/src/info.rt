@@ -1,5 +1,6 @@
 //! The info of a target: its modules, for the targets that link it.
 ghost use Rattle.std.specs.Prelude.{◌≡◌, ◌++◌, ℕ, List, IfOk, OnOk};
+ghost use Rattle.indexmap.specs.IndexSet.{IsEmpty};
 ghost use Rattle.scan_docs.specs.InfoText.{info_text, ReadsBack};
 ghost use Rattle.collate_core.specs.Infos.{is_private_name, modules_of, info_of_table};
 ghost use Rattle.collate_core.specs.inner.Parts.{IsTableText};
@@ -26,9 +27,22 @@ pub(crate) fn info_text_of<S: BuildHasher + Copy>(
         (λ text. ReadsBack (info_of_table name.now kept.now table.now) text.items) }
 {
     added_files();
-    let set = set_of(alloc, kept, hash_builder)?;
-    let info = info_of_table(alloc, name, &set, table)?;
+    let info = lent_info_of(alloc, name, kept, table, hash_builder)?;
     lent_info_write(alloc, &info)
+}
+
+/// The info of a target of this name, which keeps the modules of these names to itself.
+fn lent_info_of<'t, S: BuildHasher + Copy>(
+    alloc: Global,
+    name: &'t TargetName,
+    kept: &[Name],
+    table: &'t Table<S>,
+    hash_builder: S,
+) -> Result<LentInfo<'t>, AllocError>
+    ensures { IfOk result (λ info. info ≡ info_of_table name.now kept.now table.now) }
+{
+    let set = set_of(alloc, kept, hash_builder)?;
+    info_of_table(alloc, name, &set, table)
 }
 
 /// The names as a set, which each module is looked up in.
@@ -41,10 +55,24 @@ fn set_of<S: BuildHasher + Copy>(
         (λ set. (name : List ℕ) → is_private_name set.keys name ≡ is_private_name names.now name) }
 {
     let mut set = IndexSet::with_hasher(alloc, hash_builder);
+    add_names(alloc, names, &mut set)?;
+    Ok(set)
+}
+
+/// Puts the names into the empty set.
+fn add_names<S: BuildHasher>(
+    alloc: Global,
+    names: &[Name],
+    set: &mut IndexSet<Name, S>,
+) -> Result<(), AllocError>
+    requires { IsEmpty set.old }
+    ensures { OnOk result ((name : List ℕ) →
+        is_private_name set.new.keys name ≡ is_private_name names.now name) }
+{
     for name in names {
         set.insert(name.copy(alloc)?)?;
     }
-    Ok(set)
+    Ok(())
 }
 
 /// The info of a target of this name, which keeps these modules to itself.
