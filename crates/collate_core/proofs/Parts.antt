@@ -23,7 +23,7 @@ use Rattle.collate_core.specs.Statements.{statements_of}
 use Rattle.collate_core.specs.Infos.{info_of_table}
 use Rattle.collate_core.specs.Collation.{IsMapText, AreMaps, Collates}
 use Rattle.collate_core.specs.Refusals.{IsRefusal}
-use Rattle.collate_core.specs.inner.Parts.{ForTable, IsWriteRefusal, IsMapsRefusal, HasSpelled}
+use Rattle.collate_core.specs.inner.Parts.{ForTable, IsWriteRefusal, IsMapsRefusal, IsTextsRefusal, HasSpelled}
 use Rattle.collate_core.specs.declared.fault.Refusal.{Refusal}
 use Rattle.collate_core.specs.declared.fault.Refusal.TheVariants.{Scan, Info, Table, StatementTooLong, Map, LinkedLater}
 use Rattle.collate_core.proofs.Writing.{has_paths}
@@ -78,10 +78,10 @@ write_refusal target style resolved (Table fault) h = absurd h
 write_refusal target style resolved (Map o fault) h = absurd h
 write_refusal target style resolved LinkedLater h = absurd h
 
-pub write_refused : (target : TargetValue) (style : Option Written) (t : TableValue) (ss : List StatementValue) → t ≡ table_of target → ss ≡ statements_of t → IsResolved target →
-    (failure : Failure Refusal) → ForFault (IsWriteRefusal ss) failure → ForFault (IsRefusal target style) failure
-write_refused target style t ss table same resolved Memory h = tt
-write_refused target style t ss table same resolved (Fault refusal) h =
+pub write_refused : (style : Option Written) (t : TableValue) (ss : List StatementValue) → ss ≡ statements_of t →
+    (failure : Failure Refusal) → ForFault (IsWriteRefusal ss) failure → ForFault (IsTextsRefusal t style) failure
+write_refused style t ss same Memory h = tt
+write_refused style t ss same (Fault refusal) h = λ target table resolved.
     write_refusal target style resolved refusal (subst (λ xs. IsWriteRefusal xs refusal) (same ∙ ap statements_of table) h)
 
 maps_refusal : (target : TargetValue) (style : Option Written) → IsResolved target → write_fault (statements_of (table_of target)) ≡ None → (refusal : Refusal) → IsMapsRefusal (table_of target) style refusal → IsRefusal target style refusal
@@ -93,11 +93,17 @@ maps_refusal target (Some written) resolved fits (Info i fault) h = absurd h
 maps_refusal target (Some written) resolved fits (Table fault) h = absurd h
 maps_refusal target (Some written) resolved fits LinkedLater h = absurd h
 
-pub maps_refused : (target : TargetValue) (style : Option Written) (t : TableValue) (ss : List StatementValue) → t ≡ table_of target → ss ≡ statements_of t → IsResolved target → write_fault ss ≡ None →
-    (failure : Failure Refusal) → ForFault (IsMapsRefusal t style) failure → ForFault (IsRefusal target style) failure
-maps_refused target style t ss table same resolved fits Memory h = tt
-maps_refused target style t ss table same resolved fits (Fault refusal) h =
+pub maps_refused : (style : Option Written) (t : TableValue) (ss : List StatementValue) → ss ≡ statements_of t → write_fault ss ≡ None →
+    (failure : Failure Refusal) → ForFault (IsMapsRefusal t style) failure → ForFault (IsTextsRefusal t style) failure
+maps_refused style t ss same fits Memory h = tt
+maps_refused style t ss same fits (Fault refusal) h = λ target table resolved.
     maps_refusal target style resolved (subst (λ xs. write_fault xs ≡ None) (same ∙ ap statements_of table) fits) refusal (subst (λ u. IsMapsRefusal u style refusal) table h)
+
+-- of a target whose documents have this table
+pub texts_refused : (target : TargetValue) (style : Option Written) (t : TableValue) → t ≡ table_of target → IsResolved target →
+    (failure : Failure Refusal) → ForFault (IsTextsRefusal t style) failure → ForFault (IsRefusal target style) failure
+texts_refused target style t table resolved Memory h = tt
+texts_refused target style t table resolved (Fault refusal) h = h target table resolved
 
 -- each text is that of its object's map
 abbrev pub EachMap : TableValue → Written → List (List ℕ) → Type 0

@@ -13,9 +13,10 @@ use Rattle.module_table.specs.TableValue.{TableValue}
 use Rattle.module_table.specs.declared.fault.TableFault.{TableFault}
 use Rattle.module_maps.specs.Maps.{Written}
 use Rattle.build_effect.specs.declared.fault.EffectFault.{EffectFault}
-use Rattle.collate_core.specs.Values.{CollatedValue, ProjectTargetValue}
+use Rattle.collate_core.specs.Values.{TargetValue, CollatedValue, ProjectTargetValue}
+use Rattle.collate_core.specs.Documents.{table_of, IsResolved}
 use Rattle.collate_core.specs.Collation.{Collates}
-use Rattle.collate_core.specs.Refusals.{IsMapRefusal}
+use Rattle.collate_core.specs.Refusals.{IsMapRefusal, IsRefusal}
 use Rattle.collate_core.specs.Projects.{target_of, LinksEarlier}
 use Rattle.collate_core.specs.declared.fault.Refusal.{Refusal}
 use Rattle.collate_core.specs.declared.fault.Refusal.TheVariants.{Scan, Info, Table, StatementTooLong, Map}
@@ -76,6 +77,11 @@ IsLineRefusal index s refusal = ⊥
 abbrev pub IsMapsRefusal : TableValue → Option Written → Refusal → Type 0
 IsMapsRefusal t (Some written) (Map o fault) = IsMapRefusal t written o fault
 IsMapsRefusal t style refusal = ⊥
+
+-- the refusal is that of each target whose documents have this table
+abbrev pub IsTextsRefusal : TableValue → Option Written → Refusal → Type 0
+IsTextsRefusal t style refusal = (target : TargetValue) → t ≡ table_of target → IsResolved target
+    → IsRefusal target style refusal
 
 -- all targets that this one links are among those that wrote these, and it collates to this
 abbrev pub CollatesLinked : Option Written → List CollatedValue → ProjectTargetValue →

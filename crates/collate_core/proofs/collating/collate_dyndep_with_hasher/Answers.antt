@@ -9,7 +9,7 @@ use Rattle.collate_core.specs.Values.{TargetValue, CollatedValue}
 use Rattle.collate_core.specs.Statements.{statements_of}
 use Rattle.collate_core.specs.Infos.{info_of_table}
 use Rattle.collate_core.specs.Collation.{HasPaths, Collates}
-use Rattle.collate_core.proofs.Parts.{collates, write_refused}
+use Rattle.collate_core.proofs.Parts.{collates, texts_refused, write_refused}
 use Rattle.collate_core.proofs.Texts.{info_is_sound}
 use Rattle.collate_core.proofs.Writing.{has_paths}
 use Rattle.collate_core.proofs.collating.collate_dyndep_with_hasher.Goals as goal
@@ -18,8 +18,8 @@ pub returns-in_err-dyndep-clause-refused : goal.returns-in_err-dyndep-clause-ref
 returns-in_err-dyndep-clause-refused g c =
     let p = err_from_is_err_and c.from_residual-in_err-dyndep.result c.from_residual-in_err-dyndep.ensures.1 in
     let table = c.in_ok-table.ensures in
-    rw (p.1, p.2) (write_refused c.args.target.now None c.in_ok-table.table (statements_of c.into_resolved-resolved.result) table.table (ap statements_of c.into_resolved-resolved.ensures)
-    table.resolved _ c.in_err-dyndep.ensures.refused)
+    rw (p.1, p.2) (texts_refused c.args.target.now None c.in_ok-table.table table.table table.resolved _
+    (write_refused None c.in_ok-table.table (statements_of c.into_resolved-resolved.result) (ap statements_of c.into_resolved-resolved.ensures) _ c.in_err-dyndep.ensures.refused))
 
 -- what the target collates to has the text, and the info that is not written
 pub returns-clause-dyndep : goal.returns-clause-dyndep
