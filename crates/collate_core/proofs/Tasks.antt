@@ -26,10 +26,14 @@ pub one_more : (t : TableValue) (index : ℕ) (rule : RuleValue) (required : Lis
 one_more t index rule required statement statements here same is so_far =
     rw (take_next (tasks_of t) index (rule, required) (task_here t index rule required here same), map-append, so_far, is) refl
 
+-- the tasks of all objects
+all_tasks : (t : TableValue) (index : ℕ) → length t.objects ≤ index → take index (tasks_of t) ≡ tasks_of t
+all_tasks t index past =
+    take_all index (tasks_of t) (subst (λ n. n ≤ index) (sym (length-map t.objects (λ (r : RuleValue). let x : Task = (r, required_of t r) in x))) past)
+
 -- the statements of all objects
 pub all_statements : (t : TableValue) (index : ℕ) → length t.objects ≤ index → map statement_of (take index (tasks_of t)) ≡ statements_of t
-all_statements t index past =
-    ap (map statement_of) (take_all index (tasks_of t) (subst (λ n. n ≤ index) (sym (length-map t.objects (λ (r : RuleValue). let x : Task = (r, required_of t r) in x))) past))
+all_statements t index past = ap (map statement_of) (all_tasks t index past)
 
 -- the modules of one more object
 pub more_modules : (kept : List (List ℕ)) (t : TableValue) (index : ℕ) (rule : RuleValue) (required : List (List ℕ × List ℕ)) (modules : List ModuleValue) →
@@ -38,3 +42,7 @@ pub more_modules : (kept : List (List ℕ)) (t : TableValue) (index : ℕ) (rule
 more_modules kept t index rule required modules here same so_far =
     ap (λ xs. xs ++ modules_of kept (rule, required)) so_far ∙ sym (flat_map_last (modules_of kept) (take index (tasks_of t)) (rule, required))
     ∙ ap (flat_map (modules_of kept)) (sym (take_next (tasks_of t) index (rule, required) (task_here t index rule required here same)))
+
+-- the modules of all objects
+pub all_modules : (kept : List (List ℕ)) (t : TableValue) (index : ℕ) → length t.objects ≤ index → flat_map (modules_of kept) (take index (tasks_of t)) ≡ flat_map (modules_of kept) (tasks_of t)
+all_modules kept t index past = ap (flat_map (modules_of kept)) (all_tasks t index past)

@@ -1,4 +1,4 @@
-use Rattle.std.proofs.Common.{◌≡◌, ℕ, ◌+◌, List, [], ◌∷◌, ◌++◌, take, Option, Some, refl, subst}
+use Rattle.std.proofs.Common.{◌≡◌, ℕ, ◌+◌, List, [], ◌∷◌, ◌++◌, take, Option, Some, refl, subst, sym}
 use Rattle.std.specs.Prelude.{slice_get}
 use Rattle.std.specs.Option.{option_copied, option_map}
 use Rattle.std.proofs.lemmas.List.{take_all}
@@ -31,6 +31,11 @@ loop-index-preserved g c =
     let next : take (n + 1) targets ≡ take n targets ++ p ∷ [] = take_next targets n p here in
     let found : CollatesLinked style c.loop-index.outs.items p c.in-Ok.out = rw c.deref.ensures.value at c.in-Ok.ensures.collated in
     rw (next, c.in_ok-push-in-Ok.ensures.items) (project_push style (take n targets) c.loop-index.outs.items c.loop-index.invariant p c.in-Ok.out found.0 found.1)
+
+pub loop-index-init : goal.loop-index-init
+loop-index-init g c =
+    subst (IsProject (option_map g.M.MapStyle.written (option_copied c.args.style)) []) (sym c.in_ok-outs.ensures.items)
+    (record { count = refl; earlier = λ n p at. absurd (cc); each = λ n p out at also. absurd (cc) })
 
 pub returns-clause-collated : goal.returns-clause-collated
 returns-clause-collated g c = subst (λ (ts : List ProjectTargetValue). IsProject (option_map g.M.MapStyle.written (option_copied c.args.style)) ts c.loop-index.outs.items) (take_all c.loop-index.index c.args.targets.now c.loop-index-test.false) c.loop-index.invariant
