@@ -74,8 +74,36 @@ pub(crate) fn check_all<S: BuildHasher + Copy>(
     ensures fault { IfErr result (ForFault
         (IsReported (table_with objects.now infos.now) kept.now)) }
 {
-    let modules = check_repetitions(alloc, objects, infos, hash_builder)?;
-    let lookups = check_modules(alloc, &modules, kept)?;
+    let mut paths = IndexSet::with_hasher(alloc, hash_builder);
+    check_with_paths(alloc, objects, infos, kept, &mut paths, hash_builder)
+}
+
+/// The same with an empty set, into which the paths of the objects are put, and behind them the
+/// modules' files.
+fn check_with_paths<'t, S: BuildHasher + Copy>(
+    alloc: Global,
+    objects: &'t [Rule],
+    infos: &'t [Info],
+    kept: &[Name],
+    paths: &mut IndexSet<&'t Path, S>,
+    hash_builder: S,
+) -> Result<Index<S>, Failure<TableFault>>
+    requires { IsEmpty paths.old }
+    ensures no_fault { OnOk result
+        (HasNoFault (table_with objects.now infos.now) kept.now) }
+    ensures names { IfOk result (λ index. index.names.keys
+        ≡ names_of (provisions (table_with objects.now infos.now))) }
+    ensures origins { IfOk result (λ index. index.origins.items
+        ≡ origins_of (table_with objects.now infos.now)) }
+    ensures graph { IfOk result (λ index.
+        IsModuleGraph (table_with objects.now infos.now) index.graph) }
+    ensures required { IfOk result (λ index. map (λ row. row.items) index.required.items
+        ≡ map (required_of (table_with objects.now infos.now)) objects.now) }
+    ensures fault { IfErr result (ForFault
+        (IsReported (table_with objects.now infos.now) kept.now)) }
+{
+    let modules = check_repetitions(alloc, objects, infos, paths, hash_builder)?;
+    let lookups = check_modules(alloc, &modules, paths, kept)?;
     Ok(lookups.with_names(modules.into_names()))
 }
 
@@ -141,78 +169,42 @@ fn origins_and_graph<S: BuildHasher>(
     Ok((origins, graph))
 }
 
-/// M1 to M4, and the modules by index.
+/// M1 to M3, and the modules by index. Puts the paths of the objects into the empty set.
 fn check_repetitions<'t, S: BuildHasher + Copy>(
     alloc: Global,
     objects: &'t [Rule],
     infos: &'t [Info],
-    hash_builder: S,
-) -> Result<Modules<'t, S>, Failure<TableFault>>
-    ensures modules { IfOk result
-        (λ modules. modules ≡ table_with objects.now infos.now) }
-    ensures passed { OnOk result ((kept : List (List ℕ)) →
-        Passed 5 (table_with objects.now infos.now) kept) }
-    ensures fault { IfErr result (ForFault (λ fault. (kept : List (List ℕ)) →
-        IsReported (table_with objects.now infos.now) kept fault)) }
-{
-    let mut paths = IndexSet::with_hasher(alloc, hash_builder);
-    check_objects_and_infos(alloc, objects, infos, &mut paths, hash_builder)?;
-    check_provided(alloc, objects, infos, &mut paths, hash_builder)
-}
-
-/// M1 and M2. Puts the paths of the objects into the empty set.
-fn check_objects_and_infos<'t, S: BuildHasher + Copy>(
-    alloc: Global,
-    objects: &'t [Rule],
-    infos: &[Info],
     paths: &mut IndexSet<&'t Path, S>,
     hash_builder: S,
-) -> Result<(), Failure<TableFault>>
+) -> Result<Modules<'t, S>, Failure<TableFault>>
     requires { IsEmpty paths.old }
+    ensures modules { IfOk result
+        (λ modules. modules ≡ table_with objects.now infos.now) }
     ensures paths { OnOk result
         (map (λ path. path.now) paths.new.keys ≡ map (λ rule. rule.object) objects.now) }
     ensures differ { OnOk result (AllDiffer (map (λ rule. rule.object) objects.now)) }
     ensures passed { OnOk result ((kept : List (List ℕ)) →
-        Passed 3 (table_with objects.now infos.now) kept) }
+        Passed 4 (table_with objects.now infos.now) kept) }
     ensures fault { IfErr result (ForFault (λ fault. (kept : List (List ℕ)) →
         IsReported (table_with objects.now infos.now) kept fault)) }
 {
     check_objects(alloc, objects, paths)?;
     check_infos(alloc, infos, hash_builder)?;
-    Ok(())
+    check_names(alloc, objects, infos, hash_builder)
 }
 
-/// M3 and M4, and the modules by index. The modules' files come behind the paths of the objects.
-fn check_provided<'t, S: BuildHasher + Copy>(
+/// M4 to M10, and what is kept of the modules beside their names. The modules' files come behind
+/// the paths of the objects.
+fn check_modules<'t, S: BuildHasher>(
     alloc: Global,
-    objects: &'t [Rule],
-    infos: &'t [Info],
+    modules: &Modules<'t, S>,
     paths: &mut IndexSet<&'t Path, S>,
-    hash_builder: S,
-) -> Result<Modules<'t, S>, Failure<TableFault>>
-    requires paths { map (λ path. path.now) paths.old.keys
-        ≡ map (λ rule. rule.object) objects.now }
-    requires differ { AllDiffer (map (λ rule. rule.object) objects.now) }
-    requires passed { (kept : List (List ℕ)) → Passed 3 (table_with objects.now infos.now) kept }
-    ensures modules { IfOk result
-        (λ modules. modules ≡ table_with objects.now infos.now) }
-    ensures passed { OnOk result ((kept : List (List ℕ)) →
-        Passed 5 (table_with objects.now infos.now) kept) }
-    ensures fault { IfErr result (ForFault (λ fault. (kept : List (List ℕ)) →
-        IsReported (table_with objects.now infos.now) kept fault)) }
-{
-    let modules = check_names(alloc, objects, infos, hash_builder)?;
-    check_files(alloc, &modules, paths)?;
-    Ok(modules)
-}
-
-/// M5 to M10, and what is kept of the modules beside their names.
-fn check_modules<S: BuildHasher>(
-    alloc: Global,
-    modules: &Modules<S>,
     kept: &[Name],
 ) -> Result<Lookups, Failure<TableFault>>
-    requires { Passed 5 modules.now kept.now }
+    requires paths { map (λ path. path.now) paths.old.keys
+        ≡ map (λ rule. rule.object) modules.now.objects }
+    requires differ { AllDiffer (map (λ rule. rule.object) modules.now.objects) }
+    requires passed { Passed 4 modules.now kept.now }
     ensures passed { OnOk result (Passed 11 modules.now kept.now) }
     ensures origins { IfOk result (λ lookups. lookups.origins.items ≡ origins_of modules.now) }
     ensures graph { IfOk result (λ lookups. IsModuleGraph modules.now lookups.graph) }
@@ -220,6 +212,7 @@ fn check_modules<S: BuildHasher>(
         ≡ map (required_of modules.now) modules.now.objects) }
     ensures fault { IfErr result (ForFault (IsReported modules.now kept.now)) }
 {
+    check_files(alloc, modules, paths)?;
     let rows = check_requirements(alloc, modules, kept)?;
     Ok(Lookups::new(alloc, modules, rows)?)
 }

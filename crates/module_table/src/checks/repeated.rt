@@ -119,9 +119,24 @@ pub(crate) fn check_names<'t, S: BuildHasher + Copy>(
         Reports 3 (table_with objects.now infos.now) kept fault)) }
 {
     let provided = provided_modules(alloc, objects, infos)?;
-    let mut names = IndexSet::with_hasher(alloc, hash_builder);
-    add_names(alloc, provided.as_slice(), &mut names)?;
+    let names = provided_names(alloc, provided.as_slice(), hash_builder)?;
     Ok(Modules::new(objects, infos, provided, names))
+}
+
+/// The modules' names, each at its module's index, if none is there twice.
+fn provided_names<S: BuildHasher + Copy>(
+    alloc: Global,
+    provided: &[Module],
+    hash_builder: S,
+) -> Result<IndexSet<Name, S>, Failure<TableFault>>
+    ensures names { IfOk result (λ names. names.keys ≡ names_of (map provision_of provided.now)) }
+    ensures differ { IfOk result (λ names. AllDiffer names.keys) }
+    ensures fault { IfErr result (ForFault (λ fault. (t : TableValue) (kept : List (List ℕ)) →
+        map provision_of provided.now ≡ provisions t → Reports 3 t kept fault)) }
+{
+    let mut names = IndexSet::with_hasher(alloc, hash_builder);
+    add_names(alloc, provided, &mut names)?;
+    Ok(names)
 }
 
 /// Puts the modules' names into the empty set, each at its module's index, if none is there twice.

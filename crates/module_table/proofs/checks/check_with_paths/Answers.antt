@@ -1,16 +1,18 @@
 use Rattle.std.proofs.Common.{◌∙◌, ap, subst, sym, map}
 use Rattle.std.proofs.lemmas.Result.{err_from_is_err_and}
+use Rattle.scan_docs.specs.Scan.{RuleValue}
 use Rattle.module_table.specs.TableValue.{TableValue}
 use Rattle.module_table.specs.Added.{required_of}
 use Rattle.module_table.specs.Modules.{provisions}
 use Rattle.module_table.specs.Faults.{IsReported}
 use Rattle.module_table.specs.inner.Views.{names_of}
 use Rattle.module_table.specs.inner.Origins.{origins_of}
+use Rattle.module_table.specs.inner.Repetition.{AllDiffer}
 use Rattle.module_table.specs.inner.Passed.{Passed}
 use Rattle.module_table.specs.inner.Graph.{IsModuleGraph}
 use Rattle.module_table.proofs.ReportLemmas.{for_fault}
 use Rattle.module_table.proofs.Passing.{for_these_kept, without_fault}
-use Rattle.module_table.proofs.checks.check_all.Goals as goal
+use Rattle.module_table.proofs.checks.check_with_paths.Goals as goal
 
 pub returns-in_err-modules-clause-fault : goal.returns-in_err-modules-clause-fault
 returns-in_err-modules-clause-fault g c =
@@ -18,10 +20,17 @@ returns-in_err-modules-clause-fault g c =
     let p = err_from_is_err_and c.from_residual.result c.from_residual.ensures.1 in
     rw (p.1, p.2) (for_these_kept t c.args.kept.now _ c.in_err-modules.ensures.fault)
 
-pub check_modules-requires : goal.check_modules-requires
-check_modules-requires g c =
-    let same = c.in_ok-modules.ensures.modules in
-    subst (λ t. Passed 5 t c.args.kept.now) (sym same) (c.in_ok-modules.ensures.passed c.args.kept.now)
+pub check_modules-requires-clause-paths : goal.check_modules-requires-clause-paths
+check_modules-requires-clause-paths g c =
+    c.in_ok-modules.ensures.paths ∙ ap (λ (t : TableValue). map (λ (rule : RuleValue). rule.object) t.objects) (sym c.in_ok-modules.ensures.modules)
+
+pub check_modules-requires-clause-differ : goal.check_modules-requires-clause-differ
+check_modules-requires-clause-differ g c =
+    subst (λ (t : TableValue). AllDiffer (map (λ (rule : RuleValue). rule.object) t.objects)) (sym c.in_ok-modules.ensures.modules) c.in_ok-modules.ensures.differ
+
+pub check_modules-requires-clause-passed : goal.check_modules-requires-clause-passed
+check_modules-requires-clause-passed g c =
+    subst (λ t. Passed 4 t c.args.kept.now) (sym c.in_ok-modules.ensures.modules) (c.in_ok-modules.ensures.passed c.args.kept.now)
 
 pub returns-in_err-lookups-clause-fault : goal.returns-in_err-lookups-clause-fault
 returns-in_err-lookups-clause-fault g c =
