@@ -1,5 +1,5 @@
 //! Projects: targets that link earlier ones.
-ghost use Rattle.std.specs.Prelude.{◌≡◌, ◌↔◌, ◌<◌, List, IfOk, IfErr, IfSome, IsTrue, All, map, length};
+ghost use Rattle.std.specs.Prelude.{◌≡◌, ◌↔◌, ◌<◌, List, [], IfOk, OnOk, IfErr, IfSome, IsTrue, All, map, length};
 ghost use Rattle.std.specs.Option.{option_copied, option_map};
 ghost use Rattle.ninja_text.specs.Failure.{Turns, ForFault};
 ghost use Rattle.collate_core.specs.Projects.{IsProject, IsProjectRefusal, IsLinkedRefusal, linked_infos, project_tables};
@@ -118,13 +118,33 @@ pub fn project_with_hasher<M: MapStyle, S: BuildHasher + Copy>(
     project_orders();
     project_maps();
     let mut outs = Vec::with_capacity(alloc, targets.len())?;
+    add_outs(alloc, targets, style, hash_builder, &mut outs)?;
+    Ok(ProjectOut { targets: outs })
+}
+
+/// Collates the targets in order into the empty list, up to the first that is refused.
+fn add_outs<M: MapStyle, S: BuildHasher + Copy>(
+    alloc: Global,
+    targets: &[ProjectTarget<'_>],
+    style: Option<&M>,
+    hash_builder: S,
+    outs: &mut Vec<Collated>,
+) -> Result<(), Failure<(usize, Refusal)>>
+    requires { outs.old.items ≡ [] }
+    ensures collated { OnOk result
+        (IsProject (option_map M.written (option_copied style.entry))
+        targets.now outs.new.items) }
+    ensures refused { IfErr result (ForFault (λ refused.
+        IsProjectRefusal (option_map M.written (option_copied style.entry))
+        targets.now refused.0 refused.1)) }
+{
     for (index, target) in targets.iter().enumerate() {
-        match collate_linked(alloc, target, &outs, style, hash_builder) {
+        match collate_linked(alloc, target, outs.as_slice(), style, hash_builder) {
             Ok(out) => outs.push(out)?,
             Err(failure) => return Err(failed_at(index, failure)),
         }
     }
-    Ok(ProjectOut { targets: outs })
+    Ok(())
 }
 
 /// The failure of the target of this index.

@@ -1,0 +1,41 @@
+use Rattle.std.proofs.Common.{◌≡◌, ℕ, ◌+◌, List, [], ◌∷◌, ◌++◌, take, Option, Some, refl, subst, sym}
+use Rattle.std.specs.Prelude.{slice_get}
+use Rattle.std.specs.Option.{option_copied, option_map}
+use Rattle.std.proofs.lemmas.List.{take_all}
+use Rattle.std.proofs.lemmas.Option.{slice_get_read}
+use Rattle.module_maps.specs.Maps.{Written}
+use Rattle.collate_core.specs.Values.{CollatedValue, ProjectTargetValue}
+use Rattle.collate_core.specs.Projects.{IsProject}
+use Rattle.collate_core.specs.inner.Parts.{CollatesLinked}
+use Rattle.collate_core.proofs.Lists.{take_next}
+use Rattle.collate_core.proofs.LoopLemmas.{project_push, failed_here}
+use Rattle.collate_core.proofs.projects.add_outs.Goals as goal
+
+pub loop-index-init : goal.loop-index-init
+loop-index-init g c =
+    subst (IsProject (option_map g.M.MapStyle.written (option_copied c.args.style)) []) (sym c.requires)
+    (record { count = refl; earlier = λ n p at. absurd (cc); each = λ n p out at also. absurd (cc) })
+
+pub returns-in-Err-clause-refused : goal.returns-in-Err-clause-refused
+returns-in-Err-clause-refused g c =
+    let style : Option Written = option_map g.M.MapStyle.written (option_copied c.args.style) in
+    let targets : List ProjectTargetValue = c.args.targets.now in
+    let outs : List CollatedValue = c.loop-index.outs.items in
+    let n : ℕ = c.loop-index.index in
+    let p : ProjectTargetValue = c.index-targets-index.result in
+    let here : slice_get targets n ≡ Some p = slice_get_read targets _ n _ refl c.loop-index-test.true c.index-targets-index.is in
+    failed_here style targets n outs p c.loop-index.invariant here c.in-Err.failure c.failed_at.result c.failed_at.ensures (rw (← c.as_slice.ensures.value) c.in-Err.ensures.refused)
+
+pub loop-index-preserved : goal.loop-index-preserved
+loop-index-preserved g c =
+    let style : Option Written = option_map g.M.MapStyle.written (option_copied c.args.style) in
+    let targets : List ProjectTargetValue = c.args.targets.now in
+    let n : ℕ = c.loop-index.index in
+    let p : ProjectTargetValue = c.index-targets-index.result in
+    let here : slice_get targets n ≡ Some p = slice_get_read targets _ n _ refl c.loop-index-test.true c.index-targets-index.is in
+    let next : take (n + 1) targets ≡ take n targets ++ p ∷ [] = take_next targets n p here in
+    let found : CollatesLinked style c.loop-index.outs.items p c.in-Ok.out = rw c.as_slice.ensures.value at c.in-Ok.ensures.collated in
+    rw (next, c.in_ok-push-in-Ok.ensures.items) (project_push style (take n targets) c.loop-index.outs.items c.loop-index.invariant p c.in-Ok.out found.0 found.1)
+
+pub returns-clause-collated : goal.returns-clause-collated
+returns-clause-collated g c = subst (λ (ts : List ProjectTargetValue). IsProject (option_map g.M.MapStyle.written (option_copied c.args.style)) ts c.loop-index.outs.items) (take_all c.loop-index.index c.args.targets.now c.loop-index-test.false) c.loop-index.invariant
