@@ -20,6 +20,10 @@ resolved_of : (target : TargetValue) → AreAccepted target → (r : Result Tabl
 resolved_of target documents (Ok t) table no_fault sound kept = resolved target t table documents no_fault sound kept
 resolved_of target documents (Err failure) table no_fault sound kept = tt
 
+-- said here, so that a body which does something else is refused soon
+pub returns-in_err-infos-clause-refused : goal.returns-in_err-infos-clause-refused
+returns-in_err-infos-clause-refused g c = search rules
+
 pub returns-clause-table : goal.returns-clause-table
 returns-clause-table g c =
     let same : table_with c.in_ok-objects.objects.items c.in_ok-infos.infos.items ≡ table_of c.args.target.now = search rules in
