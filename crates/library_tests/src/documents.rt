@@ -4,7 +4,6 @@
 
 mod growths;
 mod infos;
-mod names;
 mod projects;
 mod scans;
 mod targets;

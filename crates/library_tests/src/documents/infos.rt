@@ -1,7 +1,6 @@
 use ninja_text::Failure;
 use scan_docs::{Info, info_read, info_write};
 use std::alloc::{AllocError, Global};
-use std::test::Fail;
 
 /// Whether a document is written again as this text. The error is that memory was refused.
 pub(super) fn is_written_as(
@@ -37,29 +36,3 @@ pub(super) fn is_of_both_modules(info: &Info) -> bool {
 /// The info of a public module and a private one.
 pub(super) const TWO_MODULES: &[u8] =
     br#"{"modules":[{"bmi":"./lib//A.bmi","name":"A","requires":[{"bmi":"b","name":"B"}],"visibility":"public"},{"bmi":"b","name":"B","requires":[],"visibility":"private"}],"target":"t","version":2}"#;
-
-#[test]
-fn modules_of_version_1_are_public(rt: HostRuntime) -> Result<(), Fail> {
-    let document =
-        br#"{"modules":[{"bmi":"./lib//B.bmi","name":"B","requires":[],"visibility":"private"},
-        {"bmi":"l/B.bmi","name":"B","requires":[{"bmi":"x","name":"X"}]}],"target":"l","version":1}"#;
-    let wanted =
-        br#"{"modules":[{"bmi":"lib/B.bmi","name":"B","requires":[],"visibility":"public"},{"bmi":"l/B.bmi","name":"B","requires":[{"bmi":"x","name":"X"}],"visibility":"public"}],"target":"l","version":2}"#;
-    assert!(rt; is_written_as(rt.alloc(), document, wanted)?);
-    Ok(())
-}
-
-#[test]
-fn an_info_is_written_in_one_way(rt: HostRuntime) -> Result<(), Fail> {
-    let document =
-        br#" {"version":1, "target":"a\u0022b\\c","modules":[{"bmi":"m\u0022d/\\.bmi","name":"A","requires":[]}] } "#;
-    let wanted =
-        br#"{"modules":[{"bmi":"m\"d/\\.bmi","name":"A","requires":[],"visibility":"public"}],"target":"a\"b\\c","version":2}"#;
-    assert!(rt; is_written_as(rt.alloc(), document, wanted)?);
-    let document =
-        br#"{"version":2,"target":"t","modules":[{"visibility":"private","requires":[{"name":"B","bmi":"mod/./B.bmi"}],"name":"L","bmi":"mod/L.bmi"}]}"#;
-    let wanted =
-        br#"{"modules":[{"bmi":"mod/L.bmi","name":"L","requires":[{"bmi":"mod/B.bmi","name":"B"}],"visibility":"private"}],"target":"t","version":2}"#;
-    assert!(rt; is_written_as(rt.alloc(), document, wanted)?);
-    Ok(())
-}

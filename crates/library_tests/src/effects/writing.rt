@@ -86,17 +86,6 @@ fn too_long_a_build_line_is_reported_before_the_first_byte(rt: HostRuntime) -> R
     Ok(())
 }
 
-#[test]
-fn a_build_line_may_have_1048576_bytes(rt: HostRuntime) -> Result<(), Fail> {
-    let alloc = rt.alloc();
-    let at_limit = edge_of_length(alloc, "a", 1_048_576)?;
-    let graph = graph_of(alloc, vec![in alloc; at_limit]?)?;
-    let mut out = failing_writer(alloc, 1_048_576, true)?;
-    assert!(rt; listing_write(alloc, &graph, &mut out) == Ok(()));
-    assert!(rt; out.into_inner().got.len() == 1_048_576);
-    Ok(())
-}
-
 /// Whether a writer that takes so many bytes of the library's listing and then fails is answered
 /// so, and holds them: one call for what was taken, and the one that failed.
 fn is_cut_short(

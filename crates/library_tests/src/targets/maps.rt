@@ -129,13 +129,6 @@ fn a_path_that_a_map_cannot_have_fits_no_style(rt: HostRuntime) -> Result<(), Fa
 }
 
 #[test]
-fn a_map_of_no_modules_is_empty(rt: HostRuntime) -> Result<(), Fail> {
-    let map = map_of(rt.alloc(), &[], &[])?;
-    assert!(rt; answers(rt.alloc(), &Clang, &map, true, "")?);
-    Ok(())
-}
-
-#[test]
 fn needed_names_rise_strictly(rt: HostRuntime) -> Result<(), Fail> {
     let alloc = rt.alloc();
     let falling = ModuleMap::new(Vec::new(alloc), pairs(alloc, &[("C", "c"), ("B", "b")])?);

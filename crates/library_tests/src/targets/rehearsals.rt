@@ -2,7 +2,7 @@
 
 use super::{TWO_OBJECTS, TWO_OBJECTS_DYNDEP, graph_of, listing_of};
 use crate::common::{path, setting, target_name};
-use build_effect::{Graph, edge_order};
+use build_effect::Graph;
 use collate_core::{Collated, RehearseFault, Target, check_edges, collate, rehearse};
 use dep_order::Sorting;
 use dyndep_file::ReadFault;
@@ -172,17 +172,6 @@ fn what_is_collated_can_be_asked_for(rt: HostRuntime) -> Result<(), Fail> {
     assert!(rt; collated.dyndep() == TWO_OBJECTS_DYNDEP);
     assert!(rt; collated.maps().is_empty());
     assert!(rt; collated.objects().len() == 2);
-    Ok(())
-}
-
-/// After the effect the same edges are on a cycle: a test of `growths`.
-#[test]
-fn edges_with_a_generated_file_have_an_order_before_the_effect(
-    rt: HostRuntime,
-) -> Result<(), Fail> {
-    let generated = graph_of(rt.alloc(), GENERATED)?;
-    let before = sorting_text(rt.alloc(), &edge_order(rt.alloc(), &generated)?)?;
-    assert!(rt; before.as_slice() == "order 0 2 1".as_bytes());
     Ok(())
 }
 
