@@ -23,23 +23,25 @@ def folder(name):
 
 
 class Caller:
-    """Calls the program; what it prints goes to two files that are read and emptied after each call."""
+    """Calls the program, or another; what it prints goes to two files that are read and emptied after each call."""
 
-    def __init__(self):
+    def __init__(self, program=PROGRAM):
+        self.program = program
         self.out, self.err = (os.memfd_create(name) for name in ("out", "err"))
         self.environment = dict(os.environ)
         self.child, self.count = None, 0
         signal.signal(signal.SIGALRM, lambda *_: os.kill(self.child, signal.SIGKILL))
 
-    def begin(self, *words, out=None, err=None, closed=(), signals=()):
-        """Begins a run. Standard output and standard error may go to other files, and files 0 to 2 may be closed. These signals
-        have their usual effect, some of which Python turns off."""
+    def begin(self, *words, out=None, err=None, others=(), closed=(), signals=()):
+        """Begins a run. Standard output and standard error may go to other files, other files may be open under their numbers,
+        and files 0 to 2 may be closed. These signals have their usual effect, some of which Python turns off."""
         files = [(os.POSIX_SPAWN_OPEN, 0, "/dev/null", os.O_RDONLY, 0),
                  (os.POSIX_SPAWN_DUP2, self.out if out is None else out, 1),
                  (os.POSIX_SPAWN_DUP2, self.err if err is None else err, 2)]
+        files += [(os.POSIX_SPAWN_DUP2, file, number) for number, file in others]
         files += [(os.POSIX_SPAWN_CLOSE, it) for it in closed]
         self.count += 1
-        self.child = os.posix_spawn(PROGRAM, [PROGRAM, *words], self.environment, file_actions=files, setsigdef=signals)
+        self.child = os.posix_spawn(self.program, [self.program, *words], self.environment, file_actions=files, setsigdef=signals)
         return self.child
 
     def end(self, child, seconds=60):

@@ -1,30 +1,39 @@
-//! What several tests make: paths and names that are well formed, and the setting of a target.
+//! What several tests make: the values of calls, paths and names that are well formed, and the
+//! setting of a target.
+
 use ninja_text::{Failure, Path};
 use scan_docs::{Name, Setting, TargetName};
 use std::alloc::{AllocError, Global};
+use std::test::Fail;
 
-/// The fault that a call answered, if it answered one. The error is that memory was refused.
-pub(crate) fn fault_of<T: Drop, F>(answer: Result<T, Failure<F>>) -> Result<Option<F>, AllocError> {
+/// The value that a call answered. Where it answered a fault, the test fails in another way than
+/// where memory was refused.
+pub(crate) fn value<T: Drop, F: Drop>(answer: Result<T, Failure<F>>) -> Result<T, Fail> {
     match answer {
-        Ok(_value) => Ok(None),
-        Err(Failure::Memory) => Err(AllocError),
-        Err(Failure::Fault(fault)) => Ok(Some(fault)),
+        Ok(value) => Ok(value),
+        Err(Failure::Memory) => Err(Fail::from(AllocError)),
+        Err(Failure::Fault(_)) => Err(Fail::new("a call answered a fault")),
     }
 }
 
-pub(crate) fn path(alloc: Global, text: &str) -> Result<Path, AllocError> {
-    match Path::of(alloc, text.as_bytes()) {
-        Ok(path) => Ok(path),
-        Err(_failure) => Err(AllocError),
+/// The value, of which there has to be one.
+fn some<T: Drop>(value: Option<T>) -> Result<T, Fail> {
+    match value {
+        Some(value) => Ok(value),
+        None => Err(Fail::new("a call answered no value")),
     }
 }
 
-pub(crate) fn name(alloc: Global, text: &str) -> Result<Name, AllocError> {
-    Name::of(alloc, text)?.ok_or(AllocError)
+pub(crate) fn path(alloc: Global, text: &str) -> Result<Path, Fail> {
+    value(Path::of(alloc, text.as_bytes()))
 }
 
-pub(crate) fn target_name(alloc: Global, text: &str) -> Result<TargetName, AllocError> {
-    TargetName::of(alloc, text)?.ok_or(AllocError)
+pub(crate) fn name(alloc: Global, text: &str) -> Result<Name, Fail> {
+    some(Name::of(alloc, text)?)
+}
+
+pub(crate) fn target_name(alloc: Global, text: &str) -> Result<TargetName, Fail> {
+    some(TargetName::of(alloc, text)?)
 }
 
 /// Modules go to `mod`, and their files end in `.bmi`.
@@ -36,4 +45,11 @@ pub(crate) fn setting(alloc: Global) -> Result<Setting, AllocError> {
         module_ext,
         build_dir: None,
     })
+}
+
+/// Appends a line.
+pub(crate) fn push_line(out: &mut Vec<u8>, line: &[u8]) -> Result<(), AllocError> {
+    out.extend_from_slice(line)?;
+    out.push(b'\n')?;
+    Ok(())
 }

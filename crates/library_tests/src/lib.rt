@@ -1,17 +1,24 @@
-//! Tests of the libraries from `scan_docs` up, as their callers see them: worked examples, that
-//! each call succeeds where memory is ample, and writers and growths of memory that fail. Each
-//! library has a module `growths`, whose tests `tests/growths` runs with each growth of memory
-//! refused in turn. The tests of the libraries below stand in `base_tests`.
+//! Tests of the libraries from `scan_docs` up, as their callers see them: calls that the program
+//! does not make, and that succeed where memory is ample. What the program's calls answer is shown
+//! by the rows that the built program is asked (`tests/rows`, `tests/rows.py`), each with every
+//! growth of memory refused too (`tests/growths`).
+//!
+//! The tests of `growths` are run by `tests/growths` with each growth of memory refused in turn.
+//! The tests of the libraries below stand in `base_tests`.
 //!
 //! They stand here since the prover proves a crate a second time where it has tests of its own.
 #![tactic(auto)]
 
 #[cfg(test)]
+mod bare;
+#[cfg(test)]
 mod common;
 #[cfg(test)]
-mod documents;
+mod growths;
 #[cfg(test)]
-mod effects;
+mod maps;
+#[cfg(test)]
+mod rehearsals;
 #[cfg(test)]
 mod tables;
 #[cfg(test)]

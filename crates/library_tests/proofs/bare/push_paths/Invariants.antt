@@ -1,7 +1,7 @@
 use Rattle.std.proofs.Common.{◌≡◌, ◌++◌, take}
 use Rattle.std.specs.List.{flat_map}
 use Rattle.module_maps.specs.MapLines.{ended}
-use Rattle.library_tests.proofs.targets.bare.push_paths.Given as goal
+use Rattle.library_tests.proofs.bare.push_paths.Given as goal
 
 -- the lines so far
 abbrev pub invariant-loop-pair : goal.invariant-loop-pair

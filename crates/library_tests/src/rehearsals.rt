@@ -1,0 +1,129 @@
+//! Dyndep texts on graphs of edges, and the order of the edges afterwards.
+
+use crate::common::{path, value};
+use crate::targets::{TWO_OBJECTS, collated};
+use build_effect::{Graph, ListingReader, apply, edge_order, listing_write};
+use collate_core::{RehearseFault, check_edges, rehearse};
+use dep_order::Sorting;
+use dyndep_file::{Dyndep, DyndepReader, ReadFault};
+use module_maps::Gcc;
+use ninja_text::{Counted, Failure};
+use std::alloc::{AllocError, Global};
+use std::test::Fail;
+
+/// The dyndep text of two objects: `a.o` provides `A` and requires `B`, which `b.o` provides.
+pub(crate) const DYNDEP: &[u8] =
+    b"ninja_dyndep_version = 1\nbuild a.o | mod/A.bmi: dyndep | mod/B.bmi\n  restat = 1\nbuild b.o | mod/B.bmi: dyndep\n  restat = 1\n";
+
+/// The compilations of both objects, which name `t.dd`, and a library of both.
+pub(crate) const LIBRARY: &[u8] =
+    b"build a.o: cxx a.cpp || t.dd\n  dyndep = t.dd\nbuild b.o: cxx b.cpp || t.dd\n  dyndep = t.dd\nbuild lib: ar a.o b.o\n";
+
+/// The same edges after the effect of the dyndep text.
+pub(crate) const LIBRARY_AFTER: &[u8] =
+    b"build a.o | mod/A.bmi: cxx a.cpp | mod/B.bmi || t.dd\n  dyndep = t.dd\n  restat = 1\nbuild b.o | mod/B.bmi: cxx b.cpp || t.dd\n  dyndep = t.dd\n  restat = 1\nbuild lib: ar a.o b.o\n";
+
+/// The graph of a listing.
+pub(crate) fn graph_of(alloc: Global, listing: &[u8]) -> Result<Graph, Fail> {
+    let mut reader = ListingReader::new(alloc);
+    value(reader.feed(listing))?;
+    value(reader.finish())
+}
+
+fn listing_of(alloc: Global, graph: &Graph) -> Result<Vec<u8>, Fail> {
+    let mut out = Counted::new(Vec::new(alloc));
+    value(listing_write(alloc, graph, &mut out))?;
+    Ok(out.into_inner())
+}
+
+/// The listing after the rehearsal of the dyndep text.
+pub(crate) fn rehearsed(alloc: Global, graph: &Graph, cuts: &[usize]) -> Result<Vec<u8>, Fail> {
+    let name = path(alloc, "./t.dd")?;
+    let new = value(rehearse(alloc, DYNDEP, &name, graph, cuts))?;
+    listing_of(alloc, &new)
+}
+
+/// Pieces of one byte, and empty ones between them.
+pub(crate) fn bytewise(alloc: Global) -> Result<Vec<usize>, AllocError> {
+    let mut cuts = Vec::new(alloc);
+    for _ in 0..DYNDEP.len() {
+        cuts.push(1)?;
+        cuts.push(0)?;
+    }
+    Ok(cuts)
+}
+
+#[test]
+fn the_effect_is_the_same_for_every_cutting(rt: HostRuntime) -> Result<(), Fail> {
+    let alloc = rt.alloc();
+    let graph = graph_of(alloc, LIBRARY)?;
+    for first in 0..DYNDEP.len() + 2 {
+        assert!(rt; rehearsed(alloc, &graph, &[first])?.as_slice() == LIBRARY_AFTER);
+    }
+    Ok(())
+}
+
+/// Why the rehearsal of this text has no effect, if it has none.
+fn refused(alloc: Global, text: &[u8], graph: &Graph) -> Result<Option<RehearseFault>, Fail> {
+    match rehearse(alloc, text, &path(alloc, "t.dd")?, graph, &[30]) {
+        Ok(_new) => Ok(None),
+        Err(Failure::Memory) => Err(Fail::from(AllocError)),
+        Err(Failure::Fault(fault)) => Ok(Some(fault)),
+    }
+}
+
+/// A faulty line counts before what the statements do to the graph.
+#[test]
+fn a_text_that_is_no_dyndep_file_is_refused_at_its_line(rt: HostRuntime) -> Result<(), Fail> {
+    let alloc = rt.alloc();
+    let graph = graph_of(alloc, LIBRARY)?;
+    let found = refused(alloc, b"ninja_dyndep_version = 1\nbuild x.o: dyndep\nrule cc\n", &graph)?;
+    assert!(rt; matches!(
+        found,
+        Some(RehearseFault::Read { fault: ReadFault::AtLine { line: 3, .. } })
+    ));
+    Ok(())
+}
+
+#[test]
+fn statements_without_an_effect_are_refused(rt: HostRuntime) -> Result<(), Fail> {
+    let alloc = rt.alloc();
+    let graph = graph_of(alloc, LIBRARY)?;
+    let found = refused(alloc, b"ninja_dyndep_version = 1\nbuild a.o: dyndep\n", &graph)?;
+    assert!(rt; matches!(found, Some(RehearseFault::Effect { .. })));
+    Ok(())
+}
+
+/// The statements of the dyndep text.
+fn statements(alloc: Global) -> Result<Dyndep, Fail> {
+    let mut reader = DyndepReader::new(alloc);
+    value(reader.feed(DYNDEP))?;
+    value(reader.finish())
+}
+
+/// The library's edges after the effect of the statements.
+fn applied(alloc: Global) -> Result<Graph, Fail> {
+    let graph = graph_of(alloc, LIBRARY)?;
+    let dyndep = statements(alloc)?;
+    value(apply(alloc, &graph, &path(alloc, "t.dd")?, &dyndep))
+}
+
+/// An order of the library's edges after the effect of the statements, or their least cycle.
+pub(crate) fn order_after_effect(alloc: Global) -> Result<Sorting, Fail> {
+    Ok(edge_order(alloc, &applied(alloc)?)?)
+}
+
+/// An order of the library's edges after the dyndep file of a target with both objects, or their
+/// least cycle.
+pub(crate) fn checked_order(alloc: Global) -> Result<Sorting, Fail> {
+    let graph = graph_of(alloc, LIBRARY)?;
+    let target = collated::<Gcc>(alloc, TWO_OBJECTS, &[], None)?;
+    value(check_edges(alloc, &target, &path(alloc, "t.dd")?, &graph))
+}
+
+pub(crate) fn is_order(sorting: &Sorting, wanted: &[usize]) -> bool {
+    match sorting {
+        Sorting::Order(indexes) => indexes.as_slice() == wanted,
+        Sorting::Cycle(_) => false,
+    }
+}
