@@ -5,7 +5,8 @@
 use crate::bare::Bare;
 use crate::maps::is_read_back;
 use crate::rehearsals::{
-    LIBRARY, LIBRARY_AFTER, bytewise, checked_order, graph_of, is_order, order_after_effect, rehearsed,
+    LIBRARY, LIBRARY_AFTER, bytewise, checked_order, graph_of, is_order, order_after_effect,
+    rehearsed,
 };
 use crate::tables::is_answered;
 use crate::targets::{dyndep_alone, project_texts, texts_in_own_style};

@@ -77,11 +77,7 @@ pub(crate) fn is_read_back<M: MapStyle>(
 }
 
 /// The number of the first line that the style can't read, if there is one.
-fn bad_line<M: MapStyle>(
-    alloc: Global,
-    style: &M,
-    text: &str,
-) -> Result<Option<u64>, AllocError> {
+fn bad_line<M: MapStyle>(alloc: Global, style: &M, text: &str) -> Result<Option<u64>, AllocError> {
     match style.read(alloc, text.as_bytes()) {
         Err(Failure::Memory) => Err(AllocError),
         Err(Failure::Fault(MapFault::BadMapLine { line })) => Ok(Some(line)),

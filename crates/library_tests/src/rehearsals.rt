@@ -77,11 +77,19 @@ fn refused(alloc: Global, text: &[u8], graph: &Graph) -> Result<Option<RehearseF
 fn a_text_that_is_no_dyndep_file_is_refused_at_its_line(rt: HostRuntime) -> Result<(), Fail> {
     let alloc = rt.alloc();
     let graph = graph_of(alloc, LIBRARY)?;
-    let found = refused(alloc, b"ninja_dyndep_version = 1\nbuild x.o: dyndep\nrule cc\n", &graph)?;
-    assert!(rt; matches!(
-        found,
-        Some(RehearseFault::Read { fault: ReadFault::AtLine { line: 3, .. } })
-    ));
+    let found = refused(
+        alloc,
+        b"ninja_dyndep_version = 1\nbuild x.o: dyndep\nrule cc\n",
+        &graph,
+    )?;
+    assert!(rt;
+        matches!(
+            found,
+            Some(RehearseFault::Read {
+                fault: ReadFault::AtLine { line: 3, .. }
+            })
+        )
+    );
     Ok(())
 }
 
@@ -89,7 +97,11 @@ fn a_text_that_is_no_dyndep_file_is_refused_at_its_line(rt: HostRuntime) -> Resu
 fn statements_without_an_effect_are_refused(rt: HostRuntime) -> Result<(), Fail> {
     let alloc = rt.alloc();
     let graph = graph_of(alloc, LIBRARY)?;
-    let found = refused(alloc, b"ninja_dyndep_version = 1\nbuild a.o: dyndep\n", &graph)?;
+    let found = refused(
+        alloc,
+        b"ninja_dyndep_version = 1\nbuild a.o: dyndep\n",
+        &graph,
+    )?;
     assert!(rt; matches!(found, Some(RehearseFault::Effect { .. })));
     Ok(())
 }
