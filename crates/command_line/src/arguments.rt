@@ -1,6 +1,6 @@
 //! The arguments that the program is called with.
 
-ghost use Rattle.std.specs.Prelude.{◌≡◌, map, option_map, string_bytes, IfOk};
+ghost use Rattle.std.specs.Prelude.{◌≡◌, [], ◌∷◌, map, option_map, string_bytes, IfOk};
 ghost use Rattle.command_line.specs.Tasks.{AreCallOf, task_value, task_from, operands, is_flag};
 
 use std::alloc::{AllocError, Global};
@@ -113,35 +113,47 @@ fn task_from<'a>(command: &str, given: &[&'a str]) -> Option<Task<'a>>
     ensures { option_map task_value result
         ≡ task_from command.now (map (λ text. text.now) given.now) }
 {
+    match given {
+        [operand] => task_of_one(command, operand),
+        [first, second, third] => task_of_three(command, first, second, third),
+        _ => None,
+    }
+}
+
+/// The task of a command that takes one operand.
+fn task_of_one<'a>(command: &str, operand: &'a str) -> Option<Task<'a>>
+    ensures { option_map task_value result ≡ task_from command.now (operand.now ∷ []) }
+{
     match command {
-        "one" => match given {
-            [scan, dir, ext] => Some(Task::One { scan, dir, ext }),
-            _ => None,
-        },
-        "collate" => match given {
-            [target] => Some(Task::Collate { target }),
-            _ => None,
-        },
-        "show" => match given {
-            [dyndep] => Some(Task::Show { dyndep }),
-            _ => None,
-        },
-        "effect" => match given {
-            [name, edges, dyndep] => Some(Task::Effect {
-                name,
-                edges,
-                dyndep,
-            }),
-            _ => None,
-        },
-        "order" => match given {
-            [edges] => Some(Task::Order { edges }),
-            _ => None,
-        },
-        "project" => match given {
-            [document] => Some(Task::Project { document }),
-            _ => None,
-        },
+        "collate" => Some(Task::Collate { target: operand }),
+        "show" => Some(Task::Show { dyndep: operand }),
+        "order" => Some(Task::Order { edges: operand }),
+        "project" => Some(Task::Project { document: operand }),
+        _ => None,
+    }
+}
+
+/// The task of a command that takes three operands.
+fn task_of_three<'a>(
+    command: &str,
+    first: &'a str,
+    second: &'a str,
+    third: &'a str,
+) -> Option<Task<'a>>
+    ensures { option_map task_value result
+        ≡ task_from command.now (first.now ∷ second.now ∷ third.now ∷ []) }
+{
+    match command {
+        "one" => Some(Task::One {
+            scan: first,
+            dir: second,
+            ext: third,
+        }),
+        "effect" => Some(Task::Effect {
+            name: first,
+            edges: second,
+            dyndep: third,
+        }),
         _ => None,
     }
 }
