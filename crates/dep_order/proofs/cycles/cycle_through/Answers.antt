@@ -1,13 +1,22 @@
-use Rattle.std.proofs.Common.{arith, ◌≡◌, sym, ◌∙◌, subst, length, Some, None}
+use Rattle.std.proofs.Common.{arith, ◌≡◌, ◌<◌, ap, sym, ◌∙◌, subst, length, Some, None}
+use Rattle.std.specs.Prelude.{All}
 use Rattle.dep_order.specs.Rows.{lists}
 use Rattle.dep_order.specs.Needs.{NodeNeeds, needs_of}
 use Rattle.dep_order.specs.inner.Steps.{AreSteps, LeadsBack, IsFewest}
 use Rattle.dep_order.proofs.UserCounts.{length_lists}
-use Rattle.dep_order.proofs.Answered.{users_are_nodes, steps_back, no_way_back}
+use Rattle.dep_order.proofs.Answered.{row_nodes, users_are_nodes, steps_back, no_way_back}
 use Rattle.dep_order.proofs.cycles.cycle_through.Goals as goal
 
 pub steps_from-requires-clause-nodes : goal.steps_from-requires-clause-nodes
 steps_from-requires-clause-nodes c = users_are_nodes (lists c.args.needs.now) (lists c.args.users.now) c.requires.users c.requires.nodes
+
+-- the nodes of the row have steps
+pub fewest-requires : goal.fewest-requires
+fewest-requires c =
+    let steps : AreSteps (length c.args.users.now) (NodeNeeds (lists c.args.users.now)) c.args.first c.in_ok-steps.steps.items = c.in_ok-steps.ensures in
+    let many : length c.as_slice.result.now ≡ length (lists c.args.needs.now) = ap length c.as_slice.ensures.value ∙ steps.as_many ∙ sym (length_lists c.args.users.now) ∙ c.requires.users.each in
+    subst (All (λ node. node < length c.as_slice.result.now)) (sym c.row_of.ensures)
+    (row_nodes (lists c.args.needs.now) c.args.first (length c.as_slice.result.now) many (omega (arith, c.requires.first, length_lists c.args.needs.now)) c.requires.nodes)
 
 pub returns-in-None : goal.returns-in-None
 returns-in-None c =
