@@ -17,6 +17,10 @@ ordered : (count : ℕ) (Needs : ℕ → ℕ → Type 0) → IsOrderable count N
 ordered count Needs orderable (Order order) h = tt
 ordered count Needs orderable (Cycle cycle) h = absurd (h.0 orderable)
 
+-- said here, so that the order of another graph is refused soon
+pub returns-in-Ok-clause-sorted : goal.returns-in-Ok-clause-sorted
+returns-in-Ok-clause-sorted g c = (c.in_ok-new.new, c.in_ok-new.ensures.effect, c.in-Ok.ensures)
+
 pub returns-in-Ok-clause-ordered : goal.returns-in-Ok-clause-ordered
 returns-in-Ok-clause-ordered g c = λ statements text meets level.
     let old : List EdgeValue = c.args.graph.now in
