@@ -1,10 +1,11 @@
 use Rattle.std.proofs.Common.{◌≡◌, ℕ, ◌+◌, ◌<◌, List, [], ◌∷◌, ◌++◌, length, take, get_or, Option, Some, ap, subst, sym, ◌∙◌}
 use Rattle.std.specs.Prelude.{slice_get}
 use Rattle.std.specs.Option.{option_map_or}
-use Rattle.std.proofs.lemmas.List.{map-append}
+use Rattle.std.proofs.lemmas.List.{map-append, take_all}
 use Rattle.std.proofs.lemmas.Option.{get_or_from_slice_get}
 use Rattle.collate_core.proofs.ByIndex.{element_at}
 use Rattle.collate_core.specs.Values.{CollatedValue}
+use Rattle.collate_core.specs.Projects.{linked_infos}
 use Rattle.collate_core.proofs.Lists.{take_next}
 use Rattle.collate_core.proofs.LoopLemmas.{map_push}
 use Rattle.collate_core.proofs.projects.infos_of.Goals as goal
@@ -24,3 +25,7 @@ loop-target-preserved c =
     let next : take (i + 1) linked ≡ take i linked ++ k.0 ∷ [] = take_next linked i k.0 k.1 in
     rw (c.in_ok-push.ensures.items, next, map-append)
     (map_push (λ (x : ℕ). option_map_or (λ (y : CollatedValue). y.info) (slice_get outs x) []) (take i linked) k.0 _ c.info.result.now c.loop-target.invariant value)
+
+-- said here, so that a loop over something else is refused soon
+pub returns : goal.returns
+returns c = c.loop-target.invariant ∙ ap (linked_infos c.args.outs.now) (take_all c.loop-target.target-index c.args.linked.now c.loop-target-test.false)
