@@ -1,12 +1,14 @@
 -- How far a line goes into a piece, by a scan of the part that the limit leaves.
-use Rattle.std.proofs.Common.{◌≡◌, ℕ, zero, suc, ◌+◌, ◌-◌, ◌<◌, ◌≤◌, min, List, [], ◌∷◌, ◌++◌, length, take, refl, sym, ap, ◌∙◌, arith, Some, None, Ok, false, true}
-use Rattle.std.specs.Prelude.{Result, Bool}
+use Rattle.std.proofs.Common.{◌≡◌, ℕ, zero, suc, ◌+◌, ◌-◌, ◌<◌, ◌≤◌, min, List, [], ◌∷◌, ◌++◌, length, take, refl, sym, ap, ◌∙◌, arith, length-append, Some, None, Ok, Err, false, true}
+use Rattle.std.specs.Prelude.{Result, Bool, nat_le}
 use Rattle.std.proofs.Math.Seq.{take-append-add, take-length}
 use Rattle.std.proofs.lemmas.List.{length-take-le, take_min}
+use Rattle.std.proofs.lemmas.Bool.Decides.{nat_tests}
 use Rattle.ninja_text.specs.Lines.{line_limit, line_end}
 use Rattle.ninja_text.specs.Scanning.{scan_from}
 use Rattle.ninja_text.specs.Cutting.{CutterState, feed_outcome}
 use Rattle.ninja_text.specs.declared.faults.CutFault.{CutFault}
+use Rattle.ninja_text.specs.declared.faults.CutFault.TheVariants.{LineTooLong}
 use Rattle.ninja_text.specs.inner.Reaching.{Reaches}
 use Rattle.ninja_text.specs.Phases.{bytes_in}
 use Rattle.ninja_text.specs.CutterViews.{state_in}
@@ -102,3 +104,17 @@ feeds_whole number bytes piece new taken text_len reaches is =
       both : {a b : ℕ} {x y : List ℕ} → a ≡ b → x ≡ y
           → ◌≡◌ {A = Result ℕ CutFault × CutterState} (Ok a, record { number = number; bytes = x; waits = true; failed = false }) (Ok b, record { number = number; bytes = y; waits = true; failed = false })
       both p q = rw (p, q) refl
+
+-- the piece that ends no line, and leaves room
+pub feeds_part : (number : ℕ) (bytes piece new : List ℕ) (next : ScanState) → Reaches bytes piece (Part next) → new ≡ bytes ++ piece
+    → feed_outcome (at_work number bytes) piece ≡ (Ok (length piece), at_work number new)
+feeds_part number bytes piece new next reaches is =
+    let room : nat_le line_limit (length (bytes ++ piece)) ≡ false = rw length-append (grind (arith, nat_tests)) in
+    rw (reaches.1, room, is) refl
+
+-- the piece that leaves none
+pub feeds_past : (number : ℕ) (bytes piece : List ℕ) → Reaches bytes piece TooLong
+    → feed_outcome (at_work number bytes) piece ≡ (Err (LineTooLong number), record { number = number; bytes = bytes; waits = false; failed = true })
+feeds_past number bytes piece reaches =
+    let full : nat_le line_limit (length (bytes ++ piece)) ≡ true = rw length-append (grind (arith, nat_tests)) in
+    rw (reaches.1, full) refl
