@@ -22,6 +22,7 @@ pub mod StartLemmas
 pub mod SpanLemmas
 pub mod ListLemmas
 pub mod AssignmentLemmas
+pub mod AssignmentRuns
 pub mod SpelledUnits
 pub mod SpelledPaths
 pub mod SpelledTokens
