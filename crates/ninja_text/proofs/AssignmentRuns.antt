@@ -1,5 +1,5 @@
 -- The indexes of an assignment's parts, by the runs before them.
-use Rattle.std.proofs.Common.{◌≡◌, ℕ, ◌+◌, ◌<◌, true, false, cond, List, [], ◌∷◌, drop, refl, ap, ◌∙◌, Some, None, arith}
+use Rattle.std.proofs.Common.{◌≡◌, ℕ, ◌+◌, ◌<◌, true, false, cond, List, ◌∷◌, drop, refl, ap, ◌∙◌, Some, None, arith}
 use Rattle.std.specs.Prelude.{Option, nat_lt, ◌&&◌}
 use Rattle.std.proofs.lemmas.Bool.Decides.{nat_tests}
 use Rattle.ninja_text.specs.Units.{units, unit_len, is_byte}

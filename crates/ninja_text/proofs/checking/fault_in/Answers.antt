@@ -1,6 +1,31 @@
-use Rattle.std.proofs.Common.{sym, ◌∙◌}
+use Rattle.std.proofs.Common.{arith, ◌≡◌, true, false, Some, None, refl, sym, ap, ◌∙◌}
+use Rattle.std.specs.Prelude.{Option, is_some}
+use Rattle.ninja_text.specs.declared.faults.LexFault.{LexFault}
+use Rattle.ninja_text.specs.Lexical.{unit_fault, earlier, first_fault}
 use Rattle.ninja_text.proofs.UnitLemmas.{no_suspect}
 use Rattle.ninja_text.proofs.checking.fault_in.Goals as goal
 
 pub returns-then-not-has_suspect : goal.returns-then-not-has_suspect
 returns-then-not-has_suspect c = sym (no_suspect c.args.text.now (sym c.has_suspect.ensures ∙ c.if-not-has_suspect.true))
+
+none_earlier : (r later : Option LexFault) → is_some r ≡ false → earlier r later ≡ later
+none_earlier None later h = refl
+none_earlier (Some fault) later h = absurd (cc)
+
+some_earlier : (r later : Option LexFault) → is_some r ≡ true → earlier r later ≡ r
+some_earlier None later h = absurd (cc)
+some_earlier (Some fault) later h = refl
+
+pub loop-index-preserved : goal.loop-index-preserved
+loop-index-preserved c =
+    let none : is_some (unit_fault c.loop-index.index c.unit_at-unit.result) ≡ false = sym (ap is_some c.fault_at-fault.ensures) ∙ sym c.is_some.ensures ∙ c.if-is_some.false in
+    record {
+      within = omega (arith, c.unit_at-unit.ensures.within, c.len-index.ensures);
+      fault = rw c.len-index.ensures (sym (none_earlier (unit_fault c.loop-index.index c.unit_at-unit.result) _ none) ∙ sym (ap (first_fault c.loop-index.index) c.unit_at-unit.ensures.first) ∙ c.loop-index.invariant.fault);
+    }
+
+pub returns-then-is_some : goal.returns-then-is_some
+returns-then-is_some c =
+    let some : is_some (unit_fault c.loop-index.index c.unit_at-unit.result) ≡ true = sym (ap is_some c.fault_at-fault.ensures) ∙ sym c.is_some.ensures ∙ c.if-is_some.true in
+    c.fault_at-fault.ensures ∙ sym (some_earlier (unit_fault c.loop-index.index c.unit_at-unit.result) _ some)
+    ∙ sym (ap (first_fault c.loop-index.index) c.unit_at-unit.ensures.first) ∙ c.loop-index.invariant.fault

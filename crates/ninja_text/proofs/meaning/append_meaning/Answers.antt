@@ -33,7 +33,7 @@ loop-index-preserved c =
     let u = c.unit_at-unit.result in
     let is : c.append_unit.new.out.items ≡ c.loop-index.out.items ++ unit_value u = grind (arith, common_steps) in
     let here : units (drop c.loop-index.index c.args.raw.now) ≡ u ∷ units (drop (c.loop-index.index + c.len-index.result) c.args.raw.now) =
-        rw c.len-index.ensures c.unit_at-unit.ensures.first in
+    rw c.len-index.ensures c.unit_at-unit.ensures.first in
     record {
       within = omega (arith, c.unit_at-unit.ensures.within, c.len-index.ensures);
       longer = still_longer c.args.raw.now c.args.out.now.items c.loop-index.out.items c.append_unit.new.out.items c.len-before.result c.loop-index.index c.len-index.result u is so_far.longer;
