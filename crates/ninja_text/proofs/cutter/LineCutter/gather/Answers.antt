@@ -5,6 +5,9 @@ use Rattle.ninja_text.specs.Cutting.{feed_outcome}
 use Rattle.ninja_text.proofs.ReachLemmas.{feeds_whole, feeds_part, feeds_past, is_at_work}
 use Rattle.ninja_text.proofs.cutter.LineCutter.gather.Goals as goal
 
+pub reach_of-requires : goal.reach_of-requires
+reach_of-requires c = rw c.as_slice.ensures.value c.go_on-state.ensures.fits
+
 pub returns-in_ok-extend_from_slice-in-Whole-clause-exact : goal.returns-in_ok-extend_from_slice-in-Whole-clause-exact
 returns-in_ok-extend_from_slice-in-Whole-clause-exact c =
     let same = is_at_work c.self.inside.phase c.self.inside.buffer.items c.as_slice.result.now c.self.inside.number c.args.self.now c.self.view_is c.requires.0 c.requires.1 (c.go_on-state.ensures.same ∙ sym c.as_slice.ensures.value) in
