@@ -1,5 +1,6 @@
 -- Texts that are looked at one after another, up to the first that fails a test.
-use Rattle.std.proofs.Common.{◌≡◌, ℕ, ◌+◌, ◌<◌, List, [], ◌∷◌, ◌++◌, map, length, take, drop, get_or, Bool, true, false, ◌&&◌, sym, ap, ◌∙◌}
+use Rattle.std.proofs.Common.{◌≡◌, ℕ, ◌+◌, ◌<◌, ◌≤◌, List, [], ◌∷◌, ◌++◌, map, length, take, drop, get_or, Bool, true, false, ◌&&◌, sym, ap, ◌∙◌}
+use Rattle.std.proofs.lemmas.List.{take_all, at_drop_all, length-map}
 use Rattle.std.specs.List.{list_all}
 use Rattle.scan_docs.proofs.Each.{front, last}
 
@@ -18,3 +19,9 @@ module _ {V : Type 0} (g : V → List ℕ) (p : List ℕ → Bool) (vs : List V)
   -- one more of them
   pub more : (found : List (List ℕ)) → found ≡ take i (map g vs) → found ++ g v ∷ [] ≡ take (i + 1) (map g vs)
   more found h = ap (λ l. l ++ g v ∷ []) h ∙ sym (last g vs i v lt is)
+
+-- where none is left, all pass, and all were read
+pub all_pass : {V : Type 0} (g : V → List ℕ) (p : List ℕ → Bool) (vs : List V) (i : ℕ) (found : List (List ℕ)) → length vs ≤ i
+    → list_all p (drop i (map g vs)) ≡ list_all p (map g vs) → found ≡ take i (map g vs) → (list_all p (map g vs) ≡ true) × (map g vs ≡ found)
+all_pass g p vs i found le rest read = let all : length (map g vs) ≤ i = rw length-map le in
+    (sym rest ∙ at_drop_all (list_all p) (map g vs) i all, sym (read ∙ take_all i (map g vs) all))
