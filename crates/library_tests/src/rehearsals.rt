@@ -30,8 +30,10 @@ pub(crate) fn graph_of(alloc: Global, listing: &[u8]) -> Result<Graph, Fail> {
     value(reader.finish())
 }
 
+/// The listing of a graph, which is no longer than that of the library after the effect. The room
+/// is made first, so that the writer does not fail.
 fn listing_of(alloc: Global, graph: &Graph) -> Result<Vec<u8>, Fail> {
-    let mut out = Counted::new(Vec::new(alloc));
+    let mut out = Counted::new(Vec::with_capacity(alloc, LIBRARY_AFTER.len())?);
     value(listing_write(alloc, graph, &mut out))?;
     Ok(out.into_inner())
 }
