@@ -65,6 +65,14 @@ def emptied(file):
     return text
 
 
+def laid(files):
+    """Puts these files, and nothing else, into the folder."""
+    for name in os.listdir("."):
+        os.remove(name)
+    for name, text in files.items():
+        write(name, text)
+
+
 def write(name, text):
     os.makedirs(os.path.dirname(name) or ".", exist_ok=True)
     with open(name, "wb") as file:

@@ -17,7 +17,7 @@ pub(crate) fn value<T: Drop, F: Drop>(answer: Result<T, Failure<F>>) -> Result<T
 }
 
 /// The value, of which there has to be one.
-fn some<T: Drop>(value: Option<T>) -> Result<T, Fail> {
+pub(crate) fn some<T: Drop>(value: Option<T>) -> Result<T, Fail> {
     match value {
         Some(value) => Ok(value),
         None => Err(Fail::new("a call answered no value")),

@@ -1,7 +1,7 @@
 //! What the styles of maps read, and the maps that there are not.
 
 use crate::bare::Bare;
-use crate::common::{name, path, push_line, value};
+use crate::common::{name, path, push_line, some, value};
 use module_maps::{Clang, Gcc, MapEntry, MapFault, MapStyle, ModuleMap};
 use ninja_text::{Failure, Path};
 use scan_docs::Name;
@@ -21,7 +21,7 @@ fn pairs(alloc: Global, texts: &[(&str, &str)]) -> Result<Vec<(Name, Path)>, Fai
 fn map_of_two(alloc: Global) -> Result<ModuleMap, Fail> {
     let provided = pairs(alloc, &[("A", "mod/A.bmi")])?;
     let needed = pairs(alloc, &[("B", "mod/B.bmi")])?;
-    Ok(ModuleMap::new(provided, needed).ok_or(AllocError)?)
+    some(ModuleMap::new(provided, needed))
 }
 
 /// The entries, one a line.
@@ -141,7 +141,7 @@ fn is_unfit<M: MapStyle>(
 fn unfit_map(alloc: Global) -> Result<ModuleMap, Fail> {
     let provided = pairs(alloc, &[("A", "a"), ("B", "b")])?;
     let needed = pairs(alloc, &[("C", "my mods/C"), ("D", "it's")])?;
-    Ok(ModuleMap::new(provided, needed).ok_or(AllocError)?)
+    some(ModuleMap::new(provided, needed))
 }
 
 #[test]

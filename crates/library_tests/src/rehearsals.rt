@@ -12,7 +12,7 @@ use std::alloc::{AllocError, Global};
 use std::test::Fail;
 
 /// The dyndep text of two objects: `a.o` provides `A` and requires `B`, which `b.o` provides.
-pub(crate) const DYNDEP: &[u8] =
+const DYNDEP: &[u8] =
     b"ninja_dyndep_version = 1\nbuild a.o | mod/A.bmi: dyndep | mod/B.bmi\n  restat = 1\nbuild b.o | mod/B.bmi: dyndep\n  restat = 1\n";
 
 /// The compilations of both objects, which name `t.dd`, and a library of both.

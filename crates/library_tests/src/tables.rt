@@ -67,6 +67,7 @@ fn needs_three(alloc: Global, table: &Table) -> Result<bool, AllocError> {
     Ok(are_pairs(&needed, &wanted))
 }
 
+/// Whether the table of both objects and the info answers as it has to.
 fn answers(alloc: Global, table: &Table) -> Result<bool, AllocError> {
     Ok(finds_both(alloc, table)? && needs_three(alloc, table)?)
 }

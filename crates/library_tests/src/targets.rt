@@ -9,15 +9,15 @@ use std::alloc::{AllocError, Global};
 use std::test::Fail;
 
 /// The info of a target `l`, whose module `B` has this file.
-pub(crate) const INFO_L: &[u8] =
+const INFO_L: &[u8] =
     br#"{"modules":[{"bmi":"./lib//B.bmi","name":"B","requires":[]}],"target":"l","version":1}"#;
 
 /// One object that requires `B`.
-pub(crate) const NEEDS_B: &[u8] =
+const NEEDS_B: &[u8] =
     br#"{"version":1,"rules":[{"primary-output":"main.o","requires":[{"logical-name":"B"}]}]}"#;
 
 /// One object that provides `B`.
-pub(crate) const PROVIDES_B: &[u8] =
+const PROVIDES_B: &[u8] =
     br#"{"version":1,"rules":[{"primary-output":"b.o","provides":[{"logical-name":"B"}]}]}"#;
 
 /// Two objects: `a.o` provides `A` and requires `B`, which `b.o` provides.
