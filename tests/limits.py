@@ -1,5 +1,5 @@
-"""Calls of the program on documents and lines at the limits of docs/FORMATS.md, on versions and numbers of every kind, on
-repeated members, and on bytes that are no text, with what each has to answer, written by hand."""
+"""Calls of the program on documents and lines at the limits of docs/FORMATS.md, on long graphs, on versions and numbers of every
+kind, on repeated members, and on bytes that are no text, with what each has to answer, written by hand."""
 from rows import COLLATE, GCC, LINKED, LINKED_FILES, MAIN, MEMBERS, PROJECT, PROJECT_FILES, V, document, info, module, prints, \
     refuses, target, writes
 
@@ -189,6 +189,31 @@ def lines():
                   b"edges: line 1: E3 Path N4 TooLong")
 
 
+# ---- long graphs
+
+def long_graphs():
+    """Orders of as many edges as there may be rules: a chain, each edge of which needs the next one, and what its last edge leads to."""
+    command = ["order", "edges"]
+
+    def listing(needs):
+        return b"".join(b"build n%d: r%s\n" % (node, b"".join(b" n%d" % it for it in row)) for node, row in enumerate(needs))
+
+    def chain(count, *last):
+        return [[node + 1] for node in range(count - 1)] + [list(last)]
+
+    yield prints("order: a long chain", command, {"edges": listing(chain(COUNT))},
+                 b"".join(b"n%d\n" % node for node in reversed(range(COUNT))))
+    yield refuses("order: a long ring", command, {"edges": listing(chain(COUNT, 0))},
+                  b"cycle " + b" -> ".join(b"n%d" % node for node in range(COUNT)))
+    yield refuses("order: a long chain to an edge that needs itself", command, {"edges": listing(chain(COUNT, COUNT - 1))},
+                  b"cycle n%d" % (COUNT - 1))
+    # the four edges of the two rings have the highest numbers
+    at = COUNT - 4
+    rings = chain(at, at + 2) + [[at + 1], [at, 0], [at + 3], [at + 2]]
+    yield refuses("order: a long chain from a ring to a ring", command, {"edges": listing(rings)},
+                  b"cycle n%d -> n%d" % (at, at + 1))
+
+
 # ---- control bytes in what is printed
 
 def control_bytes():
@@ -244,5 +269,5 @@ def groups():
              "targets": (target_row, LINKED["t.target.json"]),
              "project documents": (project_row, PROJECT["project.json"])}
     made = {name: (lambda kind=kind: of_kind(*kind)) for name, kind in kinds.items()}
-    return made | {"counts": counts, "lengths": lengths, "lines": lines, "control bytes": control_bytes,
-                   "repeated members": repeated_members}
+    return made | {"counts": counts, "lengths": lengths, "lines": lines, "long graphs": long_graphs,
+                   "control bytes": control_bytes, "repeated members": repeated_members}

@@ -1,12 +1,12 @@
-//! Searches one after the other, and large graphs. All graphs of up to three nodes are given to the
-//! built program by tests/rows, against a plain search.
+//! Searches one after the other. All graphs of up to three nodes are given to the built program by
+//! tests/rows, against a plain search, and long ones by tests/damaged.
 ghost use Rattle.std.specs.Prelude.{◌≡◌, ◌<◌, ◌↔◌, length, All, IsTrue};
 ghost use Rattle.dep_order.specs.Needs.{NeedsAreNodes};
 ghost use Rattle.dep_order.specs.Rows.{rows};
 
 mod growths;
 
-use dep_order::{Digraph, Reaching, Sorting, order, reach};
+use dep_order::{Digraph, Reaching, reach};
 use std::alloc::{AllocError, Global};
 
 /// Whether each need in the row is below the count.
@@ -26,15 +26,6 @@ fn are_nodes(needs: &[Vec<usize>]) -> bool
         }
     }
     true
-}
-
-/// The order or the cycle of these rows, or none where a need is no node.
-fn sorting_of(alloc: Global, needs: Vec<Vec<usize>>) -> Result<Option<Sorting>, AllocError> {
-    if are_nodes(needs.as_slice()) {
-        Ok(Some(order(alloc, &Digraph::new(needs))?))
-    } else {
-        Ok(None)
-    }
 }
 
 /// Whether the node reaches these by these rows.
@@ -110,83 +101,5 @@ fn finds_both_of(alloc: Global, needs: Vec<Vec<usize>>) -> Result<bool, AllocErr
 fn one_search_finds_nothing_of_the_search_before(rt: HostRuntime) -> Result<(), AllocError> {
     let needs = rows_of(rt.alloc(), &[&[1], &[2], &[], &[0, 1]])?;
     assert!(rt; finds_both_of(rt.alloc(), needs)?);
-    Ok(())
-}
-
-/// What a node of a chain needs: the next one, and the last of them this one, if any.
-fn next_of(count: usize, last: Option<usize>, node: usize) -> Option<usize> {
-    if node.saturating_add(1) < count {
-        Some(node + 1)
-    } else {
-        last
-    }
-}
-
-/// Node i needs node i + 1, and the last one needs this one, if any.
-fn chain(alloc: Global, count: usize, last: Option<usize>) -> Result<Vec<Vec<usize>>, AllocError> {
-    let mut needs = Vec::new(alloc);
-    for node in 0..count {
-        let mut row = Vec::new(alloc);
-        if let Some(needed) = next_of(count, last, node) {
-            row.push(needed)?;
-        }
-        needs.push(row)?;
-    }
-    Ok(needs)
-}
-
-/// A line of 65,532 nodes, which leads from one ring of two to another: these four have the highest
-/// numbers.
-fn bridge(alloc: Global) -> Result<Vec<Vec<usize>>, AllocError> {
-    let mut needs = chain(alloc, 65532, Some(65534))?;
-    push_rows(
-        alloc,
-        &mut needs,
-        &[&[65533], &[65532, 0], &[65535], &[65534]],
-    )?;
-    Ok(needs)
-}
-
-/// Whether it is an order of so many nodes that begins with these.
-fn is_order(sorting: &Option<Sorting>, count: usize, first: &[usize]) -> bool {
-    match sorting {
-        Some(Sorting::Order(nodes)) => nodes.len() == count && nodes.starts_with(first),
-        _ => false,
-    }
-}
-
-/// Whether it is a cycle of so many nodes that begins with these.
-fn is_cycle(sorting: &Option<Sorting>, count: usize, first: &[usize]) -> bool {
-    match sorting {
-        Some(Sorting::Cycle(nodes)) => nodes.len() == count && nodes.starts_with(first),
-        _ => false,
-    }
-}
-
-#[test]
-fn a_long_line_is_sorted_without_deep_calls(rt: HostRuntime) -> Result<(), AllocError> {
-    let line = sorting_of(rt.alloc(), chain(rt.alloc(), 65536, None)?)?;
-    assert!(rt; is_order(&line, 65536, &[65535, 65534]));
-    Ok(())
-}
-
-#[test]
-fn a_long_ring_is_found_without_deep_calls(rt: HostRuntime) -> Result<(), AllocError> {
-    let ring = sorting_of(rt.alloc(), chain(rt.alloc(), 65536, Some(0))?)?;
-    assert!(rt; is_cycle(&ring, 65536, &[0, 1]));
-    Ok(())
-}
-
-#[test]
-fn a_line_to_a_cycle_is_passed_over_at_once(rt: HostRuntime) -> Result<(), AllocError> {
-    let cycle = sorting_of(rt.alloc(), chain(rt.alloc(), 65536, Some(65535))?)?;
-    assert!(rt; is_cycle(&cycle, 1, &[65535]));
-    Ok(())
-}
-
-#[test]
-fn a_line_between_cycles_is_passed_over_at_once(rt: HostRuntime) -> Result<(), AllocError> {
-    let cycle = sorting_of(rt.alloc(), bridge(rt.alloc())?)?;
-    assert!(rt; is_cycle(&cycle, 2, &[65532, 65533]));
     Ok(())
 }

@@ -8,12 +8,23 @@ use std::marker::Model;
 /// What a target collates to: the text of its dyndep file, that of its info, its objects, and with
 /// a style the text of a map for each. Only [`collate`](crate::collate) and
 /// [`project`](crate::project) make one.
-#[derive(Drop)]
 pub struct Collated {
     dyndep: Vec<u8>,
     info: Vec<u8>,
     objects: Vec<Path>,
     maps: Vec<Vec<u8>>,
+}
+
+// Not derived: a derived drop stands, field by field, wherever a value goes.
+impl Drop for Collated {
+    fn drop(self) {
+        let Collated {
+            dyndep: _,
+            info: _,
+            objects: _,
+            maps: _,
+        } = self;
+    }
 }
 
 /// The parts of a collated target, given up.
@@ -115,11 +126,17 @@ impl Collated {
         ensures objects { result.objects.items ≡ self.objects }
         ensures maps { map (λ m. m.items) result.maps.items ≡ self.maps }
     {
+        let Collated {
+            dyndep,
+            info,
+            objects,
+            maps,
+        } = self;
         CollatedParts {
-            dyndep: self.dyndep,
-            info: self.info,
-            objects: self.objects,
-            maps: self.maps,
+            dyndep,
+            info,
+            objects,
+            maps,
         }
     }
 }

@@ -6,7 +6,7 @@ ghost use Rattle.command_line.specs.Tasks.{AreCallOf, task_value, task_from, ope
 use std::alloc::{AllocError, Global};
 
 /// What the program has to do.
-#[derive(Clone, Copy, Debug, PartialEq, Eq)]
+#[derive(Clone, Copy)]
 pub enum Task<'a> {
     /// Write the dyndep text of one scan document.
     One {

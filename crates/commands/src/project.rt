@@ -81,7 +81,12 @@ fn targets_run(
     match collate_all(alloc, keys, targets) {
         Ok(out) => collated_run(alloc, keys, targets, out.targets),
         Err(Failure::Memory) => Err(AllocError),
-        Err(Failure::Fault(refused)) => refused_run(alloc, targets, &refused),
+        Err(Failure::Fault(refused)) => {
+            let answer = refused_run(alloc, targets, &refused);
+            // Here, by one call: what it holds would be dropped field by field at the end.
+            drop(refused);
+            answer
+        }
     }
 }
 

@@ -30,7 +30,12 @@ pub(crate) fn failed_run(
 {
     match failure {
         Failure::Memory => Err(AllocError),
-        Failure::Fault(refusal) => target_refused(alloc, target, &refusal),
+        Failure::Fault(refusal) => {
+            let answer = target_refused(alloc, target, &refusal);
+            // Here, by one call: what it holds would be dropped field by field at the end.
+            drop(refusal);
+            answer
+        }
     }
 }
 

@@ -14,11 +14,21 @@ use std::alloc::{AllocError, Global};
 use std::marker::Model;
 
 /// An accepted target document: its members, and what they say of where files are.
-#[derive(Drop)]
 pub(crate) struct TargetDocument {
     spec: TargetSpec,
     setting: Setting,
     path: Path,
+}
+
+// Not derived: a derived drop stands, field by field, wherever a value goes.
+impl Drop for TargetDocument {
+    fn drop(self) {
+        let TargetDocument {
+            spec: _,
+            setting: _,
+            path: _,
+        } = self;
+    }
 }
 
 impl Model for TargetDocument {

@@ -31,13 +31,24 @@ pub(crate) struct Module<'t> {
 
 /// The modules that objects and infos provide, no two of one name: by object, then by info, and for
 /// each of these in order of provision. A contract sees it as the table of the objects and infos.
-#[derive(Drop)]
 pub(crate) struct Modules<'t, S: BuildHasher> {
     objects: &'t [Rule],
     infos: &'t [Info],
     provided: Vec<Module<'t>>,
     /// The names of the modules. A name's index is that of its module.
     names: IndexSet<Name, S>,
+}
+
+// Not derived: a derived drop stands, field by field, wherever a value goes.
+impl<S: BuildHasher + Drop> Drop for Modules<'_, S> {
+    fn drop(self) {
+        let Modules {
+            objects: _,
+            infos: _,
+            provided: _,
+            names: _,
+        } = self;
+    }
 }
 
 impl<'t, S: BuildHasher> Model for Modules<'t, S> {
@@ -140,7 +151,13 @@ impl<'t, S: BuildHasher> Modules<'t, S> {
     pub(crate) fn into_names(self) -> IndexSet<Name, S>
         ensures { result.keys ≡ names_of (provisions self.entry) }
     {
-        self.names
+        let Modules {
+            objects: _,
+            infos: _,
+            provided: _,
+            names,
+        } = self;
+        names
     }
 }
 

@@ -25,7 +25,6 @@ use std::marker::Model;
 
 /// The modules of one target and of the targets that it links, without a fault. Names are hashed by
 /// an `S`.
-#[derive(Drop)]
 pub struct Table<S: BuildHasher = BuildHasherDefault<FoldHasher>> {
     resolved: Resolved,
     /// The names of all provided modules. A name's index is that of its module.
@@ -34,6 +33,18 @@ pub struct Table<S: BuildHasher = BuildHasherDefault<FoldHasher>> {
     origins: Vec<(Maker, usize)>,
     /// What the modules and the objects need of one another, by index.
     graph: Digraph,
+}
+
+// Not derived: a derived drop stands, field by field, wherever a value goes.
+impl<S: BuildHasher + Drop> Drop for Table<S> {
+    fn drop(self) {
+        let Table {
+            resolved: _,
+            names: _,
+            origins: _,
+            graph: _,
+        } = self;
+    }
 }
 
 impl<S: BuildHasher> Model for Table<S> {
@@ -114,7 +125,13 @@ impl<S: BuildHasher + Copy> Table<S> {
     pub fn into_resolved(self) -> Resolved
         ensures { result ≡ self }
     {
-        self.resolved
+        let Table {
+            resolved,
+            names: _,
+            origins: _,
+            graph: _,
+        } = self;
+        resolved
     }
 }
 

@@ -23,8 +23,8 @@ refuses targets result {r} {s} same h = subst (λ x. IfOk result (λ answer. (ta
 pub collated_run-requires : goal.collated_run-requires
 collated_run-requires c = are_outs (style_of (form_of c.args.targets.now)) c.args.targets.now c.in-Ok.out.targets.items c.in-Ok.ensures.collated
 
-pub refused_run-requires : goal.refused_run-requires
-refused_run-requires c =
+pub refused_run-answer-requires : goal.refused_run-answer-requires
+refused_run-answer-requires c =
     let targets = c.args.targets.now in
     let style : Option Written = style_of (form_of targets) in
     subst (λ r. IsReportable targets r.0 r.1) (sym c.in-Err-Fault.refused-is)
@@ -46,6 +46,6 @@ returns-in-Err-Fault c =
     let refused : IsProjectRefusal style (map project_target targets) c.in-Err-Fault.refused.0 c.in-Err-Fault.refused.1 =
     subst (ForFault (λ refused. IsProjectRefusal style (map project_target targets) refused.0 refused.1)) c.in-Err-Fault.field-0-is c.in-Err-Fault.ensures.refused in
     let found = reported style targets c.in-Err-Fault.refused.0 c.in-Err-Fault.refused.1 c.requires refused in
-    IfOk-weaker c.refused_run.result _ _
+    IfOk-weaker c.refused_run-answer.result _ _
     (λ answer h. one_refused c.in-Err-Fault.refused.0 found.0 c.in-Err-Fault.refused.1 found.1 refused (h found.0 found.1))
-    (refuses targets c.refused_run.result c.in-Err-Fault.refused-is c.refused_run.ensures)
+    (refuses targets c.refused_run-answer.result c.in-Err-Fault.refused-is c.refused_run-answer.ensures)
