@@ -1,6 +1,6 @@
-//! What no clause says: that a call succeeds where memory is left, as those of the worked examples
-//! in `growths` do, texts in every cutting, and readers and writers that fail. What texts are
-//! answered, and how paths are spelled, are rows of tests/rows.
+//! What no clause says: that a call succeeds where memory is left, texts in every cutting, and
+//! readers and writers that fail. What texts are answered, and how paths are spelled, are rows of
+//! tests/rows.
 mod growths;
 mod reading;
 

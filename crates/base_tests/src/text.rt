@@ -1,6 +1,5 @@
-//! What no clause says: that each call succeeds where memory is left, as those of the worked
-//! examples in `growths` do, and readers and writers that fail. What paths mean, and which texts
-//! are none, are rows of tests/rows.
+//! What no clause says: that a call succeeds where memory is left, and readers and writers that
+//! fail. What paths mean, and which texts are none, are rows of tests/rows.
 ghost use Rattle.std.specs.Prelude.{◌≡◌};
 
 mod assigning;
