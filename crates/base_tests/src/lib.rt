@@ -1,7 +1,7 @@
-//! Tests of `ninja_text`, `dep_order` and `dyndep_file`, as their callers see them: calls that the
-//! program does not make, that succeed where memory is ample, and readers, writers and growths of
-//! memory that fail. What the built program can be asked is asked of it, in rows of tests/rows, and
-//! those of `tests/rows.py` with each growth of memory refused too (`tests/growths`).
+//! Tests of `ninja_text`, `dep_order` and `dyndep_file`, as their callers see them: what the built
+//! program can't be asked, such as texts in pieces, and readers, writers and growths of memory that
+//! fail. What it can be asked is asked of it, in rows of tests/rows, and those of `tests/rows.py`
+//! with each growth of memory refused too (`tests/growths`).
 //!
 //! The tests of each module `growths` are run by `tests/growths` with each growth of memory refused
 //! in turn.
