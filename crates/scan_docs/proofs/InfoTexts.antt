@@ -17,8 +17,7 @@ use Rattle.serde_json.proofs.Texts.{print-outline}
 use Rattle.scan_docs.specs.Info.{ModuleValue, InfoValue}
 use Rattle.scan_docs.specs.InfoText.{requirement_tree, requirements_tree, visibility_text, module_tree, info_tree, info_text, ReadsBack}
 use Rattle.scan_docs.specs.Sound.{IsSound, IsSoundModule, IsSoundInfo}
-use Rattle.scan_docs.specs.inner.Writing.{tree_tokens}
-use Rattle.scan_docs.proofs.InfoTrees.{info_again}
+use Rattle.scan_docs.proofs.InfoTrees.{tree_tokens, info_again}
 
 -- ---- tokens that can be written
 

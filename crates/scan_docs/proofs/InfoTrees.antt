@@ -5,7 +5,7 @@ use Rattle.std.proofs.lemmas.List.Elements.{recursion_from_All}
 use Rattle.json.specs.Json as json
 use Rattle.json.specs.Token.{Token}
 use Rattle.json.specs.Lex.{tokens}
-use Rattle.json.specs.Tree.{depth, items_depth}
+use Rattle.json.specs.Tree.{depth, items_depth, json_tokens}
 use Rattle.json.proofs.Printed.Trees.{value-json_tokens}
 use Rattle.serde_json.specs.Data.{Data, item, unsigned}
 use Rattle.serde_json.specs.Read.{number_of, of_json, of_items, read, max_depth}
@@ -22,9 +22,12 @@ use Rattle.scan_docs.specs.TargetChecks.{name_checks}
 use Rattle.scan_docs.specs.InfoChecks.{head_checks, modules_check, entry_shape_checks, requires_check, visibility_check, named_file_checks, requirement_checks, all_requirement_checks, module_checks, all_module_checks, info_checks}
 use Rattle.scan_docs.specs.InfoText.{requirement_tree, requirements_tree, visibility_text, module_tree, info_tree, ReadsBack}
 use Rattle.scan_docs.specs.Sound.{IsSound, IsSoundModule, IsSoundInfo}
-use Rattle.scan_docs.specs.inner.Writing.{tree_tokens}
 use Rattle.scan_docs.proofs.Each.{refusal_after}
 use Rattle.scan_docs.proofs.Elements.{elements_items_of}
+
+-- the tokens of a tree
+abbrev pub tree_tokens : Data → List Token
+tree_tokens d = json_tokens (outline d)
 
 -- ---- few levels
 

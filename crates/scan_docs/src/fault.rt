@@ -5,12 +5,12 @@ ghost use Rattle.ninja_text.specs.Failure.{Turns};
 
 use crate::member::Member;
 use ninja_text::{Failure, PathFault};
-use std::error::Error;
 use std::fmt;
+use thiserror::Error;
 
 /// Where in a document a fault is. Rules, modules and entries have the index that they have in
-/// their list. `Debug` prints what `Display` prints.
-#[derive(Clone, Copy, PartialEq, Eq)]
+/// their list.
+#[derive(Clone, Copy, Debug, PartialEq, Eq)]
 pub enum Place {
     /// The document itself.
     Document,
@@ -47,21 +47,10 @@ impl fmt::Display for Place {
     }
 }
 
-impl fmt::Debug for Place {
-    ghost use Rattle.std.specs.Prelude.{Some};
-    ghost use Rattle.scan_docs.specs.Place.{place_text};
-
-    ghost debug_output = { λ place. Some (place_text place) };
-
-    fn fmt<W: fmt::Write>(&self, f: &mut fmt::Formatter<W>) -> fmt::Result {
-        fmt::Display::fmt(self, f)
-    }
-}
-
 /// Why a document is refused: the first check of the document that fails. The checks are those of
 /// the document's kind, in the order of its list, and their order has nothing to do with that of
-/// the codes. `Debug` prints what `Display` prints.
-#[derive(Clone, Copy, PartialEq, Eq)]
+/// the codes.
+#[derive(Clone, Copy, Debug, PartialEq, Eq, Error)]
 pub enum DocFault {
     /// The bytes are not the UTF-8 text of a JSON value (RFC 8259), or of one that `serde_json`
     /// reads: it refuses nesting deeper than 127 levels and numbers that no float can hold.
@@ -104,19 +93,6 @@ impl fmt::Display for DocFault {
         }
     }
 }
-
-impl fmt::Debug for DocFault {
-    ghost use Rattle.std.specs.Prelude.{Some};
-    ghost use Rattle.scan_docs.specs.FaultTexts.{doc_fault_text};
-
-    ghost debug_output = { λ fault. Some (doc_fault_text fault) };
-
-    fn fmt<W: fmt::Write>(&self, f: &mut fmt::Formatter<W>) -> fmt::Result {
-        fmt::Display::fmt(self, f)
-    }
-}
-
-impl Error for DocFault {}
 
 /// The refusal of a value that has the wrong type or is missing.
 pub(crate) fn bad_shape(place: Place, member: Member) -> Failure<DocFault>

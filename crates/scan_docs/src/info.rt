@@ -4,7 +4,7 @@ ghost use Rattle.std.specs.Prelude.{◌≡◌, map, Some, Ok, IfOk, IfErr};
 ghost use Rattle.std.specs.List.{AllZip};
 ghost use Rattle.ninja_text.specs.Failure.{ForFault};
 ghost use Rattle.ninja_text.specs.Paths.{path_of};
-ghost use Rattle.scan_docs.specs.inner.Tree.{view};
+ghost use Rattle.serde_json.specs.View.{view};
 ghost use Rattle.scan_docs.specs.inner.Reading.{Answers, Tests, AnswersPath};
 ghost use Rattle.scan_docs.specs.Document.{IsAccepted, IsRefused, HasOneAnswer};
 ghost use Rattle.scan_docs.specs.Shape.{text, entries};
@@ -17,15 +17,14 @@ ghost use Rattle.scan_docs.specs.declared.member.Member.TheVariants as m;
 
 use crate::document::read_tree;
 use crate::fault::{DocFault, Place, bad_path, bad_shape};
-use crate::form::Form;
 use crate::member::Member;
 use crate::name::Name;
 use crate::rule::read_name;
+use crate::shape;
 use crate::target_document::read_target_name;
 use crate::target_name::TargetName;
-use crate::{shape, tree};
-use json::{Scratch, Value};
 use ninja_text::{Failure, Path};
+use serde_json::Value;
 use std::alloc::Global;
 use std::marker::Model;
 
@@ -78,12 +77,11 @@ pub fn info_read(alloc: Global, bytes: &[u8]) -> Result<Info, Failure<DocFault>>
     ensures text { IfOk result IsInfoText }
     ensures one_answer { HasOneAnswer info_checks IsInfo bytes.now }
 {
-    let mut scratch = Scratch::new(alloc);
-    let tree = read_tree(alloc, bytes, Form::InfoDocument, &mut scratch)?;
+    let tree = read_tree(alloc, bytes)?;
     read_info(alloc, &tree)
 }
 
-fn read_info(alloc: Global, tree: &Value<'_>) -> Result<Info, Failure<DocFault>>
+fn read_info(alloc: Global, tree: &Value) -> Result<Info, Failure<DocFault>>
     ensures { Answers (info_checks (view tree.now)) (λ info. IsInfo (view tree.now) info) result }
 {
     let with_visibility = read_head(tree)?;
@@ -95,7 +93,7 @@ fn read_info(alloc: Global, tree: &Value<'_>) -> Result<Info, Failure<DocFault>>
 
 /// Whether the modules of the document tell their visibility.
 #[tactic(auto, unfolding(crate::specs::InfoChecks::head_checks))]
-fn read_head(tree: &Value<'_>) -> Result<bool, Failure<DocFault>>
+fn read_head(tree: &Value) -> Result<bool, Failure<DocFault>>
     ensures { Answers (head_checks (view tree.now))
         (λ with_visibility. with_visibility ≡ has_visibility (view tree.now)) result }
 {
@@ -103,11 +101,11 @@ fn read_head(tree: &Value<'_>) -> Result<bool, Failure<DocFault>>
     read_version(tree)
 }
 
-fn read_version(tree: &Value<'_>) -> Result<bool, Failure<DocFault>>
+fn read_version(tree: &Value) -> Result<bool, Failure<DocFault>>
     ensures { Tests (version_check (view tree.now))
         (λ with_visibility. with_visibility ≡ has_visibility (view tree.now)) result }
 {
-    match tree::get(tree, Member::Version.key()).and_then(tree::as_u64) {
+    match tree.get(Member::Version.key()).and_then(Value::as_u64) {
         Some(1) => Ok(false),
         Some(2) => Ok(true),
         _ => Err(Failure::Fault(DocFault::BadVersion)),
@@ -115,7 +113,7 @@ fn read_version(tree: &Value<'_>) -> Result<bool, Failure<DocFault>>
 }
 
 #[tactic(auto, unfolding(crate::specs::InfoChecks::modules_check))]
-fn read_modules<'v, 'a>(tree: &'v Value<'a>) -> Result<&'v [Value<'a>], Failure<DocFault>>
+fn read_modules<'v>(tree: &'v Value) -> Result<&'v [Value], Failure<DocFault>>
     ensures { Answers (modules_check (view tree.now))
         (λ values. entries m.Modules (view tree.now) ≡ Some (map view values.now)) result }
 {
@@ -126,7 +124,7 @@ fn read_modules<'v, 'a>(tree: &'v Value<'a>) -> Result<&'v [Value<'a>], Failure<
 fn read_all_modules(
     alloc: Global,
     with_visibility: bool,
-    values: &[Value<'_>],
+    values: &[Value],
 ) -> Result<Vec<InfoModule>, Failure<DocFault>>
     ensures { Answers (all_module_checks with_visibility (map view values.now))
         (λ found. AllZip (IsModule with_visibility) (map view values.now) found.items) result }
@@ -143,7 +141,7 @@ fn read_module(
     alloc: Global,
     with_visibility: bool,
     index: usize,
-    value: &Value<'_>,
+    value: &Value,
 ) -> Result<InfoModule, Failure<DocFault>>
     ensures { Answers (module_checks with_visibility index (view value.now))
         (λ found. IsModule with_visibility (view value.now) found) result }
@@ -164,10 +162,10 @@ fn read_module(
 
 /// The texts of a name and a file.
 #[tactic(auto, unfolding(crate::specs::InfoChecks::entry_shape_checks))]
-fn read_entry_shape<'a>(
+fn read_entry_shape<'v>(
     place: Place,
-    value: &Value<'a>,
-) -> Result<(&'a str, &'a str), Failure<DocFault>>
+    value: &'v Value,
+) -> Result<(&'v str, &'v str), Failure<DocFault>>
     ensures { Answers (entry_shape_checks place (view value.now))
         (λ found. (text m.Name (view value.now) ≡ Some found.0.now)
         × (text m.Bmi (view value.now) ≡ Some found.1.now)) result }
@@ -179,10 +177,7 @@ fn read_entry_shape<'a>(
 }
 
 #[tactic(auto, unfolding(crate::specs::InfoChecks::requires_check))]
-fn read_requires<'v, 'a>(
-    place: Place,
-    value: &'v Value<'a>,
-) -> Result<&'v [Value<'a>], Failure<DocFault>>
+fn read_requires<'v>(place: Place, value: &'v Value) -> Result<&'v [Value], Failure<DocFault>>
     ensures { Answers (requires_check place (view value.now))
         (λ values. entries m.Requires (view value.now) ≡ Some (map view values.now)) result }
 {
@@ -194,7 +189,7 @@ fn read_requires<'v, 'a>(
 fn read_visibility(
     with_visibility: bool,
     place: Place,
-    value: &Value<'_>,
+    value: &Value,
 ) -> Result<bool, Failure<DocFault>>
     ensures { Answers (visibility_check with_visibility place (view value.now))
         (λ is_private. privacy with_visibility (view value.now) ≡ Some is_private) result }
@@ -202,7 +197,7 @@ fn read_visibility(
     if !with_visibility {
         return Ok(false);
     }
-    match shape::given(value, Member::Visibility).and_then(tree::as_str) {
+    match shape::given(value, Member::Visibility).and_then(Value::as_str) {
         Some("private") => Ok(true),
         Some("public") => Ok(false),
         _ => Err(bad_shape(place, Member::Visibility)),
@@ -234,7 +229,7 @@ fn read_path(alloc: Global, place: Place, path: &str) -> Result<Path, Failure<Do
 fn read_all_requirements(
     alloc: Global,
     index: usize,
-    values: &[Value<'_>],
+    values: &[Value],
 ) -> Result<Vec<(Name, Path)>, Failure<DocFault>>
     ensures { Answers (all_requirement_checks index (map view values.now))
         (λ found. AllZip IsRequirement (map view values.now) found.items) result }
@@ -255,7 +250,7 @@ fn read_all_requirements(
 fn read_requirement(
     alloc: Global,
     place: Place,
-    value: &Value<'_>,
+    value: &Value,
 ) -> Result<(Name, Path), Failure<DocFault>>
     ensures { Answers (requirement_checks place (view value.now))
         (IsRequirement (view value.now)) result }

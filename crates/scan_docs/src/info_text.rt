@@ -4,17 +4,18 @@ ghost use Rattle.std.specs.Prelude.{◌≡◌, map, IfOk, OnOk, Ok};
 ghost use Rattle.std.specs.List.{All};
 ghost use Rattle.ninja_text.specs.Paths.{path_of};
 ghost use Rattle.serde_json.specs.Data.{array};
+ghost use Rattle.serde_json.specs.Events.{SendsValue};
 ghost use Rattle.serde_json.specs.View.{items_of};
 ghost use Rattle.scan_docs.specs.Scan.{IsText};
 ghost use Rattle.scan_docs.specs.InfoText.{requirement_tree, requirements_tree, visibility_text, module_tree, info_tree, info_text, IsModuleText, IsInfoText, ReadsBack};
 ghost use Rattle.scan_docs.specs.Sound.{IsSound, IsSoundModule, IsSoundInfo};
-ghost use Rattle.scan_docs.specs.inner.Writing.{tree_tokens, member_tokens, named_file_tokens, Appends};
+ghost use Rattle.scan_docs.specs.inner.Writing.{SendsText, SendsNamedFile};
 
 use crate::info::Info;
 use crate::name::Name;
 use crate::target_name::TargetName;
-use json::Writer;
 use ninja_text::Path;
+use serde::{Described, Serialize, Serializer};
 use std::alloc::{AllocError, Global};
 use std::marker::Model;
 use std::str;
@@ -94,50 +95,69 @@ pub fn lent_info_write(alloc: Global, info: &LentInfo<'_>) -> Result<Vec<u8>, Al
     ensures text { IfOk result (λ text. text.items ≡ info_text info.now) }
     ensures reads_back { IfOk result (λ text. ReadsBack info.now text.items) }
 {
-    let mut out = Writer::new(Vec::new(alloc));
-    write_info(&mut out, info)?;
-    Ok(out.into_inner())
+    let document = InfoDocument { info };
+    serde_json::to_vec(alloc, &document).map_err(|_| AllocError)
 }
 
-fn write_info(out: &mut Writer, info: &LentInfo<'_>) -> Result<(), AllocError>
-    requires { IsInfoText info.now }
-    ensures written { OnOk result (Appends out.old out.new (tree_tokens (info_tree info.now))) }
-    ensures sound { OnOk result (IsSoundInfo info.now) }
-{
-    out.begin_object()?;
-    out.key("modules")?;
-    write_modules(out, &info.modules)?;
-    write_member(out, "target", info.target.text())?;
-    out.key("version")?;
-    out.u64(2)?;
-    out.end_object()
+/// The document of an info whose paths are text.
+#[derive(Drop)]
+struct InfoDocument<'a> {
+    info: &'a LentInfo<'a>,
 }
 
-fn write_modules(out: &mut Writer, modules: &[LentModule<'_>]) -> Result<(), AllocError>
+impl<'a> Model for InfoDocument<'a> {
+    ghost use Rattle.scan_docs.specs.Info.{InfoValue};
+    ghost use Rattle.scan_docs.specs.InfoText.{IsInfoText};
+
+    ghost Value = { InfoValue };
+
+    ghost view = { λ d. d.info.now };
+
+    ghost invariant = { λ d. IsInfoText d.info.now };
+}
+
+impl Described for InfoDocument<'_> {
+    ghost writes = { λ d old new. SendsValue (info_tree d) old new × IsSoundInfo d };
+}
+
+impl Serialize for InfoDocument<'_> {
+    fn serialize<S: Serializer>(&self, out: &mut S) -> Result<(), S::Error> {
+        let info = self.info;
+        out.begin_map(Some(3))?;
+        out.key("modules")?;
+        send_modules(out, &info.modules)?;
+        send_text(out, "target", info.target.text())?;
+        out.key("version")?;
+        out.u64(2)?;
+        out.end_map()
+    }
+}
+
+fn send_modules<S: Serializer>(out: &mut S, modules: &[LentModule<'_>]) -> Result<(), S::Error>
     requires { All IsModuleText modules.now }
-    ensures written { OnOk result
-        (Appends out.old out.new
-        (tree_tokens (array (items_of (map module_tree modules.now))))) }
+    ensures sent { OnOk result (SendsValue (array (items_of (map module_tree modules.now)))
+        (S.written out.old) (S.written out.new)) }
     ensures sound { OnOk result (All IsSoundModule modules.now) }
 {
-    out.begin_array()?;
+    out.begin_seq(Some(modules.len()))?;
     for entry in modules {
-        write_module(out, entry)?;
+        send_module(out, entry)?;
     }
-    out.end_array()
+    out.end_seq()
 }
 
-fn write_module(out: &mut Writer, entry: &LentModule<'_>) -> Result<(), AllocError>
+fn send_module<S: Serializer>(out: &mut S, entry: &LentModule<'_>) -> Result<(), S::Error>
     requires { IsModuleText entry.now }
-    ensures written { OnOk result (Appends out.old out.new (tree_tokens (module_tree entry.now))) }
+    ensures sent { OnOk result
+        (SendsValue (module_tree entry.now) (S.written out.old) (S.written out.new)) }
     ensures sound { OnOk result (IsSoundModule entry.now) }
 {
-    out.begin_object()?;
-    write_named_file(out, entry.name, entry.file)?;
+    out.begin_map(Some(4))?;
+    send_named_file(out, entry.name, entry.file)?;
     out.key("requires")?;
-    write_requirements(out, entry.required)?;
-    write_member(out, "visibility", visibility_text(entry.is_private))?;
-    out.end_object()
+    send_requirements(out, entry.required)?;
+    send_text(out, "visibility", visibility_text(entry.is_private))?;
+    out.end_map()
 }
 
 fn visibility_text(is_private: bool) -> &'static str
@@ -146,47 +166,47 @@ fn visibility_text(is_private: bool) -> &'static str
     if is_private { "private" } else { "public" }
 }
 
-fn write_requirements(out: &mut Writer, pairs: &[(Name, Path)]) -> Result<(), AllocError>
+fn send_requirements<S: Serializer>(out: &mut S, pairs: &[(Name, Path)]) -> Result<(), S::Error>
     requires { All (λ pair. IsText pair.1) pairs.now }
-    ensures written { OnOk result
-        (Appends out.old out.new (tree_tokens (requirements_tree pairs.now))) }
+    ensures sent { OnOk result
+        (SendsValue (requirements_tree pairs.now) (S.written out.old) (S.written out.new)) }
     ensures sound { OnOk result (All (λ pair. IsSound pair.0 pair.1) pairs.now) }
 {
-    out.begin_array()?;
+    out.begin_seq(Some(pairs.len()))?;
     for pair in pairs {
-        write_requirement(out, pair)?;
+        send_requirement(out, pair)?;
     }
-    out.end_array()
+    out.end_seq()
 }
 
-fn write_requirement(out: &mut Writer, pair: &(Name, Path)) -> Result<(), AllocError>
+fn send_requirement<S: Serializer>(out: &mut S, pair: &(Name, Path)) -> Result<(), S::Error>
     requires { IsText pair.now.1 }
-    ensures written { OnOk result
-        (Appends out.old out.new (tree_tokens (requirement_tree pair.now))) }
+    ensures sent { OnOk result
+        (SendsValue (requirement_tree pair.now) (S.written out.old) (S.written out.new)) }
     ensures sound { OnOk result (IsSound pair.now.0 pair.now.1) }
 {
-    out.begin_object()?;
-    write_named_file(out, &pair.0, &pair.1)?;
-    out.end_object()
+    out.begin_map(Some(2))?;
+    send_named_file(out, &pair.0, &pair.1)?;
+    out.end_map()
 }
 
 /// The members that a module and its requirements have in common.
-fn write_named_file(out: &mut Writer, name: &Name, file: &Path) -> Result<(), AllocError>
+fn send_named_file<S: Serializer>(out: &mut S, name: &Name, file: &Path) -> Result<(), S::Error>
     requires { IsText file.now }
-    ensures written { OnOk result
-        (Appends out.old out.new (named_file_tokens name.now file.now)) }
+    ensures sent { OnOk result
+        (SendsNamedFile name.now file.now (S.written out.old) (S.written out.new)) }
     ensures sound { OnOk result (IsSound name.now file.now) }
 {
-    write_member(out, "bmi", text_of(file))?;
-    write_member(out, "name", name.text())
+    send_text(out, "bmi", text_of(file))?;
+    send_text(out, "name", name.text())
 }
 
 /// A member that is a text.
-fn write_member(out: &mut Writer, key: &str, text: &str) -> Result<(), AllocError>
-    ensures { OnOk result (Appends out.old out.new (member_tokens key.now text.now)) }
+fn send_text<S: Serializer>(out: &mut S, key: &str, text: &str) -> Result<(), S::Error>
+    ensures { OnOk result (SendsText key.now text.now (S.written out.old) (S.written out.new)) }
 {
     out.key(key)?;
-    out.string(text)
+    out.str(text)
 }
 
 /// The text of a path.

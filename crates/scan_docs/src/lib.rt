@@ -9,9 +9,8 @@
 //!   `specs/ProjectChecks.antt`, the meanings in `specs/Scan.antt`, `specs/Info.antt`,
 //!   `specs/Target.antt` and `specs/Project.antt`; `specs/Document.antt` puts them together.
 //!   `specs/Values.antt` gives the meaning as a function of the bytes.
-//! - Of a document's tree the members are kept that its definitions look at (`src/form.rt`). The
-//!   rest is checked to be JSON as it is passed over, and takes no memory. Each rule of a scan
-//!   document is made as soon as it is read, and its tree dropped (`src/scan_members.rt`).
+//! - `document` makes a tree of a document's bytes by `serde_json`, and `shape` asks the tree for
+//!   members of a type. The tree is dropped once the value is made.
 //! - [`laws`] proves of all bytes that they have one answer at most, and that the value of an
 //!   accepted document is that of the function.
 //! - [`info_write`] gives the one text of an info (`specs/InfoText.antt`), which is read as the
@@ -21,30 +20,26 @@
 //! - [`DocFault`], [`Place`] and [`Member`] print themselves (`specs/FaultTexts.antt`,
 //!   `specs/Place.antt`, `specs/Member.antt`).
 //!
-//! It stands on `ninja_text` for paths, on `json` for reading and writing JSON (RFC 8259), on
-//! `serde_json` for what a JSON text means, and on `fast_float` for numbers.
+//! It stands on `ninja_text` for paths, and on `serde_json` for reading and writing JSON (RFC 8259).
+//! Of `json`, on which `serde_json` stands, a proof cites lemmas, and no code uses it: that the text
+//! of an info is read as that info rests on what the tokens of a text are.
 #![tactic(auto)]
 
 mod document;
 mod fault;
-mod form;
 mod info;
 mod info_text;
 pub mod laws;
 mod map_form;
 mod member;
 mod name;
-mod number;
-mod part;
 mod project_document;
 mod rule;
 mod scan_document;
-mod scan_members;
 mod setting;
 mod shape;
 mod target_document;
 mod target_name;
-mod tree;
 
 pub use document::DOCUMENT_LIMIT;
 pub use fault::{DocFault, Place};

@@ -5,8 +5,8 @@ ghost use Rattle.std.specs.Prelude.{◌≡◌};
 use std::fmt;
 
 /// A member of a document's objects, or a value that is no member: the document, a rule, an entry
-/// of a list. `Debug` prints what `Display` prints.
-#[derive(Clone, Copy, PartialEq, Eq)]
+/// of a list.
+#[derive(Clone, Copy, Debug, PartialEq, Eq)]
 pub enum Member {
     Document,
     Rule,
@@ -88,17 +88,6 @@ impl fmt::Display for Member {
     ghost use Rattle.scan_docs.specs.Member.{key};
 
     ghost output = { λ member. Some (key member) };
-
-    fn fmt<W: fmt::Write>(&self, f: &mut fmt::Formatter<W>) -> fmt::Result {
-        f.write_str(self.key())
-    }
-}
-
-impl fmt::Debug for Member {
-    ghost use Rattle.std.specs.Prelude.{Some};
-    ghost use Rattle.scan_docs.specs.Member.{key};
-
-    ghost debug_output = { λ member. Some (key member) };
 
     fn fmt<W: fmt::Write>(&self, f: &mut fmt::Formatter<W>) -> fmt::Result {
         f.write_str(self.key())

@@ -2,7 +2,7 @@
 
 ghost use Rattle.std.specs.Prelude.{◌≡◌, Some, map, IfOk, IfErr, string_bytes};
 ghost use Rattle.ninja_text.specs.Failure.{ForFault};
-ghost use Rattle.scan_docs.specs.inner.Tree.{view};
+ghost use Rattle.serde_json.specs.View.{view};
 ghost use Rattle.scan_docs.specs.inner.Reading.{Answers};
 ghost use Rattle.scan_docs.specs.Document.{IsAccepted, IsRefused, HasOneAnswer};
 ghost use Rattle.scan_docs.specs.Shape.{texts};
@@ -13,12 +13,11 @@ ghost use Rattle.scan_docs.specs.declared.member.Member.TheVariants as m;
 
 use crate::document::read_tree;
 use crate::fault::{DocFault, Place};
-use crate::form::Form;
 use crate::member::Member;
 use crate::shape;
 use crate::target_document::read_head;
-use json::{Scratch, Value};
 use ninja_text::Failure;
+use serde_json::Value;
 use std::alloc::Global;
 use std::marker::Model;
 
@@ -49,12 +48,11 @@ pub fn project_read(alloc: Global, bytes: &[u8]) -> Result<ProjectSpec, Failure<
     ensures value { IfOk result (λ project. project ≡ project_of bytes.now) }
     ensures one_answer { HasOneAnswer project_checks IsProject bytes.now }
 {
-    let mut scratch = Scratch::new(alloc);
-    let tree = read_tree(alloc, bytes, Form::ProjectDocument, &mut scratch)?;
+    let tree = read_tree(alloc, bytes)?;
     read_project(alloc, &tree)
 }
 
-fn read_project(alloc: Global, tree: &Value<'_>) -> Result<ProjectSpec, Failure<DocFault>>
+fn read_project(alloc: Global, tree: &Value) -> Result<ProjectSpec, Failure<DocFault>>
     ensures { Answers (project_checks (view tree.now))
         (λ project. IsProject (view tree.now) project) result }
 {
@@ -64,7 +62,7 @@ fn read_project(alloc: Global, tree: &Value<'_>) -> Result<ProjectSpec, Failure<
 }
 
 #[tactic(auto, unfolding(crate::specs::ProjectChecks::targets_check))]
-fn read_targets(alloc: Global, tree: &Value<'_>) -> Result<Vec<String>, Failure<DocFault>>
+fn read_targets(alloc: Global, tree: &Value) -> Result<Vec<String>, Failure<DocFault>>
     ensures { Answers (targets_check (view tree.now))
         (λ found. texts m.Targets (view tree.now) ≡ Some (map string_bytes found.items)) result }
 {

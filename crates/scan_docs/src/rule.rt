@@ -4,7 +4,7 @@ ghost use Rattle.std.specs.Prelude.{◌≡◌, [], ◌∷◌, ◌++◌, map, Som
 ghost use Rattle.std.specs.List.{AllZip};
 ghost use Rattle.ninja_text.specs.Paths.{placed};
 ghost use Rattle.serde_json.specs.Data.{Data};
-ghost use Rattle.scan_docs.specs.inner.Tree.{view};
+ghost use Rattle.serde_json.specs.View.{view};
 ghost use Rattle.scan_docs.specs.Check.{◌otherwise◌};
 ghost use Rattle.scan_docs.specs.inner.Reading.{Answers, Tests, AnswersPath};
 ghost use Rattle.scan_docs.specs.Shape.{text, entries_of, given};
@@ -18,9 +18,9 @@ use crate::member::Member;
 use crate::name::Name;
 use crate::scan_document::COUNT_LIMIT;
 use crate::setting::Setting;
-use crate::{shape, tree};
-use json::Value;
+use crate::shape;
 use ninja_text::{Failure, Path, place};
+use serde_json::Value;
 use std::alloc::{AllocError, Global};
 use std::marker::Model;
 
@@ -47,11 +47,11 @@ impl Model for Rule {
 
 /// The members of a rule, by their shapes.
 #[derive(Clone, Copy)]
-struct RuleMembers<'v, 'a> {
-    primary_output: Option<&'a str>,
-    work_directory: Option<&'a str>,
-    provided: &'v [Value<'a>],
-    required: &'v [Value<'a>],
+struct RuleMembers<'v> {
+    primary_output: Option<&'v str>,
+    work_directory: Option<&'v str>,
+    provided: &'v [Value],
+    required: &'v [Value],
 }
 
 #[tactic(auto, unfolding(crate::specs::ScanChecks::rule_checks), using(crate::proofs::Each::failure_of_both))]
@@ -59,7 +59,7 @@ pub(crate) fn read_rule(
     alloc: Global,
     setting: &Setting,
     rule: usize,
-    value: &Value<'_>,
+    value: &Value,
 ) -> Result<Rule, Failure<DocFault>>
     ensures { Answers (rule_checks setting.now rule (view value.now))
         (IsRule setting.now (view value.now)) result }
@@ -79,10 +79,7 @@ pub(crate) fn read_rule(
 }
 
 #[tactic(auto, unfolding(crate::specs::ScanChecks::rule_shape_checks))]
-fn read_members<'v, 'a>(
-    place: Place,
-    rule: &'v Value<'a>,
-) -> Result<RuleMembers<'v, 'a>, Failure<DocFault>>
+fn read_members<'v>(place: Place, rule: &'v Value) -> Result<RuleMembers<'v>, Failure<DocFault>>
     ensures { Answers (rule_shape_checks place (view rule.now))
         (λ found. (option_copied found.primary_output ≡ text m.PrimaryOutput (view rule.now))
         × (option_copied found.work_directory ≡ text m.WorkDirectory (view rule.now))
@@ -125,8 +122,8 @@ fn read_object(
 #[tactic(auto, unfolding(crate::specs::ScanChecks::count_checks))]
 fn check_counts(
     place: Place,
-    provided: &[Value<'_>],
-    required: &[Value<'_>],
+    provided: &[Value],
+    required: &[Value],
 ) -> Result<(), Failure<DocFault>>
     ensures { Answers (count_checks place (map view provided.now) (map view required.now))
         (λ _. Unit {0}) result }
@@ -143,7 +140,7 @@ fn read_all_provided(
     setting: &Setting,
     work: Option<&str>,
     rule: usize,
-    entries: &[Value<'_>],
+    entries: &[Value],
 ) -> Result<Vec<(Name, Path)>, Failure<DocFault>>
     ensures { Answers
         (all_provided_checks setting.now (option_copied work.entry) rule (map view entries.now))
@@ -165,7 +162,7 @@ fn read_provided(
     setting: &Setting,
     work: Option<&str>,
     place: Place,
-    entry: &Value<'_>,
+    entry: &Value,
 ) -> Result<(Name, Path), Failure<DocFault>>
     ensures { Answers
         (provided_checks setting.now (option_copied work.entry) place (view entry.now))
@@ -209,7 +206,7 @@ fn read_file(
 fn read_all_required(
     alloc: Global,
     rule: usize,
-    entries: &[Value<'_>],
+    entries: &[Value],
 ) -> Result<Vec<Name>, Failure<DocFault>>
     ensures { Answers (all_required_checks rule (map view entries.now))
         (λ found. AllZip IsRequired (map view entries.now) found.items) result }
@@ -224,7 +221,7 @@ fn read_all_required(
 }
 
 #[tactic(auto, unfolding(crate::specs::ScanChecks::required_checks))]
-fn read_required(alloc: Global, place: Place, entry: &Value<'_>) -> Result<Name, Failure<DocFault>>
+fn read_required(alloc: Global, place: Place, entry: &Value) -> Result<Name, Failure<DocFault>>
     ensures { Answers (required_checks place (view entry.now))
         (IsRequired (view entry.now)) result }
 {
@@ -239,13 +236,13 @@ fn read_required(alloc: Global, place: Place, entry: &Value<'_>) -> Result<Name,
 }
 
 /// Whether a requirement is looked up as a header.
-fn names_header(entry: &Value<'_>, place: Place) -> Result<bool, Failure<DocFault>>
+fn names_header(entry: &Value, place: Place) -> Result<bool, Failure<DocFault>>
     ensures { Tests (lookup_check place (view entry.now))
         (λ header. header ≡ names_header (text m.LookupMethod (view entry.now))) result }
 {
     match shape::given(entry, Member::LookupMethod) {
         None => Ok(false),
-        Some(method) => match tree::as_str(method) {
+        Some(method) => match method.as_str() {
             Some("by-name") => Ok(false),
             Some("include-angle" | "include-quote") => Ok(true),
             _ => Err(bad_shape(place, Member::LookupMethod)),

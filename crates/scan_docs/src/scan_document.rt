@@ -1,24 +1,25 @@
 //! Scan documents (P1689R5).
 
-ghost use Rattle.std.specs.Prelude.{◌≡◌, IfOk, IfErr};
-ghost use Rattle.std.specs.List.{All};
+ghost use Rattle.std.specs.Prelude.{◌≡◌, map, IfOk, IfErr};
+ghost use Rattle.std.specs.List.{AllZip, All};
 ghost use Rattle.ninja_text.specs.Failure.{ForFault};
-ghost use Rattle.serde_json.specs.Data.{Data};
-ghost use Rattle.scan_docs.specs.inner.Reading.{Answers};
-ghost use Rattle.scan_docs.specs.inner.ScanMembers.{IsDocument};
+ghost use Rattle.serde_json.specs.View.{view};
+ghost use Rattle.scan_docs.specs.inner.Reading.{Answers, Tests};
 ghost use Rattle.scan_docs.specs.Document.{IsAccepted, IsRefused, HasOneAnswer};
-ghost use Rattle.scan_docs.specs.Scan.{SettingValue, AreRules, IsRuleText};
-ghost use Rattle.scan_docs.specs.ScanChecks.{scan_checks, is_scan_version};
+ghost use Rattle.scan_docs.specs.Shape.{entries_of};
+ghost use Rattle.scan_docs.specs.Scan.{IsRule, AreRules, IsRuleText};
+ghost use Rattle.scan_docs.specs.ScanChecks.{head_checks, all_rule_checks, scan_checks, version_check};
 ghost use Rattle.scan_docs.specs.Values.{rules_of};
+ghost use Rattle.scan_docs.specs.declared.member.Member.TheVariants as m;
 
-use crate::document::text_of;
-use crate::fault::{DocFault, Place, bad_shape};
+use crate::document::read_tree;
+use crate::fault::{DocFault, Place};
 use crate::member::Member;
-use crate::rule::Rule;
-use crate::scan_members::{ScanMembers, read_text};
+use crate::rule::{Rule, read_rule};
 use crate::setting::Setting;
-use json::Scratch;
+use crate::shape;
 use ninja_text::Failure;
+use serde_json::Value;
 use std::alloc::Global;
 
 /// The most rules of a document, and entries of one of a rule's lists.
@@ -40,35 +41,60 @@ pub fn scan(alloc: Global, bytes: &[u8], setting: &Setting) -> Result<Vec<Rule>,
     ensures text { IfOk result (λ rules. All IsRuleText rules.items) }
     ensures one_answer { HasOneAnswer (scan_checks setting.now) (AreRules setting.now) bytes.now }
 {
-    let text = text_of(bytes)?;
-    let mut scratch = Scratch::new(alloc);
-    let found = read_text(alloc, setting, text, &mut scratch)?;
-    checked_rules(found)
+    let tree = read_tree(alloc, bytes)?;
+    read_rules(alloc, setting, &tree)
 }
 
-/// The rules of a document with these members, or the refusal of the first check that fails.
-#[tactic(auto, unfolding(crate::specs::ScanChecks::scan_checks, crate::specs::ScanChecks::head_checks))]
-fn checked_rules(found: Option<ScanMembers>) -> Result<Vec<Rule>, Failure<DocFault>>
-    ensures { (s : SettingValue) (d : Data) → IsDocument s d found → Answers (scan_checks s d)
-        (λ rules. AreRules s d rules.items) result }
+#[tactic(auto, unfolding(crate::specs::ScanChecks::scan_checks), using(crate::proofs::Each::failure_of_both))]
+fn read_rules(
+    alloc: Global,
+    setting: &Setting,
+    tree: &Value,
+) -> Result<Vec<Rule>, Failure<DocFault>>
+    ensures { Answers (scan_checks setting.now (view tree.now))
+        (λ rules. AreRules setting.now (view tree.now) rules.items) result }
+{
+    let rules = read_head(tree)?;
+    read_all_rules(alloc, setting, rules)
+}
+
+#[tactic(auto, unfolding(crate::specs::ScanChecks::head_checks))]
+fn read_head<'v>(tree: &'v Value) -> Result<&'v [Value], Failure<DocFault>>
+    ensures { Answers (head_checks (view tree.now))
+        (λ rules. map view rules.now ≡ entries_of m.Rules (view tree.now)) result }
 {
     let place = Place::Document;
-    let members = found.ok_or(bad_shape(place, Member::Document))?;
-    if !is_scan_version(members.version) {
-        return Err(Failure::Fault(DocFault::BadVersion));
-    }
-    let rules = members.rules.ok_or(bad_shape(place, Member::Rules))?;
-    if rules.count > COUNT_LIMIT {
+    shape::object(tree, Member::Document, place)?;
+    check_version(tree)?;
+    let rules = shape::required_entries(tree, Member::Rules, place)?;
+    if rules.len() > COUNT_LIMIT {
         return Err(Failure::Fault(DocFault::TooLarge { place }));
     }
-    match rules.refusal {
-        Some(refusal) => Err(refusal),
-        None => Ok(rules.rules),
+    Ok(rules)
+}
+
+fn check_version(tree: &Value) -> Result<(), Failure<DocFault>>
+    ensures { Tests (version_check (view tree.now)) (λ _. Unit {0}) result }
+{
+    match tree.get(Member::Version.key()).and_then(Value::as_u64) {
+        Some(0 | 1) => Ok(()),
+        _ => Err(Failure::Fault(DocFault::BadVersion)),
     }
 }
 
-fn is_scan_version(version: Option<u64>) -> bool
-    ensures { result ≡ is_scan_version version }
+#[tactic(auto, unfolding(crate::specs::ScanChecks::all_rule_checks))]
+fn read_all_rules(
+    alloc: Global,
+    setting: &Setting,
+    rules: &[Value],
+) -> Result<Vec<Rule>, Failure<DocFault>>
+    ensures { Answers (all_rule_checks setting.now (map view rules.now))
+        (λ found. AllZip (IsRule setting.now) (map view rules.now) found.items) result }
 {
-    matches!(version, Some(0 | 1))
+    let mut found = Vec::with_capacity(alloc, rules.len())?;
+    for (index, value) in rules.iter().enumerate() {
+        let rule = read_rule(alloc, setting, index, value)?;
+        found.push(rule)?;
+    }
+    Ok(found)
 }

@@ -1,23 +1,23 @@
 //! Members of an object, by the shape that they should have.
 
-ghost use Rattle.std.specs.Prelude.{◌≡◌, [], ◌||◌, Some, map, option_map, option_copied, is_some, IfOk, string_bytes};
-ghost use Rattle.scan_docs.specs.inner.Tree.{view};
+ghost use Rattle.std.specs.Prelude.{◌≡◌, ◌||◌, Some, map, option_map, option_copied, is_some, IfOk, string_bytes};
+ghost use Rattle.serde_json.specs.View.{view};
 ghost use Rattle.scan_docs.specs.Check.{shape_check};
 ghost use Rattle.scan_docs.specs.inner.Reading.{Tests};
-ghost use Rattle.scan_docs.specs.Shape.{given, text, entries, entries_of, flag, fits, is_object, texts, texts_of, all_texts};
+ghost use Rattle.serde_json.specs.Find.{as_array};
+ghost use Rattle.scan_docs.specs.Shape.{elements, given, text, entries, entries_of, flag, fits, is_object, texts, texts_of, all_texts};
 
 use crate::fault::{DocFault, Place, bad_shape};
 use crate::member::Member;
-use crate::tree;
-use json::Value;
 use ninja_text::Failure;
+use serde_json::Value;
 use std::alloc::{AllocError, Global};
 
 /// Whether the value is an object.
-pub(crate) fn object(value: &Value<'_>, what: Member, place: Place) -> Result<(), Failure<DocFault>>
+pub(crate) fn object(value: &Value, what: Member, place: Place) -> Result<(), Failure<DocFault>>
     ensures { Tests (shape_check place what (is_object (view value.now))) (λ _. Unit {0}) result }
 {
-    if tree::is_object(value) {
+    if value.is_object() {
         Ok(())
     } else {
         Err(bad_shape(place, what))
@@ -25,27 +25,39 @@ pub(crate) fn object(value: &Value<'_>, what: Member, place: Place) -> Result<()
 }
 
 /// The member's value, unless it is absent or null.
-pub(crate) fn given<'v, 'a>(object: &'v Value<'a>, member: Member) -> Option<&'v Value<'a>>
+pub(crate) fn given<'v>(object: &'v Value, member: Member) -> Option<&'v Value>
     ensures { option_map (λ v. view v.now) result ≡ given member (view object.now) }
 {
-    match tree::get(object, member.key()) {
-        Some(value) if !tree::is_null(value) => Some(value),
+    match object.get(member.key()) {
+        Some(value) if !value.is_null() => Some(value),
         _ => None,
     }
 }
 
+/// The elements of an array.
+#[tactic(auto, using(crate::proofs::Elements::elements_items_of))]
+fn elements<'v>(value: &'v Value) -> Option<&'v [Value]>
+    ensures { option_map (λ vs. map view vs.now) result
+        ≡ option_map elements (as_array (view value.now)) }
+{
+    match value.as_array() {
+        Some(list) => Some(list.as_slice()),
+        None => None,
+    }
+}
+
 /// The member's text, or nothing where it is absent or null.
-pub(crate) fn text<'a>(
-    object: &Value<'a>,
+pub(crate) fn text<'v>(
+    object: &'v Value,
     member: Member,
     place: Place,
-) -> Result<Option<&'a str>, Failure<DocFault>>
+) -> Result<Option<&'v str>, Failure<DocFault>>
     ensures { Tests (shape_check place member (fits text member (view object.now)))
         (λ t. option_copied t ≡ text member (view object.now)) result }
 {
     match given(object, member) {
         None => Ok(None),
-        Some(value) => match tree::as_str(value) {
+        Some(value) => match value.as_str() {
             Some(text) => Ok(Some(text)),
             None => Err(bad_shape(place, member)),
         },
@@ -53,15 +65,15 @@ pub(crate) fn text<'a>(
 }
 
 /// The member's text, which has to be there.
-pub(crate) fn required_text<'a>(
-    object: &Value<'a>,
+pub(crate) fn required_text<'v>(
+    object: &'v Value,
     member: Member,
     place: Place,
-) -> Result<&'a str, Failure<DocFault>>
+) -> Result<&'v str, Failure<DocFault>>
     ensures { Tests (shape_check place member (is_some (text member (view object.now))))
         (λ t. text member (view object.now) ≡ Some t.now) result }
 {
-    match given(object, member).and_then(tree::as_str) {
+    match given(object, member).and_then(Value::as_str) {
         Some(text) => Ok(text),
         None => Err(bad_shape(place, member)),
     }
@@ -69,7 +81,7 @@ pub(crate) fn required_text<'a>(
 
 /// The member's truth value, or nothing where it is absent or null.
 pub(crate) fn flag(
-    object: &Value<'_>,
+    object: &Value,
     member: Member,
     place: Place,
 ) -> Result<Option<bool>, Failure<DocFault>>
@@ -78,7 +90,7 @@ pub(crate) fn flag(
 {
     match given(object, member) {
         None => Ok(None),
-        Some(value) => match tree::as_bool(value) {
+        Some(value) => match value.as_bool() {
             Some(flag) => Ok(Some(flag)),
             None => Err(bad_shape(place, member)),
         },
@@ -86,40 +98,33 @@ pub(crate) fn flag(
 }
 
 /// The member's entries, or none where it is absent or null.
-pub(crate) fn entries<'v, 'a>(
-    object: &'v Value<'a>,
+pub(crate) fn entries<'v>(
+    object: &'v Value,
     member: Member,
     place: Place,
-) -> Result<&'v [Value<'a>], Failure<DocFault>>
+) -> Result<&'v [Value], Failure<DocFault>>
     ensures { Tests (shape_check place member (fits entries member (view object.now)))
         (λ vs. map view vs.now ≡ entries_of member (view object.now)) result }
 {
     match given(object, member) {
-        None => Ok(no_values(object)),
-        Some(value) => match tree::elements(value) {
+        None => Ok(&[]),
+        Some(value) => match elements(value) {
             Some(list) => Ok(list),
             None => Err(bad_shape(place, member)),
         },
     }
 }
 
-/// No values, at the object's lifetimes.
-fn no_values<'v, 'a>(_object: &'v Value<'a>) -> &'v [Value<'a>]
-    ensures { result.now ≡ [] }
-{
-    &[]
-}
-
 /// The member's entries, which have to be there.
-pub(crate) fn required_entries<'v, 'a>(
-    object: &'v Value<'a>,
+pub(crate) fn required_entries<'v>(
+    object: &'v Value,
     member: Member,
     place: Place,
-) -> Result<&'v [Value<'a>], Failure<DocFault>>
+) -> Result<&'v [Value], Failure<DocFault>>
     ensures { Tests (shape_check place member (is_some (entries member (view object.now))))
         (λ vs. entries member (view object.now) ≡ Some (map view vs.now)) result }
 {
-    match given(object, member).and_then(tree::elements) {
+    match given(object, member).and_then(elements) {
         Some(list) => Ok(list),
         None => Err(bad_shape(place, member)),
     }
@@ -128,7 +133,7 @@ pub(crate) fn required_entries<'v, 'a>(
 /// The member's texts, or none where it is absent or null.
 pub(crate) fn texts(
     alloc: Global,
-    object: &Value<'_>,
+    object: &Value,
     member: Member,
     place: Place,
 ) -> Result<Vec<String>, Failure<DocFault>>
@@ -137,7 +142,7 @@ pub(crate) fn texts(
 {
     let values = match given(object, member) {
         None => return Ok(Vec::new(alloc)),
-        Some(value) => match tree::elements(value) {
+        Some(value) => match elements(value) {
             Some(list) => list,
             None => return Err(bad_shape(place, member)),
         },
@@ -148,28 +153,28 @@ pub(crate) fn texts(
 /// The member's texts, which have to be there.
 pub(crate) fn required_texts(
     alloc: Global,
-    object: &Value<'_>,
+    object: &Value,
     member: Member,
     place: Place,
 ) -> Result<Vec<String>, Failure<DocFault>>
     ensures { Tests (shape_check place member (is_some (texts member (view object.now))))
         (λ v. texts member (view object.now) ≡ Some (map string_bytes v.items)) result }
 {
-    match given(object, member).and_then(tree::elements) {
+    match given(object, member).and_then(elements) {
         Some(values) => copy_texts(alloc, values)?.ok_or(bad_shape(place, member)),
         None => Err(bad_shape(place, member)),
     }
 }
 
 /// The values as texts, or None where one is no text.
-fn copy_texts(alloc: Global, values: &[Value<'_>]) -> Result<Option<Vec<String>>, AllocError>
+fn copy_texts(alloc: Global, values: &[Value]) -> Result<Option<Vec<String>>, AllocError>
     ensures { IfOk result
         (λ found. option_map (λ v. map string_bytes v.items) found
         ≡ all_texts (map view values.now)) }
 {
     let mut found = Vec::with_capacity(alloc, values.len())?;
     for value in values {
-        let Some(text) = tree::as_str(value) else {
+        let Some(text) = value.as_str() else {
             return Ok(None);
         };
         let copy = String::from_str(alloc, text)?;

@@ -5,7 +5,7 @@ ghost use Rattle.std.specs.List.{list_all};
 ghost use Rattle.std.specs.Option.{ForSome};
 ghost use Rattle.ninja_text.specs.Failure.{ForFault};
 ghost use Rattle.ninja_text.specs.Paths.{placed, is_rooted};
-ghost use Rattle.scan_docs.specs.inner.Tree.{view};
+ghost use Rattle.serde_json.specs.View.{view};
 ghost use Rattle.scan_docs.specs.Check.{◌otherwise◌, shape_check, path_checks};
 ghost use Rattle.scan_docs.specs.inner.Reading.{Answers, Tests};
 ghost use Rattle.scan_docs.specs.Document.{IsAccepted, IsRefused, HasOneAnswer};
@@ -18,15 +18,14 @@ ghost use Rattle.scan_docs.specs.declared.member.Member.TheVariants as m;
 
 use crate::document::read_tree;
 use crate::fault::{DocFault, Place, bad_path, bad_shape};
-use crate::form::Form;
 use crate::map_form::MapForm;
 use crate::member::Member;
 use crate::name::Name;
 use crate::rule::read_name;
+use crate::shape;
 use crate::target_name::TargetName;
-use crate::{shape, tree};
-use json::{Scratch, Value};
 use ninja_text::{Failure, Path, place};
+use serde_json::Value;
 use std::alloc::{AllocError, Global};
 use std::marker::Model;
 
@@ -89,12 +88,11 @@ pub fn spec_read(alloc: Global, bytes: &[u8]) -> Result<TargetSpec, Failure<DocF
     ensures value { IfOk result (λ spec. spec ≡ spec_of bytes.now) }
     ensures one_answer { HasOneAnswer target_checks IsTarget bytes.now }
 {
-    let mut scratch = Scratch::new(alloc);
-    let tree = read_tree(alloc, bytes, Form::TargetDocument, &mut scratch)?;
+    let tree = read_tree(alloc, bytes)?;
     read_spec(alloc, &tree)
 }
 
-fn read_spec(alloc: Global, tree: &Value<'_>) -> Result<TargetSpec, Failure<DocFault>>
+fn read_spec(alloc: Global, tree: &Value) -> Result<TargetSpec, Failure<DocFault>>
     ensures { Answers (target_checks (view tree.now))
         (λ spec. IsTarget (view tree.now) spec) result }
 {
@@ -120,17 +118,17 @@ fn read_spec(alloc: Global, tree: &Value<'_>) -> Result<TargetSpec, Failure<DocF
 
 /// The document itself, in a target document or a project document.
 #[tactic(auto, unfolding(crate::specs::TargetChecks::head_checks))]
-pub(crate) fn read_head(tree: &Value<'_>) -> Result<(), Failure<DocFault>>
+pub(crate) fn read_head(tree: &Value) -> Result<(), Failure<DocFault>>
     ensures { Answers (head_checks (view tree.now)) (λ _. Unit {0}) result }
 {
     shape::object(tree, Member::Document, Place::Document)?;
     check_version(tree)
 }
 
-fn check_version(tree: &Value<'_>) -> Result<(), Failure<DocFault>>
+fn check_version(tree: &Value) -> Result<(), Failure<DocFault>>
     ensures { Tests (version_check (view tree.now)) (λ _. Unit {0}) result }
 {
-    match tree::get(tree, Member::Version.key()).and_then(tree::as_u64) {
+    match tree.get(Member::Version.key()).and_then(Value::as_u64) {
         Some(1) => Ok(()),
         _ => Err(Failure::Fault(DocFault::BadVersion)),
     }
@@ -138,10 +136,7 @@ fn check_version(tree: &Value<'_>) -> Result<(), Failure<DocFault>>
 
 /// The target's name, in a target document or an info document.
 #[tactic(auto, unfolding(crate::specs::TargetChecks::name_checks))]
-pub(crate) fn read_target_name(
-    alloc: Global,
-    tree: &Value<'_>,
-) -> Result<TargetName, Failure<DocFault>>
+pub(crate) fn read_target_name(alloc: Global, tree: &Value) -> Result<TargetName, Failure<DocFault>>
     ensures { Answers (name_checks (view tree.now))
         (λ name. text m.Target (view tree.now) ≡ Some name) result }
 {
@@ -153,7 +148,7 @@ pub(crate) fn read_target_name(
 #[tactic(auto, unfolding(crate::specs::TargetChecks::directory_checks))]
 fn read_directories(
     alloc: Global,
-    tree: &Value<'_>,
+    tree: &Value,
 ) -> Result<(String, String, Option<Path>), Failure<DocFault>>
     ensures read { Answers (directory_checks (view tree.now))
         (λ found. (text m.ModuleDir (view tree.now) ≡ Some (string_bytes found.0))
@@ -169,7 +164,7 @@ fn read_directories(
     Ok((module_dir, module_ext, build_dir))
 }
 
-fn read_build_dir(alloc: Global, tree: &Value<'_>) -> Result<Option<Path>, Failure<DocFault>>
+fn read_build_dir(alloc: Global, tree: &Value) -> Result<Option<Path>, Failure<DocFault>>
     ensures read { Tests (shape_check Place.Document m.BuildDir
         (is_none (given m.BuildDir (view tree.now)) || is_some (build_dir (view tree.now))))
         (λ path. build_dir (view tree.now) ≡ path) result }
@@ -178,7 +173,7 @@ fn read_build_dir(alloc: Global, tree: &Value<'_>) -> Result<Option<Path>, Failu
     let refusal = bad_shape(Place::Document, Member::BuildDir);
     let text = match shape::given(tree, Member::BuildDir) {
         None => return Ok(None),
-        Some(value) => match tree::as_str(value) {
+        Some(value) => match value.as_str() {
             Some(text) => text,
             None => return Err(refusal),
         },
@@ -199,7 +194,7 @@ struct Inputs {
 }
 
 #[tactic(auto, unfolding(crate::specs::TargetChecks::list_checks))]
-fn read_inputs(alloc: Global, tree: &Value<'_>) -> Result<Inputs, Failure<DocFault>>
+fn read_inputs(alloc: Global, tree: &Value) -> Result<Inputs, Failure<DocFault>>
     ensures { Answers (list_checks (view tree.now) ++ kept_checks (view tree.now))
         (λ found. (texts_of m.Scans (view tree.now) ≡ map string_bytes found.scans.items)
         × (texts_of m.Linked (view tree.now) ≡ map string_bytes found.linked.items)
@@ -216,7 +211,7 @@ fn read_inputs(alloc: Global, tree: &Value<'_>) -> Result<Inputs, Failure<DocFau
 }
 
 #[tactic(auto, unfolding(crate::specs::TargetChecks::kept_checks))]
-fn read_private(alloc: Global, tree: &Value<'_>) -> Result<Vec<Name>, Failure<DocFault>>
+fn read_private(alloc: Global, tree: &Value) -> Result<Vec<Name>, Failure<DocFault>>
     ensures { Answers (kept_checks (view tree.now))
         (λ found. texts_of m.Private (view tree.now) ≡ found.items) result }
 {
@@ -249,7 +244,7 @@ struct Outputs {
 
 fn read_outputs(
     alloc: Global,
-    tree: &Value<'_>,
+    tree: &Value,
     build: Option<&Path>,
 ) -> Result<Outputs, Failure<DocFault>>
     requires { ForSome (option_copied build) (λ path. is_rooted path ≡ true) }
@@ -273,7 +268,7 @@ fn read_outputs(
 #[tactic(auto, unfolding(crate::specs::TargetChecks::dyndep_checks))]
 fn read_dyndep(
     alloc: Global,
-    tree: &Value<'_>,
+    tree: &Value,
     build: Option<&Path>,
 ) -> Result<String, Failure<DocFault>>
     requires { ForSome (option_copied build) (λ path. is_rooted path ≡ true) }
@@ -302,7 +297,7 @@ fn check_placed(alloc: Global, build: Option<&Path>, text: &str) -> Result<(), F
 #[tactic(auto, unfolding(crate::specs::TargetChecks::file_checks))]
 fn read_files(
     alloc: Global,
-    tree: &Value<'_>,
+    tree: &Value,
 ) -> Result<(String, Option<MapForm>, Option<String>), Failure<DocFault>>
     ensures { Answers (file_checks (view tree.now))
         (λ found. (text m.Info (view tree.now) ≡ Some (string_bytes found.0))
@@ -326,23 +321,23 @@ fn copy_text(alloc: Global, text: Option<&str>) -> Result<Option<String>, AllocE
     }
 }
 
-fn read_info_file<'a>(tree: &Value<'a>) -> Result<&'a str, Failure<DocFault>>
+fn read_info_file(tree: &Value) -> Result<&str, Failure<DocFault>>
     ensures { Tests (info_check (view tree.now))
         (λ t. text m.Info (view tree.now) ≡ Some t.now) result }
 {
-    match shape::given(tree, Member::Info).and_then(tree::as_str) {
+    match shape::given(tree, Member::Info).and_then(Value::as_str) {
         Some(text) if !text.is_empty() => Ok(text),
         _ => Err(bad_shape(Place::Document, Member::Info)),
     }
 }
 
-fn read_map_form(tree: &Value<'_>) -> Result<Option<MapForm>, Failure<DocFault>>
+fn read_map_form(tree: &Value) -> Result<Option<MapForm>, Failure<DocFault>>
     ensures { Tests (map_check (view tree.now))
         (λ form. map_form (view tree.now) ≡ form) result }
 {
     match shape::given(tree, Member::Map) {
         None => Ok(None),
-        Some(value) => match tree::as_str(value) {
+        Some(value) => match value.as_str() {
             Some("gcc") => Ok(Some(MapForm::Gcc)),
             Some("clang") => Ok(Some(MapForm::Clang)),
             _ => Err(bad_shape(Place::Document, Member::Map)),

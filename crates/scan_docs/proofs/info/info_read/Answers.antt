@@ -1,5 +1,5 @@
 use Rattle.std.proofs.Common.{◌≡◌}
-use Rattle.scan_docs.specs.inner.Tree.{view}
+use Rattle.serde_json.specs.View.{view}
 use Rattle.scan_docs.specs.Info.{IsInfo}
 use Rattle.scan_docs.specs.InfoChecks.{info_checks}
 use Rattle.scan_docs.specs.InfoText.{IsInfoText}
@@ -7,7 +7,6 @@ use Rattle.scan_docs.specs.Values.{info_of}
 use Rattle.scan_docs.proofs.Exact.{info_value, info_one_answer}
 use Rattle.scan_docs.proofs.Outcome.{accepted, refused, holds}
 use Rattle.scan_docs.proofs.PathTexts.{info_text}
-use Rattle.scan_docs.proofs.InfoParts.{info_looks}
 use Rattle.scan_docs.proofs.info.info_read.Goals as goal
 
 pub returns-in_err-tree-clause-one_answer : goal.returns-in_err-tree-clause-one_answer
@@ -16,12 +15,12 @@ returns-in_err-tree-clause-one_answer c = info_one_answer c.args.bytes.now
 pub returns-clause-accepted : goal.returns-clause-accepted
 returns-clause-accepted c =
     let read = c.in_ok-tree.ensures.read in
-    accepted (λ x. x) info_checks IsInfo info_looks c.args.bytes.now (view c.in_ok-tree.tree) read c.read_info.result c.read_info.ensures
+    accepted (λ x. x) info_checks IsInfo c.args.bytes.now (view c.in_ok-tree.tree) read.0 read.1 c.read_info.result c.read_info.ensures
 
 pub returns-clause-refused : goal.returns-clause-refused
 returns-clause-refused c =
     let read = c.in_ok-tree.ensures.read in
-    refused (λ x. x) info_checks IsInfo info_looks c.args.bytes.now (view c.in_ok-tree.tree) read c.read_info.result c.read_info.ensures
+    refused (λ x. x) info_checks IsInfo c.args.bytes.now (view c.in_ok-tree.tree) read.0 read.1 c.read_info.result c.read_info.ensures
 
 pub returns-clause-one_answer : goal.returns-clause-one_answer
 returns-clause-one_answer c = info_one_answer c.args.bytes.now
@@ -29,9 +28,9 @@ returns-clause-one_answer c = info_one_answer c.args.bytes.now
 pub returns-clause-text : goal.returns-clause-text
 returns-clause-text c =
     let read = c.in_ok-tree.ensures.read in
-    holds (λ x. x) info_checks IsInfo info_looks c.args.bytes.now (view c.in_ok-tree.tree) read IsInfoText (λ info h. info_text h.tree info h.meaning) c.read_info.result c.read_info.ensures
+    holds (λ x. x) info_checks IsInfo c.args.bytes.now (view c.in_ok-tree.tree) read.0 read.1 IsInfoText (λ info h. info_text h.tree info h.meaning) c.read_info.result c.read_info.ensures
 
 pub returns-clause-value : goal.returns-clause-value
 returns-clause-value c =
     let read = c.in_ok-tree.ensures.read in
-    holds (λ x. x) info_checks IsInfo info_looks c.args.bytes.now (view c.in_ok-tree.tree) read (λ info. info ≡ info_of c.args.bytes.now) (info_value c.args.bytes.now) c.read_info.result c.read_info.ensures
+    holds (λ x. x) info_checks IsInfo c.args.bytes.now (view c.in_ok-tree.tree) read.0 read.1 (λ info. info ≡ info_of c.args.bytes.now) (info_value c.args.bytes.now) c.read_info.result c.read_info.ensures

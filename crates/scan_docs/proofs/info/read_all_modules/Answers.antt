@@ -1,5 +1,5 @@
 use Rattle.std.proofs.lemmas.Result.{err_from_is_err_and}
-use Rattle.scan_docs.specs.inner.Tree.{view}
+use Rattle.serde_json.specs.View.{view}
 use Rattle.scan_docs.specs.Info.{IsModule}
 use Rattle.scan_docs.specs.InfoChecks.{module_checks}
 use Rattle.scan_docs.specs.InfoChecks.{all_module_checks}

@@ -1,21 +1,33 @@
-use Rattle.std.proofs.Common.{◌++◌, subst, sym, ap, ap₂, ◌∙◌}
-use Rattle.json.specs.Print.{print}
-use Rattle.serde_json.proofs.Texts.{print-outline}
+use Rattle.std.proofs.Common.{◌≡◌, ℕ, List, [], Some, Result, Ok, Err, IfOk, MatchResult, is_ok, subst, sym}
+use Rattle.std.proofs.lemmas.Result.{IfOk-weaker}
+use Rattle.serde.specs.Event.{Log}
+use Rattle.serde_json.specs.Events.{SendsValue}
+use Rattle.serde_json.specs.Sent.{IsTextOf}
+use Rattle.serde_json.proofs.FreeTexts.{text_of_value}
+use Rattle.scan_docs.specs.Info.{InfoValue}
 use Rattle.scan_docs.specs.InfoText.{info_tree, info_text, ReadsBack}
-use Rattle.scan_docs.specs.inner.Writing.{tree_tokens}
+use Rattle.scan_docs.proofs.Sending.{info_plain}
 use Rattle.scan_docs.proofs.InfoTexts.{text_again}
 use Rattle.scan_docs.proofs.info_text.lent_info_write.Goals as goal
 
-pub returns-clause-text : goal.returns-clause-text
+-- an error in another's place leaves what is told of a success
+with_other_error : {A E D : Type 0} (P : A → Type 0) (Q : E → Type 0) (r : Result A E) (s : Result A D) → MatchResult r (λ x. s ≡ Ok x) Q → is_ok s ≡ is_ok r → IfOk r P → IfOk s P
+with_other_error P Q (Ok x) s h same p = subst (λ t. IfOk t P) (sym h) p
+with_other_error P Q (Err e) (Ok x) h same p = absurd cc
+with_other_error P Q (Err e) (Err d) h same p = tt
+
+text_of_info : (info : InfoValue) (log : Log) (text : List ℕ) → SendsValue (info_tree info) (Some []) log → IsTextOf log text → text ≡ info_text info
 unfolding info_text
+text_of_info info log text sent is = text_of_value (info_tree info) log text sent is (info_plain info)
+
+pub returns-clause-text : goal.returns-clause-text
 returns-clause-text c =
-    let tree = info_tree c.args.info.now in
-    let written = c.in_ok-write_info.ensures.written in
-    c.into_inner.ensures.items
-    ∙ ap₂ (λ b ts. b ++ print ts) (written.before ∙ c.new-out.ensures.before ∙ c.new.ensures.items) (written.tokens ∙ ap (λ ts. ts ++ tree_tokens tree) c.new-out.ensures.tokens)
-    ∙ print-outline tree
+    with_other_error _ _ c.to_vec.result c.map_err.result c.map_err.ensures.cases c.map_err.ensures.variant
+    (IfOk-weaker c.to_vec.result _ _ (λ text h. text_of_info c.args.info.now h.0 text.items h.1.0 h.2) c.to_vec.ensures.events)
 
 -- whatever is written that is this text is read as the same info
 pub returns-clause-reads_back : goal.returns-clause-reads_back
 returns-clause-reads_back c =
-    subst (ReadsBack c.args.info.now) (sym (returns-clause-text c)) (text_again c.args.info.now c.in_ok-write_info.ensures.sound)
+    let info = c.args.info.now in
+    with_other_error _ _ c.to_vec.result c.map_err.result c.map_err.ensures.cases c.map_err.ensures.variant
+    (IfOk-weaker c.to_vec.result _ _ (λ text h. subst (ReadsBack info) (sym (text_of_info info h.0 text.items h.1.0 h.2)) (text_again info h.1.1)) c.to_vec.ensures.events)

@@ -1,5 +1,5 @@
 use Rattle.std.proofs.lemmas.Result.{err_from_is_err_and}
-use Rattle.scan_docs.specs.inner.Tree.{view}
+use Rattle.serde_json.specs.View.{view}
 use Rattle.std.proofs.Common.{option_copied}
 use Rattle.scan_docs.specs.Scan.{IsProvided}
 use Rattle.scan_docs.specs.ScanChecks.{provided_checks}

@@ -1,5 +1,5 @@
 use Rattle.std.proofs.Common.{map}
-use Rattle.scan_docs.specs.inner.Tree.{view}
+use Rattle.serde_json.specs.View.{view}
 use Rattle.scan_docs.specs.Scan.{IsRequired}
 use Rattle.scan_docs.specs.ScanChecks.{required_checks}
 use Rattle.scan_docs.specs.declared.fault.Place.TheVariants as place

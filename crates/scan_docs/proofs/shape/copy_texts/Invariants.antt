@@ -1,5 +1,5 @@
 use Rattle.std.proofs.Common.{◌≡◌, map, drop, string_bytes}
-use Rattle.scan_docs.specs.inner.Tree.{view}
+use Rattle.serde_json.specs.View.{view}
 use Rattle.scan_docs.specs.Shape.{all_texts}
 use Rattle.scan_docs.proofs.Texts.{onto}
 use Rattle.scan_docs.proofs.shape.copy_texts.Given as goal

@@ -1,11 +1,10 @@
 use Rattle.std.proofs.Common.{◌≡◌}
-use Rattle.scan_docs.specs.inner.Tree.{view}
+use Rattle.serde_json.specs.View.{view}
 use Rattle.scan_docs.specs.Target.{IsTarget}
 use Rattle.scan_docs.specs.TargetChecks.{target_checks}
 use Rattle.scan_docs.specs.Values.{spec_of}
 use Rattle.scan_docs.proofs.Exact.{target_value, target_one_answer}
 use Rattle.scan_docs.proofs.Outcome.{accepted, refused, holds}
-use Rattle.scan_docs.proofs.TargetParts.{target_looks}
 use Rattle.scan_docs.proofs.target_document.spec_read.Goals as goal
 
 pub returns-in_err-tree-clause-one_answer : goal.returns-in_err-tree-clause-one_answer
@@ -14,12 +13,12 @@ returns-in_err-tree-clause-one_answer c = target_one_answer c.args.bytes.now
 pub returns-clause-accepted : goal.returns-clause-accepted
 returns-clause-accepted c =
     let read = c.in_ok-tree.ensures.read in
-    accepted (λ x. x) target_checks IsTarget target_looks c.args.bytes.now (view c.in_ok-tree.tree) read c.read_spec.result c.read_spec.ensures
+    accepted (λ x. x) target_checks IsTarget c.args.bytes.now (view c.in_ok-tree.tree) read.0 read.1 c.read_spec.result c.read_spec.ensures
 
 pub returns-clause-refused : goal.returns-clause-refused
 returns-clause-refused c =
     let read = c.in_ok-tree.ensures.read in
-    refused (λ x. x) target_checks IsTarget target_looks c.args.bytes.now (view c.in_ok-tree.tree) read c.read_spec.result c.read_spec.ensures
+    refused (λ x. x) target_checks IsTarget c.args.bytes.now (view c.in_ok-tree.tree) read.0 read.1 c.read_spec.result c.read_spec.ensures
 
 pub returns-clause-one_answer : goal.returns-clause-one_answer
 returns-clause-one_answer c = target_one_answer c.args.bytes.now
@@ -27,4 +26,4 @@ returns-clause-one_answer c = target_one_answer c.args.bytes.now
 pub returns-clause-value : goal.returns-clause-value
 returns-clause-value c =
     let read = c.in_ok-tree.ensures.read in
-    holds (λ x. x) target_checks IsTarget target_looks c.args.bytes.now (view c.in_ok-tree.tree) read (λ spec. spec ≡ spec_of c.args.bytes.now) (target_value c.args.bytes.now) c.read_spec.result c.read_spec.ensures
+    holds (λ x. x) target_checks IsTarget c.args.bytes.now (view c.in_ok-tree.tree) read.0 read.1 (λ spec. spec ≡ spec_of c.args.bytes.now) (target_value c.args.bytes.now) c.read_spec.result c.read_spec.ensures

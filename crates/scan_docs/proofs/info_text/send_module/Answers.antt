@@ -1,0 +1,49 @@
+use Rattle.std.proofs.Common.{ap, subst, OnOk}
+use Rattle.std.proofs.lemmas.Result.{on_ok_weaker}
+use Rattle.serde.specs.Event.{Logs, text}
+use Rattle.serde_json.specs.Events.{SendsValue}
+use Rattle.scan_docs.specs.InfoText.{module_tree}
+use Rattle.scan_docs.specs.Sound.{IsSoundModule}
+use Rattle.scan_docs.proofs.info_text.send_module.Goals as goal
+
+pub send_requirements-requires : goal.send_requirements-requires
+send_requirements-requires g c = rw (ap (λ v. v.required) c.entry.view_is) c.requires.required
+
+pub returns-clause-sent : goal.returns-clause-sent
+unfolding module_tree
+returns-clause-sent g c =
+    let pair = c.in_ok-send_named_file.ensures.sent in
+    let last = c.in_ok-send_text.ensures in
+    let visibility = subst (λ t. Logs last.0 (g.S.Serializer.written c.send_text.new.out) (text t)) c.visibility_text.ensures last.2 in
+    subst (λ v. OnOk c.end_map.result (SendsValue (module_tree v) (g.S.Serializer.written c.args.out.now) (g.S.Serializer.written c.end_map.new.self))) c.entry.view_is
+    (on_ok_weaker c.end_map.result
+    (λ end. (
+      _,
+      c.in_ok-begin_map.ensures,
+      (
+        pair.1.0,
+        _,
+        pair.1.1,
+        pair.1.2,
+        (
+          pair.2.0,
+          _,
+          pair.2.1,
+          pair.2.2,
+          (
+            _,
+            _,
+            c.in_ok-key.ensures,
+            c.in_ok-send_requirements.ensures.sent,
+            (last.0, _, last.1, visibility, end),
+          ),
+        ),
+      ),
+    )) c.end_map.ensures)
+
+pub returns-clause-sound : goal.returns-clause-sound
+returns-clause-sound g c =
+    on_ok_weaker c.end_map.result (λ end. subst IsSoundModule c.entry.view_is (record {
+      named = c.in_ok-send_named_file.ensures.sound;
+      required = c.in_ok-send_requirements.ensures.sound;
+    })) c.end_map.ensures
