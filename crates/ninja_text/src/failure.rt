@@ -3,13 +3,13 @@ ghost use Rattle.std.specs.Prelude.{◌≡◌};
 ghost use Rattle.ninja_text.specs.Failure.{Turns, ForFault};
 
 use std::alloc::{AllocError, AllocFailed};
-use std::error::Error;
 use std::fmt;
+use thiserror::Error;
 
 /// Why a call that may want memory gave no value: a growth was refused, or the input has a fault.
 ///
 /// A fault type never speaks of memory itself, so a fault is always a fact about the input.
-#[derive(Clone, Copy, Debug, PartialEq, Eq)]
+#[derive(Clone, Copy, Debug, PartialEq, Eq, Error)]
 pub enum Failure<F> {
     /// A growth was refused.
     Memory,
@@ -42,8 +42,6 @@ impl<F: fmt::Display> fmt::Display for Failure<F> {
         }
     }
 }
-
-impl<F: fmt::Debug + fmt::Display + Drop> Error for Failure<F> {}
 
 impl<F> From<AllocError> for Failure<F> {
     ghost use Rattle.ninja_text.specs.declared.failure.Failure.TheVariants.{Memory};

@@ -1,10 +1,10 @@
 //! What can be wrong with the lines of a text: facts about its bytes, never about memory.
 
-use std::error::Error;
 use std::fmt;
+use thiserror::Error;
 
 /// Why a cutter gives no further line, with the number of the line at hand.
-#[derive(Clone, Copy, Debug, PartialEq, Eq)]
+#[derive(Clone, Copy, Debug, PartialEq, Eq, Error)]
 pub enum CutFault {
     /// The first [`LINE_LIMIT`](crate::LINE_LIMIT) bytes of this line hold no end.
     LineTooLong { line: u64 },
@@ -26,11 +26,9 @@ impl fmt::Display for CutFault {
     }
 }
 
-impl Error for CutFault {}
-
 /// What no token and no value can hold, with its place in the line's text (Ninja 1.11 manual,
 /// "Lexical syntax").
-#[derive(Clone, Copy, Debug, PartialEq, Eq)]
+#[derive(Clone, Copy, Debug, PartialEq, Eq, Error)]
 pub enum LexFault {
     /// A NUL.
     Nul { place: usize },
@@ -58,5 +56,3 @@ impl fmt::Display for LexFault {
         }
     }
 }
-
-impl Error for LexFault {}

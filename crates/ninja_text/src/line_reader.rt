@@ -165,8 +165,5 @@ fn read_piece<S: LineState>(
 fn cut_failure<S: LineState>(failure: Failure<CutFault>) -> Failure<S::Fault>
     ensures { result ≡ failure_of S.of_cutter failure }
 {
-    match failure {
-        Failure::Memory => Failure::Memory,
-        Failure::Fault(fault) => Failure::Fault(S::cut_fault(fault)),
-    }
+    failure.map(|fault| S::cut_fault(fault))
 }

@@ -13,16 +13,16 @@ use crate::failure::Failure;
 use crate::reduction;
 use std::alloc::{AllocError, Global};
 use std::cmp::Ordering;
-use std::error::Error;
 use std::fmt;
 use std::hash::{Hash, Hasher};
 use std::marker::Model;
+use thiserror::Error;
 
 /// The most bytes that a canonical path has.
 pub const PATH_LIMIT: usize = 4096;
 
 /// Why a text is no path. Of several faults the first in this order is answered.
-#[derive(Clone, Copy, Debug, PartialEq, Eq)]
+#[derive(Clone, Copy, Debug, PartialEq, Eq, Error)]
 pub enum PathFault {
     /// No component is left.
     Empty,
@@ -51,15 +51,13 @@ impl fmt::Display for PathFault {
     }
 }
 
-impl Error for PathFault {}
-
 /// A canonical path: the text that is left when empty components and `.` are deleted, and a name
 /// together with a `..` behind it, until neither can be done. An absolute path keeps the slash that
 /// it begins with, and a relative one the `..` that it begins with. Nothing is looked up in a file
 /// system.
 ///
 /// A contract sees a path as its text. It has 1 to 4,096 bytes, none of them `|`, NUL, CR or LF.
-#[derive(Drop)]
+#[derive(Debug, Drop)]
 pub struct Path {
     text: Vec<u8>,
 }
