@@ -5,12 +5,12 @@ ghost use Rattle.ninja_text.specs.FaultTexts.{lex_fault_text};
 ghost use Rattle.dyndep_file.specs.FaultTexts.{line_fault_text};
 
 use ninja_text::LexFault;
-use std::error::Error;
 use std::fmt;
+use thiserror::Error;
 
 /// What is wrong with a line of a dyndep file (Ninja 1.11 manual, "Dyndep file reference" and
-/// "Lexical syntax"). `Debug` prints what `Display` prints.
-#[derive(Clone, Copy, PartialEq, Eq)]
+/// "Lexical syntax").
+#[derive(Clone, Copy, Debug, PartialEq, Eq, Error)]
 pub enum LineFault {
     /// The first 1,048,576 bytes of the line hold no end.
     LineTooLong,
@@ -89,21 +89,8 @@ impl fmt::Display for LineFault {
     }
 }
 
-impl fmt::Debug for LineFault {
-    ghost use Rattle.std.specs.Prelude.{Some};
-    ghost use Rattle.dyndep_file.specs.FaultTexts.{line_fault_text};
-
-    ghost debug_output = { λ fault. Some (line_fault_text fault) };
-
-    fn fmt<W: fmt::Write>(&self, f: &mut fmt::Formatter<W>) -> fmt::Result {
-        fmt::Display::fmt(self, f)
-    }
-}
-
-impl Error for LineFault {}
-
-/// Why a dyndep file was not read. `Debug` prints what `Display` prints.
-#[derive(Clone, Copy, PartialEq, Eq)]
+/// Why a dyndep file was not read.
+#[derive(Clone, Copy, Debug, PartialEq, Eq, Error)]
 pub enum ReadFault {
     /// The first faulty line, or the end of the file, and what is wrong there. Lines are counted
     /// from 1, and a line with continuations has the number of its first one.
@@ -126,16 +113,3 @@ impl fmt::Display for ReadFault {
         }
     }
 }
-
-impl fmt::Debug for ReadFault {
-    ghost use Rattle.std.specs.Prelude.{Some};
-    ghost use Rattle.dyndep_file.specs.FaultTexts.{read_fault_text};
-
-    ghost debug_output = { λ fault. Some (read_fault_text fault) };
-
-    fn fmt<W: fmt::Write>(&self, f: &mut fmt::Formatter<W>) -> fmt::Result {
-        fmt::Display::fmt(self, f)
-    }
-}
-
-impl Error for ReadFault {}

@@ -25,14 +25,11 @@ pub(crate) fn read_line(
     ensures { ReadsLine (progress_value progress.old) (seen_line line.entry) result
         (progress_value progress.new) }
 {
-    match read_text(alloc, progress, line) {
-        Ok(()) => Ok(()),
-        Err(Failure::Memory) => Err(Failure::Memory),
-        Err(Failure::Fault(fault)) => Err(Failure::Fault(ReadFault::AtLine {
-            line: line.number(),
-            fault,
-        })),
-    }
+    let number = line.number();
+    read_text(alloc, progress, line).map_err(|failure| failure.map(|fault| ReadFault::AtLine {
+        line: number,
+        fault,
+    }))
 }
 
 /// Reads a line's text.

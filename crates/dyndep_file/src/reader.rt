@@ -71,10 +71,8 @@ impl DyndepReader {
             result ≡ Err failure }
         ensures all { (bytes : List ℕ) → HasRead bytes self → Ends bytes result }
     {
-        match self.lines.finish() {
-            Ok((progress, next_line)) => answer_at_end(progress, next_line),
-            Err(failure) => Err(failure),
-        }
+        let (progress, next_line) = self.lines.finish()?;
+        answer_at_end(progress, next_line)
     }
 }
 

@@ -9,12 +9,12 @@ ghost use Rattle.dyndep_file.specs.WriteFaults.{write_fault, CanBeWritten, Leave
 use crate::statement::Dyndep;
 use ninja_text::{Counted, Failure, WriteCall};
 use std::alloc::Global;
-use std::error::Error;
 use std::fmt;
+use thiserror::Error;
 
 /// Why a list of statements was not written. The first statement with a fault counts, and in it a
-/// path before the line. `Debug` prints what `Display` prints.
-#[derive(Clone, Copy, PartialEq, Eq)]
+/// path before the line.
+#[derive(Clone, Copy, Debug, PartialEq, Eq, Error)]
 pub enum WriteFault {
     /// A path is empty or holds `|`, NUL, CR or LF, which no spelling stands for. Paths are counted
     /// from 0: the output, the implicit outputs, the implicit inputs.
@@ -46,19 +46,6 @@ impl fmt::Display for WriteFault {
         }
     }
 }
-
-impl fmt::Debug for WriteFault {
-    ghost use Rattle.std.specs.Prelude.{Some};
-    ghost use Rattle.dyndep_file.specs.FaultTexts.{write_fault_text};
-
-    ghost debug_output = { λ fault. Some (write_fault_text fault) };
-
-    fn fmt<W: fmt::Write>(&self, f: &mut fmt::Formatter<W>) -> fmt::Result {
-        fmt::Display::fmt(self, f)
-    }
-}
-
-impl Error for WriteFault {}
 
 /// Writes the text of a dyndep file.
 ///
