@@ -6,11 +6,11 @@ ghost use Rattle.std.specs.Prelude.{◌≡◌, option_copied};
 ghost use Rattle.build_effect.specs.FaultTexts.{graph_fault_path, effect_fault_path};
 
 use ninja_text::{Path, PathFault};
-use std::error::Error;
 use std::fmt;
+use thiserror::Error;
 
 /// Why a list of edges is no graph.
-#[derive(Drop)]
+#[derive(Drop, Error)]
 pub enum GraphFault {
     /// E1: a file is made twice.
     ProducedTwice { path: Path },
@@ -58,10 +58,8 @@ impl fmt::Debug for GraphFault {
     }
 }
 
-impl Error for GraphFault {}
-
 /// Why a dyndep file has no effect on a graph. They are looked for in the order E8, E5, E4, E6, E7.
-#[derive(Drop)]
+#[derive(Drop, Error)]
 pub enum EffectFault {
     /// E8: a text of a statement is no path. Statements count from 0, and in one its texts: the
     /// output, the implicit outputs, the implicit inputs.
@@ -136,5 +134,3 @@ impl fmt::Debug for EffectFault {
         fmt::Display::fmt(self, f)
     }
 }
-
-impl Error for EffectFault {}

@@ -2,12 +2,12 @@
 
 use crate::fault::GraphFault;
 use ninja_text::{LexFault, PathFault};
-use std::error::Error;
 use std::fmt;
+use thiserror::Error;
 
 /// What is wrong with a line of an edge listing (Ninja 1.11 manual, "Build statements", "Lexical
 /// syntax").
-#[derive(Clone, Copy, PartialEq, Eq)]
+#[derive(Clone, Copy, PartialEq, Eq, Error)]
 pub enum LineCause {
     /// N5: the first 1,048,576 bytes of the line hold no end.
     LineTooLong,
@@ -51,11 +51,9 @@ impl fmt::Debug for LineCause {
     }
 }
 
-impl Error for LineCause {}
-
 /// E3: the first faulty line of an edge listing, or its end, and what is wrong there. Lines are
 /// counted from 1, and a line with continuations has the number of its first one.
-#[derive(Clone, Copy, PartialEq, Eq)]
+#[derive(Clone, Copy, PartialEq, Eq, Error)]
 pub struct LineFault {
     pub line: u64,
     pub cause: LineCause,
@@ -84,11 +82,9 @@ impl fmt::Debug for LineFault {
     }
 }
 
-impl Error for LineFault {}
-
 /// Why an edge listing gave no graph. The file that E1 and E2 are about is lent by the fault's
 /// `path`.
-#[derive(Drop)]
+#[derive(Drop, Error)]
 pub enum ListingFault {
     /// E3: a line is faulty, or the listing's end is.
     AtLine(LineFault),
@@ -121,5 +117,3 @@ impl fmt::Debug for ListingFault {
         fmt::Display::fmt(self, f)
     }
 }
-
-impl Error for ListingFault {}

@@ -4,18 +4,17 @@ ghost use Rattle.std.specs.List.{flat_map};
 ghost use Rattle.ninja_text.specs.Counting.{held, IsWritten};
 ghost use Rattle.ninja_text.specs.Failure.{Gives};
 ghost use Rattle.dyndep_file.specs.Writing.{spaced};
-ghost use Rattle.build_effect.specs.ListingWriting.{part_text, left_text, right_text, edge_line, dyndep_line, restat_line, listing_text, first_too_long, LeavesWriter, WritesInTurn, AnswersFault};
-ghost use Rattle.build_effect.specs.ListingWriting.{text_or_fault};
+ghost use Rattle.build_effect.specs.ListingWriting.{part_text, left_text, right_text, edge_line, dyndep_line, restat_line, listing_text, first_too_long, LeavesWriter, WritesInTurn, AnswersFault, text_or_fault};
 
 use crate::edge::Edge;
 use crate::graph::Graph;
 use ninja_text::{Counted, Failure, LINE_LIMIT, Path, WriteCall, escape_into};
 use std::alloc::{AllocError, Global};
-use std::error::Error;
 use std::fmt;
+use thiserror::Error;
 
 /// Why a graph was not written.
-#[derive(Clone, Copy, PartialEq, Eq)]
+#[derive(Clone, Copy, PartialEq, Eq, Error)]
 pub enum ListingWriteFault {
     /// E9: the build line of this edge has more than 1,048,576 bytes, its end included; the first
     /// such edge is reported.
@@ -50,8 +49,6 @@ impl fmt::Debug for ListingWriteFault {
         fmt::Display::fmt(self, f)
     }
 }
-
-impl Error for ListingWriteFault {}
 
 /// Writes the edges of a graph as Ninja spells them (Ninja 1.11 manual, "Build statements"): for
 /// each its build line, and its bindings `dyndep` and `restat`.
