@@ -20,6 +20,8 @@ pub mod ListingEdges
 mod ListingRows
 pub mod ListingRuns
 pub mod ListingLineLemmas
+pub mod ListingForms
+pub mod ListingFinds
 pub mod ListingLemmas
 pub mod ListingLaws
 mod WrittenSymbols

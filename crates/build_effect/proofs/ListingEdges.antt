@@ -6,9 +6,9 @@ use Rattle.dep_order.specs.Rows.{rows}
 use Rattle.ninja_text.specs.Paths.{path_of}
 use Rattle.ninja_text.specs.declared.paths.PathFault.{PathFault}
 use Rattle.build_effect.specs.EdgeValue.{EdgeValue}
-use Rattle.build_effect.specs.ListingLines.{EdgeTexts, Class, Build, Dyndep, Restat, build_class, dyndep_class, with_path, paths_of, edge_paths}
+use Rattle.build_effect.specs.ListingLines.{EdgeTexts, Class, Build, Dyndep, Restat}
+use Rattle.build_effect.specs.inner.ListingWalk.{build_class, dyndep_class, with_path, paths_of, edge_paths, with_last, with_last_dyndep, with_last_restat, step}
 use Rattle.build_effect.specs.ListingGrammar.{bound}
-use Rattle.build_effect.specs.ListingSteps.{with_last, with_last_dyndep, with_last_restat, step}
 use Rattle.build_effect.specs.declared.listing_state.Binding.{Binding}
 use Rattle.build_effect.specs.declared.listing_state.Binding.TheVariants.{Open}
 

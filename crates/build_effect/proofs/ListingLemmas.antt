@@ -5,7 +5,6 @@ use Rattle.std.specs.Option.{option_and_then}
 use Rattle.std.specs.List.{flat_map, AllByRecursion}
 use Rattle.std.proofs.lemmas.List.{append-nil, take-append-drop, length-take-le}
 use Rattle.std.proofs.lemmas.Grind.{flat_map-append}
-use Rattle.std.proofs.lemmas.Bool.{lt-ltb, le-ltb}
 use Rattle.ninja_text.specs.Lines.{line_limit, LineEnd, line_end, IsLine, LogicalLine, logical_line, logical_lines, text_of, is_comment, Divides}
 use Rattle.ninja_text.specs.LineReading.{LeadTo, BeginsWith, IsTooLong, IsTruncated, IsNextFault, HasFailureBehind, HasLentAll, FeedsLines, EndsLines}
 use Rattle.ninja_text.specs.declared.failure.Failure.{Failure}
@@ -13,9 +12,10 @@ use Rattle.ninja_text.specs.declared.failure.Failure.TheVariants.{Fault, Memory}
 use Rattle.ninja_text.proofs.ForCallers.{end_fits, front_is_line, AllByRecursion-append, too_long}
 use Rattle.build_effect.specs.EdgeValue.{EdgeValue}
 use Rattle.build_effect.specs.ListingLines.{Class, IsOfClass, TextIsOfClass}
-use Rattle.build_effect.specs.ListingFaults.{line_cause, text_cause, open_from}
-use Rattle.build_effect.specs.ListingSteps.{ListingValue, step, run}
-use Rattle.build_effect.specs.ListingReading.{AreOfClasses, Lists, IsFaultyAfter, FaultyEnd}
+use Rattle.build_effect.specs.ListingFaults.{IsTextCause, IsLineCause}
+use Rattle.build_effect.specs.inner.ListingWalk.{text_cause, run}
+use Rattle.build_effect.specs.ListingSteps.{ListingValue}
+use Rattle.build_effect.specs.ListingReading.{AreOfClasses, Lists, FaultyEnd}
 use Rattle.build_effect.specs.ListingReaders.{Reader, HasRead, AreReadTo, Reads, Ends, line_failure, IsFaultIn, IsFailureIn, AreTextsOfClasses}
 use Rattle.build_effect.specs.inner.ReadLines.{fault_of_cutter, PassesLine, RefusesLine}
 use Rattle.build_effect.specs.declared.listing_faults.LineCause.{LineCause}
@@ -28,7 +28,16 @@ use Rattle.build_effect.specs.Faults.{IsGraphFault}
 use Rattle.ninja_text.specs.Failure.{ForFault}
 use Rattle.build_effect.specs.declared.fault.GraphFault.{GraphFault}
 use Rattle.build_effect.specs.declared.listing_state.Binding.TheVariants.{Closed}
-use Rattle.build_effect.proofs.ListingRuns.{runs_begin, begins_runs, run_more, binding_runs, run_is_listing, no_cause}
+use Rattle.build_effect.proofs.ListingFinds.{class_holds, cause_holds, cause_stops}
+use Rattle.build_effect.proofs.ListingRuns.{runs_begin, run_more, binding_runs, run_is_listing, listing_is_run}
+
+-- the cause of a text is that of a line that keeps the limit
+pub cause_of_text : (classes : List Class) (line : List ℕ) (cause : LineCause) → length line ≤ line_limit → IsTextCause classes (text_of line) (is_comment line) cause → IsLineCause classes line cause
+cause_of_text classes line causes.LineTooLong short is = absurd is
+cause_of_text classes line causes.Truncated short is = absurd is
+cause_of_text classes line (causes.Lexical fault) short is = (short, is)
+cause_of_text classes line causes.Form short is = (short, is)
+cause_of_text classes line (causes.BadPath fault) short is = (short, is)
 
 -- the classes of the texts lent are those of the lines
 lines_classed : (before : List ℕ) (lines : List (List ℕ)) (classes : List Class) → AllByRecursion (λ line. length line ≤ line_limit) lines
@@ -37,18 +46,6 @@ lines_classed before [] [] short texts = tt
 lines_classed before [] (c ∷ classes) short texts = texts
 lines_classed before (line ∷ lines) [] short texts = texts
 lines_classed before (line ∷ lines) (c ∷ classes) short texts = ((short.0, texts.0), lines_classed (before ++ line) lines classes short.1 texts.1)
-
--- no listing goes on with a line that has a fault
-pub faulty_after : (classes : List Class) (line : List ℕ) (value : ListingValue) (f : LineCause) → run Closed [] classes ≡ Some value
-    → text_cause value.binding (text_of line) (is_comment line) ≡ Some f → IsFaultyAfter classes line
-faulty_after classes line value f ran fault c is begun =
-    let whole = begins_runs (classes ++ c ∷ []) begun in
-    let last : run value.binding value.edges (c ∷ []) ≡ Some whole.0 = sym (run_more classes (c ∷ []) Closed [] value ran) ∙ whole.1 in
-    let steps = stepped (step value.binding value.edges c) whole.0 last in
-    let clash : ◌≡◌ {A = Option LineCause} None (Some f) = sym (no_cause value.binding value.edges (text_of line) (is_comment line) c steps.0 is.1 steps.1) ∙ fault in cc where
-      stepped : (o : Option ListingValue) (end : ListingValue) → option_and_then (λ s. run s.binding s.edges []) o ≡ Some end → (next : ListingValue) × (o ≡ Some next)
-      stepped None end h = absurd (let x : ◌≡◌ {A = Option ListingValue} None (Some end) = h in cc)
-      stepped (Some next) end h = (next, refl)
 
 -- whole lines that were lent and read, of these classes, and what follows them
 module _ (bytes : List ℕ) (lent : List LogicalLine) (number : ℕ) (rest : List ℕ) (classes : List Class) (value : ListingValue)
@@ -127,19 +124,18 @@ module _ (bytes : List ℕ) (lent : List LogicalLine) (number : ℕ) (rest : Lis
         begun = runs_begin classes value ran;
         faulty = λ c is _. omega (arith, short_enough line c is, past);
         number = begins.number_is;
-        reason = refused line past;
+        reason = past;
       }) where
         short_enough : (line : List ℕ) (c : Class) → IsOfClass line c → length line ≤ line_limit
         short_enough line c is = is.0
-
-        refused : (line : List ℕ) → line_limit < length line → line_cause (open_from Closed classes) line ≡ Some causes.LineTooLong
-        refused line past = rw (lt-ltb line_limit (length line) past) refl
 
   -- a line that is refused is the first faulty one
   fault_of_line : (line after : List ℕ) (seen : LogicalLine) (n : ℕ) (f : LineCause) → rest ≡ line ++ after → IsLine line → length line ≤ line_limit
       → seen ≡ record (logical_line [] line) { number = number } → n ≡ seen.number → text_cause value.binding seen.text seen.comment ≡ Some f → IsFaultIn bytes (record { line = n; cause = f })
   fault_of_line line after seen n f split is short same at fault =
       let faulty : text_cause value.binding (text_of line) (is_comment line) ≡ Some f = subst (λ l. text_cause value.binding l.text l.comment ≡ Some f) same fault in
+      let begun = runs_begin classes value ran in
+      let cause = cause_holds classes begun (text_of line) (is_comment line) f (subst (λ b. text_cause b (text_of line) (is_comment line) ≡ Some f) (binding_runs classes Closed [] value ran) faulty) in
       inl (record {
         before = begins.lines;
         line = line;
@@ -149,21 +145,22 @@ module _ (bytes : List ℕ) (lent : List LogicalLine) (number : ℕ) (rest : Lis
         each = AllByRecursion-append IsLine begins.lines (line ∷ []) begins.each (is, tt);
         classed = begins_classed bytes lent number rest classes value begins texts ran;
         begun = runs_begin classes value ran;
-        faulty = faulty_after classes line value f ran faulty;
+        faulty = λ c of on. cause_stops classes begun (text_of line) (is_comment line) f c cause of.1 on;
         number = at ∙ ap (λ l. l.number) same ∙ begins.number_is;
-        reason = reasoned line short (subst (λ b. text_cause b (text_of line) (is_comment line) ≡ Some f) (binding_runs classes Closed [] value ran) faulty);
-      }) where
-        reasoned : (line : List ℕ) → length line ≤ line_limit → text_cause (open_from Closed classes) (text_of line) (is_comment line) ≡ Some f
-            → line_cause (open_from Closed classes) line ≡ Some f
-        reasoned line short h = rw (le-ltb line_limit (length line) short) h
+        reason = cause_of_text classes line f short cause;
+      })
+
+-- lines that were read were run over
+ran : (lent : List LogicalLine) (value : ListingValue) (read : AreReadTo lent value) → run Closed [] read.classes ≡ Some value
+ran lent value read = listing_is_run read.classes value read.grammar read.left
 
 -- the next line's fault is in the bytes
 fault_of_next : (bytes : List ℕ) (lent : List LogicalLine) (value : ListingValue) (f : LineFault) → AreReadTo lent value
     → IsNextFault RefusesLine fault_of_cutter bytes lent value f → IsFaultIn bytes f
 fault_of_next bytes lent value f read (number, rest, begins, inl t) =
-    subst (IsFaultIn bytes) (sym t.1) (fault_at_limit bytes lent number rest read.classes value begins read.texts read.ran t.0 (line_end rest) refl)
+    subst (IsFaultIn bytes) (sym t.1) (fault_at_limit bytes lent number rest read.classes value begins read.texts (ran lent value read) t.0 (line_end rest) refl)
 fault_of_next bytes lent value f read (number, rest, begins, inr (line, after, split, is, short, seen, same, refused)) =
-    fault_of_line bytes lent number rest read.classes value begins read.texts read.ran line after seen f.line f.cause split is short same refused.0 refused.1
+    fault_of_line bytes lent number rest read.classes value begins read.texts (ran lent value read) line after seen f.line f.cause split is short same refused.0 refused.1
 
 -- one more line of one more class
 texts-push : (lines : List LogicalLine) (classes : List Class) (line : LogicalLine) (c : Class) → AreTextsOfClasses lines classes → TextIsOfClass line.text line.comment c
@@ -175,13 +172,14 @@ texts-push (l ∷ lines) (d ∷ classes) line c texts is = (texts.0, texts-push 
 
 -- one more line that passed
 read_by : (lent : List LogicalLine) (old new : ListingValue) (line : LogicalLine) → AreReadTo lent old → PassesLine old line new → AreReadTo (lent ++ line ∷ []) new
-read_by lent old new line read (c, is, steps) = record {
-  classes = read.classes ++ c ∷ [];
-  texts = texts-push lent read.classes line c read.texts is;
-  ran = run_more read.classes (c ∷ []) Closed [] old read.ran ∙ once (step old.binding old.edges c) steps;
-} where
-  once : (o : Option ListingValue) → o ≡ Some new → option_and_then (λ s. run s.binding s.edges []) o ≡ Some new
-  once o e = rw e refl
+read_by lent old new line read (c, is, steps) =
+    let classes = read.classes ++ c ∷ [] in
+    let on : run Closed [] classes ≡ Some new = run_more read.classes (c ∷ []) Closed [] old (ran lent old read) ∙ ap (option_and_then (λ s. run s.binding s.edges [])) steps in record {
+      classes = classes;
+      texts = texts-push lent read.classes line c read.texts (class_holds line.text line.comment c is);
+      grammar = run_is_listing classes new on;
+      left = binding_runs classes Closed [] new on;
+    }
 
 -- more lines that passed
 read_on : (lent more : List LogicalLine) (old new : ListingValue) → AreReadTo lent old → LeadTo PassesLine old more new → AreReadTo (lent ++ more) new
@@ -211,14 +209,14 @@ pub listed : (bytes : List ℕ) (r : Reader) (end : ListingValue × ℕ) → Has
     → ((lent : List LogicalLine) → HasLentAll bytes lent r → EndsLines {S = ListingValue} {F = LineFault} fault_of_cutter bytes lent r.state (Ok end)) → Lists bytes end.0.edges
 listed bytes r end has ends =
     let e = ends has.lent has.has in
-    ends_well bytes has.lent end.1 has.read.classes end.0 e.1 has.read.texts (subst (λ v. run Closed [] has.read.classes ≡ Some v) (sym e.0) has.read.ran)
+    ends_well bytes has.lent end.1 has.read.classes end.0 e.1 has.read.texts (subst (λ v. run Closed [] has.read.classes ≡ Some v) (sym e.0) (ran has.lent r.state has.read))
 
 -- which fault the end of all bytes has
 pub ended : (bytes : List ℕ) (r : Reader) (failure : Failure LineFault) → HasRead bytes r
     → ((lent : List LogicalLine) → HasLentAll bytes lent r → EndsLines {S = ListingValue} {F = LineFault} fault_of_cutter bytes lent r.state (Err failure)) → Ends bytes (Err (line_failure failure))
 ended bytes r (Fault f) has ends =
     let e = ends has.lent has.has in
-    subst (FaultyEnd bytes) (sym e.4) (ends_truncated bytes has.lent e.0 e.1 has.read.classes r.state e.2 has.read.texts has.read.ran e.3)
+    subst (FaultyEnd bytes) (sym e.4) (ends_truncated bytes has.lent e.0 e.1 has.read.classes r.state e.2 has.read.texts (ran has.lent r.state has.read) e.3)
 ended bytes r Memory has ends = absurd (ends has.lent has.has)
 
 -- what becomes of the edges listed

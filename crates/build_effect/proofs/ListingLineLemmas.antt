@@ -12,7 +12,8 @@ use Rattle.ninja_text.specs.declared.token.TokenKind.TheVariants.{Word, Bar, Dou
 use Rattle.dyndep_file.specs.Classes.{Symbol, WordSymbol, SignSymbol, symbol, symbols, begins_at_start, begins_with_space}
 use Rattle.dyndep_file.specs.Faults.{is_empty, after_build}
 use Rattle.dyndep_file.specs.BuildTokens.{symbol_of, is_word}
-use Rattle.build_effect.specs.ListingLines.{CommentRow, BlankRow, row_of, binding_row, unindented_row, edge_texts, right_texts, front_words, past_words, past_sign, part_words, past_part, is_rule_name}
+use Rattle.build_effect.specs.ListingLines.{CommentRow, BlankRow, is_rule_name}
+use Rattle.build_effect.specs.inner.ListingWalk.{row_of, binding_row, unindented_row, edge_texts, right_texts, front_words, past_words, past_sign, part_words, past_part}
 use Rattle.build_effect.specs.inner.ListingRows.{RulePassed}
 use Rattle.build_effect.specs.declared.listing_faults.LineCause.TheVariants.{Lexical}
 

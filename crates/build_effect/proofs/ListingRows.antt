@@ -1,19 +1,23 @@
 -- Rows of edge listings: the definitions compute to what each line is, and a listing of three edges is one of just these.
-use Rattle.std.proofs.Common.{◌≡◌, ℕ, List, [], ◌∷◌, ◌++◌, refl, Some, None, true, false, Ok}
+use Rattle.std.proofs.Common.{inr, ◌≡◌, ℕ, List, [], ◌∷◌, ◌++◌, refl, Some, None, true, false, Ok}
 use Rattle.std.specs.Prelude.{codes, All}
 use Rattle.std.proofs.lemmas.List.Elements.{All-from_recursion}
 use Rattle.ninja_text.specs.Lines.{text_of, is_comment}
 use Rattle.ninja_text.specs.Paths.{canonical_of, IsPath}
 use Rattle.ninja_text.specs.declared.faults.LexFault.TheVariants.{Variable}
 use Rattle.ninja_text.specs.declared.paths.PathFault.TheVariants.{Empty}
+use Rattle.ninja_text.specs.declared.token.TokenKind.TheVariants.{Bar, DoubleBar}
+use Rattle.dyndep_file.specs.Classes.{WordSymbol, SignSymbol}
 use Rattle.build_effect.specs.EdgeValue.{EdgeValue}
-use Rattle.build_effect.specs.ListingLines.{EdgeTexts, CommentRow, BlankRow, BuildRow, DyndepRow, RestatRow, Class, Comment, Blank, Build, Dyndep, Restat, row_of, class_of_row, TextIsOfClass}
+use Rattle.build_effect.specs.ListingLines.{EdgeTexts, CommentRow, BlankRow, BuildRow, DyndepRow, RestatRow, Class, Comment, Blank, Build, Dyndep, Restat, TextIsOfRow, TextIsOfClass}
+use Rattle.build_effect.specs.inner.ListingWalk.{row_of, class_of_row, FindsClass, line_cause}
 use Rattle.build_effect.specs.ListingGrammar.{IsListing, listing_end, listing_blank, listing_build, no_more_bindings, comment_between, dyndep_binding, restat_binding}
-use Rattle.build_effect.specs.ListingFaults.{line_cause, open_from}
+use Rattle.build_effect.specs.ListingSteps.{open_from}
 use Rattle.build_effect.specs.ListingWriting.{first_too_long}
 use Rattle.build_effect.specs.ListingLaws.{IsListable}
 use Rattle.build_effect.specs.declared.listing_faults.LineCause.TheVariants.{Lexical, Form, BadPath}
 use Rattle.build_effect.specs.declared.listing_state.Binding.TheVariants.{Closed, Open}
+use Rattle.build_effect.proofs.ListingFinds.{class_holds}
 
 -- a text with the end of its line
 abbrev line : List ℕ → List ℕ
@@ -50,6 +54,41 @@ all_lists : row_of (codes "build a$ b c | d$:e : r.x f | g h || i") false ≡ Ok
   order_only = file (codes "i");
 }))
 all_lists = refl
+
+-- which is a build line as they are defined, of these words
+all_lists_are : TextIsOfRow (codes "build a$ b c | d$:e : r.x f | g h || i") false (BuildRow (record {
+  rule = codes "r.x";
+  outputs = codes "a b" ∷ codes "c" ∷ [];
+  implicit_outputs = file (codes "d:e");
+  inputs = file (codes "f");
+  implicit_inputs = codes "g" ∷ codes "h" ∷ [];
+  order_only = file (codes "i");
+}))
+all_lists_are = (
+  refl,
+  refl,
+  refl,
+  record {
+    rule = codes "r.x";
+    outputs = codes "a$ b" ∷ codes "c" ∷ [];
+    implicit_outputs = file (codes "d$:e");
+    inputs = file (codes "f");
+    implicit_inputs = codes "g" ∷ codes "h" ∷ [];
+    order_only = file (codes "i");
+  },
+  (
+    SignSymbol Bar ∷ WordSymbol (codes "d$:e") ∷ [],
+    SignSymbol Bar ∷ WordSymbol (codes "g") ∷ WordSymbol (codes "h") ∷ [],
+    SignSymbol DoubleBar ∷ WordSymbol (codes "i") ∷ [],
+    inr refl,
+    inr refl,
+    inr refl,
+    λ e. (let x : codes "a$ b" ∷ codes "c" ∷ [] ≡ [] = e in cc),
+    refl,
+    refl,
+  ),
+  refl,
+)
 
 -- paths are canonical
 canonical : class_of_row (DyndepRow (codes "./x/../t.dd")) ≡ Ok (Dyndep (codes "t.dd"))
@@ -177,26 +216,29 @@ listing_form =
 abbrev IsLineOf : List ℕ → Class → Type 0
 IsLineOf line c = TextIsOfClass (text_of line) (is_comment line) c
 
+found : (line : List ℕ) (c : Class) → FindsClass (text_of line) (is_comment line) c → IsLineOf line c
+found line c finds = class_holds (text_of line) (is_comment line) c finds
+
 first_line : IsLineOf (line (codes "build a.o: cxx a.cpp || t.dd")) (Build (compile (codes "a.o") (codes "a.cpp")))
 unfolding canonical_of
-first_line = (BuildRow (compile (codes "a.o") (codes "a.cpp")), refl, refl)
+first_line = found (line (codes "build a.o: cxx a.cpp || t.dd")) (Build (compile (codes "a.o") (codes "a.cpp"))) (BuildRow (compile (codes "a.o") (codes "a.cpp")), refl, refl)
 
 second_line : IsLineOf (line (codes "  dyndep = t.dd")) (Dyndep (codes "t.dd"))
 unfolding canonical_of
-second_line = (DyndepRow (codes "t.dd"), refl, refl)
+second_line = found (line (codes "  dyndep = t.dd")) (Dyndep (codes "t.dd")) (DyndepRow (codes "t.dd"), refl, refl)
 
 third_line : IsLineOf (line (codes "# objects")) Comment
-third_line = (CommentRow, refl, refl)
+third_line = found (line (codes "# objects")) Comment (CommentRow, refl, refl)
 
 fourth_line : IsLineOf (line (codes "  restat = 1")) (Restat true)
-fourth_line = (RestatRow true, refl, refl)
+fourth_line = found (line (codes "  restat = 1")) (Restat true) (RestatRow true, refl, refl)
 
 seventh_line : IsLineOf (line []) Blank
-seventh_line = (BlankRow, refl, refl)
+seventh_line = found (line []) Blank (BlankRow, refl, refl)
 
 last_line : IsLineOf (line (codes "build lib: ar a.o b.o")) (Build archive)
 unfolding canonical_of
-last_line = (BuildRow archive, refl, refl)
+last_line = found (line (codes "build lib: ar a.o b.o")) (Build archive) (BuildRow archive, refl, refl)
 
 -- ---- they are edges as the law of what is written has them
 

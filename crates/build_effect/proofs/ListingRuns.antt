@@ -1,14 +1,12 @@
 -- Lines of an edge listing that are run over one after another, and the listings that begin with them.
 use Rattle.std.proofs.Common.{inl, inr, ◌⊎◌, ◌≡◌, ℕ, Bool, true, false, List, [], ◌∷◌, ◌++◌, refl, sym, ap, ◌∙◌, subst, append_assoc, Option, Some, None}
-use Rattle.std.specs.Prelude.{is_some, Result, Ok, Err}
+use Rattle.std.specs.Prelude.{is_some}
 use Rattle.std.proofs.lemmas.List.{append-nil}
-use Rattle.ninja_text.specs.Paths.{path_of}
-use Rattle.ninja_text.specs.declared.paths.PathFault.{PathFault}
 use Rattle.build_effect.specs.EdgeValue.{EdgeValue}
-use Rattle.build_effect.specs.ListingLines.{EdgeTexts, Row, CommentRow, BlankRow, BuildRow, DyndepRow, RestatRow, Class, Comment, Blank, Build, Dyndep, Restat, class_of_row, dyndep_class, TextIsOfClass}
+use Rattle.build_effect.specs.ListingLines.{EdgeTexts, Class, Comment, Blank, Build, Dyndep, Restat}
 use Rattle.build_effect.specs.ListingGrammar.{HasBindings, no_more_bindings, comment_between, dyndep_binding, restat_binding, bound, IsListing, listing_end, listing_comment, listing_blank, listing_build, Begins}
-use Rattle.build_effect.specs.ListingSteps.{ListingValue, may_stand, with_last_dyndep, with_last_restat, step, run}
-use Rattle.build_effect.specs.ListingFaults.{left_open, open_from, row_cause, path_cause, text_cause}
+use Rattle.build_effect.specs.ListingSteps.{ListingValue, left_open, open_from}
+use Rattle.build_effect.specs.inner.ListingWalk.{with_last_dyndep, with_last_restat, step, run}
 use Rattle.build_effect.specs.declared.listing_state.Binding.{Binding}
 use Rattle.build_effect.specs.declared.listing_state.Binding.TheVariants.{Closed, Open}
 
@@ -229,7 +227,7 @@ pub run_is_listing : (classes : List Class) (end : ListingValue) → run Closed 
 run_is_listing classes end h = let a = (run_adds classes).none [] end h in subst (IsListing classes) (sym a.are) a.grammar
 
 -- a run over more lines passes through the fewer
-run_front : (classes more : List Class) (binding : Binding) (start : List EdgeValue) (end : ListingValue) → run binding start (classes ++ more) ≡ Some end
+pub run_front : (classes more : List Class) (binding : Binding) (start : List EdgeValue) (end : ListingValue) → run binding start (classes ++ more) ≡ Some end
     → (mid : ListingValue) × (run binding start classes ≡ Some mid) × (run mid.binding mid.edges more ≡ Some end)
 run_front [] more binding start end h = (record { edges = start; binding = binding }, refl, h)
 run_front (c ∷ classes) more binding start end h = elim (cases_step (step binding start c)) [
@@ -277,29 +275,9 @@ binding_runs (c ∷ classes) binding es end h = elim (cases_step (step binding e
   | inr o ↦ binding_runs classes o.0.binding o.0.edges end (rw o.1 at h) ∙ ap (λ b. open_from b classes) (left binding es c o.0 o.1)
 ]
 
--- the class of a binding of `dyndep`
-dyndep_is : (o : Result (List ℕ) PathFault) (c : Class) → dyndep_class o ≡ Ok c → (path : List ℕ) × (c ≡ Dyndep path)
-dyndep_is (Ok path) c h = (path, let x : ◌≡◌ {A = Result Class PathFault} (Ok (Dyndep path)) (Ok c) = h in cc)
-dyndep_is (Err fault) c h = absurd (let x : ◌≡◌ {A = Result Class PathFault} (Err fault) (Ok c) = h in cc)
-
--- a line of a class that passes may stand
-may_pass : (binding : Binding) (es : List EdgeValue) (row : Row) (c : Class) (next : ListingValue) → class_of_row row ≡ Ok c → step binding es c ≡ Some next → may_stand binding row ≡ true
-may_pass binding es CommentRow c next is steps = refl
-may_pass binding es BlankRow c next is steps = refl
-may_pass binding es (BuildRow t) c next is steps = refl
-may_pass Closed es (DyndepRow text) c next is steps =
-    let d = dyndep_is (path_of text) c is in never (subst (λ c. step Closed es c ≡ Some next) d.1 steps)
-may_pass (Open true restat) es (DyndepRow text) c next is steps =
-    let d = dyndep_is (path_of text) c is in never (subst (λ c. step (Open true restat) es c ≡ Some next) d.1 steps)
-may_pass (Open false restat) es (DyndepRow text) c next is steps = refl
-may_pass Closed es (RestatRow flag) c next is steps =
-    let r : c ≡ Restat flag = (let x : ◌≡◌ {A = Result Class PathFault} (Ok (Restat flag)) (Ok c) = is in cc) in never (subst (λ c. step Closed es c ≡ Some next) r steps)
-may_pass (Open dyndep true) es (RestatRow flag) c next is steps =
-    let r : c ≡ Restat flag = (let x : ◌≡◌ {A = Result Class PathFault} (Ok (Restat flag)) (Ok c) = is in cc) in never (subst (λ c. step (Open dyndep true) es c ≡ Some next) r steps)
-may_pass (Open dyndep false) es (RestatRow flag) c next is steps = refl
-
--- and has no fault
-pub no_cause : (binding : Binding) (es : List EdgeValue) (text : List ℕ) (comment : Bool) (c : Class) (next : ListingValue) → TextIsOfClass text comment c → step binding es c ≡ Some next
-    → text_cause binding text comment ≡ None
-no_cause binding es text comment c next (row, is, of_row) steps =
-    ap (row_cause binding) is ∙ rw (may_pass binding es row c next of_row steps) (ap path_cause of_row)
+-- a listing is run to its edges
+pub listing_is_run : (classes : List Class) (value : ListingValue) → IsListing classes value.edges → value.binding ≡ open_from Closed classes → run Closed [] classes ≡ Some value
+listing_is_run classes value grammar left_so =
+    let r = listing_runs [] grammar in
+    let end : ListingValue = record { edges = value.edges; binding = r.final } in
+    r.is ∙ ap (λ (b : Binding). Some (record { edges = value.edges; binding = b })) (binding_runs classes Closed [] end r.is ∙ sym left_so)

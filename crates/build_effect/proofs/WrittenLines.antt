@@ -1,5 +1,5 @@
 -- The lines of an edge as they are written: each is one line, keeps the limit, and is of its class.
-use Rattle.std.proofs.Common.{inl, inr, ◌≡◌, ◌≢◌, ℕ, ◌+◌, ◌≤◌, ◌==◌, Bool, true, false, List, [], ◌∷◌, ◌++◌, length, map, drop, refl, sym, ap, ◌∙◌, subst, Some, None, Ok, arith, length-append}
+use Rattle.std.proofs.Common.{inl, inr, ◌≡◌, ◌≢◌, ℕ, ◌+◌, ◌≤◌, ◌==◌, Bool, true, false, List, [], ◌∷◌, ◌++◌, length, map, drop, refl, sym, ap, ◌∙◌, subst, Some, None, arith, length-append}
 use Rattle.std.specs.Prelude.{codes, if◌then◌else◌, option_map, IsTrue}
 use Rattle.std.specs.List.{flat_map, AllByRecursion}
 use Rattle.std.proofs.lemmas.List.{append_assoc, append-nil}
@@ -14,12 +14,13 @@ use Rattle.ninja_text.specs.Escapes.{is_unwritable, IsWritable, is_escaped, esca
 use Rattle.ninja_text.specs.Paths.{IsPath}
 use Rattle.ninja_text.proofs.ForCallers.{shape, path_unit, path_units, value_of_escaped, word_and, word_token, lexical_none, is_line, text_is}
 use Rattle.dyndep_file.specs.Classes.{Symbol, WordSymbol, symbol, symbols, begins_at_start}
-use Rattle.dyndep_file.specs.Faults.{is_empty, after_build}
+use Rattle.dyndep_file.specs.Faults.{is_empty}
 use Rattle.dyndep_file.specs.Writing.{spaced}
 use Rattle.build_effect.specs.EdgeValue.{EdgeValue}
-use Rattle.build_effect.specs.ListingLines.{is_rule_name, BuildRow, DyndepRow, RestatRow, Class, Build, Dyndep, Restat, binding_row, build_row, unindented_row, row_of, with_path, paths_of, edge_paths, build_class, dyndep_class, TextIsOfClass, IsOfClass}
+use Rattle.build_effect.specs.Effect.{ArePaths}
+use Rattle.build_effect.specs.ListingLines.{is_rule_name, IsEdgeLine, BuildRow, DyndepRow, RestatRow, TextIsOfRow, Class, Build, Dyndep, Restat, RowIsOfClass, TextIsOfClass, IsOfClass}
 use Rattle.build_effect.specs.ListingWriting.{part_text, right_text, edge_line, dyndep_line, restat_line}
-use Rattle.build_effect.proofs.WrittenSymbols.{Spelled, spelled_none, spelled_space, spelled_path, spelled_name, units_both, escaped_units, HasLine, texts_of, edge_symbols, behind_keyword, line_text, line_written, behind_written, line_says}
+use Rattle.build_effect.proofs.WrittenSymbols.{Spelled, spelled_none, spelled_space, spelled_path, spelled_name, units_both, escaped_units, HasLine, texts_of, edge_symbols, behind_keyword, line_text, line_written, behind_written, words_of, words_meant, line_is_edge}
 
 -- ---- a text that is put together, by itself and as a line
 module _ {at_word : Bool} (text : List ℕ) (xs : List Symbol) (w : Spelled at_word text xs) where
@@ -42,9 +43,9 @@ module _ {at_word : Bool} (text : List ℕ) (xs : List Symbol) (w : Spelled at_w
 
 -- ---- paths
 
-paths_are : (paths : List (List ℕ)) → AllByRecursion IsPath paths → paths_of paths ≡ Ok paths
-paths_are [] each = refl
-paths_are (path ∷ paths) each = ap (λ r. with_path r (paths_of paths)) each.0 ∙ ap (with_path (Ok path)) (paths_are paths each.1)
+are_paths : (paths : List (List ℕ)) → AllByRecursion IsPath paths → ArePaths paths paths
+are_paths [] each = refl
+are_paths (path ∷ paths) each = rw (each.0, are_paths paths each.1) refl
 
 writable : (path : List ℕ) → IsPath path → IsWritable path
 writable path is = (shape path is).writable
@@ -78,9 +79,6 @@ module _ (e : EdgeValue) (fit : IsFit e) where
     order_only = all_writable e.order_only fit.order_only;
   }
 
-  paths_kept : edge_paths (texts_of e) ≡ Ok (texts_of e)
-  paths_kept = rw (paths_are e.outputs fit.outputs, paths_are e.implicit_outputs fit.implicit_outputs, paths_are e.inputs fit.inputs, paths_are e.implicit_inputs fit.implicit_inputs, paths_are e.order_only fit.order_only) refl
-
   -- its first token is the keyword
   first_token : tokens (line_text e) ≡ tokens_from 0 (path_units (codes "build") ++ units (behind_keyword e))
   first_token = ap (tokens_from 0) (units_both (codes "build") (behind_keyword e) refl refl)
@@ -91,18 +89,33 @@ module _ (e : EdgeValue) (fit : IsFit e) where
   at_start : begins_at_start (tokens (line_text e)) ≡ true
   at_start = ap begins_at_start first_word
 
-  some_token : is_empty (tokens (line_text e)) ≡ false
-  some_token = ap is_empty first_word
+  -- so it is a build line
+  abbrev line_symbols : List Symbol
+  line_symbols = WordSymbol (codes "build") ∷ edge_symbols e
 
-  row_by_tokens : row_of (line_text e) false ≡ unindented_row (after_build (begins_at_start (tokens (line_text e))) (symbols (line_text e)))
-  row_by_tokens = rw (spelled_faultless (line_text e) (WordSymbol (codes "build") ∷ edge_symbols e) (line_written e has_line), some_token) refl
+  line_row : TextIsOfRow (line_text e) false (BuildRow (texts_of e))
+  line_row = (
+    refl,
+    spelled_faultless (line_text e) line_symbols (line_written e has_line),
+    at_start,
+    words_of e has_line,
+    subst (λ ss. IsEdgeLine ss (words_of e has_line)) (sym (spelled_symbols (line_text e) line_symbols (line_written e has_line))) (line_is_edge e has_line),
+    words_meant e has_line,
+  )
 
-  line_row : row_of (line_text e) false ≡ Ok (BuildRow (texts_of e))
-  line_row =
-      row_by_tokens
-      ∙ ap (λ b. unindented_row (after_build b (symbols (line_text e)))) at_start
-      ∙ ap (λ ss. unindented_row (after_build true ss)) (spelled_symbols (line_text e) (WordSymbol (codes "build") ∷ edge_symbols e) (line_written e has_line))
-      ∙ ap build_row (line_says e has_line)
+  line_class : RowIsOfClass (BuildRow (texts_of e)) (Build (texts_of e))
+  line_class = (
+    texts_of e,
+    record {
+      rule = refl;
+      outputs = are_paths e.outputs fit.outputs;
+      implicit_outputs = are_paths e.implicit_outputs fit.implicit_outputs;
+      inputs = are_paths e.inputs fit.inputs;
+      implicit_inputs = are_paths e.implicit_inputs fit.implicit_inputs;
+      order_only = are_paths e.order_only fit.order_only;
+    },
+    refl,
+  )
 
   -- the line, its end included
   line_is : line_text e ++ 10 ∷ [] ≡ edge_line e
@@ -125,7 +138,7 @@ module _ (e : EdgeValue) (fit : IsFit e) where
   edge_classed =
       subst (λ line. IsOfClass line (Build (texts_of e))) line_is
       (spelled_classed (line_text e) (WordSymbol (codes "build") ∷ edge_symbols e) (line_written e has_line) refl (Build (texts_of e))
-      (subst (λ line. length line ≤ line_limit) (sym line_is) fit.line) (BuildRow (texts_of e), line_row, ap build_class paths_kept))
+      (subst (λ line. length line ≤ line_limit) (sym line_is) fit.line) (BuildRow (texts_of e), line_row, line_class))
 
 -- ---- the line of a binding `dyndep`
 
@@ -187,12 +200,14 @@ module _ (path : List ℕ) (is : IsPath path) where
       (spelled_name (codes "dyndep") (32 ∷ 61 ∷ 32 ∷ escaped path) (WordSymbol (61 ∷ []) ∷ path_symbols) refl
       (spelled_space (61 ∷ 32 ∷ escaped path) (WordSymbol (61 ∷ []) ∷ path_symbols) equals_written)))
 
-  dyndep_row : row_of (dyndep_text path) false ≡ Ok (DyndepRow path)
-  dyndep_row =
-      row_of_binding ∙ ap binding_row dyndep_assigns ∙ ap (λ p. Ok (DyndepRow p)) (value_of_escaped path (writable path is))
-    where
-      row_of_binding : row_of (dyndep_text path) false ≡ binding_row (assignment_of (dyndep_text path))
-      row_of_binding = rw (spelled_faultless (dyndep_text path) dyndep_symbols dyndep_written) refl
+  dyndep_row : TextIsOfRow (dyndep_text path) false (DyndepRow path)
+  dyndep_row = (
+    refl,
+    spelled_faultless (dyndep_text path) dyndep_symbols dyndep_written,
+    refl,
+    2,
+    (record { name_start = 2; name = codes "dyndep"; raw_value = escaped path }, dyndep_assigns, refl, refl, value_of_escaped path (writable path is)),
+  )
 
   short : length (dyndep_text path ++ 10 ∷ []) ≤ line_limit
   short = omega (arith, escaped_length path, (shape path is).short, length-append (escaped path) (10 ∷ []))
@@ -201,7 +216,7 @@ module _ (path : List ℕ) (is : IsPath path) where
   dyndep_is_line = spelled_is_line (dyndep_text path) dyndep_symbols dyndep_written refl
 
   pub dyndep_classed : IsOfClass (dyndep_line (Some path)) (Dyndep path)
-  dyndep_classed = spelled_classed (dyndep_text path) dyndep_symbols dyndep_written refl (Dyndep path) short (DyndepRow path, dyndep_row, ap dyndep_class is)
+  dyndep_classed = spelled_classed (dyndep_text path) dyndep_symbols dyndep_written refl (Dyndep path) short (DyndepRow path, dyndep_row, (path, is, refl))
 
 -- ---- the line of a binding `restat`
 
@@ -209,4 +224,6 @@ pub restat_is_line : IsLine (restat_line true)
 restat_is_line = (12, refl)
 
 pub restat_classed : IsOfClass (restat_line true) (Restat true)
-restat_classed = (omega arith, (RestatRow true, refl, refl))
+restat_classed =
+    let a : SeenAssignment = record { name_start = 2; name = codes "restat"; raw_value = codes "1" } in
+    (omega arith, (RestatRow true, (refl, refl, refl, 2, codes "1", (a, refl, refl, refl, refl), refl), refl))

@@ -1,6 +1,6 @@
--- The tokens of a build line as it is written, and what they say.
-use Rattle.std.proofs.Common.{inl, inr, ◌≡◌, ℕ, ◌+◌, ◌==◌, ◌&&◌, Bool, true, false, List, [], ◌∷◌, ◌++◌, length, map, refl, sym, ap, ◌∙◌, subst, Some, None, length-append}
-use Rattle.std.specs.Prelude.{IsTrue, codes, not, if◌then◌else◌}
+-- The tokens of a build line as it is written, and that they are one.
+use Rattle.std.proofs.Common.{inl, inr, ◌≡◌, ◌≢◌, ℕ, ◌+◌, ◌==◌, Bool, true, false, List, [], ◌∷◌, ◌++◌, length, map, refl, sym, ap, ◌∙◌, subst, length-append}
+use Rattle.std.specs.Prelude.{IsTrue, codes}
 use Rattle.std.specs.List.{flat_map, list_all, AllByRecursion}
 use Rattle.std.proofs.lemmas.List.{append-nil, append_assoc}
 use Rattle.std.proofs.lemmas.List.Elements.{All-from_recursion}
@@ -10,7 +10,7 @@ use Rattle.std.proofs.lemmas.Grind.{flat_map-append}
 use Rattle.ninja_text.specs.declared.token.TokenKind.{TokenKind}
 use Rattle.ninja_text.specs.declared.token.TokenKind.TheVariants.{Bar, DoubleBar, Colon}
 use Rattle.ninja_text.specs.Units.{units}
-use Rattle.ninja_text.specs.Tokens.{is_piece, goes_on, tokens_from}
+use Rattle.ninja_text.specs.Tokens.{is_piece, goes_on, tokens_from, value_of}
 use Rattle.ninja_text.specs.Assignments.{is_name_byte}
 use Rattle.ninja_text.specs.Escapes.{is_unwritable, IsWritable, escaped_byte, escaped}
 use Rattle.ninja_text.proofs.ForCallers.{is_sound, text_of_units, unit_text, units_read, path_unit, path_units, path_text, path_sound, path_pieces, has_spelling, value_of_escaped, Yields, viewed, no_units, goes_on_piece, space_yields, colon_yields, bar_yields, path_yields, units_are}
@@ -18,9 +18,8 @@ use Rattle.dyndep_file.specs.Classes.{Symbol, WordSymbol, SignSymbol, symbol}
 use Rattle.dyndep_file.specs.Faults.{is_empty}
 use Rattle.dyndep_file.specs.Writing.{spaced}
 use Rattle.build_effect.specs.EdgeValue.{EdgeValue}
-use Rattle.build_effect.specs.ListingLines.{EdgeTexts, front_words, past_words, is_sign, past_sign, part_words, past_part, is_rule_name, edge_texts, right_texts}
+use Rattle.build_effect.specs.ListingLines.{EdgeTexts, is_rule_name, IsPart, IsEdgeLine, meant}
 use Rattle.build_effect.specs.ListingWriting.{part_text}
-use Rattle.build_effect.proofs.ListingLineLemmas.{left_texts, right_are}
 
 -- ---- a rule's name is spelled as it is
 
@@ -164,44 +163,24 @@ module _ (text : List ℕ) (xs : List Symbol) (later : Spelled false text xs) wh
       spelled_space (124 ∷ 124 ∷ behind) (SignSymbol DoubleBar ∷ (words (path ∷ paths) ++ xs))
       (spelled_double_bar behind (words (path ∷ paths) ++ xs) (paths_written (path ∷ paths) writable))
 
--- ---- what such symbols say
+-- ---- what such symbols are
 
--- No word stands at the front.
-record Stops (ss : List Symbol) : Type 0 where
-  none : front_words ss ≡ []
-  all : past_words ss ≡ ss
-
-part_stops : (sign : TokenKind) (paths : List (List ℕ)) (rest : List Symbol) → Stops rest → Stops (part_symbols sign paths ++ rest)
-part_stops sign [] rest s = s
-part_stops sign (path ∷ paths) rest s = record { none = refl; all = refl }
+-- a part
+part_is : (sign : TokenKind) (paths : List (List ℕ)) → IsPart sign (part_symbols sign paths) (map escaped paths)
+part_is sign [] = inl (refl, refl)
+part_is sign (path ∷ paths) = inr refl
 
 same_cons : {x y : List ℕ} {xs ys : List (List ℕ)} → x ≡ y → xs ≡ ys → x ∷ xs ≡ y ∷ ys
 same_cons p q = rw (p, q) refl
 
--- words are read up to what stops them
-front_is : (paths : List (List ℕ)) (rest : List Symbol) → AllByRecursion IsWritable paths → Stops rest → front_words (words paths ++ rest) ≡ paths
-front_is [] rest writable s = s.none
-front_is (path ∷ paths) rest writable s = same_cons (value_of_escaped path writable.0) (front_is paths rest writable.1 s)
+-- what paths are spelled by stands for them
+paths_meant : (paths : List (List ℕ)) → AllByRecursion IsWritable paths → map value_of (map escaped paths) ≡ paths
+paths_meant [] writable = refl
+paths_meant (path ∷ paths) writable = same_cons (value_of_escaped path writable.0) (paths_meant paths writable.1)
 
-past_is : (paths : List (List ℕ)) (rest : List Symbol) → Stops rest → past_words (words paths ++ rest) ≡ rest
-past_is [] rest s = s.all
-past_is (path ∷ paths) rest s = past_is paths rest s
-
--- and so is a part, where its sign does not follow it
-module _ (sign : TokenKind) (same : is_sign sign sign ≡ true) (rest : List Symbol) (s : Stops rest) (apart : past_sign sign rest ≡ None) where
-  part_is : (paths : List (List ℕ)) → AllByRecursion IsWritable paths → part_words (past_sign sign (part_symbols sign paths ++ rest)) ≡ paths
-  part_is [] writable = ap part_words apart
-  part_is (path ∷ paths) writable =
-      ap (λ (b : Bool). part_words (if b then Some (words (path ∷ paths) ++ rest) else None)) same ∙ front_is (path ∷ paths) rest writable s
-
-  part_past : (paths : List (List ℕ)) → past_part (past_sign sign (part_symbols sign paths ++ rest)) (part_symbols sign paths ++ rest) ≡ rest
-  part_past [] = ap (λ o. past_part o rest) apart
-  part_past (path ∷ paths) =
-      ap (λ (b : Bool). past_part (if b then Some (words (path ∷ paths) ++ rest) else None) (part_symbols sign (path ∷ paths) ++ rest)) same ∙ past_is (path ∷ paths) rest s
-
-no_bar : (paths : List (List ℕ)) → past_sign Bar (part_symbols DoubleBar paths ++ []) ≡ None
-no_bar [] = refl
-no_bar (path ∷ paths) = refl
+some_spelled : (paths : List (List ℕ)) → is_empty paths ≡ false → map escaped paths ≢ []
+some_spelled [] h = absurd (let x : true ≡ false = h in cc)
+some_spelled (path ∷ paths) h = λ e. (let x : escaped path ∷ map escaped paths ≡ [] = e in cc)
 
 -- ---- the build line of an edge
 
@@ -286,40 +265,37 @@ module _ (e : EdgeValue) (has : HasLine e) where
   pub line_written : Spelled true (line_text e) (WordSymbol (codes "build") ∷ edge_symbols e)
   line_written = spelled_name (codes "build") (behind_keyword e) (edge_symbols e) refl behind_written
 
-  order_stops : Stops (order_symbols e)
-  order_stops = part_stops DoubleBar e.order_only [] (record { none = refl; all = refl })
+  -- its words as they are spelled, which stand for what the edge has
+  abbrev pub words_of : EdgeTexts
+  words_of = record {
+    rule = e.rule;
+    outputs = map escaped e.outputs;
+    implicit_outputs = map escaped e.implicit_outputs;
+    inputs = map escaped e.inputs;
+    implicit_inputs = map escaped e.implicit_inputs;
+    order_only = map escaped e.order_only;
+  }
 
-  implicit_stops : Stops (implicit_symbols e)
-  implicit_stops = part_stops Bar e.implicit_inputs (order_symbols e) order_stops
+  pub words_meant : texts_of e ≡ meant words_of
+  words_meant =
+      rw (
+        paths_meant e.outputs has.outputs,
+        paths_meant e.implicit_outputs has.implicit_outputs,
+        paths_meant e.inputs has.inputs,
+        paths_meant e.implicit_inputs has.implicit_inputs,
+        paths_meant e.order_only has.order_only,
+      ) refl
 
-  colon_stops : Stops (colon_symbols e)
-  colon_stops = record { none = refl; all = refl }
-
-  implicit_output_stops : Stops (implicit_output_symbols e)
-  implicit_output_stops = part_stops Bar e.implicit_outputs (colon_symbols e) colon_stops
-
-  left_says : edge_texts (edge_symbols e) ≡ right_texts e.outputs e.implicit_outputs (Some (WordSymbol e.rule ∷ input_symbols e))
-  left_says =
-      left_texts (edge_symbols e) (implicit_output_symbols e) (colon_symbols e) e.outputs e.implicit_outputs
-      (sym (front_is e.outputs (implicit_output_symbols e) has.outputs implicit_output_stops))
-      (sym (past_is e.outputs (implicit_output_symbols e) implicit_output_stops))
-      (sym (part_is Bar refl (colon_symbols e) colon_stops refl e.implicit_outputs has.implicit_outputs))
-      (sym (part_past Bar refl (colon_symbols e) colon_stops refl e.implicit_outputs))
-
-  is_whole : true ≡ not (is_empty e.outputs) && is_rule_name e.rule && is_empty {A = Symbol} []
-  is_whole = sym (and_from (not (is_empty e.outputs) && is_rule_name e.rule) true (and_from (not (is_empty e.outputs)) (is_rule_name e.rule) (ap not has.some) has.rule) refl)
-
-  right_says : right_texts e.outputs e.implicit_outputs (Some (WordSymbol e.rule ∷ input_symbols e)) ≡ Some (texts_of e)
-  right_says =
-      right_are e.outputs e.implicit_outputs e.inputs e.implicit_inputs e.order_only e.rule e.rule (input_symbols e) (implicit_symbols e) (order_symbols e) [] refl
-      (sym (front_is e.inputs (implicit_symbols e) has.inputs implicit_stops))
-      (sym (past_is e.inputs (implicit_symbols e) implicit_stops))
-      (sym (part_is Bar refl (order_symbols e) order_stops (no_bar e.order_only) e.implicit_inputs has.implicit_inputs))
-      (sym (part_past Bar refl (order_symbols e) order_stops (no_bar e.order_only) e.implicit_inputs))
-      (sym (part_is DoubleBar refl [] (record { none = refl; all = refl }) refl e.order_only has.order_only))
-      (sym (part_past DoubleBar refl [] (record { none = refl; all = refl }) refl e.order_only))
-      true is_whole
-
-  -- and they say what the edge has
-  pub line_says : edge_texts (edge_symbols e) ≡ Some (texts_of e)
-  line_says = left_says ∙ right_says
+  -- and its symbols are a build line of these words
+  pub line_is_edge : IsEdgeLine (WordSymbol (codes "build") ∷ edge_symbols e) words_of
+  line_is_edge = (
+    part_symbols Bar e.implicit_outputs,
+    part_symbols Bar e.implicit_inputs,
+    part_symbols DoubleBar e.order_only,
+    part_is Bar e.implicit_outputs,
+    part_is Bar e.implicit_inputs,
+    part_is DoubleBar e.order_only,
+    some_spelled e.outputs has.some,
+    has.rule,
+    simp (append_assoc, append-nil),
+  )

@@ -1,47 +1,64 @@
 -- The cause of a faulty line of an edge listing, by the lines before it: lexical, then its form,
 -- then its paths.
-use Rattle.std.specs.Prelude.{ℕ, Bool, true, false, nat_lt, if◌then◌else◌, List, [], ◌∷◌, length, Option, Some, None, Result, Ok, Err}
+use Rattle.std.specs.Prelude.{◌≡◌, ℕ, ◌<◌, ◌≤◌, Bool, false, List, [], ◌∷◌, ◌++◌, length, Some, None, Err}
 use Rattle.ninja_text.specs.Lines.{line_limit, text_of, is_comment}
+use Rattle.ninja_text.specs.Lexical.{lexical_fault}
+use Rattle.ninja_text.specs.Paths.{path_of}
 use Rattle.ninja_text.specs.declared.paths.PathFault.{PathFault}
-use Rattle.build_effect.specs.ListingLines.{Row, Class, Comment, Blank, Build, Dyndep, Restat, row_of, class_of_row}
-use Rattle.build_effect.specs.ListingSteps.{may_stand}
+use Rattle.build_effect.specs.Effect.{ArePaths}
+use Rattle.build_effect.specs.ListingLines.{Row, CommentRow, BlankRow, BuildRow, DyndepRow, RestatRow, TextIsOfRow, Class, Comment, Blank, Build, Dyndep, Restat}
+use Rattle.build_effect.specs.ListingGrammar.{Begins}
 use Rattle.build_effect.specs.declared.listing_faults.LineCause.{LineCause}
-use Rattle.build_effect.specs.declared.listing_faults.LineCause.TheVariants.{LineTooLong, Form, BadPath}
-use Rattle.build_effect.specs.declared.listing_state.Binding.{Binding}
-use Rattle.build_effect.specs.declared.listing_state.Binding.TheVariants.{Closed, Open}
+use Rattle.build_effect.specs.declared.listing_faults.LineCause.TheVariants.{LineTooLong, Lexical, Form, BadPath}
 
--- what a line leaves open, where these bindings were open before it
-abbrev pub left_open : Binding → Class → Binding
-left_open binding Comment = binding
-left_open binding Blank = Closed
-left_open binding (Build paths) = Open false false
-left_open Closed (Dyndep path) = Closed
-left_open Closed (Restat flag) = Closed
-left_open (Open dyndep restat) (Dyndep path) = Open true restat
-left_open (Open dyndep restat) (Restat flag) = Open dyndep true
+-- the texts of a row that are to be paths, from left to right
+abbrev pub path_texts : Row → List (List ℕ)
+path_texts CommentRow = []
+path_texts BlankRow = []
+path_texts (BuildRow t) =
+    t.outputs ++ t.implicit_outputs ++ t.inputs ++ t.implicit_inputs ++ t.order_only
+path_texts (DyndepRow text) = text ∷ []
+path_texts (RestatRow flag) = []
 
--- which bindings lines leave open, from left to right
-abbrev pub open_from : Binding → List Class → Binding
-open_from binding [] = binding
-open_from binding (c ∷ classes) = open_from (left_open binding c) classes
+-- The first of these texts that is no path is none for this reason.
+pub record IsFirstRefused (texts : List (List ℕ)) (fault : PathFault) : Type 0 where
+  pub before : List (List ℕ)
+  pub text : List ℕ
+  pub after : List (List ℕ)
+  pub whole : texts ≡ before ++ text ∷ after
+  pub paths : List (List ℕ)
+  pub are : ArePaths before paths
+  pub refused : path_of text ≡ Err fault
 
--- the cause of a line whose paths were looked at
-abbrev pub path_cause : Result Class PathFault → Option LineCause
-path_cause (Ok c) = None
-path_cause (Err fault) = Some (BadPath fault)
+-- the class that a row would be of if its texts were paths as they are
+abbrev pub as_class : Row → Class
+as_class CommentRow = Comment
+as_class BlankRow = Blank
+as_class (BuildRow texts) = Build texts
+as_class (DyndepRow text) = Dyndep text
+as_class (RestatRow flag) = Restat flag
 
--- the cause of a line of this row: its form does not fit here, or a path of it is none
-abbrev pub row_cause : Binding → Result Row LineCause → Option LineCause
-row_cause binding (Err cause) = Some cause
-row_cause binding (Ok row) =
-    if may_stand binding row then path_cause (class_of_row row) else Some Form
+-- After lines of these classes a line of this row may stand, whatever its texts are.
+abbrev pub MayStand : List Class → Row → Type 0
+MayStand classes row = Begins (classes ++ as_class row ∷ [])
 
--- the cause of a line's text without its end, and of whether the line is a comment
-abbrev pub text_cause : Binding → List ℕ → Bool → Option LineCause
-text_cause binding text comment = row_cause binding (row_of text comment)
+-- The cause of a line after lines of these classes, by its text without the end, and by whether it
+-- is a comment: its first lexical fault; or it has none, and is of no row that may stand here; or
+-- it is of one, and the first of its texts that is no path is none for this reason.
+abbrev pub IsTextCause : List Class → List ℕ → Bool → LineCause → Type 0
+IsTextCause classes text comment (Lexical fault) =
+    (comment ≡ false) × (lexical_fault text ≡ Some fault)
+IsTextCause classes text comment Form =
+    (comment ≡ false) × (lexical_fault text ≡ None)
+    × ((row : Row) → TextIsOfRow text comment row → MayStand classes row → ⊥)
+IsTextCause classes text comment (BadPath fault) =
+    (row : Row) × TextIsOfRow text comment row × MayStand classes row
+    × IsFirstRefused (path_texts row) fault
+IsTextCause classes text comment other = ⊥
 
--- the cause of a line, its end included; None where it has none
-abbrev pub line_cause : Binding → List ℕ → Option LineCause
-line_cause binding line =
-    if nat_lt line_limit (length line) then Some LineTooLong
-    else text_cause binding (text_of line) (is_comment line)
+-- The cause of a line, its end included: it passes the limit, or it keeps it and its text has this
+-- cause.
+abbrev pub IsLineCause : List Class → List ℕ → LineCause → Type 0
+IsLineCause classes line LineTooLong = line_limit < length line
+IsLineCause classes line cause =
+    (length line ≤ line_limit) × IsTextCause classes (text_of line) (is_comment line) cause

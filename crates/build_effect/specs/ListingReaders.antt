@@ -7,7 +7,8 @@ use Rattle.ninja_text.specs.declared.failure.Failure.{Failure}
 use Rattle.ninja_text.specs.declared.failure.Failure.TheVariants.{Memory, Fault}
 use Rattle.build_effect.specs.EdgeValue.{EdgeValue}
 use Rattle.build_effect.specs.ListingLines.{Class, TextIsOfClass}
-use Rattle.build_effect.specs.ListingSteps.{ListingValue, run}
+use Rattle.build_effect.specs.ListingGrammar.{IsListing}
+use Rattle.build_effect.specs.ListingSteps.{ListingValue, open_from}
 use Rattle.build_effect.specs.ListingReading.{Lists, FaultyLine, FaultyEnd}
 use Rattle.build_effect.specs.Faults.{IsGraphFault}
 use Rattle.build_effect.specs.declared.listing_faults.LineCause.TheVariants.{LineTooLong}
@@ -24,11 +25,12 @@ AreTextsOfClasses (line ∷ lines) (c ∷ classes) =
 AreTextsOfClasses [] (c ∷ classes) = ⊥
 AreTextsOfClasses (line ∷ lines) [] = ⊥
 
--- Lines of these classes, one behind another, give the edges so far.
+-- The lines are a listing of the edges so far, and leave these bindings open.
 pub record AreReadTo (lent : List LogicalLine) (value : ListingValue) : Type 0 where
   pub classes : List Class
   pub texts : AreTextsOfClasses lent classes
-  pub ran : run Closed [] classes ≡ Some value
+  pub grammar : IsListing classes value.edges
+  pub left : value.binding ≡ open_from Closed classes
 
 -- a reader: the lines read, the edges so far, and what it refused with, if it did
 abbrev pub Reader : Type 0

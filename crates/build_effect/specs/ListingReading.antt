@@ -1,15 +1,14 @@
 -- Which edges a text lists, and which fault a text has that lists none.
-use Rattle.std.specs.Prelude.{◌≡◌, ℕ, ◌<◌, ◌≤◌, List, [], ◌∷◌, ◌++◌, length, Some, ◌⊎◌}
+use Rattle.std.specs.Prelude.{◌≡◌, ℕ, ◌<◌, ◌≤◌, Bool, List, [], ◌∷◌, ◌++◌, length, ◌⊎◌}
 use Rattle.std.specs.List.{flat_map, AllByRecursion}
 use Rattle.ninja_text.specs.Lines.{line_limit, IsLine, Divides, number_after}
 use Rattle.build_effect.specs.EdgeValue.{EdgeValue}
-use Rattle.build_effect.specs.ListingLines.{Class, IsOfClass}
+use Rattle.build_effect.specs.ListingLines.{Class, TextIsOfClass, IsOfClass}
 use Rattle.build_effect.specs.ListingGrammar.{IsListing, Begins}
-use Rattle.build_effect.specs.ListingFaults.{open_from, line_cause}
+use Rattle.build_effect.specs.ListingFaults.{IsLineCause}
 use Rattle.build_effect.specs.declared.listing_faults.LineCause.{LineCause}
-use Rattle.build_effect.specs.declared.listing_faults.LineCause.TheVariants.{LineTooLong, Truncated}
+use Rattle.build_effect.specs.declared.listing_faults.LineCause.TheVariants.{LineTooLong, Truncated, Form}
 use Rattle.build_effect.specs.declared.listing_faults.LineFault.{LineFault}
-use Rattle.build_effect.specs.declared.listing_state.Binding.TheVariants.{Closed}
 
 -- The lines are of these classes, one by one.
 abbrev pub AreOfClasses : List (List ℕ) → List Class → Type 0
@@ -45,7 +44,7 @@ pub record FaultyLine (bytes : List ℕ) (found : LineFault) : Type 0 where
   pub begun : Begins classes
   pub faulty : IsFaultyAfter classes line
   pub number : found.line ≡ number_after (flat_map (λ line. line) before)
-  pub reason : line_cause (open_from Closed classes) line ≡ Some found.cause
+  pub reason : IsLineCause classes line found.cause
 
 -- What is wrong at the end of a text without a faulty line: the bytes left over hold no end and
 -- reach the limit, or they are fewer, but some.
@@ -55,7 +54,7 @@ IsEndCause rest Truncated = (0 < length rest) × (length rest < line_limit)
 IsEndCause rest other = ⊥
 
 -- No line of the text is faulty, and its end is; the number is that of the line which would begin
--- behind the last whole line.
+-- after the last whole line.
 pub record FaultyEnd (bytes : List ℕ) (found : LineFault) : Type 0 where
   pub lines : List (List ℕ)
   pub rest : List ℕ
@@ -66,13 +65,63 @@ pub record FaultyEnd (bytes : List ℕ) (found : LineFault) : Type 0 where
   pub number : found.line ≡ number_after (flat_map (λ line. line) lines)
   pub reason : IsEndCause rest found.cause
 
--- Laws: a text lists one list of edges at most, and one that does has no fault.
+-- The text has this fault, in a line or at its end.
+abbrev pub HasFault : List ℕ → LineFault → Type 0
+HasFault bytes fault = FaultyLine bytes fault ⊎ FaultyEnd bytes fault
+
+-- Law: a text lists one list of edges at most.
 abbrev pub OneListing : Type 0
 OneListing =
     (bytes : List ℕ) (edges others : List EdgeValue)
     → Lists bytes edges → Lists bytes others → others ≡ edges
 
+-- Law: a text that lists edges has no fault.
 abbrev pub ListedIsFaultless : Type 0
 ListedIsFaultless =
     (bytes : List ℕ) (edges : List EdgeValue) (fault : LineFault)
-    → Lists bytes edges → FaultyLine bytes fault ⊎ FaultyEnd bytes fault → ⊥
+    → Lists bytes edges → HasFault bytes fault → ⊥
+
+-- Law: a text lists edges, or has a fault.
+abbrev pub ListingOrFault : Type 0
+ListingOrFault =
+    (bytes : List ℕ)
+    → ((edges : List EdgeValue) × Lists bytes edges)
+    ⊎ ((fault : LineFault) × HasFault bytes fault)
+
+-- Law: a text has one fault at most, at one line and with one cause.
+abbrev pub OneListingFault : Type 0
+OneListingFault =
+    (bytes : List ℕ) (fault other : LineFault)
+    → HasFault bytes fault → HasFault bytes other → other ≡ fault
+
+-- Law: a line is of one class at most.
+abbrev pub OneClass : Type 0
+OneClass =
+    (text : List ℕ) (comment : Bool) (c d : Class)
+    → TextIsOfClass text comment c → TextIsOfClass text comment d → d ≡ c
+
+-- Law: after lines that some listing begins with, a line is of a class with which some listing
+-- goes on, or it has a cause.
+abbrev pub LineOrCause : Type 0
+LineOrCause =
+    (classes : List Class) (line : List ℕ) → Begins classes
+    → ((c : Class) × IsOfClass line c × Begins (classes ++ c ∷ []))
+    ⊎ ((cause : LineCause) × IsLineCause classes line cause)
+
+-- Law: there, a line that has a cause is of no class with which a listing goes on.
+abbrev pub CauseIsFaulty : Type 0
+CauseIsFaulty =
+    (classes : List Class) (line : List ℕ) (cause : LineCause) → Begins classes
+    → IsLineCause classes line cause → IsFaultyAfter classes line
+
+-- Law: a line has one cause at most.
+abbrev pub OneCause : Type 0
+OneCause =
+    (classes : List Class) (line : List ℕ) (cause other : LineCause)
+    → IsLineCause classes line cause → IsLineCause classes line other → other ≡ cause
+
+-- Law: a line that is of a class has no cause but its form: lines of that form may not stand there.
+abbrev pub ClassHasForm : Type 0
+ClassHasForm =
+    (classes : List Class) (line : List ℕ) (cause : LineCause) (c : Class)
+    → IsLineCause classes line cause → IsOfClass line c → cause ≡ Form

@@ -7,5 +7,6 @@ pub mod StatementEdges
 pub mod Added
 pub mod Checked
 pub mod Extended
+pub mod ListingWalk
 pub mod ListingRows
 pub mod ReadLines

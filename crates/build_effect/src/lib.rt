@@ -9,8 +9,9 @@
 //!   `IsGraphFault`).
 //! - [`ListingReader`] reads a listing of edges that comes in pieces of any size. For every cutting
 //!   the answer is the graph of the edges that the form gives the whole text, or the first faulty
-//!   line, E3, and its cause, or E1 or E2 of those edges (`specs/ListingGrammar.antt`, `IsListing`;
-//!   `specs/ListingFaults.antt`, `line_cause`; `specs/ListingReaders.antt`, `Reads`, `Ends`).
+//!   line, E3, and its cause, or E1 or E2 of those edges (`specs/ListingLines.antt`, `IsOfClass`;
+//!   `specs/ListingGrammar.antt`, `IsListing`; `specs/ListingFaults.antt`, `IsLineCause`;
+//!   `specs/ListingReaders.antt`, `Reads`, `Ends`).
 //! - [`listing_write`] writes the listing of a graph byte for byte, or reports the first build line
 //!   that is too long, E9, before the first byte. After a failed write, Y3, a beginning of the text
 //!   went out (`specs/ListingWriting.antt`, `listing_text`, `first_too_long`).
@@ -24,9 +25,11 @@
 //! The laws are contracts of calls that do nothing. [`one_effect`], [`checks`], [`any_order`],
 //! [`level_orders`] and [`files_order`] say when there is an effect, that files may be applied in
 //! any order, and when the graph can be ordered afterwards (`specs/Premises.antt`, `Checks.antt`,
-//! `Files.antt`, `Numbering.antt`). [`one_listing`] says that a text lists one list of edges at
-//! most, and [`written_listing`] that what is written of a graph reads back, where its rules have
-//! names that listings have (`specs/ListingReading.antt`, `ListingLaws.antt`).
+//! `Files.antt`, `Numbering.antt`). [`one_listing`], [`listing_or_fault`] and [`one_listing_fault`]
+//! say that a text lists one list of edges or has one fault, and not both, [`listing_lines`] that a
+//! line goes on with a listing or has one cause why not, and [`written_listing`] that what is
+//! written of a graph reads back, where its rules have names that listings have
+//! (`specs/ListingReading.antt`, `ListingLaws.antt`).
 //!
 //! What a contract sees of a graph is the list of its edges, and of a path its canonical text.
 //! Definitions that only private clauses speak of stand in `specs/inner/`.
@@ -80,7 +83,9 @@ pub use fault::{EffectFault, GraphFault};
 pub use graph::Graph;
 pub use laws::{any_order, checks, files_order, level_orders, one_effect};
 pub use listing_faults::{LineCause, LineFault, ListingFault};
-pub use listing_laws::{one_listing, written_listing};
+pub use listing_laws::{
+    listing_lines, listing_or_fault, one_listing, one_listing_fault, written_listing,
+};
 pub use listing_reader::ListingReader;
 pub use listing_writing::{ListingWriteFault, listing_write};
 pub use needs::{edge_order, edge_order_with_hasher};

@@ -1,8 +1,7 @@
 //! The edges of the lines so far, and what a line of each row does to them.
 ghost use Rattle.std.specs.Prelude.{◌≡◌, ◌≢◌, [], IfOk};
 ghost use Rattle.ninja_text.specs.Failure.{Gives};
-ghost use Rattle.build_effect.specs.ListingSteps.{with_last_dyndep, with_last_restat};
-ghost use Rattle.build_effect.specs.ListingLines.{edge_paths, paths_of};
+ghost use Rattle.build_effect.specs.inner.ListingWalk.{with_last_dyndep, with_last_restat, edge_paths, paths_of};
 ghost use Rattle.build_effect.specs.inner.ListingRows.{TakesRow, row_value, GivesEdge};
 ghost use Rattle.dep_order.specs.Rows.{rows};
 

@@ -6,15 +6,14 @@ use Rattle.ninja_text.specs.declared.failure.Failure.TheVariants.{Memory, Fault}
 use Rattle.ninja_text.specs.declared.token.TokenKind.{TokenKind}
 use Rattle.dyndep_file.specs.Classes.{Symbol, WordSymbol}
 use Rattle.build_effect.specs.ListingLines as lines
-use Rattle.build_effect.specs.ListingLines.{EdgeTexts, Class, class_of_row}
-use Rattle.build_effect.specs.ListingLines.{past_sign, front_words, past_words, part_words, past_part}
+use Rattle.build_effect.specs.ListingLines.{EdgeTexts, Class}
+use Rattle.build_effect.specs.inner.ListingWalk.{row_of, class_of_row, past_sign, front_words, past_words, part_words, past_part, step, row_cause, text_cause}
 use Rattle.ninja_text.specs.declared.paths.PathFault.{PathFault}
 use Rattle.build_effect.specs.ListingGrammar.{bound}
-use Rattle.build_effect.specs.ListingSteps.{ListingValue, step}
+use Rattle.build_effect.specs.ListingSteps.{ListingValue}
 use Rattle.ninja_text.specs.Lines.{LogicalLine}
 use Rattle.build_effect.specs.EdgeValue.{EdgeValue}
 use Rattle.build_effect.specs.Faults.{IsGraphFault}
-use Rattle.build_effect.specs.ListingFaults.{row_cause, text_cause}
 use Rattle.build_effect.specs.inner.ReadLines.{PassesLine}
 use Rattle.build_effect.specs.declared.fault.GraphFault.{GraphFault}
 use Rattle.build_effect.specs.declared.listing_faults.ListingFault.{ListingFault}
@@ -33,7 +32,7 @@ row_value (Restat flag) = lines.RestatRow flag
 
 -- the row of a line, or that it has a lexical fault or no such form
 abbrev pub line_row : LogicalLine → Result lines.Row LineCause
-line_row line = lines.row_of line.text line.comment
+line_row line = row_of line.text line.comment
 
 -- the words of the part that this sign begins, and what follows them
 abbrev pub words_of_part : TokenKind → List Symbol → List (List ℕ)

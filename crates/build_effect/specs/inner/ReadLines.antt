@@ -3,16 +3,16 @@ use Rattle.std.specs.Prelude.{◌≡◌, Some}
 use Rattle.ninja_text.specs.Lines.{LogicalLine}
 use Rattle.ninja_text.specs.declared.faults.CutFault.{CutFault}
 use Rattle.ninja_text.specs.declared.faults.CutFault.TheVariants as cut
-use Rattle.build_effect.specs.ListingLines.{Class, TextIsOfClass}
-use Rattle.build_effect.specs.ListingSteps.{ListingValue, step}
-use Rattle.build_effect.specs.ListingFaults.{text_cause}
+use Rattle.build_effect.specs.ListingLines.{Class}
+use Rattle.build_effect.specs.ListingSteps.{ListingValue}
+use Rattle.build_effect.specs.inner.ListingWalk.{step, FindsClass, text_cause}
 use Rattle.build_effect.specs.declared.listing_faults.LineCause.TheVariants.{LineTooLong, Truncated}
 use Rattle.build_effect.specs.declared.listing_faults.LineFault.{LineFault}
 
 -- A line passes, and these are the edges after it.
 abbrev pub PassesLine : ListingValue → LogicalLine → ListingValue → Type 0
 PassesLine old line new =
-    (c : Class) × TextIsOfClass line.text line.comment c
+    (c : Class) × FindsClass line.text line.comment c
     × (step old.binding old.edges c ≡ Some new)
 
 -- A line has this fault.

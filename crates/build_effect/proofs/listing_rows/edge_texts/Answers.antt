@@ -2,7 +2,7 @@ use Rattle.std.proofs.Common.{◌≡◌, ◌∙◌, sym, ap, subst}
 use Rattle.std.specs.Prelude.{IfOk}
 use Rattle.dep_order.specs.Rows.{rows}
 use Rattle.dyndep_file.specs.BuildTokens.{symbols_left}
-use Rattle.build_effect.specs.ListingLines.{past_sign, right_texts}
+use Rattle.build_effect.specs.inner.ListingWalk.{past_sign, right_texts}
 use Rattle.ninja_text.specs.declared.token.TokenKind.TheVariants.{Colon}
 use Rattle.build_effect.proofs.ListingLineLemmas.{left_texts, no_rule}
 use Rattle.build_effect.proofs.listing_rows.edge_texts.Goals as goal

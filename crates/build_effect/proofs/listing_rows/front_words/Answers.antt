@@ -3,7 +3,7 @@ use Rattle.std.proofs.lemmas.List.{append-nil}
 use Rattle.dep_order.specs.Rows.{rows}
 use Rattle.ninja_text.specs.TokenViews.{seen_token}
 use Rattle.dyndep_file.specs.BuildTokens.{symbols_left}
-use Rattle.build_effect.specs.ListingLines.{front_words, past_words}
+use Rattle.build_effect.specs.inner.ListingWalk.{front_words, past_words}
 use Rattle.build_effect.proofs.ListingLineLemmas.{words_go_on}
 use Rattle.build_effect.proofs.listing_rows.front_words.Goals as goal
 

@@ -1,7 +1,7 @@
 use Rattle.std.proofs.Common.{◌≡◌, ◌++◌, length}
 use Rattle.dep_order.specs.Rows.{rows}
 use Rattle.dyndep_file.specs.BuildTokens.{symbols_left}
-use Rattle.build_effect.specs.ListingLines.{front_words, past_words}
+use Rattle.build_effect.specs.inner.ListingWalk.{front_words, past_words}
 use Rattle.build_effect.proofs.listing_rows.front_words.Given as goal
 
 -- the words so far and those to come are all, and the same tokens follow them

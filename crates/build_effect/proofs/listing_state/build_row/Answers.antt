@@ -1,5 +1,5 @@
 use Rattle.std.proofs.Common.{◌++◌, ◌∷◌, [], ◌∙◌, sym, ap, subst}
-use Rattle.build_effect.specs.ListingLines.{edge_paths}
+use Rattle.build_effect.specs.inner.ListingWalk.{edge_paths}
 use Rattle.build_effect.proofs.ListingEdges.{HaveOutputs, outputs_pushed, build_passes}
 use Rattle.build_effect.proofs.listing_state.build_row.Goals as goal
 

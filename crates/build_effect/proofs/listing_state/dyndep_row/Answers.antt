@@ -1,6 +1,6 @@
 use Rattle.std.proofs.Common.{◌≡◌, ◌∙◌, sym, ap, subst, refl, false, Some}
 use Rattle.ninja_text.specs.Paths.{path_of}
-use Rattle.build_effect.specs.ListingSteps.{with_last_dyndep}
+use Rattle.build_effect.specs.inner.ListingWalk.{with_last_dyndep}
 use Rattle.build_effect.specs.declared.listing_state.Binding.TheVariants.{Open}
 use Rattle.build_effect.proofs.ListingEdges.{HaveOutputs, outputs_kept, dyndep_passes}
 use Rattle.build_effect.proofs.listing_state.dyndep_row.Goals as goal

@@ -1,6 +1,7 @@
 use Rattle.std.proofs.Common.{◌≡◌, ◌∙◌, sym, ap, None, Ok}
 use Rattle.dep_order.specs.Rows.{rows}
-use Rattle.build_effect.specs.ListingLines.{EdgeTexts, paths_of}
+use Rattle.build_effect.specs.ListingLines.{EdgeTexts}
+use Rattle.build_effect.specs.inner.ListingWalk.{paths_of}
 use Rattle.build_effect.specs.ListingGrammar.{bound}
 use Rattle.build_effect.proofs.ListingEdges.{edge_answer, paths_somehow}
 use Rattle.build_effect.proofs.listing_state.edge_of.Goals as goal

@@ -1,6 +1,6 @@
 use Rattle.std.proofs.Common.{◌≡◌, drop}
 use Rattle.dep_order.specs.Rows.{rows}
-use Rattle.build_effect.specs.ListingLines.{paths_of}
+use Rattle.build_effect.specs.inner.ListingWalk.{paths_of}
 use Rattle.build_effect.proofs.ListingEdges.{behind}
 use Rattle.build_effect.proofs.listing_state.paths_of.Given as goal
 

@@ -1,5 +1,5 @@
 use Rattle.std.proofs.Common.{◌≡◌, ◌∙◌, sym, ap, subst, refl, false}
-use Rattle.build_effect.specs.ListingSteps.{with_last_restat}
+use Rattle.build_effect.specs.inner.ListingWalk.{with_last_restat}
 use Rattle.build_effect.specs.declared.listing_state.Binding.TheVariants.{Open}
 use Rattle.build_effect.proofs.ListingEdges.{HaveOutputs, outputs_kept, restat_passes}
 use Rattle.build_effect.proofs.listing_state.restat_row.Goals as goal

@@ -4,8 +4,7 @@ use Rattle.std.specs.declared.alloc.Global.{Global}
 use Rattle.ninja_text.specs.Failure.{Gives}
 use Rattle.ninja_text.specs.Counting.{held, IsWritten, IsCutShort, IsTakenInTurn, IsStoppedInTurn}
 use Rattle.build_effect.specs.EdgeValue.{EdgeValue}
-use Rattle.build_effect.specs.ListingWriting.{listing_text}
-use Rattle.build_effect.specs.ListingWriting.{text_or_fault}
+use Rattle.build_effect.specs.ListingWriting.{listing_text, text_or_fault}
 use Rattle.build_effect.proofs.ListingWrites.{failed, uncalled, made}
 use Rattle.build_effect.proofs.listing_writing.listing_write.Goals as goal
 

@@ -1,0 +1,257 @@
+-- How the row, the class and the cause of a line are found, by a walk over its tokens from left to
+-- right, and what the line does to the edges so far. What these are, `specs/ListingLines.antt`,
+-- `specs/ListingFaults.antt` and `specs/ListingGrammar.antt` say.
+use Rattle.std.specs.Prelude.{◌≡◌, ℕ, Bool, true, false, ◌&&◌, not, nat_lt, if◌then◌else◌, List, [], ◌∷◌, ◌++◌, length, codes, Option, Some, None, Result, Ok, Err}
+use Rattle.std.specs.Option.{option_and_then}
+use Rattle.ninja_text.specs.Lines.{line_limit, text_of, is_comment}
+use Rattle.ninja_text.specs.Lexical.{lexical_fault}
+use Rattle.ninja_text.specs.Tokens.{tokens, value_of}
+use Rattle.ninja_text.specs.Assignments.{SeenAssignment, assignment_of}
+use Rattle.ninja_text.specs.Paths.{path_of}
+use Rattle.ninja_text.specs.declared.paths.PathFault.{PathFault}
+use Rattle.ninja_text.specs.declared.faults.LexFault.{LexFault}
+use Rattle.ninja_text.specs.declared.token.TokenKind.{TokenKind}
+use Rattle.ninja_text.specs.declared.token.TokenKind.TheVariants.{Bar, DoubleBar, Colon}
+use Rattle.dyndep_file.specs.Classes.{Symbol, WordSymbol, SignSymbol, symbols, begins_at_start, begins_with_space}
+use Rattle.dyndep_file.specs.Faults.{same_bytes, is_empty, after_build}
+use Rattle.build_effect.specs.ListingLines.{EdgeTexts, is_rule_name, Row, CommentRow, BlankRow, BuildRow, DyndepRow, RestatRow, Class, Comment, Blank, Build, Dyndep, Restat}
+use Rattle.build_effect.specs.EdgeValue.{EdgeValue}
+use Rattle.build_effect.specs.ListingGrammar.{bound}
+use Rattle.build_effect.specs.ListingSteps.{ListingValue}
+use Rattle.build_effect.specs.declared.listing_faults.LineCause.{LineCause}
+use Rattle.build_effect.specs.declared.listing_faults.LineCause.TheVariants.{LineTooLong, Lexical, Form, BadPath}
+use Rattle.build_effect.specs.declared.listing_state.Binding.{Binding}
+use Rattle.build_effect.specs.declared.listing_state.Binding.TheVariants.{Closed, Open}
+
+-- ---- the tokens of a build line
+
+-- the values of the words at the front
+abbrev pub front_words : List Symbol → List (List ℕ)
+front_words [] = []
+front_words (WordSymbol word ∷ more) = value_of word ∷ front_words more
+front_words (SignSymbol sign ∷ more) = []
+
+-- what follows the words at the front
+abbrev pub past_words : List Symbol → List Symbol
+past_words [] = []
+past_words (WordSymbol word ∷ more) = past_words more
+past_words (SignSymbol sign ∷ more) = SignSymbol sign ∷ more
+
+-- whether a token of the kind on the right is the sign `|`, `||` or `:` on the left
+abbrev pub is_sign : TokenKind → TokenKind → Bool
+is_sign Bar Bar = true
+is_sign DoubleBar DoubleBar = true
+is_sign Colon Colon = true
+is_sign sign kind = false
+
+-- what follows this sign at the front; None where it is not there
+abbrev pub past_sign : TokenKind → List Symbol → Option (List Symbol)
+past_sign sign [] = None
+past_sign sign (WordSymbol word ∷ more) = None
+past_sign sign (SignSymbol kind ∷ more) = if is_sign sign kind then Some more else None
+
+-- the words of a part that this sign begins, and none where the sign is not there
+abbrev pub part_words : Option (List Symbol) → List (List ℕ)
+part_words (Some more) = front_words more
+part_words None = []
+
+-- what follows such a part
+abbrev pub past_part : Option (List Symbol) → List Symbol → List Symbol
+past_part (Some more) symbols = past_words more
+past_part None symbols = symbols
+
+-- what stands on the right of the colon, after these outputs: the rule, then inputs of three kinds
+-- and no more
+abbrev pub right_texts : List (List ℕ) → List (List ℕ) → Option (List Symbol) → Option EdgeTexts
+right_texts outputs implicit_outputs (Some (WordSymbol rule ∷ more)) =
+    let bar = past_words more in
+    let double_bar = past_part (past_sign Bar bar) bar in
+    let rest = past_part (past_sign DoubleBar double_bar) double_bar in
+    if not (is_empty outputs) && is_rule_name rule && is_empty rest then
+    Some (record {
+      rule = rule;
+      outputs = outputs;
+      implicit_outputs = implicit_outputs;
+      inputs = front_words more;
+      implicit_inputs = part_words (past_sign Bar bar);
+      order_only = part_words (past_sign DoubleBar double_bar);
+    })
+    else None
+right_texts outputs implicit_outputs other = None
+
+-- what the tokens after the keyword `build` say; None where they have another form
+abbrev pub edge_texts : List Symbol → Option EdgeTexts
+edge_texts symbols =
+    let bar = past_words symbols in
+    let colon = past_part (past_sign Bar bar) bar in
+    right_texts (front_words symbols) (part_words (past_sign Bar bar)) (past_sign Colon colon)
+
+-- ---- the row of a line
+
+-- the row of an indented line, by its assignment
+abbrev pub binding_row : Option SeenAssignment → Result Row LineCause
+binding_row None = Err Form
+binding_row (Some a) =
+    if same_bytes a.name (codes "dyndep") then Ok (DyndepRow (value_of a.raw_value))
+    else if same_bytes a.name (codes "restat") then
+    Ok (RestatRow (nat_lt 0 (length (value_of a.raw_value))))
+    else Err Form
+
+-- the row of a line that is not indented, by its tokens after the keyword `build`, if it begins
+-- with that
+abbrev pub build_row : Option EdgeTexts → Result Row LineCause
+build_row (Some texts) = Ok (BuildRow texts)
+build_row None = Err Form
+
+abbrev pub unindented_row : Option (List Symbol) → Result Row LineCause
+unindented_row (Some symbols) = build_row (edge_texts symbols)
+unindented_row None = Err Form
+
+-- the row of a text without lexical fault that is no comment
+abbrev pub sound_row : List ℕ → Result Row LineCause
+sound_row text =
+    if is_empty (tokens text) then Ok BlankRow
+    else if begins_with_space text then binding_row (assignment_of text)
+    else unindented_row (after_build (begins_at_start (tokens text)) (symbols text))
+
+abbrev pub row_or_fault : Option LexFault → Result Row LineCause → Result Row LineCause
+row_or_fault (Some fault) row = Err (Lexical fault)
+row_or_fault None row = row
+
+-- The row of a line's text without its end, and of whether the line is a comment; else that it has
+-- a lexical fault or no such form.
+abbrev pub row_of : List ℕ → Bool → Result Row LineCause
+row_of text comment =
+    if comment then Ok CommentRow else row_or_fault (lexical_fault text) (sound_row text)
+
+-- ---- its class
+
+-- one more path in front of those that follow; the first refused text is the fault
+abbrev pub with_path : Result (List ℕ) PathFault → Result (List (List ℕ)) PathFault
+    → Result (List (List ℕ)) PathFault
+with_path (Err fault) paths = Err fault
+with_path (Ok path) (Err fault) = Err fault
+with_path (Ok path) (Ok paths) = Ok (path ∷ paths)
+
+-- the paths of texts, or the fault of the first that is none
+abbrev pub paths_of : List (List ℕ) → Result (List (List ℕ)) PathFault
+paths_of [] = Ok []
+paths_of (text ∷ texts) = with_path (path_of text) (paths_of texts)
+
+-- what follows where paths were taken
+abbrev pub then_paths : {T : Type 0} → Result (List (List ℕ)) PathFault
+    → (List (List ℕ) → Result T PathFault) → Result T PathFault
+then_paths (Err fault) next = Err fault
+then_paths (Ok paths) next = next paths
+
+-- a build line's paths, or the fault of its first text that is none
+abbrev pub edge_paths : EdgeTexts → Result EdgeTexts PathFault
+edge_paths t =
+    then_paths (paths_of t.outputs) (λ outputs.
+    then_paths (paths_of t.implicit_outputs) (λ implicit_outputs.
+    then_paths (paths_of t.inputs) (λ inputs.
+    then_paths (paths_of t.implicit_inputs) (λ implicit_inputs.
+    then_paths (paths_of t.order_only) (λ order_only. Ok (record {
+      rule = t.rule;
+      outputs = outputs;
+      implicit_outputs = implicit_outputs;
+      inputs = inputs;
+      implicit_inputs = implicit_inputs;
+      order_only = order_only;
+    }))))))
+
+abbrev pub build_class : Result EdgeTexts PathFault → Result Class PathFault
+build_class (Ok paths) = Ok (Build paths)
+build_class (Err fault) = Err fault
+
+abbrev pub dyndep_class : Result (List ℕ) PathFault → Result Class PathFault
+dyndep_class (Ok path) = Ok (Dyndep path)
+dyndep_class (Err fault) = Err fault
+
+-- the class of a row, or the fault of its first text that is no path
+abbrev pub class_of_row : Row → Result Class PathFault
+class_of_row CommentRow = Ok Comment
+class_of_row BlankRow = Ok Blank
+class_of_row (BuildRow texts) = build_class (edge_paths texts)
+class_of_row (DyndepRow text) = dyndep_class (path_of text)
+class_of_row (RestatRow flag) = Ok (Restat flag)
+
+-- the row and the class that are found of a line
+abbrev pub FindsClass : List ℕ → Bool → Class → Type 0
+FindsClass text comment c =
+    (row : Row) × (row_of text comment ≡ Ok row) × (class_of_row row ≡ Ok c)
+
+-- ---- where it may stand
+
+-- whether a line may stand after lines that leave this open: a binding only once under a build
+-- line
+abbrev pub may_stand : Binding → Row → Bool
+may_stand binding CommentRow = true
+may_stand binding BlankRow = true
+may_stand binding (BuildRow texts) = true
+may_stand Closed (DyndepRow text) = false
+may_stand Closed (RestatRow flag) = false
+may_stand (Open dyndep restat) (DyndepRow text) = not dyndep
+may_stand (Open dyndep restat) (RestatRow flag) = not restat
+
+-- ---- its cause
+
+-- the cause of a line whose paths were looked at
+abbrev pub path_cause : Result Class PathFault → Option LineCause
+path_cause (Ok c) = None
+path_cause (Err fault) = Some (BadPath fault)
+
+-- the cause of a line of this row: its form does not fit here, or a path of it is none
+abbrev pub row_cause : Binding → Result Row LineCause → Option LineCause
+row_cause binding (Err cause) = Some cause
+row_cause binding (Ok row) =
+    if may_stand binding row then path_cause (class_of_row row) else Some Form
+
+-- the cause of a line's text without its end, and of whether the line is a comment
+abbrev pub text_cause : Binding → List ℕ → Bool → Option LineCause
+text_cause binding text comment = row_cause binding (row_of text comment)
+
+-- the cause of a line, its end included; None where it has none
+abbrev pub line_cause : Binding → List ℕ → Option LineCause
+line_cause binding line =
+    if nat_lt line_limit (length line) then Some LineTooLong
+    else text_cause binding (text_of line) (is_comment line)
+
+-- ---- what one more line does to the edges so far
+
+-- these edges, the last one changed
+abbrev pub with_last : (EdgeValue → EdgeValue) → List EdgeValue → List EdgeValue
+with_last change [] = []
+with_last change (e ∷ []) = change e ∷ []
+with_last change (e ∷ f ∷ es) = e ∷ with_last change (f ∷ es)
+
+-- these edges, with this dyndep file named by the last one
+abbrev pub with_last_dyndep : List ℕ → List EdgeValue → List EdgeValue
+with_last_dyndep path es = with_last (λ e. record e { dyndep = Some path }) es
+
+-- these edges, with this flag `restat` in the last one
+abbrev pub with_last_restat : Bool → List EdgeValue → List EdgeValue
+with_last_restat flag es = with_last (λ e. record e { restat = flag }) es
+
+-- What a line of this class does, where it may stand. A comment changes nothing. A blank line
+-- closes the open edge. A build line opens an edge. A binding sets what it names in the open edge,
+-- once.
+abbrev pub step : Binding → List EdgeValue → Class → Option ListingValue
+step binding es Comment = Some (record { edges = es; binding = binding })
+step binding es Blank = Some (record { edges = es; binding = Closed })
+step binding es (Build paths) =
+    Some (record { edges = es ++ bound paths None None ∷ []; binding = Open false false })
+step Closed es (Dyndep path) = None
+step Closed es (Restat flag) = None
+step (Open dyndep restat) es (Dyndep path) =
+    if dyndep then None
+    else Some (record { edges = with_last_dyndep path es; binding = Open true restat })
+step (Open dyndep restat) es (Restat flag) =
+    if restat then None
+    else Some (record { edges = with_last_restat flag es; binding = Open dyndep true })
+
+-- what lines of these classes do, one after another
+abbrev pub run : Binding → List EdgeValue → List Class → Option ListingValue
+run binding es [] = Some (record { edges = es; binding = binding })
+run binding es (c ∷ classes) =
+    option_and_then (λ s. run s.binding s.edges classes) (step binding es c)
