@@ -44,10 +44,8 @@ pub(crate) fn canonical_statements(
 {
     let mut additions = Vec::with_capacity(alloc, statements.len())?;
     for (statement_index, statement) in statements.iter().enumerate() {
-        match canonical_statement(alloc, statement, statement_index) {
-            Ok(addition) => additions.push(addition)?,
-            Err(failure) => return Err(failure),
-        }
+        let addition = canonical_statement(alloc, statement, statement_index)?;
+        additions.push(addition)?;
     }
     Ok(additions)
 }
@@ -98,10 +96,8 @@ fn canonical_paths(
 {
     let mut paths = Vec::with_capacity(alloc, texts.len())?;
     for (text_index, text) in texts.iter().enumerate() {
-        match canonical_path(alloc, text, statement_index, from + text_index) {
-            Ok(path) => paths.push(path)?,
-            Err(failure) => return Err(failure),
-        }
+        let path = canonical_path(alloc, text, statement_index, from + text_index)?;
+        paths.push(path)?;
     }
     Ok(paths)
 }

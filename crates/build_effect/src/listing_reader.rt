@@ -121,20 +121,14 @@ fn graph_of<S: BuildHasher + Copy>(
 fn line_failure(failure: Failure<LineFault>) -> Failure<ListingFault>
     ensures { result ≡ line_failure failure }
 {
-    match failure {
-        Failure::Memory => Failure::Memory,
-        Failure::Fault(fault) => Failure::Fault(ListingFault::AtLine(fault)),
-    }
+    failure.map(ListingFault::AtLine)
 }
 
 /// Why edges are no graph, as a failure of the listing.
 fn graph_failure(failure: Failure<GraphFault>) -> Failure<ListingFault>
     ensures { result ≡ graph_failure failure }
 {
-    match failure {
-        Failure::Memory => Failure::Memory,
-        Failure::Fault(fault) => Failure::Fault(ListingFault::NoGraph(fault)),
-    }
+    failure.map(ListingFault::NoGraph)
 }
 
 impl LineState for ListingState {
@@ -181,8 +175,6 @@ fn read_text(
 ) -> Result<(), Failure<LineCause>>
     ensures { ReadsText state.old (seen_line line.entry) result state.new }
 {
-    match row_of(alloc, line) {
-        Ok(row) => take_row(alloc, state, row),
-        Err(failure) => Err(failure),
-    }
+    let row = row_of(alloc, line)?;
+    take_row(alloc, state, row)
 }

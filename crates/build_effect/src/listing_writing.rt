@@ -67,10 +67,7 @@ pub fn listing_write<W: WriteCall>(
         (listing_text graph.now) result }
     ensures fault { AnswersFault (first_too_long graph.now) result }
 {
-    let text = match text_of(alloc, graph.edges()) {
-        Ok(text) => text,
-        Err(failure) => return Err(failure),
-    };
+    let text = text_of(alloc, graph.edges())?;
     match out.write_text(text.as_slice()) {
         Ok(()) => Ok(()),
         Err(stopped) => Err(Failure::Fault(ListingWriteFault::Io {

@@ -1,4 +1,5 @@
 use Rattle.std.proofs.Common.{◌≡◌, ℕ, ◌+◌, List, [], Some, arith, map, take, refl, ap, sym, subst, ◌∙◌, slice_get}
+use Rattle.std.proofs.lemmas.Result.{err_from_is_err_and}
 use Rattle.std.proofs.lemmas.List.{length-map, take_all}
 use Rattle.std.proofs.lemmas.Option.{slice_get_read}
 use Rattle.build_effect.specs.inner.BadPaths.{IsBadText, IsBadTextFrom}
@@ -8,14 +9,15 @@ use Rattle.build_effect.proofs.Failures.{for_fault}
 use Rattle.build_effect.proofs.PathTexts.{more_paths, first_bad}
 use Rattle.build_effect.proofs.addition.canonical_paths.Goals as goal
 
-pub returns-in-Err-clause-fault : goal.returns-in-Err-clause-fault
-returns-in-Err-clause-fault c =
+pub returns-in_err-path-clause-fault : goal.returns-in_err-path-clause-fault
+returns-in_err-path-clause-fault c =
     let texts : List (List ℕ) = map (λ text. text.items) c.args.texts.now in
     let i : ℕ = c.loop-text_index.text_index in
     let text : List ℕ = c.deref.result.now in
     let at : slice_get texts i ≡ Some text = to_map (λ text. text.items) c.args.texts.now i c.index-texts-text_index.result (slice_get_read c.args.texts.now _ i c.index-texts-text_index.result refl c.loop-text_index-test.true c.index-texts-text_index.is) ∙ ap (λ x. Some x) (sym c.deref.ensures.value) in
-    for_fault (IsBadText text c.args.statement_index (c.args.from + i)) (IsBadTextFrom texts c.args.statement_index c.args.from)
-    (λ fault bad. first_bad texts c.loop-text_index.paths.items i c.args.statement_index c.args.from text fault at c.loop-text_index.invariant bad) c.in-Err.failure c.in-Err.ensures.fault
+    let p = err_from_is_err_and c.from_residual-in_err-path.result c.from_residual-in_err-path.ensures.1 in
+    rw (p.1, p.2) (for_fault (IsBadText text c.args.statement_index (c.args.from + i)) (IsBadTextFrom texts c.args.statement_index c.args.from)
+    (λ fault bad. first_bad texts c.loop-text_index.paths.items i c.args.statement_index c.args.from text fault at c.loop-text_index.invariant bad) _ c.in_err-path.ensures.fault)
 
 pub loop-text_index-preserved : goal.loop-text_index-preserved
 loop-text_index-preserved c =
@@ -23,7 +25,7 @@ loop-text_index-preserved c =
     let i : ℕ = c.loop-text_index.text_index in
     let text : List ℕ = c.deref.result.now in
     let at : slice_get texts i ≡ Some text = to_map (λ text. text.items) c.args.texts.now i c.index-texts-text_index.result (slice_get_read c.args.texts.now _ i c.index-texts-text_index.result refl c.loop-text_index-test.true c.index-texts-text_index.is) ∙ ap (λ x. Some x) (sym c.deref.ensures.value) in
-    subst (ArePaths (take (i + 1) texts)) (sym c.in_ok-push-in-Ok.ensures.items) (more_paths texts c.loop-text_index.paths.items i text c.in-Ok.path at c.loop-text_index.invariant c.in-Ok.ensures.path)
+    subst (ArePaths (take (i + 1) texts)) (sym c.in_ok-push.ensures.items) (more_paths texts c.loop-text_index.paths.items i text c.in_ok-path.path at c.loop-text_index.invariant c.in_ok-path.ensures.path)
 
 pub loop-text_index-init : goal.loop-text_index-init
 loop-text_index-init c = subst (ArePaths []) (sym c.in_ok-paths.ensures.items) refl

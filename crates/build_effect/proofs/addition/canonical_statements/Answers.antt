@@ -1,4 +1,5 @@
 use Rattle.std.proofs.Common.{◌≡◌, ℕ, ◌+◌, Some, length, take, refl, ap, sym, subst, slice_get}
+use Rattle.std.proofs.lemmas.Result.{err_from_is_err_and}
 use Rattle.std.proofs.lemmas.List.{take_all}
 use Rattle.std.proofs.lemmas.Option.{slice_get_read}
 use Rattle.build_effect.specs.inner.BadPaths.{IsBadTextOf, IsBadStatement}
@@ -7,14 +8,15 @@ use Rattle.build_effect.proofs.Failures.{for_fault}
 use Rattle.build_effect.proofs.PathTexts.{more_statements, first_bad_statement}
 use Rattle.build_effect.proofs.addition.canonical_statements.Goals as goal
 
-pub returns-in-Err-clause-fault : goal.returns-in-Err-clause-fault
-returns-in-Err-clause-fault c =
+pub returns-in_err-addition-clause-fault : goal.returns-in_err-addition-clause-fault
+returns-in_err-addition-clause-fault c =
     let ss = c.args.statements.now in
     let i : ℕ = c.loop-statement_index.statement_index in
     let s = c.index-statements-statement_index.result in
     let at : slice_get ss i ≡ Some s = slice_get_read ss _ i s refl c.loop-statement_index-test.true c.index-statements-statement_index.is in
-    for_fault (IsBadTextOf s i) (IsBadStatement ss)
-    (λ fault bad. first_bad_statement ss c.loop-statement_index.additions.items i s fault at c.loop-statement_index.invariant bad) c.in-Err.failure c.in-Err.ensures.fault
+    let p = err_from_is_err_and c.from_residual-in_err-addition.result c.from_residual-in_err-addition.ensures.1 in
+    rw (p.1, p.2) (for_fault (IsBadTextOf s i) (IsBadStatement ss)
+    (λ fault bad. first_bad_statement ss c.loop-statement_index.additions.items i s fault at c.loop-statement_index.invariant bad) _ c.in_err-addition.ensures.fault)
 
 pub loop-statement_index-preserved : goal.loop-statement_index-preserved
 loop-statement_index-preserved c =
@@ -22,7 +24,7 @@ loop-statement_index-preserved c =
     let i : ℕ = c.loop-statement_index.statement_index in
     let s = c.index-statements-statement_index.result in
     let at : slice_get ss i ≡ Some s = slice_get_read ss _ i s refl c.loop-statement_index-test.true c.index-statements-statement_index.is in
-    subst (AreCanonical (take (i + 1) ss)) (sym c.in_ok-push-in-Ok.ensures.items) (more_statements ss c.loop-statement_index.additions.items i s c.in-Ok.addition at c.loop-statement_index.invariant c.in-Ok.ensures.canonical)
+    subst (AreCanonical (take (i + 1) ss)) (sym c.in_ok-push.ensures.items) (more_statements ss c.loop-statement_index.additions.items i s c.in_ok-addition.addition at c.loop-statement_index.invariant c.in_ok-addition.ensures.canonical)
 
 pub loop-statement_index-init : goal.loop-statement_index-init
 loop-statement_index-init c = record { count = ap length (sym c.in_ok-additions.ensures.items); each = λ k s a at at_a. cc }
