@@ -66,11 +66,6 @@ pub behind_one_more : (paths : List (List ℕ)) (path : List ℕ) (found : Resul
 behind_one_more paths path found (Ok more) is = rw is (ap Ok (sym (append_assoc paths (path ∷ []) more)))
 behind_one_more paths path found (Err fault) is = rw is refl
 
--- a text that is no path
-pub behind_none : (paths : List (List ℕ)) (found : Result (List ℕ) PathFault) (fault : PathFault) (more : Result (List (List ℕ)) PathFault) → found ≡ Err fault
-    → behind paths (with_path found more) ≡ Err fault
-behind_none paths found fault more is = rw is refl
-
 -- before the first path stand those to come
 pub behind_nothing : (more : Result (List (List ℕ)) PathFault) → behind [] more ≡ more
 behind_nothing (Ok more) = refl

@@ -51,9 +51,12 @@
 //!   to `EdgeNeeds` (`needs.rt`).
 //! - The law [`files_order`] puts two numberings together by `layered` of `dep_order`: that of the
 //!   graph with the added outputs alone, and within one level that of what is added.
+//! - The edits in `must-fail/` of `added.rt`, `extending.rt` and `statement_edges.rt` show the
+//!   clauses of [`apply`], and those of `makers.rt` and `needs.rt` that of [`edge_order`]. A plain
+//!   call has the clauses of the call with a hasher. [`GraphFault::path`] has nothing else to lend.
 //!
 //! It stands on `ninja_text` for paths and lines, on `dyndep_file` for statements, on `dep_order`
-//! for orders and cycles, and on `indexmap` for look-ups.
+//! for orders and cycles, on `indexmap` for look-ups, and on `thiserror` for its fault types.
 #![tactic(auto)]
 
 mod added;
