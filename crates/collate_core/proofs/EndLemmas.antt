@@ -21,7 +21,7 @@ use Rattle.collate_core.proofs.ProjectLemmas.{in_zip, as_file}
 use Rattle.collate_core.proofs.LinkedLemmas.{contained, index_of}
 use Rattle.collate_core.proofs.NeededLemmas.{task_in}
 
-to_zip : {A B : Type 0} (xs : List A) (ys : List B) (k : ℕ) (x : A) (y : B) → slice_get xs k ≡ Some x → slice_get ys k ≡ Some y → slice_get (zip xs ys) k ≡ Some (x, y)
+pub to_zip : {A B : Type 0} (xs : List A) (ys : List B) (k : ℕ) (x : A) (y : B) → slice_get xs k ≡ Some x → slice_get ys k ≡ Some y → slice_get (zip xs ys) k ≡ Some (x, y)
 to_zip [] ys k x y e f = cc
 to_zip (a ∷ xs) [] k x y e f = cc
 to_zip (a ∷ xs) (b ∷ ys) zero x y e f = let p : a ≡ x = same_some _ _ e in let q : b ≡ y = same_some _ _ f in cc

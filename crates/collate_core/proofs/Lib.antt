@@ -20,3 +20,7 @@ pub mod OneRefusal
 pub mod ProjectOutcomes
 pub mod OneProjectRefusal
 pub mod Rows
+pub mod BuildLemmas
+pub mod TargetBuilds
+pub mod ProjectBuilds
+pub mod Examples

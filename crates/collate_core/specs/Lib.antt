@@ -11,4 +11,6 @@ pub mod Projects
 pub mod ProjectOrders
 pub mod ProjectNeeds
 pub mod Laws
+pub mod Builds
+pub mod BuildLaws
 pub mod inner

@@ -17,6 +17,17 @@
 //!   files may be applied in any order (`ProjectOrders.antt`), and the maps have what each object
 //!   needs over the whole project (`ProjectNeeds.antt`).
 //!
+//! - What these files mean to who writes a build are the laws [`no_race`] and [`no_false_wait`]
+//!   (`specs/Builds.antt`, `specs/BuildLaws.antt`): the edge of an object comes after the makers of
+//!   the files of the modules that the object requires, in every order in which the edges can run,
+//!   and no edge waits for anything that it had not to wait for before.
+//!
+//! A law has no body that could be wrong: it is true of what is built since calls do what its
+//! definitions say. Of bodies that would make a race, `required_module_left_out`, `nothing_applied`
+//! and `order_of_the_graph_before` of `must-fail/` are refused, and in `build_effect`
+//! `implicit_output_is_no_output` and `explicit_inputs_alone_order`; of those that would make a
+//! false wait, `reached_modules_as_inputs`.
+//!
 //! The definitions speak of one table, which is a function of the documents' bytes
 //! (`specs/Documents.antt`, `table_of`). Those that only private clauses speak of stand in
 //! `specs/inner/`.
@@ -26,6 +37,7 @@
 //! `ninja_text` for paths, and on `indexmap` for the set of the names of private modules.
 #![tactic(auto)]
 
+mod builds;
 mod check;
 mod collated;
 mod collating;
@@ -40,6 +52,7 @@ mod statements;
 mod table;
 mod target;
 
+pub use builds::{no_false_wait, no_race};
 pub use check::{check_edges, check_edges_with_hasher};
 pub use collated::{Collated, CollatedParts};
 pub use collating::{collate, collate_dyndep, collate_dyndep_with_hasher, collate_with_hasher};

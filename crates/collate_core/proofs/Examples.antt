@@ -1,0 +1,221 @@
+-- What edges wait for, on a small build whose answers are known.
+use Rattle.std.proofs.Common.{◌≡◌, ℕ, zero, suc, ◌<◌, List, [], ◌∷◌, Some, None, codes, refl, ap, subst, sym, ◌∙◌, arith, slice_get, Contains, bytes_eq, false, true≢false}
+use Rattle.std.proofs.lemmas.Slice.Eq.{bytes_eq-Decides}
+use Rattle.scan_docs.specs.Scan.{RuleValue}
+use Rattle.build_effect.specs.EdgeValue.{EdgeValue}
+use Rattle.build_effect.specs.Graphs.{Makes, Reads, EdgeNeeds, made_by}
+use Rattle.module_table.specs.TableValue.{TableValue}
+use Rattle.module_table.specs.Modules.{Provides, Requires}
+use Rattle.module_table.specs.declared.fault.Maker.TheVariants.{Object}
+use Rattle.collate_core.specs.Builds.{IsMaker, IsReader, IsEdgeOf, RequiresFile, ProvidesFile, ComesAfter, IsRunOrder, HasNoRace, HasReason, needed, required, added, HasNoFalseWait}
+use Rattle.collate_core.proofs.ByIndex.{same_some}
+use Rattle.collate_core.proofs.LinkedLemmas.{index_of, contained}
+
+-- `a.o` provides `A` and requires `B`, which `b.o` provides
+abbrev two_objects : TableValue
+two_objects = record {
+  objects =
+      record { object = codes "a.o"; provided = (codes "A", codes "A.bmi") ∷ []; required = codes "B" ∷ [] }
+      ∷ record { object = codes "b.o"; provided = (codes "B", codes "B.bmi") ∷ []; required = [] } ∷ [];
+  infos = [];
+}
+
+abbrev tables : List TableValue
+tables = two_objects ∷ []
+
+abbrev edge : List ℕ → List (List ℕ) → List ℕ → List (List ℕ) → EdgeValue
+edge output implicit_outputs input implicit_inputs = record {
+  rule = codes "r";
+  outputs = output ∷ [];
+  implicit_outputs = implicit_outputs;
+  inputs = input ∷ [];
+  implicit_inputs = implicit_inputs;
+  order_only = [];
+  dyndep = None;
+  restat = false;
+}
+
+-- the edges of the objects, and a copy of `B.bmi`
+abbrev before : List EdgeValue
+before = edge (codes "a.o") [] (codes "a.cpp") [] ∷ edge (codes "b.o") [] (codes "b.cpp") [] ∷ edge (codes "copy") [] (codes "B.bmi") [] ∷ []
+
+-- the edges after the effect, with these added inputs
+abbrev with_inputs : List (List ℕ) → List (List ℕ) → List EdgeValue
+with_inputs of_a of_b = edge (codes "a.o") (codes "A.bmi" ∷ []) (codes "a.cpp") of_a ∷ edge (codes "b.o") (codes "B.bmi" ∷ []) (codes "b.cpp") of_b ∷ edge (codes "copy") [] (codes "B.bmi") [] ∷ []
+
+abbrev after : List EdgeValue
+after = with_inputs (codes "B.bmi" ∷ []) []
+
+a_requires : RequiresFile tables before 0 (codes "B.bmi")
+a_requires = (two_objects, 0, codes "B", contained tables 0 two_objects refl, (_, refl, (0, (_, refl, refl))), (_, refl, contained (codes "B" ∷ []) 0 (codes "B") refl), (Object 1, (0, (_, refl, refl))))
+
+b_provides : ProvidesFile tables before 1 (codes "B.bmi")
+b_provides = (two_objects, 1, 0, codes "B", contained tables 0 two_objects refl, (_, refl, (0, (_, refl, refl))), (_, refl, refl))
+
+-- ---- reasons
+
+-- `a.o` waits for `b.o`, which makes the file of the module that it requires
+a_for_b : HasReason tables before after 0 1
+a_for_b = required {file = codes "B.bmi"} a_requires (1, (_, refl, refl))
+
+-- the copy waits for `b.o`, since it read its module's file all along
+copy_for_b : HasReason tables before after 2 1
+copy_for_b = added {file = codes "B.bmi"} (_, refl, (0, refl)) b_provides
+
+-- two texts that differ are not both one file
+differ : (x y file : List ℕ) → bytes_eq x y ≡ false → x ≡ file → y ≡ file → ⊥
+differ x y file unequal a b = absurd (true≢false (sym ((bytes_eq-Decides x y).1 (a ∙ sym b)) ∙ unequal))
+
+nothing : {X : Type 0} (x : X) → None ≡ Some x → ⊥
+nothing x e = cc
+
+number : (a b : ℕ) → Some a ≡ Some b → a ≡ b
+number a b e = same_some a b e
+
+one_of : {X : Type 0} (x y : X) (k : ℕ) → slice_get (x ∷ []) k ≡ Some y → x ≡ y
+one_of x y zero e = same_some _ _ e
+one_of x y (suc k) e = cc
+
+reads_of : (g : List EdgeValue) (i : ℕ) (e : EdgeValue) (file : List ℕ) → slice_get g i ≡ Some e → IsReader g i file → Reads e file
+reads_of g i e file here reader = subst (λ (d : EdgeValue). Reads d file) (same_some _ _ (sym reader.1 ∙ here)) reader.2
+
+makes_of : (g : List EdgeValue) (i : ℕ) (e : EdgeValue) (file : List ℕ) → slice_get g i ≡ Some e → IsMaker g i file → Makes e file
+makes_of g i e file here maker = (maker.0, subst (λ (d : EdgeValue). slice_get (made_by d) maker.0 ≡ Some file) (same_some _ _ (sym maker.1.1 ∙ here)) maker.1.2)
+
+b_reads : (file : List ℕ) → IsReader before 1 file → codes "b.cpp" ≡ file
+b_reads file reader = let reads : Reads (edge (codes "b.o") [] (codes "b.cpp") []) file = reads_of before 1 _ file refl reader in one_of (codes "b.cpp") file reads.0 reads.1
+
+a_makes : (file : List ℕ) → IsMaker before 0 file → codes "a.o" ≡ file
+a_makes file maker = let makes : Makes (edge (codes "a.o") [] (codes "a.cpp") []) file = makes_of before 0 _ file refl maker in one_of (codes "a.o") file makes.0 makes.1
+
+b_makes : (file : List ℕ) → IsMaker before 1 file → codes "b.o" ≡ file
+b_makes file maker = let makes : Makes (edge (codes "b.o") [] (codes "b.cpp") []) file = makes_of before 1 _ file refl maker in one_of (codes "b.o") file makes.0 makes.1
+
+-- `b.o` has no reason to wait for `a.o`, whatever comes after
+b_not_for_a : (new : List EdgeValue) → HasReason tables before new 1 0 → ⊥
+b_not_for_a new (needed (e, file, j, here, reads, makes)) =
+    differ (codes "b.cpp") (codes "a.o") file refl (b_reads file (e, here, reads)) (a_makes file (j, makes))
+b_not_for_a new (required {file} (t, o, name, inside, is_edge, requires, provided) makes) = at o is_edge requires (one_of two_objects t (index_of tables t inside).0 (index_of tables t inside).1)
+  where
+    at : (o : ℕ) → IsEdgeOf before 1 t o → Requires t o name → two_objects ≡ t → ⊥
+    at zero edge_at requires same =
+        let mine : IsEdgeOf before 1 two_objects 0 = subst (λ (u : TableValue). IsEdgeOf before 1 u 0) (sym same) edge_at in
+        differ (codes "a.o") (codes "b.o") mine.0.object refl (ap (λ (r : RuleValue). r.object) (same_some _ _ mine.1)) (b_makes mine.0.object mine.2)
+    at (suc zero) edge_at requires same =
+        let mine : Requires two_objects 1 name = subst (λ (u : TableValue). Requires u 1 name) (sym same) requires in
+        let none : [] ≡ mine.0.required = ap (λ (r : RuleValue). r.required) (same_some _ _ mine.1) in
+        let found = index_of [] name (subst (λ (names : List (List ℕ)). Contains names name) (sym none) mine.2) in
+        nothing name found.1
+    at (suc (suc o)) edge_at requires same =
+        let mine : IsEdgeOf before 1 two_objects (suc (suc o)) = subst (λ (u : TableValue). IsEdgeOf before 1 u (suc (suc o))) (sym same) edge_at in
+        nothing mine.0 mine.1
+b_not_for_a new (added {file} reader (t, o, k, name, inside, is_edge, provides)) = at o is_edge provides (one_of two_objects t (index_of tables t inside).0 (index_of tables t inside).1)
+  where
+    at : (o : ℕ) → IsEdgeOf before 0 t o → Provides t o k name file → two_objects ≡ t → ⊥
+    at zero edge_at provides same =
+        let mine : Provides two_objects 0 k name file = subst (λ (u : TableValue). Provides u 0 k name file) (sym same) provides in
+        let rule : (codes "A", codes "A.bmi") ∷ [] ≡ mine.0.provided = ap (λ (r : RuleValue). r.provided) (same_some _ _ mine.1) in
+        let pair : (codes "A", codes "A.bmi") ≡ (name, file) = one_of _ _ k (subst (λ (ps : List (List ℕ × List ℕ)). slice_get ps k ≡ Some (name, file)) (sym rule) mine.2) in
+        differ (codes "A.bmi") (codes "b.cpp") file refl (ap (λ (p : List ℕ × List ℕ). p.1) pair) (b_reads file reader)
+    at (suc zero) edge_at provides same =
+        let mine : IsEdgeOf before 0 two_objects 1 = subst (λ (u : TableValue). IsEdgeOf before 0 u 1) (sym same) edge_at in
+        differ (codes "b.o") (codes "a.o") mine.0.object refl (ap (λ (r : RuleValue). r.object) (same_some _ _ mine.1)) (a_makes mine.0.object mine.2)
+    at (suc (suc o)) edge_at provides same =
+        let mine : IsEdgeOf before 0 two_objects (suc (suc o)) = subst (λ (u : TableValue). IsEdgeOf before 0 u (suc (suc o))) (sym same) edge_at in
+        nothing mine.0 mine.1
+
+-- ---- graphs that are refused
+
+-- an input too many is a false wait
+false_wait : HasNoFalseWait tables before (with_inputs (codes "B.bmi" ∷ []) (codes "A.bmi" ∷ [])) → ⊥
+false_wait h = b_not_for_a _ ((h 1 0).0 (_, codes "A.bmi", 1, refl, (1, refl), (_, refl, refl)))
+
+-- and one too few leaves `a.o` without a wait that it has a reason for
+a_reads : (file : List ℕ) → IsReader (with_inputs [] []) 0 file → codes "a.cpp" ≡ file
+a_reads file reader = let reads : Reads (edge (codes "a.o") (codes "A.bmi" ∷ []) (codes "a.cpp") []) file = reads_of (with_inputs [] []) 0 _ file refl reader in one_of (codes "a.cpp") file reads.0 reads.1
+
+too_few : HasNoFalseWait tables before (with_inputs [] []) → ⊥
+too_few h = by ((h 0 1).1 (required {file = codes "B.bmi"} a_requires (1, (_, refl, refl))))
+  where
+    by : EdgeNeeds (with_inputs [] []) 0 1 → ⊥
+    by (e, file, j, here, reads, makes) = either j (makes_of (with_inputs [] []) 1 _ file refl (j, makes)) (a_reads file (e, here, reads))
+      where
+        either : (j : ℕ) → Makes (edge (codes "b.o") (codes "B.bmi" ∷ []) (codes "b.cpp") []) file → codes "a.cpp" ≡ file → ⊥
+        either j (zero, made) read = differ (codes "b.o") (codes "a.cpp") file refl (same_some _ _ made) read
+        either j (suc zero, made) read = differ (codes "B.bmi") (codes "a.cpp") file refl (same_some _ _ made) read
+        either j (suc (suc k), made) read = nothing file made
+
+-- ---- orders
+
+b_first : ComesAfter (1 ∷ 0 ∷ 2 ∷ []) 0 1
+b_first zero e = absurd (omega (arith, number 1 0 e))
+b_first (suc zero) e = contained (1 ∷ []) 0 1 refl
+b_first (suc (suc zero)) e = absurd (omega (arith, number 2 0 e))
+b_first (suc (suc (suc p))) e = absurd (nothing 0 e)
+
+a_first : ComesAfter (0 ∷ 1 ∷ 2 ∷ []) 0 1 → ⊥
+a_first h = nothing 1 (index_of [] 1 (h 0 refl)).1
+
+-- in no order in which the edges can run does `a.o` come before `b.o`
+not_a_first : IsRunOrder after (0 ∷ 1 ∷ 2 ∷ []) → ⊥
+not_a_first run = a_first (run.after_makers 0 1 (_, codes "B.bmi", 1, refl, (1, refl), (_, refl, refl)))
+
+-- ---- a race
+
+-- the edges of the objects alone, after an effect that forgot the inputs
+abbrev two_before : List EdgeValue
+two_before = edge (codes "a.o") [] (codes "a.cpp") [] ∷ edge (codes "b.o") [] (codes "b.cpp") [] ∷ []
+
+abbrev first_after : EdgeValue
+first_after = edge (codes "a.o") (codes "A.bmi" ∷ []) (codes "a.cpp") []
+
+abbrev second_after : EdgeValue
+second_after = edge (codes "b.o") (codes "B.bmi" ∷ []) (codes "b.cpp") []
+
+abbrev two_after : List EdgeValue
+two_after = first_after ∷ second_after ∷ []
+
+-- no source is made
+abbrev IsNoSource : List ℕ → Type 0
+IsNoSource file = (x : List ℕ) × (bytes_eq x (codes "a.cpp") ≡ false) × (bytes_eq x (codes "b.cpp") ≡ false) × (x ≡ file)
+
+first_makes : (file : List ℕ) → Makes first_after file → IsNoSource file
+first_makes file (zero, made) = (codes "a.o", refl, refl, same_some _ _ made)
+first_makes file (suc zero, made) = (codes "A.bmi", refl, refl, same_some _ _ made)
+first_makes file (suc (suc j), made) = absurd (nothing file made)
+
+second_makes : (file : List ℕ) → Makes second_after file → IsNoSource file
+second_makes file (zero, made) = (codes "b.o", refl, refl, same_some _ _ made)
+second_makes file (suc zero, made) = (codes "B.bmi", refl, refl, same_some _ _ made)
+second_makes file (suc (suc j), made) = absurd (nothing file made)
+
+made_file : (maker : ℕ) (file : List ℕ) → IsMaker two_after maker file → IsNoSource file
+made_file zero file maker = first_makes file (makes_of two_after 0 first_after file refl maker)
+made_file (suc zero) file maker = second_makes file (makes_of two_after 1 second_after file refl maker)
+made_file (suc (suc m)) file maker = absurd (nothing maker.1.0 maker.1.1)
+
+none_needed : (i maker : ℕ) → EdgeNeeds two_after i maker → ⊥
+none_needed zero maker (e, file, j, here, reads, makes) =
+    let made = made_file maker file (j, makes) in
+    let read : Reads first_after file = reads_of two_after 0 first_after file refl (e, here, reads) in
+    differ made.0 (codes "a.cpp") file made.1 made.3 (one_of (codes "a.cpp") file read.0 read.1)
+none_needed (suc zero) maker (e, file, j, here, reads, makes) =
+    let made = made_file maker file (j, makes) in
+    let read : Reads second_after file = reads_of two_after 1 second_after file refl (e, here, reads) in
+    differ made.0 (codes "b.cpp") file made.2 made.3 (one_of (codes "b.cpp") file read.0 read.1)
+none_needed (suc (suc i)) maker (e, file, j, here, reads, makes) = nothing e here
+
+any_runs : IsRunOrder two_after (0 ∷ 1 ∷ [])
+any_runs = record { as_many = refl; all = all; after_makers = λ i maker needs. absurd (none_needed i maker needs) }
+  where
+    all : (i : ℕ) → i < 2 → Contains (0 ∷ 1 ∷ []) i
+    all zero within = contained (0 ∷ 1 ∷ []) 0 0 refl
+    all (suc zero) within = contained (0 ∷ 1 ∷ []) 1 1 refl
+    all (suc (suc i)) within = absurd (omega arith)
+
+-- an order in which they can run has `a.o` first, which requires what `b.o` makes
+race : HasNoRace tables two_before two_after → ⊥
+race h = nothing 1 (index_of [] 1 (h.after_makers (0 ∷ 1 ∷ []) 0 1 (codes "B.bmi") any_runs requires (1, (_, refl, refl)) 0 refl)).1
+  where
+    requires : RequiresFile tables two_before 0 (codes "B.bmi")
+    requires = (two_objects, 0, codes "B", contained tables 0 two_objects refl, (_, refl, (0, (_, refl, refl))), (_, refl, contained (codes "B" ∷ []) 0 (codes "B") refl), (Object 1, (0, (_, refl, refl))))

@@ -1,0 +1,165 @@
+-- What the edges of objects gain after targets of a project.
+use Rattle.std.proofs.Common.{◌≡◌, ◌≢◌, ◌⊎◌, ℕ, zero, suc, ◌<◌, List, [], ◌∷◌, length, Option, Some, None, refl, ap, subst, sym, ◌∙◌, inl, inr, arith, slice_get, Contains}
+use Rattle.std.specs.List.{zip, filter_map, cons_option}
+use Rattle.std.proofs.lemmas.Option.{slice_get_within}
+use Rattle.std.proofs.lemmas.List.{length-map}
+use Rattle.dyndep_file.specs.StatementValue.{StatementValue}
+use Rattle.scan_docs.specs.Scan.{RuleValue}
+use Rattle.build_effect.specs.EdgeValue.{EdgeValue}
+use Rattle.build_effect.specs.Graphs.{Makes, Names}
+use Rattle.build_effect.specs.Effect.{extended}
+use Rattle.build_effect.specs.Premises.{Meets}
+use Rattle.build_effect.specs.Files.{NamedFile, GainsExactly}
+use Rattle.module_table.specs.TableValue.{TableValue}
+use Rattle.module_table.specs.Added.{tasks_of, required_of}
+use Rattle.collate_core.specs.Values.{CollatedValue, ProjectTargetValue}
+use Rattle.collate_core.specs.Statements.{statement_of, statements_of}
+use Rattle.collate_core.specs.Headline.{with_modules}
+use Rattle.collate_core.specs.Documents.{table_of}
+use Rattle.collate_core.specs.Projects.{target_of, project_tables}
+use Rattle.collate_core.specs.ProjectOrders.{dyndep_files, AllOrders, IsProjectOrdered}
+use Rattle.collate_core.specs.Builds.{IsMaker, RequiresFile, HasNoRace}
+use Rattle.collate_core.specs.BuildLaws.{IsAfterProject, tables_of}
+use Rattle.collate_core.proofs.ByIndex.{element_at, same_some, from_map, to_map}
+use Rattle.collate_core.proofs.LinkedLemmas.{index_of, contained, sound_of}
+use Rattle.collate_core.proofs.NeededLemmas.{task_in}
+use Rattle.collate_core.proofs.ProjectLemmas.{in_zip, as_file}
+use Rattle.collate_core.proofs.EndLemmas.{to_zip}
+use Rattle.collate_core.proofs.BuildLemmas.{IsOfObject, Gained}
+use Rattle.collate_core.proofs.TargetBuilds.{names_or_not, of_named, edge_of}
+
+-- ---- the tables at some indexes
+
+-- one of the tables stands at one of the indexes
+abbrev AtIndex : List TableValue → List ℕ → TableValue → Type 0
+AtIndex tables applied t = (p : ℕ) × (n : ℕ) × (slice_get applied p ≡ Some n) × (slice_get tables n ≡ Some t)
+
+one_later : (tables : List TableValue) (m : ℕ) (applied : List ℕ) (t : TableValue) → AtIndex tables applied t → AtIndex tables (m ∷ applied) t
+one_later tables m applied t (p, n, at, there) = (suc p, n, at, there)
+
+from_tables : (tables : List TableValue) (applied : List ℕ) (k : ℕ) (t : TableValue) → slice_get (filter_map (λ n. slice_get tables n) applied) k ≡ Some t → AtIndex tables applied t
+from_tables tables [] k t e = cc
+from_tables tables (n ∷ applied) k t e = by (slice_get tables n) refl (λ j at. one_later tables n applied t (from_tables tables applied j t at)) k e
+  where
+    by : (found : Option TableValue) → slice_get tables n ≡ found → ((j : ℕ) → slice_get (filter_map (λ m. slice_get tables m) applied) j ≡ Some t → AtIndex tables (n ∷ applied) t) →
+        (k : ℕ) → slice_get (cons_option found (filter_map (λ m. slice_get tables m) applied)) k ≡ Some t → AtIndex tables (n ∷ applied) t
+    by None none later k at = later k at
+    by (Some u) there later zero at = (0, n, refl, there ∙ at)
+    by (Some u) there later (suc k) at = later k at
+
+to_tables : (tables : List TableValue) (applied : List ℕ) (p n : ℕ) (t : TableValue) → slice_get applied p ≡ Some n → slice_get tables n ≡ Some t → (k : ℕ) × (slice_get (filter_map (λ n. slice_get tables n) applied) k ≡ Some t)
+to_tables tables [] p n t at there = cc
+to_tables tables (m ∷ applied) zero n t at there =
+    let here : slice_get tables m ≡ Some t = ap (slice_get tables) (same_some _ _ at) ∙ there in
+    (0, rw here refl)
+to_tables tables (m ∷ applied) (suc p) n t at there = by (slice_get tables m) refl (to_tables tables applied p n t at there)
+  where
+    by : (found : Option TableValue) → slice_get tables m ≡ found → (k : ℕ) × (slice_get (filter_map (λ n. slice_get tables n) applied) k ≡ Some t) → (k : ℕ) × (slice_get (filter_map (λ n. slice_get tables n) (m ∷ applied)) k ≡ Some t)
+    by None none (k, later) = (k, rw none later)
+    by (Some u) found (k, later) = (suc k, rw found later)
+
+-- ---- after the files of these tables
+
+-- the edge names one of the files at these indexes
+abbrev NamesOne : List NamedFile → List ℕ → EdgeValue → Type 0
+NamesOne files applied e = (p : ℕ) × (n : ℕ) × (f : NamedFile) × (slice_get applied p ≡ Some n) × (slice_get files n ≡ Some f) × Names f.name e
+
+-- or none of them
+abbrev NamesNone : List NamedFile → List ℕ → EdgeValue → Type 0
+NamesNone files applied e = (p n : ℕ) (f : NamedFile) → slice_get applied p ≡ Some n → slice_get files n ≡ Some f → e.dyndep ≢ Some f.name
+
+one_or_none : (files : List NamedFile) (applied : List ℕ) (e : EdgeValue) → NamesOne files applied e ⊎ NamesNone files applied e
+one_or_none files [] e = inr (λ p n f at. cc)
+one_or_none files (m ∷ applied) e = by (slice_get files m) refl (one_or_none files applied e)
+  where
+    none_of_all : NamesNone files applied e → ((f : NamedFile) → slice_get files m ≡ Some f → e.dyndep ≢ Some f.name) → NamesNone files (m ∷ applied) e
+    none_of_all rest first zero n f at there = first f (ap (slice_get files) (same_some _ _ at) ∙ there)
+    none_of_all rest first (suc p) n f at there = rest p n f at there
+
+    by : (found : Option NamedFile) → slice_get files m ≡ found → NamesOne files applied e ⊎ NamesNone files applied e → NamesOne files (m ∷ applied) e ⊎ NamesNone files (m ∷ applied) e
+    by found is (inl (p, n, f, at, there, names)) = inl (suc p, n, f, at, there, names)
+    by None is (inr rest) = inr (none_of_all rest (λ f there. let no : None ≡ Some f = sym is ∙ there in cc))
+    by (Some d) is (inr rest) =
+        elim (names_or_not e d.name) [
+          | inl names ↦ inl (0, m, d, refl, is, names)
+          | inr not ↦ inr (none_of_all rest (λ f there same. not (same ∙ ap (λ (x : NamedFile). Some x.name) (same_some _ _ (sym there ∙ is)))))
+        ]
+
+module _ (targets : List ProjectTargetValue) (outs : List CollatedValue) (orders : AllOrders (project_tables targets outs)) (applied : List ℕ) (g new : List EdgeValue) (after : IsAfterProject targets outs applied g new) where
+  abbrev tables : List TableValue
+  tables = project_tables targets outs
+
+  abbrev files : List NamedFile
+  files = dyndep_files after.names tables
+
+  gains : GainsExactly files g applied new
+  gains =
+      let gained = orders.gains g after.names applied after.count after.meets after.indices in
+      let same : gained.0 ≡ new = orders.alike g after.names applied applied gained.0 new after.count after.meets after.indices after.indices ((λ p n e. (p, e)), (λ p n e. (p, e))) gained.1 after.applies in
+      subst (λ x. GainsExactly files g applied x) same gained.2
+
+  -- the dyndep file of a table
+  file_of : (n : ℕ) (t : TableValue) → slice_get tables n ≡ Some t → (name : List ℕ) × (slice_get files n ≡ Some (as_file (name, t)))
+  file_of n t at =
+      let within : n < length tables = slice_get_within _ _ _ at in
+      let name : (x : List ℕ) × (slice_get after.names n ≡ Some x) = element_at after.names n (omega (arith, after.count)) in
+      (name.0, to_map as_file (zip after.names tables) n (name.0, t) (to_zip after.names tables n name.0 t name.1 at))
+
+  objects_of : (p n : ℕ) (t : TableValue) → slice_get applied p ≡ Some n → slice_get tables n ≡ Some t → (o : ℕ) (rule : RuleValue) (i : ℕ) (e : EdgeValue) → slice_get t.objects o ≡ Some rule →
+      slice_get g i ≡ Some e → Makes e rule.object → slice_get new i ≡ Some (with_modules e rule.provided (required_of t rule))
+  objects_of p n t listed at_n o rule i e there here makes =
+      let file = file_of n t at_n in
+      let f : NamedFile = as_file (file.0, t) in
+      let s : StatementValue = statement_of (rule, required_of t rule) in
+      let at : slice_get (statements_of t) o ≡ Some s = to_map statement_of (tasks_of t) o (rule, required_of t rule) (to_map (task_in t) t.objects o rule there) in
+      let meets : Meets g f.name (statements_of t) = after.meets.each n f file.1 in
+      let bound = meets.names.bound o rule.object (to_map (λ (a : StatementValue). a.output) (statements_of t) o s at) in
+      let index = meets.made_once i makes.0 bound.0 bound.4.0 rule.object (e, here, makes.1) (bound.1, bound.2, bound.4.1) in
+      let edge : bound.1 ≡ e = same_some _ _ (sym bound.2 ∙ ap (slice_get g) (sym index.0) ∙ here) in
+      let gained = gains.named p n f i e listed file.1 here (subst (λ (d : EdgeValue). Names f.name d) edge bound.3) in
+      let same_index : o ≡ gained.0 = gained.2.only o s at makes in
+      let same : gained.1 ≡ s = same_some _ _ (sym gained.2.is ∙ ap (slice_get (statements_of t)) (sym same_index) ∙ at) in
+      gained.3 ∙ ap (λ a. Some (extended e a)) same
+
+  -- an edge that names a file of these is that of an object
+  of_file : (i : ℕ) (e : EdgeValue) → slice_get g i ≡ Some e → NamesOne files applied e → IsOfObject (tables_of targets outs applied) e
+  of_file i e here (p, n, f, listed, at, names) =
+      let pair = from_map as_file (zip after.names tables) n f at in
+      let t : TableValue = pair.0.1 in
+      let at_n : slice_get tables n ≡ Some t = in_zip after.names tables n pair.0 pair.1 in
+      let inside = to_tables tables applied p n t listed at_n in
+      let meets : Meets g pair.0.0 (statements_of t) = subst (λ (x : NamedFile). Meets g x.name x.additions) (sym pair.2) (after.meets.each n f at) in
+      of_named (tables_of targets outs applied) t (contained (tables_of targets outs applied) inside.0 t inside.1) g pair.0.0 meets i e here (names ∙ ap (λ (x : NamedFile). Some x.name) (sym pair.2))
+
+  at_index : (t : TableValue) → Contains (tables_of targets outs applied) t → AtIndex tables applied t
+  at_index t inside = let at = index_of (tables_of targets outs applied) t inside in from_tables tables applied at.0 t at.1
+
+  pub gained_after_project : Gained (tables_of targets outs applied) g new
+  gained_after_project = record {
+    same_edges = gains.same_edges;
+    sound = λ t inside. let at = at_index t inside in sound_of after.style targets outs after.project at.1 t at.3;
+    edges = λ t o rule inside there.
+        let at = at_index t inside in
+        let file = file_of at.1 t at.3 in
+        edge_of t g file.0 (after.meets.each at.1 (as_file (file.0, t)) file.1) o rule there;
+    objects = λ t o rule i e inside there here makes. let at = at_index t inside in objects_of at.0 at.1 t at.2 at.3 o rule i e there here makes;
+    each = λ i e here.
+        elim (one_or_none files applied e) [
+          | inl names ↦ inr (of_file i e here names)
+          | inr none ↦ inl (gains.others i e here none)
+        ];
+  }
+
+  -- after the files of all targets, each file that an object requires is made
+  module _ (ordered : IsProjectOrdered targets (project_tables targets outs)) (race : HasNoRace (tables_of targets outs applied) g new) (all : (n : ℕ) → n < length targets → Contains applied n) where
+    pub all_made : (i : ℕ) (file : List ℕ) → RequiresFile (tables_of targets outs applied) g i file → (maker : ℕ) × IsMaker new maker file
+    all_made i file (t, o, name, inside, edge, requires, provided) =
+        let at = at_index t inside in
+        let by = ordered.below at.1 o t name file at.3 requires provided in
+        let provides = by.2 in
+        let within : by.0 < length tables = slice_get_within _ _ _ provides.3 in
+        let count : length tables ≡ length targets = length-map targets (λ p. table_of (target_of outs p)) in
+        let listed = index_of applied by.0 (all by.0 (omega (arith, within, count))) in
+        let here = to_tables tables applied listed.0 by.0 provides.0 listed.1 provides.3 in
+        let found = race.made provides.0 by.1 provides.1 name file (contained (tables_of targets outs applied) here.0 provides.0 here.1) provides.4 in
+        (found.0, found.2)

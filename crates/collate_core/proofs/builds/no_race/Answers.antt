@@ -1,0 +1,28 @@
+use Rattle.std.proofs.Common.{[], ◌∷◌}
+use Rattle.collate_core.proofs.BuildLemmas as build
+use Rattle.collate_core.proofs.TargetBuilds.{gained_after_target}
+use Rattle.collate_core.proofs.ProjectBuilds.{gained_after_project, all_made}
+use Rattle.collate_core.specs.Documents.{table_of}
+use Rattle.collate_core.specs.BuildLaws.{tables_of}
+use Rattle.collate_core.proofs.builds.no_race.Goals as goal
+
+pub returns-clause-target : goal.returns-clause-target
+returns-clause-target c = λ target g new after.
+    let laws = c.added_files.ensures in
+    build.no_race laws.required laws.all_required laws.one_file (table_of target ∷ []) g new (gained_after_target target g new after)
+
+pub returns-clause-project : goal.returns-clause-project
+returns-clause-project c = λ targets outs applied g new after.
+    let laws = c.added_files.ensures in
+    build.no_race laws.required laws.all_required laws.one_file (tables_of targets outs applied) g new
+    (gained_after_project targets outs (c.project_orders.ensures.orders after.style targets outs after.project) applied g new after)
+
+pub returns-clause-all_made : goal.returns-clause-all_made
+returns-clause-all_made c = λ targets outs applied g new after.
+    let laws = c.added_files.ensures in
+    let orders = c.project_orders.ensures.orders after.style targets outs after.project in
+    let race = build.no_race laws.required laws.all_required laws.one_file (tables_of targets outs applied) g new (gained_after_project targets outs orders applied g new after) in
+    all_made targets outs orders applied g new after (c.project_orders.ensures.numbered after.style targets outs after.project) race
+
+pub returns-clause-order : goal.returns-clause-order
+returns-clause-order c = build.least_order_runs
