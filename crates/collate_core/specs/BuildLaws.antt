@@ -19,8 +19,8 @@ use Rattle.collate_core.specs.Builds.{IsMaker, RequiresFile, IsRunOrder, HasNoRa
 
 -- ---- after a target
 
--- `new` is the graph `g` after the dyndep text of a target that has the headline, which `g` meets
--- the premises of.
+-- `new` is the graph `g` after the dyndep text of a target that has the headline, and `g` meets the
+-- premises of the headline.
 pub record IsAfterTarget (target : TargetValue) (g new : List EdgeValue) : Type 0 where
   pub collated : CollatedValue
   pub headline : IsHeadline target collated
@@ -42,8 +42,8 @@ TargetHasNoFalseWait =
 
 -- ---- after targets of a project
 
--- `new` is the graph `g` after the dyndep files of targets of a project, in this order, and `g`
--- meets the premises under which they may be applied.
+-- `new` is the graph `g` after the dyndep files of targets of a project, applied in this order, and
+-- `g` meets the premises of `AllOrders`.
 pub record IsAfterProject (targets : List ProjectTargetValue) (outs : List CollatedValue)
     (applied : List ℕ) (g new : List EdgeValue) : Type 0 where
   pub style : Option Written

@@ -17,16 +17,18 @@
 //!   files may be applied in any order (`ProjectOrders.antt`), and the maps have what each object
 //!   needs over the whole project (`ProjectNeeds.antt`).
 //!
-//! - What these files mean to who writes a build are the laws [`no_race`] and [`no_false_wait`]
-//!   (`specs/Builds.antt`, `specs/BuildLaws.antt`): the edge of an object comes after the makers of
-//!   the files of the modules that the object requires, in every order in which the edges can run,
-//!   and no edge waits for anything that it had not to wait for before.
+//! - The laws [`no_race`] and [`no_false_wait`] say what these files mean for a build
+//!   (`specs/Builds.antt`, `specs/BuildLaws.antt`): in every order in which the edges can run, the
+//!   edge of an object comes after the makers of the files of the modules that the object requires;
+//!   and an edge needs what it needed before, these makers, those of added files that it read, and
+//!   nothing else.
 //!
-//! A law has no body that could be wrong: it is true of what is built since calls do what its
-//! definitions say. Of bodies that would make a race, `required_module_left_out`, `nothing_applied`
-//! and `order_of_the_graph_before` of `must-fail/` are refused, and in `build_effect`
-//! `implicit_output_is_no_output` and `explicit_inputs_alone_order`; of those that would make a
-//! false wait, `reached_modules_as_inputs`.
+//! The two laws speak of the definitions, so that no body can break them; they are true of what is
+//! built since the calls keep to these definitions. The prover refuses the bodies that would make a
+//! race, as `required_module_left_out`, `nothing_applied` and `order_of_the_graph_before` in
+//! `must-fail/`, and in `build_effect` `implicit_output_is_no_output` and
+//! `explicit_inputs_alone_order`; and those that would make a false wait, as
+//! `reached_modules_as_inputs`.
 //!
 //! The definitions speak of one table, which is a function of the documents' bytes
 //! (`specs/Documents.antt`, `table_of`). Those that only private clauses speak of stand in
