@@ -1,4 +1,4 @@
+pub mod Commands
 pub mod Examples
-pub mod FileCalls
-pub mod FileNames
-pub mod Operands
+pub mod Positionals
+pub mod Subcommands

@@ -1,4 +1,2 @@
-pub mod Files
-pub mod Printing
-pub mod Runs
 pub mod Tasks
+pub mod inner

@@ -1,8 +1,12 @@
 //! The arguments that the program is called with.
 
-ghost use Rattle.std.specs.Prelude.{◌≡◌, [], ◌∷◌, map, option_map, string_bytes, IfOk};
-ghost use Rattle.command_line.specs.Tasks.{AreCallOf, task_value, task_from, operands, is_flag};
+ghost use Rattle.std.specs.Prelude.{◌≡◌, false, map, option_map, string_bytes, IfOk};
+ghost use Rattle.clap.specs.Words.{app_of, first_value, found_of, subcommand_rows_of};
+ghost use Rattle.command_line.specs.Tasks.{AreCallOf, task_value};
+ghost use Rattle.command_line.specs.inner.Parses.{has_globals, one_app, three_app, program, task_by, task_found};
 
+use clap::error::ErrorKind;
+use clap::{Arg, ArgMatches, Command};
 use std::alloc::{AllocError, Global};
 
 /// What the program has to do.
@@ -66,93 +70,92 @@ impl<'a> Task<'a> {
 pub fn task_of<'a>(alloc: Global, arguments: &'a [String]) -> Result<Option<Task<'a>>, AllocError>
     ensures { IfOk result (AreCallOf (map string_bytes arguments.now)) }
 {
-    let [_, command, arguments @ ..] = arguments else {
-        return Ok(None);
-    };
-    match operands(alloc, arguments)? {
-        Some(given) => Ok(task_from(command.as_str(), given.as_slice())),
-        None => Ok(None),
+    let command = program(alloc)?;
+    match command.try_get_matches_from(arguments) {
+        Ok(matches) => Ok(task_from(&matches)),
+        Err(error) => match error.kind() {
+            ErrorKind::OutOfMemory => Err(AllocError),
+            _ => Ok(None),
+        },
     }
 }
 
-/// The operands among the arguments behind a command, or `None` where one of them is a flag.
-fn operands<'a>(alloc: Global, arguments: &'a [String]) -> Result<Option<Vec<&'a str>>, AllocError>
-    ensures { IfOk result (λ given.
-        option_map (λ texts. map (λ text. text.now) texts.items) given
-        ≡ operands (map string_bytes arguments.now)) }
+/// The program's commands with their operands.
+fn program<'a>(alloc: Global) -> Result<Command<'a>, AllocError>
+    ensures { IfOk result (λ c. app_of c ≡ program) }
 {
-    let mut given = Vec::with_capacity(alloc, arguments.len())?;
-    let mut is_behind = false;
-    for argument in arguments {
-        let argument = argument.as_str();
-        if is_behind {
-            given.push(argument)?;
-        } else if argument == "--" {
-            is_behind = true;
-        } else if is_flag(argument) {
-            return Ok(None);
-        } else {
-            given.push(argument)?;
-        }
-    }
-    Ok(Some(given))
+    Command::new(alloc, "dyncollate")
+        .disable_help_flag(true)
+        .disable_help_subcommand(true)
+        .subcommand_required(true)
+        .subcommand(with_three(alloc, "one", "scan", "dir", "ext")?)?
+        .subcommand(with_one(alloc, "collate", "target")?)?
+        .subcommand(with_one(alloc, "show", "dyndep")?)?
+        .subcommand(with_three(alloc, "effect", "name", "edges", "dyndep")?)?
+        .subcommand(with_one(alloc, "order", "edges")?)?
+        .subcommand(with_one(alloc, "project", "document")?)
 }
 
-/// Two bytes or more that begin with a hyphen.
-fn is_flag(argument: &str) -> bool
-    ensures { result ≡ is_flag argument.now }
+/// A command that takes one operand.
+fn with_one<'a>(alloc: Global, name: &'a str, operand: &'a str) -> Result<Command<'a>, AllocError>
+    ensures app { IfOk result (λ c. app_of c ≡ one_app name.now operand.now) }
+    ensures globals { IfOk result (λ c. has_globals c ≡ false) }
 {
-    match argument.as_bytes() {
-        [first, _, ..] => *first == b'-',
-        _ => false,
-    }
+    Command::new(alloc, name).arg(Arg::new(alloc, operand).required(true))
 }
 
-/// The task of a command with as many operands as it takes.
-fn task_from<'a>(command: &str, given: &[&'a str]) -> Option<Task<'a>>
-    ensures { option_map task_value result
-        ≡ task_from command.now (map (λ text. text.now) given.now) }
-{
-    match given {
-        [operand] => task_of_one(command, operand),
-        [first, second, third] => task_of_three(command, first, second, third),
-        _ => None,
-    }
-}
-
-/// The task of a command that takes one operand.
-fn task_of_one<'a>(command: &str, operand: &'a str) -> Option<Task<'a>>
-    ensures { option_map task_value result ≡ task_from command.now (operand.now ∷ []) }
-{
-    match command {
-        "collate" => Some(Task::Collate { target: operand }),
-        "show" => Some(Task::Show { dyndep: operand }),
-        "order" => Some(Task::Order { edges: operand }),
-        "project" => Some(Task::Project { document: operand }),
-        _ => None,
-    }
-}
-
-/// The task of a command that takes three operands.
-fn task_of_three<'a>(
-    command: &str,
+/// A command that takes three operands.
+fn with_three<'a>(
+    alloc: Global,
+    name: &'a str,
     first: &'a str,
     second: &'a str,
     third: &'a str,
-) -> Option<Task<'a>>
+) -> Result<Command<'a>, AllocError>
+    ensures app { IfOk result (λ c.
+        app_of c ≡ three_app name.now first.now second.now third.now) }
+    ensures globals { IfOk result (λ c. has_globals c ≡ false) }
+{
+    with_one(alloc, name, first)?
+        .arg(Arg::new(alloc, second).required(true))?
+        .arg(Arg::new(alloc, third).required(true))
+}
+
+/// The task that a parse found.
+fn task_from<'a>(matches: &ArgMatches<'a>) -> Option<Task<'a>>
+    ensures { option_map task_value result ≡ task_found (subcommand_rows_of matches.now) }
+{
+    let (command, given) = matches.subcommand()?;
+    task_by(command, given)
+}
+
+/// The task of a command by its operands, if they were found.
+fn task_by<'a>(command: &str, given: &ArgMatches<'a>) -> Option<Task<'a>>
     ensures { option_map task_value result
-        ≡ task_from command.now (first.now ∷ second.now ∷ third.now ∷ []) }
+        ≡ task_by command.now (first_value (found_of given.now)) }
 {
     match command {
         "one" => Some(Task::One {
-            scan: first,
-            dir: second,
-            ext: third,
+            scan: given.get_str("scan")?,
+            dir: given.get_str("dir")?,
+            ext: given.get_str("ext")?,
+        }),
+        "collate" => Some(Task::Collate {
+            target: given.get_str("target")?,
+        }),
+        "show" => Some(Task::Show {
+            dyndep: given.get_str("dyndep")?,
         }),
         "effect" => Some(Task::Effect {
-            name: first,
-            edges: second,
-            dyndep: third,
+            name: given.get_str("name")?,
+            edges: given.get_str("edges")?,
+            dyndep: given.get_str("dyndep")?,
+        }),
+        "order" => Some(Task::Order {
+            edges: given.get_str("edges")?,
+        }),
+        "project" => Some(Task::Project {
+            document: given.get_str("document")?,
         }),
         _ => None,
     }

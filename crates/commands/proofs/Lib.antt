@@ -3,6 +3,8 @@ pub mod Documents
 pub mod Dyndeps
 pub mod EdgeChecks
 pub mod Examples
+pub mod FileCalls
+pub mod FileNames
 pub mod Listings
 pub mod ProjectRuns
 pub mod ProjectTargets

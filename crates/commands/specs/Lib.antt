@@ -4,11 +4,14 @@ pub mod Dyndeps
 pub mod EdgeChecks
 pub mod EdgeFaults
 pub mod Effect
+pub mod Files
 pub mod Listings
 pub mod One
 pub mod Order
+pub mod Printing
 pub mod ProjectCommand
 pub mod RefusalTexts
+pub mod Runs
 pub mod Show
 pub mod TableFaults
 pub mod Targets

@@ -4,18 +4,16 @@
 //! Status 0: done. 1: refused. 2: the arguments are no proper call. 3: a file could not be read or
 //! written, or memory was refused. For each but 0 one line on standard error says why.
 //!
-//! What it does between the calls of the system stands, with its promises, in the library
-//! `command_line`. What is left to `main` is to get the arguments and random bytes, to hand the
-//! calls that read and write files to the library, and to end with the status.
+//! What it does between the calls of the system stands, with its promises, in the libraries
+//! `command_line` and `commands`. What is left to `main` is to get the arguments and random bytes,
+//! to hand the calls that read and write files to `commands`, and to end with the status.
 //!
-//! It stands on `command_line`, on `commands` for the answer of a run, and on `ninja_text` for
-//! writers whose calls are counted.
+//! It stands on `command_line` for the task of its arguments, on `commands` for a run from its task
+//! to what is printed, and on `ninja_text` for writers whose calls are counted.
 #![tactic(auto)]
 
-use command_line::{
-    Task, further_names, names_of, print, read_files, task_of, task_run, write_files,
-};
-use commands::Answer;
+use command_line::{Task, task_of};
+use commands::{Answer, further_names, names_of, print, read_files, task_run, write_files};
 use ninja_text::Counted;
 use std::alloc::AllocError;
 use std::hash::RandomState;

@@ -1,0 +1,68 @@
+-- What the parser of the command line is made of, and what a parse finds.
+use Rattle.std.specs.Prelude.{Bool, true, false, List, [], ◌∷◌, Option, Some, None, option_map, option_and_then, if◌then◌else◌, codes}
+use Rattle.std.specs.Str.{bytes_eq}
+use Rattle.clap.specs.Words.{App, Row, Rule, Shape, Text, new_app, new_rule, with_rule, first_of}
+use Rattle.clap.specs.Simple.{new_shape}
+use Rattle.clap.specs.declared.builder.command.Command.{Command}
+use Rattle.clap.specs.declared.builder.command.Command.TheViews.{out-Command}
+use Rattle.command_line.specs.Tasks.{TaskValue, one, collate, show, effect, order, project}
+
+-- a command, or one under it, has an argument that all under it have too
+abbrev pub has_globals : Command → Bool
+has_globals c = (out-Command c).has_globals
+
+-- an operand that has to be there
+abbrev pub needed : Text → Rule
+needed id = record (new_rule id) { required = true }
+
+-- a command with one operand
+abbrev pub one_app : Text → Text → App
+one_app name operand = with_rule (new_app name) (needed operand)
+
+-- a command with three operands
+abbrev pub three_app : Text → Text → Text → Text → App
+three_app name first second third =
+    with_rule (with_rule (one_app name first) (needed second)) (needed third)
+
+-- the command above the others, which has no flag and no command for help
+abbrev pub top : Shape
+top = record (new_shape (codes "dyncollate")) {
+  disable_help_flag = true;
+  disable_help_subcommand = true;
+  subcommand_required = true;
+}
+
+-- the program's commands
+abbrev pub program : App
+program = record {
+  top = record top { is_leaf = false };
+  subs = (three_app (codes "one") (codes "scan") (codes "dir") (codes "ext")).top
+      ∷ (one_app (codes "collate") (codes "target")).top
+      ∷ (one_app (codes "show") (codes "dyndep")).top
+      ∷ (three_app (codes "effect") (codes "name") (codes "edges") (codes "dyndep")).top
+      ∷ (one_app (codes "order") (codes "edges")).top
+      ∷ (one_app (codes "project") (codes "document")).top ∷ [];
+}
+
+-- a task of three operands, if all were found
+abbrev pub three : (Text → Text → Text → TaskValue) → Option Text → Option Text → Option Text
+    → Option TaskValue
+three task (Some first) (Some second) (Some third) = Some (task first second third)
+three task _ _ _ = None
+
+-- the task of a command, by what was found for the name of each operand
+abbrev pub task_by : Text → (Text → Option Text) → Option TaskValue
+task_by command found =
+    if bytes_eq command (codes "one")
+    then three one (found (codes "scan")) (found (codes "dir")) (found (codes "ext"))
+    else (if bytes_eq command (codes "collate") then option_map collate (found (codes "target"))
+    else (if bytes_eq command (codes "show") then option_map show (found (codes "dyndep"))
+    else (if bytes_eq command (codes "effect")
+    then three effect (found (codes "name")) (found (codes "edges")) (found (codes "dyndep"))
+    else (if bytes_eq command (codes "order") then option_map order (found (codes "edges"))
+    else (if bytes_eq command (codes "project") then option_map project (found (codes "document"))
+    else None)))))
+
+-- the task of a subcommand, by its name and what was found for it
+abbrev pub task_found : Option (Text × List Row) → Option TaskValue
+task_found = option_and_then (λ found. task_by found.0 (λ operand. first_of operand found.1))
