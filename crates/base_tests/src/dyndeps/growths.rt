@@ -1,14 +1,29 @@
-//! Dyndep files that are read and written by calls which the program does not make, whose growths of
-//! memory `tests/growths` refuses in turn. A test answers `AllocError` or `Failure::Memory` where a
-//! call answered that memory was refused, and nowhere else; every other answer has to be the
-//! example's.
+//! Dyndep files that are read and written in ways that the program does not, byte by byte and by
+//! calls which it does not make, and whose growths of memory `tests/growths` refuses in turn. A test
+//! answers `AllocError` or `Failure::Memory` where a call answered that memory was refused, and
+//! nowhere else; every other answer has to be the example's.
 
-use super::reading::is_answer;
+use super::reading::{answers_in_pieces, is_answer, line_fault};
 use super::{Row, TWO_ROWS, TWO_STATEMENTS, dyndep_of, text_of};
-use dyndep_file::{WriteFault, read_all, write};
+use dyndep_file::{LineFault, WriteFault, read_all, write};
 use ninja_text::{Counted, Failure};
 use std::alloc::{AllocError, Global};
 use std::test::Fail;
+
+/// A reader that answered that memory was refused answers so again.
+#[test]
+fn reading_byte_by_byte(rt: HostRuntime) -> Result<(), Fail> {
+    assert!(rt; answers_in_pieces(rt.alloc(), TWO_STATEMENTS, 1, Ok(TWO_STATEMENTS))?);
+    Ok(())
+}
+
+#[test]
+fn reading_a_text_that_is_refused(rt: HostRuntime) -> Result<(), Fail> {
+    let text = b"ninja_dyndep_version = 1\nbuild a.o | mod/A.bmi: dyndep | $\n  mod/B.bmi || x\n";
+    let wanted = Err(line_fault(2, LineFault::OrderOnly));
+    assert!(rt; answers_in_pieces(rt.alloc(), text, 1, wanted)?);
+    Ok(())
+}
 
 #[test]
 fn reading_to_the_end(rt: HostRuntime) -> Result<(), Fail> {

@@ -7,7 +7,7 @@ use ninja_text::{Counted, Failure};
 use std::alloc::{AllocError, Global};
 use std::test::Fail;
 
-fn line_fault(line: u64, fault: LineFault) -> ReadFault {
+pub(super) fn line_fault(line: u64, fault: LineFault) -> ReadFault {
     ReadFault::AtLine { line, fault }
 }
 
@@ -36,7 +36,7 @@ pub(super) fn is_answer(
 
 /// Whether a text that is fed in pieces of so many bytes is answered so. A reader that refused a
 /// piece is fed the others too, and answers at its end as it did then.
-fn answers_in_pieces(
+pub(super) fn answers_in_pieces(
     alloc: Global,
     text: &[u8],
     size: usize,
