@@ -4,6 +4,7 @@ from rows import COLLATE, GCC, LINKED, LINKED_FILES, MAIN, MEMBERS, PROJECT, PRO
     refuses, target, writes
 
 DOCUMENT, COUNT, NAME, PATH, LINE, DEPTH = 16_777_216, 65_536, 1024, 4096, 1_048_576, 127
+MEGABYTE = 1_048_576
 EMPTY = b'{"version":1,"rules":[]}'
 
 
@@ -83,6 +84,7 @@ def of_kind(row, text):
             ("an array in its place", b"[" + text + b"]", b"S3 BadShape document member document"),
             ("null in its place", b"null", b"S3 BadShape document member document"),
             ("no version", text.replace(b'"version"', b'"Version"'), S2),
+            ("the size of a megabyte", text + b" " * (MEGABYTE - len(text)), None),
             ("the greatest size", text + b" " * (DOCUMENT - len(text)), None),
             ("too large a size", text + b" " * (DOCUMENT + 1 - len(text)), S8),
             ("too large a size, and no JSON", b"x" * (DOCUMENT + 1), S8)):
@@ -126,6 +128,10 @@ def counts():
                  {"t.target.json": two, "m.ddi": rules(COUNT - 1),
                   "n.ddi": document(b'{"primary-output":"%d.o"}' % (COUNT - 1))},
                  {"t.json": LINKED_FILES["t.json"], "t.dd": statements(COUNT)})
+    yield writes("collate: a scan document of a megabyte", COLLATE, LINKED | {"m.ddi": MAIN.ljust(MEGABYTE)}, LINKED_FILES)
+    yield writes("project: scan documents of a megabyte", ["project", "project.json"],
+                 PROJECT | MEMBERS | {name: text.ljust(MEGABYTE) for name, text in PROJECT.items() if name.endswith(".ddi")},
+                 PROJECT_FILES)
     yield refuses("one: %d requirements of one name" % COUNT, ONE, {"t.ddi": entries(b"requires", COUNT)},
                   b"M5 ModuleUnknown m0 in a.o")
     yield refuses("one: a requirement too many", ONE, {"t.ddi": entries(b"requires", COUNT + 1)}, b"scan 0: S8 TooLarge rule 0")

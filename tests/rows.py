@@ -278,6 +278,7 @@ LISTING = listing(b"a.o: cxx a.cpp || t.dd", b"b.o: cxx b.cpp || t.dd") + b"buil
 LISTING_AFTER = (b"build a.o | mod/A.bmi: cxx a.cpp | mod/B.bmi || t.dd\n  dyndep = t.dd\n  restat = 1\n"
                  b"build b.o | mod/B.bmi: cxx b.cpp || t.dd\n  dyndep = t.dd\n  restat = 1\nbuild lib: ar a.o b.o\n")
 IMPLICIT = b"build a.o | a.d: cxx a.cpp || t.dd\n  dyndep = t.dd\n"
+EIGHT = b"".join(b"build %c: r\n" % it for it in b"abcdefgh")
 
 LISTINGS = [
     prints("an effect", ["effect", "t.dd", "edges", "t.dd"], {"edges": LISTING, "t.dd": TWO}, LISTING_AFTER),
@@ -286,7 +287,11 @@ LISTINGS = [
            b"build a.o | a.d mod/A.bmi: cxx a.cpp || t.dd\n  dyndep = t.dd\n"),
     refuses("an edge without a statement", ["effect", "t.dd", "edges", "t.dd"], {"edges": LISTING, "t.dd": TWO[:80]},
             b"E6 NotMentioned b.o"),
+    prints("an effect on a graph of nine edges", ["effect", "t", "edges", "t.dd"],
+           {"edges": EIGHT + b"build i: r || t\n  dyndep = t\n", "t.dd": V + b"build i: dyndep | a\n"},
+           EIGHT + b"build i: r | a || t\n  dyndep = t\n"),
     prints("an order", ["order", "edges"], {"edges": LISTING_AFTER}, b"b.o\na.o\nlib\n"),
+    prints("an order of no edges", ["order", "edges"], {"edges": b""}, b""),
     prints("an order of crooked lines", ["order", "edges"],
            {"edges": b"# x\r\nbuild  z/../a$\n   b | c:r-1 d||e\n # y\n\trestat = \n".replace(b"\t", b" ")
                      + b" dyndep=./x/../e\n\nbuild e : r_ $\r\n  f$ g|h\r\n"}, b"e\nab\n"),
@@ -342,6 +347,7 @@ def changed(name, line, *members):
 PROJECTS = [
     writes("project: three targets", ["project", "project.json"], PROJECT | MEMBERS, PROJECT_FILES),
     writes("project: no targets", ["project", "project.json"], {"project.json": b'{"targets":[],"version":1}'}, {}),
+    refuses("project: no document", ["project", "project.json"], {}, b"cannot read project.json", 3),
     changed("a target that is not linked", b"target 2: M6 InfoUnknown t1 K B", member(2, 1, more=GCC)),
     changed("a target that links itself", b"target 2: K3 LinkedLater", member(2, 2, more=GCC)),
     changed("a target that is linked twice", b"target 1: M2 InfoTwice t0", member(1, 0, 0, more=GCC)),
@@ -357,8 +363,17 @@ PROJECTS = [
 ]
 
 
+# Files that are not there: the one that a command reads first, and behind it the dyndep file of an effect.
+EFFECT = ["effect", "t.dd", "edges", "t.dd"]
+MISSING = [
+    refuses("%s: no file %s" % (words[0], name), words, files, b"cannot read " + name.encode(), 3)
+    for words, files, name in (
+        (["one", "t.ddi", "mod", ".bmi"], {}, "t.ddi"), (["show", "t.dd"], {}, "t.dd"), (COLLATE, {}, "t.target.json"),
+        (EFFECT, {}, "edges"), (EFFECT, {"edges": LISTING}, "t.dd"), (["order", "edges"], {}, "edges"))
+]
+
 ROWS = ([prints("show: " + name, ["show", "t.dd"], {"t.dd": text}, text if out is None else out) for name, text, out in SHOWN]
         + [refuses("show: " + name, ["show", "t.dd"], {"t.dd": text}, line) for name, text, line in FAULTY]
         + [prints("one: " + name, ["one", "t.ddi", "mod", ".bmi"], {"t.ddi": text}, out) for name, text, out in COLLATED]
         + [refuses("one: " + name, ["one", "t.ddi", "mod", ".bmi"], {"t.ddi": text}, line) for name, text, line in SCAN_FAULTS]
-        + TARGETS + FORGED + LISTINGS)
+        + TARGETS + FORGED + LISTINGS + MISSING)
