@@ -15,8 +15,10 @@
 //! private clauses: no one has to read them for what a contract says. `proofs/MapRows.antt` has the
 //! worked rows.
 //!
-//! It stands on `ninja_text` for paths and on `scan_docs` for names, and knows of no table: which
-//! modules an object needs is told by who makes its map.
+//! It stands on `ninja_text` for paths, on `scan_docs` for names and on `thiserror` for its fault,
+//! and knows of no table: which modules an object needs is told by who makes its map.
+//!
+//! `must-fail/` has a wrong body of each public function.
 #![tactic(auto)]
 
 mod clang;

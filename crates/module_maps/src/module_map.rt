@@ -7,15 +7,19 @@ use ninja_text::Path;
 use scan_docs::Name;
 use std::cmp::Ordering;
 use std::marker::Model;
+use thiserror::Error;
 
 /// Why a map is not written, or a text not read as one.
-#[derive(Drop)]
+#[derive(Debug, Drop, Error)]
 pub enum MapFault {
-    /// This path cannot stand in a map of the style (K1).
+    /// This path cannot stand in a map of the style.
+    #[error("K1 MapPath")]
     MapPath { path: Path },
-    /// The object provides two modules, and a map of the style has one (K2).
+    /// The object provides two modules, and a map of the style has one.
+    #[error("K2 TwoProvided")]
     TwoProvided,
-    /// This line of the text, from 1, is not one that the style writes there (K4).
+    /// This line of the text, from 1, is not one that the style writes there.
+    #[error("K4 BadMapLine line {line}")]
     BadMapLine { line: u64 },
 }
 
