@@ -32,6 +32,8 @@
 //! Work grows linearly with the nodes and needs, but for a logarithm in ordering nodes, and no call
 //! recurses. The crate stands on `std` alone.
 //!
+//! `must-fail/` has a wrong body of each public function but of the laws, which have none.
+//!
 //! # Needs of a caller's own
 //!
 //! A caller makes the digraph so that `NodeNeeds` holds of it exactly where its own relation does

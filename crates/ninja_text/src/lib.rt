@@ -26,7 +26,11 @@
 //!   (`specs/FaultTexts.antt`).
 //!
 //! Definitions that private clauses alone speak of stand below `specs/inner/`, and what other
-//! crates cite of the proofs in `proofs/ForCallers.antt`. The crate stands on `std` alone.
+//! crates cite of the proofs in `proofs/ForCallers.antt`. The crate stands on `std`, and on
+//! `thiserror`, which derives `Error` for its faults.
+//!
+//! `must-fail/` has a wrong body of each public function but of the laws, which have none, and of
+//! [`Failure::map`] and [`Counted::into_inner`], which can only hand on values of any type.
 #![tactic(auto)]
 
 mod assigning;
