@@ -10,7 +10,7 @@ use std::fmt;
 use thiserror::Error;
 
 /// Why a list of edges is no graph.
-#[derive(Drop, Error)]
+#[derive(Debug, Drop, Error)]
 pub enum GraphFault {
     /// E1: a file is made twice.
     ProducedTwice { path: Path },
@@ -46,20 +46,8 @@ impl fmt::Display for GraphFault {
     }
 }
 
-/// `Debug` prints what `Display` prints.
-impl fmt::Debug for GraphFault {
-    ghost use Rattle.std.specs.Prelude.{Some};
-    ghost use Rattle.build_effect.specs.FaultTexts.{graph_fault_text};
-
-    ghost debug_output = { λ fault. Some (graph_fault_text fault) };
-
-    fn fmt<W: fmt::Write>(&self, f: &mut fmt::Formatter<W>) -> fmt::Result {
-        fmt::Display::fmt(self, f)
-    }
-}
-
 /// Why a dyndep file has no effect on a graph. They are looked for in the order E8, E5, E4, E6, E7.
-#[derive(Drop, Error)]
+#[derive(Debug, Drop, Error)]
 pub enum EffectFault {
     /// E8: a text of a statement is no path. Statements count from 0, and in one its texts: the
     /// output, the implicit outputs, the implicit inputs.
@@ -120,17 +108,5 @@ impl fmt::Display for EffectFault {
             EffectFault::AddedTwice { .. } => "E7 AddedTwice",
         };
         f.write_str(name)
-    }
-}
-
-/// `Debug` prints what `Display` prints.
-impl fmt::Debug for EffectFault {
-    ghost use Rattle.std.specs.Prelude.{Some};
-    ghost use Rattle.build_effect.specs.FaultTexts.{effect_fault_text};
-
-    ghost debug_output = { λ fault. Some (effect_fault_text fault) };
-
-    fn fmt<W: fmt::Write>(&self, f: &mut fmt::Formatter<W>) -> fmt::Result {
-        fmt::Display::fmt(self, f)
     }
 }

@@ -7,7 +7,7 @@ use thiserror::Error;
 
 /// What is wrong with a line of an edge listing (Ninja 1.11 manual, "Build statements", "Lexical
 /// syntax").
-#[derive(Clone, Copy, PartialEq, Eq, Error)]
+#[derive(Clone, Copy, Debug, PartialEq, Eq, Error)]
 pub enum LineCause {
     /// N5: the first 1,048,576 bytes of the line hold no end.
     LineTooLong,
@@ -39,21 +39,9 @@ impl fmt::Display for LineCause {
     }
 }
 
-/// `Debug` prints what `Display` prints.
-impl fmt::Debug for LineCause {
-    ghost use Rattle.std.specs.Prelude.{Some};
-    ghost use Rattle.build_effect.specs.ListingFaultTexts.{line_cause_text};
-
-    ghost debug_output = { λ cause. Some (line_cause_text cause) };
-
-    fn fmt<W: fmt::Write>(&self, f: &mut fmt::Formatter<W>) -> fmt::Result {
-        fmt::Display::fmt(self, f)
-    }
-}
-
 /// E3: the first faulty line of an edge listing, or its end, and what is wrong there. Lines are
 /// counted from 1, and a line with continuations has the number of its first one.
-#[derive(Clone, Copy, PartialEq, Eq, Error)]
+#[derive(Clone, Copy, Debug, PartialEq, Eq, Error)]
 pub struct LineFault {
     pub line: u64,
     pub cause: LineCause,
@@ -70,21 +58,9 @@ impl fmt::Display for LineFault {
     }
 }
 
-/// `Debug` prints what `Display` prints.
-impl fmt::Debug for LineFault {
-    ghost use Rattle.std.specs.Prelude.{Some};
-    ghost use Rattle.build_effect.specs.ListingFaultTexts.{line_fault_text};
-
-    ghost debug_output = { λ fault. Some (line_fault_text fault) };
-
-    fn fmt<W: fmt::Write>(&self, f: &mut fmt::Formatter<W>) -> fmt::Result {
-        fmt::Display::fmt(self, f)
-    }
-}
-
 /// Why an edge listing gave no graph. The file that E1 and E2 are about is lent by the fault's
 /// `path`.
-#[derive(Drop, Error)]
+#[derive(Debug, Drop, Error)]
 pub enum ListingFault {
     /// E3: a line is faulty, or the listing's end is.
     AtLine(LineFault),
@@ -103,17 +79,5 @@ impl fmt::Display for ListingFault {
             ListingFault::AtLine(fault) => fmt::Display::fmt(fault, f),
             ListingFault::NoGraph(fault) => fmt::Display::fmt(fault, f),
         }
-    }
-}
-
-/// `Debug` prints what `Display` prints.
-impl fmt::Debug for ListingFault {
-    ghost use Rattle.std.specs.Prelude.{Some};
-    ghost use Rattle.build_effect.specs.ListingFaultTexts.{listing_fault_text};
-
-    ghost debug_output = { λ fault. Some (listing_fault_text fault) };
-
-    fn fmt<W: fmt::Write>(&self, f: &mut fmt::Formatter<W>) -> fmt::Result {
-        fmt::Display::fmt(self, f)
     }
 }

@@ -14,7 +14,7 @@ use std::fmt;
 use thiserror::Error;
 
 /// Why a graph was not written.
-#[derive(Clone, Copy, PartialEq, Eq, Error)]
+#[derive(Clone, Copy, Debug, PartialEq, Eq, Error)]
 pub enum ListingWriteFault {
     /// E9: the build line of this edge has more than 1,048,576 bytes, its end included; the first
     /// such edge is reported.
@@ -35,18 +35,6 @@ impl fmt::Display for ListingWriteFault {
             ListingWriteFault::ListingTooLong { .. } => f.write_str("E9 ListingTooLong"),
             ListingWriteFault::Io { written } => write!(f, "Y3 Io written {written}"),
         }
-    }
-}
-
-/// `Debug` prints what `Display` prints.
-impl fmt::Debug for ListingWriteFault {
-    ghost use Rattle.std.specs.Prelude.{Some};
-    ghost use Rattle.build_effect.specs.ListingFaultTexts.{listing_write_fault_text};
-
-    ghost debug_output = { λ fault. Some (listing_write_fault_text fault) };
-
-    fn fmt<W: fmt::Write>(&self, f: &mut fmt::Formatter<W>) -> fmt::Result {
-        fmt::Display::fmt(self, f)
     }
 }
 

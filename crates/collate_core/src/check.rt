@@ -55,10 +55,8 @@ pub fn check_edges_with_hasher<S: BuildHasher + Copy>(
     one_effect();
     level_orders();
     let new = rehearsed(alloc, collated, name, graph, hash_builder)?;
-    match edge_order_with_hasher(alloc, &new, hash_builder) {
-        Ok(sorting) => Ok(sorting),
-        Err(_) => Err(Failure::Memory),
-    }
+    let sorting = edge_order_with_hasher(alloc, &new, hash_builder)?;
+    Ok(sorting)
 }
 
 /// The graph after the effect of the collated target's dyndep file. Its text stands for statements,

@@ -4,31 +4,40 @@ use dyndep_file::ReadFault;
 use module_maps::MapFault;
 use module_table::TableFault;
 use scan_docs::DocFault;
+use thiserror::Error;
 
 /// Why a target does not collate. Of several faults the first in this order is reported, and of one
 /// kind the first by index.
-#[derive(Drop)]
+#[derive(Debug, Drop, Error)]
 pub enum Refusal {
     /// The scan document of this index is refused (S1 to S8), or takes the target's rules past
     /// their limit (S8).
+    #[error("scan {index}: {fault}")]
     Scan { index: usize, fault: DocFault },
     /// The info document of this index is refused (S1 to S8).
+    #[error("info {index}: {fault}")]
     Info { index: usize, fault: DocFault },
     /// The table of the documents has a fault (M1 to M10).
+    #[error(transparent)]
     Table { fault: TableFault },
     /// The build line of this object's statement is too long (Y2).
+    #[error("Y2 StatementTooLong statement {statement}")]
     StatementTooLong { statement: usize },
     /// The map of this object does not fit the style (K1, K2).
+    #[error("object {object}: {fault}")]
     Map { object: usize, fault: MapFault },
     /// A target of a project links one that is not earlier (K3).
+    #[error("K3 LinkedLater")]
     LinkedLater,
 }
 
 /// Why a rehearsal has no graph.
-#[derive(Drop)]
+#[derive(Debug, Drop, Error)]
 pub enum RehearseFault {
     /// The text is no dyndep file.
+    #[error(transparent)]
     Read { fault: ReadFault },
     /// Its statements have no effect on the graph.
+    #[error(transparent)]
     Effect { fault: EffectFault },
 }

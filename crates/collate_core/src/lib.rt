@@ -36,7 +36,10 @@
 //!
 //! It stands on `scan_docs` for documents, on `module_table` for modules by name, on `module_maps`
 //! for their maps, on `dyndep_file` for the texts, on `build_effect` and `dep_order` for builds, on
-//! `ninja_text` for paths, and on `indexmap` for the set of the names of private modules.
+//! `ninja_text` for paths, on `indexmap` for the set of the names of private modules, and on
+//! `thiserror` for its refusals.
+//!
+//! `must-fail/` has a wrong body of each public function but of the laws, which have none.
 #![tactic(auto)]
 
 mod builds;

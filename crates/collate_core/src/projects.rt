@@ -151,10 +151,7 @@ fn add_outs<M: MapStyle, S: BuildHasher + Copy>(
 fn failed_at(index: usize, failure: Failure<Refusal>) -> Failure<(usize, Refusal)>
     ensures { Turns (λ refusal refused. refused ≡ (index, refusal)) failure result }
 {
-    match failure {
-        Failure::Memory => Failure::Memory,
-        Failure::Fault(refusal) => Failure::Fault((index, refusal)),
-    }
+    failure.map(|refusal| (index, refusal))
 }
 
 /// Whether all indexes are below this one.

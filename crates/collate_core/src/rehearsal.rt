@@ -67,11 +67,8 @@ fn applied<S: BuildHasher + Copy>(
     ensures fault { IfErr result
         (ForFault (ForEffect (IsWithoutEffect graph.now name.now dyndep.now))) }
 {
-    match apply_with_hasher(alloc, graph, name, dyndep, hash_builder) {
-        Ok(new) => Ok(new),
-        Err(Failure::Memory) => Err(Failure::Memory),
-        Err(Failure::Fault(fault)) => Err(Failure::Fault(RehearseFault::Effect { fault })),
-    }
+    apply_with_hasher(alloc, graph, name, dyndep, hash_builder)
+        .map_err(|failure| failure.map(|fault| RehearseFault::Effect { fault }))
 }
 
 /// The statements of a text that is fed in pieces of these lengths.
@@ -85,14 +82,9 @@ fn read_pieces(alloc: Global, text: &[u8], cuts: &[usize]) -> Result<Dyndep, Fai
     for cut in cuts {
         let len = if *cut < rest.len() { *cut } else { rest.len() };
         let (piece, more) = rest.split_at(len);
-        match reader.feed(piece) {
-            Ok(()) => {}
-            Err(failure) => return Err(failure),
-        }
+        reader.feed(piece)?;
         rest = more;
     }
-    match reader.feed(rest) {
-        Ok(()) => reader.finish(),
-        Err(failure) => Err(failure),
-    }
+    reader.feed(rest)?;
+    reader.finish()
 }

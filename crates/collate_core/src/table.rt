@@ -63,11 +63,8 @@ fn built<S: BuildHasher + Copy>(
     ensures fault { IfErr result
         (ForFault (ForTable (IsReported (table_with objects.items infos.items) kept.now))) }
 {
-    match Table::build_with_hasher(alloc, objects, infos, kept, hash_builder) {
-        Ok(table) => Ok(table),
-        Err(Failure::Memory) => Err(Failure::Memory),
-        Err(Failure::Fault(fault)) => Err(Failure::Fault(Refusal::Table { fault })),
-    }
+    Table::build_with_hasher(alloc, objects, infos, kept, hash_builder)
+        .map_err(|failure| failure.map(|fault| Refusal::Table { fault }))
 }
 
 /// The rules of all scan documents, one document after another.
@@ -117,10 +114,8 @@ fn rules_of(
     ensures text { IfOk result (λ rules. All IsRuleText rules.items) }
     ensures refused { IfErr result (ForFault (IsRefused (scan_checks setting.now) document.now)) }
 {
-    match scan(alloc, document, setting) {
-        Ok(rules) => Ok(rules),
-        Err(failure) => Err(failure),
-    }
+    let rules = scan(alloc, document, setting)?;
+    Ok(rules)
 }
 
 /// The infos of all info documents.
@@ -152,8 +147,6 @@ fn info_of(alloc: Global, document: &[u8]) -> Result<Info, Failure<DocFault>>
     ensures text { IfOk result IsInfoText }
     ensures refused { IfErr result (ForFault (IsRefused info_checks document.now)) }
 {
-    match info_read(alloc, document) {
-        Ok(info) => Ok(info),
-        Err(failure) => Err(failure),
-    }
+    let info = info_read(alloc, document)?;
+    Ok(info)
 }

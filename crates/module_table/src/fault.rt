@@ -2,8 +2,8 @@
 
 use ninja_text::Path;
 use scan_docs::{Name, TargetName};
-use std::error::Error;
 use std::fmt;
+use thiserror::Error;
 
 /// Who makes a file: an object of the target, or the target of an info, by index.
 #[derive(Clone, Copy, Debug, PartialEq, Eq)]
@@ -18,7 +18,7 @@ pub enum Maker {
 /// Of M1 to M4 it is the repetition whose later member comes first, with its earliest partner, in
 /// the order: objects' own paths, provided modules by object, modules by info. Of M5 to M7, M9 and
 /// M10 it is the first requirement, by object or by info and module, or the first name.
-#[derive(Drop)]
+#[derive(Debug, Drop, Error)]
 pub enum TableFault {
     /// Two objects have one path.
     ObjectTwice {
@@ -107,19 +107,6 @@ impl fmt::Display for TableFault {
     ghost use Rattle.module_table.specs.FaultNames.{fault_name};
 
     ghost output = { λ fault. Some (fault_name fault) };
-
-    fn fmt<W: fmt::Write>(&self, f: &mut fmt::Formatter<W>) -> fmt::Result {
-        f.write_str(self.name())
-    }
-}
-
-impl Error for TableFault {}
-
-impl fmt::Debug for TableFault {
-    ghost use Rattle.std.specs.Prelude.{Some};
-    ghost use Rattle.module_table.specs.FaultNames.{fault_name};
-
-    ghost debug_output = { λ fault. Some (fault_name fault) };
 
     fn fmt<W: fmt::Write>(&self, f: &mut fmt::Formatter<W>) -> fmt::Result {
         f.write_str(self.name())

@@ -46,7 +46,13 @@
 //! alone of the proofs is cited by other crates.
 //!
 //! It stands on `scan_docs` for rules, infos and names, on `ninja_text` for paths, on `dep_order`
-//! for rings and for what a module leads to, and on `indexmap` for look-ups.
+//! for rings and for what a module leads to, on `indexmap` for look-ups, and on `thiserror` for its
+//! fault.
+//!
+//! `must-fail/` has a wrong body of each public function but of the laws, which have none, and of
+//! those that only hand on what a [`Resolved`] has: [`Table::objects`], [`Table::resolved`] and
+//! [`Table::into_resolved`]. `objects_left_out` and `required_by_the_first_object` are of what they
+//! hand on.
 #![tactic(auto)]
 
 mod checks;

@@ -18,11 +18,11 @@ ordered count Needs orderable (Order order) h = tt
 ordered count Needs orderable (Cycle cycle) h = absurd (h.0 orderable)
 
 -- said here, so that the order of another graph is refused soon
-pub returns-in-Ok-clause-sorted : goal.returns-in-Ok-clause-sorted
-returns-in-Ok-clause-sorted g c = (c.in_ok-new.new, c.in_ok-new.ensures.effect, c.in-Ok.ensures)
+pub returns-clause-sorted : goal.returns-clause-sorted
+returns-clause-sorted g c = (c.in_ok-new.new, c.in_ok-new.ensures.effect, c.in_ok-sorting.ensures)
 
-pub returns-in-Ok-clause-ordered : goal.returns-in-Ok-clause-ordered
-returns-in-Ok-clause-ordered g c = λ statements text meets level.
+pub returns-clause-ordered : goal.returns-clause-ordered
+returns-clause-ordered g c = λ statements text meets level.
     let old : List EdgeValue = c.args.graph.now in
     let new : List EdgeValue = c.in_ok-new.new in
     let found = c.in_ok-new.ensures.effect in
@@ -32,4 +32,4 @@ returns-in-Ok-clause-ordered g c = λ statements text meets level.
     let gives : Gives old c.args.name.now statements new = c.one_effect.ensures.gives old new c.args.name.now statements statements (are_canonical statements text.canonical) effect in
     let orderable : IsOrderable (length new) (EdgeNeeds new) =
     c.level_orders.ensures (dyndep_file c.args.name.now statements) old level.outputs new level.ranks meets gives level.has_outputs level.level text.orderable in
-    ordered (length new) (EdgeNeeds new) orderable c.in-Ok.sorting c.in-Ok.ensures
+    ordered (length new) (EdgeNeeds new) orderable c.in_ok-sorting.sorting c.in_ok-sorting.ensures
