@@ -3,16 +3,19 @@
 //! else; every other answer has to be the example's.
 
 use crate::bare::Bare;
-use crate::maps::is_read_back;
+use crate::common::value;
+use crate::maps::{entries_of_lines, entry_of_pair, is_read_back};
 use crate::rehearsals::{
-    LIBRARY, LIBRARY_AFTER, bytewise, checked_order, graph_of, is_order, order_after_effect,
-    rehearsed,
+    LIBRARY, LIBRARY_AFTER, WHOLE_EDGE, bytewise, checked_order, graph_of, is_order, listing_of,
+    order_after_effect, rehearsed, rehearsed_with_keys, whole_edge,
 };
 use crate::tables::is_answered;
 use crate::targets::{dyndep_alone, project_texts, texts_in_own_style};
+use build_effect::Graph;
 use module_maps::{Clang, Gcc};
 use scan_docs::{info_read, info_write};
 use std::alloc::Global;
+use std::hash::RandomState;
 use std::test::Fail;
 
 /// The info that is read in the document, as it is written.
@@ -60,6 +63,15 @@ fn maps_of_the_callers_own_style(rt: HostRuntime) -> Result<(), Fail> {
 }
 
 #[test]
+fn entries_of_what_helps_to_write_a_style(rt: HostRuntime) -> Result<(), Fail> {
+    let found = entries_of_lines(rt.alloc())?;
+    assert!(rt; found.as_slice() == b"A mod/A.bmi\nB mod/B.bmi\n".as_slice());
+    let found = entry_of_pair(rt.alloc())?;
+    assert!(rt; found.as_slice() == b"M:p mod/M=p.bmi\n".as_slice());
+    Ok(())
+}
+
+#[test]
 fn a_style_of_the_callers_own_is_collated_as_the_others(rt: HostRuntime) -> Result<(), Fail> {
     let found = texts_in_own_style(rt.alloc())?;
     let wanted =
@@ -91,6 +103,24 @@ fn rehearsing_byte_by_byte(rt: HostRuntime) -> Result<(), Fail> {
     let cuts = bytewise(rt.alloc())?;
     let found = rehearsed(rt.alloc(), &graph, &cuts)?;
     assert!(rt; found.as_slice() == LIBRARY_AFTER);
+    Ok(())
+}
+
+#[test]
+fn rehearsing_with_keys(rt: HostRuntime) -> Result<(), Fail> {
+    let found = rehearsed_with_keys(rt.alloc(), RandomState::new(&rt)?)?;
+    assert!(rt; found.as_slice() == LIBRARY_AFTER);
+    Ok(())
+}
+
+#[test]
+fn a_graph_of_the_callers_own_edges(rt: HostRuntime) -> Result<(), Fail> {
+    let alloc = rt.alloc();
+    let graph = value(Graph::new(alloc, whole_edge(alloc)?))?;
+    assert!(rt; listing_of(alloc, &graph)?.as_slice() == WHOLE_EDGE);
+    let keys = RandomState::new(&rt)?;
+    let graph = value(Graph::new_with_hasher(alloc, whole_edge(alloc)?, keys))?;
+    assert!(rt; listing_of(alloc, &graph)?.as_slice() == WHOLE_EDGE);
     Ok(())
 }
 

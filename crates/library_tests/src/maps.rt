@@ -2,6 +2,7 @@
 
 use crate::bare::Bare;
 use crate::common::{name, path, push_line, some, value};
+use module_maps::map_lines::{LineForm, pair_in, push_named};
 use module_maps::{Clang, Gcc, MapEntry, MapFault, MapStyle, ModuleMap};
 use ninja_text::{Failure, Path};
 use scan_docs::Name;
@@ -36,6 +37,24 @@ fn entries_text(alloc: Global, entries: &[MapEntry]) -> Result<Vec<u8>, AllocErr
         push_line(&mut out, entry.path.bytes())?;
     }
     Ok(out)
+}
+
+/// The entries of a line of GCC's form and of one of Clang's, which stands behind it.
+pub(crate) fn entries_of_lines(alloc: Global) -> Result<Vec<u8>, Fail> {
+    let mut entries = Vec::new(alloc);
+    let first = some(Gcc.entry(alloc, &entries, b"A mod/A.bmi")?)?;
+    entries.push(first)?;
+    let second = some(Clang.entry(alloc, &entries, b"-fmodule-file=B=mod/B.bmi")?)?;
+    entries.push(second)?;
+    Ok(entries_text(alloc, &entries)?)
+}
+
+/// The entry of a module that stands in a text as a name, `=` and a path.
+pub(crate) fn entry_of_pair(alloc: Global) -> Result<Vec<u8>, Fail> {
+    let pair = some(pair_in(alloc, b'=', b"M:p=mod/M=p.bmi")?)?;
+    let mut entries = Vec::new(alloc);
+    push_named(alloc, &mut entries, &[pair])?;
+    Ok(entries_text(alloc, &entries)?)
 }
 
 /// The entries that the style keeps of the map.
