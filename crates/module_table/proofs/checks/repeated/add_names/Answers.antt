@@ -11,7 +11,7 @@ use Rattle.module_table.proofs.Places.{to_map}
 use Rattle.module_table.proofs.IndexRows.{take_all}
 use Rattle.module_table.proofs.Rings.{length_mapped}
 use Rattle.module_table.proofs.Repetitions.{repeats_if_found, keys_if_new, differ_if_new, map_same}
-use Rattle.module_table.proofs.ReportLemmas.{for_fault, reports_provided_twice}
+use Rattle.module_table.proofs.ReportLemmas.{for_fault, for_made, reports_provided_twice}
 use Rattle.module_table.proofs.checks.repeated.add_names.Goals as goal
 
 abbrev name_of : Provision → List ℕ
@@ -52,7 +52,7 @@ returns-then-not-is_new-clause-fault g c =
     let is_twice : TableFault → Type 0 = IsProvidedTwice list first i in
     for_fault is_twice (λ fault. (t : TableValue) (kept : List (List ℕ)) → list ≡ provisions t → Reports 3 t kept fault) _
     (λ fault is t kept same. reports_provided_twice t kept first i fault list same repeated is)
-    c.in_ok-fault.ensures
+    (for_made is_twice c.provided_twice.result c.failure.result c.failure.ensures.fault c.failure.ensures.memory c.provided_twice.ensures)
 
 pub loop-index-preserved : goal.loop-index-preserved
 loop-index-preserved g c =

@@ -10,7 +10,7 @@ use Rattle.module_table.specs.inner.Reported.{Reports}
 use Rattle.module_table.proofs.IndexRows.{map_take_all}
 use Rattle.module_table.proofs.Places.{to_map}
 use Rattle.module_table.proofs.Repetitions.{repeats_if_found, keys_if_new, differ_if_new, text_repetition}
-use Rattle.module_table.proofs.ReportLemmas.{for_fault, reports_same}
+use Rattle.module_table.proofs.ReportLemmas.{for_fault, for_made, reports_same}
 use Rattle.module_table.proofs.checks.repeated.add_targets.Goals as goal
 
 abbrev text_of : Bor (List ℕ) → List ℕ
@@ -40,7 +40,7 @@ returns-then-not-is_new-clause-fault g c =
     for_fault is_twice (λ fault. (t : TableValue) (kept : List (List ℕ)) → infos ≡ t.infos → Reports 2 t kept fault) _
     (λ fault made t kept same.
     reports_same 2 t kept fault _ made (record { present = (first, i, subst (λ xs. IsFirstRepetition (λ a b. a ≡ b) (map target_of xs) first i target target) same is); coded = refl }))
-    c.in_ok-fault.ensures
+    (for_made is_twice c.info_twice.result c.failure.result c.failure.ensures.fault c.failure.ensures.memory c.info_twice.ensures)
 
 pub loop-info-preserved : goal.loop-info-preserved
 loop-info-preserved g c =

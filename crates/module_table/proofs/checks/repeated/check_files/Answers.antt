@@ -11,7 +11,7 @@ use Rattle.module_table.proofs.Places.{to_map, in_second}
 use Rattle.module_table.proofs.Rings.{length_mapped}
 use Rattle.module_table.proofs.IndexRows.{take_all}
 use Rattle.module_table.proofs.Repetitions.{repeats_if_found, keys_if_new, differ_if_new, take_behind}
-use Rattle.module_table.proofs.ReportLemmas.{for_fault, reported_made}
+use Rattle.module_table.proofs.ReportLemmas.{for_fault, for_made, reported_made}
 use Rattle.module_table.proofs.checks.repeated.check_files.Goals as goal
 
 abbrev text_of : Bor (List ℕ) → List ℕ
@@ -63,7 +63,7 @@ returns-then-not-is_new-clause-fault g c =
     reported_made t kept first (length objects + i) fault c.requires.differ repeats
     (subst (λ os. IsMadeTwice os (provisions t) first (length objects + i) fault) c.objects-objects.ensures
     (subst (λ ps. IsMadeTwice objects ps first (length objects + i) fault) c.provided-provided.ensures.provisions is)))
-    c.in_ok-fault.ensures
+    (for_made is_made c.made_twice.result c.failure.result c.failure.ensures.fault c.failure.ensures.memory c.made_twice.ensures)
 
 pub loop-index-init : goal.loop-index-init
 loop-index-init g c =

@@ -11,7 +11,7 @@ use Rattle.module_table.specs.inner.Reported.{Reports}
 use Rattle.module_table.proofs.IndexRows.{map_take_all}
 use Rattle.module_table.proofs.Places.{to_map}
 use Rattle.module_table.proofs.Repetitions.{repeats_if_found, keys_if_new, differ_if_new, text_repetition}
-use Rattle.module_table.proofs.ReportLemmas.{for_fault, reports_same}
+use Rattle.module_table.proofs.ReportLemmas.{for_fault, for_made, reports_same}
 use Rattle.module_table.proofs.checks.repeated.check_objects.Goals as goal
 
 abbrev text_of : Bor (List ℕ) → List ℕ
@@ -41,7 +41,7 @@ returns-then-not-is_new-clause-fault g c =
     for_fault is_twice (λ fault. (t : TableValue) (kept : List (List ℕ)) → objects ≡ t.objects → Reports 1 t kept fault) _
     (λ fault made t kept same.
     reports_same 1 t kept fault _ made (record { present = (first, i, subst (λ xs. IsFirstRepetition (λ a b. a ≡ b) (map object_of xs) first i path path) same is, refl, refl); coded = refl }))
-    c.in_ok-fault.ensures
+    (for_made is_twice c.object_twice.result c.failure.result c.failure.ensures.fault c.failure.ensures.memory c.object_twice.ensures)
 
 pub loop-index-preserved : goal.loop-index-preserved
 loop-index-preserved g c =
