@@ -63,8 +63,11 @@ fn built<S: BuildHasher + Copy>(
     ensures fault { IfErr result
         (ForFault (ForTable (IsReported (table_with objects.items infos.items) kept.now))) }
 {
-    Table::build_with_hasher(alloc, objects, infos, kept, hash_builder)
-        .map_err(|failure| failure.map(|fault| Refusal::Table { fault }))
+    match Table::build_with_hasher(alloc, objects, infos, kept, hash_builder) {
+        Ok(table) => Ok(table),
+        Err(Failure::Memory) => Err(Failure::Memory),
+        Err(Failure::Fault(fault)) => Err(Failure::Fault(Refusal::Table { fault })),
+    }
 }
 
 /// The rules of all scan documents, one document after another.
