@@ -1,6 +1,5 @@
 -- What the checks tell.
-use Rattle.std.proofs.Common.{◌≡◌, ℕ, zero, suc, ◌+◌, ◌<◌, ◌≤◌, ◌⊎◌, true, false, List, [], ◌∷◌, ◌++◌, length, map, take, Some, Result, Ok, Err, IfOk, OnErr, refl, ap, subst, sym, ◌∙◌, inl, inr, ⊎_elim, arith, slice_get}
-use Rattle.std.specs.declared.alloc.AllocError.{AllocError}
+use Rattle.std.proofs.Common.{◌≡◌, ℕ, zero, suc, ◌+◌, ◌<◌, ◌≤◌, ◌⊎◌, true, false, List, [], ◌∷◌, ◌++◌, length, map, take, Some, refl, ap, subst, sym, ◌∙◌, inl, inr, ⊎_elim, arith, slice_get}
 use Rattle.std.specs.List.{enumerate_from}
 use Rattle.std.proofs.lemmas.List.{map-append}
 use Rattle.std.proofs.lemmas.Option.{slice_get_within}
@@ -25,11 +24,6 @@ use Rattle.module_table.proofs.Repetitions.{repetition_of, in_take}
 pub for_fault : (P Q : TableFault → Type 0) (failure : Failure TableFault) → ((fault : TableFault) → P fault → Q fault) → ForFault P failure → ForFault Q failure
 for_fault P Q Memory to h = h
 for_fault P Q (Fault fault) to h = to fault h
-
--- a fault that was made, or want of memory for it
-pub for_made : (P : TableFault → Type 0) (made : Result TableFault AllocError) (failure : Failure TableFault) → IfOk made (λ fault. failure ≡ Fault fault) → OnErr made (failure ≡ Memory) → IfOk made P → ForFault P failure
-for_made P (Ok fault) failure is none h = subst (ForFault P) (sym is) h
-for_made P (Err error) failure is none h = subst (ForFault P) (sym none) tt
 
 -- a fault that is another one in other words
 pub reports_same : (code : ℕ) (t : TableValue) (kept : List (List ℕ)) (fault other : TableFault) → fault ≡ other → Reports code t kept other → Reports code t kept fault

@@ -1,9 +1,8 @@
 //! M1 to M4: what stands twice among the paths of objects, the targets of infos, the names of
 //! modules and the files.
-ghost use Rattle.std.specs.Prelude.{◌≡◌, ◌<◌, ◌+◌, ◌++◌, ℕ, List, map, length, slice_get, Some, IfOk, IfErr, OnOk, OnErr};
+ghost use Rattle.std.specs.Prelude.{◌≡◌, ◌<◌, ◌+◌, ◌++◌, ℕ, List, map, length, slice_get, Some, IfOk, IfErr, OnOk};
 ghost use Rattle.indexmap.specs.IndexSet.{IsEmpty};
 ghost use Rattle.ninja_text.specs.Failure.{ForFault};
-ghost use Rattle.ninja_text.specs.declared.failure.Failure.TheVariants.{Memory, Fault};
 ghost use Rattle.module_table.specs.TableValue.{TableValue, table_with};
 ghost use Rattle.module_table.specs.Modules.{provisions};
 ghost use Rattle.module_table.specs.Faults.{Claim, claims_of};
@@ -38,7 +37,8 @@ pub(crate) fn check_objects<'t, S: BuildHasher>(
     for (index, rule) in objects.iter().enumerate() {
         let (first, is_new) = paths.insert_full(&rule.object)?;
         if !is_new {
-            return Err(failure(object_twice(alloc, &rule.object, first, index)));
+            let fault = object_twice(alloc, &rule.object, first, index)?;
+            return Err(Failure::Fault(fault));
         }
     }
     Ok(())
@@ -91,7 +91,8 @@ fn add_targets<'t, S: BuildHasher>(
     for info in infos {
         let (_, is_new) = targets.insert_full(&info.target)?;
         if !is_new {
-            return Err(failure(info_twice(alloc, &info.target)));
+            let fault = info_twice(alloc, &info.target)?;
+            return Err(Failure::Fault(fault));
         }
     }
     Ok(())
@@ -156,7 +157,8 @@ fn add_names<S: BuildHasher>(
         let name = module.name.copy(alloc)?;
         let (first, is_new) = names.insert_full(name)?;
         if !is_new {
-            return Err(failure(provided_twice(alloc, provided, first, index)));
+            let fault = provided_twice(alloc, provided, first, index)?;
+            return Err(Failure::Fault(fault));
         }
     }
     Ok(())
@@ -204,7 +206,8 @@ pub(crate) fn check_files<'t, S: BuildHasher>(
     for (index, module) in provided.iter().enumerate() {
         let (first, is_new) = files.insert_full(module.file)?;
         if !is_new {
-            return Err(failure(made_twice(alloc, objects, provided, first, index)));
+            let fault = made_twice(alloc, objects, provided, first, index)?;
+            return Err(Failure::Fault(fault));
         }
     }
     Ok(())
@@ -243,16 +246,5 @@ fn maker_of(objects: &[Rule], provided: &[Module], index: usize) -> Maker
         Maker::Object(index)
     } else {
         module_at(provided, index - objects.len()).maker
-    }
-}
-
-/// The failure of a check: the fault, or want of memory for it.
-fn failure(fault: Result<TableFault, AllocError>) -> Failure<TableFault>
-    ensures fault { IfOk fault (λ made. result ≡ Fault made) }
-    ensures memory { OnErr fault (result ≡ Memory) }
-{
-    match fault {
-        Ok(fault) => Failure::Fault(fault),
-        Err(error) => Failure::from(error),
     }
 }

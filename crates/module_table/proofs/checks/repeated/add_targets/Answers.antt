@@ -1,16 +1,12 @@
 use Rattle.std.proofs.Common.{◌≡◌, ap, map, refl, subst, sym, ◌∙◌, List, ℕ, Bor, Some}
 use Rattle.std.proofs.lemmas.Option.{slice_get_read}
 use Rattle.scan_docs.specs.Info.{InfoValue}
-use Rattle.module_table.specs.TableValue.{TableValue}
 use Rattle.module_table.specs.Firsts.{IsFirstRepetition}
-use Rattle.module_table.specs.declared.fault.TableFault.{TableFault}
-use Rattle.module_table.specs.declared.fault.TableFault.TheVariants.{InfoTwice}
 use Rattle.module_table.specs.inner.Repetition.{AllDiffer}
-use Rattle.module_table.specs.inner.Reported.{Reports}
 use Rattle.module_table.proofs.IndexRows.{map_take_all}
 use Rattle.module_table.proofs.Places.{to_map}
 use Rattle.module_table.proofs.Repetitions.{repeats_if_found, keys_if_new, differ_if_new, text_repetition}
-use Rattle.module_table.proofs.ReportLemmas.{for_fault, for_made, reports_same}
+use Rattle.module_table.proofs.ReportLemmas.{reports_same}
 use Rattle.module_table.proofs.checks.repeated.add_targets.Goals as goal
 
 abbrev text_of : Bor (List ℕ) → List ℕ
@@ -36,11 +32,8 @@ returns-then-not-is_new-clause-fault g c =
     let stored = h.stored in
     let repeated = repeats_if_found text_of (map target_of infos) i _ c.loop-info.targets.keys c.insert_full.new.self.keys at c.loop-info.invariant.same c.loop-info.invariant.differ h.keys first (sym c.if-not-is_new.true ∙ h.added) stored.0 stored.1 stored.2 in
     let is = text_repetition (map target_of infos) first i target repeated at in
-    let is_twice : TableFault → Type 0 = λ fault. fault ≡ InfoTwice target in
-    for_fault is_twice (λ fault. (t : TableValue) (kept : List (List ℕ)) → infos ≡ t.infos → Reports 2 t kept fault) _
-    (λ fault made t kept same.
-    reports_same 2 t kept fault _ made (record { present = (first, i, subst (λ xs. IsFirstRepetition (λ a b. a ≡ b) (map target_of xs) first i target target) same is); coded = refl }))
-    (for_made is_twice c.info_twice.result c.failure.result c.failure.ensures.fault c.failure.ensures.memory c.info_twice.ensures)
+    λ t kept same.
+    reports_same 2 t kept c.in_ok-fault.fault _ c.in_ok-fault.ensures (record { present = (first, i, subst (λ xs. IsFirstRepetition (λ a b. a ≡ b) (map target_of xs) first i target target) same is); coded = refl })
 
 pub loop-info-preserved : goal.loop-info-preserved
 loop-info-preserved g c =

@@ -4,14 +4,12 @@ use Rattle.scan_docs.specs.Scan.{RuleValue}
 use Rattle.module_table.specs.Modules.{Provision, provisions}
 use Rattle.module_table.specs.inner.Repetition.{AllDiffer, RepeatsFirst}
 use Rattle.module_table.specs.inner.Views.{provision_of, files_of, IsMadeTwice}
-use Rattle.module_table.specs.inner.Reported.{Reports}
-use Rattle.module_table.specs.declared.fault.TableFault.{TableFault}
 use Rattle.module_table.specs.declared.modules.Module.{Module}
 use Rattle.module_table.proofs.Places.{to_map, in_second}
 use Rattle.module_table.proofs.Rings.{length_mapped}
 use Rattle.module_table.proofs.IndexRows.{take_all}
 use Rattle.module_table.proofs.Repetitions.{repeats_if_found, keys_if_new, differ_if_new, take_behind}
-use Rattle.module_table.proofs.ReportLemmas.{for_fault, for_made, reported_made}
+use Rattle.module_table.proofs.ReportLemmas.{reported_made}
 use Rattle.module_table.proofs.checks.repeated.check_files.Goals as goal
 
 abbrev text_of : Bor (List ℕ) → List ℕ
@@ -57,13 +55,11 @@ returns-then-not-is_new-clause-fault g c =
     let repeated = repeats_if_found text_of (map object_of objects ++ files_of (map provision_of provided)) (length objects + i) _ c.loop-index.files.keys c.insert_full.new.self.keys
     (file_at objects provided i p (slice_get_read provided _ i p refl c.loop-index-test.true c.index-provided-index.is)) c.loop-index.invariant.same c.loop-index.invariant.differ h.keys first (sym c.if-not-is_new.true ∙ h.added) stored.0 stored.1 stored.2 in
     let repeats = subst (λ os. RepeatsFirst (map object_of os ++ files_of (provisions t)) first (length objects + i)) c.objects-objects.ensures (subst (λ ps. RepeatsFirst (map object_of objects ++ files_of ps) first (length objects + i)) c.provided-provided.ensures.provisions repeated) in
-    let is_made : TableFault → Type 0 = IsMadeTwice objects (map provision_of provided) first (length objects + i) in
-    for_fault is_made (λ fault. (kept : List (List ℕ)) → Reports 4 t kept fault) _
-    (λ fault is kept.
+    let fault = c.in_ok-fault.fault in
+    λ kept.
     reported_made t kept first (length objects + i) fault c.requires.differ repeats
     (subst (λ os. IsMadeTwice os (provisions t) first (length objects + i) fault) c.objects-objects.ensures
-    (subst (λ ps. IsMadeTwice objects ps first (length objects + i) fault) c.provided-provided.ensures.provisions is)))
-    (for_made is_made c.made_twice.result c.failure.result c.failure.ensures.fault c.failure.ensures.memory c.made_twice.ensures)
+    (subst (λ ps. IsMadeTwice objects ps first (length objects + i) fault) c.provided-provided.ensures.provisions c.in_ok-fault.ensures))
 
 pub loop-index-init : goal.loop-index-init
 loop-index-init g c =

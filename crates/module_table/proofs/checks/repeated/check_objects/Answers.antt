@@ -1,17 +1,12 @@
 use Rattle.std.proofs.Common.{◌≡◌, ap, map, refl, subst, sym, ◌∙◌, List, ℕ, Bor, Some}
 use Rattle.std.proofs.lemmas.Option.{slice_get_read}
 use Rattle.scan_docs.specs.Scan.{RuleValue}
-use Rattle.module_table.specs.TableValue.{TableValue}
 use Rattle.module_table.specs.Firsts.{IsFirstRepetition}
-use Rattle.module_table.specs.declared.fault.Maker.TheVariants.{Object}
-use Rattle.module_table.specs.declared.fault.TableFault.{TableFault}
-use Rattle.module_table.specs.declared.fault.TableFault.TheVariants.{ObjectTwice}
 use Rattle.module_table.specs.inner.Repetition.{AllDiffer}
-use Rattle.module_table.specs.inner.Reported.{Reports}
 use Rattle.module_table.proofs.IndexRows.{map_take_all}
 use Rattle.module_table.proofs.Places.{to_map}
 use Rattle.module_table.proofs.Repetitions.{repeats_if_found, keys_if_new, differ_if_new, text_repetition}
-use Rattle.module_table.proofs.ReportLemmas.{for_fault, for_made, reports_same}
+use Rattle.module_table.proofs.ReportLemmas.{reports_same}
 use Rattle.module_table.proofs.checks.repeated.check_objects.Goals as goal
 
 abbrev text_of : Bor (List ℕ) → List ℕ
@@ -37,11 +32,8 @@ returns-then-not-is_new-clause-fault g c =
     let stored = h.stored in
     let repeated = repeats_if_found text_of (map object_of objects) i _ c.loop-index.paths.keys c.insert_full.new.self.keys at c.loop-index.invariant.same c.loop-index.invariant.differ h.keys first (sym c.if-not-is_new.true ∙ h.added) stored.0 stored.1 stored.2 in
     let is = text_repetition (map object_of objects) first i path repeated at in
-    let is_twice : TableFault → Type 0 = λ fault. fault ≡ ObjectTwice path (Object first) (Object i) in
-    for_fault is_twice (λ fault. (t : TableValue) (kept : List (List ℕ)) → objects ≡ t.objects → Reports 1 t kept fault) _
-    (λ fault made t kept same.
-    reports_same 1 t kept fault _ made (record { present = (first, i, subst (λ xs. IsFirstRepetition (λ a b. a ≡ b) (map object_of xs) first i path path) same is, refl, refl); coded = refl }))
-    (for_made is_twice c.object_twice.result c.failure.result c.failure.ensures.fault c.failure.ensures.memory c.object_twice.ensures)
+    λ t kept same.
+    reports_same 1 t kept c.in_ok-fault.fault _ c.in_ok-fault.ensures (record { present = (first, i, subst (λ xs. IsFirstRepetition (λ a b. a ≡ b) (map object_of xs) first i path path) same is, refl, refl); coded = refl })
 
 pub loop-index-preserved : goal.loop-index-preserved
 loop-index-preserved g c =
