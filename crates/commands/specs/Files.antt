@@ -1,10 +1,12 @@
--- The files that a task reads besides its own, and those that it writes.
-use Rattle.std.specs.Prelude.{◌≡◌, ℕ, List, [], ◌∷◌, ◌++◌, length, take, All, slice_get, Some, Result, Ok, Err, String, Vec, string_bytes, codes}
+-- The files that a task reads besides its own, and what is read and written by calls.
+use Rattle.std.specs.Prelude.{◌≡◌, ℕ, List, [], ◌∷◌, ◌++◌, map, Result, Ok, Err, IfOk, String, Vec, codes}
 use Rattle.std.specs.Global.{Global}
+use Rattle.std.specs.declared.alloc.AllocError.{AllocError}
 use Rattle.std.specs.declared.io.Error.{Error}
 use Rattle.scan_docs.specs.Target as document
 use Rattle.commands.specs.declared.answer.Answer.{Answer}
-use Rattle.commands.specs.Answers.{Fails}
+use Rattle.commands.specs.Answers.{Fails, file_value}
+use Rattle.commands.specs.Folder.{FileCall, reading, writing}
 use Rattle.scan_docs.specs.Project.{ProjectValue}
 use Rattle.commands.specs.CollateCommand.{FileValue, HasSpec, names_in}
 use Rattle.commands.specs.ProjectCommand.{HasProject, names_of_target}
@@ -54,45 +56,42 @@ FurtherNamesOf (show dyndep) files names = names ≡ []
 FurtherNamesOf (effect name edges dyndep) files names = names ≡ []
 FurtherNamesOf (order edges) files names = names ≡ []
 
--- ---- calls that read and write files
+-- ---- what was read and written
 
--- what a call that reads files may answer for a name
-abbrev pub ReadAnswers : Type 1
-ReadAnswers = List ℕ → Result (Vec ℕ Global) Error → Type 0
+-- the calls that read these files
+abbrev pub reads_of : List FileValue → List FileCall
+reads_of = map (λ file. reading file.0 (Ok file.1))
 
--- the call answers the file's bytes for its name
-abbrev pub IsRead : ReadAnswers → String Global × Vec ℕ Global → Type 0
-IsRead Answers (name, bytes) = Answers (string_bytes name) (Ok bytes)
+-- the calls that wrote these files
+abbrev pub writes_of : List FileValue → List FileCall
+writes_of = map (λ file. writing file.0 file.1 (Ok tt))
 
--- so many files were read: those of all names, or the call answers an error for the next name
-pub data EndsReading (Answers : ReadAnswers) (names : List (List ℕ)) (count : ℕ) : Type 0 where
-  all_read : count ≡ length names → EndsReading Answers names count
-  one_unread : (name : List ℕ) (error : Error) → slice_get names count ≡ Some name →
-      Answers name (Err error) → EndsReading Answers names count
+-- These calls read these files, which have the names, in order, each once; or the first of them,
+-- and then the next call answered an error.
+pub data EndsReading (names : List (List ℕ)) (files : List FileValue) (calls : List FileCall)
+    : Type 0 where
+  all_read : names ≡ map (λ file. file.0) files → calls ≡ reads_of files →
+      EndsReading names files calls
+  one_unread : (name : List ℕ) (others : List (List ℕ)) (error : Error) →
+      names ≡ map (λ file. file.0) files ++ name ∷ others →
+      calls ≡ reads_of files ++ reading name (Err error) ∷ [] → EndsReading names files calls
 
--- what a call that writes files may answer for a name and bytes
-abbrev pub WriteAnswers : Type 1
-WriteAnswers = List ℕ → List ℕ → Result (Unit {0}) Error → Type 0
+-- The files that were kept are those that the calls read. Where memory was refused, the calls end
+-- at some of the names.
+abbrev pub IsRead : List (List ℕ) → List FileCall
+    → Result (Vec (String Global × Vec ℕ Global) Global) AllocError → Type 0
+IsRead names calls (Ok files) = EndsReading names (map file_value files.items) calls
+IsRead names calls (Err refused) =
+    (first : List (List ℕ)) × (others : List (List ℕ)) × (names ≡ first ++ others)
+    × ((files : List FileValue) × EndsReading first files calls)
 
--- the call takes all bytes of the file
-abbrev pub IsTaken : WriteAnswers → String Global × Vec ℕ Global → Type 0
-IsTaken Answers (name, bytes) = Answers (string_bytes name) bytes.items (Ok tt)
-
--- The file at this index is the first that could not be written, and the run fails with its name.
-pub record IsUnwritten (Answers : WriteAnswers) (files : List (String Global × Vec ℕ Global))
-    (answer : Answer) : Type 0 where
-  pub index : ℕ
-  pub before : All (IsTaken Answers) (take index files)
-  pub name : String Global
-  pub bytes : Vec ℕ Global
-  pub here : slice_get files index ≡ Some (name, bytes)
-  pub error : Error
-  pub refused : Answers (string_bytes name) bytes.items (Err error)
-  pub fails : Fails 3 (codes "cannot write " ++ string_bytes name) answer
-
--- What is left of a run's answer once its files were to be written: itself, where all of them were,
--- or the name of the first that was not.
-pub data IsWritten (Answers : WriteAnswers) (answer : Answer) (new : Answer) : Type 0 where
-  all_written : All (IsTaken Answers) answer.files.items → new ≡ answer →
-      IsWritten Answers answer new
-  one_unwritten : IsUnwritten Answers answer.files.items new → IsWritten Answers answer new
+-- The calls wrote the files of an answer, in order, each once, and the answer is left. Or they
+-- wrote those before one, the call for that one answered an error, and the run fails with its name.
+pub data IsWritten (answer : Answer) (calls : List FileCall) (result : Result Answer AllocError)
+    : Type 0 where
+  all_written : calls ≡ writes_of (map file_value answer.files.items) → result ≡ Ok answer →
+      IsWritten answer calls result
+  one_unwritten : (before after : List FileValue) (file : FileValue) (error : Error) →
+      map file_value answer.files.items ≡ before ++ file ∷ after →
+      calls ≡ writes_of before ++ writing file.0 file.1 (Err error) ∷ [] →
+      IfOk result (Fails 3 (codes "cannot write " ++ file.0)) → IsWritten answer calls result

@@ -5,6 +5,7 @@ pub mod EdgeChecks
 pub mod EdgeFaults
 pub mod Effect
 pub mod Files
+pub mod Folder
 pub mod Listings
 pub mod One
 pub mod Order

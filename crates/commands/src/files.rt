@@ -1,13 +1,14 @@
 //! The files that a task reads besides its own, and those that it writes.
 
-ghost use Rattle.std.specs.Prelude.{◌≡◌, ◌++◌, map, option_map, take, length, string_bytes, All, IfOk};
-ghost use Rattle.std.specs.Fn.{FnReturnsAt, FnReturnsAtPair};
+ghost use Rattle.std.specs.Prelude.{◌≡◌, ◌++◌, map, option_map, string_bytes, IfOk};
 ghost use Rattle.command_line.specs.Tasks.{task_value};
 ghost use Rattle.commands.specs.Answers.{file_value};
 ghost use Rattle.commands.specs.CollateCommand.{list_of};
-ghost use Rattle.commands.specs.Files.{NamesIn, NamesInProject, NamesInTarget, NamesInTargets, NamesOf, FurtherNamesOf, IsRead, EndsReading, IsWritten};
+ghost use Rattle.commands.specs.Files.{NamesIn, NamesInProject, NamesInTarget, NamesInTargets, NamesOf, FurtherNamesOf, IsRead, IsWritten};
+ghost use Rattle.commands.specs.Folder.{Makes};
 
 use crate::answer::Answer;
+use crate::folder::Folder;
 use command_line::Task;
 use ninja_text::Failure;
 use scan_docs::{project_read, spec_read};
@@ -134,24 +135,18 @@ fn with_listing(names: Vec<String>, edges: Option<String>) -> Result<Vec<String>
     Ok(names)
 }
 
-/// The files of these names, read in order by this call, up to the first that can't be read.
-pub fn read_files<F: Fn(&str) -> io::Result<Vec<u8>>>(
+/// Reads the files of these names, in order, up to the first that can't be read.
+pub fn read_files<F: Folder>(
     alloc: Global,
     names: &[String],
-    read: F,
+    folder: &mut F,
 ) -> Result<Vec<(String, Vec<u8>)>, AllocError>
-    requires { F.IsAlwaysCallable read }
-    ensures names { IfOk result (λ files. map (λ file. string_bytes file.0) files.items
-        ≡ take (length files.items) (map string_bytes names.now)) }
-    // the call answered these bytes
-    ensures bytes { IfOk result (λ files. All (IsRead (FnReturnsAt F.Fn read)) files.items) }
-    // and an error for the next name, if there is one
-    ensures end { IfOk result (λ files. EndsReading (FnReturnsAt F.Fn read)
-        (map string_bytes names.now) (length files.items)) }
+    ensures { Makes (F.calls folder.old) (F.calls folder.new)
+        (λ calls. IsRead (map string_bytes names.now) calls result) }
 {
     let mut files = Vec::with_capacity(alloc, names.len())?;
     for name in names {
-        match read(name.as_str()) {
+        match folder.read(name.as_str()) {
             Ok(bytes) => files.push((String::from_str(alloc, name.as_str())?, bytes))?,
             Err(error) if error.kind() == ErrorKind::OutOfMemory => return Err(AllocError),
             Err(_) => return Ok(files),
@@ -160,18 +155,18 @@ pub fn read_files<F: Fn(&str) -> io::Result<Vec<u8>>>(
     Ok(files)
 }
 
-/// Writes the files of an answer by this call, in order, up to the first that can't be written. The
-/// answer is left, or the name of that file; the files before it stay.
-pub fn write_files<F: Fn(&str, &[u8]) -> io::Result<()>>(
+/// Writes the files of an answer, in order, up to the first that can't be written. The answer is
+/// left, or the name of that file; the files before it stay.
+pub fn write_files<F: Folder>(
     alloc: Global,
     answer: Answer,
-    write: F,
+    folder: &mut F,
 ) -> Result<Answer, AllocError>
-    requires { F.IsAlwaysCallable write }
-    ensures { IfOk result (IsWritten (FnReturnsAtPair F.Fn write) answer) }
+    ensures { Makes (F.calls folder.old) (F.calls folder.new)
+        (λ calls. IsWritten answer calls result) }
 {
     for file in &answer.files {
-        if write(file.0.as_str(), file.1.as_slice()).is_err() {
+        if folder.write(file.0.as_str(), file.1.as_slice()).is_err() {
             return Answer::unwritten(alloc, file.0.as_str());
         }
     }

@@ -1,7 +1,7 @@
 //! The commands of the program `dyncollate`, from the bytes of the files that they name to what
 //! the program answers: its exit status, its texts for standard output and standard error, and the
 //! files to be written; and the way of a run from its task to what is written and printed. No
-//! function makes a call of the system: `main` hands these in.
+//! function makes a call of the system: `main` hands in a [`Folder`] and two writers.
 //!
 //! - [`one_run`], [`collate_run`], [`project_run`], [`effect_files`], [`order_run`] and
 //!   [`show_run`] are the commands of these names, and their contracts are what the program
@@ -10,7 +10,8 @@
 //! - [`task_run`] answers a task by what reading its files gave: it calls the command
 //!   (`specs/Runs.antt`).
 //! - [`names_of`] and [`further_names`] say which files a task reads besides its own, [`read_files`]
-//!   reads files, and [`write_files`] writes those of an answer (`specs/Files.antt`).
+//!   reads files from a [`Folder`], and [`write_files`] writes those of an answer to one
+//!   (`specs/Files.antt`, `Folder.antt`).
 //! - [`print`] writes an answer's texts and gives the exit status (`specs/Printing.antt`).
 //! - [`Answer`] is what a command answers, and the line that it fails with (`specs/Answers.antt`).
 //! - `target_document` is an accepted target document, and `project_targets` the targets of a
@@ -33,6 +34,7 @@ mod edge_fault;
 mod edges;
 mod effect;
 mod files;
+mod folder;
 mod listing;
 mod one;
 mod order;
@@ -50,6 +52,7 @@ pub use answer::Answer;
 pub use collate::collate_run;
 pub use effect::effect_files;
 pub use files::{further_names, names_of, read_files, write_files};
+pub use folder::Folder;
 pub use one::one_run;
 pub use order::order_run;
 pub use printing::print;

@@ -6,14 +6,14 @@
 //!
 //! What it does between the calls of the system stands, with its promises, in the libraries
 //! `command_line` and `commands`. What is left to `main` is to get the arguments and random bytes,
-//! to hand the calls that read and write files to `commands`, and to end with the status.
+//! to hand the files of the system to `commands` as a folder, and to end with the status.
 //!
 //! It stands on `command_line` for the task of its arguments, on `commands` for a run from its task
 //! to what is printed, and on `ninja_text` for writers whose calls are counted.
 #![tactic(auto)]
 
 use command_line::{Task, task_of};
-use commands::{Answer, further_names, names_of, print, read_files, task_run, write_files};
+use commands::{Answer, Folder, further_names, names_of, print, read_files, task_run, write_files};
 use ninja_text::Counted;
 use std::alloc::AllocError;
 use std::hash::RandomState;
@@ -21,7 +21,7 @@ use std::io::ErrorKind;
 use std::process::ExitCode;
 use std::random::RandomSource;
 use std::rt::{Env, Files};
-use std::{env, fs};
+use std::{env, fs, io};
 
 fn main(rt: HostRuntime) -> ExitCode {
     let answer = answer_of(&rt);
@@ -55,16 +55,33 @@ fn task_answer<R: Files + AllocGlobal>(
     task: &Task,
 ) -> Result<Answer, AllocError> {
     let alloc = rt.alloc();
-    let read = fs::read(rt, task.file());
+    let mut folder = SystemFiles { rt };
+    let read = folder.read(task.file());
     let names = names_of(alloc, task, &read)?;
-    let mut files = read_files(alloc, &names, |name: &str| fs::read(rt, name))?;
+    let mut files = read_files(alloc, &names, &mut folder)?;
     let names = further_names(alloc, task, &files)?;
-    let mut further = read_files(alloc, &names, |name: &str| fs::read(rt, name))?;
+    let mut further = read_files(alloc, &names, &mut folder)?;
     files.append(&mut further)?;
     let answer = task_run(alloc, keys, task, read, &files)?;
-    write_files(
-        alloc,
-        answer,
-        |name: &str, bytes: &[u8]| fs::write(rt, name, bytes),
-    )
+    write_files(alloc, answer, &mut folder)
+}
+
+/// The files of the system.
+#[derive(Drop)]
+struct SystemFiles<'a, R> {
+    rt: &'a R,
+}
+
+impl<R: Files + AllocGlobal> Folder for SystemFiles<'_, R> {
+    ghost use Rattle.std.specs.Prelude.{None};
+
+    ghost calls = { λ _. None };
+
+    fn read(&mut self, name: &str) -> io::Result<Vec<u8>> {
+        fs::read(self.rt, name)
+    }
+
+    fn write(&mut self, name: &str, bytes: &[u8]) -> io::Result<()> {
+        fs::write(self.rt, name, bytes)
+    }
 }

@@ -1,56 +1,88 @@
-use Rattle.std.proofs.Common.{rules, ◌≡◌, ℕ, ◌+◌, [], ◌∷◌, ◌++◌, length, map, take, string_bytes, refl, ap, sym, subst, ◌∙◌}
-use Rattle.std.specs.Prelude.{All, Ok, Err, Some, String, Vec, slice_get, option_map}
-use Rattle.std.specs.Global.{Global}
-use Rattle.std.specs.Fn.{FnReturnsAt}
-use Rattle.std.proofs.lemmas.Fn.{says_at}
-use Rattle.std.proofs.lemmas.List.{map-append, take-map, take_more}
-use Rattle.std.proofs.lemmas.Option.{slice_get-map, slice_get_read}
-use Rattle.commands.specs.Files.{IsRead, one_unread}
-use Rattle.commands.proofs.FileCalls.{all_more}
+use Rattle.std.proofs.Common.{rules, ◌≡◌, ℕ, ◌+◌, [], ◌∷◌, List, drop, map, string_bytes, subst}
+use Rattle.std.specs.Prelude.{Ok, Err}
+use Rattle.std.proofs.lemmas.Result.{err_from_is_err_and}
+use Rattle.commands.specs.Answers.{file_value}
+use Rattle.commands.specs.CollateCommand.{FileValue}
+use Rattle.commands.specs.Folder.{Adds, reading}
+use Rattle.commands.proofs.FileCalls.{next_name, refused, refused_behind, refused_first, refused_there, unread}
 use Rattle.commands.proofs.files.read_files.Goals as goal
 
-pub loop-name-preserved : goal.loop-name-preserved
-loop-name-preserved g c =
+pub returns-in_err-files : goal.returns-in_err-files
+returns-in_err-files g c =
+    let known = g.F.Folder.calls c.args.folder.now in
+    let names : List (List ℕ) = map string_bytes c.args.names.now in
+    let is : c.from_residual.result ≡ Err c.in_err-files.field-0.0 = search rules in
+    refused known known names c.from_residual.result c.in_err-files.field-0.0 is (refused_first known names)
+
+pub returns-in_err-from_str-in-Ok : goal.returns-in_err-from_str-in-Ok
+returns-in_err-from_str-in-Ok g c =
     let i : ℕ = c.loop-name.name-index in
-    let files = c.loop-name.files.items in
-    let file : String Global × Vec ℕ Global = (c.in_ok-from_str-in-Ok.field-0, c.in-Ok.bytes) in
-    let name : c.as_str.result.now ≡ string_bytes file.0 = search rules in
-    let read : IsRead (FnReturnsAt g.F.Fn c.args.read) file =
-    subst (λ n. FnReturnsAt g.F.Fn c.args.read n (Ok c.in-Ok.bytes)) name
-    (says_at g.F.Fn c.in-Ok.ensures refl) in
-    let item = c.name-item.result in
     let all = c.args.names.now in
-    let next : take (i + 1) all ≡ take i all ++ item ∷ [] =
-    take_more all i item c.loop-name-test.true ∙ ap (λ n. take i all ++ n ∷ []) (sym c.name-item.is) in
-    let names : map (λ f. string_bytes f.0) c.push.new.self.items ≡ map string_bytes (take (i + 1) all) =
-    ap (map (λ f. string_bytes f.0)) c.in_ok-push-in-Ok.ensures.items
-    ∙ map-append (λ f. string_bytes f.0) files (file ∷ [])
-    ∙ ap (λ ns. ns ++ string_bytes file.0 ∷ []) c.loop-name.invariant.0
-    ∙ ap (λ n. map string_bytes (take i all) ++ n ∷ []) (sym name ∙ c.as_str.ensures.value)
-    ∙ sym (ap (map string_bytes) next ∙ map-append string_bytes (take i all) (item ∷ [])) in
-    let count : length c.push.new.self.items ≡ i + 1 = search rules in (
-      names,
-      count,
-      subst (All (IsRead (FnReturnsAt g.F.Fn c.args.read))) (sym c.in_ok-push-in-Ok.ensures.items)
-          (all_more (IsRead (FnReturnsAt g.F.Fn c.args.read)) files file c.loop-name.invariant.2 read),
-      c.loop-name.invariant.3,
-    )
+    let start = g.F.Folder.calls c.args.folder.now in
+    let before = g.F.Folder.calls c.loop-name.folder in
+    let behind = g.F.Folder.calls c.read.new.self in
+    let names : List (List ℕ) = map string_bytes all in
+    let files : List FileValue = map file_value c.loop-name.files.items in
+    let file : FileValue = (string_bytes c.name-item.result, c.in-Ok.bytes.items) in
+    let are = next_name all i c.name-item.result files c.loop-name.invariant.names c.loop-name-test.true c.name-item.is in
+    let more : Adds before behind (reading file.0 (Ok file.1) ∷ []) =
+    subst (λ name. Adds before behind (reading name (Ok file.1) ∷ [])) c.as_str.ensures.value c.in-Ok.ensures in
+    let given = c.from_residual-in_err-from_str-in-Ok.result in
+    let is : given ≡ Err c.in_err-from_str-in-Ok.field-0.0 = search rules in
+    refused start behind names given c.in_err-from_str-in-Ok.field-0.0 is
+    (refused_behind start before behind names (map string_bytes (drop (i + 1) all)) files file
+    c.loop-name.invariant.calls more are)
 
-pub returns-in-Err-2-clause-names : goal.returns-in-Err-2-clause-names
-returns-in-Err-2-clause-names g c =
-    c.loop-name.invariant.0
-    ∙ sym (take-map string_bytes c.loop-name.name-index c.args.names.now)
-    ∙ ap (λ n. take n (map string_bytes c.args.names.now)) (sym c.loop-name.invariant.1)
-
--- the name whose file can't be read
-pub returns-in-Err-2-clause-end : goal.returns-in-Err-2-clause-end
-returns-in-Err-2-clause-end g c =
+pub returns-in_err-push-in-Ok : goal.returns-in_err-push-in-Ok
+returns-in_err-push-in-Ok g c =
     let i : ℕ = c.loop-name.name-index in
-    let name = c.name-item.result in
-    let here : slice_get (map string_bytes c.args.names.now) i ≡ Some (string_bytes name) =
-    slice_get-map string_bytes c.args.names.now i
-    ∙ ap (option_map string_bytes) (slice_get_read c.args.names.now _ i name refl c.loop-name-test.true c.name-item.is) in
-    one_unread (string_bytes name) c.in-Err-2.field-0
-    (ap (slice_get (map string_bytes c.args.names.now)) c.loop-name.invariant.1 ∙ here)
-    (subst (λ n. FnReturnsAt g.F.Fn c.args.read n (Err c.in-Err-2.field-0)) c.as_str.ensures.value
-    (says_at g.F.Fn c.in-Err-2.ensures refl))
+    let all = c.args.names.now in
+    let start = g.F.Folder.calls c.args.folder.now in
+    let before = g.F.Folder.calls c.loop-name.folder in
+    let behind = g.F.Folder.calls c.read.new.self in
+    let names : List (List ℕ) = map string_bytes all in
+    let files : List FileValue = map file_value c.loop-name.files.items in
+    let file : FileValue = (string_bytes c.name-item.result, c.in-Ok.bytes.items) in
+    let are = next_name all i c.name-item.result files c.loop-name.invariant.names c.loop-name-test.true c.name-item.is in
+    let more : Adds before behind (reading file.0 (Ok file.1) ∷ []) =
+    subst (λ name. Adds before behind (reading name (Ok file.1) ∷ [])) c.as_str.ensures.value c.in-Ok.ensures in
+    let given = c.from_residual-in_err-push-in-Ok.result in
+    let error = err_from_is_err_and given c.from_residual-in_err-push-in-Ok.ensures.1 in
+    refused start behind names given error.0 error.1
+    (refused_behind start before behind names (map string_bytes (drop (i + 1) all)) files file
+    c.loop-name.invariant.calls more are)
+
+-- the file that can't be read, for want of memory
+pub returns-in-Err : goal.returns-in-Err
+returns-in-Err g c =
+    let i : ℕ = c.loop-name.name-index in
+    let all = c.args.names.now in
+    let start = g.F.Folder.calls c.args.folder.now in
+    let before = g.F.Folder.calls c.loop-name.folder in
+    let behind = g.F.Folder.calls c.read.new.self in
+    let names : List (List ℕ) = map string_bytes all in
+    let name : List ℕ = string_bytes c.name-item.result in
+    let files : List FileValue = map file_value c.loop-name.files.items in
+    let are = next_name all i c.name-item.result files c.loop-name.invariant.names c.loop-name-test.true c.name-item.is in
+    let more : Adds before behind (reading name (Err c.in-Err.error) ∷ []) =
+    subst (λ n. Adds before behind (reading n (Err c.in-Err.error) ∷ [])) c.as_str.ensures.value c.in-Err.ensures in
+    refused_there start behind names files
+    (unread start before behind names (map string_bytes (drop (i + 1) all)) files name c.in-Err.error
+    c.loop-name.invariant.calls more are)
+
+-- or for another reason
+pub returns-in-Err-2 : goal.returns-in-Err-2
+returns-in-Err-2 g c =
+    let i : ℕ = c.loop-name.name-index in
+    let all = c.args.names.now in
+    let start = g.F.Folder.calls c.args.folder.now in
+    let before = g.F.Folder.calls c.loop-name.folder in
+    let behind = g.F.Folder.calls c.read.new.self in
+    let name : List ℕ = string_bytes c.name-item.result in
+    let error = c.in-Err-2.field-0 in
+    let files : List FileValue = map file_value c.loop-name.files.items in
+    let are = next_name all i c.name-item.result files c.loop-name.invariant.names c.loop-name-test.true c.name-item.is in
+    let more : Adds before behind (reading name (Err error) ∷ []) =
+    subst (λ n. Adds before behind (reading n (Err error) ∷ [])) c.as_str.ensures.value c.in-Err-2.ensures in
+    unread start before behind (map string_bytes all) (map string_bytes (drop (i + 1) all)) files name error
+    c.loop-name.invariant.calls more are

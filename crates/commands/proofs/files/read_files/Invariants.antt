@@ -1,13 +1,13 @@
-use Rattle.std.proofs.Common.{◌≡◌, length, take, map, string_bytes}
-use Rattle.std.specs.Prelude.{All}
-use Rattle.std.specs.Fn.{FnReturnsAt}
-use Rattle.commands.specs.Files.{IsRead}
+use Rattle.std.proofs.Common.{◌≡◌, ◌++◌, drop, map, string_bytes}
+use Rattle.commands.specs.Answers.{file_value}
+use Rattle.commands.specs.Files.{reads_of}
+use Rattle.commands.specs.Folder.{Adds}
 use Rattle.commands.proofs.files.read_files.Given as goal
 
--- the files so far have the names so far, and what the call answered
+-- the calls read the files so far, and the names are theirs and those that are left
 abbrev pub invariant-loop-name : goal.invariant-loop-name
-invariant-loop-name g l =
-    (map (λ file. string_bytes file.0) l.files.items ≡ map string_bytes (take l.name-index l.names))
-    × (length l.files.items ≡ l.name-index)
-    × All (IsRead (FnReturnsAt g.F.Fn l.read)) l.files.items
-    × goal.F-IsAlwaysCallable g l.read
+invariant-loop-name g l = record {
+  calls : Adds (g.F.Folder.calls l.fn.folder) (g.F.Folder.calls l.folder) (reads_of (map file_value l.files.items));
+  names : map string_bytes l.names
+      ≡ map (λ file. file.0) (map file_value l.files.items) ++ map string_bytes (drop l.name-index l.names);
+}

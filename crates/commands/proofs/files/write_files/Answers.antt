@@ -1,63 +1,70 @@
-use Rattle.std.proofs.Common.{rules, ◌≡◌, ℕ, ◌+◌, ◌≤◌, [], ◌∷◌, ◌++◌, codes, length, take, string_bytes, refl, ap, sym, subst, ◌∙◌}
-use Rattle.std.specs.Prelude.{All, Ok, Err, Some, slice_get}
-use Rattle.std.specs.Fn.{FnReturnsAtPair}
-use Rattle.std.proofs.lemmas.Fn.{says_at_two}
-use Rattle.std.proofs.lemmas.List.{take_more, take_all}
-use Rattle.std.proofs.lemmas.Option.{slice_get_read}
-use Rattle.std.proofs.lemmas.Result.{IfOk-weaker}
-use Rattle.commands.specs.Answers.{Fails}
-use Rattle.commands.specs.Files.{IsTaken, IsWritten, all_written, one_unwritten}
-use Rattle.commands.proofs.FileCalls.{all_more, done_of, error_of}
+use Rattle.std.proofs.Common.{rules, ◌≡◌, ℕ, ◌+◌, [], ◌∷◌, ◌++◌, codes, List, drop, map, take, string_bytes, refl, ap, sym, subst, ◌∙◌}
+use Rattle.std.specs.Prelude.{Ok, Err, IfOk, Result}
+use Rattle.std.specs.declared.io.Error.{Error}
+use Rattle.std.proofs.lemmas.List.{map-append, take-append-drop, take_more}
+use Rattle.commands.specs.Answers.{Fails, file_value}
+use Rattle.commands.specs.CollateCommand.{FileValue}
+use Rattle.commands.specs.Files.{one_unwritten, writes_of}
+use Rattle.commands.specs.Folder.{Adds, writing}
+use Rattle.commands.proofs.FileCalls.{done_of, error_of, left, one_made}
 use Rattle.commands.proofs.files.write_files.Goals as goal
 
 -- the file that could not be written
 pub returns-then-is_err : goal.returns-then-is_err
 returns-then-is_err g c =
-    let file = c.file-item.result in
+    let i : ℕ = c.loop-file.file-index in
+    let all = c.args.answer.files.items in
+    let item = c.file-item.result in
+    let start = g.F.Folder.calls c.args.folder.now in
+    let before = g.F.Folder.calls c.loop-file.folder in
+    let behind = g.F.Folder.calls c.write.new.self in
+    let files : List FileValue = map file_value (take i all) in
+    let name : c.as_str.result.now ≡ string_bytes item.0 = search rules in
+    let bytes : c.as_slice.result.now ≡ item.1.items = search rules in
     let failed = error_of c.write.result c.if-is_err.ensures.value in
-    let name : c.as_str.result.now ≡ string_bytes file.0 = search rules in
-    let bytes : c.as_slice.result.now ≡ file.1.items = search rules in
-    IfOk-weaker c.unwritten.result (Fails 3 (codes "cannot write " ++ c.as_str-then-is_err.result.now))
-    (IsWritten (FnReturnsAtPair g.F.Fn c.args.write) c.args.answer)
-    (λ new h. one_unwritten (record {
-      index = c.loop-file.file-index;
-      before = c.loop-file.invariant.0;
-      name = file.0;
-      bytes = file.1;
-      here = subst (λ files. slice_get files c.loop-file.file-index ≡ Some file) c.deref-file-items.ensures.value
-          (slice_get_read c.deref-file-items.result.now _ c.loop-file.file-index file refl c.loop-file-test.true c.file-item.is);
-      error = failed.0;
-      refused =
-          subst (λ n. FnReturnsAtPair g.F.Fn c.args.write n file.1.items (Err failed.0)) name
-          (subst (λ b. FnReturnsAtPair g.F.Fn c.args.write c.as_str.result.now b (Err failed.0)) bytes
-          (says_at_two g.F.Fn c.write.ensures failed.1));
-      fails = subst (λ n. Fails 3 (codes "cannot write " ++ n) new) c.as_str-then-is_err.ensures.value h;
-    }))
-    c.unwritten.ensures
+    let call : writing c.as_str.result.now c.as_slice.result.now c.write.result
+    ≡ writing (string_bytes item.0) item.1.items (Err failed.0) =
+    λ j. writing (name j) (bytes j) (failed.1 j) in
+    let rest : drop i all ≡ item ∷ drop (i + 1) all =
+    subst (λ fs. drop i fs ≡ item ∷ drop (i + 1) fs) c.deref-file-items.ensures.value
+    (left c.deref-file-items.result.now i item c.loop-file-test.true c.file-item.is) in (
+      writes_of files ++ writing (string_bytes item.0) item.1.items (Err failed.0) ∷ [],
+      one_made start before behind (writes_of files)
+          (writing (string_bytes item.0) item.1.items (Err failed.0)) c.loop-file.invariant
+          (subst (λ made. Adds before behind (made ∷ [])) call c.write.ensures),
+      one_unwritten files (map file_value (drop (i + 1) all)) (file_value item) failed.0
+          (ap (map file_value) (sym (take-append-drop i all) ∙ ap (λ rest. take i all ++ rest) rest)
+          ∙ map-append file_value (take i all) (item ∷ drop (i + 1) all))
+          refl
+          (subst (λ n. IfOk c.unwritten.result (Fails 3 (codes "cannot write " ++ n))) c.as_str-then-is_err.ensures.value
+          c.unwritten.ensures),
+    )
 
 pub loop-file-preserved : goal.loop-file-preserved
 loop-file-preserved g c =
     let i : ℕ = c.loop-file.file-index in
-    let file = c.file-item.result in
-    let files = c.args.answer.files.items in
-    let name : c.as_str.result.now ≡ string_bytes file.0 = search rules in
-    let bytes : c.as_slice.result.now ≡ file.1.items = search rules in
-    let taken : IsTaken (FnReturnsAtPair g.F.Fn c.args.write) file =
-    subst (λ n. FnReturnsAtPair g.F.Fn c.args.write n file.1.items (Ok tt)) name
-    (subst (λ b. FnReturnsAtPair g.F.Fn c.args.write c.as_str.result.now b (Ok tt)) bytes
-    (says_at_two g.F.Fn c.write.ensures (done_of c.write.result c.if-is_err.ensures.value))) in
-    let more : take (i + 1) files ≡ take i files ++ file ∷ [] =
-    subst (λ fs. take (i + 1) fs ≡ take i fs ++ file ∷ []) c.deref-file-items.ensures.value
-    (take_more c.deref-file-items.result.now i file c.loop-file-test.true
-    ∙ ap (λ f. take i c.deref-file-items.result.now ++ f ∷ []) (sym c.file-item.is)) in (
-      subst (All (IsTaken (FnReturnsAtPair g.F.Fn c.args.write))) (sym more)
-          (all_more (IsTaken (FnReturnsAtPair g.F.Fn c.args.write)) (take i files) file c.loop-file.invariant.0 taken),
-      c.loop-file.invariant.1,
-    )
-
-pub returns : goal.returns
-returns g c =
-    let all : take c.loop-file.file-index c.args.answer.files.items ≡ c.args.answer.files.items =
-    take_all c.loop-file.file-index c.args.answer.files.items
-    (subst (λ fs. length fs ≤ c.loop-file.file-index) c.deref-file-items.ensures.value c.loop-file-test.false) in
-    all_written (subst (All (IsTaken (FnReturnsAtPair g.F.Fn c.args.write))) all c.loop-file.invariant.0) refl
+    let all = c.args.answer.files.items in
+    let item = c.file-item.result in
+    let start = g.F.Folder.calls c.args.folder.now in
+    let before = g.F.Folder.calls c.loop-file.folder in
+    let behind = g.F.Folder.calls c.write.new.self in
+    let files : List FileValue = map file_value (take i all) in
+    let name : c.as_str.result.now ≡ string_bytes item.0 = search rules in
+    let bytes : c.as_slice.result.now ≡ item.1.items = search rules in
+    let done = done_of c.write.result c.if-is_err.ensures.value in
+    let call : writing c.as_str.result.now c.as_slice.result.now c.write.result
+    ≡ writing (string_bytes item.0) item.1.items (Ok tt) =
+    λ j. writing (name j) (bytes j) (done j) in
+    let next : take (i + 1) all ≡ take i all ++ item ∷ [] =
+    subst (λ fs. take (i + 1) fs ≡ take i fs ++ item ∷ []) c.deref-file-items.ensures.value
+    (take_more c.deref-file-items.result.now i item c.loop-file-test.true
+    ∙ ap (λ f. take i c.deref-file-items.result.now ++ f ∷ []) (sym c.file-item.is)) in
+    let more : writes_of (map file_value (take (i + 1) all))
+    ≡ writes_of files ++ writing (string_bytes item.0) item.1.items (Ok tt) ∷ [] =
+    ap (λ fs. writes_of (map file_value fs)) next
+    ∙ ap writes_of (map-append file_value (take i all) (item ∷ []))
+    ∙ map-append (λ (f : FileValue). writing f.0 f.1 (Ok tt)) files (file_value item ∷ []) in
+    subst (Adds start behind) (sym more)
+    (one_made start before behind (writes_of files)
+    (writing (string_bytes item.0) item.1.items (Ok tt)) c.loop-file.invariant
+    (subst (λ made. Adds before behind (made ∷ [])) call c.write.ensures))

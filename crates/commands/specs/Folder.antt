@@ -1,0 +1,23 @@
+-- The calls by which files are read and written.
+use Rattle.std.specs.Prelude.{◌≡◌, ℕ, List, ◌++◌, Option, option_map, Result, Ok, Err, Vec}
+use Rattle.std.specs.Global.{Global}
+use Rattle.std.specs.declared.io.Error.{Error}
+
+-- one call, by the name of the file, the bytes that are written, and the answer
+pub data FileCall : Type 0 where
+  reading : List ℕ → Result (List ℕ) Error → FileCall
+  writing : List ℕ → List ℕ → Result (Unit {0}) Error → FileCall
+
+-- the bytes that a call read, or its error
+abbrev pub answer_of : Result (Vec ℕ Global) Error → Result (List ℕ) Error
+answer_of (Ok bytes) = Ok bytes.items
+answer_of (Err error) = Err error
+
+-- these calls were made, in this order, and no other, where it is known which were made before
+abbrev pub Adds : Option (List FileCall) → Option (List FileCall) → List FileCall → Type 0
+Adds old new calls = new ≡ option_map (λ before. before ++ calls) old
+
+-- calls were made of which this holds, and no other
+abbrev pub Makes : Option (List FileCall) → Option (List FileCall) → (List FileCall → Type 0)
+    → Type 0
+Makes old new Holds = (calls : List FileCall) × Adds old new calls × Holds calls
