@@ -67,8 +67,9 @@ fn applied<S: BuildHasher + Copy>(
     ensures fault { IfErr result
         (ForFault (ForEffect (IsWithoutEffect graph.now name.now dyndep.now))) }
 {
-    apply_with_hasher(alloc, graph, name, dyndep, hash_builder)
-        .map_err(|failure| failure.map(|fault| RehearseFault::Effect { fault }))
+    apply_with_hasher(alloc, graph, name, dyndep, hash_builder).map_err(|failure| failure.map(
+        |fault| RehearseFault::Effect { fault },
+    ))
 }
 
 /// The statements of a text that is fed in pieces of these lengths.
