@@ -1,0 +1,8 @@
+"""The tests of the program, in the standard library's `unittest`; README.md says what is where, and how to run one."""
+SUBJECTS = ["arguments"]
+
+
+def load_tests(loader, *_):
+    """The tests of all subjects, some at a time."""
+    from tests.side_by_side import SideBySide
+    return SideBySide(loader.loadTestsFromNames(f"tests.{subject}" for subject in SUBJECTS))

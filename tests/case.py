@@ -1,0 +1,84 @@
+"""A test that calls the program in a folder of its own, and compares its status, what it prints, and the files that are left."""
+import os
+import re
+import tempfile
+import unittest
+
+from tests import program
+
+MEMORY = "/dev/shm" if os.access("/dev/shm", os.W_OK) else None
+USAGE = 2, b"", b"dyncollate: usage\n"
+
+
+def cannot(what, name):
+    """The answer of a run that cannot `read` or `write` a file."""
+    return 3, b"", b"dyncollate: cannot %s %s\n" % (what.encode(), os.fsencode(name))
+
+
+def refused(line):
+    """The answer of a run that is refused with this line."""
+    return 1, b"", b"dyncollate: %s\n" % line
+
+
+def write(name, text):
+    os.makedirs(os.path.dirname(name) or ".", exist_ok=True)
+    with open(name, "wb") as file:
+        file.write(text)
+
+
+def read(name):
+    with open(name, "rb") as file:
+        return file.read()
+
+
+def tree(top=b"."):
+    """The files that are in a folder and below it, by their names from there."""
+    return {os.path.relpath(os.path.join(folder, name), top): read(os.path.join(folder, name))
+            for folder, _, names in os.walk(top) for name in names}
+
+
+def lay(files):
+    """Puts these files, and nothing else, into the folder, which has no folder in it."""
+    for name in os.listdir(b"."):
+        os.remove(name)
+    for name, text in files.items():
+        write(name, text)
+
+
+class Case(unittest.TestCase):
+    """The folder is in memory where there is such a place, and the working folder of the test."""
+
+    def setUp(self):
+        if not program.is_there():
+            self.fail("there is no program to be tested; ./build makes it")
+        folder = tempfile.TemporaryDirectory(prefix="dyncollate-", dir=MEMORY)
+        self.addCleanup(folder.cleanup)
+        self.addCleanup(os.chdir, os.getcwd())
+        os.chdir(folder.name)
+        self.caller = program.caller()
+
+    def same(self, found, wanted, what=""):
+        """Fails where the two differ, which may be long."""
+        if found != wanted:
+            self.fail(f"{what}{': ' if what else ''}{found!r:.800}, not {wanted!r:.800}")
+
+    def answers(self, row):
+        """The call of a row answers what the row says, and leaves its files and those that it writes."""
+        lay(row.files)
+        before = tree()
+        self.same(self.caller.run(*row.words), row.printed(), row.name)
+        self.same(tree(), before | row.made(), row.name + ": its files")
+
+    check = answers
+
+
+def each(things, name=str):
+    """Gives a class a test for each of some things, which its method `check` takes. The test is named by the thing."""
+    def with_tests(cls):
+        for thing in things:
+            method = "test_" + re.sub(r"\W+", "_", name(thing), flags=re.ASCII).strip("_")
+            if hasattr(cls, method):
+                raise ValueError(f"{cls.__name__} has two tests {method}")
+            setattr(cls, method, lambda self, thing=thing: self.check(thing))
+        return cls
+    return with_tests

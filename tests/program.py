@@ -1,0 +1,62 @@
+"""Calls the program dyncollate, many times and quickly."""
+import functools
+import os
+import signal
+
+TOP = os.path.dirname(os.path.dirname(os.path.abspath(__file__)))
+PROGRAM = os.path.abspath(os.environ.get("DYNCOLLATE", f"{TOP}/crates/dyncollate/out/dyncollate"))
+
+
+def is_there():
+    return os.access(PROGRAM, os.X_OK)
+
+
+class Caller:
+    """Calls a program; what it prints goes to two files that are read and emptied after each call."""
+
+    def __init__(self, program=PROGRAM):
+        self.program = program
+        self.out, self.err = (os.memfd_create(name) for name in ("out", "err"))
+        self.environment = dict(os.environ)
+        self.child = None
+
+    def begin(self, *words, out=None, err=None, others=(), closed=(), signals=()):
+        """Begins a run. Standard output and standard error may go to other files, other files may be open under their numbers,
+        and files 0 to 2 may be closed. These signals have their usual effect, some of which Python turns off."""
+        files = [(os.POSIX_SPAWN_OPEN, 0, "/dev/null", os.O_RDONLY, 0),
+                 (os.POSIX_SPAWN_DUP2, self.out if out is None else out, 1),
+                 (os.POSIX_SPAWN_DUP2, self.err if err is None else err, 2)]
+        files += [(os.POSIX_SPAWN_DUP2, file, number) for number, file in others]
+        files += [(os.POSIX_SPAWN_CLOSE, it) for it in closed]
+        self.child = os.posix_spawn(self.program, [self.program, *words], self.environment, file_actions=files, setsigdef=signals)
+        return self.child
+
+    def end(self, child, seconds=60):
+        """The status of a run that was begun, or the negative number of the signal that ended it, and what it printed."""
+        self.child = child
+        signal.signal(signal.SIGALRM, lambda *_: os.kill(child, signal.SIGKILL))
+        signal.alarm(seconds)
+        _, status = os.waitpid(child, 0)
+        signal.alarm(0)
+        return os.waitstatus_to_exitcode(status), emptied(self.out), emptied(self.err)
+
+    def run(self, *words, **given):
+        return self.end(self.begin(*words, **given))
+
+
+@functools.lru_cache(None)
+def caller(program=PROGRAM):
+    """The caller of a program in this process."""
+    return Caller(program)
+
+
+os.register_at_fork(after_in_child=caller.cache_clear)
+
+
+def emptied(file):
+    """What a file has, which is empty afterwards."""
+    text = os.pread(file, os.fstat(file).st_size, 0)
+    if text:
+        os.ftruncate(file, 0)
+        os.lseek(file, 0, os.SEEK_SET)
+    return text

@@ -1,0 +1,84 @@
+"""Words of a call. A call is a command and as many words as it has arguments; `--` says that what follows are arguments."""
+from tests.rows import V, prints, unread, usage
+
+B = b'{"version":1,"rules":[{"primary-output":"obj/b.o","provides":[{"logical-name":"B"}]}]}'
+SHOWN = V + b"build a | b: dyndep | c\n"
+FILES = {"b.ddi": B, "b": B, "one": B, "-b": B, "-": B, "t.dd": SHOWN}
+NAMED = ["-", "-x", "--", "show", "a b"]
+
+# why, the words
+IMPROPER = [
+    ("* no command", []),
+    ("the empty word for a command", ["", "b.ddi", "mod", ".bmi"]),
+    ("no such command", ["two", "b.ddi", "mod", ".bmi"]),
+    ("a command in capitals", ["One", "b.ddi", "mod", ".bmi"]),
+    ("a command begun", ["on", "b.ddi", "mod", ".bmi"]),
+    ("no arguments", ["one"]),
+    ("a word too few", ["one", "b.ddi", "mod"]),
+    ("a word too many", ["one", "b.ddi", "mod", ".bmi", "x"]),
+    ("no argument", ["show"]),
+    ("a word too many", ["show", "t.dd", "x"]),
+    ("no argument", ["collate"]),
+    ("a word too many", ["collate", "t.json", "x"]),
+    ("no argument", ["project"]),
+    ("a word too many", ["project", "a", "b"]),
+    ("no arguments", ["effect"]),
+    ("a word too few", ["effect", "t.dd", "lib.edges"]),
+    ("a word too many", ["effect", "t.dd", "lib.edges", "two.dd", "x"]),
+    ("no argument", ["order"]),
+    ("a word too many", ["order", "lib.edges", "x"]),
+    ("no help", ["--help"]),
+    ("no help in short", ["-h"]),
+    ("no command for help", ["help"]),
+    ("no version", ["--version"]),
+    ("no help for a command", ["one", "--help"]),
+    ("no help as a command's only word", ["one", "help"]),
+    ("no help after the arguments", ["one", "b.ddi", "mod", ".bmi", "--help"]),
+    ("a command in place of another's argument", ["show", "one", "b.ddi", "mod", ".bmi"]),
+    ("an option for a file", ["show", "-x"]),
+    ("an option for a file of three arguments", ["one", "-b", "mod", ".bmi"]),
+    ("a long option for an ending", ["one", "b.ddi", "mod", "--ext"]),
+    ("a negative number for a folder", ["one", "b.ddi", "-1", ".bmi"]),
+    ("an option too many", ["show", "t.dd", "-x"]),
+    ("-- before the command", ["--", "show", "t.dd"]),
+    ("-- before one", ["--", "one", "b", "m", "x"]),
+    ("--, and a word too many", ["show", "--", "t.dd", "x"]),
+    ("--, and a word too many of four", ["one", "b", "m", "x", "--", "y"]),
+    ("--, and a word too few", ["one", "b.ddi", "mod", "--"]),
+    ("a second -- is an argument", ["show", "--", "t.dd", "--"]),
+]
+
+# why, the words, and the file of the module B, which says what is taken for the folder and the ending
+TAKEN = [
+    ("no folder and no ending", ["one", "b.ddi", "", ""], b"B"),
+    ("no folder, and - for an ending", ["one", "b.ddi", "", "-"], b"B-"),
+    ("- for each argument", ["one", "-", "-", "-"], b"-/B-"),
+    ("the command's name for a file, a folder with a space, and = for an ending", ["one", "one", "a b", "="], b"a$ b/B="),
+    ("options after --", ["one", "--", "-b", "-m", "--"], b"-m/B--"),
+    ("-- between arguments", ["one", "b", "--", "-m", "x"], b"-m/Bx"),
+    ("-- between arguments, and as one", ["one", "b.ddi", "--", "-m", "--"], b"-m/B--"),
+    ("-- after the last argument", ["one", "b", "m", "x", "--"], b"m/Bx"),
+    ("a second -- for a folder", ["one", "b", "--", "--", "-"], b"--/B-"),
+]
+
+# why, the words; each names a file that is shown
+SHOWS = [
+    ("- names a file", ["show", "-"]),
+    ("an option after -- names a file", ["show", "--", "-x"]),
+    ("a second -- names a file", ["show", "--", "--"]),
+    ("-- after the last argument", ["show", "t.dd", "--"]),
+    ("a command's name for a file", ["show", "show"]),
+    ("a name with a space", ["show", "a b"]),
+]
+
+# why, the words, and the file that cannot be read
+UNREAD = [
+    ("three empty words", ["one", "", "", ""], b""),
+    ("an empty word", ["show", ""], b""),
+    ("control bytes in a name", ["show", "a\tb\n\x7f"], b"a?b??"),
+]
+
+ROWS = ([usage(why, words, FILES) for why, words in IMPROPER]
+        + [prints(why, words, FILES, V + b"build obj/b.o | %s: dyndep\n  restat = 1\n" % file) for why, words, file in TAKEN]
+        + [prints(why, words, dict.fromkeys(NAMED, SHOWN) | {"t.dd": SHOWN}, SHOWN) for why, words in SHOWS]
+        + [unread(why, words, FILES, name) for why, words, name in UNREAD])

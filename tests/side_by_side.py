@@ -1,0 +1,110 @@
+"""A suite whose tests run in as many processes as there are processors."""
+import concurrent.futures
+import multiprocessing
+import os
+import queue
+import sys
+import time
+import traceback
+import unittest
+
+# A line says how far the tests are after so many seconds.
+SECONDS = 10
+
+# The tests of the suite that runs, which its processes inherit.
+running = []
+
+
+class Outcomes(unittest.TestResult):
+    """What came of a test, in a form that another process can take: the name of a method of a result, and a text."""
+
+    def __init__(self):
+        super().__init__()
+        self.found = []
+
+    def addSuccess(self, test):
+        self.found.append(("addSuccess", ""))
+
+    def addSkip(self, test, reason):
+        self.found.append(("addSkip", reason))
+
+    def addFailure(self, test, err):
+        self.found.append(("addFailure", str(err[1])))
+
+    def addError(self, test, err):
+        self.found.append(("addError", "".join(traceback.format_exception(*err))))
+
+    def addSubTest(self, test, subtest, err):
+        if err:
+            of_kind = self.addFailure if issubclass(err[0], test.failureException) else self.addError
+            of_kind(test, (err[0], f"{subtest._subDescription()}: {err[1]}", err[2]))
+
+
+def outcomes_of(number):
+    """What comes of a test, with what its class and its module set up for it."""
+    outcomes = Outcomes()
+    unittest.TestSuite([running[number]])(outcomes)
+    return outcomes.found or [("addError", "the test ended without an outcome")]
+
+
+def report(result, test, found):
+    """Tells a result what came of a test elsewhere."""
+    result.startTest(test)
+    for method, text in found:
+        if method == "addSuccess":
+            result.addSuccess(test)
+        elif method == "addSkip":
+            result.addSkip(test, text)
+        else:
+            getattr(result, method)(test, (AssertionError, AssertionError(text), None))
+    result.stopTest(test)
+
+
+def flat(suite):
+    """The tests of a suite and of those in it."""
+    for it in suite:
+        if isinstance(it, unittest.TestSuite):
+            yield from flat(it)
+        else:
+            yield it
+
+
+class SideBySide(unittest.TestSuite):
+    """Its tests run in no order, but that those begin first whose attribute `seconds`, about what they take, is greatest. What
+    a class or a module sets up is set up for each of its tests."""
+
+    def run(self, result, debug=False):
+        if debug:
+            return super().run(result, debug)
+        running[:] = sorted(flat(self), key=lambda test: -getattr(test, "seconds", 0))
+        processes = min(len(os.sched_getaffinity(0)), len(running)) or 1
+        ended = queue.SimpleQueue()
+        pool = concurrent.futures.ProcessPoolExecutor(processes, multiprocessing.get_context("fork"))
+        try:
+            number_of = {pool.submit(outcomes_of, number): number for number in range(len(running))}
+            for future in number_of:
+                future.add_done_callback(ended.put)
+            for future in in_turn(ended, len(running)):
+                error = future.exception()
+                found = [("addError", f"its process ended: {error!r}")] if error else future.result()
+                report(result, running[number_of[future]], found)
+                if result.shouldStop:
+                    break
+        finally:
+            pool.shutdown(cancel_futures=True)
+        return result
+
+
+def in_turn(ended, count):
+    """So many that end, with a line every some seconds on how far they are."""
+    began = said = time.monotonic()
+    for number in range(count):
+        while True:
+            if time.monotonic() - said >= SECONDS:
+                said = time.monotonic()
+                print(f"\n{number} of {count} tests, {said - began:.0f} s", file=sys.stderr, flush=True)
+            try:
+                yield ended.get(timeout=max(0, said + SECONDS - time.monotonic()))
+                break
+            except queue.Empty:
+                pass
