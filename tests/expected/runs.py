@@ -18,15 +18,18 @@ def opened(name):
 
 
 def answer_of(command, *given):
-    """What a call has to answer."""
-    call = getattr(commands, command)
+    """What a call has to answer. The files of `effect` come after a name, and those of all others first."""
+    call, names = getattr(commands, command), given[1:] if command == "effect" else given[:1]
+    texts = [opened(name) for name in names]
+    if None in texts:
+        return commands.failed(3, b"cannot read " + os.fsencode(names[texts.index(None)]))
     if command == "one":
-        return call(opened(given[0]), *map(os.fsencode, given[1:]))
+        return call(*texts, *map(os.fsencode, given[1:]))
     if command == "effect":
-        return call(os.fsencode(given[0]), *map(opened, given[1:]))
+        return call(os.fsencode(given[0]), *texts)
     if command in ("collate", "project"):
-        return call(opened(given[0]), opened)
-    return call(opened(given[0]))
+        return call(*texts, opened)
+    return call(*texts)
 
 
 def ending(answer):

@@ -1,66 +1,26 @@
-#!/usr/bin/env python3
-"""Calls the program dyncollate on documents made at random, and compares what it answers with what must hold of them.
+"""Documents made at random, and what has to come of them, which is known from how they were made.
 
-usage: tests/fuzz [SECONDS [SEED]]
-
-Each round makes one of: a dyndep file in a spelling of its own, a scan document, a listing and the dyndep file of its
-objects, or a project. What has to come out is known from how it was made. Then a file of the round is damaged some times, its
-bytes or the values of its members, and what has to come out is worked out by the modules in the folder expected. A round that
-fails leaves its files in a folder that is printed, with its seed. The last line counts the rounds.
+A round makes files and calls the program with them. What it gives back is a call of the round, and one of its files that may
+be damaged. `program.done` and `program.refused` compare what a call answers with what is known, and with tests/expected.
 """
-import copy
 import itertools
 import json
 import os
 import random
 import re
-import shutil
-import sys
-import time
 
-sys.dont_write_bytecode = True
-import calls
-from calls import TOP, write
-from expected.commands import firsts, shown
-from expected.digraphs import least_cycle, least_order, repeated
-from expected.documents import info_text
-from expected.dyndeps import VERSION, statement_text
-from expected.edges import edge_of, listing_text, made_by, needs_of
-from expected.modules import map_text
-from expected.paths import canonical, spelled
-from expected.runs import answer_of, ending, read
-
-
-class Wrong(Exception):
-    """What a round finds wrong."""
-
-
-# ---- running the program
-
-caller = calls.Caller()
-run = caller.run
-HAS_PROJECT = calls.is_there() and calls.has_project()
-
-
-def done(wanted, *words):
-    """The run is done, and prints this text."""
-    status, out, err = run(*words)
-    if status or err:
-        raise Wrong(f"{words}: status {status}, {err[:300]!r}")
-    if wanted is not None and out != wanted:
-        raise Wrong(f"{words}: printed {out[:2000]!r}, not {wanted[:2000]!r}")
-    return out
-
-
-def refused(line, *words):
-    """The run is refused with this line."""
-    status, out, err = run(*words)
-    if (status, out, err) != (1, b"", b"dyncollate: " + line + b"\n"):
-        raise Wrong(f"{words}: status {status}, {out[:200]!r}, {err[:500]!r}, not {line[:500]!r}")
+from tests.case import read, write
+from tests.expected.commands import firsts, shown
+from tests.expected.digraphs import least_cycle, least_order, repeated
+from tests.expected.documents import info_text
+from tests.expected.dyndeps import VERSION, statement_text
+from tests.expected.edges import edge_of, listing_text, made_by, needs_of
+from tests.expected.modules import map_text
+from tests.expected.paths import canonical, spelled
 
 
 class Maker:
-    """Makes what a round needs."""
+    """Makes what a round needs, the same from the same seed."""
 
     def __init__(self, seed):
         self.r = random.Random(seed)
@@ -115,7 +75,7 @@ class Maker:
 
 # ---- dyndep files
 
-def dyndep_round(make):
+def dyndep_round(make, program):
     """A dyndep file in a spelling of its own is shown as the writer spells it."""
     text = make.between() + b"ninja_dyndep_version" + make.r.choice([b"=", b" = ", b" $\n="]) + \
         make.r.choice([b"1", b" 1.0", b" 1.0-x"]) + make.end()
@@ -132,9 +92,9 @@ def dyndep_round(make):
         wanted += statement_text(output, outputs, inputs, restat)
     text += make.between()
     write("t.dd", text)
-    done(wanted, "show", "t.dd")
+    program.done(wanted, "show", "t.dd")
     write("shown.dd", wanted)
-    done(wanted, "show", "shown.dd")
+    program.done(wanted, "show", "shown.dd")
     return ["show", "t.dd"], "t.dd"
 
 
@@ -205,7 +165,7 @@ def dyndep_text(rules, files):
                        bool(rule["provides"])) for rule in rules)
 
 
-def scan_round(make):
+def scan_round(make, program):
     """A scan document is collated to the statements of its rules, or has the fault that is there."""
     names = firsts([make.word(b"abc") + make.r.choice([b"", b":", b"-"]) + make.word(b"xy") for _ in range(6)])
     if make.chance(15):
@@ -223,9 +183,9 @@ def scan_round(make):
     fault = fault_of(rules, files)
     words = ["one", "t.ddi", folder.decode(), ending.decode()]
     if fault:
-        refused(shown(fault), *words)
+        program.refused(shown(fault), *words)
     else:
-        done(dyndep_text(rules, files), *words)
+        program.done(dyndep_text(rules, files), *words)
     return words, "t.ddi"
 
 
@@ -278,32 +238,32 @@ def after(edges, rules, files, name):
     return edges
 
 
-def ordered(edges, listing):
+def ordered(program, edges, listing):
     """The edges of the listing are put in their order, or their least cycle is printed."""
     needs = needs_of(edges)
     first = [(edge["outputs"])[0] for edge in edges]
     cycle = least_cycle(needs)
     if cycle:
-        refused(shown(b"cycle " + b" -> ".join(first[it] for it in cycle)), "order", listing)
+        program.refused(shown(b"cycle " + b" -> ".join(first[it] for it in cycle)), "order", listing)
     else:
-        done(b"".join(shown(first[it]) + b"\n" for it in least_order(needs)), "order", listing)
+        program.done(b"".join(shown(first[it]) + b"\n" for it in least_order(needs)), "order", listing)
 
 
-def effect_round(make):
+def effect_round(make, program):
     """The dyndep file of a scan document adds exactly what its objects provide and require."""
     names = [b"m%d" % it for it in range(make.r.randint(0, 5))]
     rules = rules_of(make, names, acyclic=True)
     files = {it: file_of(b"mod", it, b".bmi") for it in names}
     write("t.ddi", document_of(make, rules))
-    write("t.dd", done(dyndep_text(rules, files), "one", "t.ddi", "mod", ".bmi"))
+    write("t.dd", program.done(dyndep_text(rules, files), "one", "t.ddi", "mod", ".bmi"))
     edges = edges_for(make, rules, b"t.dd")
     write("edges", crooked_listing(make, edges))
-    ordered(edges, "edges")
+    ordered(program, edges, "edges")
     then = after(edges, rules, files, b"t.dd")
-    write("after", done(listing_text(then), "effect", make.r.choice(["t.dd", "./t.dd", "x/../t.dd"]), "edges", "t.dd"))
-    ordered(then, "after")
+    write("after", program.done(listing_text(then), "effect", make.r.choice(["t.dd", "./t.dd", "x/../t.dd"]), "edges", "t.dd"))
+    ordered(program, then, "after")
     write("none.dd", VERSION)
-    done(listing_text(then), "effect", "none.dd", "after", "none.dd")
+    program.done(listing_text(then), "effect", "none.dd", "after", "none.dd")
     return ["effect", "t.dd", "edges", "t.dd"], make.r.choice(["edges", "t.dd"])
 
 
@@ -353,9 +313,8 @@ def project_of(make):
     return targets, wanted, files
 
 
-def project_round(make):
-    """The targets of a project come out as they have to, and their dyndep files end alike in every order."""
-    targets, wanted, files = project_of(make)
+def write_project(make, targets):
+    """Writes the project document, the target documents and their scan documents."""
     for at, target in enumerate(targets):
         rules = target["rules"]
         cut = make.r.randint(0, len(rules))
@@ -369,145 +328,54 @@ def project_round(make):
             document["map"] = target["form"]
         write(f"{at}.json", json.dumps(document).encode())
         os.makedirs(f"o{at}", exist_ok=True)
-
-    def collated(how):
-        made = {it: read(it) for it in wanted if os.path.exists(it)}
-        if made != wanted:
-            wrong = [it for it in wanted if made.get(it) != wanted[it]]
-            raise Wrong(f"{how}: {wrong[0]} is {made.get(wrong[0])!r}, not {wanted[wrong[0]]!r}")
-        for it in wanted:
-            os.remove(it)
-
     write("project.json", json.dumps({"version": 1, "targets": [f"{at}.json" for at in range(len(targets))]}).encode())
-    if HAS_PROJECT:
-        done(b"", "project", "project.json")
-        collated("project")
-    for at in range(len(targets)):
-        done(b"", "collate", f"{at}.json")
-    collated("collate")
-    for it in wanted:
-        write(it, wanted[it])
+
+
+def check_written(program, how, wanted):
+    """These files are there as they have to be; they are taken away."""
+    for name, text in wanted.items():
+        program.equal(f"{how}: {name}", read(name) if os.path.exists(name) else None, text)
+        os.remove(name)
+
+
+def edges_of(make, targets):
+    """Edges for all targets; the files that edges of different targets make are different."""
     edges = [edge for at, target in enumerate(targets) for edge in edges_for(make, target["rules"], b"%d.dd" % at)
              if edge["rule"] == b"cxx"]
     for at, edge in enumerate(edges):
-        # the files that edges of different targets make are different
-        edge["implicit"] = [it if it.endswith(b".o") else b"d/all%d.d" % at for it in edge["implicit"]]
-        edge["outputs"] = [it if it.endswith(b".o") else b"d/all%d.d" % at for it in edge["outputs"]]
-    write("edges", crooked_listing(make, edges))
-    then = edges
+        for part in ("implicit", "outputs"):
+            edge[part] = [it if it.endswith(b".o") else b"d/all%d.d" % at for it in edge[part]]
+    return edges
+
+
+def project_round(make, program):
+    """The targets of a project come out as they have to, and their dyndep files end alike in every order."""
+    targets, wanted, files = project_of(make)
+    write_project(make, targets)
+    program.done(b"", "project", "project.json")
+    check_written(program, "project", wanted)
+    for at in range(len(targets)):
+        program.done(b"", "collate", f"{at}.json")
+    check_written(program, "collate", wanted)
+    for it in wanted:
+        write(it, wanted[it])
+    then = edges_of(make, targets)
+    write("edges", crooked_listing(make, then))
     for at, target in enumerate(targets):
         then = after(then, target["rules"], files, b"%d.dd" % at)
     for order in itertools.permutations(range(len(targets))):
         listing = "edges"
         for step, at in enumerate(order):
-            write(f"step{step}", done(None, "effect", f"{at}.dd", listing, f"{at}.dd"))
+            write(f"step{step}", program.done(None, "effect", f"{at}.dd", listing, f"{at}.dd"))
             listing = f"step{step}"
-        if read(listing) != listing_text(then):
-            raise Wrong(f"effects in the order {order}: {read(listing)!r}, not {listing_text(then)!r}")
-    ordered(then, "step" + str(len(targets) - 1))
+        program.equal(f"effects in the order {order}", read(listing), listing_text(then))
+    ordered(program, then, listing)
     last = len(targets) - 1
-    if HAS_PROJECT and make.chance(50):
+    if make.chance(50):
         at = make.r.randint(0, last)
         return ["project", "project.json"], make.r.choice(["project.json", f"{at}.json", f"{at}.0.ddi", f"{at}.1.ddi"])
     infos = [f"{it}.info" for it in targets[last]["linked"]]
     return ["collate", f"{last}.json"], make.r.choice([f"{last}.json", f"{last}.0.ddi", f"{last}.1.ddi"] + infos)
 
 
-# ---- damage
-
-BYTES = b"\x00\n\r $:|\"\\\x7f\x80\xff{}[],#=0a-"
-
-
-def damaged(make, text):
-    """The text with some of its bytes left out, put in or changed, or cut off."""
-    text = bytearray(text)
-    for _ in range(make.r.choice([1, 1, 2, 5])):
-        at = make.r.randrange(len(text) + 1)
-        how = make.r.randrange(4)
-        if how == 0:
-            del text[at:]
-        elif how == 1:
-            del text[at: at + make.r.randint(1, 4)]
-        elif how == 2:
-            text[at:at] = bytes([make.r.choice(BYTES)])
-        elif at < len(text):
-            text[at] = make.r.choice(BYTES)
-    return bytes(text)
-
-
-# values that may stand in the place of any
-OTHERS = [None, True, 2, 1.5, "", "a/..", "x", [], {}]
-
-
-def turned(make, text):
-    """The JSON text with some of its values taken out, doubled, or put in the place of others."""
-    tree = {"": json.loads(text)}
-    for _ in range(make.r.choice([1, 1, 2, 3])):
-        values, left = [], [tree]
-        for it in left:
-            inner = list(it.items() if isinstance(it, dict) else enumerate(it))
-            values += [(it, key, value) for key, value in inner]
-            left += [value for _, value in inner if isinstance(value, (dict, list))]
-        above, key, value = make.r.choice(values)
-        how = make.r.randrange(3)
-        if how == 0 and above is not tree:
-            del above[key]
-        elif how == 1 and isinstance(above, list):
-            above.append(copy.deepcopy(value))
-        else:
-            above[key] = copy.deepcopy(make.r.choice([it for _, _, it in values] + OTHERS))
-    return json.dumps(tree[""]).encode()
-
-
-def damage(make, words, file):
-    """Damaged bytes of a file are answered as they have to be."""
-    kept = read(file)
-    is_document = file.endswith((".json", ".ddi", ".info"))
-    write(file, turned(make, kept) if is_document and make.chance(60) else damaged(make, kept))
-    printed, written = ending(answer_of(*words))
-    ran = run(*words)
-    if ran != printed:
-        raise Wrong(f"{words}, {file} being {read(file)!r:.2000}: {ran!r:.1000}, not {printed!r:.1000}")
-    for name, text in written.items():
-        if read(name) != text:
-            raise Wrong(f"{words}: {name} is {read(name)!r:.1000}, not {text!r:.1000}")
-    if not ran[0] and words[0] == "show":
-        write("again.dd", ran[1])
-        done(ran[1], "show", "again.dd")
-    write(file, kept)
-
-
-ROUNDS = [dyndep_round, dyndep_round, scan_round, scan_round, effect_round, project_round]
-
-
-def main():
-    seconds = float(sys.argv[1]) if len(sys.argv) > 1 else 60
-    first = int(sys.argv[2]) if len(sys.argv) > 2 else 1
-    if not calls.is_there():
-        print("tests/fuzz: there is no program to be tested\n0 passed, 1 failed")
-        return 1
-    until, passed, failed = time.monotonic() + seconds, 0, 0
-    for seed in itertools.count(first):
-        if time.monotonic() >= until or failed == 3:
-            break
-        make = Maker(seed)
-        room = calls.folder("fuzz")
-        os.chdir(room)
-        try:
-            words, file = make.r.choice(ROUNDS)(make)
-            for _ in range(5):
-                damage(make, words, file)
-            passed += 1
-        except Wrong as wrong:
-            failed += 1
-            print(f"tests/fuzz: seed {seed}, in {room}: {wrong}")
-            continue
-        finally:
-            os.chdir(TOP)
-        shutil.rmtree(room)
-    print(f"tests/fuzz: {caller.count} calls, by seeds {first} to {first + passed + failed - 1}")
-    print(f"{passed} passed, {failed} failed")
-    return 1 if failed else 0
-
-
-sys.exit(main())
+ROUNDS = {"dyndep_files": dyndep_round, "scan_documents": scan_round, "listings": effect_round, "projects": project_round}
