@@ -1,0 +1,63 @@
+"""The tools of a build, which the environment may name: NINJA, CLANG, GCC, SCANNER."""
+import functools
+import os
+import re
+import shutil
+import subprocess
+import tempfile
+from pathlib import Path
+
+
+def output_of(*command, **given):
+    """The status of a command, and what it prints on both outputs."""
+    ran = subprocess.run(command, stdin=subprocess.DEVNULL, stdout=subprocess.PIPE, stderr=subprocess.STDOUT, check=False,
+                         **given)
+    return ran.returncode, ran.stdout.decode(errors="replace")
+
+
+def makes_modules(command, folder):
+    return not output_of(command, *"-std=c++20 -x c++-module -fmodule-output=a.pcm -c a.cppm -o a.o".split(), cwd=folder)[0]
+
+
+def is_gcc(command, folder):
+    Path(folder, "a.map").write_text("a a.gcm\n")
+    return "clang" not in output_of(command, "--version")[1] and not output_of(
+        command, *"-std=c++20 -fmodules-ts -fmodule-mapper=a.map -x c++ -c a.cppm -o a.o".split(), cwd=folder)[0]
+
+
+def scans(command, folder):
+    compiling = [tool("clang"), *"-std=c++20 -x c++-module -c a.cppm -o a.o".split()]
+    return bool(tool("clang")) and '"a"' in output_of(command, "-format=p1689", "--", *compiling, cwd=folder)[1]
+
+
+def of_versions(name, *versions):
+    return [f"{name}-{it}" for it in versions] + [name]
+
+
+# The package of each tool, the names that it may have, and whether a command is one that does.
+TOOLS = {
+    "ninja": ("ninja-build", ["ninja", "ninja-build"], lambda command, _: True),
+    "clang": ("clang-19", of_versions("clang++", 19, 18, 17, 16, 20, 21), makes_modules),
+    "scanner": ("clang-tools-19", of_versions("clang-scan-deps", 19, 18, 17, 16, 20, 21), scans),
+    "gcc": ("g++-12", of_versions("g++", 12, 13, 14, 15, 11), is_gcc),
+}
+
+
+@functools.lru_cache(None)
+def tool(name):
+    """The path of a tool, or None."""
+    _, names, does = TOOLS[name]
+    given = os.environ.get(name.upper())
+    with tempfile.TemporaryDirectory() as folder:
+        Path(folder, "a.cppm").write_text("export module a;\n")
+        found = map(shutil.which, [given] if given else names)
+        return next((it for it in found if it and does(it, folder)), None)
+
+
+@functools.lru_cache(None)
+def version(name):
+    """The version of a tool, as numbers; those of another are to be compared with it."""
+    text = output_of(tool(name), "-dumpfullversion" if name == "gcc" else "--version")[1]
+    return tuple(map(int, re.search(r"\d+(\.\d+)+", text)[0].split(".")))
+
+
