@@ -1,9 +1,7 @@
-#!/usr/bin/env python3
 """Compares the tables of docs/PROVED.md with the sources, and looks for public calls that no test makes.
 
-    tests/reading            a line for each row that differs, or that names what the sources do not have, and for each public
-                             call that may answer that memory was refused and that is made with ample memory nowhere
-    tests/reading --write    puts the table of what one has to read into docs/PROVED.md
+    python3 -m unittest tests.reading       each row of a table, and each public call that may answer that memory was refused
+    python3 -m tests.reading --write        puts the table of what one has to read into docs/PROVED.md
 
 That table counts lines for theorems, each of which is the contract of a call, or one clause of it. A line of `specs/` counts
 where it belongs to a definition (the comment above it, its type and its body) that the contract names, or that a definition
@@ -14,6 +12,7 @@ call whose result has that answer is therefore made by a test, or by code of ano
 """
 import re
 import sys
+import unittest
 from collections import defaultdict, namedtuple
 from pathlib import Path
 
@@ -76,7 +75,7 @@ def rests_on(crate, call, clause):
         if contract:
             break
     else:
-        sys.exit(f"tests/reading: {crate} has no call {call}")
+        raise LookupError(f"{crate} has no call {call}")
     clauses = re.split(r"\n *(?=ensures )", contract[0])[1:]
     said = [one for one in clauses if not clause or one.startswith(f"ensures {clause} ")]
     waiting = list(named("\n".join(said), *names_used(text)))
@@ -100,8 +99,8 @@ def reading_table(old):
         here = [[name for name in specs.definitions if (file, name) in one] for one in read]
         counts.append([sum(specs.definitions[name].count("\n") + 1 for name in names) for names in here])
         names = [f"`{name}`" for name in specs.definitions if any(name in one for one in here)]
-        told = "all" if len(names) == len(specs.definitions) else ", ".join(names)
-        rows.append(f"| `{file}` | {specs.length} | {' | '.join(str(count or '') for count in counts[-1])} | {told} |")
+        listed = "all" if len(names) == len(specs.definitions) else ", ".join(names)
+        rows.append(f"| `{file}` | {specs.length} | {' | '.join(str(count or '') for count in counts[-1])} | {listed} |")
     sums = [f"{sum(column)} of {sum(map(bool, column))} files" for column in zip(*counts)]
     return HEAD + rows + [f"| in all | | {' | '.join(sums)} | |"]
 
@@ -111,7 +110,7 @@ NAMES = {path: {name for pair in DECLARED.findall(re.sub(r"(--|//).*", "", path.
 
 
 def unknown(crate, row):
-    """What a row of a crate's table names and the crate, or another that it names, does not have. Names that stand behind
+    """What a row of a crate's table names and the crate, or another that it names, does not have. Names that come after
     a file, up to the next semicolon, have to be declared in that file."""
     call, _, clauses, definitions = [cell.strip() for cell in re.split(r"(?<!\\)\|", row)[1:-1]]
     crates = [crate] + [one for one in CRATES if f"`{one}`" in row]
@@ -129,7 +128,7 @@ def unknown(crate, row):
 
 HEADER = re.compile(r"^( *)(pub )?(?:pub\(\w+\) )?fn (\w+)(.*?)(?=;$| \{$|^ *\{$|^ *(?:requires|ensures)\b)", re.M | re.S)
 IMPL = re.compile(r"^impl(?:<[^{]*?>)? (?:([\w:]+)(?:<[^{]*?>)? for )?(\w+)[^{]*\{$.*?^\}$", re.M | re.S)
-# What stands before a name that is called, or handed on as `Path::of`: a type or a crate, or the dot of a method.
+# What comes before a name that is called, or handed on as `Path::of`: a type or a crate, or the dot of a method.
 CALL = re.compile(r"(?:\b(\w+)(?:::<[^()]*?>)?::|(\.)|\b)(?:([a-z]\w*)(?:::<[^()]*?>)?\(|(?<=::)([a-z]\w*)\b)")
 TYPE = re.compile(r"\b[A-Z]\w+")
 
@@ -191,7 +190,7 @@ class Calls:
             type_ in self.results[call] | self.results["", call[1]] for call in caller.calls if call[1] != method)
 
     def reached(self, caller):
-        """The calls that a function and those of its crate behind it make."""
+        """The calls that a function makes, and those of its crate that it calls."""
         done, waiting = set(), [caller]
         while waiting:
             one = waiting.pop()
@@ -202,7 +201,7 @@ class Calls:
         return {call for one in done for call in one.calls}
 
     def is_called(self, one):
-        """Whether another crate's function makes the call. Methods of one name are told apart by the types in its sight; one of
+        """Whether another crate's function makes the call. Methods of one name are distinguished by the types in its sight; one of
         a trait may be called in a function that gets the value, for any type with the trait."""
         for caller in self.functions:
             if caller.crate == one.crate:
@@ -225,32 +224,52 @@ def by_file(table):
     return {row.split("|")[1].strip(): row for row in table.splitlines()}
 
 
-def main():
-    page = PAGE.read_text()
-    old = re.search(r"^\| file in `crates/` (?:.*\n(?=\|))*.*", page, re.M)[0]
-    new = "\n".join(reading_table(old))
-    if sys.argv[1:] == ["--write"]:
-        page = page.replace(old, new)
-        PAGE.write_text(page)
-        old = new
-    had, has = by_file(old), by_file(new)
-    wrong = [f"what one has to read is {row}" for file, row in has.items() if had.get(file) != row]
-    wrong += [f"no theorem rests on {file}" for file in had if file not in has]
-    checked = len(has | had)
+def table_in(page):
+    return re.search(r"^\| file in `crates/` (?:.*\n(?=\|))*.*", page, re.M)[0]
+
+
+def rows_of_calls(page):
+    """Each row of the tables of calls and laws, and its crate."""
     for crate, section in re.findall(r"^## `(\w+)`(.*?)(?=^## |\Z)", page, re.M | re.S):
-        for row in re.findall(r"^\|.*\|$", "".join(re.findall(r"^\| call or law .*\n\|-.*\n((?:\|.*\n)*)", section, re.M)), re.M):
-            checked += 1
-            missing = ", ".join(unknown(crate, row))
-            wrong += [f"{crate} has no {missing}, as in {row}"] if missing else []
-    calls = Calls()
-    public = calls.public()
-    checked += len(public)
-    wrong += [f"no test and no other crate calls {'::'.join(filter(None, (one.crate, one.type, one.name)))}"
-              for one in public if not calls.is_called(one)]
-    for line in wrong:
-        print(f"FAILED: {line}")
-    print(f"{checked - len(wrong)} passed, {len(wrong)} failed")
-    return 1 if wrong else 0
+        tables = "".join(re.findall(r"^\| call or law .*\n\|-.*\n((?:\|.*\n)*)", section, re.M))
+        yield from ((crate, row) for row in re.findall(r"^\|.*\|$", tables, re.M))
 
 
-sys.exit(main())
+class Reading(unittest.TestCase):
+    def test_what_one_has_to_read(self):
+        """The table of what one has to read is that of the sources: python3 -m tests.reading --write"""
+        had = by_file(table_in(PAGE.read_text()))
+        has = by_file("\n".join(reading_table(table_in(PAGE.read_text()))))
+        for file in had | has:
+            with self.subTest(file):
+                self.assertEqual(had.get(file), has.get(file))
+
+    def test_rows_of_calls(self):
+        """The sources have what a row names."""
+        rows = list(rows_of_calls(PAGE.read_text()))
+        self.assertEqual({crate for crate, _ in rows}, {crate for crate in CRATES if "_tests" not in crate and crate != "dyncollate"})
+        for crate, row in rows:
+            with self.subTest(crate=crate, row=row):
+                self.assertEqual(list(unknown(crate, row)), [])
+
+    def test_public_calls(self):
+        """A test or another crate makes each public call that may answer that memory was refused."""
+        calls = Calls()
+        self.assertTrue(calls.public())
+        for one in calls.public():
+            with self.subTest("::".join(filter(None, (one.crate, one.type, one.name)))):
+                self.assertTrue(calls.is_called(one), "no test and no other crate makes this call")
+
+
+def main():
+    if sys.argv[1:] != ["--write"]:
+        print(__doc__)
+        return 2
+    page = PAGE.read_text()
+    old = table_in(page)
+    PAGE.write_text(page.replace(old, "\n".join(reading_table(old))))
+    return 0
+
+
+if __name__ == "__main__":
+    raise SystemExit(main())

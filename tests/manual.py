@@ -1,0 +1,57 @@
+"""Compares the fault codes, the commands and the limits of the manual page with those of the program's sources: each of either
+has to be in the other."""
+import re
+import shutil
+import subprocess
+import unittest
+from pathlib import Path
+
+TOP = Path(__file__).resolve().parent.parent
+PAGE = TOP / "docs/dyncollate.1"
+FAULT = r"[NYSMEK][0-9]+ [A-Z][A-Za-z]+"
+
+
+def sources():
+    """The texts of the program's sources. Those of the tests' crates are none of the program's."""
+    return [path.read_text() for path in sorted(TOP.glob("crates/*/src/**/*.rt")) if "_tests" not in str(path)]
+
+
+def section(text, first, after):
+    return re.search(rf"^\.Sh {first}.*?^\.Sh {after}", text, re.M | re.S)[0]
+
+
+class Manual(unittest.TestCase):
+    def setUp(self):
+        self.page = PAGE.read_text()
+
+    def equal_lists(self, in_sources, in_page):
+        """A list of the sources is not empty, and the page has each of its entries once, and no other."""
+        self.assertTrue(in_sources)
+        for one in sorted(set(in_sources) | set(in_page)):
+            with self.subTest(one):
+                self.assertEqual((one in in_sources, in_page.count(one)), (True, 1),
+                                 "whether a source has it, and how often the manual has it")
+
+    def test_faults(self):
+        in_sources = [one for text in sources() for one in re.findall(rf'"({FAULT})', text)]
+        self.equal_lists(in_sources, re.findall(rf"^\.It Sy ({FAULT})$", self.page, re.M))
+
+    def test_commands(self):
+        arguments = (TOP / "crates/command_line/src/arguments.rt").read_text()
+        commands = re.findall(r'^ *\.subcommand\([a-z_]+\(alloc, "([a-z]+)"', arguments, re.M)
+        self.assertEqual(len(commands), len(re.findall(r"\.subcommand\([^)]", arguments)), "each subcommand has a name")
+        self.equal_lists(commands, re.findall(r"^\.Cm (.*)", section(self.page, "SYNOPSIS", "DESCRIPTION"), re.M))
+
+    def test_limits(self):
+        limits = re.findall(r"^(?:pub )?const (\w+_LIMIT): usize = ([0-9_]+);", "\n".join(sources()), re.M)
+        self.assertTrue(limits)
+        in_page = re.findall(r"^\.It (.*)", section(self.page, "LIMITS", "SEE"), re.M)
+        for name, number in limits:
+            with self.subTest(name):
+                self.assertIn(f"{int(number):,}", in_page)
+
+    def test_form(self):
+        if shutil.which("mandoc"):
+            linted = subprocess.run(["mandoc", "-T", "lint", PAGE], capture_output=True, text=True, check=False)
+            self.assertEqual(linted.stdout + linted.stderr, "")
+        self.assertRegex(self.page, r"(?m)^\.Dt DYNCOLLATE 1$")
