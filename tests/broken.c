@@ -1,0 +1,118 @@
+// Loaded before the C library, it breaks one call of the system: in the way that the environment names as BROKEN, which
+// broken_programs.py has a row for. It needs no header, so that the toolchain's own clang compiles it.
+typedef __SIZE_TYPE__ size;
+enum { TO_WRITE = 1, CREATED = 0100, TRUNCATED = 01000, APPENDED = 02000, NO_WAIT = 04000 };
+enum { ABORTED = 6, PIPE_BROKEN = 13 };
+#define WANT "dyncollate: out of memory\n"
+extern long __write(int, const void *, size);
+extern long __read(int, void *, size);
+extern int __open(const char *, int, ...);
+extern int __close(int);
+extern char *getenv(const char *);
+extern int strcmp(const char *, const char *);
+extern int strncmp(const char *, const char *, size);
+extern char *strrchr(const char *, int);
+extern size strlen(const char *);
+extern int kill(int, int);
+extern int getpid(void);
+extern void _exit(int);
+extern long getrandom(void *, size, unsigned);
+
+static int is(const char *way) {
+  const char *broken = getenv("BROKEN");
+  return broken && !strcmp(broken, way);
+}
+
+static int ends(const char *name, const char *ending) {
+  size length = strlen(name), of_ending = strlen(ending);
+  return length >= of_ending && !strcmp(name + length - of_ending, ending);
+}
+
+// The line of a run that was refused memory is not written, or something is done beside it.
+static int is_unwritten(const char *line) {
+  if (is("no_line_for_want_of_memory"))
+    return 1;
+  if (is("status_1_for_want_of_memory")) {
+    __write(2, line, strlen(WANT));
+    _exit(1);
+  }
+  if (is("an_abort_for_want_of_memory"))
+    kill(getpid(), ABORTED);
+  if (is("a_file_for_want_of_memory"))
+    __close(__open("t.json", TO_WRITE | CREATED, 0666));
+  return 0;
+}
+
+long write(int file, const void *bytes, size count) {
+  int is_file = file > 2;
+  if (file == 2 && !strncmp(bytes, WANT, strlen(WANT)) && is_unwritten(bytes))
+    return count;
+  if (count && (is("a_file_without_its_last_byte") && is_file || is("output_without_its_last_byte") && file == 1))
+    return __write(file, bytes, count - 1) + 1;
+  if (count > 1 && is("a_long_write_cut_off") && is_file)
+    return __write(file, bytes, count / 2) < 0 ? -1 : (long)count;
+  long written = __write(file, bytes, count);
+  if (written < 0 && is("a_broken_pipe_is_a_signal"))
+    kill(getpid(), PIPE_BROKEN);
+  if (written < 0 && (is("a_failed_write_of_a_file") && is_file || is("a_failed_write_of_the_output") && file == 1))
+    return count;
+  if (written >= 0 && written < (long)count && is("a_short_write_is_an_end"))
+    return count;
+  return written;
+}
+
+// how often a file was read since it was opened
+static long reads;
+
+long read(int file, void *bytes, size count) {
+  if (is("a_file_read_in_one_piece") && file > 2 && reads++)
+    return 0;
+  long found = __read(file, bytes, count);
+  if (found < 0 && is("a_failed_read_is_an_end"))
+    return 0;
+  if (found > 1 && is("a_file_read_without_its_last_byte") && file > 2)
+    return found - 1;
+  return found;
+}
+
+int open(const char *name, int flags, int mode) {
+  int is_written = flags & TO_WRITE;
+  const char *end = strrchr(name, '/');
+  reads = 0;
+  if (!is_written && is("a_file_opened_twice")) {
+    int first = __open(name, flags);
+    if (first >= 0) {
+      char byte;
+      __read(first, &byte, 1);
+      __close(first);
+    }
+    return __open(name, flags | NO_WAIT);
+  }
+  if (is_written && is("a_file_not_emptied"))
+    flags &= ~TRUNCATED;
+  if (is_written && is("a_file_added_to"))
+    flags = flags & ~TRUNCATED | APPENDED;
+  if (is_written && is("no_file_made"))
+    flags &= ~CREATED;
+  if (is_written && is("a_file_in_this_folder") && end)
+    name = end + 1;
+  if (is_written && is("the_dyndep_file_nowhere") && ends(name, ".dd"))
+    name = "/dev/null";
+  if (is_written && is("the_line_in_a_file"))
+    __close(2);
+  int file = __open(name, flags, mode);
+  if (file < 0 && !is_written && is("no_file_is_an_empty_one"))
+    return __open("/dev/null", flags);
+  if (file < 0 && is_written && is("a_file_that_cannot_be_made"))
+    return __open("/dev/null", flags);
+  return file;
+}
+
+int getentropy(void *bytes, size count) {
+  if (is("fixed_keys")) {
+    for (size at = 0; at < count; at++)
+      ((char *)bytes)[at] = 7;
+    return 0;
+  }
+  return getrandom(bytes, count, 0) == (long)count ? 0 : -1;
+}
