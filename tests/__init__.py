@@ -1,5 +1,6 @@
 """The tests of the program, in the standard library's `unittest`; README.md says what is where, and how to run one."""
-SUBJECTS = ["arguments"]
+SUBJECTS = ["arguments", "scan_documents", "infos", "targets", "projects", "modules", "dyndep_files", "listings", "effects",
+            "tables", "files", "devices", "growths", "damage"]
 
 
 def load_tests(loader, *_):

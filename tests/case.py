@@ -64,7 +64,7 @@ class Case(unittest.TestCase):
 
     def answers(self, row):
         """The call of a row answers what the row says, and leaves its files and those that it writes."""
-        lay(row.files)
+        lay(row.texts())
         before = tree()
         self.same(self.caller.run(*row.words), row.printed(), row.name)
         self.same(tree(), before | row.made(), row.name + ": its files")
@@ -73,12 +73,15 @@ class Case(unittest.TestCase):
 
 
 def each(things, name=str):
-    """Gives a class a test for each of some things, which its method `check` takes. The test is named by the thing."""
+    """Gives a class a test for each of some things, which its method `check` takes. The test is named by the thing, and by a
+    number where several are named alike."""
     def with_tests(cls):
         for thing in things:
-            method = "test_" + re.sub(r"\W+", "_", name(thing), flags=re.ASCII).strip("_")
-            if hasattr(cls, method):
-                raise ValueError(f"{cls.__name__} has two tests {method}")
+            title = "test_" + re.sub(r"\W+", "_", name(thing), flags=re.ASCII).strip("_")
+            method, number = title, 1
+            while hasattr(cls, method):
+                number += 1
+                method = f"{title}_{number}"
             setattr(cls, method, lambda self, thing=thing: self.check(thing))
         return cls
     return with_tests

@@ -2,6 +2,8 @@
 import functools
 import os
 import signal
+import subprocess
+import tempfile
 
 TOP = os.path.dirname(os.path.dirname(os.path.abspath(__file__)))
 PROGRAM = os.path.abspath(os.environ.get("DYNCOLLATE", f"{TOP}/crates/dyncollate/out/dyncollate"))
@@ -20,15 +22,17 @@ class Caller:
         self.environment = dict(os.environ)
         self.child = None
 
-    def begin(self, *words, out=None, err=None, others=(), closed=(), signals=()):
+    def begin(self, *words, out=None, err=None, others=(), closed=(), signals=(), **more):
         """Begins a run. Standard output and standard error may go to other files, other files may be open under their numbers,
-        and files 0 to 2 may be closed. These signals have their usual effect, some of which Python turns off."""
+        and files 0 to 2 may be closed. These signals have their usual effect, some of which Python turns off. The environment
+        has these variables more."""
         files = [(os.POSIX_SPAWN_OPEN, 0, "/dev/null", os.O_RDONLY, 0),
                  (os.POSIX_SPAWN_DUP2, self.out if out is None else out, 1),
                  (os.POSIX_SPAWN_DUP2, self.err if err is None else err, 2)]
         files += [(os.POSIX_SPAWN_DUP2, file, number) for number, file in others]
         files += [(os.POSIX_SPAWN_CLOSE, it) for it in closed]
-        self.child = os.posix_spawn(self.program, [self.program, *words], self.environment, file_actions=files, setsigdef=signals)
+        self.child = os.posix_spawn(self.program, [self.program, *words], {**self.environment, **more}, file_actions=files,
+                                    setsigdef=signals)
         return self.child
 
     def end(self, child, seconds=60):
@@ -60,3 +64,18 @@ def emptied(file):
         os.ftruncate(file, 0)
         os.lseek(file, 0, os.SEEK_SET)
     return text
+
+
+@functools.lru_cache(None)
+def library(source):
+    """The name of a library that is made of a C file here, to be loaded before the C library. It is in memory, and there as long
+    as this process."""
+    with tempfile.TemporaryDirectory() as folder:
+        made = subprocess.run([f"{TOP}/tests/preload", f"{TOP}/tests/{source}", f"{folder}/library.so"], capture_output=True,
+                              text=True, check=False)
+        if made.returncode:
+            raise OSError(f"the C compiler made no library of {source}: {made.stderr}")
+        file = os.memfd_create(source)
+        with open(f"{folder}/library.so", "rb") as bytes_of_it:
+            os.write(file, bytes_of_it.read())
+    return f"/proc/{os.getpid()}/fd/{file}"

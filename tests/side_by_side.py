@@ -92,6 +92,8 @@ class SideBySide(unittest.TestSuite):
                     break
         finally:
             pool.shutdown(cancel_futures=True)
+        for test, reason in result.skipped:
+            print(f"\nskipped: {test.id()}: {reason}", file=sys.stderr, end="")
         return result
 
 

@@ -13,7 +13,7 @@ FAULT = re.compile(r"\b[A-Z]\d+ [A-Z]\w+|\bcycle|\bcannot \w+|\busage|\bout of m
 
 class Row(namedtuple("Row", "why words files status out line written")):
     """A call: its words, its files by name, and what it answers: its status, the text on standard output, the line on standard
-    error after `dyncollate: `, and the files that it writes, in their order."""
+    error after `dyncollate: `, and the files that it writes, in their order. A long text may be a function that makes it."""
 
     @property
     def name(self):
@@ -24,6 +24,10 @@ class Row(namedtuple("Row", "why words files status out line written")):
     @property
     def is_worked(self):
         return self.why.startswith("*")
+
+    def texts(self):
+        """The files before the run."""
+        return {name: text() if callable(text) else text for name, text in self.files.items()}
 
     def printed(self):
         """The status and the two texts of the run."""

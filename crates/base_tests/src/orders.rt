@@ -1,5 +1,5 @@
 //! Searches one after the other. All graphs of up to three nodes are given to the built program by
-//! tests/rows, against a plain search, and long ones by tests/damaged.
+//! `tests/listings.py`, against a plain search, and long ones by `tests/rows/listings.py`.
 ghost use Rattle.std.specs.Prelude.{◌≡◌, ◌<◌, ◌↔◌, length, All, IsTrue};
 ghost use Rattle.dep_order.specs.Needs.{NeedsAreNodes};
 ghost use Rattle.dep_order.specs.Rows.{rows};

@@ -1,4 +1,4 @@
-//! Worked calls, whose growths of memory `tests/growths` refuses in turn. A test answers
+//! Worked calls, whose growths of memory `tests/growths.py` refuses in turn. A test answers
 //! `AllocError` or `Failure::Memory` where a call answered that memory was refused, and nowhere
 //! else; every other answer has to be the example's.
 

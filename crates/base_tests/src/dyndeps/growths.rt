@@ -1,6 +1,6 @@
 //! Dyndep files that are read and written in ways that the program does not, byte by byte and by
-//! calls which it does not make, and whose growths of memory `tests/growths` refuses in turn. A test
-//! answers `AllocError` or `Failure::Memory` where a call answered that memory was refused, and
+//! calls which it does not make, and whose growths of memory `tests/growths.py` refuses in turn. A
+//! test answers `AllocError` or `Failure::Memory` where a call answered that memory was refused, and
 //! nowhere else; every other answer has to be the example's.
 
 use super::reading::{answers_in_pieces, is_answer, line_fault};

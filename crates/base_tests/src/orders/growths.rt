@@ -1,4 +1,4 @@
-//! What a node of a small graph reaches, where `tests/growths` refuses each growth of memory in
+//! What a node of a small graph reaches, where `tests/growths.py` refuses each growth of memory in
 //! turn. The test answers `AllocError` where a call answered that memory was refused, and nowhere
 //! else; every other answer has to be the example's.
 

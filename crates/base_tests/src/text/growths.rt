@@ -1,4 +1,4 @@
-//! Lines byte by byte, where `tests/growths` refuses each growth of memory in turn: a cutter that
+//! Lines byte by byte, where `tests/growths.py` refuses each growth of memory in turn: a cutter that
 //! answered that memory was refused is as it was, and takes the same byte the second time.
 
 use ninja_text::{Failure, LineCutter};

@@ -1,0 +1,8 @@
+"""Dyndep files, as `show` reads and spells them."""
+from tests.case import Case, each
+from tests.rows import dyndep_files as rows
+
+
+@each(rows.ROWS, lambda row: row.name)
+class Shown(Case):
+    """Calls of `show` on a dyndep file."""

@@ -1,0 +1,102 @@
+"""Each growth of memory is refused in turn: the first one of a run, then the second one, and so on until a run ends without.
+
+- The worked rows, by the program. A run has to answer that memory was refused, and to write no file; or what it answers where
+  nothing is refused, since it can do without some growths.
+- The tests of the modules `growths` of base_tests and library_tests (crates/*/src/growths.rt and crates/*/src/*/growths.rt). A
+  test has to end well, or with the error that memory was refused (`AllocError`, `AllocFailed`, `Failure::Memory`); an assertion
+  that fails, or any other end, is a failure.
+"""
+import fcntl
+import glob
+import os
+import re
+import subprocess
+import unittest
+
+from tests.case import Case, each, lay, tree
+from tests.program import TOP, caller, emptied, library
+from tests.tables import worked
+
+CRATES = "base_tests", "library_tests"
+NO_MEMORY = 3, b"", b"dyncollate: out of memory\n"
+REFUSED = re.compile(rb"^error: (Alloc(Error|Failed)\b|Memory$)", re.MULTILINE)
+
+
+def runs(called, words):
+    """What each run printed, and whether a growth was refused in it; in the last one none was."""
+    mark = os.memfd_create("mark")
+    try:
+        number, was_refused = 0, True
+        while was_refused:
+            number += 1
+            ran = called.run(*words, others=[(3, mark)], LD_PRELOAD=library("refuse_growth.c"), REFUSED_GROWTH=str(number))
+            was_refused = bool(emptied(mark))
+            yield ran, was_refused
+        if number == 1:
+            raise AssertionError("nothing grows")
+    finally:
+        os.close(mark)
+
+
+@each(worked(), lambda row: row.name)
+class Program(Case):
+    seconds = 2
+
+    def check(self, row):
+        before, made = row.texts(), row.made()
+        lay(before)
+        before = tree()
+        for number, (ran, was_refused) in enumerate(runs(self.caller, row.words), 1):
+            there = tree()
+            if not (was_refused and (ran, there) == (NO_MEMORY, before)):
+                what = f"growth {number} refused" if was_refused else "no growth refused"
+                self.same((ran, there), (row.printed(), before | made), what)
+                lay(row.texts())
+
+
+def test_names(crate):
+    """The tests of the modules `growths` of a crate, by their names in its sources."""
+    source = f"{TOP}/crates/{crate}/src/"
+    for file in sorted(glob.glob(source + "**/growths.rt", recursive=True)):
+        module = file[len(source):-len(".rt")].replace("/", "::")
+        with open(file, encoding="utf-8") as text:
+            for name in re.findall(r"#\[test\]\s+(?:#\[.*\]\s+)*fn (\w+)", text.read()):
+                yield crate, f"{module}::{name}"
+
+
+def is_current(tests):
+    """Whether these tests, which `rt ci` or `rt test` built, are those of the sources."""
+    if not os.access(tests, os.X_OK):
+        return False
+    found = subprocess.run(["find", f"{TOP}/crates", f"{TOP}/crates.txt", "-name", "out", "-prune", "-o", "-type", "f",
+                            "(", "-name", "*.rt", "-o", "-name", "crates.txt", ")", "-newer", tests, "-print", "-quit"],
+                           stdout=subprocess.PIPE, check=True)
+    return not found.stdout
+
+
+def tests_of(crate):
+    """The crate's tests, which are proved and built first where that is to be done, by one process."""
+    folder = f"{TOP}/crates/{crate}"
+    tests = f"{folder}/out/{crate}_tests"
+    with open(__file__, "rb") as lock:
+        fcntl.flock(lock, fcntl.LOCK_EX)
+        if not is_current(tests):
+            built = subprocess.run(["rt", "test"], cwd=folder, stdout=subprocess.PIPE, stderr=subprocess.STDOUT, check=False)
+            if built.returncode:
+                raise AssertionError("the tests are not proved and passed: " + built.stdout.decode(errors="replace")[-2000:])
+    return tests
+
+
+@each([it for crate in CRATES for it in test_names(crate)], "::".join)
+class Libraries(unittest.TestCase):
+    seconds = 20
+
+    def check(self, it):
+        crate, name = it
+        for number, (ran, was_refused) in enumerate(runs(caller(tests_of(crate)), [name]), 1):
+            status, _, err = ran
+            if status and not (was_refused and REFUSED.search(err)):
+                self.fail(f"growth {number}{'' if was_refused else ', none,'} refused: status {status}: {err!r:.300}")
+
+    def test_each_crate_has_such_tests(self):
+        self.assertEqual({crate for crate in CRATES for _ in test_names(crate)}, set(CRATES))

@@ -1,0 +1,8 @@
+"""Infos of linked targets, as `collate` reads them."""
+from tests.case import Case, each
+from tests.rows import infos as rows
+
+
+@each(rows.ROWS, lambda row: row.name)
+class Infos(Case):
+    """Calls of `collate` with an info."""
