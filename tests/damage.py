@@ -11,7 +11,10 @@ from collections import namedtuple
 from tests.case import Case, each, lay, tree, write
 from tests.expected.runs import answer_of, ending
 from tests.rows.dyndep_files import CUT, TWO
+from tests.side_by_side import side_by_side
 from tests.tables import worked
+
+load_tests = side_by_side
 
 BYTES = b"\x00\n\r $:|\"\\\x7f\x80\xff"
 LINE = re.compile(rb"dyncollate: [^\x00-\x1f\x7f]+\n")

@@ -28,7 +28,10 @@ from tests.program import PROGRAM, TOP, library
 from tests.rows import V, targets
 from tests.rows.dyndep_files import TWO
 from tests.rows.forms import target
+from tests.side_by_side import side_by_side
 from tests.tables import worked
+
+load_tests = side_by_side
 
 UNWRITTEN = 3, b"", b"dyncollate: cannot write standard output\n"
 

@@ -15,7 +15,10 @@ import unittest
 
 from tests.case import Case, each, lay, tree
 from tests.program import TOP, caller, emptied, library
+from tests.side_by_side import side_by_side
 from tests.tables import worked
+
+load_tests = side_by_side
 
 CRATES = "base_tests", "library_tests"
 NO_MEMORY = 3, b"", b"dyncollate: out of memory\n"

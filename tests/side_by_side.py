@@ -97,6 +97,11 @@ class SideBySide(unittest.TestSuite):
         return result
 
 
+def side_by_side(_loader, tests, _pattern):
+    """The `load_tests` of a module whose tests run so when it is run alone, too."""
+    return SideBySide(tests)
+
+
 def in_turn(ended, count):
     """So many that end, with a line every some seconds on how far they are."""
     began = said = time.monotonic()
