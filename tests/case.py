@@ -1,4 +1,4 @@
-"""A test that calls the program in a folder of its own, and compares its status, what it prints, and the files that are left."""
+"""Tests in folders of their own, which call the program and compare its status, what it prints, and the files that are left."""
 import os
 import re
 import tempfile

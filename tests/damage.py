@@ -1,9 +1,11 @@
-"""The worked rows with each file of theirs damaged: cut off after each byte, each byte changed to each of some, and each byte left
-out. What a text has in common with the beginning or the end of an earlier one of its kind is damaged in that one. Each answer is
-compared, its status, both texts and the files that are there afterwards, with what the package `expected` works out; and a
-beginning of a document has to be S1, and those of one dyndep file have to answer what its row says. No run may end in another way
-than with status 0, with status 1 and one line on standard error, or, where the damage names another file, with status 3 and such
-a line."""
+"""The worked rows with each file of theirs damaged: cut off after each byte, each byte changed to each of some, and each byte
+left out. What a text has in common with the beginning or the end of an earlier one of its kind is damaged in that one.
+
+Each answer is compared, its status, both texts and the files that are there afterwards, with what the package `expected` works
+out; and a beginning of a document has to be S1, and those of one dyndep file have to answer what its row says. No run may end
+in another way than with status 0, with status 1 and one line on standard error, or, where the damage names another file, with
+status 3 and such a line.
+"""
 import os
 import re
 from collections import namedtuple

@@ -4,8 +4,8 @@
   standard input and standard error that are closed.
 - Files that may have no more bytes than each number, a full disk (full_disk.py), and folders that vanish before a file in them
   is written.
-- Files that vanish once the document that names them was read, that are devices or folders, that may not be read, and names that
-  are no text.
+- Files that vanish once the document that names them was read, that are devices or folders, or that may not be read, and names
+  that are no text.
 - Each file of a run in turn as a pipe that gives one byte at a time, also where the run is stopped and goes on meanwhile.
 - Runs at once in one folder, of one target and of several.
 - A system that gives no random bytes, or little memory.
@@ -48,8 +48,8 @@ PROJECT = row("project", "three targets")
 # a call of each command that prints, and calls that read every kind of file
 PRINTED = [SHOW, row("one", "two rules, in their order"), row("effect", "two statements"), row("order", "after an effect")]
 WRITTEN = [COLLATE, PROJECT]
-READ = PRINTED + [REFUSED, row("collate", "edges that have an order"), row("collate", "a cycle through a file that is generated")] \
-    + WRITTEN
+READ = PRINTED + WRITTEN + [
+    REFUSED, row("collate", "edges that have an order"), row("collate", "a cycle through a file that is generated")]
 
 
 def situations(rows, *methods):
@@ -210,7 +210,8 @@ class Files(Devices):
                 wholly_before(self, it, failing, before, what=f"{size} bytes")
                 # with standard error closed, a file may get its number; the line must not go there
                 lay(it.files)
-                self.same(run_limited(self.caller, size, *it.words, closed=[2]), (3, b"", b""), f"{size} bytes, no standard error")
+                ran = run_limited(self.caller, size, *it.words, closed=[2])
+                self.same(ran, (3, b"", b""), f"{size} bytes, no standard error")
                 wholly_before(self, it, failing, before, what=f"{size} bytes, no standard error")
             else:
                 self.same((ran, tree()), (it.printed(), before | it.made()), f"{size} bytes")
@@ -229,8 +230,8 @@ class Files(Devices):
         if not shutil.which("unshare"):
             self.skipTest("there is no unshare")
         unshare = ["unshare", "-m"] if os.getuid() == 0 else ["unshare", "-rm"]
-        ran = subprocess.run(unshare + [sys.executable, "-m", "unittest", "-v", "tests.full_disk"], cwd=TOP, capture_output=True,
-                             text=True, check=False)
+        tests = [sys.executable, "-m", "unittest", "-v", "tests.full_disk"]
+        ran = subprocess.run(unshare + tests, cwd=TOP, capture_output=True, text=True, check=False)
         if "skipped" in ran.stderr or "unshare failed" in ran.stderr:
             self.skipTest("no small disk was mounted: " + ran.stderr[-300:])
         self.assertEqual(ran.returncode, 0, ran.stderr)

@@ -1,5 +1,5 @@
-"""The files of two real projects, in data/: each as it has to come out, and each that a run reads or writes, missing or in the way
-in turn. An independent implementation made the files in data/*/expected, and the real Ninja and Clang took them."""
+"""The files of two real projects, in data/: each as it has to come out, and each that a run reads or writes, missing or in the
+way in turn. An independent implementation made the files in data/*/expected, and the real Ninja and Clang took them."""
 import json
 import os
 import re

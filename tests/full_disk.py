@@ -1,4 +1,4 @@
-"""A disk of a few pages, of which more and more are free. The tests are run by devices.py, in a place where they may mount it."""
+"""A disk of a few pages, of which more and more are free. devices.py runs these tests in a place where they may mount it."""
 import os
 import resource
 import subprocess

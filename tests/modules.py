@@ -47,8 +47,9 @@ def below(number):
 def layered(number):
     """A rule of an object in a layer. Later objects have names that come first."""
     required = b" ".join(b"m%d" % (9999 - it) for it in sorted(below(number)))
-    text = rule(b"o%d.o|m%d|%s" % (number, 9999 - number, required))
-    return text.replace(b'"m%d"}' % (9999 - number), b'"m%d","compiled-module-path":"mod/m%d.bmi"}' % (9999 - number, number), 1)
+    name = 9999 - number
+    text = rule(b"o%d.o|m%d|%s" % (number, name, required))
+    return text.replace(b'"m%d"}' % name, b'"m%d","compiled-module-path":"mod/m%d.bmi"}' % (name, number), 1)
 
 
 def reached(number):

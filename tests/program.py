@@ -68,8 +68,8 @@ def emptied(file):
 
 @functools.lru_cache(None)
 def library(source):
-    """The name of a library that is made of a C file here, to be loaded before the C library. It is in memory, and there as long
-    as this process."""
+    """The name of a library that is made of a C file here, to be loaded before the C library. It is in memory as long as this
+    process."""
     with tempfile.TemporaryDirectory() as folder:
         made = subprocess.run([f"{TOP}/tests/preload", f"{TOP}/tests/{source}", f"{folder}/library.so"], capture_output=True,
                               text=True, check=False)

@@ -1,7 +1,8 @@
 """What holds of every kind of document (docs/FORMATS.md, "Documents"): sizes, JSON, versions, and members that nobody reads."""
 
 DOCUMENT, MEGABYTE, DEPTH = 16_777_216, 1_048_576, 127
-S1, S2, S3, S8 = b"S1 NotJson document", b"S2 BadVersion document", b"S3 BadShape document member document", b"S8 TooLarge document"
+S1, S2, S8 = b"S1 NotJson document", b"S2 BadVersion document", b"S8 TooLarge document"
+S3 = b"S3 BadShape document member document"
 
 
 def nested(levels, opened=b"[", closed=b"]"):

@@ -9,8 +9,8 @@ B_STATEMENT = statement(b"b.o", b"mod/B.bmi")
 EIGHT = b"".join(b"build %c: r\n" % it for it in b"abcdefgh")
 NINE = range(9)
 
-# why, the dyndep file's name, the listing, the text after the version line, the listing after it. Names are compared as canonical
-# paths, and what is added is last.
+# why, the dyndep file's name, the listing, the text after the version line, the listing after it. Names are compared as
+# canonical paths, and what is added is last.
 CHANGED = [
     ("* two statements", "t.dd", LIST, TWO[len(V):], AFTER),
     ("the name and the binding in other spellings", "./t.dd", LIST.replace(b"= t.dd", b"= ./x/../t.dd"), TWO[len(V):], AFTER),
@@ -58,7 +58,8 @@ REFUSED = [
      A_EDGE + b"build b.o: cxx b.cpp || t.dd\nbuild lib: ar a.o b.o\n", A_STATEMENT + B_STATEMENT, b"E5 NotBound b.o"),
     ("edges that name another dyndep file", "u.dd", LIST,
      b"build a.o | mod/A.bmi: dyndep | mod/B.bmi\nbuild b.o | mod/B.bmi: dyndep\n", b"E5 NotBound a.o"),
-    ("it comes before a statement twice", "t.dd", LIST, b"build a.o | lib: dyndep\n" * 2 + b"build x.o: dyndep\n", b"E5 NotBound x.o"),
+    ("it comes before a statement twice", "t.dd", LIST, b"build a.o | lib: dyndep\n" * 2 + b"build x.o: dyndep\n",
+     b"E5 NotBound x.o"),
     ("* the second edge", "t.dd", LIST, A_STATEMENT, b"E6 NotMentioned b.o"),
     ("no flag", "t.dd", LIST, b"build a.o | mod/A.bmi: dyndep | mod/B.bmi\n", b"E6 NotMentioned b.o"),
     ("it comes before a file that is added twice", "t.dd", LIST, b"build a.o | lib: dyndep\n", b"E6 NotMentioned b.o"),
@@ -71,8 +72,8 @@ REFUSED = [
     ("an empty path", "t.dd", LIST, b"build a/..: dyndep\n", b"E8 BadPath statement 0 path 0 N1 Empty"),
     ("the last path of a statement, before one without an edge", "t.dd", LIST,
      b"build x.o: dyndep\nbuild b.o | mod/B.bmi: dyndep | mod/C.bmi /..\n", b"E8 BadPath statement 1 path 3 N2 AboveRoot"),
-    ("two lines that keep the limit", "t", wide(b"build a:cxx", b"a") + b" t\n dyndep=t\n", wide(b"build a:dyndep|", b"b") + b"\n",
-     b"E9 ListingTooLong a"),
+    ("two lines that keep the limit", "t", wide(b"build a:cxx", b"a") + b" t\n dyndep=t\n",
+     wide(b"build a:dyndep|", b"b") + b"\n", b"E9 ListingTooLong a"),
 ]
 
 # why, the dyndep file's name, the files that are there, the one that cannot be read

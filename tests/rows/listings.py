@@ -1,5 +1,5 @@
-"""Listings of build edges, and what `order` answers to them (docs/FORMATS.md, "Edge listings" and "The effect of a dyndep file"). A
-dyndep file that no edge names and that has no statements changes no edge, so `effect` answers the same refusals."""
+"""Listings of build edges, and what `order` answers (docs/FORMATS.md, "Edge listings" and "The effect of a dyndep file").
+A dyndep file that no edge names and that has no statements changes no edge, so `effect` answers the same refusals."""
 from tests.rows import V, prints, refuses, unread
 from tests.rows.dyndep_files import LINE
 from tests.rows.forms import edge
@@ -59,8 +59,8 @@ ORDERS = [
      edge(b"a.o: cxx a.cpp || t.dd") + edge(b"b.o: cxx b.cpp gen.h || t.dd") + b"build gen.h: gen a.o\n", b"a.o gen.h b.o"),
     ("an input twice", b"build a: r b b\nbuild b: r\n", b"b a"),
     ("inputs of all kinds, and an implicit output", b"build a: cc || b\nbuild b: cc | d\nbuild c | d: cc source\n", b"c b a"),
-    ("* crooked lines", b"# x\r\nbuild  z/../a$\n   b | c:r-1 d||e\n # y\n restat = \n dyndep=./x/../e\n\nbuild e : r_ $\r\n  f$ g|h\r\n",
-     b"e ab"),
+    ("* crooked lines", b"# x\r\nbuild  z/../a$\n   b | c:r-1 d||e\n # y\n restat = \n dyndep=./x/../e\n\n"
+     b"build e : r_ $\r\n  f$ g|h\r\n", b"e ab"),
     ("control bytes", b"build a\tb\x01\x7f\x80: r\n", b"a?b??\x80"),
     ("a tab and DEL", b"build a\tb\x7f c: cp d\n", b"a?b?"),
 ]
@@ -89,8 +89,8 @@ WRITTEN = [
      b"build a: r obj/a.o obj/a.o /w/b /w/bc/x ../../x ../x /w/b a$ b$$c$:d\t\xff\n"),
     ("escapes in all places", b"build a$ b c | d: r e$$ | f$:g || h\n  dyndep = f$:g\n  restat = 1\n",
      b"build a$ b c | d: r e$$ | f$:g || h\n  dyndep = f$:g\n  restat = 1\n"),
-    ("a dyndep file in two spellings", b"build a.o: cxx a.cpp || ./t.dd\n  dyndep = ./x/../t.dd\n", edge(b"a.o: cxx a.cpp || t.dd")),
-    ("a dyndep file in two more", b"build b.o: cxx b.cpp || x//../t.dd\n  dyndep = ./x/../t.dd\n", edge(b"b.o: cxx b.cpp || t.dd")),
+    ("a dyndep file in two spellings", edge(b"a.o: cxx a.cpp || ./t.dd", b"./x/../t.dd"), edge(b"a.o: cxx a.cpp || t.dd")),
+    ("a dyndep file in two more", edge(b"b.o: cxx b.cpp || x//../t.dd", b"./x/../t.dd"), edge(b"b.o: cxx b.cpp || t.dd")),
     ("a dyndep file that is an input", edge(b"a.o: cxx a.cpp t.dd"), edge(b"a.o: cxx a.cpp t.dd")),
     ("a dyndep file that is an implicit input", edge(b"b.o: cxx b.cpp | b.h t.dd"), edge(b"b.o: cxx b.cpp | b.h t.dd")),
     ("edges that name another dyndep file", LIST, LIST),

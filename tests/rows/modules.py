@@ -1,5 +1,5 @@
-"""Modules of a target and of those that it links: which faults they have together, and what an object needs (docs/FORMATS.md, "The
-modules of a target" and "Module maps")."""
+"""Modules of a target and of those that it links: which faults they have together, and what an object needs (docs/FORMATS.md,
+"The modules of a target" and "Module maps")."""
 from tests.rows import V, prints, refuses
 from tests.rows.forms import document, info, module, sources, statement, target
 from tests.rows.targets import L_INFO
@@ -21,13 +21,15 @@ ONE_DOCUMENT = [
      b"M3 ProvidedTwice A by object a.o and object c.o"),
     ("* twice by one object", sources(b"a.o|A A|"), b"M3 ProvidedTwice A by object a.o and object a.o"),
     ("twice by one object, with another file",
-     document(b'{"primary-output":"a.o","provides":[{"logical-name":"A"},{"logical-name":"A","compiled-module-path":"2.bmi"}]}'),
+     document(b'{"primary-output":"a.o","provides":[{"logical-name":"A"},'
+              b'{"logical-name":"A","compiled-module-path":"2.bmi"}]}'),
      b"M3 ProvidedTwice A by object a.o and object a.o"),
     ("of two the one whose later member comes first", sources(b"a.o|A B|", b"b.o|B|", b"c.o|A|"),
      b"M3 ProvidedTwice B by object a.o and object b.o"),
     ("with its earliest partner", sources(b"a.o|A|", b"b.o|B|", b"c.o|B A|", b"d.o|B|"),
      b"M3 ProvidedTwice B by object b.o and object c.o"),
-    ("control bytes in two makers", sources(b"a\\t.o|A|", b"a\\u007f.o|A|"), b"M3 ProvidedTwice A by object a?.o and object a?.o"),
+    ("control bytes in two makers", sources(b"a\\t.o|A|", b"a\\u007f.o|A|"),
+     b"M3 ProvidedTwice A by object a?.o and object a?.o"),
     ("two names, one file", sources(b"a.o|a:b|", b"b.o|a-b|"), b"M4 BmiTwice mod/a-b.bmi by object a.o and object b.o"),
     ("a module and an object, before an unknown module", sources(b"a.o|A|", b"mod/A.bmi||X"),
      b"M4 BmiTwice mod/A.bmi by object mod/A.bmi and object a.o"),
@@ -35,12 +37,14 @@ ONE_DOCUMENT = [
      b"M4 BmiTwice b.o by object b.o and object a.o"),
     ("* a module that is its object", document(NAMED_A % (b"o/a.o", b"./o/a.o")),
      b"M4 BmiTwice o/a.o by object o/a.o and object o/a.o"),
-    ("control bytes in a file", document(NAMED_A % (b"a\\t.o", b"a\\u0009.o")), b"M4 BmiTwice a?.o by object a?.o and object a?.o"),
+    ("control bytes in a file", document(NAMED_A % (b"a\\t.o", b"a\\u0009.o")),
+     b"M4 BmiTwice a?.o by object a?.o and object a?.o"),
     ("* nobody provides it", sources(b"a.o||X"), b"M5 ModuleUnknown X in a.o"),
     ("the first one of the first object that has one", sources(b"a.o|A|A", b"b.o||A Y:Z X", b"c.o||X"),
      b"M5 ModuleUnknown Y:Z in b.o"),
     ("the first one of an object", sources(b"a.o|A|", b"b.o||A Y X", b"c.o||X"), b"M5 ModuleUnknown Y in b.o"),
-    ("control bytes, and a name beyond ASCII", sources(b"\xc3\xa9\\u001b.o||\xc3\xa9"), b"M5 ModuleUnknown \xc3\xa9 in \xc3\xa9?.o"),
+    ("control bytes, and a name beyond ASCII", sources(b"\xc3\xa9\\u001b.o||\xc3\xa9"),
+     b"M5 ModuleUnknown \xc3\xa9 in \xc3\xa9?.o"),
     ("a control byte in an object that provides", sources(b"a\\t.o|A|X"), b"M5 ModuleUnknown X in a?.o"),
     ("* two objects behind another", sources(b"a.o||B", b"b.o|B|C", b"c.o|C|B"), b"M8 ImportCycle b.o -> c.o"),
     ("an object that requires itself", sources(b"a.o|A|A"), b"M8 ImportCycle a.o"),
@@ -129,7 +133,8 @@ K = module(b"K", b"k/K.bmi", (b"l/L.bmi", b"L"))
 # why, the sources, the infos, GCC's map of each object in order
 NEEDS = [
     ("what is provided is in order of provision", [b"main.o||", b"a.o|A A:p|"], [], [b"", b"A mod/A.bmi\nA:p mod/A-p.bmi\n"]),
-    ("what is needed through others is there once, in byte order", [b"main.o||a B a", b"a.o|a|A:p B", b"b.o|B|A:p", b"p.o|A:p|"], [],
+    ("what is needed through others is there once, in byte order",
+     [b"main.o||a B a", b"a.o|a|A:p B", b"b.o|B|A:p", b"p.o|A:p|"], [],
      [b"A:p mod/A-p.bmi\nB mod/B.bmi\na mod/a.bmi\n", b"a mod/a.bmi\nA:p mod/A-p.bmi\nB mod/B.bmi\n",
       b"B mod/B.bmi\nA:p mod/A-p.bmi\n", b"A:p mod/A-p.bmi\n"]),
     ("through infos", [b"main.o||A", b"a.o|A|K"],
@@ -157,7 +162,8 @@ def linking(its_sources, infos, more=b""):
 
 def chain(count, last):
     """Objects of which each requires the module of the next, and the last one this name."""
-    return sources(*(b"o%d.o|m%d|m%d" % (it, it, it + 1) for it in range(count - 1)), b"o%d.o|m%d|%s" % (count - 1, count - 1, last))
+    at = count - 1
+    return sources(*(b"o%d.o|m%d|m%d" % (it, it, it + 1) for it in range(at)), b"o%d.o|m%d|%s" % (at, at, last))
 
 
 CHAIN = V + b"".join(statement(b"o%d.o" % it, b"mod/m%d.bmi" % it, b"mod/m%d.bmi" % (it + 1)) for it in range(LONG_RING - 1)) \

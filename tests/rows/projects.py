@@ -39,7 +39,8 @@ def without_maps(files):
 
 
 TWO_TARGETS = b'{"targets":["0.json","1.json"],"version":1}'
-L_EDGES, K_EDGES, X_EDGES = edge(b"l.o: cxx l.cpp || 0.dd", b"0.dd"), edge(b"k.o: cxx k.cpp || 1.dd", b"1.dd"), b"build x.o: cxx\n"
+L_EDGES, K_EDGES = edge(b"l.o: cxx l.cpp || 0.dd", b"0.dd"), edge(b"k.o: cxx k.cpp || 1.dd", b"1.dd")
+X_EDGES = b"build x.o: cxx\n"
 EDGED = {"0.json": member(0, more=GCC + b',"edges":"0.edges"'), "1.json": member(1, 0, more=GCC + b',"edges":"1.edges"')}
 PRIVATE_B = member(0, more=GCC + b',"target":"l","private":["B"]')
 NO_B = {"1.json": member(1, more=GCC + b',"info":"0.info"'), "1.ddi": sources(b"k.o|K|"), "2.json": member(2, 0)}
@@ -60,7 +61,8 @@ DONE = [
       "1.dd": V + statement(b"k.o", b"mod/K.bmi"), "main.o.modmap": b"K mod/K.bmi\n"}
      | {name: SECOND[name] for name in ("2.info", "2.dd")}),
     ("a private module is reached and mapped like another",
-     {"project.json": TWO_TARGETS, "0.json": PRIVATE_B, "0.ddi": sources(b"l.o|L|B", b"b.o|B|"), "1.ddi": sources(b"main.o||L")},
+     {"project.json": TWO_TARGETS, "0.json": PRIVATE_B, "0.ddi": sources(b"l.o|L|B", b"b.o|B|"),
+      "1.ddi": sources(b"main.o||L")},
      {"l.o.modmap": b"L mod/L.bmi\nB mod/B.bmi\n", "b.o.modmap": b"B mod/B.bmi\n",
       "0.info": b'{"modules":[{"bmi":"mod/L.bmi","name":"L","requires":[{"bmi":"mod/B.bmi","name":"B"}],"visibility":"public"},'
                 b'{"bmi":"mod/B.bmi","name":"B","requires":[],"visibility":"private"}],"target":"l","version":2}',
@@ -96,7 +98,8 @@ REFUSED = [
      b"target 1: target: S3 BadShape document member map"),
     ("maps, after a target without", {"0.json": member(0, more=b',"map":null')},
      b"target 1: target: S3 BadShape document member map"),
-    ("a path with a space", {"0.json": member(0, more=GCC + b',"module-dir":"my mods"')}, b"target 0: K1 MapPath my mods/B.bmi"),
+    ("a path with a space", {"0.json": member(0, more=GCC + b',"module-dir":"my mods"')},
+     b"target 0: K1 MapPath my mods/B.bmi"),
     ("two modules of an object, for Clang", CLANG | {"1.ddi": sources(b"k.o|K K2|B")}, b"target 1: K2 TwoProvided k.o"),
     ("* a target document without members", {"1.json": b"{}"}, b"target 1: target: S2 BadVersion document"),
     ("another version of a target document", {"1.json": b'{"version":2}'}, b"target 1: target: S2 BadVersion document"),
@@ -113,7 +116,8 @@ REFUSED = [
     ("an object that no edge makes", EDGED | {"0.edges": L_EDGES, "1.edges": X_EDGES}, b"target 1: E5 NotBound k.o"),
     ("of the edges of two targets the first", EDGED | {"0.edges": X_EDGES, "1.edges": X_EDGES}, b"target 0: E5 NotBound l.o"),
     ("modules of a later target come before edges",
-     EDGED | {"0.edges": X_EDGES, "1.edges": K_EDGES, "2.ddi": sources(b"main.o||X")}, b"target 2: M5 ModuleUnknown X in main.o"),
+     EDGED | {"0.edges": X_EDGES, "1.edges": K_EDGES, "2.ddi": sources(b"main.o||X")},
+     b"target 2: M5 ModuleUnknown X in main.o"),
 ]
 
 # why, the files that are others or, if None, not there, and the file that cannot be read

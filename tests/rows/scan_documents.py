@@ -124,7 +124,8 @@ COLLATED = [
               b'{"primary-output":"./a.o","work-directory":""}'),
      statement(b"../w/a.o") + statement(b"/x/y") + statement(b"a.o")),
     ("a module's file in its work directory",
-     document(b'{"primary-output":"a.o","work-directory":"/w","provides":[{"logical-name":"A","compiled-module-path":"./x.bmi"}]}'),
+     document(b'{"primary-output":"a.o","work-directory":"/w","provides":'
+              b'[{"logical-name":"A","compiled-module-path":"./x.bmi"}]}'),
      statement(b"/w/a.o", b"/w/x.bmi")),
     ("a partition, an empty work directory, and null for what is required",
      document(b'{"primary-output":"a.o","work-directory":"","provides":[{"logical-name":"M:P"}],"requires":null}'),
@@ -137,7 +138,8 @@ COLLATED = [
     ("the file that a requirement names counts for nothing",
      document(b'{"primary-output":"main.o","work-directory":"/w","requires":'
               b'[{"logical-name":"A","compiled-module-path":"b.pcm"}]}',
-              b'{"primary-output":"a.o","work-directory":"/w","provides":[{"logical-name":"A","compiled-module-path":"./a$.pcm"}]}'),
+              b'{"primary-output":"a.o","work-directory":"/w","provides":'
+              b'[{"logical-name":"A","compiled-module-path":"./a$.pcm"}]}'),
      statement(b"/w/main.o", b"", b"/w/a$$.pcm") + statement(b"/w/a.o", b"/w/a$$.pcm")),
     ("what is reached through others is no input", sources(b"a.o||B", b"b.o|B|C", b"c.o|C|"),
      statement(b"a.o", b"", b"mod/B.bmi") + statement(b"b.o", b"mod/B.bmi", b"mod/C.bmi") + statement(b"c.o", b"mod/C.bmi")),
@@ -224,9 +226,11 @@ def unescaped(name):
 
 ROWS = ([answers(*row) for row in DOCUMENTS]
         + [answers(why, document(rule), line) for why, rule, line in RULES]
-        + [answers(f"{path[:20]} in {folder}", object_at(path, folder), b"S7 BadPath rule 0 " + fault) for path, folder, fault in PATHS]
+        + [answers(f"{path[:20]} in {folder}", object_at(path, folder), b"S7 BadPath rule 0 " + fault)
+           for path, folder, fault in PATHS]
         + [prints(why, CALL, {"t.ddi": text}, V + out) for why, text, out in COLLATED]
-        + [prints(why, ["one", "t.ddi", folder, ending], {"t.ddi": text}, V + out) for why, text, folder, ending, out in FOLDERS]
+        + [prints(why, ["one", "t.ddi", folder, ending], {"t.ddi": text}, V + out)
+           for why, text, folder, ending, out in FOLDERS]
         + [prints(f"the name {name[:20]}", CALL, providing(name), V + statement(b"a.o", b"b")) for name in NAMES]
         + [refuses(f"no name {name[:20]}", CALL, providing(name), b"scan 0: S6 BadName rule 0 provides 0") for name in NO_NAMES]
         + [refuses(f"the name {name[:20]} required", CALL, requiring(name), b"M5 ModuleUnknown %s in a.o" % unescaped(name))

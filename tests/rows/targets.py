@@ -1,5 +1,6 @@
 """Target documents with the files that they name, and what `collate` answers to them and writes (docs/FORMATS.md, "Target
-documents", "Module maps" and "Lines that the program prints"). What is refused of infos and modules is in infos.py and modules.py."""
+documents", "Module maps" and "Lines that the program prints"). What is refused of infos and modules is in infos.py and
+modules.py."""
 from tests.rows import V, Row, refuses, unread, writes
 from tests.rows.documents import MEGABYTE, of_kind
 from tests.rows.dyndep_files import ONE as ONE_STATEMENT, TWO as TWO_STATEMENTS
@@ -69,7 +70,8 @@ WRITTEN = [
     ("a private module is in maps", LINKS + b',"map":"gcc"', {"m.ddi": sources(b"main.o||L"), "l.json": PRIVATE_INFO},
      {"main.o.modmap": b"B mod/B.bmi\nL mod/L.bmi\n", "t.json": NO_MODULES,
       "t.dd": V + statement(b"main.o", b"", b"mod/L.bmi")}),
-    ("a private module that is named twice", b',"scans":["s.ddi"],"linked":[],"private":["A","A"]', {"s.ddi": sources(b"a.o|A|")},
+    ("a private module that is named twice", b',"scans":["s.ddi"],"linked":[],"private":["A","A"]',
+     {"s.ddi": sources(b"a.o|A|")},
      {"t.json": b'{"modules":[{"bmi":"mod/A.bmi","name":"A","requires":[],"visibility":"private"}],"target":"t","version":2}',
       "t.dd": V + statement(b"a.o", b"mod/A.bmi")}),
     ("quotation marks and backslashes are escaped in the info", b',"scans":["a.ddi"],"target":"a\\"b\\\\c"',
@@ -134,7 +136,8 @@ DOCUMENTS = [
 
 UNFIT = document(b'{"primary-output":"a.o","provides":[{"logical-name":"A","compiled-module-path":"my mods/A.bmi"},'
                  b'{"logical-name":"C"}]}')
-UNFIT_A = {"a.ddi": document(b'{"primary-output":"a.o","provides":[{"logical-name":"A","compiled-module-path":"my mods/A.bmi"}]}')}
+UNFIT_A = {"a.ddi": document(
+    b'{"primary-output":"a.o","provides":[{"logical-name":"A","compiled-module-path":"my mods/A.bmi"}]}')}
 UNFIT_CD = {"ab.ddi": sources(b"a.o|A B|D C"), "l.json": info(module(b"D", b"it's"), module(b"C", b"my mods/C"))}
 CD = b',"scans":["ab.ddi"],"linked":["l.json"]'
 UNFIT_B = {"m.ddi": MAIN, "l.json": info(module(b"B", b"it's"))}
