@@ -2,7 +2,8 @@
 // broken_programs.py has a row for. It needs no header, so that the toolchain's own clang compiles it.
 typedef __SIZE_TYPE__ size;
 enum { TO_WRITE = 1, CREATED = 0100, TRUNCATED = 01000, APPENDED = 02000, NO_WAIT = 04000 };
-enum { ABORTED = 6, PIPE_BROKEN = 13 };
+enum { ABORTED = 6, KILLED = 9 };
+#define NEXT ((void *)-1L)
 #define WANT "dyncollate: out of memory\n"
 extern long __write(int, const void *, size);
 extern long __read(int, void *, size);
@@ -16,7 +17,7 @@ extern size strlen(const char *);
 extern int kill(int, int);
 extern int getpid(void);
 extern void _exit(int);
-extern long getrandom(void *, size, unsigned);
+extern void *dlsym(void *, const char *);
 
 static int is(const char *way) {
   const char *broken = getenv("BROKEN");
@@ -43,6 +44,15 @@ static int is_unwritten(const char *line) {
   return 0;
 }
 
+static long write_without_escapes(const char *bytes, size count) {
+  static char made[65536];
+  size length = 0;
+  for (size at = 0; at < count && length < sizeof made; at++)
+    if (bytes[at] != '$' || at + 1 == count || bytes[at + 1] != ':')
+      made[length++] = bytes[at];
+  return __write(1, made, length) < 0 ? -1 : (long)count;
+}
+
 long write(int file, const void *bytes, size count) {
   int is_file = file > 2;
   if (file == 2 && !strncmp(bytes, WANT, strlen(WANT)) && is_unwritten(bytes))
@@ -51,9 +61,11 @@ long write(int file, const void *bytes, size count) {
     return __write(file, bytes, count - 1) + 1;
   if (count > 1 && is("a_long_write_cut_off") && is_file)
     return __write(file, bytes, count / 2) < 0 ? -1 : (long)count;
+  if (file == 1 && is("a_colon_without_its_escape"))
+    return write_without_escapes(bytes, count);
   long written = __write(file, bytes, count);
   if (written < 0 && is("a_broken_pipe_is_a_signal"))
-    kill(getpid(), PIPE_BROKEN);
+    kill(getpid(), KILLED);
   if (written < 0 && (is("a_failed_write_of_a_file") && is_file || is("a_failed_write_of_the_output") && file == 1))
     return count;
   if (written >= 0 && written < (long)count && is("a_short_write_is_an_end"))
@@ -109,10 +121,10 @@ int open(const char *name, int flags, int mode) {
 }
 
 int getentropy(void *bytes, size count) {
-  if (is("fixed_keys")) {
-    for (size at = 0; at < count; at++)
-      ((char *)bytes)[at] = 7;
-    return 0;
-  }
-  return getrandom(bytes, count, 0) == (long)count ? 0 : -1;
+  int (*next)(void *, size) = dlsym(NEXT, "getentropy");
+  if (!is("fixed_keys"))
+    return next(bytes, count);
+  for (size at = 0; at < count; at++)
+    ((char *)bytes)[at] = 7;
+  return 0;
 }

@@ -85,7 +85,6 @@ WORDS = [
 ]
 
 ANSWERS = [
-    Broken("a colon written without its $", filtered("out", r"sed 's/\$:/:/g'"), "random_documents", "scan_documents"),
     Broken("a restat left out", filtered("out", "sed '/restat/d'"), "random_documents", "dyndep_files"),
     Broken("an order turned round", filtered("out", "{ [ \"$1\" = order ] && sort -r || cat; }"), "random_documents", "listings"),
 ]
@@ -162,7 +161,7 @@ def compiled(source, result, *flags):
 
 
 # of documents made at random as few as show a difference
-SHORT = {"RANDOM_SECONDS": "5", "RANDOM_SEED": "1"}
+SHORT = {"RANDOM_SECONDS": "3", "RANDOM_SEED": "1"}
 
 
 @functools.lru_cache(None)
@@ -178,16 +177,25 @@ def tests_with(how, tests, part):
 @each(ROWS, lambda row: row.why)
 class BrokenPrograms(unittest.TestCase):
     """The tests of a row fail where the program is broken, and pass where it is called in the same way and nothing is broken."""
+    seconds = 3
+
+    def setUp(self):
+        if not program.is_there():
+            self.fail("there is no program to be tested; ./build makes it")
 
     def check(self, row):
-        nothing = "nothing" if is_way(row.how) else f"exec {CALL}"
-        self.assertRegex(tests_with(nothing, row.tests, row.part), r"Ran [1-9]\d* tests? in .*\n\nOK")
-        self.assertRegex(tests_with(row.how, row.tests, row.part), r"(?m)^FAILED \(failures=\d+")
+        found = tests_with("nothing" if is_way(row.how) else f"exec {CALL}", row.tests, row.part)
+        if not re.search(r"Ran [1-9]\d* tests? in .*\n\nOK", found):
+            self.fail("nothing is broken, but not all tests passed:\n" + found)
+        found = tests_with(row.how, row.tests, row.part)
+        if not re.search(r"(?m)^FAILED \(failures=\d+", found):
+            self.fail("no test failed:\n" + found)
 
     def test_a_document_made_at_random_is_made_smaller(self):
         """Where `$:` is written as `:`, a document with one such path is left, and nothing else."""
-        found = tests_with(filtered("out", r"sed 's/\$:/:/g'"), "random_documents", "scan_documents")
+        found = tests_with("a_colon_without_its_escape", "random_documents", "scan_documents")
         documents = [ast.literal_eval(it) for it in re.findall(r"^    t\.ddi: (.*)", found, re.M)]
+        self.assertIn("FAILED", found)
         self.assertTrue(documents, found)
         for text in documents:
             self.assertLessEqual(len(text), 100)

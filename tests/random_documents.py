@@ -34,8 +34,6 @@ PROCESSORS = len(os.sched_getaffinity(0))
 # how often a file of a round is damaged
 DAMAGES = 20
 SEEDS = 1_000_000_000
-# A process ends after so many failures.
-FAILURES = 3
 
 
 class Differs(Exception):
@@ -196,11 +194,11 @@ Tried = namedtuple("Tried", "rounds calls failures")
 
 
 def tried(kinds, seeds, until):
-    """Rounds of these kinds, by these seeds, until a time."""
+    """Rounds of these kinds, by these seeds, until a time, or until one differs."""
     program, rounds, failures = Program(), 0, []
     above = os.getcwd()
     for kind, seed in ((kind, seed) for seed in seeds for kind in kinds):
-        if time.monotonic() >= until or len(failures) == FAILURES:
+        if time.monotonic() >= until or failures:
             break
         with tempfile.TemporaryDirectory(prefix="dyncollate-", dir=MEMORY) as folder:
             os.chdir(folder)
