@@ -42,7 +42,7 @@ def row(command, why):
 
 SHOW = row("show", "two statements")
 REFUSED = row("show", "another rule")
-RING = row("one", "two objects behind another")
+RING = row("one", "two objects after another")
 COLLATE = row("collate", "GCC's maps")
 PROJECT = row("project", "three targets")
 # a call of each command that prints, and calls that read every kind of file

@@ -120,7 +120,7 @@ class CollatedWithout(Real):
         name, target = it
         self.lay(name)
         text = document(TARGET % target)
-        # the infos are read from a folder of their own, so that what is written can be told
+        # the infos are read from a folder of their own, so that dd has what is written and nothing else
         linked = ["in/" + os.path.basename(info) for info in text["linked"]]
         for info in text["linked"]:
             write("in/" + os.path.basename(info), read("expected/" + info))

@@ -9,7 +9,7 @@ def nested(levels, opened=b"[", closed=b"]"):
     return opened * levels + b"0" + closed * levels
 
 
-# the value of `version` in a document of version 1, and the fault or None; texts behind it are further members
+# the value of `version` in a document of version 1, and the fault or None; texts after it are further members
 VERSIONS = [
     (b'"1"', S2), (b"-1", S2), (b"1e400", S1), (b"1.0", S2), (b"1e0", S2), (b"true", S2), (b"null", S2), (b"[1]", S2),
     (b"-0", S2), (b"01", S1), (b"+1", S1), (b"1.", S1), (b"0x1", S1), (b"18446744073709551617", S2), (b"3", S2),
@@ -35,8 +35,8 @@ WHOLE = [
     ("no byte", lambda text: b"", S1),
     ("a mark of the byte order", lambda text: b"\xef\xbb\xbf" + text, S1),
     ("UTF-16", lambda text: text.decode().encode("utf-16"), S1),
-    ("something behind it", lambda text: text + b"x", S1),
-    ("a NUL behind it", lambda text: text + b"\x00", S1),
+    ("something after it", lambda text: text + b"x", S1),
+    ("a NUL after it", lambda text: text + b"\x00", S1),
     ("spaces around it", lambda text: b"\t\r\n " + text + b" \n\r\t", None),
     ("an array in its place", lambda text: b"[" + text + b"]", S3),
     ("an empty array in its place", lambda text: b"[]", S3),
