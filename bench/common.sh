@@ -1,12 +1,12 @@
-# What the scripts measure.sh share: common.sh is sourced by them, behind a line that sets here to
-# their directory. It builds plain, which does what dyncollate does and proves nothing, rounds, which
-# measures both, and collide, which finds names that a hash table takes long for; and it proves and
-# builds the program where it is not up to date. Where DYNCOLLATE names a program, that is measured in
+# What the scripts measure.sh share: common.sh is sourced by them, after a line that sets here to
+# their directory. It builds plain, which does what dyncollate does and proves nothing, floor, which
+# only reads and writes the same files, rounds, which measures them, and collide, which finds names
+# that a hash table takes long for; and it proves and builds the program where it is not up to date. Where DYNCOLLATE names a program, that is measured in
 # its place. plain needs RapidJSON, Debian's package rapidjson-dev.
 top=$(cd "$here/../.." && pwd)
 tools=${TMPDIR:-/tmp}/dyncollate-bench/tools
 mkdir -p "$tools"
-for source in plain/plain rounds collide; do
+for source in plain/plain floor rounds collide; do
     g++ -O2 -std=c++20 -o "$tools/$(basename "$source")" "$top/bench/$source.cpp"
 done
 # the documents and what is written stand in memory where they can, since disks differ more than programs do
@@ -25,20 +25,22 @@ generate() {
     awk "${values[@]/#/-v}" -f "$top/bench/names.awk" -f "$top/bench/$1"
 }
 
-# clear DIR..: the directories program and plain, in which both run, have these directories and nothing else.
+# clear DIR..: the directories program, plain and floor, in which they run, have these directories and nothing else.
 clear() {
-    for name in program plain; do
+    for name in program plain floor; do
         rm -rf "${work:?}/$name"
         mkdir -p "$work/$name"
         (cd "$work/$name" && mkdir -p . "$@")
     done
 }
 
-# compare LABEL COUNT BYTES ROUNDS STATUS WORDS..: runs both with the words so often, sees that they leave the same
-# files and lines, and prints a line for table: the first three arguments, and what rounds prints of both.
+# compare LABEL COUNT BYTES ROUNDS STATUS WORDS..: runs program and plain with the words so often, sees that they leave the
+# same files and lines, and prints a line for table: the first three arguments, and what rounds prints of both and of floor.
 compare() {
-    "$tools/rounds" "$4" "$5" "$work/program" "$program" "$work/plain" "$tools/plain" -- "${@:6}" \
-        > "$work/measured"
+    (cd "$work/plain" && PLAIN_CALLS=$work/calls "$tools/plain" "${@:6}" > out 2> err) || true
+    echo "end $5" >> "$work/calls"
+    "$tools/rounds" "$4" "$5" "$work/program" "$program" "$work/plain" "$tools/plain" "$work/floor" "$tools/floor" \
+        -- "${@:6}" > "$work/measured"
     diff -r "$work/program" "$work/plain" >&2
     echo "$1" "$2" "$3" $(cat "$work/measured")
 }
@@ -50,15 +52,17 @@ alone() {
     echo "$1" "$2" "$3" $(cat "$work/measured")
 }
 
-# table WHAT: of the lines of compare, the processor time that both take, of the fastest run and of the median one, the
-# kilobytes that both hold at most, and how often the program takes what plain takes; then the time by the things that
-# are counted, and how much this grew since the first line under the same label, but for digits at its end.
+# table WHAT: of the lines of compare, the processor time that program and plain take, of the fastest run and of the median
+# one, and how often the program takes what plain takes; that of floor's fastest run, and how often the program takes that;
+# the kilobytes that program and plain hold at most, and how often the program holds what plain holds; then the program's
+# time by the things that are counted, and how much this grew since the first line under the same label, but for digits at
+# its end.
 table() {
     awk -v what="$1" '
         BEGIN {
-            titles = "%-14s %8s %10s %9s %9s %9s %9s %6s %8s %8s %6s %9s %6s\n"
+            titles = "%-14s %8s %10s %9s %9s %9s %9s %6s %9s %6s %8s %8s %6s %9s %6s\n"
             printf titles, "", what, "bytes", "best ms", "median", "C++ best", "median", "ratio", \
-                "KB", "C++ KB", "ratio", "us/" substr(what, 1, 6), "growth"
+                "floor", "ratio", "KB", "C++ KB", "ratio", "us/" substr(what, 1, 6), "growth"
         }
         {
             each = $4 / $2 * 1e3
@@ -68,8 +72,8 @@ table() {
             smallest = label == before ? smallest : each
             printf "%-14s %8d %10d %9.2f %9.2f ", $1, $2, $3, $4, $5
         }
-        NF == 9 { printf "%9.2f %9.2f %6.2f %8d %8d %6.2f", $7, $8, $4 / $7, $6, $9, $6 / $9 }
-        NF == 6 { printf "%9s %9s %6s %8d %8s %6s", "-", "-", "-", $6, "-", "-" }
+        NF == 12 { printf "%9.2f %9.2f %6.2f %9.2f %6.2f %8d %8d %6.2f", $7, $8, $4 / $7, $10, $4 / $10, $6, $9, $6 / $9 }
+        NF == 6 { printf "%9s %9s %6s %9s %6s %8d %8s %6s", "-", "-", "-", "-", "-", $6, "-", "-" }
         { printf " %9.2f %6.2f\n", each, each / smallest; fflush() }
     '
 }

@@ -91,11 +91,11 @@ limits() {
         {
             each = $4 * 1e6 / $3
             memory = $6 * 1024 / $3
-            over = (NF == 9 ? $4 > 3 * $7 : each > 50) ? " time" : ""
+            over = (NF == 12 ? $4 > 3 * $7 : each > 50) ? " time" : ""
             over = over (memory > 10 ? " memory" : "")
             printf "%-9s %9d %9.2f ", $1, $3, $4
         }
-        NF == 9 { printf "%9.2f %6.2f %8.2f %8d %8d", $7, $4 / $7, each, $6, $9 }
+        NF == 12 { printf "%9.2f %6.2f %8.2f %8d %8d", $7, $4 / $7, each, $6, $9 }
         NF == 6 { printf "%9s %6s %8.2f %8d %8s", "-", "-", each, $6, "-" }
         { printf " %9.2f %s\n", memory, over; fflush() }
     '

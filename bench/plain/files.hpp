@@ -1,4 +1,5 @@
-// Files, read and written whole.
+// Files, read and written whole. Where the environment variable PLAIN_CALLS names a file, what is read and written is noted
+// there, a line for each call, for floor.cpp.
 #pragma once
 
 #include <fcntl.h>
@@ -6,6 +7,8 @@
 #include <unistd.h>
 
 #include <cstddef>
+#include <cstdio>
+#include <cstdlib>
 #include <string>
 #include <string_view>
 
@@ -28,6 +31,14 @@ private:
     int file_;
 };
 
+inline void note(char call, std::size_t length, const std::string& name) {
+    static const char* const wanted = std::getenv("PLAIN_CALLS");
+    static std::FILE* const calls = wanted == nullptr ? nullptr : std::fopen(wanted, "w");
+    if (calls != nullptr) {
+        std::fprintf(calls, "%c %zu %s\n", call, length, name.c_str());
+    }
+}
+
 inline std::string read_file(const std::string& name) {
     const OpenFile file(name.c_str(), O_RDONLY);
     struct stat about;
@@ -43,6 +54,7 @@ inline std::string read_file(const std::string& name) {
         }
         length += static_cast<std::size_t>(count);
     }
+    note('r', length, name);
     return bytes;
 }
 
@@ -63,10 +75,12 @@ inline void write_file(const std::string& name, std::string_view text) {
     if (file.get() < 0 || !write_all(file.get(), text)) {
         throw FileError("cannot write " + name);
     }
+    note('w', text.size(), name);
 }
 
 inline void write_out(std::string_view text) {
     if (!write_all(STDOUT_FILENO, text)) {
         throw FileError("cannot write standard output");
     }
+    note('o', text.size(), "");
 }
