@@ -1,4 +1,4 @@
-use Rattle.std.proofs.Common.{◌∙◌, map, string_bytes}
+use Rattle.std.proofs.Common.{◌∙◌, map, string_bytes, rules}
 use Rattle.clap.specs.Words.{app_of}
 use Rattle.command_line.proofs.Commands.{all_text, no_task, task_parsed}
 use Rattle.command_line.proofs.arguments.task_of.Goals as goal
@@ -16,3 +16,7 @@ returns c =
     no_task (app_of c.in_ok-command.command) (map string_bytes arguments) c.in-Err.error
     c.in_ok-command.ensures (all_text arguments) c.in-Err.ensures.kinds
     (λ e. c.in_default.not-OutOfMemory (c.kind.ensures ∙ e))
+
+-- said here, so that a body which does something else is refused soon
+pub returns-in-OutOfMemory : goal.returns-in-OutOfMemory
+returns-in-OutOfMemory c = search rules
