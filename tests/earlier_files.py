@@ -57,7 +57,7 @@ class StandardInput(Case):
             lay(row.texts())
             end, other = os.pipe()
             os.write(other, b"x")
-            self.same(self.caller.run(*row.words, others=[(0, end)]), row.printed(), row.name)
             os.close(other)
+            self.same(self.caller.run(*row.words, others=[(0, end)]), row.printed(), row.name)
             self.same(os.read(end, 2), b"x", row.name)
             os.close(end)
