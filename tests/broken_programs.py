@@ -39,7 +39,7 @@ def ended(status, then):
 
 
 def with_words(command):
-    """The words are changed one by one: the command puts `$word` behind `$@`."""
+    """The words are changed one by one: the command adds `$word` to `$@`."""
     return f"for word; do shift; {command}; done; exec {CALL}"
 
 
@@ -58,6 +58,8 @@ PRINTING = [
     Broken("output without its last line", filtered("out", "sed '$d'"), "arguments", "names_a_file"),
     Broken("a line too many", f"{CALL} && echo", "arguments", "names_a_file"),
     Broken("lines that end in CR LF", filtered("out", "sed 's/$/\\r/'"), "arguments", "names_a_file"),
+    Broken("closed standard output not reported", f"[ -e /proc/$$/fd/1 ] || exec > /dev/null; exec {CALL}",
+           "devices.Output", "test_closed_show"),
     Broken("output of a run that failed", f"{CALL} || {{ status=$?; echo ninja_dyndep_version = 1; exit $status; }}",
            "arguments", "no_command"),
 ]
@@ -76,17 +78,19 @@ WORDS = [
     Broken("-- kept as an argument", with_words('[ "$word" != -- ] || set -- "$@" --; set -- "$@" "$word"'),
            "arguments", "an_option_after"),
     Broken("words too many dropped", called_with("show|order|collate|project", '"$1" "$2"'), "arguments", "a_word_too_many"),
-    Broken("commands in capitals", "command=$(printf %s \"$1\" | tr A-Z a-z); [ $# = 0 ] || shift; exec \"$real\" \"$command\" \"$@\"",
+    Broken("words in capitals taken for others", with_words('set -- "$@" "$(printf %s "$word" | tr A-Z a-z)"'),
            "arguments", "a_command_in_capitals"),
+    Broken("bytes that are no text dropped", with_words('set -- "$@" "$(printf %s "$word" | LC_ALL=C tr -d "\\200-\\377")"'),
+           "devices.Inputs", "no_text_show"),
     Broken("help", f'case " $* " in *" --help "*|*" -h "*) echo help; exit 0;; esac; exec {CALL}', "arguments", "no_help"),
     Broken("folder and ending exchanged", called_with("one", '"$1" "$2" "$4" "$3"'), "arguments", "no_folder"),
     Broken("words divided at spaces", 'exec "$real" $@', "arguments", "space"),
-    Broken("another name of a file", called_with("show", '"$1" "./$2"'), "arguments", "cannot_read"),
+    Broken("another name of a file", called_with("show|order|collate|project", '"$1" "./$2"'), "arguments", "cannot_read"),
 ]
 
 ANSWERS = [
     Broken("a restat left out", filtered("out", "sed '/restat/d'"), "random_documents", "dyndep_files"),
-    Broken("an order turned round", filtered("out", "{ [ \"$1\" = order ] && sort -r || cat; }"), "random_documents", "listings"),
+    Broken("an order turned round", filtered("out", '{ [ "$1" = order ] && sort -r || cat; }'), "random_documents", "listings"),
 ]
 
 # calls of the system; the files that are read and written, and standard output
@@ -121,14 +125,16 @@ CALLS = [
 LEFT = [
     Broken("a file of its own left", f"{CALL}; status=$?; : > t.tmp; exit $status", "arguments", "no_command"),
     Broken("a file written though it is refused", ended(1, ": > t.dd"), "targets", "S1"),
-    Broken("files emptied before the answer is whole", f"[ \"$1\" != collate ] || : > t.dd; exec {CALL}",
+    Broken("files emptied before the answer is whole", f'[ "$1" != collate ] || : > t.dd; exec {CALL}',
            "earlier_files.Overwritten", "cycle"),
-    Broken("a dyndep file written where a map cannot be", ended(3, "sed -n 's/.*\"dyndep\": *\"\\([^\"]*\\)\".*/\\1/p' \"$2\" | xargs touch"),
+    Broken("a dyndep file written where a map cannot be",
+           ended(3, """sed -n 's/.*"dyndep": *"\\([^"]*\\)".*/\\1/p' "$2" | xargs touch"""),
            "files.CollatedWithout", "single_app"),
-    Broken("a file in common of runs at once", f"{CALL} > .out 2> .err; status=$?; cat .out; cat .err >&2; rm .out .err; exit $status",
+    Broken("a file in common of runs at once",
+           f"{CALL} > .out 2> .err; status=$?; cat .out; cat .err >&2; rm .out .err; exit $status",
            "devices.AtOnce", "at_once_collate"),
     Broken("files that nobody else may read", f"umask 077; exec {CALL}", "earlier_files.Rights", "mask"),
-    Broken("files that are there taken away first", f"[ \"$1\" != collate ] || rm -f t.dd t.json; exec {CALL}",
+    Broken("files that are there taken away first", f'[ "$1" != collate ] || rm -f t.dd t.json; exec {CALL}',
            "earlier_files.Rights", "keep"),
     Broken("standard input read", f"cat > /dev/null; exec {CALL}", "earlier_files.StandardInput", ""),
     Broken("another folder", f"cd /; exec {CALL}", "arguments", "names_a_file"),
@@ -176,7 +182,7 @@ def tests_with(how, tests, part):
 
 @each(ROWS, lambda row: row.why)
 class BrokenPrograms(unittest.TestCase):
-    """The tests of a row fail where the program is broken, and pass where it is called in the same way and nothing is broken."""
+    """The tests of a row fail where the program is broken, and pass where it is called so and nothing is broken."""
     seconds = 3
 
     def setUp(self):
