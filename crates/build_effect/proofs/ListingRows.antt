@@ -4,8 +4,8 @@ use Rattle.std.specs.Prelude.{codes, All}
 use Rattle.std.proofs.lemmas.List.Elements.{All-from_recursion}
 use Rattle.ninja_text.specs.Lines.{text_of, is_comment}
 use Rattle.ninja_text.specs.Paths.{canonical_of, IsPath}
-use Rattle.ninja_text.specs.declared.faults.LexFault.TheVariants.{Variable}
-use Rattle.ninja_text.specs.declared.paths.PathFault.TheVariants.{Empty}
+use Rattle.ninja_text.specs.declared.fault.LexFault.TheVariants.{Variable}
+use Rattle.ninja_text.specs.declared.fault.PathFault.TheVariants.{Empty}
 use Rattle.ninja_text.specs.declared.token.TokenKind.TheVariants.{Bar, DoubleBar}
 use Rattle.dyndep_file.specs.Classes.{WordSymbol, SignSymbol}
 use Rattle.build_effect.specs.EdgeValue.{EdgeValue}

@@ -4,7 +4,7 @@ use Rattle.std.specs.Prelude.{◌≡◌, ℕ, ◌<◌, ◌≤◌, Bool, false, L
 use Rattle.ninja_text.specs.Lines.{line_limit, text_of, is_comment}
 use Rattle.ninja_text.specs.Lexical.{lexical_fault}
 use Rattle.ninja_text.specs.Paths.{path_of}
-use Rattle.ninja_text.specs.declared.paths.PathFault.{PathFault}
+use Rattle.ninja_text.specs.declared.fault.PathFault.{PathFault}
 use Rattle.build_effect.specs.Effect.{ArePaths}
 use Rattle.build_effect.specs.ListingLines.{Row, CommentRow, BlankRow, BuildRow, DyndepRow, RestatRow, TextIsOfRow, Class, Comment, Blank, Build, Dyndep, Restat}
 use Rattle.build_effect.specs.ListingGrammar.{Begins}

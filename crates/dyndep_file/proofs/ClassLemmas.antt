@@ -6,7 +6,7 @@ use Rattle.ninja_text.specs.Lexical.{lexical_fault}
 use Rattle.ninja_text.specs.Lines.{text_of, is_comment}
 use Rattle.ninja_text.specs.Tokens.{TokenAt, tokens, raw, value_of}
 use Rattle.ninja_text.specs.Assignments.{SeenAssignment, assignment_of}
-use Rattle.ninja_text.specs.declared.faults.LexFault.{LexFault}
+use Rattle.ninja_text.specs.declared.fault.LexFault.{LexFault}
 use Rattle.ninja_text.proofs.ForCallers.{assignment_has_token}
 use Rattle.dyndep_file.specs.StatementValue.{StatementValue}
 use Rattle.dyndep_file.specs.Classes.{Class, Comment, Blank, Version, Build, Binding, Symbol, WordSymbol, SignSymbol, symbol, symbols, begins_at_start, begins_with_space, IsPart}

@@ -1,7 +1,7 @@
 -- Rows of the tables of dyndep lines, each with the fault that it has: the definitions compute to them.
 use Rattle.std.proofs.Common.{◌≡◌, ℕ, List, [], ◌∷◌, ◌++◌, length, refl, Some, None, true, false}
 use Rattle.std.specs.Prelude.{codes}
-use Rattle.ninja_text.specs.declared.faults.LexFault.TheVariants.{Nul, LoneCr, Variable, BadEscape}
+use Rattle.ninja_text.specs.declared.fault.LexFault.TheVariants.{Nul, LoneCr, Variable, BadEscape}
 use Rattle.dyndep_file.specs.Classes.{Comment, Blank, Version, Build, Binding, is_version_one}
 use Rattle.dyndep_file.specs.Faults.{line_fault, stage_after}
 use Rattle.dyndep_file.specs.declared.progress.Stage.TheVariants.{BeforeVersion, NoneOpen, Open}

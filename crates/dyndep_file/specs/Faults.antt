@@ -7,7 +7,7 @@ use Rattle.ninja_text.specs.Lexical.{lexical_fault}
 use Rattle.ninja_text.specs.Tokens.{tokens, value_of}
 use Rattle.ninja_text.specs.declared.token.TokenKind.TheVariants.{Word, Bar, DoubleBar, BarAt, Colon}
 use Rattle.ninja_text.specs.Assignments.{SeenAssignment, assignment_of}
-use Rattle.ninja_text.specs.declared.faults.LexFault.{LexFault}
+use Rattle.ninja_text.specs.declared.fault.LexFault.{LexFault}
 use Rattle.dyndep_file.specs.Classes.{Class, Comment, Version, Build, Symbol, WordSymbol, SignSymbol, symbols, begins_at_start, begins_with_space, is_version_one}
 use Rattle.dyndep_file.specs.declared.faults.LineFault.{LineFault}
 use Rattle.dyndep_file.specs.declared.faults.LineFault.TheVariants.{LineTooLong, Lexical, NoVersion, BadVersion, SecondVersion, Indent, BadLine}

@@ -4,7 +4,7 @@ use Rattle.std.specs.List.{list_all, slice_split}
 use Rattle.std.specs.Str.{is_utf8}
 use Rattle.ninja_text.specs.Paths.{path_of, is_empty}
 use Rattle.ninja_text.specs.Bytes.{line_feed}
-use Rattle.ninja_text.specs.declared.paths.PathFault.{PathFault}
+use Rattle.ninja_text.specs.declared.fault.PathFault.{PathFault}
 use Rattle.scan_docs.specs.Name.{is_name}
 use Rattle.module_maps.specs.declared.module_map.MapEntry.{MapEntry}
 use Rattle.module_maps.specs.declared.module_map.MapFault.{MapFault}

@@ -1,8 +1,8 @@
 -- A canonical text means itself.
 use Rattle.std.proofs.Common.{◌≡◌, ◌≢◌, ℕ, ◌+◌, ◌<◌, ◌≤◌, Bool, true, false, not, ◌&&◌, cond, nat_lt, ◌==◌, List, [], ◌∷◌, ◌++◌, length, Option, Some, None, Result, Ok, Err, refl, sym, ◌∙◌, ap, subst, arith, position, option_map}
 use Rattle.std.specs.List.{AllByRecursion, list_any, prefix_len, onto_first}
-use Rattle.ninja_text.specs.declared.paths.PathFault.{PathFault}
-use Rattle.ninja_text.specs.declared.paths.PathFault.TheVariants.{Empty, AboveRoot, Unwritable, TooLong}
+use Rattle.ninja_text.specs.declared.fault.PathFault.{PathFault}
+use Rattle.ninja_text.specs.declared.fault.PathFault.TheVariants.{Empty, AboveRoot, Unwritable, TooLong}
 use Rattle.ninja_text.specs.Escapes.{is_unwritable}
 use Rattle.ninja_text.specs.Reduction.{is_parent, reduced, components}
 use Rattle.ninja_text.specs.Paths.{path_text, below, relative_or, seen_from, checked, is_empty, is_rooted, canonical_of, IsPath}

@@ -10,7 +10,7 @@ use Rattle.std.proofs.lemmas.Bool.{cases_Bool, leb-false, cases_lt}
 use Rattle.ninja_text.specs.Lines.{line_limit, LineEnd, line_end, IsLine, Divides, LogicalLine, logical_line, logical_lines, number_after, line_feeds_in, text_of, text_before, is_comment}
 use Rattle.ninja_text.specs.Scanning.{scan_from}
 use Rattle.ninja_text.specs.Cutting.{CutterState, feed_outcome, feed_outcome_at, Feeds, FeedsAll, Cuts, waiting_line, lent_next, after_lending}
-use Rattle.ninja_text.specs.declared.faults.CutFault.{CutFault}
+use Rattle.ninja_text.specs.declared.fault.CutFault.{CutFault}
 use Rattle.ninja_text.specs.declared.failure.Failure.{Failure}
 use Rattle.ninja_text.specs.declared.failure.Failure.TheVariants.{Memory, Fault}
 use Rattle.ninja_text.specs.declared.scan.ScanState.TheVariants.{Start}

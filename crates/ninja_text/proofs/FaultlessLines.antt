@@ -6,7 +6,7 @@ use Rattle.std.proofs.lemmas.Bool.{cases_Bool, eqb-true, and_parts, and_from}
 use Rattle.ninja_text.specs.Units.{units, unit_len, with_continuation}
 use Rattle.ninja_text.specs.declared.unit.LineUnit.{LineUnit}
 use Rattle.ninja_text.specs.declared.unit.LineUnit.TheVariants.{Continuation, Escape, Byte}
-use Rattle.ninja_text.specs.declared.faults.LexFault.{LexFault}
+use Rattle.ninja_text.specs.declared.fault.LexFault.{LexFault}
 use Rattle.ninja_text.specs.Lines.{LineEnd, begins_with_line_feed, end_from, text_before, text_of}
 use Rattle.ninja_text.specs.Lexical.{begins_variable, is_escapable, unit_fault, earlier, first_fault}
 use Rattle.ninja_text.specs.Escapes.{is_escaped}

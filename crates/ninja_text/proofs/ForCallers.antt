@@ -58,6 +58,10 @@ pub use Rattle.ninja_text.proofs.SpelledTexts.{written_tokens, written_sound}
 pub use Rattle.ninja_text.proofs.SpelledTexts.{written_line, written_text}
 -- The first token of one that begins with a word stands at its beginning.
 pub use Rattle.ninja_text.proofs.SpelledTexts.{First, written_first}
+-- The elements of lists, by index: of mapped lists, of two lists, and of the first few of a list.
+pub use Rattle.ninja_text.proofs.Indexed.{same_some, from_map, to_map, in_append, in_first, in_second, from_push, from_take, in_take, map_take, take_next}
+-- Lists in which all differ, and what a search for a text says of them.
+pub use Rattle.ninja_text.proofs.Repetitions.{differ_push, not_among, found_if, new_if}
 
 -- The test of what can be spelled means what the record says.
 pub is_writable-meaning : (path : List ℕ) → IsTrue (is_writable path) ↔ IsWritable path

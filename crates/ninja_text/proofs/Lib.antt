@@ -1,3 +1,5 @@
+pub mod Indexed
+pub mod Repetitions
 pub mod ReducedList
 pub mod Rows
 pub mod Shape

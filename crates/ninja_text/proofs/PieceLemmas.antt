@@ -6,8 +6,8 @@ use Rattle.ninja_text.specs.Lines.{line_limit, IsLine, LogicalLine, text_of, is_
 use Rattle.ninja_text.specs.Cutting.{CutterState, Cuts, feed_outcome, Feeds, waiting_line, Finishes}
 use Rattle.ninja_text.specs.LineReading.{LeadTo, HasLent, BeginsWith, IsNextFault, HasFailureBehind, ReadsLine, EndsLines}
 use Rattle.ninja_text.specs.inner.PieceReading.{failure_of}
-use Rattle.ninja_text.specs.declared.faults.CutFault.{CutFault}
-use Rattle.ninja_text.specs.declared.faults.CutFault.TheVariants.{LineTooLong, Truncated}
+use Rattle.ninja_text.specs.declared.fault.CutFault.{CutFault}
+use Rattle.ninja_text.specs.declared.fault.CutFault.TheVariants.{LineTooLong, Truncated}
 use Rattle.ninja_text.specs.declared.failure.Failure.{Failure}
 use Rattle.ninja_text.specs.declared.failure.Failure.TheVariants.{Memory, Fault}
 use Rattle.ninja_text.proofs.FeedLemmas.{working, is_working, too_long_at_work, never_truncated, finish_err, finish_ok}

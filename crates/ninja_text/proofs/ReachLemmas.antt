@@ -7,8 +7,8 @@ use Rattle.std.proofs.lemmas.Bool.Decides.{nat_tests}
 use Rattle.ninja_text.specs.Lines.{line_limit, line_end}
 use Rattle.ninja_text.specs.Scanning.{scan_from}
 use Rattle.ninja_text.specs.Cutting.{CutterState, feed_outcome}
-use Rattle.ninja_text.specs.declared.faults.CutFault.{CutFault}
-use Rattle.ninja_text.specs.declared.faults.CutFault.TheVariants.{LineTooLong}
+use Rattle.ninja_text.specs.declared.fault.CutFault.{CutFault}
+use Rattle.ninja_text.specs.declared.fault.CutFault.TheVariants.{LineTooLong}
 use Rattle.ninja_text.specs.inner.Reaching.{Reaches}
 use Rattle.ninja_text.specs.Phases.{bytes_in}
 use Rattle.ninja_text.specs.CutterViews.{state_in}

@@ -5,7 +5,7 @@ use lib.Chars.{codes}
 use Rattle.ninja_text.specs.Escapes.{escaped, Spells}
 use Rattle.ninja_text.specs.Meanings.{SpellsValue}
 use Rattle.ninja_text.specs.Paths.{canonical_of, placed, path_of}
-use Rattle.ninja_text.specs.declared.paths.PathFault.TheVariants.{Empty, AboveRoot, Unwritable, TooLong}
+use Rattle.ninja_text.specs.declared.fault.PathFault.TheVariants.{Empty, AboveRoot, Unwritable, TooLong}
 
 pub canonical_text : path_of (codes "./obj//x/../a.o") ≡ Ok (codes "obj/a.o")
 unfolding canonical_of

@@ -6,7 +6,7 @@ use Rattle.std.proofs.lemmas.List.{get_or-append-add}
 use Rattle.std.proofs.lemmas.List.Splits.{join_with_byte-slice_split}
 use Rattle.std.proofs.lemmas.Str.{IsUtf8-append, IsUtf8-take, IsUtf8-drop, IsUtf8-nil, IsUtf8-from_ascii, IsCharBoundary-before_ascii, IsCharBoundary-after_ascii}
 use Rattle.std.proofs.Math.Seq.{take-append_seam, drop-append-add}
-use Rattle.ninja_text.specs.declared.paths.PathFault.TheVariants.{Empty}
+use Rattle.ninja_text.specs.declared.fault.PathFault.TheVariants.{Empty}
 use Rattle.ninja_text.specs.Escapes.{is_unwritable, IsWritable}
 use Rattle.ninja_text.specs.Reduction.{is_current, is_parent, is_name, reduced, ReducesTo, components}
 use Rattle.ninja_text.specs.Paths.{path_text, below, relative_or, seen_from, is_empty, is_rooted, canonical_of, path_of, IsPath}

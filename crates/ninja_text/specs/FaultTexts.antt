@@ -1,12 +1,12 @@
 -- How faults are printed: a code and a name, and for a fault within a line its place in the text.
 use Rattle.std.specs.Prelude.{ℕ, List, ◌++◌, codes}
 use Rattle.std.specs.Fmt.{decimal}
-use Rattle.ninja_text.specs.declared.paths.PathFault.{PathFault}
-use Rattle.ninja_text.specs.declared.paths.PathFault.TheVariants.{Empty, AboveRoot, Unwritable, TooLong}
-use Rattle.ninja_text.specs.declared.faults.CutFault.{CutFault}
-use Rattle.ninja_text.specs.declared.faults.CutFault.TheVariants.{LineTooLong, Truncated}
-use Rattle.ninja_text.specs.declared.faults.LexFault.{LexFault}
-use Rattle.ninja_text.specs.declared.faults.LexFault.TheVariants.{Nul, LoneCr, Variable, BadEscape}
+use Rattle.ninja_text.specs.declared.fault.PathFault.{PathFault}
+use Rattle.ninja_text.specs.declared.fault.PathFault.TheVariants.{Empty, AboveRoot, Unwritable, TooLong}
+use Rattle.ninja_text.specs.declared.fault.CutFault.{CutFault}
+use Rattle.ninja_text.specs.declared.fault.CutFault.TheVariants.{LineTooLong, Truncated}
+use Rattle.ninja_text.specs.declared.fault.LexFault.{LexFault}
+use Rattle.ninja_text.specs.declared.fault.LexFault.TheVariants.{Nul, LoneCr, Variable, BadEscape}
 
 -- why a text is no path
 abbrev pub path_fault_text : PathFault → List ℕ

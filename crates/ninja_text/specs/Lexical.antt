@@ -5,8 +5,8 @@ use Rattle.ninja_text.specs.Bytes.{nul, carriage_return, space, dollar, colon}
 use Rattle.ninja_text.specs.Units.{unit_len, units, is_digit, is_letter, hyphen, underscore, opening_brace}
 use Rattle.ninja_text.specs.declared.unit.LineUnit.{LineUnit}
 use Rattle.ninja_text.specs.declared.unit.LineUnit.TheVariants.{Continuation, Escape, Byte}
-use Rattle.ninja_text.specs.declared.faults.LexFault.{LexFault}
-use Rattle.ninja_text.specs.declared.faults.LexFault.TheVariants.{Nul, LoneCr, Variable, BadEscape}
+use Rattle.ninja_text.specs.declared.fault.LexFault.{LexFault}
+use Rattle.ninja_text.specs.declared.fault.LexFault.TheVariants.{Nul, LoneCr, Variable, BadEscape}
 
 -- what begins a variable's name after `$`: a letter, a digit, `_` or `-`, or the brace of `${name}`
 abbrev pub begins_variable : ℕ → Bool

@@ -1,5 +1,6 @@
 pub mod Bytes
 pub mod Failure
+pub mod Firsts
 pub mod FaultTexts
 pub mod Escapes
 pub mod Reduction

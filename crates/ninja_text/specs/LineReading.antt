@@ -6,8 +6,8 @@ use Rattle.ninja_text.specs.Lines.{line_limit, line_end, IsLine, LogicalLine, lo
 use Rattle.ninja_text.specs.Cutting.{CutterState, Cuts}
 use Rattle.ninja_text.specs.declared.failure.Failure.{Failure}
 use Rattle.ninja_text.specs.declared.failure.Failure.TheVariants.{Memory, Fault}
-use Rattle.ninja_text.specs.declared.faults.CutFault.{CutFault}
-use Rattle.ninja_text.specs.declared.faults.CutFault.TheVariants.{LineTooLong, Truncated}
+use Rattle.ninja_text.specs.declared.fault.CutFault.{CutFault}
+use Rattle.ninja_text.specs.declared.fault.CutFault.TheVariants.{LineTooLong, Truncated}
 
 -- a line passes in a state, and leaves another one
 abbrev pub Passes : Type 0 → Type 1

@@ -3,8 +3,8 @@ use Rattle.std.specs.Prelude.{◌≡◌, true, false, Option, Some, None, Result
 use Rattle.ninja_text.specs.Lines.{LogicalLine}
 use Rattle.ninja_text.specs.Cutting.{CutterState, waiting_line}
 use Rattle.ninja_text.specs.declared.line.Line.{Line}
-use Rattle.ninja_text.specs.declared.faults.CutFault.{CutFault}
-use Rattle.ninja_text.specs.declared.faults.CutFault.TheVariants.{LineTooLong}
+use Rattle.ninja_text.specs.declared.fault.CutFault.{CutFault}
+use Rattle.ninja_text.specs.declared.fault.CutFault.TheVariants.{LineTooLong}
 
 -- the view of a `Line`
 abbrev pub seen_line : Line → LogicalLine

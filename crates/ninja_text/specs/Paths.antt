@@ -4,8 +4,8 @@ use Rattle.std.specs.List.{join_with_byte, list_any}
 use Rattle.ninja_text.specs.Bytes.{slash}
 use Rattle.ninja_text.specs.Escapes.{is_unwritable}
 use Rattle.ninja_text.specs.Reduction.{components, is_parent, reduced}
-use Rattle.ninja_text.specs.declared.paths.PathFault.{PathFault}
-use Rattle.ninja_text.specs.declared.paths.PathFault.TheVariants.{Empty, AboveRoot, Unwritable, TooLong}
+use Rattle.ninja_text.specs.declared.fault.PathFault.{PathFault}
+use Rattle.ninja_text.specs.declared.fault.PathFault.TheVariants.{Empty, AboveRoot, Unwritable, TooLong}
 
 -- a list without elements
 abbrev pub is_empty : {X : Type 0} → List X → Bool

@@ -5,7 +5,7 @@ use Rattle.ninja_text.specs.Lexical.{lexical_fault}
 use Rattle.ninja_text.specs.Tokens.{SeenToken, tokens_at, with_raw, seen_tokens}
 use Rattle.ninja_text.specs.declared.token.Token.{Token}
 use Rattle.ninja_text.specs.declared.token.Words.{Words}
-use Rattle.ninja_text.specs.declared.faults.LexFault.{LexFault}
+use Rattle.ninja_text.specs.declared.fault.LexFault.{LexFault}
 
 abbrev pub seen_token : Token → SeenToken
 seen_token token =

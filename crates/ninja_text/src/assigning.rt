@@ -8,7 +8,7 @@ ghost use Rattle.ninja_text.specs.inner.Runs.{Run};
 
 use crate::assignments::Assignment;
 use crate::checking::fault_in;
-use crate::faults::LexFault;
+use crate::fault::LexFault;
 use crate::line::Line;
 use crate::unit::unit_at;
 

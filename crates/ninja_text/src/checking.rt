@@ -4,7 +4,7 @@ ghost use Rattle.std.specs.List.{list_any};
 ghost use Rattle.ninja_text.specs.Lexical.{unit_fault, lexical_fault};
 ghost use Rattle.ninja_text.specs.inner.PlainTexts.{is_suspect};
 
-use crate::faults::LexFault;
+use crate::fault::LexFault;
 use crate::unit::{LineUnit, unit_at};
 
 /// The first lexical fault, in the order of the bytes.

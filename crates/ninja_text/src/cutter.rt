@@ -5,7 +5,7 @@ ghost use Rattle.ninja_text.specs.inner.Reaching.{IsGoing, Reaches};
 ghost use Rattle.ninja_text.specs.Phases.{PhaseFits, bytes_in};
 
 use crate::failure::Failure;
-use crate::faults::CutFault;
+use crate::fault::CutFault;
 use crate::line::{LINE_LIMIT, Line};
 use crate::scan::{ScanState, Scanned, scan_bytes};
 use std::alloc::Global;

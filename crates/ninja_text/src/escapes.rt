@@ -1,5 +1,5 @@
 //! Spellings of paths in Ninja files.
-ghost use Rattle.std.specs.Prelude.{◌≡◌, ◌≢◌, ◌↔◌, ℕ, List, [], ◌++◌, IsTrue, OnOk, OnErr};
+ghost use Rattle.std.specs.Prelude.{◌≡◌, ◌↔◌, ◌++◌, ℕ, List, IsTrue, OnOk, OnErr};
 ghost use Rattle.std.specs.List.{list_any};
 ghost use Rattle.ninja_text.specs.Escapes.{is_unwritable, is_writable, IsWritable, is_escaped, escaped, escaped_byte, Spells};
 
@@ -59,8 +59,3 @@ pub fn escape_into(path: &[u8], out: &mut Vec<u8>) -> Result<(), AllocError>
     }
     Ok(())
 }
-
-/// A spelling stands for one value at most.
-pub fn one_meaning()
-    ensures { (raw a b : List ℕ) → Spells raw a → Spells raw b → a ≡ b }
-{}

@@ -1,6 +1,12 @@
-//! Laws of lines and tokens, for callers' proofs: each is the contract of a call that does nothing.
-ghost use Rattle.std.specs.Prelude.{◌≡◌, ℕ, List, All};
+//! Laws of lines, tokens, spellings and paths, for callers' proofs: each is the contract of a call
+//! that does nothing.
+ghost use Rattle.std.specs.Prelude.{◌≡◌, ◌↔◌, ℕ, List, [], Ok, Err, All};
 ghost use Rattle.std.specs.Option.{ForSome};
+ghost use Rattle.ninja_text.specs.Escapes.{Spells};
+ghost use Rattle.ninja_text.specs.Reduction.{ReducesTo, components, reduced};
+ghost use Rattle.ninja_text.specs.Paths.{path_of, IsPath, is_rooted};
+ghost use Rattle.ninja_text.specs.PathShape.{parts, IsShaped};
+ghost use Rattle.ninja_text.specs.declared.fault.PathFault.TheVariants.{Empty};
 ghost use Rattle.ninja_text.specs.Lines.{Divides, text_of};
 ghost use Rattle.ninja_text.specs.Tokens.{TokenAt, tokens, seen_tokens};
 ghost use Rattle.ninja_text.specs.TokenLists.{AreTokens};
@@ -33,4 +39,25 @@ pub fn read_as_spelled()
     ensures values { (line : List ℕ) → IsFaultless line
         → ForSome (assignment_of (text_of line)) IsValueAsSpelled }
     ensures one_value { (raw a b : List ℕ) → SpellsValue raw a → SpellsValue raw b → a ≡ b }
+{}
+
+/// A spelling stands for one value at most.
+pub fn one_meaning()
+    ensures { (raw a b : List ℕ) → Spells raw a → Spells raw b → a ≡ b }
+{}
+
+/// Whatever the choice of steps, a list of components is made canonical in one way.
+pub fn one_canonical_list()
+    ensures reached { (list : List (List ℕ)) → ReducesTo list (reduced list) }
+    ensures only { (list other : List (List ℕ)) → ReducesTo list other → other ≡ reduced list }
+{}
+
+/// The path of a text has the components that the text's components come to, whatever the
+/// choice of steps, and is absolute where the text is; a text whose components come to none has no
+/// path; and each path has the shape that its name promises.
+pub fn path_meaning()
+    ensures path { (text path : List ℕ) → path_of text ≡ Ok path
+        → (is_rooted path ≡ is_rooted text) × ReducesTo (components text) (parts path) }
+    ensures empty { (text : List ℕ) → path_of text ≡ Err Empty ↔ ReducesTo (components text) [] }
+    ensures shape { (path : List ℕ) → IsPath path → IsShaped path }
 {}

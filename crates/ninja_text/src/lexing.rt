@@ -8,7 +8,7 @@ ghost use Rattle.ninja_text.specs.inner.TokenStarts.{BeginsToken, BeginsPiece, B
 ghost use Rattle.ninja_text.specs.inner.PlainTexts.{is_plain_piece};
 
 use crate::checking::fault_in;
-use crate::faults::LexFault;
+use crate::fault::LexFault;
 use crate::line::Line;
 use crate::token::{TokenKind, Words};
 use crate::unit::unit_at;

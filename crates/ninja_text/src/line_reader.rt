@@ -4,11 +4,11 @@ ghost use Rattle.ninja_text.specs.Lines.{LogicalLine};
 ghost use Rattle.ninja_text.specs.LineViews.{seen_line};
 ghost use Rattle.ninja_text.specs.LineReading.{ReadsLine, HasLent};
 ghost use Rattle.ninja_text.specs.inner.PieceReading.{ReadsPiece, failure_of};
-ghost use Rattle.ninja_text.specs.declared.faults.CutFault.{CutFault};
+ghost use Rattle.ninja_text.specs.declared.fault.CutFault.{CutFault};
 
 use crate::cutter::LineCutter;
 use crate::failure::Failure;
-use crate::faults::CutFault;
+use crate::fault::CutFault;
 use crate::line::Line;
 use std::alloc::Global;
 use std::marker::Model;

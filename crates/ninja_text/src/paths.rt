@@ -1,55 +1,22 @@
 //! Canonical paths.
-ghost use Rattle.std.specs.Prelude.{◌≡◌, ◌↔◌, ℕ, List, [], ◌∷◌, ◌++◌, Ok, Err, IfOk, IsUtf8, true, option_map, option_copied};
+ghost use Rattle.std.specs.Prelude.{◌≡◌, ◌∷◌, ◌++◌, ℕ, List, [], Ok, IfOk, IsUtf8, true, option_map, option_copied};
 ghost use Rattle.std.specs.Option.{ForSome};
 ghost use Rattle.ninja_text.specs.Failure.{Gives};
 ghost use Rattle.ninja_text.specs.Escapes.{IsWritable};
-ghost use Rattle.ninja_text.specs.Reduction.{ReducesTo, components, reduced};
-ghost use Rattle.ninja_text.specs.Paths.{path_of, IsPath, is_rooted, below, seen_from, canonical_of, placed};
-ghost use Rattle.ninja_text.specs.PathShape.{parts, IsShaped};
+ghost use Rattle.ninja_text.specs.Paths.{path_of, is_rooted, below, seen_from, canonical_of, placed};
+ghost use Rattle.ninja_text.specs.PathShape.{parts};
 ghost use Rattle.ninja_text.specs.inner.ComponentLists.{list_text, reduced_text};
-ghost use Rattle.ninja_text.specs.declared.paths.PathFault.TheVariants.{Empty};
 
 use crate::failure::Failure;
+use crate::fault::PathFault;
 use crate::reduction;
 use std::alloc::{AllocError, Global};
 use std::cmp::Ordering;
-use std::fmt;
 use std::hash::{Hash, Hasher};
 use std::marker::Model;
-use thiserror::Error;
 
 /// The most bytes that a canonical path has.
 pub const PATH_LIMIT: usize = 4096;
-
-/// Why a text is no path. Of several faults the first in this order is answered.
-#[derive(Clone, Copy, Debug, PartialEq, Eq, Error)]
-pub enum PathFault {
-    /// No component is left.
-    Empty,
-    /// The path is absolute, and a `..` is left.
-    AboveRoot,
-    /// The text that was read has a byte that no spelling in a Ninja file stands for: `|`, NUL, CR
-    /// or LF. The place is that of the first one, from 0, before anything is deleted.
-    Unwritable { place: usize },
-    /// The canonical path has more than 4,096 bytes.
-    TooLong,
-}
-
-impl fmt::Display for PathFault {
-    ghost use Rattle.std.specs.Prelude.{Some};
-    ghost use Rattle.ninja_text.specs.FaultTexts.{path_fault_text};
-
-    ghost output = { λ fault. Some (path_fault_text fault) };
-
-    fn fmt<W: fmt::Write>(&self, f: &mut fmt::Formatter<W>) -> fmt::Result {
-        match self {
-            PathFault::Empty => f.write_str("N1 Empty"),
-            PathFault::AboveRoot => f.write_str("N2 AboveRoot"),
-            PathFault::Unwritable { place: _ } => f.write_str("N3 Unwritable"),
-            PathFault::TooLong => f.write_str("N4 TooLong"),
-        }
-    }
-}
 
 /// A canonical path: the text that is left when empty components and `.` are deleted, and a name
 /// together with a `..` behind it, until neither can be done. An absolute path keeps the slash that
@@ -142,22 +109,6 @@ pub fn place(
         _ => canonical(alloc, build, path),
     }
 }
-
-/// A law: whatever the choice of steps, a list of components is made canonical in one way.
-pub fn one_canonical_list()
-    ensures reached { (list : List (List ℕ)) → ReducesTo list (reduced list) }
-    ensures only { (list other : List (List ℕ)) → ReducesTo list other → other ≡ reduced list }
-{}
-
-/// A law: the path of a text has the components that the text's components come to, whatever the
-/// choice of steps, and is absolute where the text is; a text whose components come to none has no
-/// path; and each path has the shape that its name promises.
-pub fn path_meaning()
-    ensures path { (text path : List ℕ) → path_of text ≡ Ok path
-        → (is_rooted path ≡ is_rooted text) × ReducesTo (components text) (parts path) }
-    ensures empty { (text : List ℕ) → path_of text ≡ Err Empty ↔ ReducesTo (components text) [] }
-    ensures shape { (path : List ℕ) → IsPath path → IsShaped path }
-{}
 
 /// A relative text behind its work directory.
 fn joined(alloc: Global, work: &[u8], path: &[u8]) -> Result<Vec<u8>, AllocError>

@@ -3,8 +3,8 @@ use Rattle.std.proofs.Common.{◌≡◌, ℕ, List, [], ◌∷◌, ◌++◌, tru
 use Rattle.std.specs.Fmt.{digits}
 use Rattle.std.specs.List.{list_all, range_with_len}
 use Rattle.ninja_text.specs.Paths.{placed, canonical_of}
-use Rattle.ninja_text.specs.declared.paths.PathFault.{PathFault}
-use Rattle.ninja_text.specs.declared.paths.PathFault.TheVariants.{Empty, AboveRoot}
+use Rattle.ninja_text.specs.declared.fault.PathFault.{PathFault}
+use Rattle.ninja_text.specs.declared.fault.PathFault.TheVariants.{Empty, AboveRoot}
 use Rattle.serde_json.specs.Read.{read}
 use Rattle.serde_json.proofs.OnLiterals.{serde_json_on_literals}
 use Rattle.scan_docs.specs.declared.fault.DocFault.{DocFault}

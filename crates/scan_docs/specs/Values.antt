@@ -5,7 +5,7 @@ use Rattle.std.specs.Result.{result_ok}
 use Rattle.serde_json.specs.Data.{Data, null}
 use Rattle.serde_json.specs.Read.{read}
 use Rattle.ninja_text.specs.Paths.{path_of}
-use Rattle.ninja_text.specs.declared.paths.PathFault.{PathFault}
+use Rattle.ninja_text.specs.declared.fault.PathFault.{PathFault}
 use Rattle.scan_docs.specs.declared.member.Member.TheVariants as m
 use Rattle.scan_docs.specs.Shape.{text, text_of, texts_of, entries_of}
 use Rattle.scan_docs.specs.Scan.{SettingValue, RuleValue, object_of, file_of}

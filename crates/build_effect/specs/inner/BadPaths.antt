@@ -1,7 +1,7 @@
 -- Which text of statements is reported that is no path.
 use Rattle.std.specs.Prelude.{◌≡◌, ℕ, ◌+◌, List, Err}
 use Rattle.ninja_text.specs.Paths.{path_of}
-use Rattle.ninja_text.specs.declared.paths.PathFault.{PathFault}
+use Rattle.ninja_text.specs.declared.fault.PathFault.{PathFault}
 use Rattle.dyndep_file.specs.StatementValue.{StatementValue}
 use Rattle.build_effect.specs.Firsts.{IsFirst}
 use Rattle.build_effect.specs.Faults.{path_texts, IsRefused, HasRefused}

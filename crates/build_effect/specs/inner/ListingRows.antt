@@ -8,7 +8,7 @@ use Rattle.dyndep_file.specs.Classes.{Symbol, WordSymbol}
 use Rattle.build_effect.specs.ListingLines as lines
 use Rattle.build_effect.specs.ListingLines.{EdgeTexts, Class}
 use Rattle.build_effect.specs.inner.ListingWalk.{row_of, class_of_row, past_sign, front_words, past_words, part_words, past_part, step, row_cause, text_cause}
-use Rattle.ninja_text.specs.declared.paths.PathFault.{PathFault}
+use Rattle.ninja_text.specs.declared.fault.PathFault.{PathFault}
 use Rattle.build_effect.specs.ListingGrammar.{bound}
 use Rattle.build_effect.specs.ListingSteps.{ListingValue}
 use Rattle.ninja_text.specs.Lines.{LogicalLine}

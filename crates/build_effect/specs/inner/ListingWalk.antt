@@ -8,8 +8,8 @@ use Rattle.ninja_text.specs.Lexical.{lexical_fault}
 use Rattle.ninja_text.specs.Tokens.{tokens, value_of}
 use Rattle.ninja_text.specs.Assignments.{SeenAssignment, assignment_of}
 use Rattle.ninja_text.specs.Paths.{path_of}
-use Rattle.ninja_text.specs.declared.paths.PathFault.{PathFault}
-use Rattle.ninja_text.specs.declared.faults.LexFault.{LexFault}
+use Rattle.ninja_text.specs.declared.fault.PathFault.{PathFault}
+use Rattle.ninja_text.specs.declared.fault.LexFault.{LexFault}
 use Rattle.ninja_text.specs.declared.token.TokenKind.{TokenKind}
 use Rattle.ninja_text.specs.declared.token.TokenKind.TheVariants.{Bar, DoubleBar, Colon}
 use Rattle.dyndep_file.specs.Classes.{Symbol, WordSymbol, SignSymbol, symbols, begins_at_start, begins_with_space}

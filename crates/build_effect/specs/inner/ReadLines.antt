@@ -1,8 +1,8 @@
 -- What one line does to a reader of edge listings.
 use Rattle.std.specs.Prelude.{◌≡◌, Some}
 use Rattle.ninja_text.specs.Lines.{LogicalLine}
-use Rattle.ninja_text.specs.declared.faults.CutFault.{CutFault}
-use Rattle.ninja_text.specs.declared.faults.CutFault.TheVariants as cut
+use Rattle.ninja_text.specs.declared.fault.CutFault.{CutFault}
+use Rattle.ninja_text.specs.declared.fault.CutFault.TheVariants as cut
 use Rattle.build_effect.specs.ListingLines.{Class}
 use Rattle.build_effect.specs.ListingSteps.{ListingValue}
 use Rattle.build_effect.specs.inner.ListingWalk.{step, FindsClass, text_cause}

@@ -4,8 +4,8 @@ use Rattle.std.specs.Prelude.{ℕ, List, Result, Ok, Err}
 use Rattle.ninja_text.specs.Lines.{LogicalLine}
 use Rattle.ninja_text.specs.declared.failure.Failure.{Failure}
 use Rattle.ninja_text.specs.declared.failure.Failure.TheVariants.{Fault}
-use Rattle.ninja_text.specs.declared.faults.CutFault.{CutFault}
-use Rattle.ninja_text.specs.declared.faults.CutFault.TheVariants as cut
+use Rattle.ninja_text.specs.declared.fault.CutFault.{CutFault}
+use Rattle.ninja_text.specs.declared.fault.CutFault.TheVariants as cut
 use Rattle.dyndep_file.specs.StatementValue.{StatementValue}
 use Rattle.dyndep_file.specs.Steps.{ProgressValue}
 use Rattle.dyndep_file.specs.inner.LineReading.{ReadsLine}

@@ -16,7 +16,7 @@ use Rattle.std.proofs.lemmas.Slice.Eq.{bytes_eq-Decides}
 use Rattle.std.proofs.lemmas.Str.Ascii.{IsAscii-cons, IsAscii-nil}
 use Rattle.std.proofs.lemmas.Str.{IsUtf8-from_ascii, IsUtf8-from_is_utf8, is_utf8-from_IsUtf8}
 use Rattle.ninja_text.specs.Paths.{path_of, is_empty, IsPath}
-use Rattle.ninja_text.specs.declared.paths.PathFault.{PathFault}
+use Rattle.ninja_text.specs.declared.fault.PathFault.{PathFault}
 use Rattle.scan_docs.specs.Name.{is_name, is_name_byte, is_not_empty, is_separator, name_limit}
 use Rattle.module_maps.specs.Maps.{IsModule, AreEntriesOf}
 use Rattle.module_maps.specs.MapLines.{is_map_byte, canonical_in, named, ended, is_fit, first_unfit, is_line_end, lines_of, name_in, path_in, cut, both, pair_of, pair_in, LineForm, read_lines}

@@ -5,7 +5,7 @@ use Rattle.ninja_text.specs.Cutting.{CutterState}
 use Rattle.ninja_text.specs.LineReading.{Passes, Refuses, LeadTo, HasLent, HasFailureBehind}
 use Rattle.ninja_text.specs.declared.failure.Failure.{Failure}
 use Rattle.ninja_text.specs.declared.failure.Failure.TheVariants.{Memory, Fault}
-use Rattle.ninja_text.specs.declared.faults.CutFault.{CutFault}
+use Rattle.ninja_text.specs.declared.fault.CutFault.{CutFault}
 
 -- What reading a piece answers, and which cutter and state it leaves.
 abbrev pub ReadsPiece : {S F : Type 0} → Passes S → Refuses S F → (CutFault → F)

@@ -1,6 +1,6 @@
 use Rattle.std.proofs.Common.{arith, ◌≡◌, true, false, Some, None, refl, sym, ap, ◌∙◌}
 use Rattle.std.specs.Prelude.{Option, is_some}
-use Rattle.ninja_text.specs.declared.faults.LexFault.{LexFault}
+use Rattle.ninja_text.specs.declared.fault.LexFault.{LexFault}
 use Rattle.ninja_text.specs.Lexical.{unit_fault, earlier, first_fault}
 use Rattle.ninja_text.proofs.UnitLemmas.{no_suspect}
 use Rattle.ninja_text.proofs.checking.fault_in.Goals as goal

@@ -1,7 +1,37 @@
-//! What can be wrong with the lines of a text: facts about its bytes, never about memory.
+//! What can be wrong with a text: facts about its bytes, never about memory.
 
 use std::fmt;
 use thiserror::Error;
+
+/// Why a text is no path. Of several faults the first in this order is answered.
+#[derive(Clone, Copy, Debug, PartialEq, Eq, Error)]
+pub enum PathFault {
+    /// No component is left.
+    Empty,
+    /// The path is absolute, and a `..` is left.
+    AboveRoot,
+    /// The text that was read has a byte that no spelling in a Ninja file stands for: `|`, NUL, CR
+    /// or LF. The place is that of the first one, from 0, before anything is deleted.
+    Unwritable { place: usize },
+    /// The canonical path has more than 4,096 bytes.
+    TooLong,
+}
+
+impl fmt::Display for PathFault {
+    ghost use Rattle.std.specs.Prelude.{Some};
+    ghost use Rattle.ninja_text.specs.FaultTexts.{path_fault_text};
+
+    ghost output = { λ fault. Some (path_fault_text fault) };
+
+    fn fmt<W: fmt::Write>(&self, f: &mut fmt::Formatter<W>) -> fmt::Result {
+        match self {
+            PathFault::Empty => f.write_str("N1 Empty"),
+            PathFault::AboveRoot => f.write_str("N2 AboveRoot"),
+            PathFault::Unwritable { place: _ } => f.write_str("N3 Unwritable"),
+            PathFault::TooLong => f.write_str("N4 TooLong"),
+        }
+    }
+}
 
 /// Why a cutter gives no further line, with the number of the line at hand.
 #[derive(Clone, Copy, Debug, PartialEq, Eq, Error)]
