@@ -9,8 +9,8 @@ use Rattle.build_effect.specs.EdgeValue.{EdgeValue}
 use Rattle.build_effect.specs.ListingLines.{EdgeTexts, Class, Build, Dyndep, Restat}
 use Rattle.build_effect.specs.inner.ListingWalk.{build_class, dyndep_class, with_path, paths_of, edge_paths, with_last, with_last_dyndep, with_last_restat, step}
 use Rattle.build_effect.specs.ListingGrammar.{bound}
-use Rattle.build_effect.specs.declared.listing_state.Binding.{Binding}
-use Rattle.build_effect.specs.declared.listing_state.Binding.TheVariants.{Open}
+use Rattle.build_effect.specs.declared.listing.state.Binding.{Binding}
+use Rattle.build_effect.specs.declared.listing.state.Binding.TheVariants.{Open}
 
 -- the last edge set
 pub last_set : (change : EdgeValue → EdgeValue) (es : List EdgeValue) (n : ℕ) (e : EdgeValue) → n + 1 ≡ length es → e ≡ slice_index_or es n e

@@ -21,10 +21,10 @@ use Rattle.build_effect.specs.ListingGrammar.{bound, Begins}
 use Rattle.build_effect.specs.ListingSteps.{ListingValue, open_from}
 use Rattle.build_effect.specs.inner.ListingWalk.{run, with_last_dyndep, with_last_restat, step, may_stand, edge_texts, binding_row, build_row, unindented_row, sound_row, row_of, paths_of, dyndep_class, class_of_row, FindsClass, path_cause, row_cause, text_cause}
 use Rattle.build_effect.specs.ListingFaults.{path_texts, IsFirstRefused, as_class, IsTextCause}
-use Rattle.build_effect.specs.declared.listing_faults.LineCause.{LineCause}
-use Rattle.build_effect.specs.declared.listing_faults.LineCause.TheVariants.{LineTooLong, Truncated, Lexical, Form, BadPath}
-use Rattle.build_effect.specs.declared.listing_state.Binding.{Binding}
-use Rattle.build_effect.specs.declared.listing_state.Binding.TheVariants.{Closed, Open}
+use Rattle.build_effect.specs.declared.fault.LineCause.{LineCause}
+use Rattle.build_effect.specs.declared.fault.LineCause.TheVariants.{LineTooLong, Truncated, Lexical, Form, BadPath}
+use Rattle.build_effect.specs.declared.listing.state.Binding.{Binding}
+use Rattle.build_effect.specs.declared.listing.state.Binding.TheVariants.{Closed, Open}
 use Rattle.build_effect.proofs.ListingLineLemmas.{faulty_row}
 use Rattle.build_effect.proofs.ListingRuns.{begins_runs, runs_begin, run_front, run_more, binding_runs}
 use Rattle.build_effect.proofs.ListingForms.{none_left, edge_holds, edge_found}

@@ -12,9 +12,9 @@ use Rattle.build_effect.specs.ListingLines.{Class, IsOfClass}
 use Rattle.build_effect.specs.ListingGrammar.{IsListing, listing_end, Begins}
 use Rattle.build_effect.specs.ListingFaults.{IsTextCause, IsLineCause}
 use Rattle.build_effect.specs.ListingReading.{AreOfClasses, Lists, IsFaultyAfter, FaultyLine, IsEndCause, FaultyEnd, HasFault}
-use Rattle.build_effect.specs.declared.listing_faults.LineCause.{LineCause}
-use Rattle.build_effect.specs.declared.listing_faults.LineCause.TheVariants.{LineTooLong, Truncated, Lexical, Form, BadPath}
-use Rattle.build_effect.specs.declared.listing_faults.LineFault.{LineFault}
+use Rattle.build_effect.specs.declared.fault.LineCause.{LineCause}
+use Rattle.build_effect.specs.declared.fault.LineCause.TheVariants.{LineTooLong, Truncated, Lexical, Form, BadPath}
+use Rattle.build_effect.specs.declared.fault.LineFault.{LineFault}
 use Rattle.build_effect.proofs.ListingRuns.{one_list_of_edges, begins_runs, run_is_listing}
 use Rattle.build_effect.proofs.ListingFinds.{one_class, goes_on, stops_by, line_cases, cause_stops, one_text_cause, class_has_form}
 use Rattle.build_effect.proofs.ListingLemmas.{cause_of_text}

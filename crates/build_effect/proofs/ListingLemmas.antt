@@ -18,16 +18,16 @@ use Rattle.build_effect.specs.ListingSteps.{ListingValue}
 use Rattle.build_effect.specs.ListingReading.{AreOfClasses, Lists, FaultyEnd}
 use Rattle.build_effect.specs.ListingReaders.{Reader, HasRead, AreReadTo, Reads, Ends, line_failure, IsFaultIn, IsFailureIn, AreTextsOfClasses}
 use Rattle.build_effect.specs.inner.ReadLines.{fault_of_cutter, PassesLine, RefusesLine}
-use Rattle.build_effect.specs.declared.listing_faults.LineCause.{LineCause}
-use Rattle.build_effect.specs.declared.listing_faults.LineCause.TheVariants as causes
-use Rattle.build_effect.specs.declared.listing_faults.LineFault.{LineFault}
-use Rattle.build_effect.specs.declared.listing_faults.ListingFault.{ListingFault}
-use Rattle.build_effect.specs.declared.listing_faults.ListingFault.TheVariants.{AtLine, NoGraph}
+use Rattle.build_effect.specs.declared.fault.LineCause.{LineCause}
+use Rattle.build_effect.specs.declared.fault.LineCause.TheVariants as causes
+use Rattle.build_effect.specs.declared.fault.LineFault.{LineFault}
+use Rattle.build_effect.specs.declared.fault.ListingFault.{ListingFault}
+use Rattle.build_effect.specs.declared.fault.ListingFault.TheVariants.{AtLine, NoGraph}
 use Rattle.build_effect.specs.inner.ListingRows.{GivesGraph, graph_failure}
 use Rattle.build_effect.specs.Faults.{IsGraphFault}
 use Rattle.ninja_text.specs.Failure.{ForFault}
 use Rattle.build_effect.specs.declared.fault.GraphFault.{GraphFault}
-use Rattle.build_effect.specs.declared.listing_state.Binding.TheVariants.{Closed}
+use Rattle.build_effect.specs.declared.listing.state.Binding.TheVariants.{Closed}
 use Rattle.build_effect.proofs.ListingFinds.{class_holds, cause_holds, cause_stops}
 use Rattle.build_effect.proofs.ListingRuns.{runs_begin, run_more, binding_runs, run_is_listing, listing_is_run}
 

@@ -15,7 +15,7 @@ use Rattle.dyndep_file.specs.BuildTokens.{symbol_of, is_word}
 use Rattle.build_effect.specs.ListingLines.{CommentRow, BlankRow, is_rule_name}
 use Rattle.build_effect.specs.inner.ListingWalk.{row_of, binding_row, unindented_row, edge_texts, right_texts, front_words, past_words, past_sign, part_words, past_part}
 use Rattle.build_effect.specs.inner.ListingRows.{RulePassed}
-use Rattle.build_effect.specs.declared.listing_faults.LineCause.TheVariants.{Lexical}
+use Rattle.build_effect.specs.declared.fault.LineCause.TheVariants.{Lexical}
 
 -- where there is a first token, the line is not blank
 not_blank : (text : List ℕ) (ts : List TokenAt) (head : SeenToken) (others : List SeenToken) → head ∷ others ≡ map (with_raw text) ts → is_empty ts ≡ false

@@ -15,8 +15,8 @@ use Rattle.build_effect.specs.ListingGrammar.{IsListing, listing_end, listing_bl
 use Rattle.build_effect.specs.ListingSteps.{open_from}
 use Rattle.build_effect.specs.ListingWriting.{first_too_long}
 use Rattle.build_effect.specs.ListingLaws.{IsListable}
-use Rattle.build_effect.specs.declared.listing_faults.LineCause.TheVariants.{Lexical, Form, BadPath}
-use Rattle.build_effect.specs.declared.listing_state.Binding.TheVariants.{Closed, Open}
+use Rattle.build_effect.specs.declared.fault.LineCause.TheVariants.{Lexical, Form, BadPath}
+use Rattle.build_effect.specs.declared.listing.state.Binding.TheVariants.{Closed, Open}
 use Rattle.build_effect.proofs.ListingFinds.{class_holds}
 
 -- a text with the end of its line

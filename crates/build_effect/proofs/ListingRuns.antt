@@ -7,8 +7,8 @@ use Rattle.build_effect.specs.ListingLines.{EdgeTexts, Class, Comment, Blank, Bu
 use Rattle.build_effect.specs.ListingGrammar.{HasBindings, no_more_bindings, comment_between, dyndep_binding, restat_binding, bound, IsListing, listing_end, listing_comment, listing_blank, listing_build, Begins}
 use Rattle.build_effect.specs.ListingSteps.{ListingValue, left_open, open_from}
 use Rattle.build_effect.specs.inner.ListingWalk.{with_last_dyndep, with_last_restat, step, run}
-use Rattle.build_effect.specs.declared.listing_state.Binding.{Binding}
-use Rattle.build_effect.specs.declared.listing_state.Binding.TheVariants.{Closed, Open}
+use Rattle.build_effect.specs.declared.listing.state.Binding.{Binding}
+use Rattle.build_effect.specs.declared.listing.state.Binding.TheVariants.{Closed, Open}
 
 -- the same edges so far
 pub value_same : {x y : ListingValue} → ◌≡◌ {A = Option ListingValue} (Some x) (Some y) → x ≡ y

@@ -16,8 +16,8 @@ use Rattle.ninja_text.specs.declared.failure.Failure.TheVariants.{Memory, Fault}
 use Rattle.dyndep_file.specs.Writing.{spaced}
 use Rattle.build_effect.specs.EdgeValue.{EdgeValue}
 use Rattle.build_effect.specs.ListingWriting.{edge_line, dyndep_line, restat_line, too_long_from, listing_text, first_too_long, LeavesWriter, WritesInTurn, AnswersFault, text_unless, text_or_fault}
-use Rattle.build_effect.specs.declared.listing_writing.ListingWriteFault.{ListingWriteFault}
-use Rattle.build_effect.specs.declared.listing_writing.ListingWriteFault.TheVariants.{ListingTooLong, Io}
+use Rattle.build_effect.specs.declared.fault.ListingWriteFault.{ListingWriteFault}
+use Rattle.build_effect.specs.declared.fault.ListingWriteFault.TheVariants.{ListingTooLong, Io}
 
 -- the fault is that of an edge
 reported : (o : Option ℕ) (es : List EdgeValue) (f : ListingWriteFault) → text_unless o es ≡ Err f → (k : ℕ) × (o ≡ Some k) × (f ≡ ListingTooLong k)

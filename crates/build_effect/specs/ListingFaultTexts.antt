@@ -4,13 +4,13 @@ use Rattle.std.specs.Prelude.{ℕ, List, ◌++◌, codes}
 use Rattle.std.specs.Fmt.{decimal}
 use Rattle.ninja_text.specs.FaultTexts.{lex_fault_text, path_fault_text}
 use Rattle.build_effect.specs.FaultTexts.{graph_fault_text}
-use Rattle.build_effect.specs.declared.listing_faults.LineCause.{LineCause}
-use Rattle.build_effect.specs.declared.listing_faults.LineCause.TheVariants.{LineTooLong, Truncated, Lexical, Form, BadPath}
-use Rattle.build_effect.specs.declared.listing_faults.LineFault.{LineFault}
-use Rattle.build_effect.specs.declared.listing_faults.ListingFault.{ListingFault}
-use Rattle.build_effect.specs.declared.listing_faults.ListingFault.TheVariants.{AtLine, NoGraph}
-use Rattle.build_effect.specs.declared.listing_writing.ListingWriteFault.{ListingWriteFault}
-use Rattle.build_effect.specs.declared.listing_writing.ListingWriteFault.TheVariants.{ListingTooLong, Io}
+use Rattle.build_effect.specs.declared.fault.LineCause.{LineCause}
+use Rattle.build_effect.specs.declared.fault.LineCause.TheVariants.{LineTooLong, Truncated, Lexical, Form, BadPath}
+use Rattle.build_effect.specs.declared.fault.LineFault.{LineFault}
+use Rattle.build_effect.specs.declared.fault.ListingFault.{ListingFault}
+use Rattle.build_effect.specs.declared.fault.ListingFault.TheVariants.{AtLine, NoGraph}
+use Rattle.build_effect.specs.declared.fault.ListingWriteFault.{ListingWriteFault}
+use Rattle.build_effect.specs.declared.fault.ListingWriteFault.TheVariants.{ListingTooLong, Io}
 
 -- what is wrong with a line
 abbrev pub line_cause_text : LineCause → List ℕ

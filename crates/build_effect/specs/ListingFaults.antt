@@ -8,8 +8,8 @@ use Rattle.ninja_text.specs.declared.fault.PathFault.{PathFault}
 use Rattle.build_effect.specs.Effect.{ArePaths}
 use Rattle.build_effect.specs.ListingLines.{Row, CommentRow, BlankRow, BuildRow, DyndepRow, RestatRow, TextIsOfRow, Class, Comment, Blank, Build, Dyndep, Restat}
 use Rattle.build_effect.specs.ListingGrammar.{Begins}
-use Rattle.build_effect.specs.declared.listing_faults.LineCause.{LineCause}
-use Rattle.build_effect.specs.declared.listing_faults.LineCause.TheVariants.{LineTooLong, Lexical, Form, BadPath}
+use Rattle.build_effect.specs.declared.fault.LineCause.{LineCause}
+use Rattle.build_effect.specs.declared.fault.LineCause.TheVariants.{LineTooLong, Lexical, Form, BadPath}
 
 -- the texts of a row that are to be paths, from left to right
 abbrev pub path_texts : Row → List (List ℕ)

@@ -11,11 +11,11 @@ use Rattle.build_effect.specs.ListingGrammar.{IsListing}
 use Rattle.build_effect.specs.ListingSteps.{ListingValue, open_from}
 use Rattle.build_effect.specs.ListingReading.{Lists, FaultyLine, FaultyEnd}
 use Rattle.build_effect.specs.Faults.{IsGraphFault}
-use Rattle.build_effect.specs.declared.listing_faults.LineCause.TheVariants.{LineTooLong}
-use Rattle.build_effect.specs.declared.listing_faults.LineFault.{LineFault}
-use Rattle.build_effect.specs.declared.listing_faults.ListingFault.{ListingFault}
-use Rattle.build_effect.specs.declared.listing_faults.ListingFault.TheVariants.{AtLine, NoGraph}
-use Rattle.build_effect.specs.declared.listing_state.Binding.TheVariants.{Closed}
+use Rattle.build_effect.specs.declared.fault.LineCause.TheVariants.{LineTooLong}
+use Rattle.build_effect.specs.declared.fault.LineFault.{LineFault}
+use Rattle.build_effect.specs.declared.fault.ListingFault.{ListingFault}
+use Rattle.build_effect.specs.declared.fault.ListingFault.TheVariants.{AtLine, NoGraph}
+use Rattle.build_effect.specs.declared.listing.state.Binding.TheVariants.{Closed}
 
 -- The lines are of these classes, one by one.
 abbrev pub AreTextsOfClasses : List LogicalLine → List Class → Type 0

@@ -6,9 +6,9 @@ use Rattle.build_effect.specs.EdgeValue.{EdgeValue}
 use Rattle.build_effect.specs.ListingLines.{Class, TextIsOfClass, IsOfClass}
 use Rattle.build_effect.specs.ListingGrammar.{IsListing, Begins}
 use Rattle.build_effect.specs.ListingFaults.{IsLineCause}
-use Rattle.build_effect.specs.declared.listing_faults.LineCause.{LineCause}
-use Rattle.build_effect.specs.declared.listing_faults.LineCause.TheVariants.{LineTooLong, Truncated, Form}
-use Rattle.build_effect.specs.declared.listing_faults.LineFault.{LineFault}
+use Rattle.build_effect.specs.declared.fault.LineCause.{LineCause}
+use Rattle.build_effect.specs.declared.fault.LineCause.TheVariants.{LineTooLong, Truncated, Form}
+use Rattle.build_effect.specs.declared.fault.LineFault.{LineFault}
 
 -- The lines are of these classes, one by one.
 abbrev pub AreOfClasses : List (List ℕ) → List Class → Type 0

@@ -11,8 +11,8 @@ use Rattle.ninja_text.specs.declared.failure.Failure.{Failure}
 use Rattle.ninja_text.specs.declared.failure.Failure.TheVariants.{Memory, Fault}
 use Rattle.dyndep_file.specs.Writing.{spaced}
 use Rattle.build_effect.specs.EdgeValue.{EdgeValue}
-use Rattle.build_effect.specs.declared.listing_writing.ListingWriteFault.{ListingWriteFault}
-use Rattle.build_effect.specs.declared.listing_writing.ListingWriteFault.TheVariants.{ListingTooLong, Io}
+use Rattle.build_effect.specs.declared.fault.ListingWriteFault.{ListingWriteFault}
+use Rattle.build_effect.specs.declared.fault.ListingWriteFault.TheVariants.{ListingTooLong, Io}
 
 -- the mark and each path after a space, where there are any
 abbrev pub part_text : List ℕ → List (List ℕ) → List ℕ

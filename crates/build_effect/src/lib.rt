@@ -70,25 +70,18 @@ mod files;
 mod graph;
 mod graph_checks;
 mod laws;
-mod listing_faults;
-mod listing_laws;
-mod listing_reader;
-mod listing_rows;
-mod listing_state;
-mod listing_writing;
+mod listing;
 mod makers;
 mod needs;
 mod statement_edges;
 
 pub use edge::Edge;
 pub use effect::{apply, apply_with_hasher};
-pub use fault::{EffectFault, GraphFault};
+pub use fault::{EffectFault, GraphFault, LineCause, LineFault, ListingFault, ListingWriteFault};
 pub use graph::Graph;
-pub use laws::{any_order, checks, files_order, level_orders, one_effect};
-pub use listing_faults::{LineCause, LineFault, ListingFault};
-pub use listing_laws::{
-    listing_lines, listing_or_fault, one_listing, one_listing_fault, written_listing,
+pub use laws::{
+    any_order, checks, files_order, level_orders, listing_lines, listing_or_fault, one_effect,
+    one_listing, one_listing_fault, written_listing,
 };
-pub use listing_reader::ListingReader;
-pub use listing_writing::{ListingWriteFault, listing_write};
+pub use listing::{ListingReader, listing_write};
 pub use needs::{edge_order, edge_order_with_hasher};

@@ -1,7 +1,7 @@
 -- A target has one refusal at most.
 use Rattle.std.proofs.Common.{◌≡◌, ℕ, ◌+◌, ◌<◌, ◌⊎◌, List, length, take, Some, None, Err, ap, ap₂, subst, sym, ◌∙◌, inl, inr, arith, slice_get}
 use Rattle.std.specs.Prelude.{All}
-use Rattle.dyndep_file.specs.declared.writing.WriteFault.TheVariants as write
+use Rattle.dyndep_file.specs.declared.fault.WriteFault.TheVariants as write
 use Rattle.scan_docs.specs.Scan.{SettingValue, RuleValue}
 use Rattle.scan_docs.specs.Document.{IsRefused}
 use Rattle.scan_docs.specs.ScanChecks.{scan_checks}

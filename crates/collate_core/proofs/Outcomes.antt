@@ -3,7 +3,7 @@ use Rattle.std.proofs.Common.{◌≡◌, ℕ, ◌+◌, ◌<◌, List, ◌++◌, 
 use Rattle.std.specs.Prelude.{All}
 use Rattle.std.proofs.lemmas.List.Folds.{length-flat_map-take}
 use Rattle.std.proofs.lemmas.Option.{slice_get_within, get_or_from_slice_get}
-use Rattle.dyndep_file.specs.declared.writing.WriteFault.TheVariants as write
+use Rattle.dyndep_file.specs.declared.fault.WriteFault.TheVariants as write
 use Rattle.scan_docs.specs.Document.{HasOneAnswer}
 use Rattle.scan_docs.specs.Scan.{SettingValue, RuleValue, AreRules}
 use Rattle.scan_docs.specs.ScanChecks.{scan_checks}

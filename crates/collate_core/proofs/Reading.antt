@@ -6,8 +6,8 @@ use Rattle.ninja_text.specs.Failure.{ForFault}
 use Rattle.dyndep_file.specs.Reading.{IsRefused}
 use Rattle.dyndep_file.specs.Reader.{IsFailureIn}
 use Rattle.dyndep_file.specs.Laws.{FaultStays}
-use Rattle.dyndep_file.specs.declared.faults.ReadFault.{ReadFault}
-use Rattle.dyndep_file.specs.declared.faults.ReadFault.TheVariants.{AtLine, Io}
+use Rattle.dyndep_file.specs.declared.fault.ReadFault.{ReadFault}
+use Rattle.dyndep_file.specs.declared.fault.ReadFault.TheVariants.{AtLine, Io}
 use Rattle.collate_core.specs.Rehearsal.{IsReported}
 
 pub reported : FaultStays → (bytes more text : List ℕ) (failure : Failure ReadFault) → text ≡ bytes ++ more → IsFailureIn bytes failure → ForFault (IsReported text) failure

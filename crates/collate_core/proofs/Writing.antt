@@ -11,8 +11,8 @@ use Rattle.ninja_text.specs.Escapes.{IsWritable}
 use Rattle.dyndep_file.specs.StatementValue.{StatementValue}
 use Rattle.dyndep_file.specs.WriteFaults.{paths_of, text_unless, text_or_fault, statement_fault, write_fault}
 use Rattle.dyndep_file.specs.Laws.{FirstFault}
-use Rattle.dyndep_file.specs.declared.writing.WriteFault.{WriteFault}
-use Rattle.dyndep_file.specs.declared.writing.WriteFault.TheVariants as write
+use Rattle.dyndep_file.specs.declared.fault.WriteFault.{WriteFault}
+use Rattle.dyndep_file.specs.declared.fault.WriteFault.TheVariants as write
 use Rattle.collate_core.specs.Collation.{HasPaths}
 use Rattle.collate_core.specs.inner.Parts.{IsSpelled, HasSpelled, IsLineRefusal, IsWriteRefusal}
 use Rattle.collate_core.specs.declared.fault.Refusal.{Refusal}

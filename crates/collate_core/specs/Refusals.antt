@@ -1,7 +1,7 @@
 -- The refusal that `collate` reports: the first fault in its order.
 use Rattle.std.specs.Prelude.{◌≡◌, ◌⊎◌, ℕ, ◌+◌, ◌<◌, List, length, take, slice_get, Option, Some, None, Err, All}
 use Rattle.dyndep_file.specs.WriteFaults.{write_fault}
-use Rattle.dyndep_file.specs.declared.writing.WriteFault.TheVariants as write
+use Rattle.dyndep_file.specs.declared.fault.WriteFault.TheVariants as write
 use Rattle.scan_docs.specs.Document.{IsRefused}
 use Rattle.scan_docs.specs.Scan.{SettingValue, RuleValue}
 use Rattle.scan_docs.specs.ScanChecks.{scan_checks}

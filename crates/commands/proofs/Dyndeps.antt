@@ -4,8 +4,8 @@ use Rattle.dyndep_file.specs.StatementValue.{StatementValue}
 use Rattle.dyndep_file.specs.Laws.{OneList, NotBoth, OneFault}
 use Rattle.dyndep_file.specs.Reading.{FaultAt, StandsFor}
 use Rattle.dyndep_file.specs.FaultTexts.{read_fault_text}
-use Rattle.dyndep_file.specs.declared.faults.ReadFault.{ReadFault}
-use Rattle.dyndep_file.specs.declared.faults.ReadFault.TheVariants.{AtLine, Io}
+use Rattle.dyndep_file.specs.declared.fault.ReadFault.{ReadFault}
+use Rattle.dyndep_file.specs.declared.fault.ReadFault.TheVariants.{AtLine, Io}
 use Rattle.commands.specs.declared.answer.Answer.{Answer}
 use Rattle.commands.specs.Answers.{Refuses}
 use Rattle.commands.specs.Dyndeps.{IsReported, AnswersDyndep}

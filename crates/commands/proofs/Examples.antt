@@ -7,7 +7,7 @@ use Rattle.commands.specs.TableFaults.{fault_text, ring_text}
 use Rattle.build_effect.specs.EdgeValue.{EdgeValue}
 use Rattle.build_effect.specs.declared.fault.EffectFault.TheVariants.{AddedTwice}
 use Rattle.build_effect.specs.declared.fault.GraphFault.TheVariants.{DyndepNotInput}
-use Rattle.build_effect.specs.declared.listing_faults.ListingFault.TheVariants.{NoGraph}
+use Rattle.build_effect.specs.declared.fault.ListingFault.TheVariants.{NoGraph}
 use Rattle.commands.specs.EdgeFaults.{listing_fault_text, effect_text, cycle_text}
 use Rattle.commands.specs.Order.{order_text}
 use Rattle.commands.specs.Answers.{line}

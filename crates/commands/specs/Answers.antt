@@ -2,7 +2,7 @@
 use Rattle.std.specs.Prelude.{◌≡◌, ℕ, Result, Ok, Err, ◌||◌, ◌==◌, nat_lt, if◌then◌else◌, List, [], ◌∷◌, ◌++◌, map, String, Vec, string_bytes, codes}
 use Rattle.std.specs.Global.{Global}
 use Rattle.dyndep_file.specs.FaultTexts.{write_fault_text}
-use Rattle.dyndep_file.specs.declared.writing.WriteFault.{WriteFault}
+use Rattle.dyndep_file.specs.declared.fault.WriteFault.{WriteFault}
 use Rattle.commands.specs.declared.answer.Answer.{Answer}
 
 -- a byte as it is printed in a line: `?` for a control byte

@@ -6,8 +6,8 @@ use Rattle.build_effect.specs.EdgeValue.{EdgeValue}
 use Rattle.build_effect.specs.FaultTexts.{graph_fault_text, graph_fault_path, effect_fault_text, effect_fault_path}
 use Rattle.build_effect.specs.ListingFaultTexts.{line_fault_text}
 use Rattle.build_effect.specs.declared.fault.EffectFault.{EffectFault}
-use Rattle.build_effect.specs.declared.listing_faults.ListingFault.{ListingFault}
-use Rattle.build_effect.specs.declared.listing_faults.ListingFault.TheVariants.{AtLine, NoGraph}
+use Rattle.build_effect.specs.declared.fault.ListingFault.{ListingFault}
+use Rattle.build_effect.specs.declared.fault.ListingFault.TheVariants.{AtLine, NoGraph}
 
 -- the first output of the edge of that index
 abbrev pub first_output : List EdgeValue → ℕ → List ℕ

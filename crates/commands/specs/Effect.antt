@@ -9,8 +9,8 @@ use Rattle.build_effect.specs.Effect.{Effect, HasNoEffect}
 use Rattle.build_effect.specs.Faults.{IsEffectFault}
 use Rattle.build_effect.specs.ListingWriting.{text_or_fault}
 use Rattle.build_effect.specs.declared.fault.EffectFault.{EffectFault}
-use Rattle.build_effect.specs.declared.listing_writing.ListingWriteFault.{ListingWriteFault}
-use Rattle.build_effect.specs.declared.listing_writing.ListingWriteFault.TheVariants.{ListingTooLong, Io}
+use Rattle.build_effect.specs.declared.fault.ListingWriteFault.{ListingWriteFault}
+use Rattle.build_effect.specs.declared.fault.ListingWriteFault.TheVariants.{ListingTooLong, Io}
 use Rattle.commands.specs.declared.answer.Answer.{Answer}
 use Rattle.commands.specs.Answers.{Prints, Fails, Refuses}
 use Rattle.commands.specs.Dyndeps.{AnswersDyndep}

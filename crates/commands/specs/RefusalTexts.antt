@@ -2,7 +2,7 @@
 use Rattle.std.specs.Prelude.{ℕ, List, ◌++◌, map, codes}
 use Rattle.std.specs.Fmt.{decimal}
 use Rattle.dyndep_file.specs.FaultTexts.{write_fault_text}
-use Rattle.dyndep_file.specs.declared.writing.WriteFault.TheVariants as write
+use Rattle.dyndep_file.specs.declared.fault.WriteFault.TheVariants as write
 use Rattle.scan_docs.specs.FaultTexts.{doc_fault_text}
 use Rattle.scan_docs.specs.Scan.{SettingValue, RuleValue}
 use Rattle.scan_docs.specs.Values.{info_of}

@@ -6,7 +6,7 @@ use Rattle.ninja_text.specs.declared.token.TokenKind.TheVariants.{Word, Bar, Dou
 use Rattle.dyndep_file.specs.Classes.{Symbol, WordSymbol, SignSymbol, IsPart}
 use Rattle.dyndep_file.specs.Faults.{same_bytes, implicit_inputs_fault, after_rule_fault, rule_fault, implicit_outputs_fault, after_output_fault, output_fault}
 use Rattle.dyndep_file.specs.inner.BuildLines.{Names}
-use Rattle.dyndep_file.specs.declared.faults.LineFault.{LineFault}
+use Rattle.dyndep_file.specs.declared.fault.LineFault.{LineFault}
 use Rattle.dyndep_file.proofs.TableLemmas.{same_bytes-true}
 
 -- the words up to the first `:`

@@ -8,7 +8,7 @@ use Rattle.ninja_text.specs.declared.counting.Counted.{Counted}
 use Rattle.ninja_text.specs.declared.failure.Failure.{Failure}
 use Rattle.dyndep_file.specs.StatementValue.{StatementValue}
 use Rattle.dyndep_file.specs.ReadingAll.{ReadTurn, ReadsInTurn, LastCall, AtEnd, Failed, Refused, NotMade, IsLastCall, AnswersAfter, bytes_read, IsReadFrom}
-use Rattle.dyndep_file.specs.declared.faults.ReadFault.{ReadFault}
+use Rattle.dyndep_file.specs.declared.fault.ReadFault.{ReadFault}
 
 -- the count that a call answered
 same_count : (n m : ℕ) → ◌≡◌ {A = Result ℕ Error} (Ok n) (Ok m) → n ≡ m

@@ -15,7 +15,7 @@ use Rattle.dyndep_file.specs.Faults.{same_bytes, is_empty, after_build, value_as
 use Rattle.dyndep_file.specs.Faults.{text_fault, text_line_fault, lexical_fault_or}
 use Rattle.dyndep_file.specs.Steps.{ProgressValue, step}
 use Rattle.dyndep_file.specs.Reading.{AreOfClasses}
-use Rattle.dyndep_file.specs.declared.faults.LineFault.{LineFault}
+use Rattle.dyndep_file.specs.declared.fault.LineFault.{LineFault}
 use Rattle.dyndep_file.specs.declared.progress.Stage.{Stage}
 use Rattle.dyndep_file.specs.declared.progress.Stage.TheVariants.{BeforeVersion, NoneOpen, Open}
 use Rattle.ninja_text.specs.declared.token.TokenKind.TheVariants.{Colon}

@@ -15,7 +15,7 @@ use Rattle.dyndep_file.specs.Reading.{AreOfClasses, StandsFor, FaultyEnd}
 use Rattle.dyndep_file.specs.Reader.{AreTextsOfClasses, IsStateAfter}
 use Rattle.dyndep_file.specs.declared.progress.Stage.{Stage}
 use Rattle.dyndep_file.specs.declared.progress.Stage.TheVariants.{BeforeVersion, NoneOpen, Open}
-use Rattle.dyndep_file.specs.declared.faults.LineFault.TheVariants.{Truncated, NoVersion}
+use Rattle.dyndep_file.specs.declared.fault.LineFault.TheVariants.{Truncated, NoVersion}
 use Rattle.dyndep_file.proofs.Runs.{is_past, run_is_file, runs_begin, stage_runs}
 
 -- the classes of the texts lent are those of the lines

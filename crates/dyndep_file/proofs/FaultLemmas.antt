@@ -20,10 +20,10 @@ use Rattle.dyndep_file.specs.inner.LineStates.{fault_of_cutter, PassesLine, Refu
 use Rattle.dyndep_file.specs.StatementValue.{StatementValue}
 use Rattle.dyndep_file.specs.ProgressViews.{progress_value}
 use Rattle.dyndep_file.specs.declared.progress.Progress.{Progress}
-use Rattle.dyndep_file.specs.declared.faults.ReadFault.{ReadFault}
-use Rattle.dyndep_file.specs.declared.faults.ReadFault.TheVariants.{AtLine, Io}
-use Rattle.dyndep_file.specs.declared.faults.LineFault.{LineFault}
-use Rattle.dyndep_file.specs.declared.faults.LineFault.TheVariants as lines
+use Rattle.dyndep_file.specs.declared.fault.ReadFault.{ReadFault}
+use Rattle.dyndep_file.specs.declared.fault.ReadFault.TheVariants.{AtLine, Io}
+use Rattle.dyndep_file.specs.declared.fault.LineFault.{LineFault}
+use Rattle.dyndep_file.specs.declared.fault.LineFault.TheVariants as lines
 use Rattle.dyndep_file.specs.declared.progress.Stage.{Stage}
 use Rattle.dyndep_file.specs.declared.progress.Stage.TheVariants.{BeforeVersion, NoneOpen, Open}
 use Rattle.dyndep_file.proofs.TableLemmas.{no_fault}

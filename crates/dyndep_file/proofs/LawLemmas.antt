@@ -15,8 +15,8 @@ use Rattle.dyndep_file.specs.Grammar.{IsDyndepFile, Begins, comment_first, blank
 use Rattle.dyndep_file.specs.Faults.{is_version, stage_after, line_fault, text_line_fault}
 use Rattle.dyndep_file.specs.Steps.{ProgressValue, step, run}
 use Rattle.dyndep_file.specs.Reading.{StandsFor, AreOfClasses, FaultAt, IsFaultyAfter, FaultyLine, IsEndFault, FaultyEnd, IsRefused}
-use Rattle.dyndep_file.specs.declared.faults.LineFault.{LineFault}
-use Rattle.dyndep_file.specs.declared.faults.LineFault.TheVariants.{LineTooLong, Truncated, NoVersion}
+use Rattle.dyndep_file.specs.declared.fault.LineFault.{LineFault}
+use Rattle.dyndep_file.specs.declared.fault.LineFault.TheVariants.{LineTooLong, Truncated, NoVersion}
 use Rattle.dyndep_file.specs.declared.progress.Stage.{Stage}
 use Rattle.dyndep_file.specs.declared.progress.Stage.TheVariants.{BeforeVersion, NoneOpen, Open}
 use Rattle.dyndep_file.proofs.Runs.{is_past, one_list_of_statements, run_is_file, runs_begin, stage_runs, run_more}

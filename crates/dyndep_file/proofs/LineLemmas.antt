@@ -16,7 +16,7 @@ use Rattle.dyndep_file.specs.Steps.{ProgressValue, step, with_last_restat}
 use Rattle.dyndep_file.specs.BuildTokens.{symbol_of, is_word}
 use Rattle.dyndep_file.specs.inner.BuildLines.{IsNamed}
 use Rattle.dyndep_file.specs.inner.LineReading.{PassesOr, IsBuildOf, with_name, IsBindingOf, IsVersionLineOf}
-use Rattle.dyndep_file.specs.declared.faults.LineFault.{LineFault}
+use Rattle.dyndep_file.specs.declared.fault.LineFault.{LineFault}
 use Rattle.dyndep_file.specs.declared.progress.Stage.{Stage}
 use Rattle.dyndep_file.specs.declared.progress.Stage.TheVariants.{NoneOpen, Open}
 use Rattle.dyndep_file.proofs.TableLemmas.{same_bytes-refl, same_bytes-true, is_word-true, symbol_is_word, no_indent_at_token, no_version}

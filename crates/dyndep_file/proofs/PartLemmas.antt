@@ -16,7 +16,7 @@ use Rattle.dyndep_file.specs.Faults.{output_fault, after_output_fault, implicit_
 use Rattle.dyndep_file.specs.BuildTokens.{symbol_of, symbols_left}
 use Rattle.dyndep_file.specs.inner.BuildLines.{IsNamed, IsFailureOf, TakesOr, TakesOutput, TakesWords, TakesOutputs, TakesInputs}
 use Rattle.dyndep_file.specs.inner.Paths.{texts}
-use Rattle.dyndep_file.specs.declared.faults.LineFault.{LineFault}
+use Rattle.dyndep_file.specs.declared.fault.LineFault.{LineFault}
 use Rattle.dyndep_file.proofs.TableLemmas.{inputs_pass, outputs_pass, after_output_passes}
 
 -- one more word behind words that were read

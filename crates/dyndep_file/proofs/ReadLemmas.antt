@@ -16,10 +16,10 @@ use Rattle.ninja_text.specs.Counting.{held, failures, one_more, Call, Counts}
 use Rattle.ninja_text.specs.declared.counting.Counted.{Counted}
 use Rattle.std.proofs.lemmas.List.{flat_map_more}
 use Rattle.dyndep_file.specs.ReadingAll.{IsUnrefused, buffer_len, ReadTurn, bytes_of, bytes_read, GivesSome, ReadsInTurn, AtEnd, Failed, Refused, NotMade, IsReadFrom}
-use Rattle.dyndep_file.specs.declared.faults.LineFault.{LineFault}
-use Rattle.dyndep_file.specs.declared.faults.LineFault.TheVariants.{LineTooLong}
-use Rattle.dyndep_file.specs.declared.faults.ReadFault.{ReadFault}
-use Rattle.dyndep_file.specs.declared.faults.ReadFault.TheVariants.{AtLine, Io}
+use Rattle.dyndep_file.specs.declared.fault.LineFault.{LineFault}
+use Rattle.dyndep_file.specs.declared.fault.LineFault.TheVariants.{LineTooLong}
+use Rattle.dyndep_file.specs.declared.fault.ReadFault.{ReadFault}
+use Rattle.dyndep_file.specs.declared.fault.ReadFault.TheVariants.{AtLine, Io}
 use Rattle.dyndep_file.specs.StatementValue.{StatementValue}
 use Rattle.dyndep_file.proofs.Runs.{runs_begin}
 use Rattle.dyndep_file.proofs.EndLemmas.{working, working_state, classed_lines, divided_lines}

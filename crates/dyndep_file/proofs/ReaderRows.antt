@@ -7,8 +7,8 @@ use Rattle.dyndep_file.specs.Faults.{line_fault, stage_after}
 use Rattle.dyndep_file.specs.declared.progress.Stage.TheVariants.{BeforeVersion, NoneOpen, Open}
 use Rattle.dyndep_file.specs.StatementValue.{StatementValue}
 use Rattle.dyndep_file.specs.Writing.{dyndep_text, build_line}
-use Rattle.dyndep_file.specs.declared.faults.LineFault.TheVariants.{Lexical, NoVersion, BadVersion, SecondVersion, Indent, BadLine, NoOutput, SecondOutput, BadRule, ExplicitInput}
-use Rattle.dyndep_file.specs.declared.faults.LineFault.TheVariants.{OrderOnly, Validation, BadBinding}
+use Rattle.dyndep_file.specs.declared.fault.LineFault.TheVariants.{Lexical, NoVersion, BadVersion, SecondVersion, Indent, BadLine, NoOutput, SecondOutput, BadRule, ExplicitInput}
+use Rattle.dyndep_file.specs.declared.fault.LineFault.TheVariants.{OrderOnly, Validation, BadBinding}
 
 -- a text with the end of its line
 abbrev line : List ℕ → List ℕ

@@ -11,9 +11,9 @@ use Rattle.ninja_text.proofs.ForCallers.{line_end-append, divides_some, AllByRec
 use Rattle.dyndep_file.specs.Faults.{text_line_fault, stage_after}
 use Rattle.dyndep_file.specs.Reading.{FaultAt, FaultyLine, FaultyEnd, IsRefused}
 use Rattle.dyndep_file.specs.Reader.{IsFaultIn}
-use Rattle.dyndep_file.specs.declared.faults.LineFault.{LineFault}
-use Rattle.dyndep_file.specs.declared.faults.LineFault.TheVariants.{LineTooLong}
-use Rattle.dyndep_file.specs.declared.faults.ReadFault.TheVariants.{AtLine}
+use Rattle.dyndep_file.specs.declared.fault.LineFault.{LineFault}
+use Rattle.dyndep_file.specs.declared.fault.LineFault.TheVariants.{LineTooLong}
+use Rattle.dyndep_file.specs.declared.fault.ReadFault.TheVariants.{AtLine}
 
 -- bytes behind a text go behind its last part
 more_behind : (bytes front after more : List ℕ) → bytes ≡ front ++ after → bytes ++ more ≡ front ++ (after ++ more)

@@ -13,8 +13,8 @@ use Rattle.dyndep_file.specs.StatementValue.{StatementValue}
 use Rattle.dyndep_file.specs.Writing.{version_line, build_line, binding_line, statement_text, dyndep_text}
 use Rattle.dyndep_file.specs.WriteFaults.{paths_of, statement_fault, fault_from, write_fault, text_unless, text_or_fault}
 use Rattle.dyndep_file.specs.Texts.{TextValue, IsTextOf, IsFinished}
-use Rattle.dyndep_file.specs.declared.writing.WriteFault.{WriteFault}
-use Rattle.dyndep_file.specs.declared.writing.WriteFault.TheVariants.{Unwritable, StatementTooLong}
+use Rattle.dyndep_file.specs.declared.fault.WriteFault.{WriteFault}
+use Rattle.dyndep_file.specs.declared.fault.WriteFault.TheVariants.{Unwritable, StatementTooLong}
 use Rattle.dyndep_file.proofs.WriteFaultLemmas.{all_written}
 use Rattle.dyndep_file.proofs.WrittenOnly.{stands_for_only}
 

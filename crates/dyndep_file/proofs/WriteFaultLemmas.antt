@@ -16,8 +16,8 @@ use Rattle.ninja_text.proofs.ForCallers.{is_writable-meaning}
 use Rattle.dyndep_file.specs.StatementValue.{StatementValue}
 use Rattle.dyndep_file.specs.Writing.{build_line, dyndep_text}
 use Rattle.dyndep_file.specs.WriteFaults.{text_unless, text_or_fault, LeavesWriter, StopsInTurn, AnswersFault, write_fault, paths_of, statement_fault, fault_from, CanBeWritten}
-use Rattle.dyndep_file.specs.declared.writing.WriteFault.{WriteFault}
-use Rattle.dyndep_file.specs.declared.writing.WriteFault.TheVariants.{Unwritable, StatementTooLong, Io}
+use Rattle.dyndep_file.specs.declared.fault.WriteFault.{WriteFault}
+use Rattle.dyndep_file.specs.declared.fault.WriteFault.TheVariants.{Unwritable, StatementTooLong, Io}
 use Rattle.dyndep_file.proofs.Positions.{position_none}
 
 -- what holds where a choice between some value and another answer gives none

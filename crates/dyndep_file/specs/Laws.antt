@@ -6,10 +6,10 @@ use Rattle.dyndep_file.specs.WriteFaults.{paths_of, statement_fault, write_fault
 use Rattle.dyndep_file.specs.Reading.{StandsFor, FaultAt, IsRefused}
 use Rattle.dyndep_file.specs.Reader.{Reader, HasRead, IsFaultIn}
 use Rattle.dyndep_file.specs.ReadingAll.{IsUnrefused}
-use Rattle.dyndep_file.specs.declared.faults.LineFault.{LineFault}
-use Rattle.dyndep_file.specs.declared.faults.ReadFault.TheVariants.{AtLine}
-use Rattle.dyndep_file.specs.declared.writing.WriteFault.{WriteFault}
-use Rattle.dyndep_file.specs.declared.writing.WriteFault.TheVariants.{StatementTooLong}
+use Rattle.dyndep_file.specs.declared.fault.LineFault.{LineFault}
+use Rattle.dyndep_file.specs.declared.fault.ReadFault.TheVariants.{AtLine}
+use Rattle.dyndep_file.specs.declared.fault.WriteFault.{WriteFault}
+use Rattle.dyndep_file.specs.declared.fault.WriteFault.TheVariants.{StatementTooLong}
 
 -- A text stands for one list of statements at most.
 abbrev pub OneList : Type 0

@@ -9,9 +9,9 @@ use Rattle.dyndep_file.specs.StatementValue.{StatementValue}
 use Rattle.dyndep_file.specs.Classes.{Class, TextIsOfClass}
 use Rattle.dyndep_file.specs.Steps.{ProgressValue, run}
 use Rattle.dyndep_file.specs.Reading.{StandsFor, FaultyLine, FaultyEnd}
-use Rattle.dyndep_file.specs.declared.faults.ReadFault.{ReadFault}
-use Rattle.dyndep_file.specs.declared.faults.ReadFault.TheVariants.{AtLine, Io}
-use Rattle.dyndep_file.specs.declared.faults.LineFault.TheVariants.{LineTooLong}
+use Rattle.dyndep_file.specs.declared.fault.ReadFault.{ReadFault}
+use Rattle.dyndep_file.specs.declared.fault.ReadFault.TheVariants.{AtLine, Io}
+use Rattle.dyndep_file.specs.declared.fault.LineFault.TheVariants.{LineTooLong}
 use Rattle.dyndep_file.specs.declared.progress.Stage.TheVariants.{BeforeVersion}
 
 -- a reader: its cutter of lines, the statements so far, and what it refused with, if it did

@@ -7,8 +7,8 @@ use Rattle.dyndep_file.specs.StatementValue.{StatementValue}
 use Rattle.dyndep_file.specs.Classes.{Class, IsOfClass}
 use Rattle.dyndep_file.specs.Grammar.{IsDyndepFile, Begins}
 use Rattle.dyndep_file.specs.Faults.{stage_after, line_fault, is_version}
-use Rattle.dyndep_file.specs.declared.faults.LineFault.{LineFault}
-use Rattle.dyndep_file.specs.declared.faults.LineFault.TheVariants.{LineTooLong, Truncated, NoVersion}
+use Rattle.dyndep_file.specs.declared.fault.LineFault.{LineFault}
+use Rattle.dyndep_file.specs.declared.fault.LineFault.TheVariants.{LineTooLong, Truncated, NoVersion}
 
 -- The lines are of these classes, one by one.
 abbrev pub AreOfClasses : List (List ℕ) → List Class → Type 0

@@ -9,8 +9,8 @@ use Rattle.ninja_text.specs.Lines.{line_limit}
 use Rattle.ninja_text.specs.Escapes.{is_writable, IsWritable}
 use Rattle.dyndep_file.specs.StatementValue.{StatementValue}
 use Rattle.dyndep_file.specs.Writing.{build_line, dyndep_text}
-use Rattle.dyndep_file.specs.declared.writing.WriteFault.{WriteFault}
-use Rattle.dyndep_file.specs.declared.writing.WriteFault.TheVariants.{Unwritable, StatementTooLong, Io}
+use Rattle.dyndep_file.specs.declared.fault.WriteFault.{WriteFault}
+use Rattle.dyndep_file.specs.declared.fault.WriteFault.TheVariants.{Unwritable, StatementTooLong, Io}
 
 -- a statement's paths, in the order that faults count them in
 abbrev pub paths_of : StatementValue → List (List ℕ)

@@ -11,7 +11,7 @@ ghost use Rattle.dyndep_file.specs.BuildTokens.{is_word, symbol_of, symbols_left
 ghost use Rattle.dyndep_file.specs.inner.BuildLines.{TakesOr, TakesOutput, TakesOutputs, TakesInputs, TakesWords, IsNamed};
 ghost use Rattle.dyndep_file.specs.inner.Paths.{texts};
 
-use crate::faults::LineFault;
+use crate::fault::LineFault;
 use crate::statement::Statement;
 use ninja_text::{Failure, Token, TokenKind, Words};
 use std::alloc::{AllocError, Global};

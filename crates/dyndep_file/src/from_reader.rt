@@ -1,7 +1,7 @@
 //! Reading a dyndep file from any `Read`.
 ghost use Rattle.dyndep_file.specs.ReadingAll.{IsReadFrom};
 
-use crate::faults::ReadFault;
+use crate::fault::ReadFault;
 use crate::reader::DyndepReader;
 use crate::statement::Dyndep;
 use ninja_text::{Counted, Failure, ReadCall};

@@ -1,8 +1,8 @@
 //! What holds of the definitions themselves: each law is the contract of a call that does nothing.
-ghost use Rattle.std.specs.Prelude.{List, All};
+ghost use Rattle.std.specs.Prelude.{◌≡◌, ◌↔◌, List, All, None};
 ghost use Rattle.dyndep_file.specs.StatementValue.{StatementValue};
 ghost use Rattle.dyndep_file.specs.Writing.{dyndep_text};
-ghost use Rattle.dyndep_file.specs.WriteFaults.{CanBeWritten};
+ghost use Rattle.dyndep_file.specs.WriteFaults.{write_fault, CanBeWritten};
 ghost use Rattle.dyndep_file.specs.Reading.{StandsForOnly};
 ghost use Rattle.dyndep_file.specs.Laws.{OneList, NotBoth, OneOfBoth, OneFault, GoesOnUnrefused, FaultStays, OnlyTooLong, IsTooLong, FirstFault};
 
@@ -49,4 +49,10 @@ pub fn first_fault()
 pub fn written_text()
     ensures { (statements : List StatementValue) →
         All CanBeWritten statements → StandsForOnly (dyndep_text statements) statements }
+{}
+
+/// A list of statements has no fault exactly where each of them can be written.
+pub fn writable_statements()
+    ensures { (statements : List StatementValue) →
+        write_fault statements ≡ None ↔ All CanBeWritten statements }
 {}

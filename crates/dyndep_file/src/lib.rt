@@ -27,7 +27,7 @@
 #![tactic(auto)]
 
 mod build_line;
-pub mod faults;
+mod fault;
 mod from_reader;
 pub mod laws;
 mod line;
@@ -37,9 +37,10 @@ pub mod statement;
 mod text;
 mod writing;
 
-pub use faults::{LineFault, ReadFault};
+pub use fault::{LineFault, ReadFault, WriteFault};
 pub use from_reader::read_all;
+pub use laws::writable_statements;
 pub use reader::DyndepReader;
 pub use statement::{Dyndep, LentStatement, Statement};
 pub use text::DyndepText;
-pub use writing::{WriteFault, writable_statements, write};
+pub use writing::write;

@@ -11,7 +11,7 @@ ghost use Rattle.dyndep_file.specs.inner.LineReading.{PassesOr, ReadsLine};
 ghost use Rattle.dyndep_file.specs.ProgressViews.{progress_value};
 
 use crate::build_line::is_keyword;
-use crate::faults::{LineFault, ReadFault};
+use crate::fault::{LineFault, ReadFault};
 use crate::progress::{Progress, blank_line, build_line, indented_line, version_or_other_line};
 use ninja_text::{Failure, Line, Token, Words, assignment, words};
 use std::alloc::Global;

@@ -11,7 +11,7 @@ ghost use Rattle.dyndep_file.specs.inner.LineReading.{PassesOr, IsBuildOf, IsBin
 ghost use Rattle.dyndep_file.specs.ProgressViews.{progress_value};
 
 use crate::build_line::{is_same, statement};
-use crate::faults::LineFault;
+use crate::fault::LineFault;
 use crate::statement::Statement;
 use ninja_text::{Assignment, Failure, Words};
 use std::alloc::{AllocError, Global};

@@ -3,7 +3,7 @@
 ghost use Rattle.std.specs.Prelude.{◌≡◌, ℕ, ◌++◌, List, [], Some};
 ghost use Rattle.dyndep_file.specs.inner.LineStates.{answer_at_end};
 
-use crate::faults::{LineFault, ReadFault};
+use crate::fault::{LineFault, ReadFault};
 use crate::line::read_line;
 use crate::progress::{Progress, Stage};
 use crate::statement::Dyndep;
@@ -31,7 +31,7 @@ impl Model for DyndepReader {
 
 impl DyndepReader {
     ghost use Rattle.dyndep_file.specs.Reader.{HasRead, Reads, Ends};
-    ghost use Rattle.dyndep_file.specs.declared.faults.ReadFault.{ReadFault};
+    ghost use Rattle.dyndep_file.specs.declared.fault.ReadFault.{ReadFault};
     ghost use Rattle.ninja_text.specs.declared.failure.Failure.{Failure};
 
     /// A reader that was fed nothing. It takes no memory yet.

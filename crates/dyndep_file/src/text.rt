@@ -10,8 +10,8 @@ ghost use Rattle.dyndep_file.specs.WriteFaults.{text_or_fault, paths_of, stateme
 ghost use Rattle.dyndep_file.specs.Texts.{IsTextOf, IsFinished};
 ghost use Rattle.dyndep_file.specs.inner.Paths.{texts, lent_texts};
 
+use crate::fault::WriteFault;
 use crate::statement::{Dyndep, LentStatement, Statement};
-use crate::writing::WriteFault;
 use ninja_text::{Failure, LINE_LIMIT, escape_into, is_writable};
 use std::alloc::{AllocError, Global};
 use std::marker::Model;

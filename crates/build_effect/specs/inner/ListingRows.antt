@@ -16,11 +16,11 @@ use Rattle.build_effect.specs.EdgeValue.{EdgeValue}
 use Rattle.build_effect.specs.Faults.{IsGraphFault}
 use Rattle.build_effect.specs.inner.ReadLines.{PassesLine}
 use Rattle.build_effect.specs.declared.fault.GraphFault.{GraphFault}
-use Rattle.build_effect.specs.declared.listing_faults.ListingFault.{ListingFault}
-use Rattle.build_effect.specs.declared.listing_faults.ListingFault.TheVariants.{AtLine, NoGraph}
-use Rattle.build_effect.specs.declared.listing_faults.LineCause.{LineCause}
-use Rattle.build_effect.specs.declared.listing_rows.Row.{Row}
-use Rattle.build_effect.specs.declared.listing_rows.Row.TheVariants.{Comment, Blank, Build, Dyndep, Restat}
+use Rattle.build_effect.specs.declared.fault.ListingFault.{ListingFault}
+use Rattle.build_effect.specs.declared.fault.ListingFault.TheVariants.{AtLine, NoGraph}
+use Rattle.build_effect.specs.declared.fault.LineCause.{LineCause}
+use Rattle.build_effect.specs.declared.listing.rows.Row.{Row}
+use Rattle.build_effect.specs.declared.listing.rows.Row.TheVariants.{Comment, Blank, Build, Dyndep, Restat}
 
 -- a row, with the bytes of its texts
 abbrev pub row_value : Row → lines.Row

@@ -18,10 +18,10 @@ use Rattle.build_effect.specs.ListingLines.{EdgeTexts, is_rule_name, Row, Commen
 use Rattle.build_effect.specs.EdgeValue.{EdgeValue}
 use Rattle.build_effect.specs.ListingGrammar.{bound}
 use Rattle.build_effect.specs.ListingSteps.{ListingValue}
-use Rattle.build_effect.specs.declared.listing_faults.LineCause.{LineCause}
-use Rattle.build_effect.specs.declared.listing_faults.LineCause.TheVariants.{LineTooLong, Lexical, Form, BadPath}
-use Rattle.build_effect.specs.declared.listing_state.Binding.{Binding}
-use Rattle.build_effect.specs.declared.listing_state.Binding.TheVariants.{Closed, Open}
+use Rattle.build_effect.specs.declared.fault.LineCause.{LineCause}
+use Rattle.build_effect.specs.declared.fault.LineCause.TheVariants.{LineTooLong, Lexical, Form, BadPath}
+use Rattle.build_effect.specs.declared.listing.state.Binding.{Binding}
+use Rattle.build_effect.specs.declared.listing.state.Binding.TheVariants.{Closed, Open}
 
 -- ---- the tokens of a build line
 

@@ -6,8 +6,8 @@ use Rattle.ninja_text.specs.declared.fault.CutFault.TheVariants as cut
 use Rattle.build_effect.specs.ListingLines.{Class}
 use Rattle.build_effect.specs.ListingSteps.{ListingValue}
 use Rattle.build_effect.specs.inner.ListingWalk.{step, FindsClass, text_cause}
-use Rattle.build_effect.specs.declared.listing_faults.LineCause.TheVariants.{LineTooLong, Truncated}
-use Rattle.build_effect.specs.declared.listing_faults.LineFault.{LineFault}
+use Rattle.build_effect.specs.declared.fault.LineCause.TheVariants.{LineTooLong, Truncated}
+use Rattle.build_effect.specs.declared.fault.LineFault.{LineFault}
 
 -- A line passes, and these are the edges after it.
 abbrev pub PassesLine : ListingValue → LogicalLine → ListingValue → Type 0

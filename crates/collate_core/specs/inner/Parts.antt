@@ -5,7 +5,7 @@ use Rattle.ninja_text.specs.Paths.{IsPath}
 use Rattle.ninja_text.specs.Escapes.{IsWritable}
 use Rattle.dyndep_file.specs.StatementValue.{StatementValue}
 use Rattle.dyndep_file.specs.WriteFaults.{write_fault, statement_fault, paths_of}
-use Rattle.dyndep_file.specs.declared.writing.WriteFault.TheVariants as write
+use Rattle.dyndep_file.specs.declared.fault.WriteFault.TheVariants as write
 use Rattle.scan_docs.specs.Scan.{IsRuleText}
 use Rattle.scan_docs.specs.InfoText.{IsInfoText}
 use Rattle.scan_docs.specs.declared.fault.DocFault.{DocFault}

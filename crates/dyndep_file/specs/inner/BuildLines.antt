@@ -6,7 +6,7 @@ use Rattle.ninja_text.specs.declared.failure.Failure.TheVariants.{Memory, Fault}
 use Rattle.ninja_text.specs.declared.token.TokenKind.TheVariants.{Colon}
 use Rattle.dyndep_file.specs.StatementValue.{StatementValue, statement_of}
 use Rattle.dyndep_file.specs.Classes.{Symbol, WordSymbol, SignSymbol, IsPart}
-use Rattle.dyndep_file.specs.declared.faults.LineFault.{LineFault}
+use Rattle.dyndep_file.specs.declared.fault.LineFault.{LineFault}
 
 -- The tokens after the keyword are `output | outputs : dyndep | inputs`, by the raw bytes of the
 -- words.

@@ -9,9 +9,9 @@ use Rattle.dyndep_file.specs.Classes.{Class, Version, Build, Binding, Symbol, Te
 use Rattle.dyndep_file.specs.Steps.{ProgressValue, step}
 use Rattle.dyndep_file.specs.Faults.{same_bytes, text_line_fault}
 use Rattle.dyndep_file.specs.inner.BuildLines.{Names}
-use Rattle.dyndep_file.specs.declared.faults.LineFault.{LineFault}
-use Rattle.dyndep_file.specs.declared.faults.ReadFault.{ReadFault}
-use Rattle.dyndep_file.specs.declared.faults.ReadFault.TheVariants.{AtLine, Io}
+use Rattle.dyndep_file.specs.declared.fault.LineFault.{LineFault}
+use Rattle.dyndep_file.specs.declared.fault.ReadFault.{ReadFault}
+use Rattle.dyndep_file.specs.declared.fault.ReadFault.TheVariants.{AtLine, Io}
 
 -- Either the line is of a class that may stand here, and the statements are those after it, or it
 -- has this fault, or memory was refused.

@@ -9,9 +9,9 @@ use Rattle.ninja_text.specs.declared.fault.CutFault.TheVariants as cut
 use Rattle.dyndep_file.specs.StatementValue.{StatementValue}
 use Rattle.dyndep_file.specs.Steps.{ProgressValue}
 use Rattle.dyndep_file.specs.inner.LineReading.{ReadsLine}
-use Rattle.dyndep_file.specs.declared.faults.ReadFault.{ReadFault}
-use Rattle.dyndep_file.specs.declared.faults.ReadFault.TheVariants.{AtLine}
-use Rattle.dyndep_file.specs.declared.faults.LineFault.TheVariants.{LineTooLong, Truncated, NoVersion}
+use Rattle.dyndep_file.specs.declared.fault.ReadFault.{ReadFault}
+use Rattle.dyndep_file.specs.declared.fault.ReadFault.TheVariants.{AtLine}
+use Rattle.dyndep_file.specs.declared.fault.LineFault.TheVariants.{LineTooLong, Truncated, NoVersion}
 use Rattle.dyndep_file.specs.declared.progress.Stage.{Stage}
 use Rattle.dyndep_file.specs.declared.progress.Stage.TheVariants.{BeforeVersion, NoneOpen, Open}
 

@@ -6,8 +6,8 @@ use Rattle.ninja_text.specs.Failure.{ForFault}
 use Rattle.dyndep_file.specs.StatementValue.{StatementValue}
 use Rattle.dyndep_file.specs.Reading.{StandsFor}
 use Rattle.dyndep_file.specs.Reader.{IsFailureIn, Ends}
-use Rattle.dyndep_file.specs.declared.faults.ReadFault.{ReadFault}
-use Rattle.dyndep_file.specs.declared.faults.ReadFault.TheVariants.{AtLine, Io}
+use Rattle.dyndep_file.specs.declared.fault.ReadFault.{ReadFault}
+use Rattle.dyndep_file.specs.declared.fault.ReadFault.TheVariants.{AtLine, Io}
 use Rattle.commands.specs.Dyndeps.{IsReported}
 use Rattle.commands.proofs.dyndep_text.dyndep_read.Goals as goal
 

@@ -1,0 +1,19 @@
+use Rattle.std.proofs.Common.{◌≡◌, ◌∙◌, sym, ap, subst, refl, false, Some}
+use Rattle.ninja_text.specs.Paths.{path_of}
+use Rattle.build_effect.specs.inner.ListingWalk.{with_last_dyndep}
+use Rattle.build_effect.specs.declared.listing.state.Binding.TheVariants.{Open}
+use Rattle.build_effect.proofs.ListingEdges.{HaveOutputs, outputs_kept, dyndep_passes}
+use Rattle.build_effect.proofs.listing.state.dyndep_row.Goals as goal
+
+pub invariant_of-state : goal.invariant_of-state
+invariant_of-state c =
+    subst HaveOutputs (sym c.set_last_dyndep.ensures) (outputs_kept (λ e. record e { dyndep = Some c.in-Ok.path }) (λ e. refl) c.state.inside.edges.items c.state.invariant)
+
+pub returns-in-Ok : goal.returns-in-Ok
+returns-in-Ok c =
+    let i = c.in-Open-false-default.is in
+    let t = c.in-Open-false-default.field-0-test in
+    let text : c.deref.result.now ≡ c.args.text.items = (let h = c.deref.ensures.value in cc) in
+    let opened : c.state.inside.binding ≡ Open false c.in-Open-false-default.restat = cc in
+    dyndep_passes c.args.state.now.binding c.args.state.now.edges c.set_last_dyndep.new.edges.items c.args.text.items c.in-Ok.path c.in-Open-false-default.restat
+    (ap (λ v. v.binding) (sym c.state.view_is) ∙ opened) (ap path_of (sym text) ∙ c.in-Ok.ensures.meaning) (c.set_last_dyndep.ensures ∙ ap (λ v. with_last_dyndep c.in-Ok.path v.edges) c.state.view_is)

@@ -1,0 +1,10 @@
+//! Edge listings: the reader, by the rows that lines have (`rows.rt`) and what each does to the edges
+//! so far (`state.rt`), and the writer.
+
+mod reader;
+mod rows;
+mod state;
+mod writing;
+
+pub use reader::ListingReader;
+pub use writing::listing_write;

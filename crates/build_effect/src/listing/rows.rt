@@ -1,0 +1,337 @@
+//! One line of an edge listing: which row of the listing's form it is in, and its texts.
+ghost use Rattle.std.specs.Prelude.{◌≡◌, ◌==◌, ◌&&◌, ◌∷◌, not, Some, None, IfOk, OnOk, codes};
+ghost use Rattle.std.specs.Option.{option_map};
+ghost use Rattle.std.specs.List.{list_all};
+ghost use Rattle.ninja_text.specs.Failure.{Gives};
+ghost use Rattle.ninja_text.specs.LineViews.{seen_line};
+ghost use Rattle.ninja_text.specs.Tokens.{value_of};
+ghost use Rattle.ninja_text.specs.TokenViews.{seen_token};
+ghost use Rattle.ninja_text.specs.AssignmentViews.{seen_assignment};
+ghost use Rattle.dyndep_file.specs.Classes.{begins_with_space, WordSymbol};
+ghost use Rattle.dyndep_file.specs.Faults.{same_bytes, is_empty};
+ghost use Rattle.dyndep_file.specs.BuildTokens.{symbol_of, symbols_left, is_word};
+ghost use Rattle.build_effect.specs.ListingLines.{is_rule_name};
+ghost use Rattle.build_effect.specs.inner.ListingWalk.{binding_row, edge_texts, front_words, past_words, past_sign, right_texts, is_sign};
+ghost use Rattle.ninja_text.specs.Assignments.{is_name_byte};
+ghost use Rattle.ninja_text.specs.declared.token.TokenKind.TheVariants.{Colon};
+ghost use Rattle.dep_order.specs.Rows.{rows};
+ghost use Rattle.build_effect.specs.inner.ListingRows.{row_value, line_row, words_of_part, symbols_past_part, SignPassed, WordPassed, RulePassed};
+
+use crate::fault::LineCause;
+use ninja_text::{Assignment, Failure, Line, Token, TokenKind, Words, assignment, words};
+use std::alloc::{AllocError, Global};
+use std::marker::Model;
+
+/// What a build line says, with texts where an edge has paths. It has an output.
+#[derive(Drop)]
+pub(crate) struct EdgeTexts {
+    pub(crate) rule: Vec<u8>,
+    pub(crate) outputs: Vec<Vec<u8>>,
+    pub(crate) implicit_outputs: Vec<Vec<u8>>,
+    pub(crate) inputs: Vec<Vec<u8>>,
+    pub(crate) implicit_inputs: Vec<Vec<u8>>,
+    pub(crate) order_only: Vec<Vec<u8>>,
+}
+
+impl Model for EdgeTexts {
+    ghost use Rattle.build_effect.specs.ListingLines.{EdgeTexts};
+
+    ghost Value = { EdgeTexts };
+
+    ghost use Rattle.std.specs.Prelude.{◌≢◌, []};
+    ghost use Rattle.dep_order.specs.Rows.{rows};
+
+    ghost view = { λ t. record {
+      rule = t.rule.items;
+      outputs = rows t.outputs.items;
+      implicit_outputs = rows t.implicit_outputs.items;
+      inputs = rows t.inputs.items;
+      implicit_inputs = rows t.implicit_inputs.items;
+      order_only = rows t.order_only.items;
+    } };
+
+    ghost invariant = { λ t. rows t.outputs.items ≢ [] };
+}
+
+/// What a line is, before its paths are looked at.
+#[derive(Drop)]
+pub(crate) enum Row {
+    Comment,
+    Blank,
+    Build(EdgeTexts),
+    Dyndep(Vec<u8>),
+    Restat(bool),
+}
+
+/// The row of a line, or that it has a lexical fault or no such form.
+pub(crate) fn row_of(alloc: Global, line: Line<'_>) -> Result<Row, Failure<LineCause>>
+    ensures { Gives row_value result (line_row (seen_line line.entry)) }
+{
+    if line.is_comment() {
+        return Ok(Row::Comment);
+    }
+    let mut tokens = match words(line) {
+        Ok(tokens) => tokens,
+        Err(fault) => return Err(Failure::Fault(LineCause::Lexical(fault))),
+    };
+    let Some(first) = tokens.next() else {
+        return Ok(Row::Blank);
+    };
+    if begins_with_space(line.text()) {
+        return match assignment(line) {
+            Ok(found) => binding_row(alloc, found),
+            Err(fault) => Err(Failure::Fault(LineCause::Lexical(fault))),
+        };
+    }
+    if !begins_build_line(first) {
+        return Err(Failure::Fault(LineCause::Form));
+    }
+    match edge_texts(alloc, tokens)? {
+        Some(texts) => Ok(Row::Build(texts)),
+        None => Err(Failure::Fault(LineCause::Form)),
+    }
+}
+
+/// The row of an indented line, by its assignment.
+fn binding_row(alloc: Global, assignment: Option<Assignment<'_>>) -> Result<Row, Failure<LineCause>>
+    ensures { Gives row_value result (binding_row (option_map seen_assignment assignment.entry)) }
+{
+    let Some(found) = assignment else {
+        return Err(Failure::Fault(LineCause::Form));
+    };
+    if is_same(found.name(), b"dyndep") {
+        return Ok(Row::Dyndep(assigned(alloc, found)?));
+    }
+    if is_same(found.name(), b"restat") {
+        return Ok(Row::Restat(!assigned(alloc, found)?.is_empty()));
+    }
+    Err(Failure::Fault(LineCause::Form))
+}
+
+/// What the tokens after the keyword `build` say; `None` where they have another form.
+fn edge_texts(alloc: Global, words: Words<'_>) -> Result<Option<EdgeTexts>, AllocError>
+    ensures { IfOk result (λ texts. texts ≡ edge_texts (symbols_left words.entry)) }
+{
+    let mut tokens = words;
+    let outputs = front_words(alloc, &mut tokens)?;
+    let implicit_outputs = part(alloc, &mut tokens, TokenKind::Bar)?;
+    match rule_after_colon(&mut tokens) {
+        Some(rule) => right_texts(alloc, outputs, implicit_outputs, rule, tokens),
+        None => Ok(None),
+    }
+}
+
+/// What a build line says that has these outputs, this rule, and these tokens behind it.
+fn right_texts(
+    alloc: Global,
+    outputs: Vec<Vec<u8>>,
+    implicit_outputs: Vec<Vec<u8>>,
+    rule: Token<'_>,
+    words: Words<'_>,
+) -> Result<Option<EdgeTexts>, AllocError>
+    ensures { IfOk result (λ texts.
+        texts ≡ right_texts (rows outputs.items) (rows implicit_outputs.items)
+        (Some (WordSymbol (seen_token rule.entry).raw ∷ symbols_left words.entry))) }
+{
+    let mut tokens = words;
+    let inputs = front_words(alloc, &mut tokens)?;
+    let implicit_inputs = part(alloc, &mut tokens, TokenKind::Bar)?;
+    let order_only = part(alloc, &mut tokens, TokenKind::DoubleBar)?;
+    let name = spelling(alloc, rule)?;
+    let fits = is_whole(&outputs, &name, tokens);
+    if !fits {
+        return Ok(None);
+    }
+    Ok(Some(EdgeTexts {
+        rule: name,
+        outputs,
+        implicit_outputs,
+        inputs,
+        implicit_inputs,
+        order_only,
+    }))
+}
+
+/// Whether there is an output, the rule may be called so, and no token is left over.
+fn is_whole(outputs: &[Vec<u8>], rule: &[u8], tokens: Words<'_>) -> bool
+    ensures { result ≡ not (is_empty (rows outputs.now)) && is_rule_name rule.now
+        && is_empty (symbols_left tokens.entry) }
+{
+    has_some(outputs) && is_rule_name(rule) && is_over(tokens)
+}
+
+/// Whether there is a text.
+fn has_some(texts: &[Vec<u8>]) -> bool
+    ensures { result ≡ not (is_empty (rows texts.now)) }
+{
+    match texts {
+        [] => false,
+        [_, ..] => true,
+    }
+}
+
+/// Whether no token is left.
+fn is_over(words: Words<'_>) -> bool
+    ensures { result ≡ is_empty (symbols_left words.entry) }
+{
+    let mut tokens = words;
+    match tokens.next() {
+        None => true,
+        Some(_) => false,
+    }
+}
+
+/// The values of the words at the front, which are passed over.
+fn front_words(alloc: Global, tokens: &mut Words<'_>) -> Result<Vec<Vec<u8>>, AllocError>
+    ensures words { IfOk result (λ words.
+        rows words.items ≡ front_words (symbols_left tokens.old)) }
+    ensures rest { OnOk result (symbols_left tokens.new ≡ past_words (symbols_left tokens.old)) }
+{
+    let mut values = Vec::new(alloc);
+    while let Some(token) = next_word(tokens) {
+        values.push(value(alloc, token)?)?;
+    }
+    Ok(values)
+}
+
+/// The words of a part that this sign begins, which is passed over, and none where the sign is not
+/// there.
+fn part(alloc: Global, tokens: &mut Words<'_>, sign: TokenKind) -> Result<Vec<Vec<u8>>, AllocError>
+    ensures words { IfOk result (λ words.
+        rows words.items ≡ words_of_part sign (symbols_left tokens.old)) }
+    ensures rest { OnOk result
+        (symbols_left tokens.new ≡ symbols_past_part sign (symbols_left tokens.old)) }
+{
+    if pass_sign(tokens, sign) {
+        front_words(alloc, tokens)
+    } else {
+        Ok(Vec::new(alloc))
+    }
+}
+
+/// Whether the next token is this sign, which is passed over then.
+fn pass_sign(tokens: &mut Words<'_>, sign: TokenKind) -> bool
+    ensures { SignPassed sign (symbols_left tokens.old) result (symbols_left tokens.new) }
+{
+    let mut ahead = *tokens;
+    let Some(token) = ahead.next() else {
+        return false;
+    };
+    let is_there = is_sign(sign, token.kind());
+    if is_there {
+        *tokens = ahead;
+    }
+    is_there
+}
+
+/// Whether a token is this sign.
+fn is_sign(sign: TokenKind, kind: TokenKind) -> bool
+    ensures { result ≡ is_sign sign kind }
+{
+    match sign {
+        TokenKind::Bar => matches!(kind, TokenKind::Bar),
+        TokenKind::DoubleBar => matches!(kind, TokenKind::DoubleBar),
+        TokenKind::Colon => matches!(kind, TokenKind::Colon),
+        TokenKind::BarAt | TokenKind::Word => false,
+    }
+}
+
+/// The next token, if it is a word, which is passed over then.
+fn next_word<'a>(tokens: &mut Words<'a>) -> Option<Token<'a>>
+    ensures { WordPassed (symbols_left tokens.old) (option_map seen_token result)
+        (symbols_left tokens.new) }
+{
+    let mut ahead = *tokens;
+    let token = ahead.next()?;
+    match token.kind() {
+        TokenKind::Word => {
+            *tokens = ahead;
+            Some(token)
+        }
+        TokenKind::Bar | TokenKind::Colon | TokenKind::DoubleBar | TokenKind::BarAt => None,
+    }
+}
+
+/// The word after a colon at the front; both are passed over.
+fn rule_after_colon<'a>(tokens: &mut Words<'a>) -> Option<Token<'a>>
+    ensures { RulePassed (past_sign Colon (symbols_left tokens.old))
+        (option_map seen_token result) (symbols_left tokens.new) }
+{
+    if pass_sign(tokens, TokenKind::Colon) {
+        next_word(tokens)
+    } else {
+        None
+    }
+}
+
+/// The bytes of a word, as they are spelled.
+fn spelling(alloc: Global, token: Token<'_>) -> Result<Vec<u8>, AllocError>
+    ensures { IfOk result (λ bytes. bytes.items ≡ (seen_token token.entry).raw) }
+{
+    Vec::from_slice(alloc, token.raw())
+}
+
+/// What a word stands for.
+fn value(alloc: Global, token: Token<'_>) -> Result<Vec<u8>, AllocError>
+    ensures { IfOk result (λ bytes. bytes.items ≡ value_of (seen_token token.entry).raw) }
+{
+    let mut bytes = Vec::with_capacity(alloc, token.raw().len())?;
+    token.value_into(&mut bytes)?;
+    Ok(bytes)
+}
+
+/// What is assigned.
+fn assigned(alloc: Global, assignment: Assignment<'_>) -> Result<Vec<u8>, AllocError>
+    ensures { IfOk result (λ value.
+        value.items ≡ value_of (seen_assignment assignment.entry).raw_value) }
+{
+    let mut value = Vec::with_capacity(alloc, assignment.raw_value().len())?;
+    assignment.value_into(&mut value)?;
+    Ok(value)
+}
+
+/// Whether a rule may be called so.
+fn is_rule_name(name: &[u8]) -> bool
+    ensures { result ≡ is_rule_name name.now }
+{
+    match name {
+        [] => false,
+        [_, ..] => are_name_bytes(name),
+    }
+}
+
+/// Whether all bytes may stand in the name of a rule.
+fn are_name_bytes(bytes: &[u8]) -> bool
+    ensures { result ≡ list_all is_name_byte bytes.now }
+{
+    bytes.iter().all(|b| is_name_byte(*b))
+}
+
+/// Whether a byte may stand in the name of a rule.
+fn is_name_byte(byte: u8) -> bool
+    ensures { result ≡ is_name_byte byte }
+{
+    byte.is_ascii_alphanumeric() || matches!(byte, b'_' | b'.' | b'-')
+}
+
+/// Whether a line whose first token this is is a build line.
+fn begins_build_line(first: Token<'_>) -> bool
+    ensures { result ≡ ((seen_token first.entry).start == 0)
+        && is_word (codes "build") (symbol_of (seen_token first.entry)) }
+{
+    first.start() == 0 && first.kind() == TokenKind::Word && is_same(first.raw(), b"build")
+}
+
+/// Whether a line's text is indented.
+fn begins_with_space(text: &[u8]) -> bool
+    ensures { result ≡ begins_with_space text.now }
+{
+    matches!(text, [b' ', ..])
+}
+
+/// Whether two slices hold the same bytes.
+fn is_same(bytes: &[u8], other: &[u8]) -> bool
+    ensures { result ≡ same_bytes bytes.now other.now }
+{
+    bytes == other
+}

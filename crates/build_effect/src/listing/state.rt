@@ -1,0 +1,176 @@
+//! The edges of the lines so far, and what a line of each row does to them.
+ghost use Rattle.std.specs.Prelude.{◌≡◌, ◌≢◌, [], IfOk};
+ghost use Rattle.ninja_text.specs.Failure.{Gives};
+ghost use Rattle.build_effect.specs.inner.ListingWalk.{with_last_dyndep, with_last_restat, edge_paths, paths_of};
+ghost use Rattle.build_effect.specs.inner.ListingRows.{TakesRow, row_value, GivesEdge};
+ghost use Rattle.dep_order.specs.Rows.{rows};
+
+use crate::edge::Edge;
+use crate::fault::LineCause;
+use crate::listing::rows::{EdgeTexts, Row};
+use ninja_text::{Failure, Path, PathFault};
+use std::alloc::Global;
+use std::marker::Model;
+
+/// Which bindings may still come for the last edge.
+#[derive(Clone, Copy)]
+pub(crate) enum Binding {
+    /// None: no edge is open.
+    Closed,
+    /// Those that have not come: whether `dyndep` has, and whether `restat` has.
+    Open(bool, bool),
+}
+
+/// The edges so far, each with an output, and which bindings may come.
+#[derive(Drop)]
+pub(crate) struct ListingState {
+    pub(crate) edges: Vec<Edge>,
+    pub(crate) binding: Binding,
+}
+
+impl Model for ListingState {
+    ghost use Rattle.build_effect.specs.ListingSteps.{ListingValue};
+
+    ghost Value = { ListingValue };
+
+    ghost view = { λ s. record { edges = s.edges.items; binding = s.binding } };
+
+    ghost use Rattle.std.specs.Prelude.{◌≢◌, [], All};
+
+    ghost invariant = { λ s. All (λ e. e.outputs ≢ []) s.edges.items };
+}
+
+/// A line of this row: its form is looked at first, and then its paths.
+pub(crate) fn take_row(
+    alloc: Global,
+    state: &mut ListingState,
+    row: Row,
+) -> Result<(), Failure<LineCause>>
+    ensures { TakesRow state.old (row_value row) result state.new }
+{
+    match row {
+        Row::Comment => Ok(()),
+        Row::Blank => {
+            state.binding = Binding::Closed;
+            Ok(())
+        }
+        Row::Build(texts) => build_row(alloc, state, texts),
+        Row::Dyndep(text) => dyndep_row(alloc, state, text),
+        Row::Restat(flag) => restat_row(state, flag),
+    }
+}
+
+/// A build line opens an edge.
+fn build_row(
+    alloc: Global,
+    state: &mut ListingState,
+    texts: EdgeTexts,
+) -> Result<(), Failure<LineCause>>
+    ensures { TakesRow state.old (row_value (Row.Build texts)) result state.new }
+{
+    match edge_of(alloc, texts) {
+        Ok(edge) => {
+            state.edges.push(edge)?;
+            state.binding = Binding::Open(false, false);
+            Ok(())
+        }
+        Err(Failure::Memory) => Err(Failure::Memory),
+        Err(Failure::Fault(fault)) => Err(Failure::Fault(LineCause::BadPath(fault))),
+    }
+}
+
+/// A binding of `dyndep`, once for each edge.
+fn dyndep_row(
+    alloc: Global,
+    state: &mut ListingState,
+    text: Vec<u8>,
+) -> Result<(), Failure<LineCause>>
+    ensures { TakesRow state.old (row_value (Row.Dyndep text)) result state.new }
+{
+    let restat = match state.binding {
+        Binding::Closed | Binding::Open(true, _) => return Err(Failure::Fault(LineCause::Form)),
+        Binding::Open(false, restat) => restat,
+    };
+    match Path::of(alloc, &text) {
+        Ok(path) => {
+            set_last_dyndep(&mut state.edges, path);
+            state.binding = Binding::Open(true, restat);
+            Ok(())
+        }
+        Err(Failure::Memory) => Err(Failure::Memory),
+        Err(Failure::Fault(fault)) => Err(Failure::Fault(LineCause::BadPath(fault))),
+    }
+}
+
+/// A binding of `restat`, once for each edge.
+fn restat_row(state: &mut ListingState, flag: bool) -> Result<(), Failure<LineCause>>
+    ensures { TakesRow state.old (row_value (Row.Restat flag)) result state.new }
+{
+    match state.binding {
+        Binding::Closed | Binding::Open(_, true) => Err(Failure::Fault(LineCause::Form)),
+        Binding::Open(dyndep, false) => {
+            set_last_restat(&mut state.edges, flag);
+            state.binding = Binding::Open(dyndep, true);
+            Ok(())
+        }
+    }
+}
+
+/// Names the dyndep file of the last edge.
+fn set_last_dyndep(edges: &mut Vec<Edge>, path: Path)
+    ensures { edges.new.items ≡ with_last_dyndep path edges.old.items }
+{
+    if let Some(edge) = edges.last_mut() {
+        edge.dyndep = Some(path);
+    }
+}
+
+/// Sets the flag `restat` of the last edge.
+fn set_last_restat(edges: &mut Vec<Edge>, flag: bool)
+    ensures { edges.new.items ≡ with_last_restat flag edges.old.items }
+{
+    if let Some(edge) = edges.last_mut() {
+        edge.restat = flag;
+    }
+}
+
+/// The edge of a build line, without bindings, or the fault of its first text that is no path.
+fn edge_of(alloc: Global, texts: EdgeTexts) -> Result<Edge, Failure<PathFault>>
+    ensures edge { GivesEdge result (edge_paths texts) }
+    ensures outputs { IfOk result (λ edge. edge.outputs ≢ []) }
+{
+    let EdgeTexts {
+        rule,
+        outputs,
+        implicit_outputs,
+        inputs,
+        implicit_inputs,
+        order_only,
+    } = texts;
+    let outputs = paths_of(alloc, &outputs)?;
+    let implicit_outputs = paths_of(alloc, &implicit_outputs)?;
+    let inputs = paths_of(alloc, &inputs)?;
+    let implicit_inputs = paths_of(alloc, &implicit_inputs)?;
+    let order_only = paths_of(alloc, &order_only)?;
+    Ok(Edge {
+        rule,
+        outputs,
+        implicit_outputs,
+        inputs,
+        implicit_inputs,
+        order_only,
+        dyndep: None,
+        restat: false,
+    })
+}
+
+/// The paths of texts, or the fault of the first that is none.
+fn paths_of(alloc: Global, texts: &[Vec<u8>]) -> Result<Vec<Path>, Failure<PathFault>>
+    ensures { Gives (λ paths. paths.items) result (paths_of (rows texts.now)) }
+{
+    let mut paths = Vec::with_capacity(alloc, texts.len())?;
+    for text in texts {
+        paths.push(Path::of(alloc, text)?)?;
+    }
+    Ok(paths)
+}

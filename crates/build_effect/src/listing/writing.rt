@@ -1,0 +1,142 @@
+//! The writer of edge listings.
+ghost use Rattle.std.specs.Prelude.{◌≡◌, ◌++◌, MatchResult, IfOk, OnOk};
+ghost use Rattle.std.specs.List.{flat_map};
+ghost use Rattle.ninja_text.specs.Counting.{held, IsWritten};
+ghost use Rattle.ninja_text.specs.Failure.{Gives};
+ghost use Rattle.dyndep_file.specs.Writing.{spaced};
+ghost use Rattle.build_effect.specs.ListingWriting.{part_text, left_text, right_text, edge_line, dyndep_line, restat_line, listing_text, first_too_long, LeavesWriter, WritesInTurn, AnswersFault, text_or_fault};
+
+use crate::edge::Edge;
+use crate::fault::ListingWriteFault;
+use crate::graph::Graph;
+use ninja_text::{Counted, Failure, LINE_LIMIT, Path, WriteCall, escape_into};
+use std::alloc::{AllocError, Global};
+
+/// Writes the edges of a graph as Ninja spells them (Ninja 1.11 manual, "Build statements"): for
+/// each its build line, and its bindings `dyndep` and `restat`.
+///
+/// Too long a build line is reported before the first byte, as is want of memory: the writer is as
+/// it was then. After an `Io` exactly so many bytes went out, and they are a beginning of the text.
+pub fn listing_write<W: WriteCall>(
+    alloc: Global,
+    graph: &Graph,
+    out: &mut Counted<W>,
+) -> Result<(), Failure<ListingWriteFault>>
+    ensures text { MatchResult result
+        (λ _. IsWritten W.contents out.old out.new (listing_text graph.now))
+        (λ failure. LeavesWriter W.contents out.old out.new (listing_text graph.now) failure) }
+    ensures calls { WritesInTurn W.writes (held out.old) (held out.new)
+        (listing_text graph.now) result }
+    ensures fault { AnswersFault (first_too_long graph.now) result }
+{
+    let text = text_of(alloc, graph.edges())?;
+    match out.write_text(text.as_slice()) {
+        Ok(()) => Ok(()),
+        Err(stopped) => Err(Failure::Fault(ListingWriteFault::Io {
+            written: stopped.written,
+        })),
+    }
+}
+
+/// The text of the edges, or the first of them whose build line is too long.
+fn text_of(alloc: Global, edges: &[Edge]) -> Result<Vec<u8>, Failure<ListingWriteFault>>
+    ensures { Gives (λ text. text.items) result (text_or_fault edges.now) }
+{
+    let mut text = Vec::new(alloc);
+    for (edge_index, edge) in edges.iter().enumerate() {
+        let line = edge_line(alloc, edge)?;
+        if line.len() > LINE_LIMIT {
+            return Err(Failure::Fault(ListingWriteFault::ListingTooLong { edge: edge_index }));
+        }
+        text.extend_from_slice(&line)?;
+        push_bindings(&mut text, edge)?;
+    }
+    Ok(text)
+}
+
+/// The build line of an edge.
+fn edge_line(alloc: Global, edge: &Edge) -> Result<Vec<u8>, AllocError>
+    ensures { IfOk result (λ line. line.items ≡ edge_line edge.now) }
+{
+    let mut line = Vec::new(alloc);
+    push_left(&mut line, edge)?;
+    line.extend_from_slice(b": ")?;
+    push_right(&mut line, edge)?;
+    line.extend_from_slice(b"\n")?;
+    Ok(line)
+}
+
+/// Appends what stands on the left of a build line's colon.
+fn push_left(line: &mut Vec<u8>, edge: &Edge) -> Result<(), AllocError>
+    ensures { OnOk result (line.new.items ≡ line.old.items ++ left_text edge.now) }
+{
+    line.extend_from_slice(b"build")?;
+    push_spaced(line, &edge.outputs)?;
+    push_part(line, b" |", &edge.implicit_outputs)
+}
+
+/// Appends what stands on the right of a build line's colon.
+fn push_right(line: &mut Vec<u8>, edge: &Edge) -> Result<(), AllocError>
+    ensures { OnOk result (line.new.items ≡ line.old.items ++ right_text edge.now) }
+{
+    line.extend_from_slice(&edge.rule)?;
+    push_spaced(line, &edge.inputs)?;
+    push_part(line, b" |", &edge.implicit_inputs)?;
+    push_part(line, b" ||", &edge.order_only)
+}
+
+/// Appends the lines of an edge's bindings.
+fn push_bindings(text: &mut Vec<u8>, edge: &Edge) -> Result<(), AllocError>
+    ensures { OnOk result (text.new.items
+        ≡ text.old.items ++ dyndep_line edge.now.dyndep ++ restat_line edge.now.restat) }
+{
+    push_dyndep(text, &edge.dyndep)?;
+    push_restat(text, edge.restat)
+}
+
+/// Appends the line of the binding `dyndep`, where there is one.
+fn push_dyndep(text: &mut Vec<u8>, dyndep: &Option<Path>) -> Result<(), AllocError>
+    ensures { OnOk result (text.new.items ≡ text.old.items ++ dyndep_line dyndep.now) }
+{
+    match dyndep {
+        None => Ok(()),
+        Some(path) => {
+            text.extend_from_slice(b"  dyndep = ")?;
+            escape_into(path.bytes(), text)?;
+            text.extend_from_slice(b"\n")
+        }
+    }
+}
+
+/// Appends the line of the binding `restat`, where it is on.
+fn push_restat(text: &mut Vec<u8>, restat: bool) -> Result<(), AllocError>
+    ensures { OnOk result (text.new.items ≡ text.old.items ++ restat_line restat) }
+{
+    if restat {
+        text.extend_from_slice(b"  restat = 1\n")
+    } else {
+        Ok(())
+    }
+}
+
+/// Appends the mark and each path after a space, where there are any.
+fn push_part(text: &mut Vec<u8>, mark: &[u8], paths: &[Path]) -> Result<(), AllocError>
+    ensures { OnOk result (text.new.items ≡ text.old.items ++ part_text mark.now paths.now) }
+{
+    if paths.is_empty() {
+        return Ok(());
+    }
+    text.extend_from_slice(mark)?;
+    push_spaced(text, paths)
+}
+
+/// Appends each path after a space.
+fn push_spaced(text: &mut Vec<u8>, paths: &[Path]) -> Result<(), AllocError>
+    ensures { OnOk result (text.new.items ≡ text.old.items ++ flat_map spaced paths.now) }
+{
+    for path in paths {
+        text.extend_from_slice(b" ")?;
+        escape_into(path.bytes(), text)?;
+    }
+    Ok(())
+}
