@@ -12,7 +12,8 @@ use Rattle.build_effect.specs.Effect.{IsTheOneOn, Gives, extended}
 use Rattle.build_effect.specs.Premises.{AddsAt, AdditionNeeds, Meets}
 use Rattle.build_effect.specs.Files.{NamedFile, FilesMeet, GainsExactly}
 use Rattle.build_effect.specs.Numbering.{HasOutputsOnly, IsRisingNumbering, IsAboveOthers, AreOrdered, rank_at, FilesOrder, IsLevelNumbering, LevelOrders}
-use Rattle.build_effect.proofs.Lists.{element_at, same_some, choose, in_append, in_first, in_second, three_ways}
+use Rattle.build_effect.proofs.Lists.{element_at, choose, three_ways}
+use Rattle.ninja_text.proofs.ForCallers.{same_some, in_append, in_first, in_second}
 
 -- what an extended edge reads: what the edge read, or an added input
 reads_of : (e : EdgeValue) (x : StatementValue) (file : List ℕ) → Reads (extended e x) file → Reads e file ⊎ ((m : ℕ) × (slice_get x.implicit_inputs m ≡ Some file))

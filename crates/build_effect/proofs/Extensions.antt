@@ -9,9 +9,10 @@ use Rattle.build_effect.specs.Checks.{ChecksSuffice}
 use Rattle.build_effect.specs.inner.StatementEdges.{statement_on}
 use Rattle.build_effect.specs.inner.Checked.{AreChecked}
 use Rattle.build_effect.specs.inner.Extended.{AreExtended, IsEdgeAfter}
-use Rattle.build_effect.proofs.Lists.{same_some, same_lists, element_at, in_append, in_first}
+use Rattle.build_effect.proofs.Lists.{same_lists, element_at}
+use Rattle.ninja_text.proofs.ForCallers.{same_some, in_append, in_first}
 use Rattle.build_effect.proofs.InputSearch.{has_first, has_second}
-use Rattle.build_effect.proofs.Repetitions.{from_push, from_take, in_take, take_next}
+use Rattle.ninja_text.proofs.ForCallers.{from_push, from_take, in_take, take_next}
 
 plain_of : (additions : List StatementValue) (statement : Option ℕ) (e x : EdgeValue) → statement ≡ None → IsEdgeAfter e additions statement x → x ≡ e
 plain_of additions None e x is h = h

@@ -8,7 +8,8 @@ use Rattle.build_effect.specs.Graphs.{Names}
 use Rattle.build_effect.specs.Effect.{IsTheOneOn, Gives, OnlyEffect, extended}
 use Rattle.build_effect.specs.Premises.{AddsAt, Meets}
 use Rattle.build_effect.specs.Files.{NamedFile, AreFiles, FilesMeet, Applies, GainsExactly, AreFileIndices, AnyOrder, SameFiles, OrdersEndAlike}
-use Rattle.build_effect.proofs.Lists.{same_lists, element_at, same_some}
+use Rattle.build_effect.proofs.Lists.{same_lists, element_at}
+use Rattle.ninja_text.proofs.ForCallers.{same_some}
 use Rattle.build_effect.proofs.Effects.{ComesTo, origin_in, one_effect}
 use Rattle.dyndep_file.specs.StatementValue.{StatementValue}
 

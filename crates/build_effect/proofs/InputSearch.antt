@@ -3,7 +3,7 @@ use Rattle.std.proofs.Common.{◌≡◌, ℕ, zero, suc, Bool, true, false, List
 use Rattle.std.specs.List.{list_any}
 use Rattle.std.specs.Cmp.Lexicographic.{bytes_decides}
 use Rattle.build_effect.specs.inner.Inputs.{Has}
-use Rattle.build_effect.proofs.Lists.{same_some, in_append, in_first, in_second}
+use Rattle.ninja_text.proofs.ForCallers.{same_some, in_append, in_first, in_second}
 
 by_head : (b : Bool) (x y : List ℕ) (xs : List (List ℕ)) (r : Bool) → bytes_eq x y ≡ b → MatchBool r (Has xs y) (Has xs y → ⊥) → MatchBool (b || r) (Has (x ∷ xs) y) (Has (x ∷ xs) y → ⊥)
 by_head true x y xs r e h = (0, ap (λ z. Some z) ((bytes_decides x y).0 e))

@@ -1,8 +1,9 @@
 -- Lemmas on lists.
-use Rattle.std.proofs.Common.{◌≡◌, ℕ, zero, suc, ◌+◌, ◌<◌, ◌⊎◌, List, [], ◌∷◌, ◌++◌, length, map, Some, Result, Ok, refl, ap, subst, sym, inl, inr, arith}
+use Rattle.std.proofs.Common.{◌≡◌, ℕ, zero, suc, ◌+◌, ◌<◌, ◌⊎◌, List, [], ◌∷◌, length, map, Some, Result, Ok, refl, ap, subst, sym, inl, inr, arith}
 use Rattle.std.specs.Prelude.{slice_get}
 use Rattle.std.specs.List.{flat_map}
 use Rattle.std.proofs.lemmas.Option.{slice_get_within}
+use Rattle.ninja_text.proofs.ForCallers.{same_some, in_append, in_first, in_second}
 
 -- lists of one length with the same elements are one
 pub same_lists : {X : Type 0} (xs ys : List X) → length xs ≡ length ys → ((k : ℕ) (x y : X) → slice_get xs k ≡ Some x → slice_get ys k ≡ Some y → x ≡ y) → xs ≡ ys
@@ -32,27 +33,6 @@ choose P (suc n) f =
     let others : (xs : List _) × (length xs ≡ n) × ((i : ℕ) (x : _) → slice_get xs i ≡ Some x → P (suc i) x) = choose (λ i x. P (suc i) x) n (λ i h. f (suc i) (omega arith)) in
     (first.0 ∷ others.0, omega (arith, others.1), chosen P first.0 first.1 others.0 others.2)
 
--- an element of two lists, one after the other, is in the first or in the second
-pub in_append : {X : Type 0} (xs ys : List X) (k : ℕ) (x : X) → slice_get (xs ++ ys) k ≡ Some x → (slice_get xs k ≡ Some x) ⊎ ((m : ℕ) × (k ≡ length xs + m) × (slice_get ys m ≡ Some x))
-in_append [] ys k x e = inr (k, omega arith, e)
-in_append (y ∷ xs) ys zero x e = inl e
-in_append (y ∷ xs) ys (suc k) x e = elim (in_append xs ys k x e) [ inl h ↦ inl h | inr h ↦ inr (h.0, omega (arith, h.1), h.2) ]
-
--- Some is injective
-pub same_some : {X : Type 0} (x y : X) → Some x ≡ Some y → x ≡ y
-same_some x y e = cc
-
--- an element of a mapped list comes from one of the list
-pub from_map : {A B : Type 0} (f : A → B) (xs : List A) (k : ℕ) (y : B) → slice_get (map f xs) k ≡ Some y → (x : A) × (slice_get xs k ≡ Some x) × (f x ≡ y)
-from_map f [] k y e = cc
-from_map f (x ∷ xs) zero y e = (x, refl, same_some _ _ e)
-from_map f (x ∷ xs) (suc k) y e = from_map f xs k y e
-
-pub to_map : {A B : Type 0} (f : A → B) (xs : List A) (k : ℕ) (x : A) → slice_get xs k ≡ Some x → slice_get (map f xs) k ≡ Some (f x)
-to_map f [] k x e = cc
-to_map f (y ∷ xs) zero x e = let same : y ≡ x = same_some _ _ e in ap (λ z. Some (f z)) same
-to_map f (y ∷ xs) (suc k) x e = to_map f xs k x e
-
 -- lists whose elements have the same images under an injective map are one
 pub same_map : {A B : Type 0} (f : A → B) → ((x y : A) → f x ≡ f y → x ≡ y) → (xs ys : List A) → map f xs ≡ map f ys → xs ≡ ys
 same_map f inj [] [] e = refl
@@ -73,15 +53,6 @@ three_ways zero zero = inr (inl refl)
 three_ways zero (suc b) = inl (omega arith)
 three_ways (suc a) zero = inr (inr (omega arith))
 three_ways (suc a) (suc b) = elim (three_ways a b) [ inl h ↦ inl (omega arith) | inr h ↦ inr (elim h [ inl e ↦ inl (ap suc e) | inr m ↦ inr (omega arith) ]) ]
-
-pub in_first : {X : Type 0} (xs ys : List X) (k : ℕ) (x : X) → slice_get xs k ≡ Some x → slice_get (xs ++ ys) k ≡ Some x
-in_first [] ys k x e = cc
-in_first (y ∷ xs) ys zero x e = e
-in_first (y ∷ xs) ys (suc k) x e = in_first xs ys k x e
-
-pub in_second : {X : Type 0} (xs ys : List X) (k : ℕ) (x : X) → slice_get ys k ≡ Some x → slice_get (xs ++ ys) (length xs + k) ≡ Some x
-in_second [] ys k x e = let at : 0 + k ≡ k = omega arith in rw at e
-in_second (y ∷ xs) ys k x e = let at : suc (length xs) + k ≡ suc (length xs + k) = omega arith in rw at (in_second xs ys k x e)
 
 -- how many elements stand before those of element i
 pub offset : {A B : Type 0} → (A → List B) → List A → ℕ → ℕ

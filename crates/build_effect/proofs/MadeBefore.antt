@@ -2,11 +2,12 @@
 use Rattle.std.proofs.Common.{◌≡◌, ℕ, ◌+◌, ◌<◌, List, take, Option, Some, None, ap, sym, ◌∙◌, inl, inr, arith, slice_get}
 use Rattle.build_effect.specs.EdgeValue.{EdgeValue}
 use Rattle.build_effect.specs.Faults.{IsMadeBefore}
-use Rattle.build_effect.specs.Firsts.{IsFirst}
+use Rattle.ninja_text.specs.Firsts.{IsFirstAt}
 use Rattle.build_effect.specs.inner.Makers.{AreMakers}
-use Rattle.build_effect.specs.inner.Repetitions.{AllDiffer, RepeatsFirst}
-use Rattle.build_effect.proofs.Lists.{same_some, three_ways}
-use Rattle.build_effect.proofs.Repetitions.{in_take}
+use Rattle.ninja_text.specs.Firsts.{AllDiffer, RepeatsFirst}
+use Rattle.build_effect.proofs.Lists.{three_ways}
+use Rattle.ninja_text.proofs.ForCallers.{same_some}
+use Rattle.ninja_text.proofs.ForCallers.{in_take}
 
 abbrev pub Unmade : (List ℕ → Option ℕ) → List (List ℕ) → ℕ → Type 0
 Unmade maker files i = (k : ℕ) (file : List ℕ) → k < i → slice_get files k ≡ Some file → maker file ≡ None
@@ -19,12 +20,12 @@ module _ (g : List EdgeValue) (maker : List ℕ → Option ℕ) (are : AreMakers
   none_before j y less at (inr earlier) =
       all.differ earlier.0 j y earlier.1 (in_take i files earlier.0 y (let lt = earlier.1 in omega (arith, lt, less)) earlier.2) (in_take i files j y less at)
 
-  pub made_here : (file : List ℕ) (edge : ℕ) → slice_get files i ≡ Some file → maker file ≡ Some edge → (file : List ℕ) × IsFirst (IsMadeBefore g files) files i file
+  pub made_here : (file : List ℕ) (edge : ℕ) → slice_get files i ≡ Some file → maker file ≡ Some edge → (file : List ℕ) × IsFirstAt (IsMadeBefore g files) files i file
   made_here file edge at is =
       let found = are.found file edge is in
       (file, record { here = at; holds = inl (edge, found.0, found.1); before = none_before })
 
-  pub repeated_here : (j : ℕ) → RepeatsFirst files j i → (file : List ℕ) × IsFirst (IsMadeBefore g files) files i file
+  pub repeated_here : (j : ℕ) → RepeatsFirst files j i → (file : List ℕ) × IsFirstAt (IsMadeBefore g files) files i file
   repeated_here j r = (r.repeated, record { here = r.again; holds = inr (j, r.earlier, r.here); before = none_before })
 
 pub more_unmade : (maker : List ℕ → Option ℕ) (files : List (List ℕ)) (i : ℕ) (file : List ℕ) → slice_get files i ≡ Some file → Unmade maker files i → maker file ≡ None → Unmade maker files (i + 1)

@@ -3,10 +3,11 @@ use Rattle.std.proofs.Common.{◌≡◌, ℕ, ◌+◌, ◌<◌, List, Some, ap, 
 use Rattle.build_effect.specs.EdgeValue.{EdgeValue}
 use Rattle.build_effect.specs.Graphs.{made_by, MadeOnce}
 use Rattle.build_effect.specs.Faults.{made_files}
-use Rattle.build_effect.specs.Firsts.{IsFirst}
-use Rattle.build_effect.specs.inner.Repetitions.{AllDiffer, RepeatsFirst}
-use Rattle.build_effect.proofs.Lists.{same_some, in_flat_map, same_part, offset, three_ways}
-use Rattle.build_effect.proofs.Repetitions.{in_take}
+use Rattle.ninja_text.specs.Firsts.{IsFirstAt}
+use Rattle.ninja_text.specs.Firsts.{AllDiffer, RepeatsFirst}
+use Rattle.build_effect.proofs.Lists.{in_flat_map, same_part, offset, three_ways}
+use Rattle.ninja_text.proofs.ForCallers.{same_some}
+use Rattle.ninja_text.proofs.ForCallers.{in_take}
 
 -- all files differ, so each is made once
 pub made_once : (g : List EdgeValue) → AllDiffer (made_files g) → MadeOnce g
@@ -22,7 +23,7 @@ made_once g all i j k l file p q =
     ]
 
 -- the first repetition is the first element that an earlier index has
-pub first_of_repetition : {X : Type 0} (xs : List X) (i j : ℕ) (x : X) → RepeatsFirst xs i j → slice_get xs j ≡ Some x → IsFirst (λ k x. (l : ℕ) × (l < k) × (slice_get xs l ≡ Some x)) xs j x
+pub first_of_repetition : {X : Type 0} (xs : List X) (i j : ℕ) (x : X) → RepeatsFirst xs i j → slice_get xs j ≡ Some x → IsFirstAt (λ k x. (l : ℕ) × (l < k) × (slice_get xs l ≡ Some x)) xs j x
 first_of_repetition xs i j x r at =
     let same = same_some _ _ (sym r.again ∙ at) in
     record {

@@ -18,7 +18,9 @@ use Rattle.dyndep_file.specs.Faults.{is_empty}
 use Rattle.dyndep_file.specs.Writing.{spaced}
 use Rattle.build_effect.specs.EdgeValue.{EdgeValue}
 use Rattle.build_effect.specs.Effect.{ArePaths}
-use Rattle.build_effect.specs.ListingLines.{is_rule_name, IsEdgeLine, BuildRow, DyndepRow, RestatRow, TextIsOfRow, Class, Build, Dyndep, Restat, RowIsOfClass, TextIsOfClass, IsOfClass}
+use Rattle.ninja_text.specs.LineFormats.{IsOfClass}
+use Rattle.build_effect.specs.ListingReading.{listing_format}
+use Rattle.build_effect.specs.ListingLines.{is_rule_name, IsEdgeLine, BuildRow, DyndepRow, RestatRow, TextIsOfRow, Class, Build, Dyndep, Restat, RowIsOfClass, TextIsOfClass}
 use Rattle.build_effect.specs.ListingWriting.{part_text, right_text, edge_line, dyndep_line, restat_line}
 use Rattle.build_effect.proofs.WrittenSymbols.{Spelled, spelled_none, spelled_space, spelled_path, spelled_name, units_both, escaped_units, HasLine, texts_of, edge_symbols, behind_keyword, line_text, line_written, behind_written, words_of, words_meant, line_is_edge}
 
@@ -37,7 +39,7 @@ module _ {at_word : Bool} (text : List ℕ) (xs : List Symbol) (w : Spelled at_w
   spelled_text said = ap (λ t. text_of (t ++ 10 ∷ [])) (sym w.text_is) ∙ text_is (units text) w.sound (ap (λ t. is_comment (t ++ 10 ∷ [])) w.text_is ∙ said) ∙ w.text_is
 
   -- the class of the line is that of the text
-  spelled_classed : is_comment (text ++ 10 ∷ []) ≡ false → (c : Class) → length (text ++ 10 ∷ []) ≤ line_limit → TextIsOfClass text false c → IsOfClass (text ++ 10 ∷ []) c
+  spelled_classed : is_comment (text ++ 10 ∷ []) ≡ false → (c : Class) → length (text ++ 10 ∷ []) ≤ line_limit → TextIsOfClass text false c → IsOfClass listing_format (text ++ 10 ∷ []) c
   spelled_classed said c short is =
       (short, subst (λ b. TextIsOfClass (text_of (text ++ 10 ∷ [])) b c) (sym said) (subst (λ t. TextIsOfClass t false c) (sym (spelled_text said)) is))
 
@@ -134,9 +136,9 @@ module _ (e : EdgeValue) (fit : IsFit e) where
   pub edge_is_line : IsLine (edge_line e)
   edge_is_line = subst IsLine line_is (spelled_is_line (line_text e) (WordSymbol (codes "build") ∷ edge_symbols e) (line_written e has_line) refl)
 
-  pub edge_classed : IsOfClass (edge_line e) (Build (texts_of e))
+  pub edge_classed : IsOfClass listing_format (edge_line e) (Build (texts_of e))
   edge_classed =
-      subst (λ line. IsOfClass line (Build (texts_of e))) line_is
+      subst (λ line. IsOfClass listing_format line (Build (texts_of e))) line_is
       (spelled_classed (line_text e) (WordSymbol (codes "build") ∷ edge_symbols e) (line_written e has_line) refl (Build (texts_of e))
       (subst (λ line. length line ≤ line_limit) (sym line_is) fit.line) (BuildRow (texts_of e), line_row, line_class))
 
@@ -215,7 +217,7 @@ module _ (path : List ℕ) (is : IsPath path) where
   pub dyndep_is_line : IsLine (dyndep_line (Some path))
   dyndep_is_line = spelled_is_line (dyndep_text path) dyndep_symbols dyndep_written refl
 
-  pub dyndep_classed : IsOfClass (dyndep_line (Some path)) (Dyndep path)
+  pub dyndep_classed : IsOfClass listing_format (dyndep_line (Some path)) (Dyndep path)
   dyndep_classed = spelled_classed (dyndep_text path) dyndep_symbols dyndep_written refl (Dyndep path) short (DyndepRow path, dyndep_row, (path, is, refl))
 
 -- ---- the line of a binding `restat`
@@ -223,7 +225,7 @@ module _ (path : List ℕ) (is : IsPath path) where
 pub restat_is_line : IsLine (restat_line true)
 restat_is_line = (12, refl)
 
-pub restat_classed : IsOfClass (restat_line true) (Restat true)
+pub restat_classed : IsOfClass listing_format (restat_line true) (Restat true)
 restat_classed =
     let a : SeenAssignment = record { name_start = 2; name = codes "restat"; raw_value = codes "1" } in
     (omega arith, (RestatRow true, (refl, refl, refl, 2, codes "1", (a, refl, refl, refl, refl), refl), refl))

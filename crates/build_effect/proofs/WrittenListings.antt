@@ -14,7 +14,9 @@ use Rattle.build_effect.specs.EdgeValue.{EdgeValue}
 use Rattle.build_effect.specs.Graphs.{made_by, inputs_of, Reads, IsGraph}
 use Rattle.build_effect.specs.ListingLines.{EdgeTexts, Class, Build, Dyndep, Restat}
 use Rattle.build_effect.specs.ListingGrammar.{no_more_bindings, dyndep_binding, restat_binding, IsListing, listing_end, listing_build}
-use Rattle.build_effect.specs.ListingReading.{AreOfClasses, Lists}
+use Rattle.ninja_text.proofs.ForCallers.{AreOfClasses-append}
+use Rattle.ninja_text.specs.LineFormats.{AreOfClasses}
+use Rattle.build_effect.specs.ListingReading.{listing_format, Lists}
 use Rattle.build_effect.specs.ListingWriting.{edge_line, dyndep_line, restat_line, edge_text, listing_text, is_too_long, too_long_from, first_too_long}
 use Rattle.build_effect.specs.ListingLaws.{IsListable, WrittenListing}
 use Rattle.build_effect.proofs.GraphParts.{all_at}
@@ -65,19 +67,13 @@ restat_are_lines : (restat : Bool) → AllByRecursion IsLine (restat_lines resta
 restat_are_lines true = (restat_is_line, tt)
 restat_are_lines false = tt
 
-dyndep_are_classed : (dyndep : Option (List ℕ)) → DyndepIsPath dyndep → AreOfClasses (dyndep_lines dyndep) (dyndep_classes dyndep)
+dyndep_are_classed : (dyndep : Option (List ℕ)) → DyndepIsPath dyndep → AreOfClasses listing_format (dyndep_lines dyndep) (dyndep_classes dyndep)
 dyndep_are_classed None is = tt
 dyndep_are_classed (Some path) is = (dyndep_classed path is, tt)
 
-restat_are_classed : (restat : Bool) → AreOfClasses (restat_lines restat) (restat_classes restat)
+restat_are_classed : (restat : Bool) → AreOfClasses listing_format (restat_lines restat) (restat_classes restat)
 restat_are_classed true = (restat_classed, tt)
 restat_are_classed false = tt
-
-AreOfClasses-append : (ls ms : List (List ℕ)) (cs ds : List Class) → AreOfClasses ls cs → AreOfClasses ms ds → AreOfClasses (ls ++ ms) (cs ++ ds)
-AreOfClasses-append [] ms [] ds p q = q
-AreOfClasses-append [] ms (c ∷ cs) ds p q = absurd p
-AreOfClasses-append (l ∷ ls) ms [] ds p q = absurd p
-AreOfClasses-append (l ∷ ls) ms (c ∷ cs) ds p q = (p.0, AreOfClasses-append ls ms cs ds p.1 q)
 
 are_lines : (es : List EdgeValue) → AllByRecursion IsReadBack es → AllByRecursion IsLine (flat_map lines_of es)
 are_lines [] each = tt
@@ -86,12 +82,12 @@ are_lines (e ∷ es) each =
     (edge_is_line e (each.0).fit, AllByRecursion-append IsLine (dyndep_lines e.dyndep) (restat_lines e.restat) (dyndep_are_lines e.dyndep (each.0).dyndep) (restat_are_lines e.restat))
     (are_lines es each.1)
 
-are_classed : (es : List EdgeValue) → AllByRecursion IsReadBack es → AreOfClasses (flat_map lines_of es) (flat_map classes_of es)
+are_classed : (es : List EdgeValue) → AllByRecursion IsReadBack es → AreOfClasses listing_format (flat_map lines_of es) (flat_map classes_of es)
 are_classed [] each = tt
 are_classed (e ∷ es) each =
-    AreOfClasses-append (lines_of e) (flat_map lines_of es) (classes_of e) (flat_map classes_of es) (
+    AreOfClasses-append listing_format (lines_of e) (flat_map lines_of es) (classes_of e) (flat_map classes_of es) (
       edge_classed e (each.0).fit,
-      AreOfClasses-append (dyndep_lines e.dyndep) (restat_lines e.restat) (dyndep_classes e.dyndep) (restat_classes e.restat) (dyndep_are_classed e.dyndep (each.0).dyndep) (restat_are_classed e.restat),
+      AreOfClasses-append listing_format (dyndep_lines e.dyndep) (restat_lines e.restat) (dyndep_classes e.dyndep) (restat_classes e.restat) (dyndep_are_classed e.dyndep (each.0).dyndep) (restat_are_classed e.restat),
     )
     (are_classed es each.1)
 

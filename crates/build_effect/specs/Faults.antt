@@ -7,7 +7,7 @@ use Rattle.dyndep_file.specs.StatementValue.{StatementValue}
 use Rattle.build_effect.specs.EdgeValue.{EdgeValue}
 use Rattle.build_effect.specs.Graphs.{made_by, Reads, Names, IsMade, MadeOnce}
 use Rattle.build_effect.specs.Effect.{AreCanonical, IsOn, IsBound, AllBound}
-use Rattle.build_effect.specs.Firsts.{IsFirst}
+use Rattle.ninja_text.specs.Firsts.{IsFirst, IsFirstAt}
 use Rattle.build_effect.specs.declared.fault.GraphFault.{GraphFault}
 use Rattle.build_effect.specs.declared.fault.GraphFault.TheVariants.{ProducedTwice, DyndepNotInput}
 use Rattle.build_effect.specs.declared.fault.EffectFault.{EffectFault}
@@ -30,10 +30,10 @@ NamesUnread e = (file : List ℕ) × Names file e × (Reads e file → ⊥)
 abbrev pub IsGraphFault : List EdgeValue → GraphFault → Type 0
 -- the first file that is made once more
 IsGraphFault g (ProducedTwice file) =
-    (k : ℕ) × IsFirst (StandsBefore (made_files g)) (made_files g) k file
+    (k : ℕ) × IsFirstAt (StandsBefore (made_files g)) (made_files g) k file
 -- the first edge that names a dyndep file which is none of its inputs, with its first output
 IsGraphFault g (DyndepNotInput i output) =
-    (e : EdgeValue) × MadeOnce g × IsFirst (λ _ e. NamesUnread e) g i e
+    (e : EdgeValue) × MadeOnce g × IsFirst NamesUnread g i e
     × (slice_get e.outputs 0 ≡ Some output)
 
 -- the texts of a statement that have to be paths: output, implicit outputs, implicit inputs
@@ -87,27 +87,27 @@ NoneMadeBefore g additions =
 abbrev pub IsEffectFault : List EdgeValue → List ℕ → List StatementValue → EffectFault → Type 0
 -- the first statement with a text that is no path, and in it the first such text
 IsEffectFault g name statements (BadPath k j fault) =
-    (s : StatementValue) × (text : List ℕ) × IsFirst (λ _ s. HasRefused s) statements k s
-    × IsFirst (λ _ text. IsRefused text) (path_texts s) j text × (path_of text ≡ Err fault)
+    (s : StatementValue) × (text : List ℕ) × IsFirst HasRefused statements k s
+    × IsFirst IsRefused (path_texts s) j text × (path_of text ≡ Err fault)
 -- the first statement that is on no edge that names the file
 IsEffectFault g name statements (NotBound output) =
     (additions : List StatementValue) × (k : ℕ) × (a : StatementValue)
-    × AreCanonical statements additions × IsFirst (λ _ a. IsBound g name a → ⊥) additions k a
+    × AreCanonical statements additions × IsFirst (λ a. IsBound g name a → ⊥) additions k a
     × (a.output ≡ output)
 -- the first statement that is on the edge of an earlier one
 IsEffectFault g name statements (StatementTwice output) =
     (additions : List StatementValue) × (k : ℕ) × (a : StatementValue)
     × AreCanonical statements additions × AllBound g name additions
-    × IsFirst (IsRepeated g additions) additions k a × (a.output ≡ output)
+    × IsFirstAt (IsRepeated g additions) additions k a × (a.output ≡ output)
 -- the first edge that names the file and has no statement, with its first output
 IsEffectFault g name statements (NotMentioned output) =
     (additions : List StatementValue) × (i : ℕ) × (e : EdgeValue)
     × AreCanonical statements additions × AllBound g name additions × NoneRepeated g additions
-    × IsFirst (λ _ e. Names name e × (IsMentioned additions e → ⊥)) g i e
+    × IsFirst (λ e. Names name e × (IsMentioned additions e → ⊥)) g i e
     × (slice_get e.outputs 0 ≡ Some output)
 -- the first added output that is made by an edge or was added before
 IsEffectFault g name statements (AddedTwice file) =
     (additions : List StatementValue) × (k : ℕ)
     × AreCanonical statements additions × AllBound g name additions × NoneRepeated g additions
     × AllMentioned g name additions
-    × IsFirst (IsMadeBefore g (added_outputs additions)) (added_outputs additions) k file
+    × IsFirstAt (IsMadeBefore g (added_outputs additions)) (added_outputs additions) k file

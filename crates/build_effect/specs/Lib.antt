@@ -1,7 +1,6 @@
 pub mod EdgeValue
 pub mod Graphs
 pub mod Effect
-pub mod Firsts
 pub mod Faults
 pub mod FaultTexts
 pub mod Checks

@@ -1,8 +1,7 @@
 -- The lines of an edge listing, by what they are (Ninja 1.11 manual, "Build statements", "Lexical
 -- syntax").
-use Rattle.std.specs.Prelude.{◌≡◌, ◌≢◌, ℕ, ◌≤◌, Bool, true, false, ◌&&◌, not, nat_lt, IsTrue, List, [], ◌∷◌, ◌++◌, length, map, codes, None, Ok, ◌⊎◌}
+use Rattle.std.specs.Prelude.{◌≡◌, ◌≢◌, ℕ, Bool, true, false, ◌&&◌, not, nat_lt, IsTrue, List, [], ◌∷◌, ◌++◌, length, map, codes, None, Ok, ◌⊎◌}
 use Rattle.std.specs.List.{list_all}
-use Rattle.ninja_text.specs.Lines.{line_limit, text_of, is_comment}
 use Rattle.ninja_text.specs.Lexical.{lexical_fault}
 use Rattle.ninja_text.specs.Tokens.{tokens, value_of}
 use Rattle.ninja_text.specs.Assignments.{is_name_byte}
@@ -119,7 +118,3 @@ RowIsOfClass (RestatRow flag) c = c ≡ Restat flag
 -- A line of this text, which is a comment or not, is of this class.
 abbrev pub TextIsOfClass : List ℕ → Bool → Class → Type 0
 TextIsOfClass text comment c = (row : Row) × TextIsOfRow text comment row × RowIsOfClass row c
-
--- The line, its end included, keeps the limit and is of this class.
-abbrev pub IsOfClass : List ℕ → Class → Type 0
-IsOfClass line c = (length line ≤ line_limit) × TextIsOfClass (text_of line) (is_comment line) c

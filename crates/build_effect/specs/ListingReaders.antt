@@ -1,15 +1,16 @@
 -- What a reader of edge listings answers, by all bytes that it was fed, however they were cut into
 -- pieces.
-use Rattle.std.specs.Prelude.{◌≡◌, ℕ, List, [], ◌∷◌, Some, Result, Ok, Err, ◌⊎◌}
-use Rattle.ninja_text.specs.Lines.{LogicalLine}
-use Rattle.ninja_text.specs.LineReading.{LinesRead, HasLentAll}
+use Rattle.std.specs.Prelude.{◌≡◌, ◌⊎◌, ℕ, List, Result, Ok, Err}
+use Rattle.ninja_text.specs.LineReading.{LinesRead}
+use Rattle.ninja_text.specs.FormatReading as lines
+use Rattle.ninja_text.specs.Failure.{ForFault}
 use Rattle.ninja_text.specs.declared.failure.Failure.{Failure}
 use Rattle.ninja_text.specs.declared.failure.Failure.TheVariants.{Memory, Fault}
 use Rattle.build_effect.specs.EdgeValue.{EdgeValue}
-use Rattle.build_effect.specs.ListingLines.{Class, TextIsOfClass}
+use Rattle.build_effect.specs.ListingLines.{Class}
 use Rattle.build_effect.specs.ListingGrammar.{IsListing}
 use Rattle.build_effect.specs.ListingSteps.{ListingValue, open_from}
-use Rattle.build_effect.specs.ListingReading.{Lists, FaultyLine, FaultyEnd}
+use Rattle.build_effect.specs.ListingReading.{listing_format, Lists, FaultyLine, FaultyEnd}
 use Rattle.build_effect.specs.Faults.{IsGraphFault}
 use Rattle.build_effect.specs.declared.fault.LineCause.TheVariants.{LineTooLong}
 use Rattle.build_effect.specs.declared.fault.LineFault.{LineFault}
@@ -17,30 +18,18 @@ use Rattle.build_effect.specs.declared.fault.ListingFault.{ListingFault}
 use Rattle.build_effect.specs.declared.fault.ListingFault.TheVariants.{AtLine, NoGraph}
 use Rattle.build_effect.specs.declared.listing.state.Binding.TheVariants.{Closed}
 
--- The lines are of these classes, one by one.
-abbrev pub AreTextsOfClasses : List LogicalLine → List Class → Type 0
-AreTextsOfClasses [] [] = Unit {0}
-AreTextsOfClasses (line ∷ lines) (c ∷ classes) =
-    TextIsOfClass line.text line.comment c × AreTextsOfClasses lines classes
-AreTextsOfClasses [] (c ∷ classes) = ⊥
-AreTextsOfClasses (line ∷ lines) [] = ⊥
-
--- The lines are a listing of the edges so far, and leave these bindings open.
-pub record AreReadTo (lent : List LogicalLine) (value : ListingValue) : Type 0 where
-  pub classes : List Class
-  pub texts : AreTextsOfClasses lent classes
-  pub grammar : IsListing classes value.edges
-  pub left : value.binding ≡ open_from Closed classes
+-- Lines of these classes are a listing of the edges so far, and leave these bindings open.
+abbrev pub LeadTo : List Class → ListingValue → Type 0
+LeadTo classes value =
+    IsListing classes value.edges × (value.binding ≡ open_from Closed classes)
 
 -- a reader: the lines read, the edges so far, and what it refused with, if it did
 abbrev pub Reader : Type 0
 Reader = LinesRead ListingValue LineFault
 
 -- The reader was fed these bytes in all, and has refused none.
-pub record HasRead (bytes : List ℕ) (r : Reader) : Type 0 where
-  pub lent : List LogicalLine
-  pub has : HasLentAll bytes lent r
-  pub read : AreReadTo lent r.state
+abbrev pub HasRead : List ℕ → Reader → Type 0
+HasRead bytes r = lines.HasRead listing_format LeadTo bytes r
 
 -- The fault is in the bytes: a line of them is the first faulty one, or their end has reached the
 -- limit of a line. It is the fault of every text that begins with them.
@@ -50,14 +39,12 @@ IsFaultIn bytes fault =
 
 -- Memory was refused, or the fault is in the bytes.
 abbrev pub IsFailureIn : List ℕ → Failure LineFault → Type 0
-IsFailureIn bytes Memory = Unit {0}
-IsFailureIn bytes (Fault fault) = IsFaultIn bytes fault
+IsFailureIn bytes failure = ForFault (IsFaultIn bytes) failure
 
 -- What `feed` answers, and what the reader is then; by all bytes fed, this call's with them, to a
 -- reader that had refused none.
 abbrev pub Reads : List ℕ → Result Unit (Failure LineFault) → Reader → Type 0
-Reads bytes (Ok u) new = HasRead bytes new
-Reads bytes (Err failure) new = (new.failed ≡ Some failure) × IsFailureIn bytes failure
+Reads bytes result new = lines.Reads HasRead IsFaultIn bytes result new
 
 -- what a reader that refused answers at the end
 abbrev pub line_failure : Failure LineFault → Failure ListingFault

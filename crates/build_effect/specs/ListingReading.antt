@@ -1,50 +1,24 @@
 -- Which edges a text lists, and which fault a text has that lists none.
-use Rattle.std.specs.Prelude.{◌≡◌, ℕ, ◌<◌, ◌≤◌, Bool, List, [], ◌∷◌, ◌++◌, length, ◌⊎◌}
-use Rattle.std.specs.List.{flat_map, AllByRecursion}
-use Rattle.ninja_text.specs.Lines.{line_limit, IsLine, Divides, number_after}
+use Rattle.std.specs.Prelude.{◌≡◌, ◌⊎◌, ℕ, ◌<◌, ◌≤◌, Bool, List, [], ◌∷◌, ◌++◌, length}
+use Rattle.ninja_text.specs.Lines.{line_limit}
+use Rattle.ninja_text.specs.LineFormats.{LineFormat, LineFaults, IsOfClass, IsFaultyAfter}
+use Rattle.ninja_text.specs.LineFormats as lines
 use Rattle.build_effect.specs.EdgeValue.{EdgeValue}
-use Rattle.build_effect.specs.ListingLines.{Class, TextIsOfClass, IsOfClass}
+use Rattle.build_effect.specs.ListingLines.{Class, TextIsOfClass}
 use Rattle.build_effect.specs.ListingGrammar.{IsListing, Begins}
 use Rattle.build_effect.specs.ListingFaults.{IsLineCause}
 use Rattle.build_effect.specs.declared.fault.LineCause.{LineCause}
 use Rattle.build_effect.specs.declared.fault.LineCause.TheVariants.{LineTooLong, Truncated, Form}
 use Rattle.build_effect.specs.declared.fault.LineFault.{LineFault}
 
--- The lines are of these classes, one by one.
-abbrev pub AreOfClasses : List (List ℕ) → List Class → Type 0
-AreOfClasses [] [] = Unit {0}
-AreOfClasses (line ∷ lines) (c ∷ classes) = IsOfClass line c × AreOfClasses lines classes
-AreOfClasses [] (c ∷ classes) = ⊥
-AreOfClasses (line ∷ lines) [] = ⊥
+-- An edge listing is a format of lines.
+abbrev pub listing_format : LineFormat Class (List EdgeValue)
+listing_format = record { text_is_of = TextIsOfClass; grammar = IsListing }
 
 -- The text lists the edges: it is divided into lines, with no bytes left over, and the lines are a
 -- listing of them.
-pub record Lists (bytes : List ℕ) (edges : List EdgeValue) : Type 0 where
-  pub lines : List (List ℕ)
-  pub classes : List Class
-  pub divided : Divides bytes lines []
-  pub classed : AreOfClasses lines classes
-  pub grammar : IsListing classes edges
-
--- After lines of these classes, no listing goes on with this line.
-abbrev pub IsFaultyAfter : List Class → List ℕ → Type 0
-IsFaultyAfter classes line = (c : Class) → IsOfClass line c → Begins (classes ++ c ∷ []) → ⊥
-
--- A line of the text is the first faulty one: some listing begins with the lines before it, and
--- none goes on with this line. The number is that of the line's first physical line. Any bytes may
--- come after the line.
-pub record FaultyLine (bytes : List ℕ) (found : LineFault) : Type 0 where
-  pub before : List (List ℕ)
-  pub line : List ℕ
-  pub after : List ℕ
-  pub classes : List Class
-  pub whole : bytes ≡ flat_map (λ line. line) (before ++ line ∷ []) ++ after
-  pub each : AllByRecursion IsLine (before ++ line ∷ [])
-  pub classed : AreOfClasses before classes
-  pub begun : Begins classes
-  pub faulty : IsFaultyAfter classes line
-  pub number : found.line ≡ number_after (flat_map (λ line. line) before)
-  pub reason : IsLineCause classes line found.cause
+abbrev pub Lists : List ℕ → List EdgeValue → Type 0
+Lists bytes edges = lines.StandsFor listing_format bytes edges
 
 -- What is wrong at the end of a text without a faulty line: the bytes left over hold no end and
 -- reach the limit, or they are fewer, but some.
@@ -53,17 +27,17 @@ IsEndCause rest LineTooLong = line_limit ≤ length rest
 IsEndCause rest Truncated = (0 < length rest) × (length rest < line_limit)
 IsEndCause rest other = ⊥
 
--- No line of the text is faulty, and its end is; the number is that of the line which would begin
--- after the last whole line.
-pub record FaultyEnd (bytes : List ℕ) (found : LineFault) : Type 0 where
-  pub lines : List (List ℕ)
-  pub rest : List ℕ
-  pub classes : List Class
-  pub divided : Divides bytes lines rest
-  pub classed : AreOfClasses lines classes
-  pub begun : Begins classes
-  pub number : found.line ≡ number_after (flat_map (λ line. line) lines)
-  pub reason : IsEndCause rest found.cause
+abbrev pub listing_faults : LineFaults Class LineCause
+listing_faults =
+    record { of_line = IsLineCause; of_end = λ classes rest cause. IsEndCause rest cause }
+
+-- A line of the text is the first faulty one, with this number and cause.
+abbrev pub FaultyLine : List ℕ → LineFault → Type 0
+FaultyLine bytes fault = lines.FaultyLine listing_format listing_faults bytes fault.line fault.cause
+
+-- No line of the text is faulty, and its end is.
+abbrev pub FaultyEnd : List ℕ → LineFault → Type 0
+FaultyEnd bytes fault = lines.FaultyEnd listing_format listing_faults bytes fault.line fault.cause
 
 -- The text has this fault, in a line or at its end.
 abbrev pub HasFault : List ℕ → LineFault → Type 0
@@ -105,14 +79,14 @@ OneClass =
 abbrev pub LineOrCause : Type 0
 LineOrCause =
     (classes : List Class) (line : List ℕ) → Begins classes
-    → ((c : Class) × IsOfClass line c × Begins (classes ++ c ∷ []))
+    → ((c : Class) × IsOfClass listing_format line c × Begins (classes ++ c ∷ []))
     ⊎ ((cause : LineCause) × IsLineCause classes line cause)
 
 -- Law: there, a line that has a cause is of no class with which a listing goes on.
 abbrev pub CauseIsFaulty : Type 0
 CauseIsFaulty =
     (classes : List Class) (line : List ℕ) (cause : LineCause) → Begins classes
-    → IsLineCause classes line cause → IsFaultyAfter classes line
+    → IsLineCause classes line cause → IsFaultyAfter listing_format classes line
 
 -- Law: a line has one cause at most.
 abbrev pub OneCause : Type 0
@@ -124,4 +98,4 @@ OneCause =
 abbrev pub ClassHasForm : Type 0
 ClassHasForm =
     (classes : List Class) (line : List ℕ) (cause : LineCause) (c : Class)
-    → IsLineCause classes line cause → IsOfClass line c → cause ≡ Form
+    → IsLineCause classes line cause → IsOfClass listing_format line c → cause ≡ Form

@@ -1,5 +1,4 @@
 -- Definitions that private clauses alone speak of.
-pub mod Repetitions
 pub mod Inputs
 pub mod Makers
 pub mod BadPaths

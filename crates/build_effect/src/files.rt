@@ -3,7 +3,7 @@ ghost use Rattle.std.specs.Prelude.{◌≡◌, ◌++◌, [], IfOk, OnOk};
 ghost use Rattle.build_effect.specs.Graphs.{made_by};
 ghost use Rattle.build_effect.specs.Faults.{made_files};
 ghost use Rattle.dep_order.specs.Rows.{lists};
-ghost use Rattle.build_effect.specs.inner.Repetitions.{FindsRepetition};
+ghost use Rattle.ninja_text.specs.Firsts.{FindsRepetition};
 
 use crate::edge::Edge;
 use indexmap::IndexSet;

@@ -3,7 +3,6 @@ use Rattle.std.proofs.Common.{inl, inr, ◌≡◌, ℕ, ◌==◌, ◌&&◌, Bool
 use Rattle.std.specs.Prelude.{Option, IsTrue, codes, is_some, if◌then◌else◌, nat_lt}
 use Rattle.std.proofs.lemmas.Bool.{cases_Bool, eqb-true, and_parts}
 use Rattle.ninja_text.specs.Lexical.{lexical_fault}
-use Rattle.ninja_text.specs.Lines.{text_of, is_comment}
 use Rattle.ninja_text.specs.Tokens.{TokenAt, tokens, raw, value_of}
 use Rattle.ninja_text.specs.Assignments.{SeenAssignment, assignment_of}
 use Rattle.ninja_text.specs.declared.fault.LexFault.{LexFault}
@@ -14,7 +13,6 @@ use Rattle.dyndep_file.specs.Classes.{IsBuild, Assigns, TextIsOfClass, is_versio
 use Rattle.dyndep_file.specs.Faults.{same_bytes, is_empty, after_build, value_assigned, output_fault, indented_fault, version_fault, build_or_other_fault, unindented_fault}
 use Rattle.dyndep_file.specs.Faults.{text_fault, text_line_fault, lexical_fault_or}
 use Rattle.dyndep_file.specs.Steps.{ProgressValue, step}
-use Rattle.dyndep_file.specs.Reading.{AreOfClasses}
 use Rattle.dyndep_file.specs.declared.fault.LineFault.{LineFault}
 use Rattle.dyndep_file.specs.declared.progress.Stage.{Stage}
 use Rattle.dyndep_file.specs.declared.progress.Stage.TheVariants.{BeforeVersion, NoneOpen, Open}
@@ -167,16 +165,6 @@ class_one text comment (Binding flag) (Binding other) p q =
     let value : p.4 ≡ q.4 = sym a.4 ∙ ap (λ (s : SeenAssignment). value_of s.raw_value) same ∙ b.4 in
     ap Binding (p.6 ∙ ap (λ (v : List ℕ). nat_lt 0 (length v)) value ∙ sym q.6)
 class_one text comment c d p q = absurd (let e : class_index c ≡ class_index d = sym (index_of_class text comment c p) ∙ index_of_class text comment d q in omega arith)
-
--- lines are of one list of classes
-pub classes_one : (lines : List (List ℕ)) (cs ds : List Class) → AreOfClasses lines cs → AreOfClasses lines ds → cs ≡ ds
-classes_one [] [] [] p q = refl
-classes_one [] [] (d ∷ ds) p q = absurd q
-classes_one [] (c ∷ cs) ds p q = absurd p
-classes_one (l ∷ lines) [] ds p q = absurd p
-classes_one (l ∷ lines) (c ∷ cs) [] p q = absurd q
-classes_one (l ∷ lines) (c ∷ cs) (d ∷ ds) p q =
-    rw (class_one (text_of l) (is_comment l) c d p.0.1 q.0.1, classes_one lines cs ds p.1 q.1) refl
 
 -- a fault is there, and is not
 none_else : {fault : LineFault} {A : Type 0} → ◌≡◌ {A = Option LineFault} (Some fault) None → A

@@ -1,16 +1,14 @@
 -- Reading to the end of a reader.
-use Rattle.std.proofs.Common.{inl, inr, ◌≡◌, ℕ, ◌≤◌, ◌-◌, ◌^◌, false, List, [], ◌∷◌, ◌++◌, length, take, refl, sym, ap, ◌∙◌, subst, append_assoc, length-append, ◌+◌, Option, Some, None, Ok, Err, arith}
+use Rattle.std.proofs.Common.{inl, inr, ◌⊎◌, ◌≡◌, ℕ, ◌≤◌, ◌-◌, ◌^◌, false, List, [], ◌∷◌, ◌++◌, length, take, refl, sym, ap, ◌∙◌, subst, append_assoc, length-append, ◌+◌, Option, Some, None, Ok, Err, arith}
 use Rattle.std.specs.Prelude.{Result}
 use Rattle.std.specs.Result.{IsErrAnd}
 use Rattle.std.specs.Io.KnownBytes.{Consumes, Keeps, IsAtEnd}
 use Rattle.std.proofs.lemmas.List.{append-nil, length-take-le}
-use Rattle.ninja_text.specs.Lines.{Divides}
 use Rattle.ninja_text.specs.declared.failure.Failure.{Failure}
 use Rattle.ninja_text.specs.declared.failure.Failure.TheVariants.{Fault}
 use Rattle.dyndep_file.specs.Classes.{Class}
 use Rattle.ninja_text.specs.Lines.{line_limit}
-use Rattle.dyndep_file.specs.Reading.{AreOfClasses}
-use Rattle.dyndep_file.specs.Reader.{Reader, IsStateAfter, HasRead, Ends, IsFaultIn, IsFailureIn}
+use Rattle.dyndep_file.specs.Reader.{LeadTo, Reader, HasRead, Ends, IsFaultIn, IsFailureIn}
 use Rattle.std.specs.declared.io.Error.{Error}
 use Rattle.ninja_text.specs.Counting.{held, failures, one_more, Call, Counts}
 use Rattle.ninja_text.specs.declared.counting.Counted.{Counted}
@@ -22,10 +20,11 @@ use Rattle.dyndep_file.specs.declared.fault.ReadFault.{ReadFault}
 use Rattle.dyndep_file.specs.declared.fault.ReadFault.TheVariants.{AtLine, Io}
 use Rattle.dyndep_file.specs.StatementValue.{StatementValue}
 use Rattle.dyndep_file.proofs.Runs.{runs_begin}
-use Rattle.dyndep_file.proofs.EndLemmas.{working, working_state, classed_lines, divided_lines}
-use Rattle.dyndep_file.proofs.LawLemmas.{line_not_begun}
-use Rattle.ninja_text.proofs.ForCallers.{divides_one}
-use Rattle.dyndep_file.specs.Reading.{IsEndFault}
+use Rattle.dyndep_file.proofs.LawLemmas.{decided}
+use Rattle.ninja_text.proofs.ForCallers as lines
+use Rattle.ninja_text.specs.LineFormats.{FaultyLine, FaultyEnd}
+use Rattle.dyndep_file.specs.inner.LineStates.{PassesLine, RefusesLine, fault_of_cutter}
+use Rattle.dyndep_file.specs.Reading.{dyndep_format, dyndep_faults, IsEndFault}
 
 -- known bytes that are consumed in several reads
 consumes_more : (a b c : Option (List ℕ)) (x y : List ℕ) → Consumes a b x → Consumes b c y → Consumes a c (x ++ y)
@@ -48,28 +47,13 @@ consumes_nothing (Some p) = refl
 
 -- what a reader took has no fault
 pub unrefused : (bytes : List ℕ) (r : Reader) → HasRead bytes r → IsUnrefused bytes
-unrefused bytes r has line fault refused = go refused where
-  state : IsStateAfter bytes r.cutter r.progress
-  state = has.state
-
-  at_work : IsStateAfter bytes (working r.cutter.number r.cutter.bytes) r.progress
-  at_work = working_state bytes r.cutter r.progress state
-
-  divided : Divides bytes at_work.cuts.lines r.cutter.bytes
-  divided = divided_lines bytes r.cutter.number r.cutter.bytes r.progress at_work
-
-  classed : AreOfClasses at_work.cuts.lines at_work.classes
-  classed = classed_lines bytes r.cutter.number r.cutter.bytes r.progress at_work
-
+unrefused bytes r has line fault refused = lines.none_refused dyndep_format LeadTo PassesLine RefusesLine fault_of_cutter dyndep_faults decided runs_begin bytes r has line fault (found refused) where
   too_long : (f : LineFault) (rest : List ℕ) (classes : List Class) → f ≡ LineTooLong → IsEndFault rest classes f → line_limit ≤ length rest
   too_long f rest classes is reason = subst (IsEndFault rest classes) is reason
 
-  go : IsFaultIn bytes (AtLine line fault) → ⊥
-  go (inl f) = line_not_begun bytes at_work.cuts.lines r.cutter.bytes at_work.classes (record { line = line; fault = fault }) divided classed (runs_begin at_work.classes r.progress at_work.ran) f
-  go (inr e) =
-      let same = divides_one bytes e.0.lines at_work.cuts.lines e.0.rest r.cutter.bytes e.0.divided divided in
-      let full : line_limit ≤ length e.0.rest = too_long fault e.0.rest e.0.classes e.1 e.0.reason in
-      omega (arith, ap length same.1, state.short)
+  found : IsFaultIn bytes (AtLine line fault) → FaultyLine dyndep_format dyndep_faults bytes line fault ⊎ ((e : FaultyEnd dyndep_format dyndep_faults bytes line fault) × (line_limit ≤ length e.rest))
+  found (inl f) = inl f
+  found (inr e) = inr (e.0, too_long fault e.0.rest e.0.classes e.1 e.0.reason)
 
 -- what a refused `feed` answers is the answer of the call
 err_is : (result : Result (List StatementValue) (Failure ReadFault)) (failure : Failure ReadFault) → IsErrAnd result (λ e. e ≡ failure) → Err failure ≡ result

@@ -3,13 +3,13 @@ use Rattle.std.proofs.Common.{◌≡◌, ℕ, ◌<◌, Bool, true, false, cond, 
 use Rattle.std.specs.Prelude.{nat_lt}
 use Rattle.std.specs.List.{flat_map}
 use Rattle.std.proofs.Math.Seq.{take-append_seam}
-use Rattle.std.proofs.lemmas.List.{take-append-drop, take-append-le, append-nil}
-use Rattle.std.proofs.lemmas.Grind.{flat_map-append}
+use Rattle.std.proofs.lemmas.List.{take-append-drop, take-append-le}
 use Rattle.std.proofs.lemmas.Bool.{cases_lt}
 use Rattle.ninja_text.specs.Lines.{line_limit, LineEnd, line_end, IsLine, Divides, text_of, is_comment}
-use Rattle.ninja_text.proofs.ForCallers.{line_end-append, divides_some, AllByRecursion-append}
+use Rattle.ninja_text.proofs.ForCallers.{line_end-append, divides_some, AllByRecursion-append, one_more_line}
 use Rattle.dyndep_file.specs.Faults.{text_line_fault, stage_after}
-use Rattle.dyndep_file.specs.Reading.{FaultAt, FaultyLine, FaultyEnd, IsRefused}
+use Rattle.ninja_text.specs.LineFormats.{FaultyLine, FaultyEnd}
+use Rattle.dyndep_file.specs.Reading.{dyndep_format, dyndep_faults, IsRefused}
 use Rattle.dyndep_file.specs.Reader.{IsFaultIn}
 use Rattle.dyndep_file.specs.declared.fault.LineFault.{LineFault}
 use Rattle.dyndep_file.specs.declared.fault.LineFault.TheVariants.{LineTooLong}
@@ -20,8 +20,8 @@ more_behind : (bytes front after more : List ℕ) → bytes ≡ front ++ after �
 more_behind bytes front after more e = ap (λ x. x ++ more) e ∙ append_assoc front after more
 
 -- a faulty line stays one
-line_stays : (bytes more : List ℕ) (found : FaultAt) → FaultyLine bytes found → FaultyLine (bytes ++ more) found
-line_stays bytes more found f = record {
+line_stays : (bytes more : List ℕ) (line : ℕ) (fault : LineFault) → FaultyLine dyndep_format dyndep_faults bytes line fault → FaultyLine dyndep_format dyndep_faults (bytes ++ more) line fault
+line_stays bytes more line fault f = record {
   before = f.before;
   line = f.line;
   after = f.after ++ more;
@@ -55,12 +55,8 @@ too_long : (other : Option LineFault) (long : Bool) → long ≡ true → cond l
 too_long other true e = refl
 too_long other false e = absurd (cc)
 
--- a line behind the others
-joined_line : (lines : List (List ℕ)) (line : List ℕ) → flat_map (λ l. l) (lines ++ line ∷ []) ≡ flat_map (λ l. l) lines ++ line
-joined_line lines line = flat_map-append (λ l. l) lines (line ∷ []) ∙ ap (λ x. flat_map (λ l. l) lines ++ x) (append-nil line)
-
 -- bytes at the end that reach the limit of a line stay so, or become a line that is too long
-end_stays : (bytes more : List ℕ) (line : ℕ) (e : FaultyEnd bytes (record { line = line; fault = LineTooLong })) (lines : List (List ℕ)) (rest : List ℕ)
+end_stays : (bytes more : List ℕ) (line : ℕ) (e : FaultyEnd dyndep_format dyndep_faults bytes line LineTooLong) (lines : List (List ℕ)) (rest : List ℕ)
     → Divides (e.rest ++ more) lines rest → IsRefused (bytes ++ more) (record { line = line; fault = LineTooLong })
 end_stays bytes more line e [] rest d =
     inr (record {
@@ -86,8 +82,7 @@ end_stays bytes more line e (l ∷ ls) rest d =
       line = l;
       after = after;
       classes = e.classes;
-      whole = more_behind bytes (flat_map (λ x. x) e.lines) e.rest more e.divided.whole ∙ ap (λ x. flat_map (λ y. y) e.lines ++ x) same
-          ∙ sym (append_assoc (flat_map (λ x. x) e.lines) l after) ∙ ap (λ x. x ++ after) (sym (joined_line e.lines l));
+      whole = one_more_line e.lines l (bytes ++ more) (e.rest ++ more) after (more_behind bytes (flat_map (λ x. x) e.lines) e.rest more e.divided.whole) same;
       each = AllByRecursion-append IsLine e.lines (l ∷ []) e.divided.each (d.each.0, tt);
       classed = e.classed;
       begun = e.begun;
@@ -98,8 +93,8 @@ end_stays bytes more line e (l ∷ ls) rest d =
 
 -- the fault is that of every text that begins with the bytes
 pub fault_stays : (bytes more : List ℕ) (line : ℕ) (fault : LineFault) → IsFaultIn bytes (AtLine line fault) → IsRefused (bytes ++ more) (record { line = line; fault = fault })
-fault_stays bytes more line fault (inl f) = inl (line_stays bytes more (record { line = line; fault = fault }) f)
+fault_stays bytes more line fault (inl f) = inl (line_stays bytes more line fault f)
 fault_stays bytes more line fault (inr h) =
-    let e : FaultyEnd bytes (record { line = line; fault = LineTooLong }) = subst (λ f. FaultyEnd bytes (record { line = line; fault = f })) h.1 h.0 in
+    let e : FaultyEnd dyndep_format dyndep_faults bytes line LineTooLong = subst (FaultyEnd dyndep_format dyndep_faults bytes line) h.1 h.0 in
     let d = divides_some (e.rest ++ more) in
     subst (λ f. IsRefused (bytes ++ more) (record { line = line; fault = f })) (sym h.1) (end_stays bytes more line e d.0 d.1 d.2)

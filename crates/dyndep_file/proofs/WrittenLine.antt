@@ -10,7 +10,9 @@ use Rattle.ninja_text.specs.Escapes.{IsWritable, escaped}
 use Rattle.ninja_text.specs.declared.token.TokenKind.TheVariants.{Bar, Colon}
 use Rattle.ninja_text.proofs.ForCallers.{value_of_escaped, Written, written_none, written_word, written_path, written_space, written_colon, written_bar, written_tokens, written_sound, written_line, written_text, written_first}
 use Rattle.dyndep_file.specs.StatementValue.{StatementValue}
-use Rattle.dyndep_file.specs.Classes.{Class, Build, Symbol, WordSymbol, SignSymbol, symbol, IsPart, IsBuild, TextIsOfClass, IsOfClass}
+use Rattle.ninja_text.specs.LineFormats.{IsOfClass}
+use Rattle.dyndep_file.specs.Reading.{dyndep_format}
+use Rattle.dyndep_file.specs.Classes.{Class, Build, Symbol, WordSymbol, SignSymbol, symbol, IsPart, IsBuild, TextIsOfClass}
 use Rattle.dyndep_file.specs.Writing.{part_text, build_line}
 use Rattle.dyndep_file.specs.WriteFaults.{paths_of, CanBeWritten}
 
@@ -138,7 +140,7 @@ module _ (s : StatementValue) (can : CanBeWritten s) where
   pub build_is_line : IsLine (build_line s)
   build_is_line = subst IsLine line_is (written_line symbol (line_text s) (line_symbols s) line_written refl)
 
-  pub build_classed : IsOfClass (build_line s) (build_class s)
+  pub build_classed : IsOfClass dyndep_format (build_line s) (build_class s)
   build_classed = (
     can.line,
     subst (λ line. TextIsOfClass (text_of line) (is_comment line) (build_class s)) line_is

@@ -9,9 +9,11 @@ use Rattle.ninja_text.specs.Lines.{IsLine, Divides}
 use Rattle.ninja_text.specs.Assignments.{SeenAssignment}
 use Rattle.ninja_text.proofs.ForCallers.{AllByRecursion-append, joined}
 use Rattle.dyndep_file.specs.StatementValue.{StatementValue}
-use Rattle.dyndep_file.specs.Classes.{Class, Version, Build, Binding, Assigns, IsOfClass}
+use Rattle.dyndep_file.specs.Classes.{Class, Version, Build, Binding, Assigns}
 use Rattle.dyndep_file.specs.Grammar.{IsDyndepBody, IsDyndepFile, binding_here, body_end, body_build, body_build_binding, version_line}
-use Rattle.dyndep_file.specs.Reading.{AreOfClasses, StandsFor}
+use Rattle.ninja_text.proofs.ForCallers.{AreOfClasses-append}
+use Rattle.ninja_text.specs.LineFormats.{IsOfClass, AreOfClasses}
+use Rattle.dyndep_file.specs.Reading.{dyndep_format, StandsFor}
 use Rattle.dyndep_file.specs.Writing.{build_line, statement_text, dyndep_text}
 use Rattle.dyndep_file.specs.WriteFaults.{CanBeWritten}
 use Rattle.dyndep_file.proofs.WrittenLine.{build_is_line, build_classed}
@@ -29,7 +31,7 @@ first_is_line = (24, refl)
 restat_is_line : IsLine restat_line
 restat_is_line = (12, refl)
 
-first_classed : IsOfClass first_line Version
+first_classed : IsOfClass dyndep_format first_line Version
 first_classed =
     let version : SeenAssignment = record { name_start = 0; name = codes "ninja_dyndep_version"; raw_value = codes "1" } in
     (omega arith, (refl, refl, codes "1", (version, refl, refl, refl, refl), refl))
@@ -37,7 +39,7 @@ first_classed =
 pub restat_assigns : Assigns (codes "  restat = 1") (codes "restat") 2 (codes "1")
 restat_assigns = let restat : SeenAssignment = record { name_start = 2; name = codes "restat"; raw_value = codes "1" } in (restat, refl, refl, refl, refl)
 
-restat_classed : IsOfClass restat_line (Binding true)
+restat_classed : IsOfClass dyndep_format restat_line (Binding true)
 restat_classed = (omega arith, (refl, refl, refl, 2, codes "1", restat_assigns, refl))
 
 -- the lines of a statement, its binding only where the flag is set, and their classes
@@ -53,18 +55,11 @@ lines_of s = build_line s ∷ flag_lines s.restat
 abbrev pub classes_of : StatementValue → List Class
 classes_of s = Build s.output s.implicit_outputs s.implicit_inputs ∷ flag_classes s.restat
 
--- each line is one, and of its class
-AreOfClasses-append : (ls ms : List (List ℕ)) (cs ds : List Class) → AreOfClasses ls cs → AreOfClasses ms ds → AreOfClasses (ls ++ ms) (cs ++ ds)
-AreOfClasses-append [] ms [] ds p q = q
-AreOfClasses-append [] ms (c ∷ cs) ds p q = absurd p
-AreOfClasses-append (l ∷ ls) ms [] ds p q = absurd p
-AreOfClasses-append (l ∷ ls) ms (c ∷ cs) ds p q = (p.0, AreOfClasses-append ls ms cs ds p.1 q)
-
 flag_are_lines : (flag : Bool) → AllByRecursion IsLine (flag_lines flag)
 flag_are_lines true = (restat_is_line, tt)
 flag_are_lines false = tt
 
-flag_classed : (flag : Bool) → AreOfClasses (flag_lines flag) (flag_classes flag)
+flag_classed : (flag : Bool) → AreOfClasses dyndep_format (flag_lines flag) (flag_classes flag)
 flag_classed true = (restat_classed, tt)
 flag_classed false = tt
 
@@ -72,9 +67,9 @@ are_lines : (ss : List StatementValue) → AllByRecursion CanBeWritten ss → Al
 are_lines [] can = tt
 are_lines (s ∷ ss) can = AllByRecursion-append IsLine (lines_of s) (flat_map lines_of ss) (build_is_line s can.0, flag_are_lines s.restat) (are_lines ss can.1)
 
-are_classed : (ss : List StatementValue) → AllByRecursion CanBeWritten ss → AreOfClasses (flat_map lines_of ss) (flat_map classes_of ss)
+are_classed : (ss : List StatementValue) → AllByRecursion CanBeWritten ss → AreOfClasses dyndep_format (flat_map lines_of ss) (flat_map classes_of ss)
 are_classed [] can = tt
-are_classed (s ∷ ss) can = AreOfClasses-append (lines_of s) (flat_map lines_of ss) (classes_of s) (flat_map classes_of ss) (build_classed s can.0, flag_classed s.restat) (are_classed ss can.1)
+are_classed (s ∷ ss) can = AreOfClasses-append dyndep_format (lines_of s) (flat_map lines_of ss) (classes_of s) (flat_map classes_of ss) (build_classed s can.0, flag_classed s.restat) (are_classed ss can.1)
 
 -- the lines of one statement and its flag, in front of a body
 build_with_flag : (output : List ℕ) (outputs inputs : List (List ℕ)) (flag : Bool) (classes : List Class) (ss : List StatementValue) → IsDyndepBody classes ss

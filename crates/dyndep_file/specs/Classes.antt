@@ -1,9 +1,8 @@
 -- The lines of a dyndep file, by what they are (Ninja 1.11 manual, "Dyndep file reference" and
 -- "Lexical syntax").
-use Rattle.std.specs.Prelude.{◌≡◌, ℕ, ◌≤◌, Bool, true, false, ◌==◌, ◌&&◌, ◌||◌, not, nat_lt, IsTrue, List, [], ◌∷◌, ◌++◌, length, map, codes, ◌⊎◌, Some, None}
+use Rattle.std.specs.Prelude.{◌≡◌, ℕ, Bool, true, false, ◌==◌, ◌&&◌, ◌||◌, not, nat_lt, IsTrue, List, [], ◌∷◌, ◌++◌, length, map, codes, ◌⊎◌, Some, None}
 use Rattle.ninja_text.specs.Units.{is_digit}
 use Rattle.ninja_text.specs.Bytes.{space}
-use Rattle.ninja_text.specs.Lines.{line_limit, is_comment, text_of}
 use Rattle.ninja_text.specs.Lexical.{lexical_fault}
 use Rattle.ninja_text.specs.Tokens.{TokenAt, tokens, raw, value_of}
 use Rattle.ninja_text.specs.declared.token.TokenKind.{TokenKind}
@@ -108,7 +107,3 @@ TextIsOfClass text comment (Binding flag) =
     (comment ≡ false) × (lexical_fault text ≡ None) × IsTrue (begins_with_space text)
     × (start : ℕ) × (value : List ℕ) × Assigns text (codes "restat") start value
     × (flag ≡ nat_lt 0 (length value))
-
--- The line, its end included, keeps the limit and is of this class.
-abbrev pub IsOfClass : List ℕ → Class → Type 0
-IsOfClass line c = (length line ≤ line_limit) × TextIsOfClass (text_of line) (is_comment line) c

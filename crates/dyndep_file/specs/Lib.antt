@@ -12,6 +12,4 @@ pub mod Texts
 pub mod ReadingAll
 pub mod Laws
 pub mod Reader
-pub mod ProgressViews
-pub mod ReaderViews
 pub mod inner

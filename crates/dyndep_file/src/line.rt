@@ -8,7 +8,6 @@ ghost use Rattle.dyndep_file.specs.Classes.{TextIsOfClass, begins_with_space};
 ghost use Rattle.dyndep_file.specs.Faults.{text_line_fault};
 ghost use Rattle.dyndep_file.specs.BuildTokens.{symbol_of, is_word};
 ghost use Rattle.dyndep_file.specs.inner.LineReading.{PassesOr, ReadsLine};
-ghost use Rattle.dyndep_file.specs.ProgressViews.{progress_value};
 
 use crate::build_line::is_keyword;
 use crate::fault::{LineFault, ReadFault};
@@ -22,8 +21,8 @@ pub(crate) fn read_line(
     progress: &mut Progress,
     line: Line<'_>,
 ) -> Result<(), Failure<ReadFault>>
-    ensures { ReadsLine (progress_value progress.old) (seen_line line.entry) result
-        (progress_value progress.new) }
+    ensures { ReadsLine progress.old (seen_line line.entry) result
+        progress.new }
 {
     let number = line.number();
     read_text(alloc, progress, line).map_err(|failure| failure.map(|fault| ReadFault::AtLine {
@@ -41,7 +40,7 @@ fn read_text(
     ensures { let view = seen_line line.entry in
         PassesOr (text_line_fault progress.old.stage view.text view.comment)
         (TextIsOfClass view.text view.comment)
-        (progress_value progress.old) result (progress_value progress.new) }
+        progress.old result progress.new }
 {
     if line.is_comment() {
         return Ok(());
@@ -64,7 +63,7 @@ fn read_tokens(
     requires all { tokens_left tokens ≡ seen_tokens (seen_line line).text }
     ensures { PassesOr (text_line_fault progress.old.stage (seen_line line.entry).text false)
         (TextIsOfClass (seen_line line.entry).text false)
-        (progress_value progress.old) result (progress_value progress.new) }
+        progress.old result progress.new }
 {
     let mut tokens = tokens;
     let Some(first) = tokens.next() else {

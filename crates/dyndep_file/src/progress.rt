@@ -8,13 +8,13 @@ ghost use Rattle.dyndep_file.specs.Faults.{value_assigned, indented_fault, versi
 ghost use Rattle.dyndep_file.specs.Steps.{step, with_last_restat};
 ghost use Rattle.dyndep_file.specs.BuildTokens.{symbols_left};
 ghost use Rattle.dyndep_file.specs.inner.LineReading.{PassesOr, IsBuildOf, IsBindingOf, IsVersionOf, IsVersionLineOf, with_name};
-ghost use Rattle.dyndep_file.specs.ProgressViews.{progress_value};
 
 use crate::build_line::{is_same, statement};
 use crate::fault::LineFault;
 use crate::statement::Statement;
 use ninja_text::{Assignment, Failure, Words};
 use std::alloc::{AllocError, Global};
+use std::marker::Model;
 
 /// What stands before a line, and so which lines may come next.
 #[derive(Clone, Copy)]
@@ -34,10 +34,18 @@ pub(crate) struct Progress {
     pub(crate) statements: Vec<Statement>,
 }
 
+impl Model for Progress {
+    ghost use Rattle.dyndep_file.specs.Steps.{ProgressValue};
+
+    ghost Value = { ProgressValue };
+
+    ghost view = { λ p. record { stage = p.stage; statements = p.statements.items } };
+}
+
 /// A blank line: it closes the open statement.
 pub(crate) fn blank_line(progress: &mut Progress)
-    ensures { step progress.old.stage (progress_value progress.old).statements Blank
-        ≡ Some (progress_value progress.new) }
+    ensures { step progress.old.stage progress.old.statements Blank
+        ≡ Some progress.new }
 {
     match progress.stage {
         Stage::BeforeVersion | Stage::NoneOpen => {}
@@ -54,7 +62,7 @@ pub(crate) fn indented_line(
     ensures { let view = option_map seen_assignment assignment.entry in
         let restat = is_some (value_assigned (codes "restat") view) in
         PassesOr (indented_fault progress.old.stage restat)
-        (IsBindingOf view) (progress_value progress.old) result (progress_value progress.new) }
+        (IsBindingOf view) progress.old result progress.new }
 {
     match progress.stage {
         Stage::BeforeVersion => return Err(Failure::Fault(LineFault::NoVersion)),
@@ -78,7 +86,7 @@ pub(crate) fn build_line(
 ) -> Result<(), Failure<LineFault>>
     ensures { PassesOr (build_fault progress.old.stage (symbols_left words.entry))
         (IsBuildOf (symbols_left words.entry))
-        (progress_value progress.old) result (progress_value progress.new) }
+        progress.old result progress.new }
 {
     match progress.stage {
         Stage::BeforeVersion => return Err(Failure::Fault(LineFault::NoVersion)),
@@ -99,7 +107,7 @@ pub(crate) fn version_or_other_line(
     ensures { let view = option_map seen_assignment assignment.entry in
         let version = value_assigned (codes "ninja_dyndep_version") view in
         PassesOr (unindented_fault progress.old.stage version None)
-        (IsVersionLineOf view) (progress_value progress.old) result (progress_value progress.new) }
+        (IsVersionLineOf view) progress.old result progress.new }
 {
     let Some(version) = named(assignment, b"ninja_dyndep_version") else {
         return Err(Failure::Fault(other_line(progress.stage)));
@@ -118,7 +126,7 @@ fn version_line(
 ) -> Result<(), Failure<LineFault>>
     ensures { let value = value_of (seen_assignment version.entry).raw_value in
         PassesOr (version_fault progress.old.stage value)
-        (IsVersionOf value) (progress_value progress.old) result (progress_value progress.new) }
+        (IsVersionOf value) progress.old result progress.new }
 {
     match progress.stage {
         Stage::BeforeVersion => {}

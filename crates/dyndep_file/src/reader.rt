@@ -22,11 +22,10 @@ pub struct DyndepReader {
 
 impl Model for DyndepReader {
     ghost use Rattle.dyndep_file.specs.Reader.{Reader};
-    ghost use Rattle.dyndep_file.specs.ReaderViews.{reader_value};
 
     ghost Value = { Reader };
 
-    ghost view = { reader_value };
+    ghost view = { λ r. r.lines };
 }
 
 impl DyndepReader {
@@ -79,7 +78,7 @@ impl DyndepReader {
 /// The statements of a text whose lines were all read, if a version line was among them; else the
 /// fault, at the next line.
 fn answer_at_end(progress: Progress, next_line: u64) -> Result<Dyndep, Failure<ReadFault>>
-    ensures { result ≡ answer_at_end progress.stage progress.statements.items next_line }
+    ensures { result ≡ answer_at_end progress.stage progress.statements next_line }
 {
     let Progress { stage, statements } = progress;
     match stage {
@@ -94,12 +93,11 @@ fn answer_at_end(progress: Progress, next_line: u64) -> Result<Dyndep, Failure<R
 impl LineState for Progress {
     type Fault = ReadFault;
 
-    ghost use Rattle.dyndep_file.specs.ProgressViews.{progress_value};
     ghost use Rattle.dyndep_file.specs.inner.LineStates.{PassesLine, RefusesLine, fault_of_cutter};
 
-    ghost passes = { λ old line new. PassesLine (progress_value old) line (progress_value new) };
+    ghost passes = { PassesLine };
 
-    ghost refuses = { λ old line fault. RefusesLine (progress_value old) line fault };
+    ghost refuses = { RefusesLine };
 
     ghost of_cutter = { fault_of_cutter };
 

@@ -9,16 +9,10 @@ pub use Rattle.ninja_text.proofs.Shape.{shape}
 pub use Rattle.ninja_text.proofs.CutLemmas.{AllByRecursion-append}
 -- Lines put one behind another.
 pub use Rattle.ninja_text.proofs.CutLemmas.{joined}
--- The end of a line is within the bytes, and past their first.
-pub use Rattle.ninja_text.proofs.CutLemmas.{end_fits}
--- What follows a line changes nothing of its end, and the bytes up to the end are a line.
-pub use Rattle.ninja_text.proofs.CutLemmas.{line_end-append, front_is_line}
--- Every text is divided into lines and a rest, and in one way only.
-pub use Rattle.ninja_text.proofs.CutLemmas.{divides_some, divides_one}
--- A cutter where no line waits, and that has not failed, is a working one.
-pub use Rattle.ninja_text.proofs.FeedLemmas.{working, is_working}
--- A line whose end is not within the limit is longer than the limit.
-pub use Rattle.ninja_text.proofs.FeedLemmas.{too_long}
+-- What follows a line changes nothing of its end.
+pub use Rattle.ninja_text.proofs.CutLemmas.{line_end-append}
+-- Every text is divided into lines and a rest.
+pub use Rattle.ninja_text.proofs.CutLemmas.{divides_some}
 -- In a text that begins with a space, neither a token nor an assignment's name begins at the first byte.
 pub use Rattle.ninja_text.proofs.StartLemmas.{token_indented, name_indented}
 -- The name of an assignment is a slice of the text, and begins behind the first blank run.
@@ -62,6 +56,14 @@ pub use Rattle.ninja_text.proofs.SpelledTexts.{First, written_first}
 pub use Rattle.ninja_text.proofs.Indexed.{same_some, from_map, to_map, in_append, in_first, in_second, from_push, from_take, in_take, map_take, take_next}
 -- Lists in which all differ, and what a search for a text says of them.
 pub use Rattle.ninja_text.proofs.Repetitions.{differ_push, not_among, found_if, new_if}
+-- A text of a format whose lines and ends are decided stands for one value or has one fault, not both.
+pub use Rattle.ninja_text.proofs.LineFormats.{one_value, not_both, value_or_fault, one_fault}
+-- Lines of some classes, and after them lines of others; the bytes of one line more.
+pub use Rattle.ninja_text.proofs.LineFormats.{AreOfClasses-append, one_more_line}
+-- What a reader lent of a format's lines: all of a text, or what comes next is faulty.
+pub use Rattle.ninja_text.proofs.FormatReading.{all_lent, faulty_next, faulty_rest, faulty_at_limit}
+-- What a reader of a format's lines answers and leaves.
+pub use Rattle.ninja_text.proofs.FormatReading.{fed, none_refused}
 
 -- The test of what can be spelled means what the record says.
 pub is_writable-meaning : (path : List ℕ) → IsTrue (is_writable path) ↔ IsWritable path

@@ -17,7 +17,9 @@ pub mod ScanLemmas
 pub mod ScanLists
 pub mod ReachLemmas
 pub mod CutLemmas
+pub mod LineFormats
 pub mod FeedLemmas
+pub mod FormatReading
 pub mod PieceLemmas
 pub mod TokenLemmas
 pub mod StartLemmas

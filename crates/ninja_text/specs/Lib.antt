@@ -19,6 +19,8 @@ pub mod Scanning
 pub mod Cutting
 pub mod LineViews
 pub mod LineReading
+pub mod LineFormats
+pub mod FormatReading
 pub mod Phases
 pub mod CutterViews
 pub mod Lending

@@ -3,7 +3,7 @@ use Rattle.std.specs.Prelude.{◌≡◌, ℕ, List, slice_get, Option, Some, Non
 use Rattle.dyndep_file.specs.StatementValue.{StatementValue}
 use Rattle.build_effect.specs.EdgeValue.{EdgeValue}
 use Rattle.build_effect.specs.Faults.{IsMadeBefore, NoneMadeBefore, added_outputs}
-use Rattle.build_effect.specs.Firsts.{IsFirst}
+use Rattle.ninja_text.specs.Firsts.{IsFirstAt}
 use Rattle.build_effect.specs.inner.Makers.{AreMakers}
 use Rattle.build_effect.specs.declared.fault.EffectFault.{EffectFault}
 use Rattle.build_effect.specs.declared.fault.EffectFault.TheVariants.{AddedTwice}
@@ -12,7 +12,7 @@ use Rattle.build_effect.specs.declared.fault.EffectFault.TheVariants.{AddedTwice
 abbrev pub FindsMade : List EdgeValue → List (List ℕ) → Option ℕ → Type 0
 FindsMade g files None =
     (k : ℕ) (file : List ℕ) → slice_get files k ≡ Some file → IsMadeBefore g files k file → ⊥
-FindsMade g files (Some k) = (file : List ℕ) × IsFirst (IsMadeBefore g files) files k file
+FindsMade g files (Some k) = (file : List ℕ) × IsFirstAt (IsMadeBefore g files) files k file
 
 -- the same in every graph that has these makers
 abbrev pub FindsMadeIn : (List ℕ → Option ℕ) → List (List ℕ) → Option ℕ → Type 0
@@ -26,7 +26,7 @@ AddsFresh maker additions = (g : List EdgeValue) → AreMakers g maker → NoneM
 abbrev pub IsFirstMade : List EdgeValue → List StatementValue → EffectFault → Type 0
 IsFirstMade g additions fault =
     (k : ℕ) × (file : List ℕ)
-    × IsFirst (IsMadeBefore g (added_outputs additions)) (added_outputs additions) k file
+    × IsFirstAt (IsMadeBefore g (added_outputs additions)) (added_outputs additions) k file
     × (fault ≡ AddedTwice file)
 
 -- the same in every graph that has these makers

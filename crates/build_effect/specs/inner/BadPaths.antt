@@ -3,7 +3,7 @@ use Rattle.std.specs.Prelude.{◌≡◌, ℕ, ◌+◌, List, Err}
 use Rattle.ninja_text.specs.Paths.{path_of}
 use Rattle.ninja_text.specs.declared.fault.PathFault.{PathFault}
 use Rattle.dyndep_file.specs.StatementValue.{StatementValue}
-use Rattle.build_effect.specs.Firsts.{IsFirst}
+use Rattle.ninja_text.specs.Firsts.{IsFirst}
 use Rattle.build_effect.specs.Faults.{path_texts, IsRefused, HasRefused}
 use Rattle.build_effect.specs.declared.fault.EffectFault.{EffectFault}
 use Rattle.build_effect.specs.declared.fault.EffectFault.TheVariants.{BadPath}
@@ -18,7 +18,7 @@ IsBadText text k j fault =
 -- `from` in its statement
 abbrev pub IsBadTextFrom : List (List ℕ) → ℕ → ℕ → EffectFault → Type 0
 IsBadTextFrom texts k from fault =
-    (j : ℕ) × (text : List ℕ) × IsFirst (λ _ text. IsRefused text) texts j text
+    (j : ℕ) × (text : List ℕ) × IsFirst IsRefused texts j text
     × IsBadText text k (from + j) fault
 
 -- the fault reports the first of the statement's texts that is no path
@@ -28,5 +28,5 @@ IsBadTextOf s k fault = IsBadTextFrom (path_texts s) k 0 fault
 -- the fault reports the first statement with a text that is no path, and in it the first such text
 abbrev pub IsBadStatement : List StatementValue → EffectFault → Type 0
 IsBadStatement statements fault =
-    (k : ℕ) × (s : StatementValue) × IsFirst (λ _ s. HasRefused s) statements k s
+    (k : ℕ) × (s : StatementValue) × IsFirst HasRefused statements k s
     × IsBadTextOf s k fault

@@ -4,8 +4,8 @@ use Rattle.dyndep_file.specs.StatementValue.{StatementValue}
 use Rattle.build_effect.specs.EdgeValue.{EdgeValue}
 use Rattle.build_effect.specs.Graphs.{Makes, Names}
 use Rattle.build_effect.specs.Effect.{IsOn, IsBound}
-use Rattle.build_effect.specs.Firsts.{IsFirst}
-use Rattle.build_effect.specs.inner.Repetitions.{RepeatsFirst}
+use Rattle.ninja_text.specs.Firsts.{IsFirst, IsFirstAt}
+use Rattle.ninja_text.specs.Firsts.{RepeatsFirst}
 use Rattle.build_effect.specs.declared.fault.EffectFault.{EffectFault}
 use Rattle.build_effect.specs.declared.fault.EffectFault.TheVariants.{NotBound, StatementTwice, NotMentioned}
 
@@ -32,7 +32,7 @@ pub record AreEdgesOf (g : List EdgeValue) (name : List ℕ) (additions : List S
 -- the fault reports the first statement whose output no edge that names the file makes
 abbrev pub IsFirstUnbound : List EdgeValue → List ℕ → List StatementValue → EffectFault → Type 0
 IsFirstUnbound g name additions fault =
-    (k : ℕ) × (a : StatementValue) × IsFirst (λ _ a. IsBound g name a → ⊥) additions k a
+    (k : ℕ) × (a : StatementValue) × IsFirst (λ a. IsBound g name a → ⊥) additions k a
     × (fault ≡ NotBound a.output)
 
 -- the statement on an edge, if there is one
@@ -61,5 +61,5 @@ HaveStatements g name statement_of =
 abbrev pub IsFirstUnmentioned : List EdgeValue → List ℕ → List (Option ℕ) → EffectFault → Type 0
 IsFirstUnmentioned g name statement_of fault =
     (i : ℕ) × (e : EdgeValue) × (output : List ℕ)
-    × IsFirst (λ i e. Names name e × (statement_on statement_of i ≡ None)) g i e
+    × IsFirstAt (λ i e. Names name e × (statement_on statement_of i ≡ None)) g i e
     × (slice_get e.outputs 0 ≡ Some output) × (fault ≡ NotMentioned output)

@@ -2,11 +2,12 @@ use Rattle.std.proofs.Common.{ℕ, List, Bor, map, refl, sym, subst, ◌∙◌, 
 use Rattle.std.proofs.lemmas.Option.{slice_get_read, slice_get_within}
 use Rattle.std.proofs.lemmas.List.{length-map}
 use Rattle.build_effect.specs.inner.Makers.{maker_in}
-use Rattle.build_effect.specs.inner.Repetitions.{AllDiffer}
-use Rattle.build_effect.proofs.Lists.{to_map}
+use Rattle.ninja_text.specs.Firsts.{AllDiffer}
+use Rattle.ninja_text.proofs.ForCallers.{to_map}
 use Rattle.build_effect.proofs.Bindings.{none_if, some_if}
 use Rattle.build_effect.proofs.MadeBefore.{none_before, made_here, repeated_here, more_unmade}
-use Rattle.build_effect.proofs.Repetitions.{repeats_if_there, keys_if_new, differ_if_new, map_take}
+use Rattle.build_effect.proofs.Repetitions.{repeats_if_there, keys_if_new, differ_if_new}
+use Rattle.ninja_text.proofs.ForCallers.{map_take}
 use Rattle.build_effect.proofs.added.first_made_or_seen.Goals as goal
 
 abbrev text_of : Bor (List ℕ) → List ℕ

@@ -4,7 +4,7 @@ use Rattle.std.proofs.lemmas.List.{length-map, take_all}
 use Rattle.std.proofs.lemmas.Option.{slice_get_read}
 use Rattle.build_effect.specs.inner.BadPaths.{IsBadText, IsBadTextFrom}
 use Rattle.build_effect.specs.Effect.{ArePaths}
-use Rattle.build_effect.proofs.Lists.{to_map}
+use Rattle.ninja_text.proofs.ForCallers.{to_map}
 use Rattle.build_effect.proofs.Failures.{for_fault}
 use Rattle.build_effect.proofs.PathTexts.{more_paths, first_bad}
 use Rattle.build_effect.proofs.addition.canonical_paths.Goals as goal

@@ -4,7 +4,7 @@ use Rattle.dyndep_file.specs.StatementValue.{StatementValue}
 use Rattle.build_effect.specs.EdgeValue.{EdgeValue}
 use Rattle.build_effect.specs.Effect.{extended}
 use Rattle.build_effect.specs.inner.Extended.{IsEdgeAfter}
-use Rattle.build_effect.proofs.Lists.{same_some}
+use Rattle.ninja_text.proofs.ForCallers.{same_some}
 use Rattle.build_effect.proofs.extending.edge_after.Goals as goal
 use Rattle.build_effect.proofs.extending.edge_after.Goals.{in-Some+in_ok-extend-in-Some, in-None}
 

@@ -1,5 +1,5 @@
 use Rattle.std.proofs.Common.{◌≡◌, map, take}
-use Rattle.build_effect.specs.inner.Repetitions.{AllDiffer}
+use Rattle.ninja_text.specs.Firsts.{AllDiffer}
 use Rattle.build_effect.proofs.files.first_seen.Given as goal
 
 abbrev pub invariant-loop-file_index : goal.invariant-loop-file_index

@@ -3,8 +3,8 @@ use Rattle.std.specs.Prelude.{slice_get}
 use Rattle.std.proofs.lemmas.Option.{slice_get_read, slice_get_within}
 use Rattle.std.proofs.lemmas.List.{length-map}
 use Rattle.build_effect.specs.Faults.{made_files}
-use Rattle.build_effect.specs.inner.Repetitions.{FindsRepetition, RepeatsFirst}
-use Rattle.build_effect.proofs.Lists.{to_map}
+use Rattle.ninja_text.specs.Firsts.{FindsRepetition, RepeatsFirst}
+use Rattle.ninja_text.proofs.ForCallers.{to_map}
 use Rattle.build_effect.proofs.MadeFiles.{made_once, first_of_repetition}
 use Rattle.build_effect.proofs.graph_checks.check_made.Goals as goal
 

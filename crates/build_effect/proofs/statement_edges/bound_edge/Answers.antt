@@ -3,7 +3,7 @@ use Rattle.std.proofs.lemmas.Option.{slice_get_read, slice_get_within}
 use Rattle.build_effect.specs.inner.Makers.{maker_in}
 use Rattle.build_effect.specs.EdgeValue.{EdgeValue}
 use Rattle.build_effect.specs.Graphs.{made_by}
-use Rattle.build_effect.proofs.Lists.{same_some}
+use Rattle.ninja_text.proofs.ForCallers.{same_some}
 use Rattle.build_effect.proofs.Bindings.{unbound_maker, no_maker}
 use Rattle.build_effect.proofs.statement_edges.bound_edge.Goals as goal
 

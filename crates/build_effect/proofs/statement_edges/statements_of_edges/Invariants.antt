@@ -1,5 +1,5 @@
 use Rattle.std.proofs.Common.{take}
-use Rattle.build_effect.specs.inner.Repetitions.{AllDiffer}
+use Rattle.ninja_text.specs.Firsts.{AllDiffer}
 use Rattle.build_effect.specs.inner.StatementEdges.{AreInverse}
 use Rattle.build_effect.proofs.statement_edges.statements_of_edges.Given as goal
 

@@ -7,7 +7,6 @@ use Rattle.dyndep_file.specs.Classes.{Blank, TextIsOfClass, begins_with_space}
 use Rattle.dyndep_file.specs.Faults.{value_assigned, indented_fault, unindented_fault}
 use Rattle.dyndep_file.specs.BuildTokens.{symbols_left}
 use Rattle.dyndep_file.specs.inner.LineReading.{PassesOr, IsBuildOf, IsBindingOf, IsVersionLineOf}
-use Rattle.dyndep_file.specs.ProgressViews.{progress_value}
 use Rattle.dyndep_file.proofs.LineLemmas.{passes_as, blank, keyword_text, keyword_class, indented_text, binding_class, other_text, version_class}
 use Rattle.dyndep_file.proofs.line.read_tokens.Goals as goal
 
@@ -22,15 +21,15 @@ returns-then-begins_build_line c =
     let others = tokens_left c.next.new.self in
     let all = sym c.in-Some.ensures.steps ∙ c.requires.all in
     let begins = sym c.begins_build_line.ensures ∙ c.if-begins_build_line.true in
-    passes_as (IsBuildOf (symbols_left c.next.new.self)) (TextIsOfClass text false) (progress_value c.args.progress.now) c.build_line.result (progress_value c.build_line.new.progress)
+    passes_as (IsBuildOf (symbols_left c.next.new.self)) (TextIsOfClass text false) c.args.progress.now c.build_line.result c.build_line.new.progress
     (keyword_text text c.requires.sound stage head others all begins) (keyword_class text c.requires.sound stage head others all begins) c.build_line.ensures
 
 pub returns-then-begins_with_space : goal.returns-then-begins_with_space
 returns-then-begins_with_space c =
     let text = (seen_line c.args.line).text in
     let stage = c.args.progress.now.stage in
-    let old = progress_value c.args.progress.now in
-    let new = progress_value c.indented_line.new.progress in
+    let old = c.args.progress.now in
+    let new = c.indented_line.new.progress in
     let all = sym c.in-Some.ensures.steps ∙ c.requires.all in
     let indent : begins_with_space text ≡ true = ap begins_with_space (sym c.text.ensures) ∙ sym c.begins_with_space.ensures ∙ c.if-begins_with_space.true in
     passes_as (IsBindingOf (assignment_of text)) (TextIsOfClass text false) old c.indented_line.result new
@@ -42,8 +41,8 @@ pub returns-else-begins_with_space : goal.returns-else-begins_with_space
 returns-else-begins_with_space c =
     let text = (seen_line c.args.line).text in
     let stage = c.args.progress.now.stage in
-    let old = progress_value c.args.progress.now in
-    let new = progress_value c.version_or_other_line.new.progress in
+    let old = c.args.progress.now in
+    let new = c.version_or_other_line.new.progress in
     let all = sym c.in-Some.ensures.steps ∙ c.requires.all in
     let indent : begins_with_space text ≡ false = ap begins_with_space (sym c.text.ensures) ∙ sym c.begins_with_space.ensures ∙ c.if-begins_with_space.false in
     passes_as (IsVersionLineOf (assignment_of text)) (TextIsOfClass text false) old c.version_or_other_line.result new
