@@ -58,15 +58,14 @@ drop_item : (edges : List EdgeValue) (i : ℕ) (e : EdgeValue) → i < length ed
 drop_item edges i e within is = rw add-one (drop-cons edges i e within ∙ ap (λ z. z ∷ drop (suc i) edges) (sym is))
 
 -- the text so far, with one more edge's
-pub text_goes_on : (edges : List EdgeValue) (i : ℕ) (e : EdgeValue) (text line new : List ℕ) → i < length edges → e ≡ get_or edges i e → line ≡ edge_line e
-    → new ≡ ((text ++ line) ++ dyndep_line e.dyndep) ++ restat_line e.restat → text ++ listing_text (drop i edges) ≡ listing_text edges
+pub text_goes_on : (edges : List EdgeValue) (i : ℕ) (e : EdgeValue) (text new : List ℕ) → i < length edges → e ≡ get_or edges i e
+    → new ≡ ((text ++ edge_line e) ++ dyndep_line e.dyndep) ++ restat_line e.restat → text ++ listing_text (drop i edges) ≡ listing_text edges
     → new ++ listing_text (drop (i + 1) edges) ≡ listing_text edges
-text_goes_on edges i e text line new within is l n so_far =
+text_goes_on edges i e text new within is n so_far =
     let rest = listing_text (drop (i + 1) edges) in
     let d = dyndep_line e.dyndep in
     let r = restat_line e.restat in
-    let is_new : new ≡ text ++ ((edge_line e ++ d) ++ r) =
-    n ∙ ap (λ y. ((text ++ y) ++ d) ++ r) l ∙ ap (λ y. y ++ r) (append_assoc text (edge_line e) d) ∙ append_assoc text (edge_line e ++ d) r in
+    let is_new : new ≡ text ++ ((edge_line e ++ d) ++ r) = n ∙ ap (λ y. y ++ r) (append_assoc text (edge_line e) d) ∙ append_assoc text (edge_line e ++ d) r in
     ap (λ x. x ++ rest) is_new ∙ append_assoc text ((edge_line e ++ d) ++ r) rest ∙ ap (λ xs. text ++ listing_text xs) (sym (drop_item edges i e within is)) ∙ so_far
 
 -- no build line so far is too long, nor is one more that keeps the limit

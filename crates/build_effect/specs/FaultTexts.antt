@@ -1,4 +1,4 @@
--- How faults are printed: code and name, and of a text that is no path where it stands and why.
+-- How faults are printed: code and name, and of a text that is no path where it is and why.
 use Rattle.std.specs.Prelude.{ℕ, List, ◌++◌, Option, Some, None, codes}
 use Rattle.std.specs.Fmt.{decimal}
 use Rattle.ninja_text.specs.FaultTexts.{path_fault_text}

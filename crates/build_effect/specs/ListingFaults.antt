@@ -38,12 +38,12 @@ as_class (BuildRow texts) = Build texts
 as_class (DyndepRow text) = Dyndep text
 as_class (RestatRow flag) = Restat flag
 
--- After lines of these classes a line of this row may stand, whatever its texts are.
+-- After lines of these classes a line of this row may come, whatever its texts are.
 abbrev pub MayStand : List Class → Row → Type 0
 MayStand classes row = Begins (classes ++ as_class row ∷ [])
 
 -- The cause of a line after lines of these classes, by its text without the end, and by whether it
--- is a comment: its first lexical fault; or it has none, and is of no row that may stand here; or
+-- is a comment: its first lexical fault; or it has none, and is of no row that may come here; or
 -- it is of one, and the first of its texts that is no path is none for this reason.
 abbrev pub IsTextCause : List Class → List ℕ → Bool → LineCause → Type 0
 IsTextCause classes text comment (Lexical fault) =

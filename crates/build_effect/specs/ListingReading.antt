@@ -94,7 +94,7 @@ OneCause =
     (classes : List Class) (line : List ℕ) (cause other : LineCause)
     → IsLineCause classes line cause → IsLineCause classes line other → other ≡ cause
 
--- Law: a line that is of a class has no cause but its form: lines of that form may not stand there.
+-- Law: a line that is of a class has no cause but its form: lines of that form may not come there.
 abbrev pub ClassHasForm : Type 0
 ClassHasForm =
     (classes : List Class) (line : List ℕ) (cause : LineCause) (c : Class)

@@ -1,5 +1,5 @@
 -- The text of an edge listing (Ninja 1.11 manual, "Build statements"), and what a call that writes
--- it answers and leaves behind.
+-- it answers and leaves.
 use Rattle.std.specs.Prelude.{◌≡◌, ℕ, ◌+◌, Bool, if◌then◌else◌, nat_lt, List, [], ◌∷◌, ◌++◌, length, codes, Option, Some, None, Result, Ok, Err, ⊤}
 use Rattle.std.specs.List.{flat_map}
 use Rattle.ninja_text.specs.Bytes.{line_feed}
@@ -19,7 +19,7 @@ abbrev pub part_text : List ℕ → List (List ℕ) → List ℕ
 part_text mark [] = []
 part_text mark (path ∷ paths) = mark ++ flat_map spaced (path ∷ paths)
 
--- what stands on the left of the colon, and on its right
+-- what is on the left of the colon, and on its right
 abbrev pub left_text : EdgeValue → List ℕ
 left_text e =
     codes "build" ++ flat_map spaced e.outputs ++ part_text (codes " |") e.implicit_outputs
@@ -69,7 +69,7 @@ text_unless (Some edge) edges = Err (ListingTooLong edge)
 abbrev pub text_or_fault : List EdgeValue → Result (List ℕ) ListingWriteFault
 text_or_fault edges = text_unless (first_too_long edges) edges
 
--- what stands after a call that failed: before the first byte nothing has changed, and an `Io`
+-- what holds after a call that failed: before the first byte nothing has changed, and an `Io`
 -- comes of a failed call
 abbrev pub LeavesWriter : {W : Type 0} → (W → Option (List ℕ)) → Counted W → Counted W → List ℕ
     → Failure ListingWriteFault → Type 0

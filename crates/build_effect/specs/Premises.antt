@@ -17,7 +17,7 @@ AddedOnce additions =
     (k m l n : ℕ) (file : List ℕ) → AddsAt additions k m file → AddsAt additions l n file →
     (k ≡ l) × (m ≡ n)
 
--- the edges that name the file and the objects stand one to one, each edge making its object
+-- the edges that name the file and the objects are one to one, each edge making its object
 pub record NamesExactly (g : List EdgeValue) (name : List ℕ) (objects : List (List ℕ))
     : Type 0 where
   -- each edge that names the file makes exactly one of the objects

@@ -1,5 +1,5 @@
 //! Whether added outputs are made already.
-ghost use Rattle.std.specs.Prelude.{◌≡◌, ◌<◌, [], length, IfSome, IfOk, IfErr, OnOk};
+ghost use Rattle.std.specs.Prelude.{◌≡◌, ◌<◌, length, IfSome, IfOk, IfErr, OnOk};
 ghost use Rattle.ninja_text.specs.Failure.{ForFault};
 ghost use Rattle.build_effect.specs.Faults.{added_outputs};
 ghost use Rattle.build_effect.specs.inner.Added.{AddsFresh, AddsMade, FindsMadeIn};
@@ -46,8 +46,8 @@ fn added_files<'t>(alloc: Global, additions: &'t [Addition]) -> Result<Vec<&'t P
     Ok(files)
 }
 
-/// The index of the first file that an edge makes or that stands earlier in the list, if there is
-/// one. The files are hashed as those of the makers are.
+/// The index of the first file that an edge makes or that is earlier in the list, if there is one.
+/// The files are hashed as those of the makers are.
 fn first_made<S: BuildHasher + Copy>(
     alloc: Global,
     makers: &Makers<'_, S>,
@@ -57,20 +57,6 @@ fn first_made<S: BuildHasher + Copy>(
     ensures within { IfOk result (λ found. IfSome found (λ k. k < length files.now)) }
 {
     let mut seen = IndexSet::with_hasher(alloc, makers.hash_builder());
-    first_made_or_seen(makers, files, &mut seen)
-}
-
-/// The index of the first file that an edge makes or that was passed before, if there is one. The
-/// set is empty, and takes the files that are passed.
-fn first_made_or_seen<'t, S: BuildHasher>(
-    makers: &Makers<'_, S>,
-    files: &[&'t Path],
-    seen: &mut IndexSet<&'t Path, S>,
-) -> Result<Option<usize>, AllocError>
-    requires { seen.old.keys ≡ [] }
-    ensures made { IfOk result (FindsMadeIn (maker_in makers.now.table) (lists files.now)) }
-    ensures within { IfOk result (λ found. IfSome found (λ k. k < length files.now)) }
-{
     for (file_index, file) in files.iter().enumerate() {
         if makers.maker_of(*file).is_some() {
             return Ok(Some(file_index));

@@ -11,13 +11,13 @@ pub struct Edge {
     pub rule: Vec<u8>,
     /// The explicit outputs.
     pub outputs: Vec<Path>,
-    /// The implicit outputs, behind `|` on the left of the colon.
+    /// The implicit outputs, after `|` on the left of the colon.
     pub implicit_outputs: Vec<Path>,
     /// The explicit inputs.
     pub inputs: Vec<Path>,
-    /// The implicit inputs, behind `|` on the right of the colon.
+    /// The implicit inputs, after `|` on the right of the colon.
     pub implicit_inputs: Vec<Path>,
-    /// The order-only inputs, behind `||`.
+    /// The order-only inputs, after `||`.
     pub order_only: Vec<Path>,
     /// The dyndep file that the binding `dyndep` names.
     pub dyndep: Option<Path>,

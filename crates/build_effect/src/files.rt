@@ -1,5 +1,5 @@
-//! Files of edges in one list, lent, and the first that stands there twice.
-ghost use Rattle.std.specs.Prelude.{◌≡◌, ◌++◌, [], IfOk, OnOk};
+//! Files of edges in one list, lent, and the first that is there twice.
+ghost use Rattle.std.specs.Prelude.{◌≡◌, ◌++◌, IfOk, OnOk};
 ghost use Rattle.build_effect.specs.Graphs.{made_by};
 ghost use Rattle.build_effect.specs.Faults.{made_files};
 ghost use Rattle.dep_order.specs.Rows.{lists};
@@ -30,7 +30,7 @@ fn add_made<'t>(edge: &'t Edge, files: &mut Vec<&'t Path>) -> Result<(), AllocEr
     Ok(())
 }
 
-/// Lends the paths, behind those that are there.
+/// Lends the paths, after those that are there.
 pub(crate) fn add_paths<'t>(paths: &'t [Path], files: &mut Vec<&'t Path>) -> Result<(), AllocError>
     ensures { OnOk result (lists files.new.items ≡ lists files.old.items ++ paths.now) }
 {
@@ -40,8 +40,8 @@ pub(crate) fn add_paths<'t>(paths: &'t [Path], files: &mut Vec<&'t Path>) -> Res
     Ok(())
 }
 
-/// The indices of the first file that stands in the list once more: where it stood, and where it
-/// stands again.
+/// The indexes of the first file that is in the list once more: where it was, and where it is
+/// again.
 pub(crate) fn first_repetition<S: BuildHasher + Copy>(
     alloc: Global,
     files: &[&Path],
@@ -50,18 +50,6 @@ pub(crate) fn first_repetition<S: BuildHasher + Copy>(
     ensures { IfOk result (FindsRepetition (lists files.now)) }
 {
     let mut seen = IndexSet::with_hasher(alloc, hash_builder);
-    first_seen(files, &mut seen)
-}
-
-/// The indices of the first file that was passed before: where it stood, and where it stands again.
-/// The set is empty, and takes the files that are passed.
-fn first_seen<'t, S: BuildHasher>(
-    files: &[&'t Path],
-    seen: &mut IndexSet<&'t Path, S>,
-) -> Result<Option<(usize, usize)>, AllocError>
-    requires { seen.old.keys ≡ [] }
-    ensures { IfOk result (FindsRepetition (lists files.now)) }
-{
     for (file_index, file) in files.iter().enumerate() {
         let (first, is_new) = seen.insert_full(*file)?;
         if !is_new {

@@ -32,13 +32,13 @@ pub fn checks()
 
 /// The premises of [`one_effect`] hold of a file and a graph, what the statements add can be
 /// ordered, and the graph with the added outputs alone can be ordered such that the edges that name
-/// the file stand on one level, and the makers of added inputs that are no added outputs below it:
+/// the file are on one level, and the makers of added inputs that are no added outputs below it:
 /// then the graph after the effect can be ordered.
 pub fn level_orders()
     ensures { LevelOrders }
 {}
 
-/// The same of several files: the edges of each stand on one level, and those of a later file on
+/// The same of several files: the edges of each are on one level, and those of a later file on
 /// none that is lower.
 pub fn files_order()
     ensures { FilesOrder }

@@ -9,9 +9,9 @@
 //!   `IsGraphFault`).
 //! - [`ListingReader`] reads a listing of edges that comes in pieces of any size. For every cutting
 //!   the answer is the graph of the edges that the form gives the whole text, or the first faulty
-//!   line, E3, and its cause, or E1 or E2 of those edges (`specs/ListingLines.antt`, `IsOfClass`;
-//!   `specs/ListingGrammar.antt`, `IsListing`; `specs/ListingFaults.antt`, `IsLineCause`;
-//!   `specs/ListingReaders.antt`, `Reads`, `Ends`).
+//!   line, E3, and its cause, or E1 or E2 of those edges (`specs/ListingLines.antt`,
+//!   `TextIsOfClass`; `specs/ListingGrammar.antt`, `IsListing`; `specs/ListingFaults.antt`,
+//!   `IsLineCause`; `specs/ListingReaders.antt`, `Reads`, `Ends`).
 //! - [`listing_write`] writes the listing of a graph byte for byte, or reports the first build line
 //!   that is too long, E9, before the first byte. After a failed write, Y3, a beginning of the text
 //!   went out (`specs/ListingWriting.antt`, `listing_text`, `first_too_long`).
@@ -19,7 +19,7 @@
 //!   graphs: the answer has it, and no other graph does. Else it answers the first fault in the
 //!   order E8, E5, E4, E6, E7, and then no graph has the effect (`specs/Effect.antt`, `OnlyEffect`,
 //!   `HasNoEffect`; `specs/Faults.antt`, `IsEffectFault`).
-//! - [`edge_order`] answers an order in which each edge stands after the makers of its inputs of
+//! - [`edge_order`] answers an order in which each edge is after the makers of its inputs of
 //!   all kinds, or the least cycle (`specs/Graphs.antt`, `EdgeNeeds`).
 //!
 //! The laws are contracts of calls that do nothing. [`one_effect`], [`checks`], [`any_order`],
@@ -32,7 +32,7 @@
 //! (`specs/ListingReading.antt`, `ListingLaws.antt`).
 //!
 //! What a contract sees of a graph is the list of its edges, and of a path its canonical text.
-//! Definitions that only private clauses speak of stand in `specs/inner/`.
+//! Definitions that only private clauses speak of are in `specs/inner/`.
 //!
 //! # How it works
 //!

@@ -20,7 +20,10 @@ impl<'t, S: BuildHasher + Copy> Makers<'t, S> {
     pub(crate) fn of(alloc: Global, edges: &'t [Edge], hash_builder: S) -> Result<Self, AllocError>
         ensures { IfOk result (λ makers. AreMakers edges.now (maker_in makers.table)) }
     {
-        let table = makers_of(alloc, edges, hash_builder)?;
+        let mut table = IndexMap::with_hasher(alloc, hash_builder);
+        for (edge_index, edge) in edges.iter().enumerate() {
+            add_edge(edge, edge_index, &mut table)?;
+        }
         Ok(Makers { table })
     }
 
@@ -39,20 +42,7 @@ impl<S: BuildHasher> Makers<'_, S> {
     }
 }
 
-fn makers_of<'t, S: BuildHasher + Copy>(
-    alloc: Global,
-    edges: &'t [Edge],
-    hash_builder: S,
-) -> Result<IndexMap<&'t Path, usize, S>, AllocError>
-    ensures { IfOk result (λ makers. AreMakers edges.now (maker_in makers)) }
-{
-    let mut makers = IndexMap::with_hasher(alloc, hash_builder);
-    for (edge_index, edge) in edges.iter().enumerate() {
-        add_edge(edge, edge_index, &mut makers)?;
-    }
-    Ok(makers)
-}
-
+/// Puts the edge into the table for each file that it makes.
 fn add_edge<'t, S: BuildHasher>(
     edge: &'t Edge,
     edge_index: usize,
@@ -66,6 +56,7 @@ fn add_edge<'t, S: BuildHasher>(
     Ok(())
 }
 
+/// Puts the edge into the table for these files.
 fn add_files<'t, S: BuildHasher>(
     files: &'t [Path],
     edge_index: usize,

@@ -14,7 +14,7 @@ use ninja_text::Path;
 use std::alloc::{AllocError, Global};
 use std::hash::{BuildHasher, BuildHasherDefault, FoldHasher};
 
-/// The edges, by index, in an order in which they can run: each stands after the makers of its
+/// The edges, by index, in an order in which they can run: each is after the makers of its
 /// inputs of all kinds, and of the edges that may come next the one with the smallest index does.
 /// Where there is no such order, the least cycle: each edge in it needs the next, and the last
 /// needs the first.
@@ -50,21 +50,9 @@ fn needs_of<S: BuildHasher + Copy>(
     ensures { IfOk result (λ needs. AreNeeds edges.now (rows needs.items)) }
 {
     let makers = Makers::of(alloc, edges, hash_builder)?;
-    all_needs(alloc, edges, &makers)
-}
-
-/// The makers of each edge's inputs, given the makers of files.
-fn all_needs<S: BuildHasher>(
-    alloc: Global,
-    edges: &[Edge],
-    makers: &Makers<'_, S>,
-) -> Result<Vec<Vec<usize>>, AllocError>
-    ensures { IfOk result (λ needs.
-        rows needs.items ≡ map (makers_row (maker_in makers.now.table)) edges.now) }
-{
     let mut needs = Vec::with_capacity(alloc, edges.len())?;
     for edge in edges {
-        let row = edge_needs(alloc, edge, makers)?;
+        let row = edge_needs(alloc, edge, &makers)?;
         needs.push(row)?;
     }
     Ok(needs)

@@ -86,7 +86,7 @@ is_version_one (a ∷ rest) = (a == 49) && (ends_number false rest || dot_zero r
 
 -- A line is of this class, by its text without the end, and by whether it is a comment: one holds
 -- any bytes, every other line has no lexical fault. A blank line has no token. A version line
--- assigns a version that is read, and its name stands at the first byte. The paths of a build line
+-- assigns a version that is read, and its name is at the first byte. The paths of a build line
 -- are the values of its words, without escapes. A binding is an indented assignment to `restat`,
 -- and sets the flag where the value is not empty.
 abbrev pub TextIsOfClass : List ℕ → Bool → Class → Type 0

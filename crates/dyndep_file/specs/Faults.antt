@@ -27,7 +27,7 @@ abbrev pub is_empty : {A : Type 0} → List A → Bool
 is_empty [] = true
 is_empty (x ∷ xs) = false
 
--- ---- the columns of the table of lines: what stands before a line
+-- ---- the columns of the table of lines: what comes before a line
 
 -- whether it is the class of a version line
 abbrev pub is_version : Class → Bool
@@ -58,7 +58,7 @@ stage_after classes =
     else NoneOpen
 
 -- ---- the table of build lines: the tokens after the keyword `build`, by the first that may not
--- ---- stand where it does
+-- ---- be where it is
 
 -- the fault of what comes among the implicit inputs
 abbrev pub implicit_inputs_fault : List Symbol → Option LineFault
@@ -77,7 +77,7 @@ after_rule_fault (SignSymbol DoubleBar ∷ more) = Some OrderOnly
 after_rule_fault (SignSymbol BarAt ∷ more) = Some Validation
 after_rule_fault (SignSymbol other ∷ more) = Some BadLine
 
--- the fault of what comes after `:`, where the rule stands, which is `dyndep`, spelled so
+-- the fault of what comes after `:`, where the rule is, which is `dyndep`, spelled so
 abbrev pub rule_fault : List Symbol → Option LineFault
 rule_fault [] = Some BadRule
 rule_fault (WordSymbol word ∷ more) =
@@ -94,7 +94,7 @@ implicit_outputs_fault (SignSymbol BarAt ∷ more) = Some Validation
 implicit_outputs_fault (SignSymbol other ∷ more) = Some BadLine
 
 -- the fault of what comes after the explicit output: `|` begins the implicit outputs, and `:`
--- stands before the rule
+-- comes before the rule
 abbrev pub after_output_fault : List Symbol → Option LineFault
 after_output_fault [] = Some BadLine
 after_output_fault (WordSymbol word ∷ more) = Some SecondOutput

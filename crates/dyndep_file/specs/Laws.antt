@@ -54,7 +54,7 @@ IsTooLong = (index : ℕ) (s : StatementValue) (fault : WriteFault)
     → All IsWritable (paths_of s) → statement_fault index s ≡ Some fault
     → fault ≡ StatementTooLong index
 
--- The fault of a statement behind some that have none is that of the list.
+-- The fault of a statement after some that have none is that of the list.
 abbrev pub FirstFault : Type 0
 FirstFault = (before : List StatementValue) (s : StatementValue) (after : List StatementValue)
     (fault : WriteFault) → write_fault before ≡ None

@@ -1,4 +1,4 @@
--- Which lists of statements can't be written, and what a call that writes leaves behind.
+-- Which lists of statements can't be written, and what a call that writes leaves.
 use Rattle.std.specs.Prelude.{◌≡◌, ℕ, ◌+◌, ◌≤◌, nat_lt, not, if◌then◌else◌, List, [], ◌∷◌, ◌++◌, length, All, position, Option, Some, None, option_map, Result, Ok, Err, ⊤}
 use Rattle.std.specs.Option.{option_or}
 use Rattle.ninja_text.specs.declared.counting.Counted.{Counted}
@@ -47,7 +47,7 @@ pub record CanBeWritten (s : StatementValue) : Type 0 where
   pub paths : All IsWritable (paths_of s)
   pub line : length (build_line s) ≤ line_limit
 
--- what stands after a call that failed: before the first byte nothing has changed, and an `Io`
+-- what holds after a call that failed: before the first byte nothing has changed, and an `Io`
 -- comes of a failed call
 abbrev pub LeavesWriter : {W : Type 0} → (W → Option (List ℕ)) → Counted W → Counted W → List ℕ
     → Failure WriteFault → Type 0

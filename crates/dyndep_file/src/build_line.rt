@@ -1,5 +1,5 @@
 //! A build line's tokens after its keyword, from the left to the right: the statement that they
-//! name, or the fault of the first that may not stand where it does.
+//! name, or the fault of the first that may not be where it is.
 ghost use Rattle.std.specs.Prelude.{◌≡◌, ◌==◌, [], ◌∷◌, codes, IfOk};
 ghost use Rattle.std.specs.List.{list_any};
 ghost use Rattle.ninja_text.specs.Bytes.{dollar};

@@ -25,11 +25,11 @@ pub enum LineFault {
     BadVersion,
     /// A second version line.
     SecondVersion,
-    /// An indented line under no statement: no build line stands before it, or a blank line or a
+    /// An indented line under no statement: no build line comes before it, or a blank line or a
     /// binding came in between.
     Indent,
     /// The line is neither a version line, a build line, a binding, a comment nor blank, or it is a
-    /// build line that breaks off or has a `|` or `:` where none may stand.
+    /// build line that breaks off or has a `|` or `:` where none may be.
     BadLine,
     /// No explicit output follows `build`.
     NoOutput,

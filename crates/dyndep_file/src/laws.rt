@@ -40,7 +40,7 @@ pub fn long_lines()
     ensures statements { IsTooLong }
 {}
 
-/// The fault of a statement behind some without a fault is that of the list, whatever comes after.
+/// The fault of a statement after some without a fault is that of the list, whatever comes after.
 pub fn first_fault()
     ensures { FirstFault }
 {}

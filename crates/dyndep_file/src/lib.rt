@@ -18,7 +18,7 @@
 //! - [`laws`] proves of those definitions that a text has one list of statements or a fault, and
 //!   not both.
 //!
-//! Definitions that only private clauses speak of stand in `specs/inner/`.
+//! Definitions that only private clauses speak of are in `specs/inner/`.
 //!
 //! It stands on `ninja_text`, which cuts the lines, finds their tokens, spells paths and counts
 //! failed calls, and on `thiserror`, which derives `Error` for its faults.

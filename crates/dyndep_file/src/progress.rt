@@ -16,7 +16,7 @@ use ninja_text::{Assignment, Failure, Words};
 use std::alloc::{AllocError, Global};
 use std::marker::Model;
 
-/// What stands before a line, and so which lines may come next.
+/// What comes before a line, and so which lines may come next.
 #[derive(Clone, Copy)]
 pub(crate) enum Stage {
     /// No version line has come.
@@ -98,7 +98,7 @@ pub(crate) fn build_line(
     Ok(())
 }
 
-/// A line that is neither indented nor a build line: a version line, or one that may stand nowhere.
+/// A line that is neither indented nor a build line: a version line, or one that may come nowhere.
 pub(crate) fn version_or_other_line(
     alloc: Global,
     progress: &mut Progress,
@@ -118,7 +118,7 @@ pub(crate) fn version_or_other_line(
     version_line(alloc, progress, version)
 }
 
-/// A version line: it stands once, before all statements, and its value is `1` or `1.0`.
+/// A version line: it comes once, before all statements, and its value is `1` or `1.0`.
 fn version_line(
     alloc: Global,
     progress: &mut Progress,
@@ -140,7 +140,7 @@ fn version_line(
     Ok(())
 }
 
-/// The fault of a line that may stand nowhere.
+/// The fault of a line that may come nowhere.
 fn other_line(stage: Stage) -> LineFault
     ensures { result ≡ other_fault stage }
 {

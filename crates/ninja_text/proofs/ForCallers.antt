@@ -1,4 +1,4 @@
--- What other crates cite: the lemmas behind the promises of this crate, for needs of their own. They
+-- What other crates cite: the lemmas that the promises rest on of this crate, for needs of their own. They
 -- are as settled as the public contracts; the other lemmas may change.
 use Rattle.std.proofs.Common.{IsTrue, ◌↔◌, ℕ, List}
 use Rattle.ninja_text.specs.Escapes.{is_writable, IsWritable}

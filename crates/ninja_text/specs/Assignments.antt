@@ -70,7 +70,7 @@ with_bytes text a =
 abbrev pub assignment_of : List ℕ → Option SeenAssignment
 assignment_of text = option_map (with_bytes text) (assignment_indexes text)
 
--- The name has at least one byte and stands at its index in the text, and the value is what the
+-- The name has at least one byte and is at its index in the text, and the value is what the
 -- text ends with, after the name.
 pub record LiesIn (text : List ℕ) (a : SeenAssignment) : Type 0 where
   pub some : 0 < length a.name

@@ -1,5 +1,5 @@
--- What a cutter holds, what its calls do to that, and how it stands to all bytes taken and all
--- lines lent.
+-- What a cutter holds, what its calls do to that, and how that is related to all bytes taken and
+-- all lines lent.
 use Rattle.std.specs.Prelude.{◌≡◌, ℕ, ◌+◌, ◌-◌, ◌≤◌, Bool, true, false, nat_le, if◌then◌else◌, min, List, [], ◌∷◌, ◌++◌, length, take, Option, Some, None, Result, Ok, Err}
 use Rattle.std.specs.List.{flat_map, AllByRecursion}
 use Rattle.ninja_text.specs.Lines.{line_limit, LineEnd, line_end, text_of, is_comment, Divides, LogicalLine, logical_lines, number_after, line_feeds_in}

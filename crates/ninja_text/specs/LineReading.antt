@@ -60,7 +60,7 @@ BeginsRefused refuses number rest fault =
     × (seen : LogicalLine) × (seen ≡ record (logical_line [] line) { number = number })
     × refuses seen fault
 
--- Behind these lines comes one that is too long, or that this state refuses, with this fault. Any
+-- After these lines comes one that is too long, or that this state refuses, with this fault. Any
 -- bytes may come after the line.
 abbrev pub IsNextFault : {S F : Type 0} → Refuses S F → (CutFault → F)
     → List ℕ → List LogicalLine → S → F → Type 0
@@ -103,7 +103,7 @@ abbrev pub StaysRefused : {S F : Type 0} → LinesRead S F → Result Unit (Fail
 StaysRefused {S} {F} old result new =
     (failure : Failure F) → old.failed ≡ Some failure → (result ≡ Err failure) × (new ≡ old)
 
--- What `feed` answers and leaves: more lines were lent, and all passed; or the next one behind
+-- What `feed` answers and leaves: more lines were lent, and all passed; or the next one after
 -- those that passed has this fault, or memory was refused. By all bytes fed, this call's with them,
 -- and by the lines lent before.
 abbrev pub FeedsLines : {S F : Type 0} → Passes S → Refuses S F → (CutFault → F)

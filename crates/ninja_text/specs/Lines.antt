@@ -20,7 +20,7 @@ is_comment (b ∷ bytes) = if b == space then is_comment bytes else b == hash
 abbrev pub line_units : List ℕ → List LineUnit
 line_units bytes = if is_comment bytes then map Byte bytes else units bytes
 
--- where a line ends: the length of what stands before the end, and that of the line
+-- where a line ends: the length of what is before the end, and that of the line
 pub record LineEnd : Type 0 where
   pub text_len : ℕ
   pub line_len : ℕ
@@ -78,12 +78,12 @@ pub record LogicalLine : Type 0 where
   pub number : ℕ
   pub comment : Bool
 
--- a line that stands after these bytes
+-- a line after these bytes
 abbrev pub logical_line : List ℕ → List ℕ → LogicalLine
 logical_line before line =
     record { text = text_of line; number = number_after before; comment = is_comment line }
 
--- lines that stand one after another, after these bytes
+-- lines one after another, after these bytes
 abbrev pub logical_lines : List ℕ → List (List ℕ) → List LogicalLine
 logical_lines before [] = []
 logical_lines before (line ∷ lines) =

@@ -31,7 +31,7 @@ IsValuePiece (d ∷ b ∷ []) value = (d ≡ dollar) × (b ≡ value) × IsTrue 
 IsValuePiece (d ∷ b ∷ c ∷ more) value = ⊥
 
 -- The raw text of a value stands for these bytes: it is a piece for each of them, with a gap before
--- each piece and at the end. The spaces behind a continuation are the gap's, so that a space is a
+-- each piece and at the end. The spaces after a continuation are the gap's, so that a space is a
 -- piece only where there is no gap before it.
 abbrev pub SpellsValue : List ℕ → List ℕ → Type 0
 SpellsValue raw [] = IsGap raw

@@ -13,7 +13,7 @@ parts path = reduced (components path)
 abbrev pub parents : List ℕ → ℕ
 parents path = prefix_len is_parent (parts path)
 
--- the names behind them
+-- the names after them
 abbrev pub names : List ℕ → List (List ℕ)
 names path = drop (parents path) (parts path)
 

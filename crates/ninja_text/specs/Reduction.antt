@@ -19,7 +19,7 @@ is_parent c = bytes_eq c (dot ∷ dot ∷ [])
 abbrev pub is_name : List ℕ → Bool
 is_name c = not (is_current c || is_parent c)
 
--- what one step deletes: an empty component or `.`, or a name and the `..` behind it
+-- what one step deletes: an empty component or `.`, or a name and the `..` after it
 abbrev pub IsDeletable : List (List ℕ) → Type 0
 IsDeletable [] = ⊥
 IsDeletable (c ∷ []) = IsTrue (is_current c)

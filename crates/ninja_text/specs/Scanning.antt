@@ -36,7 +36,7 @@ step_of Return b = plain_step b
 step_of Dollar b = if b == carriage_return then Some DollarReturn else Some Plain
 step_of DollarReturn b = if b == line_feed then Some Plain else plain_step b
 
--- the end of a line whose LF stands at this index
+-- the end of a line whose LF is at this index
 abbrev pub scan_end : ℕ → ScanState → Scanned
 scan_end index Return = End (index - 1) (index + 1)
 scan_end index CommentReturn = End (index - 1) (index + 1)

@@ -22,7 +22,7 @@ may_follow may_end [] = may_end
 may_follow may_end (u ∷ us) =
     if is_piece u then may_follow true us else is_continuation u && may_follow false us
 
--- whether units are a word: pieces, between which continuations may stand
+-- whether units are a word: pieces, between which continuations may come
 abbrev pub is_word : List LineUnit → Bool
 is_word [] = false
 is_word (u ∷ us) = is_piece u && may_follow true us

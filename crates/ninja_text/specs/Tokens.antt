@@ -14,7 +14,7 @@ pub record TokenAt : Type 0 where
   pub start : ℕ
   pub end : ℕ
 
--- what may stand between two tokens: a space or a continuation
+-- what may come between two tokens: a space or a continuation
 abbrev pub is_blank : LineUnit → Bool
 is_blank (Continuation len) = true
 is_blank (Escape b) = false

@@ -12,7 +12,7 @@ use crate::fault::LexFault;
 use crate::line::Line;
 use crate::unit::unit_at;
 
-/// Where the parts of an assignment stand: the name, and the value, which goes to the end.
+/// Where the parts of an assignment are: the name, and the value, which goes to the end.
 #[derive(Drop)]
 pub(crate) struct AssignmentIndexes {
     pub(crate) name_start: usize,
@@ -24,7 +24,7 @@ pub(crate) struct AssignmentIndexes {
 /// lexical fault.
 ///
 /// The name begins at the line's first byte that is not blank, `=` follows it, and the value goes
-/// to the line's end; spaces and continuations may stand between them.
+/// to the line's end; spaces and continuations may come between them.
 pub fn assignment(line: Line<'_>) -> Result<Option<Assignment<'_>>, LexFault>
     requires { (seen_line line).comment ≡ false }
     ensures found { IsAssignment (seen_line line.entry) result }
@@ -46,7 +46,7 @@ pub fn assignment(line: Line<'_>) -> Result<Option<Assignment<'_>>, LexFault>
     }
 }
 
-/// Where the parts of the assignment stand that a text is.
+/// Where the parts of the assignment are that a text is.
 fn indexes_in(text: &[u8]) -> Option<AssignmentIndexes>
     ensures value { result ≡ assignment_indexes text.now }
     ensures within { IfSome result (λ a. (a.name_start < a.name_end)

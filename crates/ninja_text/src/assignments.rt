@@ -31,7 +31,7 @@ impl<'a> Assignment<'a> {
         self.name
     }
 
-    /// The rest of the line after `=` and what is blank behind it, escapes and continuations
+    /// The rest of the line after `=` and what is blank after it, escapes and continuations
     /// included.
     pub fn raw_value(&self) -> &'a [u8]
         ensures { result.now ≡ (seen_assignment self.now).raw_value }

@@ -11,7 +11,7 @@ use std::io::{Read, Write};
 ///
 /// Every `Read` has, and no more is known of its calls than the library says of all readers. Where
 /// more is known of a source, it can say so: `reads` relates the source before a call, the source
-/// after it, the call's answer, and what then stands in the buffer.
+/// after it, the call's answer, and what is then in the buffer.
 pub trait ReadCall {
     // the bytes that calls will give from here on, where they are known
     ghost remaining: { Self → Option (List ℕ) };

@@ -34,7 +34,7 @@ fn has_suspect(text: &[u8]) -> bool
     text.iter().any(|b| matches!(*b, b'$' | 0 | b'\r'))
 }
 
-/// The fault of a unit that stands at an index.
+/// The fault of a unit at an index.
 fn fault_at(index: usize, unit: LineUnit) -> Option<LexFault>
     ensures { result ≡ unit_fault index unit }
 {

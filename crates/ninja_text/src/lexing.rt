@@ -87,8 +87,8 @@ fn bar_at(text: &[u8], start: usize) -> (TokenKind, usize)
     (TokenKind::Bar, start + 1)
 }
 
-/// Where the word ends whose first piece stands at an index: after its last piece, and before the
-/// continuations behind it.
+/// Where the word ends whose first piece is at an index: after its last piece, and before the
+/// continuations after it.
 fn word_end(text: &[u8], start: usize) -> usize
     requires in_text { start < length text.now }
     requires begins { BeginsPiece text.now start }

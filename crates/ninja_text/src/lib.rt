@@ -12,6 +12,11 @@
 //!   (`specs/Lines.antt`, `specs/Cutting.antt`), and its buffer never passes [`LINE_LIMIT`] bytes.
 //! - [`LineReader`] reads bytes that come so into a [`LineState`], line by line: it answers the
 //!   state that all lines lead to, or the first line that is refused (`specs/LineReading.antt`).
+//! - What a text stands for, and which fault it has, is defined once for all formats whose lines are
+//!   each of a class (`specs/LineFormats.antt`), and what a reader of one has read too
+//!   (`specs/FormatReading.antt`). That a text has the one or the other, and only one, is proved of
+//!   each format whose single lines and ends have.
+//! - `specs/Firsts.antt` has words for what comes first in a list, for the crates above.
 //! - [`words`] gives all tokens of a line in order (`specs/Tokens.antt`), and [`assignment`] its
 //!   name and value (`specs/Assignments.antt`), or the line's first lexical fault
 //!   (`specs/Lexical.antt`). The rules are those of the Ninja 1.11 manual, "Lexical syntax"; these
@@ -25,7 +30,7 @@
 //! - How [`PathFault`], [`CutFault`] and [`LexFault`] are printed is proved too
 //!   (`specs/FaultTexts.antt`).
 //!
-//! Definitions that private clauses alone speak of stand below `specs/inner/`, and what other
+//! Definitions that private clauses alone speak of are below `specs/inner/`, and what other
 //! crates cite of the proofs in `proofs/ForCallers.antt`. The crate stands on `std`, and on
 //! `thiserror`, which derives `Error` for its faults.
 //!

@@ -6,7 +6,7 @@ pub const LINE_LIMIT: usize = 1_048_576;
 
 /// A logical line, lent by the cutter that holds its bytes.
 ///
-/// Continuations stand in its text as they were read: they belong to the line, and its end does
+/// Its text has continuations as they were read: they belong to the line, and its end does
 /// not.
 #[derive(Clone, Copy, Debug)]
 pub struct Line<'a> {

@@ -19,7 +19,7 @@ use std::marker::Model;
 pub const PATH_LIMIT: usize = 4096;
 
 /// A canonical path: the text that is left when empty components and `.` are deleted, and a name
-/// together with a `..` behind it, until neither can be done. An absolute path keeps the slash that
+/// together with a `..` after it, until neither can be done. An absolute path keeps the slash that
 /// it begins with, and a relative one the `..` that it begins with. Nothing is looked up in a file
 /// system.
 ///
@@ -78,7 +78,7 @@ impl Path {
 /// The canonical path that a text names in a work directory, as seen from a build directory, which
 /// has to be absolute.
 ///
-/// An empty text has no path (N1). A relative text is read behind the work directory and a slash,
+/// An empty text has no path (N1). A relative text is read after the work directory and a slash,
 /// unless there is no work directory or it is empty; an absolute one is read as it is. Where the
 /// build directory's components are a proper beginning of an absolute result's components, they are
 /// taken off and the result is relative.
@@ -110,7 +110,7 @@ pub fn place(
     }
 }
 
-/// A relative text behind its work directory.
+/// A relative text after its work directory.
 fn joined(alloc: Global, work: &[u8], path: &[u8]) -> Result<Vec<u8>, AllocError>
     ensures { IfOk result (λ text. text.items ≡ work.now ++ 47 ∷ path.now) }
 {
@@ -167,7 +167,7 @@ fn seen(
     }
 }
 
-/// What of an absolute path's list stands below a build directory, where the directory is a proper
+/// What of an absolute path's list is below a build directory, where the directory is a proper
 /// beginning of it.
 fn below<'t>(build: &Path, list: &'t [u8]) -> Option<&'t [u8]>
     requires { is_rooted build.now ≡ true }
@@ -179,7 +179,7 @@ fn below<'t>(build: &Path, list: &'t [u8]) -> Option<&'t [u8]>
     list.strip_prefix(directory)?.strip_prefix(b"/")
 }
 
-/// A list behind the slash that an absolute path begins with.
+/// A list after the slash that an absolute path begins with.
 fn with_root(mut list: Vec<u8>) -> Result<Vec<u8>, AllocError>
     ensures { IfOk result (λ text. text.items ≡ 47 ∷ list.items) }
 {

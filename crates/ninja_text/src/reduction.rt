@@ -82,7 +82,7 @@ pub(crate) fn is_rooted(text: &[u8]) -> bool
     }
 }
 
-/// Puts a component behind a canonical list, and takes the step that applies then, if there is one.
+/// Puts a component after a canonical list, and takes the step that applies then, if there is one.
 fn put(list: &mut Vec<u8>, component: &[u8]) -> Result<(), AllocError>
     ensures { OnOk result ((before : List (List ℕ)) → EachLacksSlash before
         → list.old.items ≡ list_text (reduced before)
@@ -103,7 +103,7 @@ fn put(list: &mut Vec<u8>, component: &[u8]) -> Result<(), AllocError>
     }
 }
 
-/// Writes a component behind a list.
+/// Writes a component after a list.
 fn append(list: &mut Vec<u8>, component: &[u8]) -> Result<(), AllocError>
     ensures { OnOk result (list.new.items ≡ appended list.old.items component.now) }
 {

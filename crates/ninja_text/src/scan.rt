@@ -28,7 +28,7 @@ pub(crate) enum Scanned {
     Open(ScanState),
 }
 
-/// Scans bytes that stand at an index of the line, up to its end.
+/// Scans bytes at an index of the line, up to its end.
 pub(crate) fn scan_bytes(index: usize, from: ScanState, bytes: &[u8]) -> Scanned
     requires { index + length bytes.now < 2 ^ 64 }
     ensures { result ≡ scan_from index from bytes.now }
@@ -96,7 +96,7 @@ fn plain_state(byte: u8) -> Option<ScanState>
     }
 }
 
-/// The end of a line whose LF stands at an index: a CR just before it belongs to the end.
+/// The end of a line whose LF is at an index: a CR just before it belongs to the end.
 fn line_ended(index: usize, before: ScanState) -> Scanned
     requires { index + 1 < 2 ^ 64 }
     ensures { result ≡ scan_end index before }

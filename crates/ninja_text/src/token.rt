@@ -19,7 +19,7 @@ pub enum TokenKind {
     Colon,
 }
 
-/// A token, and where it stands in its line's text.
+/// A token, and where it is in its line's text.
 #[derive(Clone, Copy, Debug)]
 pub struct Token<'a> {
     kind: TokenKind,

@@ -48,7 +48,7 @@ impl LineUnit {
         matches!(self, LineUnit::Continuation(_))
     }
 
-    /// What may stand between two tokens: a space or a continuation.
+    /// What may come between two tokens: a space or a continuation.
     pub(crate) fn is_blank(&self) -> bool
         ensures { result ≡ is_blank self.now }
     {
@@ -119,7 +119,7 @@ fn first_unit(bytes: &[u8]) -> LineUnit
     LineUnit::Escape(second)
 }
 
-/// How many spaces stand at the front.
+/// How many spaces are at the front.
 fn leading_spaces(bytes: &[u8]) -> usize
     ensures value { result ≡ spaces_at bytes.now }
     ensures within { result ≤ length bytes.now }

@@ -8,7 +8,7 @@ use Rattle.build_effect.specs.inner.Makers.{AreMakers}
 use Rattle.build_effect.specs.declared.fault.EffectFault.{EffectFault}
 use Rattle.build_effect.specs.declared.fault.EffectFault.TheVariants.{AddedTwice}
 
--- the index of the first file that an edge makes or that stands earlier in the list, or none
+-- the index of the first file that an edge makes or that is earlier in the list, or none
 abbrev pub FindsMade : List EdgeValue → List (List ℕ) → Option ℕ → Type 0
 FindsMade g files None =
     (k : ℕ) (file : List ℕ) → slice_get files k ≡ Some file → IsMadeBefore g files k file → ⊥

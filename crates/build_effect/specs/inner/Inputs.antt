@@ -3,7 +3,7 @@ use Rattle.std.specs.Prelude.{◌≡◌, ℕ, List, slice_get, Some}
 use Rattle.build_effect.specs.EdgeValue.{EdgeValue}
 use Rattle.build_effect.specs.Graphs.{Names, Reads}
 
--- it stands in the list
+-- it is in the list
 abbrev pub Has : {X : Type 0} → List X → X → Type 0
 Has xs x = (j : ℕ) × (slice_get xs j ≡ Some x)
 

@@ -51,7 +51,7 @@ abbrev pub WordPassed : List Symbol → Option SeenToken → List Symbol → Typ
 WordPassed old (Some token) new = old ≡ WordSymbol token.raw ∷ new
 WordPassed old None new = (front_words old ≡ []) × (past_words old ≡ old) × (new ≡ old)
 
--- behind the colon, if there is one, a word is at the front and is passed over
+-- after the colon, if there is one, a word is at the front and is passed over
 abbrev pub RulePassed : Option (List Symbol) → Option SeenToken → List Symbol → Type 0
 RulePassed past (Some token) new = past ≡ Some (WordSymbol token.raw ∷ new)
 RulePassed None None new = Unit {0}

@@ -60,7 +60,7 @@ abbrev pub past_part : Option (List Symbol) → List Symbol → List Symbol
 past_part (Some more) symbols = past_words more
 past_part None symbols = symbols
 
--- what stands on the right of the colon, after these outputs: the rule, then inputs of three kinds
+-- what is on the right of the colon, after these outputs: the rule, then inputs of three kinds
 -- and no more
 abbrev pub right_texts : List (List ℕ) → List (List ℕ) → Option (List Symbol) → Option EdgeTexts
 right_texts outputs implicit_outputs (Some (WordSymbol rule ∷ more)) =
@@ -181,9 +181,9 @@ abbrev pub FindsClass : List ℕ → Bool → Class → Type 0
 FindsClass text comment c =
     (row : Row) × (row_of text comment ≡ Ok row) × (class_of_row row ≡ Ok c)
 
--- ---- where it may stand
+-- ---- where it may come
 
--- whether a line may stand after lines that leave this open: a binding only once under a build
+-- whether a line may come after lines that leave this open: a binding only once under a build
 -- line
 abbrev pub may_stand : Binding → Row → Bool
 may_stand binding CommentRow = true
@@ -233,7 +233,7 @@ with_last_dyndep path es = with_last (λ e. record e { dyndep = Some path }) es
 abbrev pub with_last_restat : Bool → List EdgeValue → List EdgeValue
 with_last_restat flag es = with_last (λ e. record e { restat = flag }) es
 
--- What a line of this class does, where it may stand. A comment changes nothing. A blank line
+-- What a line of this class does, where it may come. A comment changes nothing. A blank line
 -- closes the open edge. A build line opens an edge. A binding sets what it names in the open edge,
 -- once.
 abbrev pub step : Binding → List EdgeValue → Class → Option ListingValue

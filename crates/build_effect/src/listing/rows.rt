@@ -121,7 +121,7 @@ fn edge_texts(alloc: Global, words: Words<'_>) -> Result<Option<EdgeTexts>, Allo
     }
 }
 
-/// What a build line says that has these outputs, this rule, and these tokens behind it.
+/// What a build line says that has these outputs, this rule, and these tokens after it.
 fn right_texts(
     alloc: Global,
     outputs: Vec<Vec<u8>>,
@@ -300,14 +300,14 @@ fn is_rule_name(name: &[u8]) -> bool
     }
 }
 
-/// Whether all bytes may stand in the name of a rule.
+/// Whether all bytes may be in the name of a rule.
 fn are_name_bytes(bytes: &[u8]) -> bool
     ensures { result ≡ list_all is_name_byte bytes.now }
 {
     bytes.iter().all(|b| is_name_byte(*b))
 }
 
-/// Whether a byte may stand in the name of a rule.
+/// Whether a byte may be in the name of a rule.
 fn is_name_byte(byte: u8) -> bool
     ensures { result ≡ is_name_byte byte }
 {

@@ -1,5 +1,5 @@
 //! The writer of edge listings.
-ghost use Rattle.std.specs.Prelude.{◌≡◌, ◌++◌, MatchResult, IfOk, OnOk};
+ghost use Rattle.std.specs.Prelude.{◌≡◌, ◌++◌, MatchResult, OnOk};
 ghost use Rattle.std.specs.List.{flat_map};
 ghost use Rattle.ninja_text.specs.Counting.{held, IsWritten};
 ghost use Rattle.ninja_text.specs.Failure.{Gives};
@@ -44,29 +44,28 @@ fn text_of(alloc: Global, edges: &[Edge]) -> Result<Vec<u8>, Failure<ListingWrit
 {
     let mut text = Vec::new(alloc);
     for (edge_index, edge) in edges.iter().enumerate() {
-        let line = edge_line(alloc, edge)?;
-        if line.len() > LINE_LIMIT {
+        let start = text.len();
+        push_line(&mut text, edge)?;
+        if text.len() - start > LINE_LIMIT {
             return Err(Failure::Fault(ListingWriteFault::ListingTooLong { edge: edge_index }));
         }
-        text.extend_from_slice(&line)?;
-        push_bindings(&mut text, edge)?;
+        push_dyndep(&mut text, &edge.dyndep)?;
+        push_restat(&mut text, edge.restat)?;
     }
     Ok(text)
 }
 
-/// The build line of an edge.
-fn edge_line(alloc: Global, edge: &Edge) -> Result<Vec<u8>, AllocError>
-    ensures { IfOk result (λ line. line.items ≡ edge_line edge.now) }
+/// Appends the build line of an edge.
+fn push_line(text: &mut Vec<u8>, edge: &Edge) -> Result<(), AllocError>
+    ensures { OnOk result (text.new.items ≡ text.old.items ++ edge_line edge.now) }
 {
-    let mut line = Vec::new(alloc);
-    push_left(&mut line, edge)?;
-    line.extend_from_slice(b": ")?;
-    push_right(&mut line, edge)?;
-    line.extend_from_slice(b"\n")?;
-    Ok(line)
+    push_left(text, edge)?;
+    text.extend_from_slice(b": ")?;
+    push_right(text, edge)?;
+    text.extend_from_slice(b"\n")
 }
 
-/// Appends what stands on the left of a build line's colon.
+/// Appends what is on the left of a build line's colon.
 fn push_left(line: &mut Vec<u8>, edge: &Edge) -> Result<(), AllocError>
     ensures { OnOk result (line.new.items ≡ line.old.items ++ left_text edge.now) }
 {
@@ -75,7 +74,7 @@ fn push_left(line: &mut Vec<u8>, edge: &Edge) -> Result<(), AllocError>
     push_part(line, b" |", &edge.implicit_outputs)
 }
 
-/// Appends what stands on the right of a build line's colon.
+/// Appends what is on the right of a build line's colon.
 fn push_right(line: &mut Vec<u8>, edge: &Edge) -> Result<(), AllocError>
     ensures { OnOk result (line.new.items ≡ line.old.items ++ right_text edge.now) }
 {
@@ -83,15 +82,6 @@ fn push_right(line: &mut Vec<u8>, edge: &Edge) -> Result<(), AllocError>
     push_spaced(line, &edge.inputs)?;
     push_part(line, b" |", &edge.implicit_inputs)?;
     push_part(line, b" ||", &edge.order_only)
-}
-
-/// Appends the lines of an edge's bindings.
-fn push_bindings(text: &mut Vec<u8>, edge: &Edge) -> Result<(), AllocError>
-    ensures { OnOk result (text.new.items
-        ≡ text.old.items ++ dyndep_line edge.now.dyndep ++ restat_line edge.now.restat) }
-{
-    push_dyndep(text, &edge.dyndep)?;
-    push_restat(text, edge.restat)
 }
 
 /// Appends the line of the binding `dyndep`, where there is one.

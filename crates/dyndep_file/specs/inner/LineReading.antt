@@ -13,7 +13,7 @@ use Rattle.dyndep_file.specs.declared.fault.LineFault.{LineFault}
 use Rattle.dyndep_file.specs.declared.fault.ReadFault.{ReadFault}
 use Rattle.dyndep_file.specs.declared.fault.ReadFault.TheVariants.{AtLine, Io}
 
--- Either the line is of a class that may stand here, and the statements are those after it, or it
+-- Either the line is of a class that may come here, and the statements are those after it, or it
 -- has this fault, or memory was refused.
 abbrev pub PassesOr : Option LineFault → (Class → Type 0) → ProgressValue
     → Result Unit (Failure LineFault) → ProgressValue → Type 0

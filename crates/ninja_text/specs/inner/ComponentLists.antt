@@ -21,7 +21,7 @@ list_text list = join_with_byte slash list
 abbrev pub reduced_text : List ℕ → List ℕ
 reduced_text text = list_text (parts text)
 
--- a component written behind a list
+-- a component written after a list
 abbrev pub appended : List ℕ → List ℕ → List ℕ
 appended [] component = component
 appended (b ∷ bs) component = (b ∷ bs) ++ slash ∷ component

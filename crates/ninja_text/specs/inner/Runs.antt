@@ -11,7 +11,7 @@ Run test text from to =
     after_run test from (units (drop from text))
     ≡ record { place = to; units = units (drop to text) }
 
--- how many spaces stand at the front
+-- how many spaces are at the front
 abbrev pub spaces_at : List ℕ → ℕ
 spaces_at [] = 0
 spaces_at (b ∷ bytes) = if b == space then 1 + spaces_at bytes else 0

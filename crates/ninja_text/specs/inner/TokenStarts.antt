@@ -1,4 +1,4 @@
--- What stands at an index of a text: a token, a word, a `|`.
+-- What is at an index of a text: a token, a word, a `|`.
 use Rattle.std.specs.Prelude.{◌≡◌, ℕ, ◌+◌, ◌<◌, true, false, List, ◌∷◌, length, drop}
 use Rattle.ninja_text.specs.Bytes.{vertical_bar}
 use Rattle.ninja_text.specs.Units.{units}
@@ -7,7 +7,7 @@ use Rattle.ninja_text.specs.declared.unit.LineUnit.{LineUnit}
 use Rattle.ninja_text.specs.declared.unit.LineUnit.TheVariants.{Byte}
 use Rattle.ninja_text.specs.declared.token.TokenKind.{TokenKind}
 
--- At this index a unit stands, of which this holds.
+-- At this index is a unit, of which this holds.
 abbrev pub BeginsUnit : (LineUnit → Type 0) → List ℕ → ℕ → Type 0
 BeginsUnit P text index =
     (u : LineUnit) × (us : List LineUnit) × (units (drop index text) ≡ u ∷ us) × P u
@@ -16,11 +16,11 @@ BeginsUnit P text index =
 abbrev pub BeginsToken : List ℕ → ℕ → Type 0
 BeginsToken text index = index < length text → BeginsUnit (λ u. is_blank u ≡ false) text index
 
--- At this index a word's first piece stands.
+-- At this index is a word's first piece.
 abbrev pub BeginsPiece : List ℕ → ℕ → Type 0
 BeginsPiece text index = BeginsUnit (λ u. is_piece u ≡ true) text index
 
--- At this index a `|` stands.
+-- At this index is a `|`.
 abbrev pub BeginsBar : List ℕ → ℕ → Type 0
 BeginsBar text index =
     units (drop index text) ≡ Byte vertical_bar ∷ units (drop (index + 1) text)
