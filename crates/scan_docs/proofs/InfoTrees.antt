@@ -1,14 +1,9 @@
 -- The tree that is written for an info is read as that info.
-use Rattle.std.proofs.Common.{◌≡◌, ℕ, ◌+◌, ◌≤◌, List, [], ◌∷◌, Bool, true, false, map, Option, Some, None, option_map, option_and_then, decimal, IsUtf8, refl, sym, ap, ◌∙◌, append-nil, arith}
+use Rattle.std.proofs.Common.{◌≡◌, ℕ, ◌+◌, List, [], ◌∷◌, Bool, true, false, map, Some, None, option_map, decimal, IsUtf8, refl, ap, ◌∙◌, arith}
 use Rattle.std.specs.List.{AllZip, AllByRecursion}
 use Rattle.std.proofs.lemmas.List.Elements.{recursion_from_All}
-use Rattle.json.specs.Json as json
-use Rattle.json.specs.Token.{Token}
-use Rattle.json.specs.Lex.{tokens}
-use Rattle.json.specs.Tree.{depth, items_depth, json_tokens}
-use Rattle.json.proofs.Printed.Trees.{value-json_tokens}
-use Rattle.serde_json.specs.Data.{Data, item, unsigned}
-use Rattle.serde_json.specs.Read.{number_of, of_json, of_items, read, max_depth}
+use Rattle.serde_json.specs.Data.{item, unsigned}
+use Rattle.serde_json.specs.Read.{number_of, of_json, of_items, read}
 use Rattle.serde_json.specs.View.{items_of}
 use Rattle.serde_json.specs.Written.{outline, items_outline}
 use Rattle.serde_json.proofs.Numbers.{number_of-decimal}
@@ -25,27 +20,7 @@ use Rattle.scan_docs.specs.Sound.{IsSound, IsSoundModule, IsSoundInfo}
 use Rattle.scan_docs.proofs.Each.{refusal_after}
 use Rattle.scan_docs.proofs.Elements.{elements_items_of}
 
--- the tokens of a tree
-abbrev pub tree_tokens : Data → List Token
-tree_tokens d = json_tokens (outline d)
-
--- ---- few levels
-
-requirements_flat : (ps : List (List ℕ × List ℕ)) → items_depth (items_outline (items_of (map requirement_tree ps))) ≤ 1
-unfolding requirement_tree
-requirements_flat [] = omega arith
-requirements_flat (p ∷ ps) = omega (arith, requirements_flat ps)
-
-modules_flat : (vs : List ModuleValue) → items_depth (items_outline (items_of (map module_tree vs))) ≤ 3
-unfolding module_tree requirements_tree
-modules_flat [] = omega arith
-modules_flat (v ∷ vs) = omega (arith, requirements_flat v.required, modules_flat vs)
-
-info_flat : (info : InfoValue) → depth (outline (info_tree info)) ≤ max_depth
-unfolding info_tree
-info_flat info = omega (arith, modules_flat info.modules)
-
--- ---- the tokens of the tree are read as the tree
+-- ---- the tree's numbers are read as they were
 
 requirements_read : (ps : List (List ℕ × List ℕ)) → of_items (items_outline (items_of (map requirement_tree ps))) ≡ Some (items_of (map requirement_tree ps))
 unfolding requirement_tree
@@ -57,21 +32,11 @@ unfolding module_tree requirements_tree
 modules_read [] = refl
 modules_read (v ∷ vs) = rw requirements_read (ap (option_map (item (module_tree v))) (modules_read vs))
 
-info_read : (info : InfoValue) → of_json (outline (info_tree info)) ≡ Some (info_tree info)
+pub info_read : (info : InfoValue) → of_json (outline (info_tree info)) ≡ Some (info_tree info)
 unfolding info_tree
 info_read info =
     let two : number_of (decimal 2) ≡ Some (unsigned 2) = number_of-decimal 2 (omega arith) in
     rw (modules_read, two) refl
-
--- the value of a text that has the tokens of a JSON value
-abbrev value_of_tokens : List Token → Option Data
-value_of_tokens ts = option_and_then of_json (option_and_then (λ p. json.if_last p.0 p.1) (json.value max_depth ts))
-
-tokens_read : (info : InfoValue) → value_of_tokens (tree_tokens (info_tree info)) ≡ Some (info_tree info)
-tokens_read info =
-    ap value_of_tokens (sym (append-nil (tree_tokens (info_tree info))))
-    ∙ ap (λ o. option_and_then of_json (option_and_then (λ p. json.if_last p.0 p.1) o)) (value-json_tokens (outline (info_tree info)) max_depth [] (info_flat info))
-    ∙ info_read info
 
 -- ---- all checks hold, and the meaning is the info
 
@@ -130,10 +95,9 @@ info_means info h = record {
   modules = rw (elements_items_of (map module_tree info.modules)) (modules_mean info.modules (recursion_from_All IsSoundModule info.modules h.modules));
 }
 
--- what is written is read as the same info
-pub info_again : (info : InfoValue) (bytes : List ℕ) → IsSoundInfo info → IsUtf8 bytes → tokens bytes ≡ tree_tokens (info_tree info) → ReadsBack info bytes
-info_again info bytes h utf8 same =
-    let is : read bytes ≡ Some (info_tree info) = ap value_of_tokens same ∙ tokens_read info in record {
-      same = λ small. record { small = small; tree = info_tree info; reads = (utf8, is); passes = info_passes info h; meaning = info_means info h };
-      too_large = λ long. large long refl;
-    }
+-- what is read as this tree is read as the info
+pub info_again : (info : InfoValue) (bytes : List ℕ) → IsSoundInfo info → IsUtf8 bytes → read bytes ≡ Some (info_tree info) → ReadsBack info bytes
+info_again info bytes h utf8 is = record {
+  same = λ small. record { small = small; tree = info_tree info; reads = (utf8, is); passes = info_passes info h; meaning = info_means info h };
+  too_large = λ long. large long refl;
+}

@@ -5,6 +5,11 @@ pub mod Dashed
 pub mod Each
 pub mod Values
 pub mod Exact
+pub mod JsonReader
+pub mod JsonStrings
+pub mod InfoTokens
+pub mod InfoParsed
+pub mod InfoUtf8
 pub mod InfoTrees
 pub mod InfoTexts
 pub mod Sending
