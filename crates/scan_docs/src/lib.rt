@@ -20,9 +20,10 @@
 //! - [`DocFault`], [`Place`] and [`Member`] print themselves (`specs/FaultTexts.antt`,
 //!   `specs/Place.antt`, `specs/Member.antt`).
 //!
-//! It stands on `ninja_text` for paths, and on `serde_json` for reading and writing JSON (RFC 8259).
-//! Of `json`, on which `serde_json` stands, a proof cites lemmas, and no code uses it: that the text
-//! of an info is read as that info rests on what the tokens of a text are.
+//! Paths are those of `ninja_text`; JSON (RFC 8259) is read and written by `serde_json`. That the
+//! text of an info is read as that info is proved over what `serde_json` says a text is read as:
+//! the tokens of the text, what they are parsed as, and that the text is UTF-8, each in a file of
+//! `proofs/`.
 #![tactic(auto)]
 
 mod document;
