@@ -4,10 +4,10 @@ use Rattle.serde_json.specs.Data.{Data}
 use Rattle.scan_docs.specs.declared.member.Member.TheVariants as m
 use Rattle.scan_docs.specs.Shape.{texts}
 
--- the member of a project document, texts as they stand
+-- the member of a project document, with its texts as they are
 pub record ProjectValue : Type 0 where
   pub targets : List (List ℕ)
 
--- the member as it stands in the document
+-- the member as it is in the document
 pub record IsProject (d : Data) (p : ProjectValue) : Type 0 where
   pub targets : texts m.Targets d ≡ Some p.targets

@@ -86,7 +86,7 @@ fn read_info(alloc: Global, tree: &Value) -> Result<Info, Failure<DocFault>>
 {
     let with_visibility = read_head(tree)?;
     let target = read_target_name(alloc, tree)?;
-    let values = read_modules(tree)?;
+    let values = shape::required_entries(tree, Member::Modules, Place::Document)?;
     let modules = read_all_modules(alloc, with_visibility, values)?;
     Ok(Info { target, modules })
 }
@@ -97,7 +97,7 @@ fn read_head(tree: &Value) -> Result<bool, Failure<DocFault>>
     ensures { Answers (head_checks (view tree.now))
         (λ with_visibility. with_visibility ≡ has_visibility (view tree.now)) result }
 {
-    shape::object(tree, Member::Document, Place::Document)?;
+    shape::check_object(tree, Member::Document, Place::Document)?;
     read_version(tree)
 }
 
@@ -110,14 +110,6 @@ fn read_version(tree: &Value) -> Result<bool, Failure<DocFault>>
         Some(2) => Ok(true),
         _ => Err(Failure::Fault(DocFault::BadVersion)),
     }
-}
-
-#[tactic(auto, unfolding(crate::specs::InfoChecks::modules_check))]
-fn read_modules<'v>(tree: &'v Value) -> Result<&'v [Value], Failure<DocFault>>
-    ensures { Answers (modules_check (view tree.now))
-        (λ values. entries m.Modules (view tree.now) ≡ Some (map view values.now)) result }
-{
-    shape::required_entries(tree, Member::Modules, Place::Document)
 }
 
 #[tactic(auto, unfolding(crate::specs::InfoChecks::all_module_checks))]
@@ -147,8 +139,8 @@ fn read_module(
         (λ found. IsModule with_visibility (view value.now) found) result }
 {
     let place = Place::Module { number: index };
-    let (name, path) = read_entry_shape(place, value)?;
-    let requirements = read_requires(place, value)?;
+    let (name, path) = read_entry_texts(place, value)?;
+    let requirements = shape::required_entries(value, Member::Requires, place)?;
     let is_private = read_visibility(with_visibility, place, value)?;
     let (name, file) = read_named_file(alloc, place, name, path)?;
     let required = read_all_requirements(alloc, index, requirements)?;
@@ -162,7 +154,7 @@ fn read_module(
 
 /// The texts of a name and a file.
 #[tactic(auto, unfolding(crate::specs::InfoChecks::entry_shape_checks))]
-fn read_entry_shape<'v>(
+fn read_entry_texts<'v>(
     place: Place,
     value: &'v Value,
 ) -> Result<(&'v str, &'v str), Failure<DocFault>>
@@ -170,18 +162,10 @@ fn read_entry_shape<'v>(
         (λ found. (text m.Name (view value.now) ≡ Some found.0.now)
         × (text m.Bmi (view value.now) ≡ Some found.1.now)) result }
 {
-    shape::object(value, Member::Entry, place)?;
+    shape::check_object(value, Member::Entry, place)?;
     let path = shape::required_text(value, Member::Bmi, place)?;
     let name = shape::required_text(value, Member::Name, place)?;
     Ok((name, path))
-}
-
-#[tactic(auto, unfolding(crate::specs::InfoChecks::requires_check))]
-fn read_requires<'v>(place: Place, value: &'v Value) -> Result<&'v [Value], Failure<DocFault>>
-    ensures { Answers (requires_check place (view value.now))
-        (λ values. entries m.Requires (view value.now) ≡ Some (map view values.now)) result }
-{
-    shape::required_entries(value, Member::Requires, place)
 }
 
 /// Whether the module is private.
@@ -255,6 +239,6 @@ fn read_requirement(
     ensures { Answers (requirement_checks place (view value.now))
         (IsRequirement (view value.now)) result }
 {
-    let (name, path) = read_entry_shape(place, value)?;
+    let (name, path) = read_entry_texts(place, value)?;
     read_named_file(alloc, place, name, path)
 }

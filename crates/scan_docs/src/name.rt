@@ -27,7 +27,8 @@ pub struct Name {
     bytes: SmallVec<u8, INLINE_BYTES>,
 }
 
-// Not derived: a derived drop stands, field by field, wherever a value goes.
+// Not derived: the proof of each function that lets a name go would go through a derived drop
+// field by field.
 impl Drop for Name {
     fn drop(self) {
         let Name { bytes: _ } = self;
@@ -74,12 +75,6 @@ impl Name {
     {
         let bytes = SmallVec::from_slice(alloc, self.bytes.as_slice())?;
         Ok(Name { bytes })
-    }
-
-    fn bytes(&self) -> &[u8]
-        ensures { result.now ≡ self.now }
-    {
-        self.bytes.as_slice()
     }
 }
 
@@ -147,7 +142,7 @@ impl PartialEq for Name {
     ghost laws = { partial_equiv_from_equiv nat_list_eq_equiv };
 
     fn eq(&self, other: &Name) -> bool {
-        self.bytes() == other.bytes()
+        self.bytes.as_slice() == other.bytes.as_slice()
     }
 }
 
@@ -173,7 +168,7 @@ impl Ord for Name {
     ghost matches_eq = { Prim.search (comparing, rules) };
 
     fn cmp(&self, other: &Name) -> Ordering {
-        self.bytes().cmp(other.bytes())
+        self.bytes.as_slice().cmp(other.bytes.as_slice())
     }
 }
 

@@ -21,7 +21,7 @@ use serde_json::Value;
 use std::alloc::Global;
 use std::marker::Model;
 
-/// The member of a project document. Texts stand as they are in the document.
+/// The member of a project document. Texts are as in the document.
 #[derive(Drop)]
 pub struct ProjectSpec {
     /// The target documents, in the order of the project.
@@ -57,14 +57,6 @@ fn read_project(alloc: Global, tree: &Value) -> Result<ProjectSpec, Failure<DocF
         (λ project. IsProject (view tree.now) project) result }
 {
     read_head(tree)?;
-    let targets = read_targets(alloc, tree)?;
+    let targets = shape::required_texts(alloc, tree, Member::Targets, Place::Document)?;
     Ok(ProjectSpec { targets })
-}
-
-#[tactic(auto, unfolding(crate::specs::ProjectChecks::targets_check))]
-fn read_targets(alloc: Global, tree: &Value) -> Result<Vec<String>, Failure<DocFault>>
-    ensures { Answers (targets_check (view tree.now))
-        (λ found. texts m.Targets (view tree.now) ≡ Some (map string_bytes found.items)) result }
-{
-    shape::required_texts(alloc, tree, Member::Targets, Place::Document)
 }

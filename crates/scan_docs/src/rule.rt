@@ -86,7 +86,7 @@ fn read_members<'v>(place: Place, rule: &'v Value) -> Result<RuleMembers<'v>, Fa
         × (map view found.provided.now ≡ entries_of m.Provides (view rule.now))
         × (map view found.required.now ≡ entries_of m.Requires (view rule.now))) result }
 {
-    shape::object(rule, Member::Rule, place)?;
+    shape::check_object(rule, Member::Rule, place)?;
     let primary_output = shape::text(rule, Member::PrimaryOutput, place)?;
     let work_directory = shape::text(rule, Member::WorkDirectory, place)?;
     let provided = shape::entries(rule, Member::Provides, place)?;
@@ -168,7 +168,7 @@ fn read_provided(
         (provided_checks setting.now (option_copied work.entry) place (view entry.now))
         (IsProvided setting.now (option_copied work.entry) (view entry.now)) result }
 {
-    shape::object(entry, Member::Entry, place)?;
+    shape::check_object(entry, Member::Entry, place)?;
     let name = shape::required_text(entry, Member::LogicalName, place)?;
     let file = shape::text(entry, Member::CompiledModulePath, place)?;
     let unique = shape::flag(entry, Member::UniqueOnSourcePath, place)?;
@@ -225,7 +225,7 @@ fn read_required(alloc: Global, place: Place, entry: &Value) -> Result<Name, Fai
     ensures { Answers (required_checks place (view entry.now))
         (IsRequired (view entry.now)) result }
 {
-    shape::object(entry, Member::Entry, place)?;
+    shape::check_object(entry, Member::Entry, place)?;
     let name = shape::required_text(entry, Member::LogicalName, place)?;
     let unique = shape::flag(entry, Member::UniqueOnSourcePath, place)?;
     let header = names_header(entry, place)?;

@@ -64,7 +64,7 @@ fn read_head<'v>(tree: &'v Value) -> Result<&'v [Value], Failure<DocFault>>
         (λ rules. map view rules.now ≡ entries_of m.Rules (view tree.now)) result }
 {
     let place = Place::Document;
-    shape::object(tree, Member::Document, place)?;
+    shape::check_object(tree, Member::Document, place)?;
     check_version(tree)?;
     let rules = shape::required_entries(tree, Member::Rules, place)?;
     if rules.len() > COUNT_LIMIT {

@@ -13,8 +13,12 @@ use ninja_text::Failure;
 use serde_json::Value;
 use std::alloc::{AllocError, Global};
 
-/// Whether the value is an object.
-pub(crate) fn object(value: &Value, what: Member, place: Place) -> Result<(), Failure<DocFault>>
+/// The value has to be an object.
+pub(crate) fn check_object(
+    value: &Value,
+    what: Member,
+    place: Place,
+) -> Result<(), Failure<DocFault>>
     ensures { Tests (shape_check place what (is_object (view value.now))) (λ _. Unit {0}) result }
 {
     if value.is_object() {

@@ -29,7 +29,7 @@ use serde_json::Value;
 use std::alloc::{AllocError, Global};
 use std::marker::Model;
 
-/// The members of a target document. Texts stand as they are in the document; only the build
+/// The members of a target document. Texts are as in the document; only the build
 /// directory, which is absolute, is made canonical.
 #[derive(Drop)]
 pub struct TargetSpec {
@@ -121,7 +121,7 @@ fn read_spec(alloc: Global, tree: &Value) -> Result<TargetSpec, Failure<DocFault
 pub(crate) fn read_head(tree: &Value) -> Result<(), Failure<DocFault>>
     ensures { Answers (head_checks (view tree.now)) (λ _. Unit {0}) result }
 {
-    shape::object(tree, Member::Document, Place::Document)?;
+    shape::check_object(tree, Member::Document, Place::Document)?;
     check_version(tree)
 }
 
