@@ -23,22 +23,23 @@ before_brace s r = string_read s (125 ∷ r) (end_object ∷ tokens_after r) ref
 
 -- ---- a list
 
--- how entries are written as tokens, before those behind them
-module _ {X : Type 0} (tree : X → Data) (written : X → List Token → List Token) where
-  abbrev pub list_tokens : List X → List Token → List Token
-  list_tokens [] ts = end_array ∷ ts
-  list_tokens (x ∷ xs) ts = written x (list_tokens xs ts)
+-- entries as tokens, before those behind them
+abbrev pub list_tokens : {X : Type 0} → (X → List Token → List Token) → List X → List Token → List Token
+list_tokens written [] ts = end_array ∷ ts
+list_tokens written (x ∷ xs) ts = written x (list_tokens written xs ts)
 
-  module _ (first : (x : X) (r : List ℕ) → tokens (compact_text (tree x) ++ r) ≡ written x (tokens_after r)) (next : (x : X) (r : List ℕ) → tokens_next (compact_text (tree x) ++ r) ≡ tokens (compact_text (tree x) ++ r)) where
-    later_entries : (xs : List X) (r : List ℕ) → tokens_after (items_text true (items_of (map tree xs)) ++ r) ≡ list_tokens xs (tokens_after r)
-    unfolding serde_json_on_literals
-    later_entries [] r = refl
-    later_entries (x ∷ xs) r = ap tokens_next (append_assoc (compact_text (tree x)) (items_text true (items_of (map tree xs))) r) ∙ next x _ ∙ first x _ ∙ ap (written x) (later_entries xs r)
+module _ {X : Type 0} (tree : X → Data) (written : X → List Token → List Token)
+    (first : (x : X) (r : List ℕ) → tokens (compact_text (tree x) ++ r) ≡ written x (tokens_after r))
+    (next : (x : X) (r : List ℕ) → tokens_next (compact_text (tree x) ++ r) ≡ tokens (compact_text (tree x) ++ r)) where
+  later_entries : (xs : List X) (r : List ℕ) → tokens_after (items_text true (items_of (map tree xs)) ++ r) ≡ list_tokens written xs (tokens_after r)
+  unfolding serde_json_on_literals
+  later_entries [] r = refl
+  later_entries (x ∷ xs) r = ap tokens_next (append_assoc (compact_text (tree x)) (items_text true (items_of (map tree xs))) r) ∙ next x _ ∙ first x _ ∙ ap (written x) (later_entries xs r)
 
-    pub entries : (xs : List X) (r : List ℕ) → tokens (items_text false (items_of (map tree xs)) ++ r) ≡ list_tokens xs (tokens_after r)
-    unfolding serde_json_on_literals
-    entries [] r = refl
-    entries (x ∷ xs) r = ap tokens (append_assoc (compact_text (tree x)) (items_text true (items_of (map tree xs))) r) ∙ first x _ ∙ ap (written x) (later_entries xs r)
+  entries : (xs : List X) (r : List ℕ) → tokens (items_text false (items_of (map tree xs)) ++ r) ≡ list_tokens written xs (tokens_after r)
+  unfolding serde_json_on_literals
+  entries [] r = refl
+  entries (x ∷ xs) r = ap tokens (append_assoc (compact_text (tree x)) (items_text true (items_of (map tree xs))) r) ∙ first x _ ∙ ap (written x) (later_entries xs r)
 
 -- ---- the parts of an info
 
@@ -67,10 +68,10 @@ requirement_next p r = refl
 abbrev pub module_tokens : ModuleValue → List Token → List Token
 module_tokens v ts =
     begin_object ∷ key_token (codes "bmi") ∷ string_token v.file ∷ key_token (codes "name") ∷ string_token v.name
-    ∷ key_token (codes "requires") ∷ begin_array ∷ list_tokens requirement_tree requirement_tokens v.required
+    ∷ key_token (codes "requires") ∷ begin_array ∷ list_tokens requirement_tokens v.required
     (key_token (codes "visibility") ∷ string_token (visibility_text v.is_private) ∷ end_object ∷ ts)
 
-requirements_first : (ps : List (List ℕ × List ℕ)) (r : List ℕ) → tokens (items_text false (items_of (map requirement_tree ps)) ++ r) ≡ list_tokens requirement_tree requirement_tokens ps (tokens_after r)
+requirements_first : (ps : List (List ℕ × List ℕ)) (r : List ℕ) → tokens (items_text false (items_of (map requirement_tree ps)) ++ r) ≡ list_tokens requirement_tokens ps (tokens_after r)
 requirements_first = entries requirement_tree requirement_tokens requirement_first requirement_next
 
 module_ends : (list visibility r : List ℕ) → (list ++ 44 ∷ member_text (codes "visibility") visibility (125 ∷ [])) ++ r ≡ list ++ 44 ∷ member_text (codes "visibility") visibility (125 ∷ r)
@@ -90,7 +91,7 @@ module_first v r =
     ∙ ap (λ ts. begin_object ∷ key_token (codes "bmi") ∷ ts) (before_comma v.file _
     ∙ ap (λ ts. string_token v.file ∷ key_token (codes "name") ∷ ts) (before_comma v.name _
     ∙ ap (λ ts. string_token v.name ∷ key_token (codes "requires") ∷ begin_array ∷ ts) (requirements_first v.required _
-    ∙ ap (λ ts. list_tokens requirement_tree requirement_tokens v.required (key_token (codes "visibility") ∷ ts)) (before_brace (visibility_text v.is_private) r))))
+    ∙ ap (λ ts. list_tokens requirement_tokens v.required (key_token (codes "visibility") ∷ ts)) (before_brace (visibility_text v.is_private) r))))
 
 module_next : (v : ModuleValue) (r : List ℕ) → tokens_next (compact_text (module_tree v) ++ r) ≡ tokens (compact_text (module_tree v) ++ r)
 unfolding module_tree serde_json_on_literals
@@ -98,10 +99,10 @@ module_next v r = refl
 
 abbrev pub info_tokens : InfoValue → List Token
 info_tokens info =
-    begin_object ∷ key_token (codes "modules") ∷ begin_array ∷ list_tokens module_tree module_tokens info.modules
+    begin_object ∷ key_token (codes "modules") ∷ begin_array ∷ list_tokens module_tokens info.modules
     (key_token (codes "target") ∷ string_token info.target ∷ key_token (codes "version") ∷ number_token false (decimal 2) ∷ end_object ∷ [])
 
-modules_first : (vs : List ModuleValue) (r : List ℕ) → tokens (items_text false (items_of (map module_tree vs)) ++ r) ≡ list_tokens module_tree module_tokens vs (tokens_after r)
+modules_first : (vs : List ModuleValue) (r : List ℕ) → tokens (items_text false (items_of (map module_tree vs)) ++ r) ≡ list_tokens module_tokens vs (tokens_after r)
 modules_first = entries module_tree module_tokens module_first module_next
 
 pub info_text_is : (info : InfoValue) → info_text info ≡ 123 ∷ 34 ∷ codes "modules" ++ 34 ∷ 58 ∷ 91 ∷ (items_text false (items_of (map module_tree info.modules)) ++ 44 ∷ member_text (codes "target") info.target (44 ∷ 34 ∷ codes "version" ++ 34 ∷ 58 ∷ 50 ∷ 125 ∷ []))
@@ -113,4 +114,4 @@ unfolding serde_json_on_literals digits
 tokens_of_info info =
     ap tokens (info_text_is info)
     ∙ ap (λ ts. begin_object ∷ key_token (codes "modules") ∷ begin_array ∷ ts) (modules_first info.modules _
-    ∙ ap (λ ts. list_tokens module_tree module_tokens info.modules (key_token (codes "target") ∷ ts)) (before_comma info.target _))
+    ∙ ap (λ ts. list_tokens module_tokens info.modules (key_token (codes "target") ∷ ts)) (before_comma info.target _))

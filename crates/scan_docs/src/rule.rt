@@ -1,6 +1,6 @@
 //! Rules of a scan document.
 
-ghost use Rattle.std.specs.Prelude.{◌≡◌, [], ◌∷◌, ◌++◌, map, Some, Ok, IfOk, OnOk, IsUtf8, option_copied, ◌||◌};
+ghost use Rattle.std.specs.Prelude.{◌≡◌, ◌++◌, map, Some, Ok, IfOk, OnOk, IsUtf8, option_copied, ◌||◌};
 ghost use Rattle.std.specs.List.{AllZip};
 ghost use Rattle.ninja_text.specs.Paths.{placed};
 ghost use Rattle.serde_json.specs.Data.{Data};

@@ -1,6 +1,6 @@
 //! Members of an object, by the shape that they should have.
 
-ghost use Rattle.std.specs.Prelude.{◌≡◌, ◌||◌, Some, map, option_map, option_copied, is_some, IfOk, string_bytes};
+ghost use Rattle.std.specs.Prelude.{◌≡◌, Some, map, option_map, option_copied, is_some, IfOk, string_bytes};
 ghost use Rattle.serde_json.specs.View.{view};
 ghost use Rattle.scan_docs.specs.Check.{shape_check};
 ghost use Rattle.scan_docs.specs.inner.Reading.{Tests};
