@@ -17,7 +17,7 @@ chain_split Needs [] y ys end h = (tt, h)
 chain_split Needs (x ∷ []) y ys end h = (h.0, h.1)
 chain_split Needs (x ∷ next ∷ xs) y ys end h = let rest = chain_split Needs (next ∷ xs) y ys end h.1 in ((h.0, rest.0), rest.1)
 
--- a list that has a thing is what stands before it, the thing, and what stands behind it
+-- a list that has a thing is what is before it, the thing, and what is after it
 pub split_at : (xs : List ℕ) (x : ℕ) → Contains xs x → (before : List ℕ) × (behind : List ℕ) × (xs ≡ before ++ x ∷ behind)
 split_at xs x h =
     (take h.0 xs, drop (h.0 + 1) xs, sym (take-append-drop h.0 xs) ∙ ap (λ ys. take h.0 xs ++ ys) (drop_more xs h.0 x h.1 ∙ ap (λ z. z ∷ drop (h.0 + 1) xs) h.2))

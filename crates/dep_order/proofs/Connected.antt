@@ -164,7 +164,7 @@ added_more users root number node first numbers new_numbers waiting rest next no
 abbrev pub AreConnected : List (List ℕ) → List (Option ℕ) → Type 0
 AreConnected needs numbers = (a b k : ℕ) → mark_of numbers a ≡ Some k → mark_of numbers b ≡ Some k → Reaches (NodeNeeds needs) a b
 
--- Components so far: the first of the postorder are left, and those behind have numbers.
+-- Components so far: the first of the postorder are left, and those after them have numbers.
 pub record AreComponentsSoFar (needs users : List (List ℕ)) (postorder left : List ℕ) (numbers : List (Option ℕ)) : Type 0 where
   pub in_order : AreNumbersFrom users (length left) numbers
   pub connected : AreConnected needs numbers
@@ -223,7 +223,7 @@ more_so_far needs users postorder left rest root numbers new_numbers u p e h in_
     to_need : Implies (LeadsBack (NodeNeeds users)) (NodeNeeds needs)
     to_need thing needed used_by = uses needs users u needed thing used_by
 
-    -- the nodes without a number stand no further back than the root
+    -- the nodes without a number are no further back than the root
     bound : (index : ℕ) → index < length postorder → mark_of numbers (slice_index postorder index) ≡ None → index ≤ length rest
     bound index lt none =
         ⊎_elim

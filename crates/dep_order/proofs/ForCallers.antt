@@ -1,4 +1,4 @@
--- What other crates cite: the lemmas behind the promises of this crate, for needs of their own.
+-- What other crates cite: the lemmas that the promises of this crate rest on, for needs of their own.
 
 -- A sorting, an order, a least cycle or a reach by some needs is one by any needs that hold of the same things.
 pub use Rattle.dep_order.proofs.Transfers.{Implies, sorting_same, orderable_same, order_same, least_cycle_same, cycle_same, chain_same, reaches_same}

@@ -26,7 +26,7 @@ pub record IsBefore (xs ys : List ℕ) : Type 0 where
   pub second_is : ys ≡ alike ++ more ∷ behind_more
   pub below : less < more
 
--- more behind the first list
+-- more after the first list
 pub before_longer : (xs ys zs : List ℕ) → IsBefore xs ys → IsBefore (xs ++ zs) ys
 before_longer xs ys zs h = record {
   alike = h.alike;

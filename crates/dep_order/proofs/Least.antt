@@ -62,14 +62,14 @@ lists_all (suc k) P step (x ∷ xs) e =
         (λ same. subst (λ z. P (z ∷ us)) same.0 (lesser us rest same.1))
         (lower_first n m ts us greater)
 
--- ---- a cycle in which something stands twice is not the shortest
+-- ---- a cycle in which something is twice is not the shortest
 
 none_alike : (x : ℕ) (xs : List ℕ) → ¬ Contains xs x → AllByRecursion (λ y. eqb x y ≡ false) xs
 none_alike x [] lacks = tt
 none_alike x (y ∷ ys) lacks =
     (other_number x y (λ e. lacks (subst (λ z. Contains (z ∷ ys) x) e (has_head x ys))), none_alike x ys (λ h. lacks (has_tail y x ys h)))
 
--- something stands in the list twice
+-- something is in the list twice
 record IsTwice (xs : List ℕ) : Type 0 where
   front : List ℕ
   thing : ℕ
@@ -90,7 +90,7 @@ distinct_or_twice (x ∷ xs) =
     (has_or_not xs x)
 
 module _ (Needs : ℕ → ℕ → Type 0) where
-  -- the cycle without what stands between
+  -- the cycle without what is between
   cut : (front : List ℕ) (x : ℕ) (between behind : List ℕ) → IsCycle Needs (front ++ x ∷ (between ++ x ∷ behind)) → IsCycle Needs (front ++ x ∷ behind) × (first_of (front ++ x ∷ behind) ≡ first_of (front ++ x ∷ (between ++ x ∷ behind)))
   cut [] x between behind h = ((chain_split Needs (x ∷ between) x behind x h).1, refl)
   cut (first ∷ front) x between behind h =

@@ -67,7 +67,7 @@ all_or_missing (x ∷ xs) ys =
 pub count-cons : (x y : ℕ) (xs : List ℕ) → count_of x (y ∷ xs) ≡ one_if (eqb x y) + count_of x xs
 count-cons x y xs = sum_by-cons (λ z. one_if (eqb x z)) y xs
 
--- counted with one more behind
+-- counted with one more at the end
 pub count_push : (x y : ℕ) (xs : List ℕ) → count_of x (xs ++ y ∷ []) ≡ count_of x xs + one_if (eqb x y)
 count_push x y xs = sum_by_push (λ z. one_if (eqb x z)) xs y
 

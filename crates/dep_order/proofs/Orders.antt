@@ -14,11 +14,11 @@ use Rattle.dep_order.proofs.Members.{same, same_itself}
 abbrev pub AreWithin : ℕ → (ℕ → ℕ → Type 0) → Type 0
 AreWithin count Needs = (thing needed : ℕ) → Needs thing needed → (thing < count) × (needed < count)
 
--- the index at which a thing first stands in an order
+-- the index at which a thing first is in an order
 abbrev pub first_index : List ℕ → ℕ → ℕ
 first_index order thing = position_or_len (eqb thing) order
 
--- the first index of a thing is at most any at which it stands
+-- the first index of a thing is at most any at which it is
 pub first_index-le : (order : List ℕ) (thing index : ℕ) → get_or order index thing ≡ thing → index < length order → first_index order thing ≤ index
 first_index-le order thing index at in' =
     ⊎_elim
@@ -26,14 +26,14 @@ first_index-le order thing index at in' =
     (λ le. le)
     (cases_lt index (first_index order thing))
 
--- what an order has stands at its first index
+-- what an order has is at its first index
 pub at_first_index : (order : List ℕ) (thing : ℕ) → Contains order thing → (first_index order thing < length order) × (get_or order (first_index order thing) 0 ≡ thing)
 at_first_index order thing has =
     let le : first_index order thing ≤ has.0 = first_index-le order thing has.0 has.2 has.1 in
     let lt : first_index order thing < length order = omega (arith, has.1) in
     (lt, sym (same thing (get_or order (first_index order thing) 0) (passes_at_first (eqb thing) order 0 lt)))
 
--- each need of what stands in the order stands before it
+-- each need of what is in the order is before it
 pub needed_before : (count : ℕ) (Needs : ℕ → ℕ → Type 0) (order : List ℕ) (thing needed : ℕ) → EachSmallest count Needs order → Contains order thing → Needs thing needed → Contains order needed × (first_index order needed < first_index order thing)
 needed_before count Needs order thing needed each has need =
     let at = at_first_index order thing has in

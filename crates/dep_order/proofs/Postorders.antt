@@ -53,7 +53,7 @@ twice xs y x j few q e f =
     let here : one_if (eqb x y) ≡ 1 = ap one_if (subst (λ z. eqb x z ≡ true) (sym e) (same_itself x)) in
     absurd (omega (arith, few, count-cons x y xs, here, count_from_has x xs (j, q, get_or_default xs j x 0 q ∙ f)))
 
--- what stands once in a list has one index there
+-- what is once in a list has one index there
 pub one_index : (xs : List ℕ) (x i j : ℕ) → count_of x xs ≤ 1 → i < length xs → j < length xs → slice_index xs i ≡ x → slice_index xs j ≡ x → i ≡ j
 one_index [] x i j few p q e f = absurd (omega (arith, p))
 one_index (y ∷ xs) x zero zero few p q e f = refl
@@ -224,7 +224,7 @@ all_left needs seen scanned left all h = record {
   left = λ index needed in' need. ⊎_elim (λ s. s) (λ p. absurd (has_none needed p.0)) (h.settled index needed in' need);
 }
 
--- Where the free nodes stand up to the last of them, what leads to that one by free nodes is led to from it, and so is all between.
+-- Where the free nodes are up to the last of them, what leads to that one by free nodes is led to from it, and so is all between.
 pub led_back : (needs : List (List ℕ)) (postorder : List ℕ) (IsFree : ℕ → Type 0) (last : ℕ) → IsPostorder needs postorder → last < length postorder → ((index : ℕ) → index < length postorder → IsFree (slice_index postorder index) → index ≤ last) → (x : ℕ) (things : List ℕ) (index : ℕ) → IsChain (NodeNeeds needs) (x ∷ things) (slice_index postorder last) → IsFree x → All IsFree things → index < length postorder → slice_index postorder index ≡ x → (k : ℕ) → index ≤ k → k ≤ last → Reaches (NodeNeeds needs) (slice_index postorder last) (slice_index postorder k)
 led_back needs postorder IsFree last p in' bound x [] index need free all lt at k ge le =
     let root : ℕ = slice_index postorder last in

@@ -29,18 +29,18 @@ all_of : (P : ℕ → Type 0) (xs : List ℕ) → ((x : ℕ) → Contains xs x �
 all_of P xs h k d lt = h (get_or xs k d) (Contains-get_or xs k d lt)
 
 module _ (indexes found : List ℕ) (f : AreFound indexes found) where
-  -- a node is found where it stands at its index
+  -- a node is found where it is at its index
   pub found_there : (node index : ℕ) → slice_index indexes node ≡ index → index < length found → slice_index found index ≡ node → Contains found node
   found_there node index at lt is = subst (Contains found) is (Contains-get_or found index 0 lt)
 
-  -- a node that is found stands at its index
+  -- a node that is found is at its index
   pub there_if_found : (node : ℕ) → Contains found node → (slice_index indexes node < length found) × (slice_index found (slice_index indexes node) ≡ node)
   there_if_found node has =
       let at = index_of found node has in
       let index : slice_index indexes node ≡ at.0 = ap (slice_index indexes) (sym at.2) ∙ f.kept at.0 at.1 in
       (omega (arith, index, at.1), ap (slice_index found) index ∙ at.2)
 
-  -- no node stands at two indexes
+  -- no node is at two indexes
   pub found_once : AllPairs (λ one other. one ≢ other) found
   found_once i j d lt in_j same =
       let in_i : i < length found = omega (arith, lt, in_j) in

@@ -4,7 +4,7 @@
 //! Nodes are numbered from 0. `order` answers all nodes, each after what it needs, by smallest
 //! numbers, or else the least cycle; `reach` answers what chains of needs lead to, and `Reaching`
 //! the same from one node after the other. One clause says all of each: `IsSortingOf` of
-//! `specs/Sortings.antt`, which stands on `specs/Orders.antt` and `specs/Cycles.antt`, and
+//! `specs/Sortings.antt`, which rests on `specs/Orders.antt` and `specs/Cycles.antt`, and
 //! `IsReach` and `AreReached` of `specs/Needs.antt`. The only error is want of memory. The module
 //! `laws` has the laws of these definitions: there is at most one order and one least cycle, and an
 //! order exactly where there is no cycle.
@@ -30,7 +30,7 @@
 //!   users, spans, marks, steps and so on.
 //!
 //! Work grows linearly with the nodes and needs, but for a logarithm in ordering nodes, and no call
-//! recurses. The crate stands on `std` alone.
+//! recurses. The crate depends on `std` alone.
 //!
 //! `must-fail/` has a wrong body of each public function but of the laws, which have none.
 //!
@@ -127,8 +127,8 @@ impl Digraph {
 /// The nodes of a digraph in order, or a cycle where they have none.
 #[derive(Debug, PartialEq, Eq, Drop)]
 pub enum Sorting {
-    /// All nodes, each once and after all that it needs. At each index stands the smallest number
-    /// that may stand there.
+    /// All nodes, each once and after all that it needs. At each index is the smallest number that
+    /// may be there.
     Order(Vec<usize>),
     /// A cycle: each node needs the next, and the last needs the first. The first is the least
     /// number on any cycle, no cycle through it is shorter, and of those that are as short this

@@ -1,10 +1,10 @@
-//! Numbers put to nodes, as a search comes to them.
+//! Numbers given to nodes, as a search comes to them.
 ghost use Rattle.std.specs.Prelude.{◌<◌, All, OnOk, length};
 ghost use Rattle.dep_order.specs.inner.Marks.{AreMarked};
 
 use std::alloc::AllocError;
 
-/// Puts the mark to each node of the row that has none, and these nodes behind those that come
+/// Gives the mark to each node of the row that has none, and puts these nodes after those that come
 /// next.
 pub fn mark_row(
     row: &[usize],

@@ -13,8 +13,8 @@ use std::marker::Model;
 #[derive(Drop)]
 pub struct Reaching<'g> {
     graph: &'g Digraph,
-    /// The index of each node among those that are found. A node is found where it stands at its
-    /// index, so what an earlier search left need not be cleared (P. Briggs and L. Torczon, An
+    /// The index of each node among those that are found. A node is found where it is at its index,
+    /// so what an earlier search left need not be cleared (P. Briggs and L. Torczon, An
     /// efficient representation for sparse sets, ACM Letters on Programming Languages and Systems
     /// 2, 1993).
     indexes: Vec<usize>,
@@ -74,7 +74,7 @@ fn search(
     Ok(found)
 }
 
-/// Puts the nodes of the row that aren't found yet behind those that are.
+/// Puts the nodes of the row that aren't found yet after those that are.
 fn find_row(
     row: &[usize],
     indexes: &mut Vec<usize>,

@@ -44,7 +44,7 @@ abbrev pub LeadsFree : List (List ℕ) → List (Option ℕ) → ℕ → ℕ →
 LeadsFree users numbers node root =
     (mark_of numbers node ≡ None) × ((node ≡ root) ⊎ HasFreeChain users numbers node root)
 
--- The root has a number now, and besides it only nodes that had none and that lead to it by such
+-- The root has a number now, and apart from it only nodes that had none and that lead to it by such
 -- nodes; theirs is this one.
 pub record IsNumberAdded (users : List (List ℕ)) (root number : ℕ)
     (numbers new_numbers : List (Option ℕ)) : Type 0 where

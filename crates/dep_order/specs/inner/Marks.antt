@@ -1,4 +1,4 @@
--- Numbers that are put to nodes, one to each at most.
+-- Numbers that are given to nodes, one to each at most.
 use Rattle.std.specs.Prelude.{◌≡◌, ℕ, ◌+◌, List, length, slice_index_or, Contains, Option, Some, None, is_none, count_by, ◌⊎◌}
 
 -- the number at a node, if it has one
@@ -18,7 +18,7 @@ abbrev pub KeepsMarks : List (Option ℕ) → List (Option ℕ) → Type 0
 KeepsMarks marks new_marks =
     (node k : ℕ) → mark_of marks node ≡ Some k → mark_of new_marks node ≡ Some k
 
--- the nodes of the row that had no mark have this one, and come next besides
+-- the nodes of the row that had no mark have this one, and come next too
 pub record AreMarked (row : List ℕ) (mark : ℕ) (marks new_marks : List (Option ℕ))
     (next new_next : List ℕ) : Type 0 where
   pub as_many : length new_marks ≡ length marks

@@ -5,7 +5,7 @@ use Rattle.dep_order.specs.Orders.{EachSmallest}
 use Rattle.dep_order.specs.inner.Users.{count_of}
 
 -- Each user has one missing need less for each time that it is listed, and those with none left are
--- ready besides.
+-- ready too.
 pub record AreReleased (users missing new_missing ready new_ready : List ℕ) : Type 0 where
   pub as_many : length new_missing ≡ length missing
   pub counts : (node : ℕ) →

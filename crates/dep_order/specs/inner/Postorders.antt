@@ -7,23 +7,22 @@ use Rattle.dep_order.specs.inner.Users.{one_if, count_of}
 abbrev pub is_seen : List Bool → ℕ → Bool
 is_seen seen node = slice_index_or seen node false
 
--- the node stands before that index
+-- the node is before that index
 abbrev pub StandsBefore : List ℕ → ℕ → ℕ → Type 0
 StandsBefore left index node = (other : ℕ) × (other < index) × (slice_index left other ≡ node)
 
--- the node stands at that index or behind, and leads to each from the index up to itself
+-- the node is at that index or after it, and leads to each from the index up to itself
 abbrev pub LeadsUpToItself : List (List ℕ) → List ℕ → ℕ → ℕ → Type 0
 LeadsUpToItself needs left index node =
     (other : ℕ) × (index ≤ other) × (other < length left) × (slice_index left other ≡ node)
     × ((k : ℕ) → index ≤ k → k ≤ other → Reaches (NodeNeeds needs) node (slice_index left k))
 
--- the needed node stands before that index, or leads to each node from there up to itself
+-- the needed node is before that index, or leads to each node from there up to itself
 abbrev pub IsBeforeOrLeads : List (List ℕ) → List ℕ → ℕ → ℕ → Type 0
 IsBeforeOrLeads needs left index needed =
     StandsBefore left index needed ⊎ LeadsUpToItself needs left index needed
 
--- Each node stands there once, and what a node needs stands before it or leads to it and all
--- between.
+-- Each node is there once, and what a node needs is before it or leads to it and all between.
 pub record IsPostorder (needs : List (List ℕ)) (postorder : List ℕ) : Type 0 where
   pub nodes : All (λ node. node < length needs) postorder
   pub once : (node : ℕ) → node < length needs → count_of node postorder ≡ 1
