@@ -7,7 +7,7 @@ use Rattle.scan_docs.specs.Info.{InfoValue, ModuleValue}
 use Rattle.build_effect.specs.Premises.{AddsAt}
 use Rattle.module_maps.specs.Values.{ModuleMapValue}
 use Rattle.module_maps.specs.Maps.{Written, AreEntriesOf, AreStyleLaws}
-use Rattle.module_maps.specs.declared.module_map.MapFault.{MapFault}
+use Rattle.module_maps.specs.declared.fault.MapFault.{MapFault}
 use Rattle.module_maps.specs.declared.module_map.MapEntry.{MapEntry}
 use Rattle.collate_core.proofs.ByIndex.{from_map, to_map, same_some, offset, in_flat_map, from_flat_map}
 use Rattle.module_table.specs.TableValue.{TableValue}

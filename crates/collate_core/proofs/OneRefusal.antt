@@ -12,7 +12,7 @@ use Rattle.scan_docs.specs.declared.fault.Place.TheVariants.{Document}
 use Rattle.module_table.specs.TableValue.{TableValue}
 use Rattle.module_table.specs.Outcomes.{OneFault}
 use Rattle.module_maps.specs.Maps.{Written}
-use Rattle.module_maps.specs.declared.module_map.MapFault.{MapFault}
+use Rattle.module_maps.specs.declared.fault.MapFault.{MapFault}
 use Rattle.collate_core.proofs.ByIndex.{same_some, three_ways}
 use Rattle.scan_docs.specs.Values.{rules_of}
 use Rattle.collate_core.specs.Values.{TargetValue}

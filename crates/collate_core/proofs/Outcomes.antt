@@ -15,7 +15,7 @@ use Rattle.module_table.specs.Needed.{IsNeeded}
 use Rattle.module_table.proofs.ForCallers.{one_list_of_pairs}
 use Rattle.module_maps.specs.Values.{ModuleMapValue}
 use Rattle.module_maps.specs.Maps.{Written}
-use Rattle.module_maps.specs.declared.module_map.MapFault.{MapFault}
+use Rattle.module_maps.specs.declared.fault.MapFault.{MapFault}
 use Rattle.collate_core.proofs.ByIndex.{element_at}
 use Rattle.scan_docs.specs.Values.{rules_of, info_of}
 use Rattle.collate_core.specs.Documents.{all_rules, table_of, IsScanAccepted, IsInfoAccepted, AreScansAccepted}

@@ -13,7 +13,7 @@ use Rattle.module_table.specs.TableValue.{TableValue}
 use Rattle.module_table.specs.Faults.{IsReported}
 use Rattle.module_maps.specs.Values.{ModuleMapValue}
 use Rattle.module_maps.specs.Maps.{Written}
-use Rattle.module_maps.specs.declared.module_map.MapFault.{MapFault}
+use Rattle.module_maps.specs.declared.fault.MapFault.{MapFault}
 use Rattle.collate_core.specs.Values.{TargetValue}
 use Rattle.collate_core.specs.Documents.{IsScanAccepted, IsInfoAccepted, AreScansAccepted, AreAccepted, IsResolved, all_rules, rule_limit, table_of}
 use Rattle.collate_core.specs.Statements.{statements_of}

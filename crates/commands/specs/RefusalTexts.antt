@@ -7,8 +7,8 @@ use Rattle.scan_docs.specs.FaultTexts.{doc_fault_text}
 use Rattle.scan_docs.specs.Scan.{SettingValue, RuleValue}
 use Rattle.scan_docs.specs.Values.{info_of}
 use Rattle.scan_docs.specs.declared.fault.DocFault.{DocFault}
-use Rattle.module_maps.specs.declared.module_map.MapFault.{MapFault}
-use Rattle.module_maps.specs.declared.module_map.MapFault.TheVariants.{MapPath, TwoProvided, BadMapLine}
+use Rattle.module_maps.specs.declared.fault.MapFault.{MapFault}
+use Rattle.module_maps.specs.declared.fault.MapFault.TheVariants.{MapPath, TwoProvided, BadMapLine}
 use Rattle.collate_core.specs.Values.{TargetValue}
 use Rattle.collate_core.specs.Documents.{all_rules}
 use Rattle.collate_core.specs.declared.fault.Refusal.{Refusal}

@@ -5,8 +5,8 @@ use Rattle.module_maps.specs.Values.{ModuleMapValue}
 use Rattle.module_maps.specs.Maps.{pairs_of}
 use Rattle.module_maps.specs.MapLines.{first_unfit, nameless, ended, path_in, LineForm, read_lines, lines_of}
 use Rattle.module_maps.specs.declared.module_map.MapEntry.{MapEntry}
-use Rattle.module_maps.specs.declared.module_map.MapFault.{MapFault}
-use Rattle.module_maps.specs.declared.module_map.MapFault.TheVariants.{MapPath}
+use Rattle.module_maps.specs.declared.fault.MapFault.{MapFault}
+use Rattle.module_maps.specs.declared.fault.MapFault.TheVariants.{MapPath}
 
 -- the lines, unless a path is unfit
 abbrev pub bare_text : List (List ℕ × List ℕ) → Option (List ℕ) → Result (List ℕ) MapFault

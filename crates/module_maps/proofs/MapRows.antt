@@ -8,7 +8,7 @@ use Rattle.module_maps.specs.Values.{ModuleMapValue}
 use Rattle.module_maps.specs.MapLines.{path_in, name_in, pair_in, named, nameless}
 use Rattle.module_maps.specs.GccMaps.{gcc_written, gcc_entries}
 use Rattle.module_maps.specs.ClangMaps.{clang_written, clang_entries}
-use Rattle.module_maps.specs.declared.module_map.MapFault.TheVariants.{MapPath, TwoProvided, BadMapLine}
+use Rattle.module_maps.specs.declared.fault.MapFault.TheVariants.{MapPath, TwoProvided, BadMapLine}
 
 abbrev a : List ℕ × List ℕ
 a = (codes "A", codes "mod/A.bmi")

@@ -8,8 +8,8 @@ use Rattle.module_maps.specs.Values.{ModuleMapValue}
 use Rattle.module_maps.specs.Maps.{pairs_of}
 use Rattle.module_maps.specs.MapLines.{first_unfit, named, nameless, ended, behind, path_in, pair_in, LineForm, read_lines, lines_of}
 use Rattle.module_maps.specs.declared.module_map.MapEntry.{MapEntry}
-use Rattle.module_maps.specs.declared.module_map.MapFault.{MapFault}
-use Rattle.module_maps.specs.declared.module_map.MapFault.TheVariants.{MapPath, TwoProvided, BadMapLine}
+use Rattle.module_maps.specs.declared.fault.MapFault.{MapFault}
+use Rattle.module_maps.specs.declared.fault.MapFault.TheVariants.{MapPath, TwoProvided, BadMapLine}
 
 -- the line before that of the provided module's path
 abbrev pub module_flag : List ℕ
@@ -81,13 +81,13 @@ file_entry entries (Some pair) =
 abbrev pub clang_form : LineForm
 clang_form entries line = file_entry entries (file_pair (behind file_flag line))
 
--- the provided module's path, and the lines behind it
+-- the provided module's path, and the lines after it
 abbrev pub read_behind : Option (List ℕ) → List (List ℕ) → Result (List MapEntry) MapFault
 read_behind None lines = Err (BadMapLine 2)
 read_behind (Some path) lines =
     read_lines clang_form (record { name = None; path = path } ∷ []) 3 lines
 
--- the lines behind the first, which says that a module is provided
+-- the lines after the first, which says that a module is provided
 abbrev pub read_provided : List (List ℕ) → Result (List MapEntry) MapFault
 read_provided [] = Err (BadMapLine 2)
 read_provided (last ∷ []) = Err (BadMapLine 2)

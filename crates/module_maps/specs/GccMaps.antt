@@ -6,8 +6,8 @@ use Rattle.module_maps.specs.Values.{ModuleMapValue}
 use Rattle.module_maps.specs.Maps.{pairs_of}
 use Rattle.module_maps.specs.MapLines.{first_unfit, named, ended, pair_in, LineForm, read_lines, lines_of}
 use Rattle.module_maps.specs.declared.module_map.MapEntry.{MapEntry}
-use Rattle.module_maps.specs.declared.module_map.MapFault.{MapFault}
-use Rattle.module_maps.specs.declared.module_map.MapFault.TheVariants.{MapPath}
+use Rattle.module_maps.specs.declared.fault.MapFault.{MapFault}
+use Rattle.module_maps.specs.declared.fault.MapFault.TheVariants.{MapPath}
 
 -- the line of a module, without its end
 abbrev pub gcc_line : List ℕ × List ℕ → List ℕ

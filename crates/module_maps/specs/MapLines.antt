@@ -1,4 +1,4 @@
--- What the styles of module maps share: the paths that stand in a map, and how its lines are read.
+-- What the styles of module maps share: the paths that can be in a map, and how its lines are read.
 use Rattle.std.specs.Prelude.{ℕ, ◌+◌, ◌==◌, Bool, not, ◌&&◌, if◌then◌else◌, nat_le, List, [], ◌∷◌, ◌++◌, length, take, drop, option_map, Option, Some, None, Result, Ok, Err, bytes_eq, position}
 use Rattle.std.specs.List.{list_all, slice_split}
 use Rattle.std.specs.Str.{is_utf8}
@@ -7,14 +7,14 @@ use Rattle.ninja_text.specs.Bytes.{line_feed}
 use Rattle.ninja_text.specs.declared.fault.PathFault.{PathFault}
 use Rattle.scan_docs.specs.Name.{is_name}
 use Rattle.module_maps.specs.declared.module_map.MapEntry.{MapEntry}
-use Rattle.module_maps.specs.declared.module_map.MapFault.{MapFault}
-use Rattle.module_maps.specs.declared.module_map.MapFault.TheVariants.{BadMapLine}
+use Rattle.module_maps.specs.declared.fault.MapFault.{MapFault}
+use Rattle.module_maps.specs.declared.fault.MapFault.TheVariants.{BadMapLine}
 
 -- no control byte, no space, no 127, and none of `'`, `"` and `\`
 abbrev pub is_map_byte : ℕ → Bool
 is_map_byte b = nat_le 33 b && not (b == 127) && not (b == 39) && not (b == 34) && not (b == 92)
 
--- whether a path can stand in a map
+-- whether a path can be in a map
 abbrev pub is_fit : List ℕ → Bool
 is_fit path = list_all is_map_byte path
 
@@ -26,7 +26,7 @@ first_unfit (pair ∷ pairs) = if is_fit pair.1 then first_unfit pairs else Some
 abbrev pub is_line_end : ℕ → Bool
 is_line_end b = b == line_feed
 
--- the lines of a text, without their ends, and behind them what follows the last end
+-- the lines of a text, without their ends, and after them what follows the last end
 abbrev pub lines_of : List ℕ → List (List ℕ)
 lines_of text = slice_split is_line_end text
 
@@ -43,7 +43,7 @@ path_in text = if is_fit text then canonical_in text (path_of text) else None
 unfoldable pub name_in : List ℕ → Option (List ℕ)
 name_in text = if is_utf8 text && is_name text then Some text else None
 
--- what stands before the first such byte, and what stands behind it
+-- what is before the first such byte, and what is after it
 abbrev pub cut : ℕ → List ℕ → Option (List ℕ × List ℕ)
 cut mark text = option_map (λ i. (take i text, drop (i + 1) text)) (position (λ b. b == mark) text)
 
@@ -53,7 +53,7 @@ both None path = None
 both (Some name) None = None
 both (Some name) (Some path) = Some (name, path)
 
--- the name and the path that stand in two texts
+-- the name and the path in two texts
 abbrev pub pair_of : Option (List ℕ × List ℕ) → Option (List ℕ × List ℕ)
 pair_of None = None
 pair_of (Some texts) = both (name_in texts.0) (path_in texts.1)
@@ -78,7 +78,7 @@ abbrev pub behind : List ℕ → List ℕ → Option (List ℕ)
 behind prefix text =
     if bytes_eq (take (length prefix) text) prefix then Some (drop (length prefix) text) else None
 
--- how a line is read, without its end, behind the entries of the lines before it
+-- how a line is read, without its end, after the entries of the lines before it
 abbrev pub LineForm : Type 0
 LineForm = List MapEntry → List ℕ → Option MapEntry
 

@@ -8,7 +8,7 @@ use Rattle.ninja_text.specs.Paths.{IsPath}
 use Rattle.scan_docs.specs.Name.{is_name}
 use Rattle.module_maps.specs.Values.{ModuleMapValue}
 use Rattle.module_maps.specs.declared.module_map.MapEntry.{MapEntry}
-use Rattle.module_maps.specs.declared.module_map.MapFault.{MapFault}
+use Rattle.module_maps.specs.declared.fault.MapFault.{MapFault}
 
 -- the pairs of a map, provided ones first
 abbrev pub pairs_of : ModuleMapValue → List (List ℕ × List ℕ)

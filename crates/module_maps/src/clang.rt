@@ -1,20 +1,20 @@
 //! The maps of Clang.
-ghost use Rattle.std.specs.Prelude.{◌≡◌, ◌++◌, ◌-◌, map, length, slice_get, option_copied, IfOk, OnOk};
+ghost use Rattle.std.specs.Prelude.{◌≡◌, ◌++◌, ◌-◌, map, length, slice_get, IfOk, OnOk};
 ghost use Rattle.std.specs.List.{flat_map};
 ghost use Rattle.ninja_text.specs.Failure.{Gives};
 ghost use Rattle.module_maps.specs.MapLines.{ended, behind, lines_of};
 ghost use Rattle.module_maps.specs.ClangMaps.{file_flag, file_line, file_pair, output_flag, output_path, output_text, clang_text, rises_behind, read_provided};
 
+use crate::fault::MapFault;
 use crate::map_lines::{
     LineForm, cut_line, first_unfit, lines_len, pair_in, path_in, push_named, push_nameless,
     read_lines,
 };
 use crate::map_style::MapStyle;
-use crate::module_map::{MapEntry, MapFault, ModuleMap};
+use crate::module_map::{MapEntry, ModuleMap};
 use ninja_text::{Failure, Path};
 use scan_docs::Name;
 use std::alloc::{AllocError, Global};
-use std::cmp::Ordering;
 
 /// The style of Clang, for a response file (Clang documentation, "Standard C++ Modules"): where a
 /// module is provided, the lines `-x c++-module` and `-fmodule-output=PATH`; then for each needed
@@ -59,8 +59,7 @@ impl MapStyle for Clang {
                 if map.provided().len() > 1 {
                     return Err(Failure::Fault(MapFault::TwoProvided));
                 }
-                let text = text_of(alloc, map)?;
-                Ok(text)
+                Ok(text_of(alloc, map)?)
             }
         }
     }
@@ -107,7 +106,7 @@ impl LineForm for Clang {
     }
 }
 
-/// The lines behind the first, which says that a module is provided.
+/// The lines after the first, which says that a module is provided.
 fn read_provided(alloc: Global, text: &[u8]) -> Result<Vec<MapEntry>, Failure<MapFault>>
     ensures { Gives (λ found. found.items) result (read_provided (lines_of text.now)) }
 {
@@ -128,7 +127,7 @@ fn read_provided(alloc: Global, text: &[u8]) -> Result<Vec<MapEntry>, Failure<Ma
 fn output_path(alloc: Global, line: &[u8]) -> Result<Option<Path>, AllocError>
     ensures { IfOk result (λ path. path ≡ output_path (behind output_flag line.now)) }
 {
-    match behind(b"-fmodule-output=", line) {
+    match line.strip_prefix(b"-fmodule-output=") {
         Some(rest) => path_in(alloc, rest),
         None => Ok(None),
     }
@@ -138,29 +137,19 @@ fn output_path(alloc: Global, line: &[u8]) -> Result<Option<Path>, AllocError>
 fn file_pair(alloc: Global, line: &[u8]) -> Result<Option<(Name, Path)>, AllocError>
     ensures { IfOk result (λ pair. pair ≡ file_pair (behind file_flag line.now)) }
 {
-    match behind(b"-fmodule-file=", line) {
+    match line.strip_prefix(b"-fmodule-file=") {
         Some(rest) => pair_in(alloc, b'=', rest),
         None => Ok(None),
     }
 }
 
-/// What follows a prefix.
-fn behind<'t>(prefix: &[u8], text: &'t [u8]) -> Option<&'t [u8]>
-    ensures { option_copied result ≡ behind prefix.now text.now }
-{
-    text.strip_prefix(prefix)
-}
-
-/// Whether a name comes behind that of the last entry, if it has one.
+/// Whether a name comes after that of the last entry, if it has one.
 fn rises_behind(entries: &[MapEntry], name: &Name) -> bool
     ensures { result ≡ rises_behind (slice_get entries.now (length entries.now - 1)) name.now }
 {
     match entries.last() {
         Some(entry) => match &entry.name {
-            Some(before) => match before.cmp(name) {
-                Ordering::Less => true,
-                _ => false,
-            },
+            Some(before) => before < name,
             None => true,
         },
         None => true,

@@ -6,9 +6,10 @@ ghost use Rattle.module_maps.specs.MapLines.{ended};
 ghost use Rattle.module_maps.specs.GccMaps.{gcc_line};
 ghost use Rattle.module_maps.specs.declared.module_map.MapEntry.{MapEntry};
 
+use crate::fault::MapFault;
 use crate::map_lines::{LineForm, first_unfit, lines_len, pair_in, push_named, read_lines};
 use crate::map_style::MapStyle;
-use crate::module_map::{MapEntry, MapFault, ModuleMap};
+use crate::module_map::{MapEntry, ModuleMap};
 use ninja_text::{Failure, Path};
 use scan_docs::Name;
 use std::alloc::{AllocError, Global};
@@ -51,10 +52,7 @@ impl MapStyle for Gcc {
                 let path = path.copy(alloc)?;
                 Err(Failure::Fault(MapFault::MapPath { path }))
             }
-            None => {
-                let text = text_of(alloc, map)?;
-                Ok(text)
-            }
+            None => Ok(text_of(alloc, map)?),
         }
     }
 

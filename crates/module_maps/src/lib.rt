@@ -11,23 +11,26 @@
 //!   kept are the map's paths in order, each name given being that of its pair (`specs/Maps.antt`,
 //!   `ReadsWritten`, `ReadsWrittenOnly`, `KeepsPairs`).
 //!
-//! `specs/map_laws/` has the lemmas that the laws rest on, and `specs/inner/` definitions for
-//! private clauses: no one has to read them for what a contract says. `proofs/MapRows.antt` has the
-//! worked rows.
+//! `specs/map_laws/` has the lemmas that the laws rest on. They are in `specs/` since the proof of a
+//! trait's law is a term of its `impl`, and what an `impl` cites of its own crate has to be there.
+//! `specs/inner/` has definitions for private clauses. No one has to read either for what a contract
+//! says. `proofs/MapRows.antt` has the worked rows.
 //!
-//! It stands on `ninja_text` for paths, on `scan_docs` for names and on `thiserror` for its fault,
-//! and knows of no table: which modules an object needs is told by who makes its map.
+//! It uses `ninja_text` for paths, `scan_docs` for names and `thiserror` for its fault, and knows of
+//! no table: which modules an object needs is known to who makes its map.
 //!
 //! `must-fail/` has a wrong body of each public function.
 #![tactic(auto)]
 
 mod clang;
+mod fault;
 mod gcc;
 pub mod map_lines;
 mod map_style;
 mod module_map;
 
 pub use clang::Clang;
+pub use fault::MapFault;
 pub use gcc::Gcc;
 pub use map_style::MapStyle;
-pub use module_map::{MapEntry, MapFault, ModuleMap};
+pub use module_map::{MapEntry, ModuleMap};

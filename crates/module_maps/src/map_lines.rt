@@ -1,4 +1,4 @@
-//! What the styles of module maps share, and what helps to write another: the paths that stand in a
+//! What the styles of module maps share, and what helps to write another: the paths that can be in a
 //! map, and how its lines are read.
 ghost use Rattle.std.specs.Prelude.{◌≡◌, ◌<◌, ◌≤◌, ◌==◌, ◌++◌, List, ℕ, [], ◌∷◌, length, map, Some, None, IfOk, OnOk, IfSome, MatchOption, option_copied, position};
 ghost use Rattle.ninja_text.specs.Failure.{Gives};
@@ -7,7 +7,8 @@ ghost use Rattle.module_maps.specs.Maps.{pairs_of};
 ghost use Rattle.module_maps.specs.MapLines.{LineForm, is_map_byte, is_fit, first_unfit, named, nameless, lines_of, cut, path_in, name_in, pair_in, read_lines};
 ghost use Rattle.module_maps.specs.inner.Lengths.{line_len, capped};
 
-use crate::module_map::{MapEntry, MapFault, ModuleMap};
+use crate::fault::MapFault;
+use crate::module_map::{MapEntry, ModuleMap};
 use ninja_text::{Failure, Path};
 use scan_docs::Name;
 use std::alloc::{AllocError, Global};
@@ -15,7 +16,7 @@ use std::str;
 
 /// The form of a style's lines.
 pub trait LineForm {
-    /// How a line is read, without its end, behind the entries of the lines before it.
+    /// How a line is read, without its end, after the entries of the lines before it.
     ghost form: { Self → LineForm };
 
     /// The entry of a line, if it is of the form. `AllocError`: want of memory.
@@ -29,7 +30,7 @@ pub trait LineForm {
 }
 
 /// The entries that there are, and those of the lines of a text, which are numbered on from
-/// `number`, 3 at most: what stands before them is no more than two lines. Or K4 with the first
+/// `number`, 3 at most: at most two lines are before them. Or K4 with the first
 /// line that is not of the form, or has no end. `Memory`: want of memory.
 pub fn read_lines<F: LineForm>(
     alloc: Global,
@@ -69,7 +70,7 @@ pub(crate) fn cut_line(text: &[u8]) -> Option<(&[u8], &[u8])>
     cut(text, b'\n')
 }
 
-/// What stands before the first such byte, and what stands behind it.
+/// What is before the first such byte, and what is after it.
 fn cut(text: &[u8], mark: u8) -> Option<(&[u8], &[u8])>
     ensures cut { MatchOption result (cut mark text.now ≡ None)
         (λ c. cut mark text.now ≡ Some (c.0.now, c.1.now)) }
@@ -138,7 +139,7 @@ pub fn path_in(alloc: Global, text: &[u8]) -> Result<Option<Path>, AllocError>
     }
 }
 
-/// Whether a path can stand in a map.
+/// Whether a path can be in a map.
 fn is_fit(path: &[u8]) -> bool
     ensures { result ≡ is_fit path.now }
 {
@@ -151,7 +152,7 @@ fn is_map_byte(byte: u8) -> bool
     byte >= 33 && byte != 127 && byte != b'\'' && byte != b'"' && byte != b'\\'
 }
 
-/// The first path of a map that cannot stand in it, since a byte of it needs quotes.
+/// The first path of a map that cannot be in it, since a byte of it needs quotes.
 pub fn first_unfit(map: &ModuleMap) -> Option<&Path>
     ensures { option_copied result ≡ first_unfit (pairs_of map.now) }
 {

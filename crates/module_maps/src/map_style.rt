@@ -3,10 +3,11 @@ ghost use Rattle.std.specs.Prelude.{◌≡◌, ◌↔◌, List, ℕ, Result, Ok,
 ghost use Rattle.ninja_text.specs.Failure.{Gives};
 ghost use Rattle.module_maps.specs.Values.{ModuleMapValue};
 ghost use Rattle.module_maps.specs.Maps.{ReadsWritten, ReadsWrittenOnly, KeepsPairs};
-ghost use Rattle.module_maps.specs.declared.module_map.MapFault.{MapFault};
+ghost use Rattle.module_maps.specs.declared.fault.MapFault.{MapFault};
 ghost use Rattle.module_maps.specs.declared.module_map.MapEntry.{MapEntry};
 
-use crate::module_map::{MapEntry, MapFault, ModuleMap};
+use crate::fault::MapFault;
+use crate::module_map::{MapEntry, ModuleMap};
 use ninja_text::Failure;
 use std::alloc::{AllocError, Global};
 

@@ -5,23 +5,7 @@ ghost use Rattle.module_maps.specs.Maps.{IsModuleMap, IsModule, Precedes, IsRisi
 
 use ninja_text::Path;
 use scan_docs::Name;
-use std::cmp::Ordering;
 use std::marker::Model;
-use thiserror::Error;
-
-/// Why a map is not written, or a text not read as one.
-#[derive(Debug, Drop, Error)]
-pub enum MapFault {
-    /// This path cannot stand in a map of the style.
-    #[error("K1 MapPath")]
-    MapPath { path: Path },
-    /// The object provides two modules, and a map of the style has one.
-    #[error("K2 TwoProvided")]
-    TwoProvided,
-    /// This line of the text, from 1, is not one that the style writes there.
-    #[error("K4 BadMapLine line {line}")]
-    BadMapLine { line: u64 },
-}
 
 /// A module as a map has it: its path, and its name where the style keeps it.
 #[derive(Drop)]
@@ -100,10 +84,7 @@ fn learn_modules(pairs: &[(Name, Path)])
 fn precedes(a: &Name, b: &Name) -> bool
     ensures { IsTrue result ↔ Precedes a.now b.now }
 {
-    match a.text().as_bytes().cmp(b.text().as_bytes()) {
-        Ordering::Less => true,
-        _ => false,
-    }
+    a < b
 }
 
 /// Whether the names rise strictly in byte order.

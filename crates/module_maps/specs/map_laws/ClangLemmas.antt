@@ -22,8 +22,8 @@ use Rattle.module_maps.specs.MapLines.{behind, pair_in, is_fit, first_unfit, nam
 use Rattle.module_maps.specs.ClangMaps.{module_flag, output_flag, file_flag, output_line, file_line, clang_text, clang_result, clang_written, clang_kept, rises_behind, file_entry, file_pair, output_path, clang_form, read_behind, read_provided, clang_read, clang_entries}
 use Rattle.module_maps.specs.map_laws.LineLemmas.{Pairs, AreModules, AreFit, Lacks, text_of, ReadsEach, EachBehind, IsLineOf, lines-only, each-all, none-unfit, some-module, path-is, lines-back, each-fit, all-each, pair-back, path-back, pair-lacks, lacks, fit-lacks, named-pairs, some-line, pair-is}
 use Rattle.module_maps.specs.declared.module_map.MapEntry.{MapEntry}
-use Rattle.module_maps.specs.declared.module_map.MapFault.{MapFault}
-use Rattle.module_maps.specs.declared.module_map.MapFault.TheVariants.{TwoProvided}
+use Rattle.module_maps.specs.declared.fault.MapFault.{MapFault}
+use Rattle.module_maps.specs.declared.fault.MapFault.TheVariants.{TwoProvided}
 
 -- ---- what was written is read
 
@@ -37,11 +37,11 @@ last-entry entries entry =
     ap (slice_get all) at
     ∙ slice_get_read _ _ _ _ refl within (sym (get_or-append_seam entries entry [] entry))
 
--- the name rises behind the last of the entries
+-- the name rises after the last of the entries
 abbrev RisesBehind : List MapEntry → List ℕ → Type 0
 RisesBehind entries name = rises_behind (slice_get entries (length entries - 1)) name ≡ true
 
--- the first name rises behind the last entry
+-- the first name rises after the last entry
 abbrev Begins : List MapEntry → Pairs → Type 0
 Begins entries [] = ⊤
 Begins entries (x ∷ xs) = RisesBehind entries x.0
@@ -61,7 +61,7 @@ rising-rest x xs rising i j d less within =
 no-line-end : (text : List ℕ) → list_all (λ b. not (b == 10)) text ≡ true → Lacks 10 text
 no-line-end text others = lacks (λ b. not (b == 10)) 10 refl text others
 
--- nor has one before which such a text stands
+-- nor has one that such a text is before
 no-line-end-behind : (front text : List ℕ) → list_all (λ b. not (b == 10)) front ≡ true →
     Lacks 10 text → Lacks 10 (front ++ text)
 no-line-end-behind front text others lacking =
@@ -85,12 +85,12 @@ files-each entries (x ∷ xs) modules fits rising begins =
       files-each (entries ++ named x ∷ []) xs modules.1 fits.1 (rising-rest x xs rising) next,
     )
 
--- how the lines behind the first are read, if it is the flag, and if it is not
+-- how the lines after the first are read, if it is the flag, and if it is not
 abbrev read_behind_first : List ℕ → List (List ℕ) → Bool → Result (List MapEntry) MapFault
 read_behind_first first lines is_flag =
     cond is_flag (read_provided lines) (read_lines clang_form [] 1 (first ∷ lines))
 
--- a text has a line behind the first
+-- a text has a line after the first
 first-line : (first text : List ℕ) → clang_read (first ∷ lines_of text) ≡
     read_behind_first first (lines_of text) (bytes_eq first module_flag)
 first-line first text =
@@ -372,7 +372,7 @@ provided-only path lines found is fit e =
       is_kept = w.all;
     }
 
--- the line is that of this path, which can stand in a map
+-- the line is that of this path, which can be in a map
 abbrev IsOutputLine : List ℕ → List ℕ → Type 0
 IsOutputLine line path = (line ≡ output_flag ++ path) × IsPath path × (is_fit path ≡ true)
 

@@ -21,8 +21,8 @@ use Rattle.scan_docs.specs.Name.{is_name, is_name_byte, is_not_empty, is_separat
 use Rattle.module_maps.specs.Maps.{IsModule, AreEntriesOf}
 use Rattle.module_maps.specs.MapLines.{is_map_byte, canonical_in, named, ended, is_fit, first_unfit, is_line_end, lines_of, name_in, path_in, cut, both, pair_of, pair_in, LineForm, read_lines}
 use Rattle.module_maps.specs.declared.module_map.MapEntry.{MapEntry}
-use Rattle.module_maps.specs.declared.module_map.MapFault.{MapFault}
-use Rattle.module_maps.specs.declared.module_map.MapFault.TheVariants.{BadMapLine}
+use Rattle.module_maps.specs.declared.fault.MapFault.{MapFault}
+use Rattle.module_maps.specs.declared.fault.MapFault.TheVariants.{BadMapLine}
 
 -- pairs of a name and a path
 abbrev pub Pairs : Type 0
@@ -32,7 +32,7 @@ Pairs = List (List ℕ × List ℕ)
 abbrev pub AreModules : Pairs → Type 0
 AreModules pairs = AllByRecursion IsModule pairs
 
--- the path of each pair can stand in a map
+-- the path of each pair can be in a map
 abbrev pub AreFit : Pairs → Type 0
 AreFit pairs = AllByRecursion (λ pair. is_fit pair.1 ≡ true) pairs
 
@@ -42,7 +42,7 @@ Lacks mark text = All (λ b. (b == mark) ≡ false) text
 
 -- ---- cutting a text
 
--- what stands before the byte of this index, and what stands behind it
+-- what is before the byte of this index, and what is after it
 abbrev parts_at : List ℕ → ℕ → List ℕ × List ℕ
 parts_at text i = (take i text, drop (i + 1) text)
 
@@ -149,7 +149,7 @@ unfit-back (x ∷ xs) ys e = by (is_fit x.1) e (unfit-back xs ys)
 
 -- ---- reading lines
 
--- a text has a first line, or what stands for it
+-- a text has a first line, or what counts as one
 pub some-line : (text : List ℕ) →
     (line : List ℕ) × (lines : List (List ℕ)) × (lines_of text ≡ line ∷ lines)
 some-line [] = ([], [], refl)
@@ -164,7 +164,7 @@ some-line (b ∷ bs) =
     by true parts line lines e = ([], parts, refl)
     by false parts line lines e = (b ∷ line, lines, ap (onto_first b) e)
 
--- how reading goes on behind a line with this entry, or with none
+-- how reading goes on after a line with this entry, or with none
 abbrev read_on : LineForm → List MapEntry → ℕ → List (List ℕ) → Option MapEntry →
     Result (List MapEntry) MapFault
 read_on form entries n lines None = Err (BadMapLine n)
@@ -211,7 +211,7 @@ lacks test mark outside xs all k d within = by (get_or xs k d == mark) refl
         absurd cc
     by false is = is
 
--- a text is cut behind what lacks the mark
+-- a text is cut after what lacks the mark
 cut-at : (mark : ℕ) (first rest : List ℕ) → Lacks mark first →
     cut mark (first ++ mark ∷ rest) ≡ Some (first, rest)
 cut-at mark first rest none =
@@ -288,7 +288,7 @@ all-each P (x ∷ xs) all =
 abbrev pub text_of : {X : Type 0} → (X → List ℕ) → List X → List ℕ
 text_of line xs = flat_map (λ x. ended (line x)) xs
 
--- each line is read as its entry, behind those before it
+-- each line is read as its entry, after those before it
 abbrev pub ReadsEach : {X : Type 0} → LineForm → (X → List ℕ) → (X → MapEntry) →
     List MapEntry → List X → Type 0
 ReadsEach form line entry entries [] = ⊤
@@ -343,7 +343,7 @@ named-pairs pairs = record {
 
 -- ---- what is read was written
 
--- a text that is cut is what stands before the mark, the mark, and what stands behind it
+-- a text that is cut is what is before the mark, the mark, and what is after it
 cut-whole : (mark : ℕ) (text first rest : List ℕ) → cut mark text ≡ Some (first, rest) →
     text ≡ first ++ mark ∷ rest
 cut-whole mark text first rest e = by (position (λ b. b == mark) text) refl e
@@ -381,7 +381,7 @@ name-is text name e = by (is_utf8 text) (is_name text) refl refl e
     by true false utf is found = absurd cc
     by false n utf is found = absurd cc
 
--- the path is the text, which is one and can stand in a map
+-- the path is the text, which is one and can be in a map
 abbrev pub IsPathOf : List ℕ → List ℕ → Type 0
 IsPathOf text path = (path ≡ text) × IsPath text × (is_fit text ≡ true)
 
@@ -412,7 +412,7 @@ some-module path is =
     ascii : IsAscii (codes "A")
     ascii = IsAscii-cons 65 [] (omega arith) IsAscii-nil
 
--- the text is what is written of the pair, which is a module that can stand in a map
+-- the text is what is written of the pair, which is a module that can be in a map
 abbrev pub IsPairOf : ℕ → List ℕ → List ℕ × List ℕ → Type 0
 IsPairOf mark text pair =
     (text ≡ pair.0 ++ mark ∷ pair.1) × IsModule pair × (is_fit pair.1 ≡ true)
@@ -443,14 +443,14 @@ pair-is mark text pair e = by (cut mark text) refl
         parts c.0 c.1 is (name_in c.0) (path_in c.1) refl refl
         (sym (pair-of mark text (Some c) is) ∙ e)
 
--- of each thing this holds, behind the entries of those before it
+-- of each thing this holds, after the entries of those before it
 abbrev pub EachBehind : {X : Type 0} → (X → MapEntry) → (List MapEntry → X → Type 0) →
     List MapEntry → List X → Type 0
 EachBehind entry Q entries [] = ⊤
 EachBehind entry Q entries (x ∷ xs) =
     Q entries x × EachBehind entry Q (entries ++ entry x ∷ []) xs
 
--- Entries that were read behind others are those of what was written in these lines.
+-- Entries that were read after others are those of what was written in these lines.
 pub record AreWritten {X : Type 0} (line : X → List ℕ) (entry : X → MapEntry)
     (Q : List MapEntry → X → Type 0) (entries : List MapEntry) (lines : List (List ℕ))
     (found : List MapEntry) : Type 0 where
@@ -459,7 +459,7 @@ pub record AreWritten {X : Type 0} (line : X → List ℕ) (entry : X → MapEnt
   pub all : found ≡ entries ++ map entry xs
   pub each : EachBehind entry Q entries xs
 
--- the text is the line of a thing with this entry, of which this holds behind earlier entries
+-- the text is the line of a thing with this entry, of which this holds after earlier entries
 abbrev pub IsLineOf : {X : Type 0} → (X → List ℕ) → (X → MapEntry) →
     (List MapEntry → X → Type 0) → List MapEntry → List ℕ → MapEntry → Type 0
 IsLineOf {X} line entry Q entries text e =

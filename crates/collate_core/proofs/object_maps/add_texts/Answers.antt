@@ -4,7 +4,7 @@ use Rattle.ninja_text.specs.Failure.{ForFault}
 use Rattle.scan_docs.specs.Scan.{RuleValue}
 use Rattle.module_table.specs.TableValue.{TableValue}
 use Rattle.module_maps.specs.Maps.{Written}
-use Rattle.module_maps.specs.declared.module_map.MapFault.{MapFault}
+use Rattle.module_maps.specs.declared.fault.MapFault.{MapFault}
 use Rattle.collate_core.proofs.ByIndex.{element_at}
 use Rattle.collate_core.specs.Refusals.{IsMapFault}
 use Rattle.collate_core.proofs.Parts.{EachMap, more_maps, map_before}

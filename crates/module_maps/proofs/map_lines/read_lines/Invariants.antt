@@ -2,7 +2,7 @@ use Rattle.std.proofs.Common.{◌≡◌, ◌+◌, ◌≤◌, length}
 use Rattle.module_maps.specs.MapLines.{read_lines, lines_of}
 use Rattle.module_maps.proofs.map_lines.read_lines.Given as goal
 
--- the lines that are left are read behind the entries so far
+-- the lines that are left are read after the entries so far
 abbrev pub invariant-loop-first : goal.invariant-loop-first
 invariant-loop-first g l =
     record {
