@@ -80,7 +80,7 @@ none_required P objects none object rule name at has holds =
     nowhere P r.required (λ place n first_name. none o n (record { rule = r; index = place; first_object = first; first_name = first_name })) first.holds.0 first.holds.1 first.holds.2 first.holds.3)
     object rule at (there.0, name, there.1, holds)
 
--- the name stands in the list, or not
+-- the name is in the list, or not
 there_or_absent : (keys : List (List ℕ)) (name : List ℕ) → ((number : ℕ) × (slice_get keys number ≡ Some name)) ⊎ IsAbsent keys name
 there_or_absent [] name = inr (λ number e. cc)
 there_or_absent (key ∷ keys) name =

@@ -20,7 +20,7 @@ use Rattle.module_table.proofs.Zips.{zip_back, zip_length}
 use Rattle.module_table.proofs.ModulePlaces.{IsPlaceOf, module_places}
 use Rattle.module_table.proofs.Numbering.{only_one, from_numbers}
 
--- what holds of what stands at each place holds of all
+-- what holds of what is at each place holds of all
 pub all_from : {X : Type 0} (P : X → Type 0) (xs : List X) → ((x : X) → Has xs x → P x) → All P xs
 all_from P xs h k d lt = h (get_or xs k d) (k, slice_get-get_or xs k d lt)
 
@@ -93,7 +93,7 @@ module _ (t : TableValue) (names : List (List ℕ)) (places : List (Maker × ℕ
         all_from (λ row. All (λ needed. needed < length (modules ++ rows)) row) (modules ++ rows)
         (λ row has. all_from (λ needed. needed < length (modules ++ rows)) row (λ n in_row. subst (λ m. n < m) (sym total) (below row n has in_row)))
 
--- behind all modules there is a node for each object
+-- after all modules there is a node for each object
 pub node_within : (t : TableValue) (graph : List (List ℕ)) → IsModuleGraph t graph → (object : ℕ) → object < length t.objects → length (origins_of t) + object < length graph
 node_within t graph g object lt =
     let modules = zip_length (IsModuleRow (names_of (provisions t)) t.infos) (origins_of t) g.modules g.of_modules in

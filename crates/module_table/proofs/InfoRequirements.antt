@@ -20,7 +20,7 @@ abbrev pub requirement_of : ℕ → List ℕ → ModuleValue → List ℕ → Li
 requirement_of info target entry name file = record { info = info; target = target; module_name = entry.name; name = name; file = file }
 
 module _ (t : TableValue) where
-  -- what an info's module requires stands among the requirements of all infos
+  -- what an info's module requires is among the requirements of all infos
   pub requirement : (i j : ℕ) (m : ModuleValue) (name file : List ℕ) → InfoRequires t i j m name file → (k : ℕ) × (target : List ℕ) × (slice_get (info_requirements t) k ≡ Some (requirement_of i target m name file))
   requirement i j m name file ((info, at, at_m), has) =
       let pair = slice_get-get_or m.required has.0 (name, file) has.1 ∙ ap (λ x. Some x) has.2 in
@@ -58,6 +58,6 @@ module _ (t : TableValue) where
 
   -- what is looked up is the requirement at the same index
   pub required_there : (all : List InfoRequired) → AreLookedUp t all → (k : ℕ) (r : InfoRequired) → slice_get all k ≡ Some r → slice_get (info_requirements t) k ≡ Some (requirement_seen r)
-  required_there all same k r at =
-      let y = from_map with_found (info_requirements t) k (looked_up r) (ap (λ xs. slice_get xs k) (sym same) ∙ to_map looked_up all k r at) in
+  required_there all looked k r at =
+      let y = from_map with_found (info_requirements t) k (looked_up r) (ap (λ xs. slice_get xs k) (sym looked.same) ∙ to_map looked_up all k r at) in
       y.1 ∙ ap (λ (x : LookedUp). Some x.0) y.2

@@ -1,4 +1,4 @@
--- What the marks of a loop tell of what it has met.
+-- What the marks of a loop say of what it has met.
 use Rattle.std.proofs.Common.{◌≡◌, ℕ, zero, suc, ◌+◌, ◌<◌, Bool, true, false, not, ◌||◌, List, [], ◌∷◌, ◌++◌, length, map, take, get_or, set, filter_map, Option, Some, None, refl, ap, sym, ◌∙◌, ⊎_elim, arith, slice_get, bytes_eq}
 use Rattle.std.specs.List.{list_any, cons_option}
 use Rattle.std.specs.Option.{option_map}

@@ -73,7 +73,7 @@ pub map_push : {K : Type 0} (f : K → List ℕ) (keys : List K) (v : K) → map
 map_push f [] v = refl
 map_push f (k ∷ keys) v = ap (λ ys. f k ∷ ys) (map_push f keys v)
 
--- one more name, behind those of the names before it
+-- one more name, after those of the names before it
 module _ {K : Type 0} (f : K → List ℕ) (xs : List (List ℕ)) (i : ℕ) (keys : List K) (v : K) (at : slice_get xs i ≡ Some (f v)) (found : map f keys ≡ first_mentions (take i xs)) where
   abbrev was : Bool
   was = list_any (λ k. bytes_eq (f v) (f k)) keys

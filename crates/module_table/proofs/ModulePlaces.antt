@@ -16,7 +16,7 @@ use Rattle.module_table.proofs.Places.{same_some}
 use Rattle.module_table.proofs.Required.{from_map, from_numbered}
 use Rattle.module_table.proofs.Zips.{zip_append, zip_flat_map, zip_numbered, zip_back, zip_length}
 
--- what stands at one place of a list is one
+-- what is at one place of a list is one
 pub one_at : {X : Type 0} (xs : List X) (k : ℕ) (x y : X) → slice_get xs k ≡ Some x → slice_get xs k ≡ Some y → x ≡ y
 one_at xs k x y at_x at_y = same_some _ _ (sym at_x ∙ at_y)
 

@@ -32,7 +32,7 @@ Pair = List ℕ × List ℕ
 
 -- ---- different numbers
 
--- no number stands at two indexes
+-- no number is at two indexes
 abbrev AreDifferent : List ℕ → Type 0
 AreDifferent ns = (i j n : ℕ) → slice_get ns i ≡ Some n → slice_get ns j ≡ Some n → i ≡ j
 

@@ -13,11 +13,11 @@ use Rattle.module_table.proofs.Required.{Has, contained, from_filter_map}
 use Rattle.module_table.proofs.Repetitions.{finds}
 use Rattle.module_table.proofs.Rings.{in_filter_map}
 
--- what is contained stands at some place
+-- what is contained is at some place
 pub placed : {X : Type 0} (xs : List X) (x : X) → Contains xs x → Has xs x
 placed xs x h = (h.0, slice_get-get_or xs h.0 x h.1 ∙ ap (λ y. Some y) h.2)
 
--- in a list of one element stands only that
+-- a list of one element has only that
 pub only_one : (m n : ℕ) → Has (m ∷ []) n → n ≡ m
 only_one m n (zero, e) = sym (same_some _ _ e)
 only_one m n (suc place, e) = cc

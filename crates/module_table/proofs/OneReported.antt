@@ -1,4 +1,4 @@
--- One fault at most is told of a table.
+-- One fault at most is reported of a table.
 use Rattle.std.proofs.Common.{◌≡◌, ℕ, ◌<◌, List, Some, ap, subst, sym, ◌∙◌, arith, slice_get}
 use Rattle.scan_docs.specs.Scan.{RuleValue}
 use Rattle.dep_order.proofs.ForCallers.{one_cycle}
@@ -67,11 +67,11 @@ one_keeper t differ name i j p q =
 by_same : (fault other : TableFault) → fault ≡ other → IsSameFault fault other
 by_same fault other e = subst (IsSameFault fault) e same
 
--- where a fault of that code is told no name is provided twice
+-- where a fault of that code is reported no name is provided twice
 differ_below : (t : TableValue) (kept : List (List ℕ)) (fault : TableFault) → IsReported t kept fault → 3 < code_number fault → AllDiffer (names_of (provisions t))
 differ_below t kept fault told lt = names_differ t kept (λ name first second h. absurd (omega (arith, lt, told.lowest (ProvidedTwice name first second) h)))
 
--- ---- of each code one fault is told
+-- ---- of each code one fault is reported
 
 one_of_code : (t : TableValue) (kept : List (List ℕ)) (fault other : TableFault) → code_number fault ≡ code_number other → IsReported t kept fault → IsReported t kept other → IsSameFault fault other
 one_of_code t kept (ObjectTwice path first second) (ObjectTwice other third fourth) e a b =

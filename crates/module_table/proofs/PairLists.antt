@@ -10,7 +10,7 @@ use Rattle.module_table.proofs.Places.{same_some}
 use Rattle.module_table.proofs.Required.{Has, contained}
 use Rattle.module_table.proofs.Numbering.{placed}
 
--- each element comes before all that stand behind it
+-- each element comes before all that are after it
 abbrev Rises : {X : Type 0} → (X → X → Type 0) → List X → Type 0
 Rises {X} Before xs = (i j : ℕ) (a b : X) → i < j → slice_get xs i ≡ Some a → slice_get xs j ≡ Some b → Before a b
 
@@ -36,7 +36,7 @@ module _ {X : Type 0} (Before : X → X → Type 0) (one_way : (a b : X) → Bef
       (first_or_behind x xs y back))
       (first_or_behind y ys x to)
 
-  -- what the other list has behind the same first element
+  -- what the other list has after the same first element
   in_rest : (x y : X) (xs ys : List X) → x ≡ y → Rises Before (x ∷ xs) → ((z : X) → Has (x ∷ xs) z → Has (y ∷ ys) z) → (z : X) → Has xs z → Has ys z
   in_rest x y xs ys e rx to z h =
       let x_before : Before x z = before_rest x xs rx z h in

@@ -1,4 +1,4 @@
--- Where modules stand in the lists of all modules and all files.
+-- Where modules are in the lists of all modules and all files.
 use Rattle.std.proofs.Common.{⊎_elim, ◌≡◌, ℕ, zero, suc, ◌+◌, ◌<◌, ◌⊎◌, Bool, true, false, List, [], ◌∷◌, ◌++◌, length, map, Some, ◌||◌, IsTrue, refl, ap, subst, sym, ◌∙◌, inl, inr, arith, slice_get}
 use Rattle.std.specs.List.{flat_map, enumerate_from}
 use Rattle.scan_docs.specs.Scan.{RuleValue}
@@ -35,7 +35,7 @@ numbered n [] k x e = cc
 numbered n (y ∷ xs) zero x e = let at : n + 0 ≡ n = omega arith in rw at (ap (λ z. Some (n, z)) (same_some _ _ e))
 numbered n (y ∷ xs) (suc k) x e = let at : n + suc k ≡ (n + 1) + k = omega arith in rw at (numbered (n + 1) xs k x e)
 
--- how many elements stand before those of element i
+-- how many elements are before those of element i
 pub offset : {A B : Type 0} → (A → List B) → List A → ℕ → ℕ
 offset f [] i = 0
 offset f (x ∷ xs) zero = 0
@@ -55,7 +55,7 @@ in_flat_map f (z ∷ xs) (suc i) x j y e h =
 abbrev as_claim : Provision → Claim
 as_claim p = record { maker = p.maker; file = p.file; is_module = true }
 
--- where module j of object o stands among all claims
+-- where module j of object o is among all claims
 object_place : TableValue → ℕ → ℕ → ℕ
 object_place t o j = length (own_claims t.objects) + (offset object_provisions (enumerate_from 0 t.objects) o + j)
 
@@ -106,7 +106,7 @@ module _ (t : TableValue) where
   own_claim : (o : ℕ) (rule : RuleValue) → slice_get t.objects o ≡ Some rule → slice_get (claims t) o ≡ Some (record { maker = Object o; file = rule.object; is_module = false })
   own_claim o rule e = in_first (own_claims t.objects) (map as_claim (provisions t)) o _ (to_map (λ (x : ℕ × RuleValue). let c : Claim = record { maker = Object x.0; file = x.1.object; is_module = false } in c) (enumerate_from 0 t.objects) o (o, rule) (row_of o rule e))
 
-  -- who provides a name stands among all modules
+  -- who provides a name is among all modules
   pub provision_by : (name file : List ℕ) (maker : Maker) → IsProvidedBy t maker name file → (k : ℕ) × (p : Provision) × (slice_get (provisions t) k ≡ Some p) × (p.name ≡ name) × (p.file ≡ file)
   provision_by name file (Object o) by = (_, _, object_provision o by.0 name file by.1, refl, refl)
   provision_by name file (Info i) by = (_, _, info_provision i by.0 by.1 by.2, by.3, by.4)

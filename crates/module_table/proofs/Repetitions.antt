@@ -12,14 +12,14 @@ use Rattle.module_table.specs.Firsts.{IsFirstRepetition}
 use Rattle.module_table.proofs.Places.{same_some, to_map}
 use Rattle.module_table.proofs.Required.{from_map}
 
--- an element of a longer list stands in the list, or is the last one
+-- an element of a longer list is in the list, or is the last one
 pub from_push : {X : Type 0} (xs : List X) (y : X) (k : ℕ) (x : X) → slice_get (xs ++ y ∷ []) k ≡ Some x → (slice_get xs k ≡ Some x) ⊎ ((k ≡ length xs) × (y ≡ x))
 from_push [] y zero x e = inr (refl, same_some _ _ e)
 from_push [] y (suc k) x e = cc
 from_push (z ∷ xs) y zero x e = inl e
 from_push (z ∷ xs) y (suc k) x e = ⊎_elim (λ h. inl h) (λ h. inr (ap suc h.0, h.1)) (from_push xs y k x e)
 
--- what stands among the first few stands in the list
+-- what is among the first few is in the list
 pub from_take : {X : Type 0} (n : ℕ) (xs : List X) (k : ℕ) (x : X) → slice_get (take n xs) k ≡ Some x → (k < n) × (slice_get xs k ≡ Some x)
 from_take zero xs k x e = cc
 from_take (suc n) [] k x e = cc

@@ -1,4 +1,4 @@
--- What the checks tell.
+-- What the checks report.
 use Rattle.std.proofs.Common.{◌≡◌, ℕ, zero, suc, ◌+◌, ◌<◌, ◌≤◌, ◌⊎◌, true, false, List, [], ◌∷◌, ◌++◌, length, map, take, Some, refl, ap, subst, sym, ◌∙◌, inl, inr, ⊎_elim, arith, slice_get}
 use Rattle.std.specs.List.{enumerate_from}
 use Rattle.std.proofs.lemmas.List.{map-append}
@@ -90,13 +90,13 @@ length_paths : (rules : List RuleValue) → length (map (λ (rule : RuleValue). 
 length_paths [] = refl
 length_paths (rule ∷ rules) = ap suc (length_paths rules)
 
--- an element of two lists stands in the first, or behind it in the second
+-- an element of two lists is in the first, or after it in the second
 pub from_append_at : {X : Type 0} (xs ys : List X) (k : ℕ) (x : X) → slice_get (xs ++ ys) k ≡ Some x → (slice_get xs k ≡ Some x) ⊎ ((m : ℕ) × (k ≡ length xs + m) × (slice_get ys m ≡ Some x))
 from_append_at [] ys k x e = inr (k, omega arith, e)
 from_append_at (y ∷ xs) ys zero x e = inl e
 from_append_at (y ∷ xs) ys (suc k) x e = ⊎_elim (λ h. inl h) (λ h. let at = h.1 in inr (h.0, omega arith, h.2)) (from_append_at xs ys k x e)
 
--- where texts differ in a first list, what is repeated is repeated behind it
+-- where texts differ in a first list, what is repeated is repeated after it
 pub behind_first : (xs ys : List (List ℕ)) (i j : ℕ) → AllDiffer xs → RepeatsFirst (xs ++ ys) i j → length xs ≤ j
 behind_first xs ys i j all r =
     ⊎_elim

@@ -63,7 +63,7 @@ made_by : (o : Option Provision) (p : ℕ) → option_and_then (λ (q : Provisio
 made_by None p e = cc
 made_by (Some q) p e = (q, refl, is_object q.maker p e)
 
--- where an object's module stands
+-- where an object's module is
 module_at : (t : TableValue) (p position : ℕ) (name file : List ℕ) → Provides t p position name file → (m : ℕ) × (slice_get (provisions t) m ≡ Some (record { maker = Object p; name = name; file = file; is_private = false }))
 module_at t p position name file provides = (_, object_provision t p position name file provides)
 

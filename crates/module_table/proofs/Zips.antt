@@ -1,4 +1,4 @@
--- Lists of which each element stands beside one of the other.
+-- Lists of which each element is beside one of the other.
 use Rattle.std.proofs.Common.{◌≡◌, ℕ, zero, suc, ◌+◌, List, [], ◌∷◌, ◌++◌, length, map, take, Some, refl, ap, subst, sym, arith, slice_get}
 use Rattle.std.specs.List.{flat_map, enumerate_from, AllZip}
 use Rattle.module_table.proofs.Places.{same_some}
@@ -24,7 +24,7 @@ zip_numbered R f g n (x ∷ xs) h =
       zip_numbered R f g (n + 1) xs (λ k y at. let there : n + suc k ≡ (n + 1) + k = omega arith in subst (λ m. R (f y) (g (m, y))) there (h (suc k) y at)),
     )
 
--- what stands beside an element
+-- what is beside an element
 pub zip_there : {A B : Type 0} (R : A → B → Type 0) (xs : List A) (ys : List B) (k : ℕ) (x : A) → AllZip R xs ys → slice_get xs k ≡ Some x → (y : B) × (slice_get ys k ≡ Some y) × R x y
 zip_there R [] ys k x h at = cc
 zip_there R (z ∷ xs) [] k x h at = absurd h

@@ -66,7 +66,7 @@ abbrev pub FilesApart : Type 0
 FilesApart = (t : TableValue) → IsSound t → (o p j : ℕ) (rule : RuleValue) (name : List ℕ) →
     slice_get t.objects o ≡ Some rule → Provides t p j name rule.object → ⊥
 
--- each name that an object of a sound table requires stands in its pairs
+-- each name that an object of a sound table requires is in its pairs
 abbrev pub AllRequired : Type 0
 AllRequired = (t : TableValue) → IsSound t → (o : ℕ) (rule : RuleValue) (name : List ℕ) →
     slice_get t.objects o ≡ Some rule → Contains rule.required name →

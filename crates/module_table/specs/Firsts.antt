@@ -1,14 +1,14 @@
 -- The first of what a list holds.
 use Rattle.std.specs.Prelude.{◌≡◌, ℕ, ◌<◌, List, slice_get, Some}
 
--- At this index stands this element, P holds of it, and of none before it.
+-- At this index is this element, P holds of it, and of none before it.
 pub record IsFirst {X : Type 0} (P : X → Type 0) (xs : List X) (index : ℕ) (x : X) : Type 0 where
   pub here : slice_get xs index ≡ Some x
   pub holds : P x
   pub before : (earlier : ℕ) (y : X) → earlier < index → slice_get xs earlier ≡ Some y → P y → ⊥
 
 -- The repetition whose later member comes first, with its earliest partner: x at the index i, and y
--- at the index j behind it.
+-- at the index j after it.
 pub record IsFirstRepetition {X : Type 0} (Alike : X → X → Type 0) (xs : List X) (i j : ℕ) (x y : X)
     : Type 0 where
   pub earlier : i < j

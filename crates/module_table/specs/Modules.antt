@@ -1,5 +1,5 @@
 -- Who provides and who requires which module. Names and files are texts; objects, infos and what
--- stands in a list go by index, from 0.
+-- is in a list go by index, from 0.
 use Rattle.std.specs.Prelude.{◌≡◌, ℕ, Bool, false, List, ◌++◌, map, slice_get, Some, Contains}
 use Rattle.std.specs.List.{flat_map, enumerate_from}
 use Rattle.scan_docs.specs.Scan.{RuleValue}

@@ -6,17 +6,13 @@ ghost use Rattle.ninja_text.specs.Failure.{ForFault};
 ghost use Rattle.indexmap.specs.IndexSet.{IsEmpty};
 ghost use Rattle.dep_order.specs.Rows.{rows};
 ghost use Rattle.module_table.specs.TableValue.{table_with};
-ghost use Rattle.module_table.specs.Modules.{provisions};
-ghost use Rattle.module_table.specs.Added.{required_of};
 ghost use Rattle.module_table.specs.Faults.{IsReported};
 ghost use Rattle.module_table.specs.Outcomes.{HasNoFault};
-ghost use Rattle.module_table.specs.inner.Repetition.{AllDiffer};
-ghost use Rattle.module_table.specs.inner.Views.{names_of};
-ghost use Rattle.module_table.specs.inner.Origins.{origins_of, origin_of};
+ghost use Rattle.module_table.specs.inner.Origins.{origin_of};
 ghost use Rattle.module_table.specs.inner.Found.{AreLookedUp};
 ghost use Rattle.module_table.specs.inner.Passed.{Passed};
 ghost use Rattle.module_table.specs.inner.Numbered.{AreIndexes};
-ghost use Rattle.module_table.specs.inner.Graph.{IsModuleGraph};
+ghost use Rattle.module_table.specs.inner.LookUps.{AreLookUps};
 
 use crate::fault::{Maker, TableFault};
 use crate::graph::module_graph;
@@ -52,35 +48,33 @@ pub(crate) struct Index<S: BuildHasher> {
     pub required: Vec<Vec<(Name, Path)>>,
 }
 
-/// All checks, from the lowest code to the highest. Names, targets and files are hashed by
-/// `hash_builder`.
-pub(crate) fn check_all<S: BuildHasher + Copy>(
-    alloc: Global,
-    objects: &[Rule],
-    infos: &[Info],
-    kept: &[Name],
-    hash_builder: S,
-) -> Result<Index<S>, Failure<TableFault>>
-    ensures no_fault { OnOk result
-        (HasNoFault (table_with objects.now infos.now) kept.now) }
-    ensures names { IfOk result (λ index. index.names.keys
-        ≡ names_of (provisions (table_with objects.now infos.now))) }
-    ensures origins { IfOk result (λ index. index.origins.items
-        ≡ origins_of (table_with objects.now infos.now)) }
-    ensures graph { IfOk result (λ index.
-        IsModuleGraph (table_with objects.now infos.now) index.graph) }
-    ensures required { IfOk result (λ index. map (λ row. row.items) index.required.items
-        ≡ map (required_of (table_with objects.now infos.now)) objects.now) }
-    ensures fault { IfErr result (ForFault
-        (IsReported (table_with objects.now infos.now) kept.now)) }
-{
-    let mut paths = IndexSet::with_hasher(alloc, hash_builder);
-    check_with_paths(alloc, objects, infos, kept, &mut paths, hash_builder)
+impl<S: BuildHasher + Copy> Index<S> {
+    /// That of the modules, where each object requires the modules of a row of indexes.
+    fn new(
+        alloc: Global,
+        modules: Modules<'_, S>,
+        indexes: Vec<Vec<usize>>,
+    ) -> Result<Index<S>, AllocError>
+        requires { AreIndexes modules (rows indexes.items) }
+        ensures { IfOk result (λ index. AreLookUps modules.entry index.names.keys
+            index.origins.items index.graph (map (λ row. row.items) index.required.items)) }
+    {
+        let required = all_pairs(alloc, &modules, indexes.as_slice())?;
+        let origins = all_origins(alloc, modules.provided())?;
+        let graph = module_graph(alloc, &modules, origins.as_slice(), indexes)?;
+        Ok(Index {
+            names: modules.into_names(),
+            origins,
+            graph,
+            required,
+        })
+    }
 }
 
-/// The same with an empty set, into which the paths of the objects are put, and behind them the
-/// modules' files.
-fn check_with_paths<'t, S: BuildHasher + Copy>(
+/// All checks, from the lowest code to the highest. Names, targets and files are hashed by
+/// `hash_builder`. The paths of the objects are put into the empty set, and after them the modules'
+/// files.
+pub(crate) fn check_all<'t, S: BuildHasher + Copy>(
     alloc: Global,
     objects: &'t [Rule],
     infos: &'t [Info],
@@ -91,85 +85,18 @@ fn check_with_paths<'t, S: BuildHasher + Copy>(
     requires { IsEmpty paths.old }
     ensures no_fault { OnOk result
         (HasNoFault (table_with objects.now infos.now) kept.now) }
-    ensures names { IfOk result (λ index. index.names.keys
-        ≡ names_of (provisions (table_with objects.now infos.now))) }
-    ensures origins { IfOk result (λ index. index.origins.items
-        ≡ origins_of (table_with objects.now infos.now)) }
-    ensures graph { IfOk result (λ index.
-        IsModuleGraph (table_with objects.now infos.now) index.graph) }
-    ensures required { IfOk result (λ index. map (λ row. row.items) index.required.items
-        ≡ map (required_of (table_with objects.now infos.now)) objects.now) }
+    ensures index { IfOk result (λ index. AreLookUps (table_with objects.now infos.now)
+        index.names.keys index.origins.items index.graph
+        (map (λ row. row.items) index.required.items)) }
     ensures fault { IfErr result (ForFault
         (IsReported (table_with objects.now infos.now) kept.now)) }
 {
     let modules = check_repetitions(alloc, objects, infos, paths, hash_builder)?;
-    let lookups = check_modules(alloc, &modules, paths, kept)?;
-    Ok(lookups.with_names(modules.into_names()))
+    let indexes = check_requirements(alloc, &modules, kept)?;
+    Ok(Index::new(alloc, modules, indexes)?)
 }
 
-/// What is kept in an index beside the names.
-#[derive(Drop)]
-struct Lookups {
-    origins: Vec<(Maker, usize)>,
-    graph: Digraph,
-    required: Vec<Vec<(Name, Path)>>,
-}
-
-impl Lookups {
-    /// Those of the modules, where each object requires the modules of a row of indexes.
-    fn new<S: BuildHasher>(
-        alloc: Global,
-        modules: &Modules<S>,
-        indexes: Vec<Vec<usize>>,
-    ) -> Result<Lookups, AllocError>
-        requires { AreIndexes modules.now (rows indexes.items) }
-        ensures origins { IfOk result
-            (λ lookups. lookups.origins.items ≡ origins_of modules.now) }
-        ensures graph { IfOk result (λ lookups. IsModuleGraph modules.now lookups.graph) }
-        ensures required { IfOk result (λ lookups. map (λ row. row.items) lookups.required.items
-            ≡ map (required_of modules.now) modules.now.objects) }
-    {
-        let required = all_pairs(alloc, modules, indexes.as_slice())?;
-        let (origins, graph) = origins_and_graph(alloc, modules, indexes)?;
-        Ok(Lookups {
-            origins,
-            graph,
-            required,
-        })
-    }
-
-    /// The index with these names.
-    fn with_names<S: BuildHasher>(self, names: IndexSet<Name, S>) -> Index<S>
-        ensures names { result.names.keys ≡ names.keys }
-        ensures origins { result.origins.items ≡ self.origins.items }
-        ensures graph { result.graph ≡ self.graph }
-        ensures required { result.required.items ≡ self.required.items }
-    {
-        Index {
-            names,
-            origins: self.origins,
-            graph: self.graph,
-            required: self.required,
-        }
-    }
-}
-
-/// Who provides each module, and what the modules and the objects need of one another.
-fn origins_and_graph<S: BuildHasher>(
-    alloc: Global,
-    modules: &Modules<S>,
-    required: Vec<Vec<usize>>,
-) -> Result<(Vec<(Maker, usize)>, Digraph), AllocError>
-    requires { AreIndexes modules.now (rows required.items) }
-    ensures origins { IfOk result (λ both. both.0.items ≡ origins_of modules.now) }
-    ensures graph { IfOk result (λ both. IsModuleGraph modules.now both.1) }
-{
-    let origins = all_origins(alloc, modules.provided())?;
-    let graph = module_graph(alloc, modules, origins.as_slice(), required)?;
-    Ok((origins, graph))
-}
-
-/// M1 to M3, and the modules by index. Puts the paths of the objects into the empty set.
+/// M1 to M4, and the modules by index.
 fn check_repetitions<'t, S: BuildHasher + Copy>(
     alloc: Global,
     objects: &'t [Rule],
@@ -180,41 +107,16 @@ fn check_repetitions<'t, S: BuildHasher + Copy>(
     requires { IsEmpty paths.old }
     ensures modules { IfOk result
         (λ modules. modules ≡ table_with objects.now infos.now) }
-    ensures paths { OnOk result
-        (map (λ path. path.now) paths.new.keys ≡ map (λ rule. rule.object) objects.now) }
-    ensures differ { OnOk result (AllDiffer (map (λ rule. rule.object) objects.now)) }
     ensures passed { OnOk result ((kept : List (List ℕ)) →
-        Passed 4 (table_with objects.now infos.now) kept) }
+        Passed 5 (table_with objects.now infos.now) kept) }
     ensures fault { IfErr result (ForFault (λ fault. (kept : List (List ℕ)) →
         IsReported (table_with objects.now infos.now) kept fault)) }
 {
     check_objects(alloc, objects, paths)?;
     check_infos(alloc, infos, hash_builder)?;
-    check_names(alloc, objects, infos, hash_builder)
-}
-
-/// M4 to M10, and what is kept of the modules beside their names. The modules' files come behind
-/// the paths of the objects.
-fn check_modules<'t, S: BuildHasher>(
-    alloc: Global,
-    modules: &Modules<'t, S>,
-    paths: &mut IndexSet<&'t Path, S>,
-    kept: &[Name],
-) -> Result<Lookups, Failure<TableFault>>
-    requires paths { map (λ path. path.now) paths.old.keys
-        ≡ map (λ rule. rule.object) modules.now.objects }
-    requires differ { AllDiffer (map (λ rule. rule.object) modules.now.objects) }
-    requires passed { Passed 4 modules.now kept.now }
-    ensures passed { OnOk result (Passed 11 modules.now kept.now) }
-    ensures origins { IfOk result (λ lookups. lookups.origins.items ≡ origins_of modules.now) }
-    ensures graph { IfOk result (λ lookups. IsModuleGraph modules.now lookups.graph) }
-    ensures required { IfOk result (λ lookups. map (λ row. row.items) lookups.required.items
-        ≡ map (required_of modules.now) modules.now.objects) }
-    ensures fault { IfErr result (ForFault (IsReported modules.now kept.now)) }
-{
-    check_files(alloc, modules, paths)?;
-    let rows = check_requirements(alloc, modules, kept)?;
-    Ok(Lookups::new(alloc, modules, rows)?)
+    let modules = check_names(alloc, objects, infos, hash_builder)?;
+    check_files(alloc, &modules, paths)?;
+    Ok(modules)
 }
 
 /// M5 to M10, and the indexes of the modules that each object requires.
@@ -224,51 +126,42 @@ fn check_requirements<S: BuildHasher>(
     kept: &[Name],
 ) -> Result<Vec<Vec<usize>>, Failure<TableFault>>
     requires { Passed 5 modules.now kept.now }
-    ensures indexes { IfOk result (λ required. AreIndexes modules.now (rows required.items)) }
+    ensures indexes { IfOk result (λ indexes. AreIndexes modules.now (rows indexes.items)) }
     ensures passed { OnOk result (Passed 11 modules.now kept.now) }
     ensures fault { IfErr result (ForFault (IsReported modules.now kept.now)) }
 {
-    let rows = check_objects_known(alloc, modules)?;
+    let indexes = check_objects_known(alloc, modules)?;
     let required = all_required(alloc, modules)?;
-    check_infos_required(alloc, modules, required.as_slice())?;
-    check_rings_and_privacy(alloc, modules, rows.as_slice(), required.as_slice(), kept)?;
-    Ok(rows)
+    check_looked_up(
+        alloc,
+        modules,
+        indexes.as_slice(),
+        required.as_slice(),
+        kept,
+    )?;
+    Ok(indexes)
 }
 
-/// M6 and M7: what infos' modules require.
-fn check_infos_required<S: BuildHasher>(
+/// M6 to M10, of what was looked up: each object has a row of the indexes of what it requires, and
+/// what infos' modules require comes with the modules of those names.
+fn check_looked_up<S: BuildHasher>(
     alloc: Global,
     modules: &Modules<S>,
+    indexes: &[Vec<usize>],
     required: &[InfoRequired],
+    kept: &[Name],
 ) -> Result<(), Failure<TableFault>>
-    requires { AreLookedUp modules.now required.now }
-    ensures passed { OnOk result
-        ((kept : List (List ℕ)) → Passed 6 modules.now kept → Passed 8 modules.now kept) }
-    ensures fault { IfErr result (ForFault (λ fault. (kept : List (List ℕ)) →
-        Passed 6 modules.now kept → IsReported modules.now kept fault)) }
+    requires indexes { AreIndexes modules.now (rows indexes.now) }
+    requires required { AreLookedUp modules.now required.now }
+    requires passed { Passed 6 modules.now kept.now }
+    ensures passed { OnOk result (Passed 11 modules.now kept.now) }
+    ensures fault { IfErr result (ForFault (IsReported modules.now kept.now)) }
 {
     check_infos_known(alloc, modules, required)?;
     check_infos_agree(alloc, modules, required)?;
-    Ok(())
-}
-
-/// M8 to M10. Each object has a row of the indexes of what it requires.
-fn check_rings_and_privacy<S: BuildHasher>(
-    alloc: Global,
-    modules: &Modules<S>,
-    objects_required: &[Vec<usize>],
-    infos_required: &[InfoRequired],
-    kept: &[Name],
-) -> Result<(), Failure<TableFault>>
-    requires indexes { AreIndexes modules.now (rows objects_required.now) }
-    requires lookups { AreLookedUp modules.now infos_required.now }
-    requires passed { Passed 8 modules.now kept.now }
-    ensures passed { OnOk result (Passed 11 modules.now kept.now) }
-    ensures fault { IfErr result (ForFault (IsReported modules.now kept.now)) }
-{
-    check_rings(alloc, modules, objects_required)?;
-    check_objects_allowed(alloc, modules, objects_required)?;
-    check_infos_allowed(alloc, modules, infos_required)?;
+    check_rings(alloc, modules, indexes)?;
+    check_objects_allowed(alloc, modules, indexes)?;
+    check_infos_allowed(alloc, modules, required)?;
     check_kept(alloc, modules, kept)?;
     Ok(())
 }

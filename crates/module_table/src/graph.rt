@@ -17,7 +17,7 @@ use scan_docs::{Info, InfoModule, Name};
 use std::alloc::{AllocError, Global};
 use std::hash::BuildHasher;
 
-/// What each module needs, by index, and behind all modules what each object needs: the modules of
+/// What each module needs, by index, and after all modules what each object needs: the modules of
 /// these indexes.
 pub(crate) fn module_graph<S: BuildHasher>(
     alloc: Global,
@@ -41,7 +41,7 @@ pub(crate) fn module_graph<S: BuildHasher>(
     Ok(Digraph::new(needs))
 }
 
-/// What each module needs, where so many objects come behind the modules.
+/// What each module needs, where so many objects come after the modules.
 fn modules_needs<S: BuildHasher>(
     alloc: Global,
     names: &IndexSet<Name, S>,

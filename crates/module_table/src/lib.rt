@@ -19,7 +19,7 @@
 //! [`added_files`] says what a sound table means for the files that are added to a build
 //! (`specs/Added.antt`). These definitions are relations over rules and infos
 //! (`specs/Modules.antt`); that the code works with indexes of modules does not show in them. What
-//! private clauses speak of stands below `specs/inner/`.
+//! private clauses speak of is below `specs/inner/`.
 //!
 //! [`TableFault::name`] answers the code and the name of a fault, and a fault is printed so
 //! (`specs/FaultNames.antt`).
@@ -45,9 +45,8 @@
 //! That one list at most has exactly the pairs of a relation is in `proofs/ForCallers.antt`, which
 //! alone of the proofs is cited by other crates.
 //!
-//! It stands on `scan_docs` for rules, infos and names, on `ninja_text` for paths, on `dep_order`
-//! for rings and for what a module leads to, on `indexmap` for look-ups, and on `thiserror` for its
-//! fault.
+//! It uses `scan_docs` for rules, infos and names, `ninja_text` for paths, `dep_order` for rings and
+//! for what a module leads to, `indexmap` for look-ups, and `thiserror` for its fault.
 //!
 //! `must-fail/` has a wrong body of each public function but of the laws, which have none, and of
 //! those that only hand on what a [`Resolved`] has: [`Table::objects`], [`Table::resolved`] and

@@ -39,7 +39,7 @@ pub(crate) struct Modules<'t, S: BuildHasher> {
     names: IndexSet<Name, S>,
 }
 
-// Not derived: a derived drop stands, field by field, wherever a value goes.
+// Not derived: a derived drop is written out, field by field, wherever a value goes.
 impl<S: BuildHasher + Drop> Drop for Modules<'_, S> {
     fn drop(self) {
         let Modules {
@@ -101,15 +101,17 @@ impl<'t, S: BuildHasher> Modules<'t, S> {
     }
 
     pub(crate) fn infos(&self) -> &'t [Info]
-        ensures { result.now ≡ self.now.infos }
+        ensures infos { result.now ≡ self.now.infos }
+        ensures differ { AllDiffer (names_of (provisions self.now)) }
     {
         self.infos
     }
 
-    /// All modules, by index.
+    /// All modules, by index. No two have one name.
     pub(crate) fn provided(&self) -> &[Module<'t>]
         ensures provisions { map provision_of result.now ≡ provisions self.now }
         ensures origins { map origin_of result.now ≡ origins_of self.now }
+        ensures differ { AllDiffer (names_of (provisions self.now)) }
     {
         self.provided.as_slice()
     }
@@ -127,13 +129,6 @@ impl<'t, S: BuildHasher> Modules<'t, S> {
         ensures { slice_get (names_of (provisions self.now)) index ≡ Some result.now }
     {
         module_at(self.provided.as_slice(), index).name
-    }
-
-    /// No two modules have one name.
-    pub(crate) fn names_differ(&self)
-        ensures { AllDiffer (names_of (provisions self.now)) }
-    {
-        let _ = &self.names;
     }
 
     /// The module of that name, if one is provided.

@@ -96,7 +96,7 @@ impl<'t> Needs<'t> {
     }
 }
 
-/// The ranks of the modules among these nodes. Nodes behind all modules are objects.
+/// The ranks of the modules among these nodes. Nodes after all modules are objects.
 fn ranks_at(alloc: Global, ranks: &[usize], nodes: &[usize]) -> Result<Vec<usize>, AllocError>
     ensures { IfOk result (λ found. found.items ≡ filter_map (slice_get ranks.now) nodes.now) }
 {

@@ -6,6 +6,8 @@ ghost use Rattle.module_table.specs.Added.{required_of};
 ghost use Rattle.module_table.specs.inner.Numbered.{AreIndexes};
 ghost use Rattle.module_table.specs.inner.Indexed.{pair_at};
 ghost use Rattle.module_table.specs.inner.Mentioned.{AreFirsts};
+ghost use Rattle.module_table.specs.inner.Repetition.{AllDiffer};
+ghost use Rattle.module_table.specs.inner.Views.{names_of};
 
 use crate::modules::{Module, Modules, module_at};
 use ninja_text::Path;
@@ -43,10 +45,10 @@ fn add_pairs<S: BuildHasher>(
     requires as_many { length marks.old.items ≡ length (provisions modules.now) }
     requires unmarked { All (λ mark. mark ≤ 0) marks.old.items }
     requires empty { all.old.items ≡ [] }
+    requires differ { AllDiffer (names_of (provisions modules.now)) }
     ensures { OnOk result (map (λ row. row.items) all.new.items
         ≡ map (required_of modules.now) modules.now.objects) }
 {
-    modules.names_differ();
     let mut mentioned = Vec::new(alloc);
     for (object, row) in required.iter().enumerate() {
         list_mentions(row.as_slice(), object + 1, marks, &mut mentioned)?;

@@ -11,22 +11,12 @@ use std::marker::Model;
 
 /// The objects of a table without a fault, and the modules that each requires: what is left of a
 /// [`Table`](crate::Table) where no name is looked up any more.
+#[derive(Drop)]
 pub struct Resolved {
     objects: Vec<Rule>,
     infos: Vec<Info>,
     /// What each object requires, with the modules' files.
     required: Vec<Vec<(Name, Path)>>,
-}
-
-// Not derived: a derived drop stands, field by field, wherever a value goes.
-impl Drop for Resolved {
-    fn drop(self) {
-        let Resolved {
-            objects: _,
-            infos: _,
-            required: _,
-        } = self;
-    }
 }
 
 impl Model for Resolved {

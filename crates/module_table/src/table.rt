@@ -25,6 +25,7 @@ use std::marker::Model;
 
 /// The modules of one target and of the targets that it links, without a fault. Names are hashed by
 /// an `S`.
+#[derive(Drop)]
 pub struct Table<S: BuildHasher = BuildHasherDefault<FoldHasher>> {
     resolved: Resolved,
     /// The names of all provided modules. A name's index is that of its module.
@@ -33,18 +34,6 @@ pub struct Table<S: BuildHasher = BuildHasherDefault<FoldHasher>> {
     origins: Vec<(Maker, usize)>,
     /// What the modules and the objects need of one another, by index.
     graph: Digraph,
-}
-
-// Not derived: a derived drop stands, field by field, wherever a value goes.
-impl<S: BuildHasher + Drop> Drop for Table<S> {
-    fn drop(self) {
-        let Table {
-            resolved: _,
-            names: _,
-            origins: _,
-            graph: _,
-        } = self;
-    }
 }
 
 impl<S: BuildHasher> Model for Table<S> {
@@ -106,13 +95,17 @@ impl<S: BuildHasher + Copy> Table<S> {
         ensures fault { IfErr result
             (ForFault (IsReported (table_with objects.items infos.items) kept.now)) }
     {
-        let index = check_all(
-            alloc,
-            objects.as_slice(),
-            infos.as_slice(),
-            kept,
-            hash_builder,
-        )?;
+        let index = {
+            let mut paths = IndexSet::with_hasher(alloc, hash_builder);
+            check_all(
+                alloc,
+                objects.as_slice(),
+                infos.as_slice(),
+                kept,
+                &mut paths,
+                hash_builder,
+            )?
+        };
         Ok(Table {
             resolved: Resolved::new(objects, infos, index.required),
             names: index.names,

@@ -115,7 +115,7 @@ IsPrivateTo modules name info =
 
 -- ---- in a list
 
--- the first element that is refused, behind accepted ones
+-- the first element that is refused, after accepted ones
 pub record RefusesAt {X : Type 0} (Accepted Refused : X → Type 0) (xs : List X) (index : ℕ)
     : Type 0 where
   pub x : X

@@ -4,7 +4,8 @@ use Rattle.std.specs.Option.{option_map}
 use Rattle.scan_docs.specs.Info.{ModuleValue}
 use Rattle.module_table.specs.TableValue.{TableValue}
 use Rattle.module_table.specs.Modules.{Provision, provisions, InfoRequirement, info_requirements}
-use Rattle.module_table.specs.inner.Views.{provision_of, requirement_of}
+use Rattle.module_table.specs.inner.Repetition.{AllDiffer}
+use Rattle.module_table.specs.inner.Views.{provision_of, requirement_of, names_of}
 use Rattle.module_table.specs.inner.Finds.{found, LookedUp}
 use Rattle.module_table.specs.declared.requirements.InfoRequired.{InfoRequired}
 
@@ -23,6 +24,7 @@ lookups_of modules info target entry =
     (record { info = info; target = target; module_name = entry.name; name = r.0; file = r.1 }))
     entry.required
 
--- all requirements of infos' modules, each with the module of that name
-abbrev pub AreLookedUp : TableValue → List InfoRequired → Type 0
-AreLookedUp t all = map looked_up all ≡ map (with_module (provisions t)) (info_requirements t)
+-- All requirements of infos' modules, each with the module of that name, of which there is one.
+pub record AreLookedUp (t : TableValue) (all : List InfoRequired) : Type 0 where
+  pub same : map looked_up all ≡ map (with_module (provisions t)) (info_requirements t)
+  pub differ : AllDiffer (names_of (provisions t))

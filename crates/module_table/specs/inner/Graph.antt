@@ -19,14 +19,14 @@ index_in names name = position (λ other. bytes_eq name other) names
 abbrev pub indexes_in : List (List ℕ) → List (List ℕ × List ℕ) → List ℕ
 indexes_in names pairs = filter_map (λ pair. index_in names pair.0) pairs
 
--- a module of an object needs the object, whose index comes behind those of all modules, and a
+-- a module of an object needs the object, whose index comes after those of all modules, and a
 -- module of an info what it requires
 abbrev pub IsModuleRow : List (List ℕ) → List InfoValue → Maker × ℕ → List ℕ → Type 0
 IsModuleRow names infos (Object object, index) row = row ≡ (length names + object) ∷ []
 IsModuleRow names infos (Info info, index) row = (entry : ModuleValue)
     × IsInfosModule infos info index entry × (row ≡ indexes_in names entry.required)
 
--- What each module needs, by index, and behind all modules what each object needs.
+-- What each module needs, by index, and after all modules what each object needs.
 pub record IsModuleGraph (t : TableValue) (graph : List (List ℕ)) : Type 0 where
   pub modules : List (List ℕ)
   pub objects : List (List ℕ)

@@ -1,4 +1,4 @@
--- What a list mentions, each once, and the marks that tell what was mentioned.
+-- What a list mentions, each once, and the marks that say what was mentioned.
 use Rattle.std.specs.Prelude.{◌≡◌, ℕ, ◌<◌, ◌≤◌, List, [], length, map, All, get_or, slice_get, Some}
 use Rattle.module_table.specs.Added.{first_mentions}
 use Rattle.module_table.specs.inner.Repetition.{AllDiffer}

@@ -26,7 +26,7 @@ pub record AreByName (provided : List Provision) (modules : List Numbered) : Typ
       × (slice_get modules r ≡ Some m) × (m.1 ≡ k)
   pub rising : AllPairs (λ a b. Precedes a.0.0.now b.0.0.now) modules
 
--- no number stands there twice
+-- no number is there twice
 pub record AreNumbers (modules : List Numbered) : Type 0 where
   pub below : (r : ℕ) (m : Numbered) → slice_get modules r ≡ Some m → m.1 < length modules
   pub once : (r s : ℕ) (m n : Numbered) → slice_get modules r ≡ Some m

@@ -7,11 +7,13 @@ ghost use Rattle.module_table.specs.Modules.{provisions, info_requirements};
 ghost use Rattle.module_table.specs.inner.Finds.{is_allowed, is_public_at, is_by_object, is_info_at, IsPrivate, IsAllowed, IsByObject, IsPrivateTo, RequiresPublic, AcceptsAll};
 ghost use Rattle.module_table.specs.inner.Found.{looked_up, AreLookedUp};
 ghost use Rattle.module_table.specs.inner.Numbered.{AreIndexes};
+ghost use Rattle.module_table.specs.inner.Repetition.{AllDiffer};
 ghost use Rattle.module_table.specs.inner.Reported.{Reports};
+ghost use Rattle.module_table.specs.inner.Views.{names_of, provision_of};
 ghost use Rattle.module_table.specs.declared.fault.TableFault.TheVariants.{ModulePrivate};
 
 use crate::fault::{Maker, TableFault};
-use crate::modules::Modules;
+use crate::modules::{Module, Modules};
 use crate::requirements::{InfoRequired, required_at};
 use ninja_text::Failure;
 use scan_docs::Name;
@@ -31,9 +33,9 @@ pub(crate) fn check_objects_allowed<S: BuildHasher>(
     ensures fault { IfErr result (ForFault
         (λ fault. (kept : List (List ℕ)) → Reports 9 modules.now kept fault)) }
 {
-    modules.names_differ();
+    let provided = modules.provided();
     for (object, row) in required.iter().enumerate() {
-        match first_private(modules, row.as_slice()) {
+        match first_private(provided, row.as_slice()) {
             None => {}
             Some(index) => {
                 let name = modules.name_at(row[index]);
@@ -58,7 +60,6 @@ pub(crate) fn check_infos_allowed<S: BuildHasher>(
     ensures fault { IfErr result (ForFault
         (λ fault. (kept : List (List ℕ)) → Reports 9 modules.now kept fault)) }
 {
-    modules.names_differ();
     match first_not_allowed(all) {
         None => Ok(()),
         Some(index) => {
@@ -76,10 +77,10 @@ pub(crate) fn check_kept<S: BuildHasher>(
     modules: &Modules<S>,
     kept: &[Name],
 ) -> Result<(), Failure<TableFault>>
+    requires { AllDiffer (names_of (provisions modules.now)) }
     ensures ok { OnOk result (AcceptsAll (IsByObject (provisions modules.now)) kept.now) }
     ensures fault { IfErr result (ForFault (Reports 10 modules.now kept.now)) }
 {
-    modules.names_differ();
     match first_not_by_object(modules, kept) {
         None => Ok(()),
         Some(index) => {
@@ -96,7 +97,8 @@ fn private_fault<S: BuildHasher>(
     name: &Name,
     user: Maker,
 ) -> Result<TableFault, AllocError>
-    requires { IsPrivate (provisions modules.now) name.now }
+    requires differ { AllDiffer (names_of (provisions modules.now)) }
+    requires private { IsPrivate (provisions modules.now) name.now }
     ensures { IfOk result (λ fault. (info : ℕ)
         × IsPrivateTo (provisions modules.now) name.now info
         × (fault ≡ ModulePrivate name.now info user)) }
@@ -108,10 +110,10 @@ fn private_fault<S: BuildHasher>(
 
 /// The info that the module of that name is private to.
 fn info_of<S: BuildHasher>(modules: &Modules<S>, name: &Name) -> usize
-    requires { IsPrivate (provisions modules.now) name.now }
+    requires differ { AllDiffer (names_of (provisions modules.now)) }
+    requires private { IsPrivate (provisions modules.now) name.now }
     ensures { IsPrivateTo (provisions modules.now) name.now result }
 {
-    modules.names_differ();
     match modules.find(name) {
         Some(module) => match module.maker {
             Maker::Info(info) => info,
@@ -122,13 +124,13 @@ fn info_of<S: BuildHasher>(modules: &Modules<S>, name: &Name) -> usize
 }
 
 /// The first of these modules that is private, as an index into the list.
-fn first_private<S: BuildHasher>(modules: &Modules<S>, indexes: &[usize]) -> Option<usize>
+fn first_private(provided: &[Module], indexes: &[usize]) -> Option<usize>
     ensures { result ≡ position
-        (λ index. not (is_public_at (provisions modules.now) index)) indexes.now }
+        (λ index. not (is_public_at (map provision_of provided.now) index)) indexes.now }
 {
     indexes
         .iter()
-        .position(|index| !is_public_at(modules, *index))
+        .position(|index| !is_public_at(provided, *index))
 }
 
 fn first_not_allowed(all: &[InfoRequired]) -> Option<usize>
@@ -165,10 +167,10 @@ fn is_info_at(maker: Maker, index: usize) -> bool
 }
 
 /// Whether the module of that index is private to no info.
-fn is_public_at<S: BuildHasher>(modules: &Modules<S>, index: usize) -> bool
-    ensures { result ≡ is_public_at (provisions modules.now) index }
+fn is_public_at(provided: &[Module], index: usize) -> bool
+    ensures { result ≡ is_public_at (map provision_of provided.now) index }
 {
-    match modules.provided().get(index) {
+    match provided.get(index) {
         Some(module) => !module.is_private,
         None => true,
     }

@@ -1,4 +1,4 @@
-//! M1 to M4: what stands twice among the paths of objects, the targets of infos, the names of
+//! M1 to M4: what is twice among the paths of objects, the targets of infos, the names of
 //! modules and the files.
 ghost use Rattle.std.specs.Prelude.{◌≡◌, ◌<◌, ◌+◌, ◌++◌, ℕ, List, map, length, slice_get, Some, IfOk, IfErr, OnOk};
 ghost use Rattle.indexmap.specs.IndexSet.{IsEmpty};
@@ -9,8 +9,6 @@ ghost use Rattle.module_table.specs.Faults.{Claim, claims_of};
 ghost use Rattle.module_table.specs.inner.Repetition.{AllDiffer};
 ghost use Rattle.module_table.specs.inner.Views.{provision_of, names_of, files_of, IsProvidedTwice, IsMadeTwice};
 ghost use Rattle.module_table.specs.inner.Reported.{Reports};
-ghost use Rattle.module_table.specs.declared.fault.Maker.TheVariants.{Object};
-ghost use Rattle.module_table.specs.declared.fault.TableFault.TheVariants.{ObjectTwice, InfoTwice};
 
 use crate::fault::{Maker, TableFault};
 use crate::modules::{Module, Modules, module_at, provided_modules};
@@ -37,29 +35,15 @@ pub(crate) fn check_objects<'t, S: BuildHasher>(
     for (index, rule) in objects.iter().enumerate() {
         let (first, is_new) = paths.insert_full(&rule.object)?;
         if !is_new {
-            let fault = object_twice(alloc, &rule.object, first, index)?;
-            return Err(Failure::Fault(fault));
+            let path = rule.object.copy(alloc)?;
+            return Err(Failure::Fault(TableFault::ObjectTwice {
+                path,
+                first: Maker::Object(first),
+                second: Maker::Object(index),
+            }));
         }
     }
     Ok(())
-}
-
-/// The fault that two objects have this path.
-fn object_twice(
-    alloc: Global,
-    path: &Path,
-    first: usize,
-    second: usize,
-) -> Result<TableFault, AllocError>
-    ensures { IfOk result
-        (λ fault. fault ≡ ObjectTwice path.now (Object first) (Object second)) }
-{
-    let path = path.copy(alloc)?;
-    Ok(TableFault::ObjectTwice {
-        path,
-        first: Maker::Object(first),
-        second: Maker::Object(second),
-    })
 }
 
 /// M2: no two infos have one target name.
@@ -91,19 +75,11 @@ fn add_targets<'t, S: BuildHasher>(
     for info in infos {
         let (_, is_new) = targets.insert_full(&info.target)?;
         if !is_new {
-            let fault = info_twice(alloc, &info.target)?;
-            return Err(Failure::Fault(fault));
+            let target = info.target.copy(alloc)?;
+            return Err(Failure::Fault(TableFault::InfoTwice { target }));
         }
     }
     Ok(())
-}
-
-/// The fault that two infos have this target name.
-fn info_twice(alloc: Global, target: &TargetName) -> Result<TableFault, AllocError>
-    ensures { IfOk result (λ fault. fault ≡ InfoTwice target.now) }
-{
-    let target = target.copy(alloc)?;
-    Ok(TableFault::InfoTwice { target })
 }
 
 /// All provided modules. M3: no name is provided twice.
@@ -120,24 +96,9 @@ pub(crate) fn check_names<'t, S: BuildHasher + Copy>(
         Reports 3 (table_with objects.now infos.now) kept fault)) }
 {
     let provided = provided_modules(alloc, objects, infos)?;
-    let names = provided_names(alloc, provided.as_slice(), hash_builder)?;
-    Ok(Modules::new(objects, infos, provided, names))
-}
-
-/// The modules' names, each at its module's index, if none is there twice.
-fn provided_names<S: BuildHasher + Copy>(
-    alloc: Global,
-    provided: &[Module],
-    hash_builder: S,
-) -> Result<IndexSet<Name, S>, Failure<TableFault>>
-    ensures names { IfOk result (λ names. names.keys ≡ names_of (map provision_of provided.now)) }
-    ensures differ { IfOk result (λ names. AllDiffer names.keys) }
-    ensures fault { IfErr result (ForFault (λ fault. (t : TableValue) (kept : List (List ℕ)) →
-        map provision_of provided.now ≡ provisions t → Reports 3 t kept fault)) }
-{
     let mut names = IndexSet::with_hasher(alloc, hash_builder);
-    add_names(alloc, provided, &mut names)?;
-    Ok(names)
+    add_names(alloc, provided.as_slice(), &mut names)?;
+    Ok(Modules::new(objects, infos, provided, names))
 }
 
 /// Puts the modules' names into the empty set, each at its module's index, if none is there twice.
@@ -186,7 +147,7 @@ fn provided_twice(
 
 /// M4: no file is that of two provided modules, or of a module and an object. No two objects have
 /// one path here, so a file that is made twice is a module's at least once. `files` has the paths
-/// of the objects, behind which the modules' files come.
+/// of the objects, after which the modules' files come.
 pub(crate) fn check_files<'t, S: BuildHasher>(
     alloc: Global,
     modules: &Modules<'t, S>,

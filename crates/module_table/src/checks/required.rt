@@ -76,7 +76,6 @@ pub(crate) fn check_infos_known<S: BuildHasher>(
     ensures fault { IfErr result (ForFault
         (λ fault. (kept : List (List ℕ)) → Reports 6 modules.now kept fault)) }
 {
-    modules.names_differ();
     match first_not_by_info(all) {
         None => Ok(()),
         Some(index) => {
@@ -104,7 +103,6 @@ pub(crate) fn check_infos_agree<S: BuildHasher>(
     ensures fault { IfErr result (ForFault
         (λ fault. (kept : List (List ℕ)) → Reports 7 modules.now kept fault)) }
 {
-    modules.names_differ();
     match first_differing(all) {
         None => Ok(()),
         Some(index) => {

@@ -28,7 +28,6 @@ pub(crate) fn check_rings<S: BuildHasher>(
     ensures fault { IfErr result (ForFault
         (λ fault. (kept : List (List ℕ)) → Reports 8 modules.now kept fault)) }
 {
-    modules.names_differ();
     let needs = all_needs(alloc, modules.provided(), required)?;
     let graph = Digraph::new(needs);
     match order(alloc, &graph)? {

@@ -1,27 +1,14 @@
-use Rattle.std.proofs.Common.{◌≡◌, ℕ, List, Result, Ok, Err, IfOk, refl, subst}
-use Rattle.std.specs.Prelude.{OnOk}
-use Rattle.std.proofs.lemmas.Result.{err_from_is_err_and, IfErr-weaker}
-use Rattle.ninja_text.specs.Failure.{ForFault}
-use Rattle.ninja_text.specs.declared.failure.Failure.{Failure}
+use Rattle.std.proofs.Common.{◌≡◌, ◌∙◌, ℕ, List, ap, map, refl, subst, sym}
+use Rattle.std.proofs.lemmas.Result.{err_from_is_err_and}
+use Rattle.scan_docs.specs.Scan.{RuleValue}
 use Rattle.module_table.specs.TableValue.{TableValue}
 use Rattle.module_table.specs.Modules.{provisions}
 use Rattle.module_table.specs.Faults.{IsReported}
 use Rattle.module_table.specs.inner.Passed.{Passed}
 use Rattle.module_table.specs.inner.Repetition.{AllDiffer}
-use Rattle.module_table.specs.inner.Reported.{Reports}
 use Rattle.module_table.specs.inner.Views.{names_of}
-use Rattle.module_table.specs.declared.fault.TableFault.{TableFault}
-use Rattle.module_table.proofs.Passing.{for_every_kept, reported, none_passed, after_objects, after_infos, after_names}
+use Rattle.module_table.proofs.Passing.{for_every_kept, reported, none_passed, after_objects, after_infos, after_names, after_files}
 use Rattle.module_table.proofs.checks.check_repetitions.Goals as goal
-
--- the modules are those of the table, and no two names are alike
-passed_names : (t : TableValue) (r : Result TableValue (Failure TableFault)) → ((kept : List (List ℕ)) → Passed 3 t kept) → IfOk r (λ modules. modules ≡ t) → IfOk r (λ modules. AllDiffer (names_of (provisions modules))) → OnOk r ((kept : List (List ℕ)) → Passed 4 t kept)
-passed_names t (Ok modules) passed same differ = λ kept. after_names t kept (subst (λ u. AllDiffer (names_of (provisions u))) same differ) (passed kept)
-passed_names t (Err failure) passed same differ = tt
-
-on_ok : {A E : Type 0} (r : Result A E) (P : Type 0) → P → OnOk r P
-on_ok (Ok x) P h = h
-on_ok (Err e) P h = tt
 
 pub returns-in_err-check_objects-clause-fault : goal.returns-in_err-check_objects-clause-fault
 returns-in_err-check_objects-clause-fault g c =
@@ -37,22 +24,41 @@ returns-in_err-check_infos-clause-fault g c =
     rw (p.1, p.2)
     (for_every_kept t _ _ (λ kept fault is. reported t kept 2 fault (is t kept refl) (after_objects t kept c.in_ok-check_objects.ensures.differ)) c.in_err-check_infos.ensures.fault)
 
-pub returns-clause-paths : goal.returns-clause-paths
-returns-clause-paths g c = on_ok c.check_names.result _ c.in_ok-check_objects.ensures.paths
+pub returns-in_err-modules-clause-fault : goal.returns-in_err-modules-clause-fault
+returns-in_err-modules-clause-fault g c =
+    let t : TableValue = record { objects = c.args.objects.now; infos = c.args.infos.now } in
+    let p = err_from_is_err_and c.from_residual-in_err-modules.result c.from_residual-in_err-modules.ensures.1 in
+    rw (p.1, p.2)
+    (for_every_kept t _ _ (λ kept fault is. reported t kept 3 fault (is kept) (after_infos t kept c.in_ok-check_infos.ensures.ok (after_objects t kept c.in_ok-check_objects.ensures.differ))) c.in_err-modules.ensures.fault)
 
-pub returns-clause-differ : goal.returns-clause-differ
-returns-clause-differ g c = on_ok c.check_names.result _ c.in_ok-check_objects.ensures.differ
+pub check_files-requires-clause-paths : goal.check_files-requires-clause-paths
+check_files-requires-clause-paths g c =
+    c.in_ok-check_objects.ensures.paths ∙ ap (λ (t : TableValue). map (λ (rule : RuleValue). rule.object) t.objects) (sym c.in_ok-modules.ensures.modules)
+
+pub check_files-requires-clause-differ : goal.check_files-requires-clause-differ
+check_files-requires-clause-differ g c =
+    subst (λ (t : TableValue). AllDiffer (map (λ (rule : RuleValue). rule.object) t.objects)) (sym c.in_ok-modules.ensures.modules) c.in_ok-check_objects.ensures.differ
+
+-- the checks of objects, infos and names have passed for what the modules are
+three_passed : (t u : TableValue) → u ≡ t → AllDiffer (map (λ (rule : RuleValue). rule.object) t.objects) → AllDiffer (map (λ info. info.target) t.infos) → AllDiffer (names_of (provisions u)) → (kept : List (List ℕ)) → Passed 4 u kept
+three_passed t u same objects infos names kept =
+    subst (λ v. Passed 4 v kept) (sym same)
+    (after_names t kept (subst (λ v. AllDiffer (names_of (provisions v))) same names) (after_infos t kept infos (after_objects t kept objects)))
+
+pub returns-in_err-check_files-clause-fault : goal.returns-in_err-check_files-clause-fault
+returns-in_err-check_files-clause-fault g c =
+    let t : TableValue = record { objects = c.args.objects.now; infos = c.args.infos.now } in
+    let u : TableValue = c.in_ok-modules.modules in
+    let same = c.in_ok-modules.ensures.modules in
+    let passed = three_passed t u same c.in_ok-check_objects.ensures.differ c.in_ok-check_infos.ensures.ok c.in_ok-modules.ensures.differ in
+    let p = err_from_is_err_and c.from_residual-in_err-check_files.result c.from_residual-in_err-check_files.ensures.1 in
+    rw (p.1, p.2)
+    (for_every_kept t _ _ (λ kept fault is. subst (λ v. IsReported v kept fault) same (reported u kept 4 fault (is kept) (passed kept))) c.in_err-check_files.ensures.fault)
 
 pub returns-clause-passed : goal.returns-clause-passed
-returns-clause-passed g c =
+returns-clause-passed g c = λ kept.
     let t : TableValue = record { objects = c.args.objects.now; infos = c.args.infos.now } in
-    passed_names t c.check_names.result (λ kept. after_infos t kept c.in_ok-check_infos.ensures.ok (after_objects t kept c.in_ok-check_objects.ensures.differ))
-    c.check_names.ensures.modules c.check_names.ensures.differ
-
-pub returns-clause-fault : goal.returns-clause-fault
-returns-clause-fault g c =
-    let t : TableValue = record { objects = c.args.objects.now; infos = c.args.infos.now } in
-    IfErr-weaker c.check_names.result (ForFault (λ fault. (kept : List (List ℕ)) → Reports 3 t kept fault)) (ForFault (λ fault. (kept : List (List ℕ)) → IsReported t kept fault))
-    (λ failure. for_every_kept t (λ fault. (kept : List (List ℕ)) → Reports 3 t kept fault) failure (λ kept fault is.
-    reported t kept 3 fault (is kept) (after_infos t kept c.in_ok-check_infos.ensures.ok (after_objects t kept c.in_ok-check_objects.ensures.differ))))
-    c.check_names.ensures.fault
+    let u : TableValue = c.in_ok-modules.modules in
+    let same = c.in_ok-modules.ensures.modules in
+    subst (λ v. Passed 5 v kept) same
+    (after_files u kept c.in_ok-check_files.ensures.ok (three_passed t u same c.in_ok-check_objects.ensures.differ c.in_ok-check_infos.ensures.ok c.in_ok-modules.ensures.differ kept))

@@ -49,8 +49,8 @@ loop-object-preserved g c =
     let long = length_mapped (λ (p : Provision). p.name) ps ∙ sym many in
     let mentioned = c.list_mentions.new.mentioned.items in
     let pairs = c.in_ok-pairs.pairs.items in
-    let firsts = c.in_ok-list_mentions.ensures.firsts names c.names_differ.ensures long ∙ ap (λ xs. first_mentions (map (name_in names) xs)) c.as_slice.ensures.value ∙ ap first_mentions (row_names names row.items rule.0.required rule.2) in
-    let found = pairs_found ps c.names_differ.ensures mentioned pairs (c.in_ok-pairs.ensures ∙ ap (map (pair_at ps)) c.as_slice-in-loop-object.ensures.value) in
+    let firsts = c.in_ok-list_mentions.ensures.firsts names c.requires.differ long ∙ ap (λ xs. first_mentions (map (name_in names) xs)) c.as_slice.ensures.value ∙ ap first_mentions (row_names names row.items rule.0.required rule.2) in
+    let found = pairs_found ps c.requires.differ mentioned pairs (c.in_ok-pairs.ensures ∙ ap (map (pair_at ps)) c.as_slice-in-loop-object.ensures.value) in
     let same : pairs ≡ required_of t rule.0 = sym found ∙ ap (filter_map (pair_of ps)) firsts in
     record {
       as_many = c.list_mentions.ensures.as_many ∙ many;

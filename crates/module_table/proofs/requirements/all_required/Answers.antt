@@ -17,8 +17,11 @@ loop-info-preserved g c =
     gathers_next (λ (info : ℕ × InfoValue). flat_map (lookups_of (provisions c.args.modules.now) info.0 info.1.target) info.1.modules) infos i value [] _ _ (slice_get_read infos _ i value refl c.loop-info-test.true c.index-infos-info.is) c.loop-info.invariant c.in_ok-add_info.ensures
 
 pub returns : goal.returns
-returns g c =
-    let t = c.args.modules.now in
-    c.loop-info.invariant
-    ∙ ap (λ infos. flat_map (λ (info : ℕ × InfoValue). flat_map (lookups_of (provisions t) info.0 info.1.target) info.1.modules) (enumerate_from 0 infos)) (take_all c.infos-infos.result.now c.loop-info.info c.loop-info-test.false ∙ c.infos-infos.ensures)
-    ∙ sym (lookups t)
+returns g c = record {
+  same =
+      let t = c.args.modules.now in
+      c.loop-info.invariant
+      ∙ ap (λ infos. flat_map (λ (info : ℕ × InfoValue). flat_map (lookups_of (provisions t) info.0 info.1.target) info.1.modules) (enumerate_from 0 infos)) (take_all c.infos-infos.result.now c.loop-info.info c.loop-info-test.false ∙ c.infos-infos.ensures.infos)
+      ∙ sym (lookups t);
+  differ = c.infos-infos.ensures.differ;
+}

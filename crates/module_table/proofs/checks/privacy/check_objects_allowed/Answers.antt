@@ -36,7 +36,7 @@ index-requires g c =
     let k = c.in-Some.index in
     let row = c.index-required-object.result in
     let at = slice_get_read c.args.required.now _ i row refl c.loop-object-test.true c.index-required-object.is in
-    let p = private_in c.args.modules.now c.args.required.now c.requires c.names_differ.ensures i row at k c.as_slice.result.now c.as_slice.ensures.value (sym c.in-Some.is ∙ c.first_private.ensures) in
+    let p = private_in c.args.modules.now c.args.required.now c.requires c.provided-provided.ensures.differ i row at k c.as_slice.result.now c.as_slice.ensures.value (sym c.in-Some.is ∙ c.first_private.ensures ∙ ap (λ modules. position (λ index. not (is_public_at modules index)) c.as_slice.result.now) c.provided-provided.ensures.provisions) in
     let within = slice_get_within row.items k p.0 p.3 in
     omega (arith, within, row.ok.0)
 
@@ -47,20 +47,20 @@ name_at-name-requires g c =
     let k = c.in-Some.index in
     let row = c.index-required-object.result in
     let at = slice_get_read c.args.required.now _ i row refl c.loop-object-test.true c.index-required-object.is in
-    let p = private_in c.args.modules.now c.args.required.now c.requires c.names_differ.ensures i row at k c.as_slice.result.now c.as_slice.ensures.value (sym c.in-Some.is ∙ c.first_private.ensures) in
+    let p = private_in c.args.modules.now c.args.required.now c.requires c.provided-provided.ensures.differ i row at k c.as_slice.result.now c.as_slice.ensures.value (sym c.in-Some.is ∙ c.first_private.ensures ∙ ap (λ modules. position (λ index. not (is_public_at modules index)) c.as_slice.result.now) c.provided-provided.ensures.provisions) in
     let same = c.index.ensures ∙ get_or_from_slice_get row.items k p.0 c.index.result.now p.3 in
     let within = slice_get_within (names_of ps) p.0 p.2 p.6 in
     let long = length_mapped (λ (p : Provision). p.name) ps in
     omega (arith, within, long, same)
 
-pub private_fault-requires : goal.private_fault-requires
-private_fault-requires g c =
+pub private_fault-requires-clause-private : goal.private_fault-requires-clause-private
+private_fault-requires-clause-private g c =
     let ps = provisions c.args.modules.now in
     let i = c.loop-object.object in
     let k = c.in-Some.index in
     let row = c.index-required-object.result in
     let at = slice_get_read c.args.required.now _ i row refl c.loop-object-test.true c.index-required-object.is in
-    let p = private_in c.args.modules.now c.args.required.now c.requires c.names_differ.ensures i row at k c.as_slice.result.now c.as_slice.ensures.value (sym c.in-Some.is ∙ c.first_private.ensures) in
+    let p = private_in c.args.modules.now c.args.required.now c.requires c.provided-provided.ensures.differ i row at k c.as_slice.result.now c.as_slice.ensures.value (sym c.in-Some.is ∙ c.first_private.ensures ∙ ap (λ modules. position (λ index. not (is_public_at modules index)) c.as_slice.result.now) c.provided-provided.ensures.provisions) in
     let same = c.index.ensures ∙ get_or_from_slice_get row.items k p.0 c.index.result.now p.3 in
     let name : p.2 ≡ c.name_at-name.result.now = same_some _ _ (sym p.6 ∙ ap (slice_get (names_of ps)) (sym same) ∙ c.name_at-name.ensures) in
     subst (IsPrivate ps) (same_some _ _ (sym p.7.here ∙ p.5) ∙ name) p.7.refused
@@ -72,7 +72,7 @@ returns-in-Some-clause-fault g c = λ kept.
     let k = c.in-Some.index in
     let row = c.index-required-object.result in
     let at = slice_get_read c.args.required.now _ i row refl c.loop-object-test.true c.index-required-object.is in
-    let p = private_in t c.args.required.now c.requires c.names_differ.ensures i row at k c.as_slice.result.now c.as_slice.ensures.value (sym c.in-Some.is ∙ c.first_private.ensures) in
+    let p = private_in t c.args.required.now c.requires c.provided-provided.ensures.differ i row at k c.as_slice.result.now c.as_slice.ensures.value (sym c.in-Some.is ∙ c.first_private.ensures ∙ ap (λ modules. position (λ index. not (is_public_at modules index)) c.as_slice.result.now) c.provided-provided.ensures.provisions) in
     let same = c.index.ensures ∙ get_or_from_slice_get row.items k p.0 c.index.result.now p.3 in
     let name : p.2 ≡ c.name_at-name.result.now = same_some _ _ (sym p.6 ∙ ap (slice_get (names_of (provisions t))) (sym same) ∙ c.name_at-name.ensures) in
     let h = c.in_ok-fault-in-Some.ensures in
@@ -86,8 +86,8 @@ loop-object-preserved g c =
     let row = c.index-required-object.result in
     let at = slice_get_read c.args.required.now _ i row refl c.loop-object-test.true c.index-required-object.is in
     let rule = rule_of t (rows c.args.required.now) c.requires i row.items (to_map items_of c.args.required.now i row at) in
-    let differ = c.names_differ.ensures in
-    let found = first_refused (λ index. index) (λ index. index) (is_public_at ps) (IsPublicAt ps differ) (IsPrivateAt ps differ) (at_index ps differ) row.items c.as_slice.result.now (ap (map (λ index. index)) c.as_slice.ensures.value) None (sym c.in-None.is ∙ c.first_private.ensures) in
+    let differ = c.provided-provided.ensures.differ in
+    let found = first_refused (λ index. index) (λ index. index) (is_public_at ps) (IsPublicAt ps differ) (IsPrivateAt ps differ) (at_index ps differ) row.items c.as_slice.result.now (ap (map (λ index. index)) c.as_slice.ensures.value) None (sym c.in-None.is ∙ c.first_private.ensures ∙ ap (λ modules. position (λ index. not (is_public_at modules index)) c.as_slice.result.now) c.provided-provided.ensures.provisions) in
     accepts_next (RequiresPublic ps) (RequiresPublic ps) t.objects i rule.0 rule.1 c.loop-object.invariant
     (row_public ps differ row.items rule.0.required rule.2 found)
 

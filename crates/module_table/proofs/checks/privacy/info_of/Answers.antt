@@ -10,18 +10,18 @@ pub unreachable-requires : goal.unreachable-requires
 unreachable-requires g c =
     let t = c.args.modules.now in
     let f = found_named (provisions t) c.args.name.now (provision_of c.in-Some.module.now) (sym c.in-Some.ensures) in
-    let h = info_of_private (provisions t) c.names_differ.ensures (private_by_infos t) c.args.name.now c.requires f.0 (provision_of c.in-Some.module.now) f.1 in
+    let h = info_of_private (provisions t) c.requires.differ (private_by_infos t) c.args.name.now c.requires.private f.0 (provision_of c.in-Some.module.now) f.1 in
     let e : Object c.in-Object.field-0 ≡ Info h.0 = sym c.in-Object.is ∙ h.1 in
     cc
 
 pub unreachable-requires-in-None : goal.unreachable-requires-in-None
 unreachable-requires-in-None g c =
-    let p = c.requires in
+    let p = c.requires.private in
     none_named (provisions c.args.modules.now) c.args.name.now (sym c.in-None.ensures) p.0 p.1 p.2
 
 pub returns : goal.returns
 returns g c =
     let t = c.args.modules.now in
     let f = found_named (provisions t) c.args.name.now (provision_of c.in-Some.module.now) (sym c.in-Some.ensures) in
-    let h = info_of_private (provisions t) c.names_differ.ensures (private_by_infos t) c.args.name.now c.requires f.0 (provision_of c.in-Some.module.now) f.1 in
+    let h = info_of_private (provisions t) c.requires.differ (private_by_infos t) c.args.name.now c.requires.private f.0 (provision_of c.in-Some.module.now) f.1 in
     (f.0, provision_of c.in-Some.module.now, f.1, h.2, c.in-Info.is)

@@ -3,6 +3,7 @@ use Rattle.std.proofs.lemmas.Option.{slice_get_read}
 use Rattle.scan_docs.specs.Info.{InfoValue}
 use Rattle.module_table.specs.Firsts.{IsFirstRepetition}
 use Rattle.module_table.specs.inner.Repetition.{AllDiffer}
+use Rattle.module_table.specs.declared.fault.TableFault.TheVariants.{InfoTwice}
 use Rattle.module_table.proofs.IndexRows.{map_take_all}
 use Rattle.module_table.proofs.Places.{to_map}
 use Rattle.module_table.proofs.Repetitions.{repeats_if_found, keys_if_new, differ_if_new, text_repetition}
@@ -33,7 +34,7 @@ returns-then-not-is_new-clause-fault g c =
     let repeated = repeats_if_found text_of (map target_of infos) i _ c.loop-info.targets.keys c.insert_full.new.self.keys at c.loop-info.invariant.same c.loop-info.invariant.differ h.keys first (sym c.if-not-is_new.true ∙ h.added) stored.0 stored.1 stored.2 in
     let is = text_repetition (map target_of infos) first i target repeated at in
     λ t kept same.
-    reports_same 2 t kept c.in_ok-fault.fault _ c.in_ok-fault.ensures (record { present = (first, i, subst (λ xs. IsFirstRepetition (λ a b. a ≡ b) (map target_of xs) first i target target) same is); coded = refl })
+    reports_same 2 t kept _ _ (ap InfoTwice c.in_ok-target.ensures) (record { present = (first, i, subst (λ xs. IsFirstRepetition (λ a b. a ≡ b) (map target_of xs) first i target target) same is); coded = refl })
 
 pub loop-info-preserved : goal.loop-info-preserved
 loop-info-preserved g c =

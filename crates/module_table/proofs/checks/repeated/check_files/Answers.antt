@@ -22,7 +22,7 @@ object_of rule = rule.object
 first_files : (objects : List RuleValue) (files : List (List ℕ)) (n : ℕ) → take (length objects + n) (map object_of objects ++ files) ≡ map object_of objects ++ take n files
 first_files objects files n = subst (λ m. take (m + n) (map object_of objects ++ files) ≡ map object_of objects ++ take n files) (length_mapped object_of objects) (take_behind (map object_of objects) files n)
 
--- the file of a module stands behind the paths of objects
+-- the file of a module is after the paths of objects
 file_at : (objects : List RuleValue) (provided : List Module) (i : ℕ) (p : Module) → slice_get provided i ≡ Some p → slice_get (map object_of objects ++ files_of (map provision_of provided)) (length objects + i) ≡ Some p.file.now
 file_at objects provided i p at =
     subst (λ m. slice_get (map object_of objects ++ files_of (map provision_of provided)) (m + i) ≡ Some p.file.now) (length_mapped object_of objects)

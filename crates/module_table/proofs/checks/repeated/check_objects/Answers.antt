@@ -3,6 +3,8 @@ use Rattle.std.proofs.lemmas.Option.{slice_get_read}
 use Rattle.scan_docs.specs.Scan.{RuleValue}
 use Rattle.module_table.specs.Firsts.{IsFirstRepetition}
 use Rattle.module_table.specs.inner.Repetition.{AllDiffer}
+use Rattle.module_table.specs.declared.fault.Maker.TheVariants.{Object}
+use Rattle.module_table.specs.declared.fault.TableFault.TheVariants.{ObjectTwice}
 use Rattle.module_table.proofs.IndexRows.{map_take_all}
 use Rattle.module_table.proofs.Places.{to_map}
 use Rattle.module_table.proofs.Repetitions.{repeats_if_found, keys_if_new, differ_if_new, text_repetition}
@@ -33,7 +35,7 @@ returns-then-not-is_new-clause-fault g c =
     let repeated = repeats_if_found text_of (map object_of objects) i _ c.loop-index.paths.keys c.insert_full.new.self.keys at c.loop-index.invariant.same c.loop-index.invariant.differ h.keys first (sym c.if-not-is_new.true ∙ h.added) stored.0 stored.1 stored.2 in
     let is = text_repetition (map object_of objects) first i path repeated at in
     λ t kept same.
-    reports_same 1 t kept c.in_ok-fault.fault _ c.in_ok-fault.ensures (record { present = (first, i, subst (λ xs. IsFirstRepetition (λ a b. a ≡ b) (map object_of xs) first i path path) same is, refl, refl); coded = refl })
+    reports_same 1 t kept _ _ (ap (λ p. ObjectTwice p (Object first) (Object i)) c.in_ok-path.ensures) (record { present = (first, i, subst (λ xs. IsFirstRepetition (λ a b. a ≡ b) (map object_of xs) first i path path) same is, refl, refl); coded = refl })
 
 pub loop-index-preserved : goal.loop-index-preserved
 loop-index-preserved g c =

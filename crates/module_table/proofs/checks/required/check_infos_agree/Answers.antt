@@ -13,15 +13,15 @@ use Rattle.module_table.proofs.checks.required.check_infos_agree.Goals as goal
 pub returns-in-None-clause-ok : goal.returns-in-None-clause-ok
 returns-in-None-clause-ok g c =
     let ps = provisions c.args.modules.now in
-    first_refused looked_up (with_module ps) agrees (Agrees ps) (Differs ps) (agreeing ps c.names_differ.ensures) (info_requirements c.args.modules.now) c.args.all.now c.requires.all None (sym c.in-None.is ∙ c.first_differing.ensures)
+    first_refused looked_up (with_module ps) agrees (Agrees ps) (Differs ps) (agreeing ps c.requires.all.differ) (info_requirements c.args.modules.now) c.args.all.now c.requires.all.same None (sym c.in-None.is ∙ c.first_differing.ensures)
 
 pub returns-in_ok-target-in-Some-clause-fault : goal.returns-in_ok-target-in-Some-clause-fault
 returns-in_ok-target-in-Some-clause-fault g c = λ kept.
     let t = c.args.modules.now in
     let ps = provisions t in
     let r = requirement_of c.required_at.result.now in
-    reports_info_disagrees t kept c.in-Some.index r _ c.names_differ.ensures c.requires.known
-    (first_refused looked_up (with_module ps) agrees (Agrees ps) (Differs ps) (agreeing ps c.names_differ.ensures) (info_requirements t) c.args.all.now c.requires.all (Some c.in-Some.index) (sym c.in-Some.is ∙ c.first_differing.ensures))
+    reports_info_disagrees t kept c.in-Some.index r _ c.requires.all.differ c.requires.known
+    (first_refused looked_up (with_module ps) agrees (Agrees ps) (Differs ps) (agreeing ps c.requires.all.differ) (info_requirements t) c.args.all.now c.requires.all.same (Some c.in-Some.index) (sym c.in-Some.is ∙ c.first_differing.ensures))
     (required_there t c.args.all.now c.requires.all c.in-Some.index c.required_at.result.now c.required_at.ensures)
     (ap (λ x. InfoDisagrees x c.in_ok-target-in-Some.module_name c.in_ok-target-in-Some.name) c.in_ok-target-in-Some.ensures.target
     ∙ ap (λ x. InfoDisagrees r.target x c.in_ok-target-in-Some.name) c.in_ok-target-in-Some.ensures.module_name

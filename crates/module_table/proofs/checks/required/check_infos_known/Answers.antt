@@ -13,7 +13,7 @@ use Rattle.module_table.proofs.checks.required.check_infos_known.Goals as goal
 pub returns-in-None-clause-ok : goal.returns-in-None-clause-ok
 returns-in-None-clause-ok g c =
     let ps = provisions c.args.modules.now in
-    first_refused looked_up (with_module ps) is_by_info (IsByInfo ps) (IsNotByInfo ps) (by_info ps c.names_differ.ensures) (info_requirements c.args.modules.now) c.args.all.now c.requires None (sym c.in-None.is ∙ c.first_not_by_info.ensures)
+    first_refused looked_up (with_module ps) is_by_info (IsByInfo ps) (IsNotByInfo ps) (by_info ps c.requires.differ) (info_requirements c.args.modules.now) c.args.all.now c.requires.same None (sym c.in-None.is ∙ c.first_not_by_info.ensures)
 
 pub returns-in_ok-target-in-Some-clause-fault : goal.returns-in_ok-target-in-Some-clause-fault
 returns-in_ok-target-in-Some-clause-fault g c = λ kept.
@@ -21,7 +21,7 @@ returns-in_ok-target-in-Some-clause-fault g c = λ kept.
     let ps = provisions t in
     let r = requirement_of c.required_at.result.now in
     reports_info_unknown t kept c.in-Some.index r _
-    (first_refused looked_up (with_module ps) is_by_info (IsByInfo ps) (IsNotByInfo ps) (by_info ps c.names_differ.ensures) (info_requirements t) c.args.all.now c.requires (Some c.in-Some.index) (sym c.in-Some.is ∙ c.first_not_by_info.ensures))
+    (first_refused looked_up (with_module ps) is_by_info (IsByInfo ps) (IsNotByInfo ps) (by_info ps c.requires.differ) (info_requirements t) c.args.all.now c.requires.same (Some c.in-Some.index) (sym c.in-Some.is ∙ c.first_not_by_info.ensures))
     (required_there t c.args.all.now c.requires c.in-Some.index c.required_at.result.now c.required_at.ensures)
     (ap (λ x. InfoUnknown x c.in_ok-target-in-Some.module_name c.in_ok-target-in-Some.name) c.in_ok-target-in-Some.ensures.target
     ∙ ap (λ x. InfoUnknown r.target x c.in_ok-target-in-Some.name) c.in_ok-target-in-Some.ensures.module_name

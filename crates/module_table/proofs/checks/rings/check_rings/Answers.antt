@@ -14,14 +14,14 @@ new-graph-requires g c =
     let t = c.args.modules.now in
     let required = rows c.args.required.now in
     let made = c.in_ok-needs.ensures ∙ ap (λ ps. map (filter_map (maker_at ps)) required) c.provided.ensures.provisions in
-    subst NeedsAreNodes (sym made) (are_nodes t (provisions t) required (numbered t required c.names_differ.ensures c.requires))
+    subst NeedsAreNodes (sym made) (are_nodes t (provisions t) required (numbered t required c.provided.ensures.differ c.requires))
 
 pub returns-in-Order-clause-ok : goal.returns-in-Order-clause-ok
 returns-in-Order-clause-ok g c =
     let t = c.args.modules.now in
     let required = rows c.args.required.now in
     let made = c.in_ok-needs.ensures ∙ ap (λ ps. map (filter_map (maker_at ps)) required) c.provided.ensures.provisions in
-    let sorted = sorting_of t (provisions t) required (numbered t required c.names_differ.ensures c.requires) c.new-graph.result c.in_ok-order.field-0 (c.new-graph.ensures ∙ made) c.in_ok-order.ensures in
+    let sorted = sorting_of t (provisions t) required (numbered t required c.provided.ensures.differ c.requires) c.new-graph.result c.in_ok-order.field-0 (c.new-graph.ensures ∙ made) c.in_ok-order.ensures in
     (subst (IsSortingOf (length t.objects) (DependsOn t)) c.in-Order.is sorted).0
 
 pub returns-clause-fault : goal.returns-clause-fault
@@ -29,5 +29,5 @@ returns-clause-fault g c = λ kept.
     let t = c.args.modules.now in
     let required = rows c.args.required.now in
     let made = c.in_ok-needs.ensures ∙ ap (λ ps. map (filter_map (maker_at ps)) required) c.provided.ensures.provisions in
-    let sorted = sorting_of t (provisions t) required (numbered t required c.names_differ.ensures c.requires) c.new-graph.result c.in_ok-order.field-0 (c.new-graph.ensures ∙ made) c.in_ok-order.ensures in
+    let sorted = sorting_of t (provisions t) required (numbered t required c.provided.ensures.differ c.requires) c.new-graph.result c.in_ok-order.field-0 (c.new-graph.ensures ∙ made) c.in_ok-order.ensures in
     record { present = (subst (IsSortingOf (length t.objects) (DependsOn t)) c.in-Cycle.is sorted).1; coded = refl }

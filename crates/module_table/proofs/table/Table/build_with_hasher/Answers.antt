@@ -1,11 +1,8 @@
 use Rattle.std.proofs.Common.{◌≡◌, ◌∙◌, sym, subst, map, arith}
 use Rattle.module_table.specs.TableValue.{TableValue}
-use Rattle.module_table.specs.Modules.{provisions}
 use Rattle.module_table.specs.Added.{required_of}
 use Rattle.module_table.specs.Outcomes.{HasNoFault}
-use Rattle.module_table.specs.inner.Origins.{origins_of}
-use Rattle.module_table.specs.inner.Graph.{IsModuleGraph}
-use Rattle.module_table.specs.inner.Views.{names_of}
+use Rattle.module_table.specs.inner.LookUps.{AreLookUps}
 use Rattle.module_table.proofs.IndexRows.{same_table}
 use Rattle.module_table.proofs.Faultless.{faultless_is_sound}
 use Rattle.module_table.proofs.table.Table.build_with_hasher.Goals as goal
@@ -19,17 +16,14 @@ new-requires-clause-sound g c =
 pub new-requires-clause-required : goal.new-requires-clause-required
 new-requires-clause-required g c =
     subst (λ (u : TableValue). map (λ row. row.items) c.in_ok-index.index.required.items ≡ map (required_of u) u.objects)
-    (same_table _ _ _ _ c.as_slice.ensures.value c.as_slice-2.ensures.value) c.in_ok-index.ensures.required
+    (same_table _ _ _ _ c.as_slice.ensures.value c.as_slice-2.ensures.value) c.in_ok-index.ensures.index.all_required
 
 pub invariant_of-result : goal.invariant_of-result
 invariant_of-result g c =
     let same = same_table _ _ _ _ c.as_slice.ensures.value c.as_slice-2.ensures.value ∙ sym c.new.ensures in
     let index = c.in_ok-index.index in
-    let h = c.in_ok-index.ensures in (
-      subst (λ (u : TableValue). index.names.keys ≡ names_of (provisions u)) same h.names,
-      subst (λ (u : TableValue). index.origins.items ≡ origins_of u) same h.origins,
-      subst (λ (u : TableValue). IsModuleGraph u index.graph) same h.graph,
-    )
+    let h = subst (λ u. AreLookUps u index.names.keys index.origins.items index.graph (map (λ row. row.items) index.required.items)) same c.in_ok-index.ensures.index in
+    (h.all_names, h.all_origins, h.is_graph)
 
 pub returns-clause-sound : goal.returns-clause-sound
 returns-clause-sound g c =
