@@ -57,7 +57,7 @@ pub in_second : {X : Type 0} (xs ys : List X) (k : ℕ) (x : X) → slice_get ys
 in_second [] ys k x e = let at : 0 + k ≡ k = omega arith in rw at e
 in_second (y ∷ xs) ys k x e = let at : suc (length xs) + k ≡ suc (length xs + k) = omega arith in rw at (in_second xs ys k x e)
 
--- how many elements stand before those of element i
+-- how many elements are before those of element i
 pub offset : {A B : Type 0} → (A → List B) → List A → ℕ → ℕ
 offset f [] i = 0
 offset f (x ∷ xs) zero = 0

@@ -30,7 +30,7 @@ use Rattle.collate_core.proofs.TargetBuilds.{names_or_not, of_named, edge_of}
 
 -- ---- the tables at some indexes
 
--- one of the tables stands at one of the indexes
+-- one of the tables is at one of the indexes
 abbrev AtIndex : List TableValue → List ℕ → TableValue → Type 0
 AtIndex tables applied t = (p : ℕ) × (n : ℕ) × (slice_get applied p ≡ Some n) × (slice_get tables n ≡ Some t)
 

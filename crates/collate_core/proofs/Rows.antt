@@ -21,7 +21,7 @@ two_objects = record {
   infos = [];
 }
 
--- the statements stand in the order of the objects, although `b.o` has to be compiled first
+-- the statements are in the order of the objects, although `b.o` has to be compiled first
 dyndep_of_two : dyndep_text (statements_of two_objects)
     ≡ codes "ninja_dyndep_version = 1\nbuild a.o | mod/A.bmi: dyndep | mod/B.bmi\n  restat = 1\nbuild b.o | mod/B.bmi: dyndep\n  restat = 1\n"
 unfolding required_of

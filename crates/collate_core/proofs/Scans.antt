@@ -100,7 +100,7 @@ refused_scan bytes documents i other s rules failure fault within so_far is refu
   faulty = inl (subst (ForFault (IsRefused (scan_checks s) (bytes (get_or documents i other)))) is refused);
 }
 
--- all documents stand among the first ones
+-- all documents are among the first ones
 all_taken : {X : Type 0} (bytes : X → List ℕ) (documents : List X) (i : ℕ) → length documents ≤ i → take i (map bytes documents) ≡ map bytes documents
 all_taken bytes documents i past = take_all i (map bytes documents) (subst (λ n. n ≤ i) (sym (length-map documents bytes)) past)
 

@@ -62,7 +62,7 @@ line_refusal first before s after count (Table fault) none is h = absurd h
 line_refusal first before s after count (Map o fault) none is h = absurd h
 line_refusal first before s after count LinkedLater none is h = absurd h
 
--- the refusal of a statement's build line, behind statements without a fault, is that of all
+-- the refusal of a statement's build line, after statements without a fault, is that of all
 pub line_refused : FirstFault → (before : List StatementValue) (s : StatementValue) (after : List StatementValue) (count : ℕ) (failure : Failure Refusal) → write_fault before ≡ None → count ≡ length before
     → ForFault (IsLineRefusal count s) failure → ForFault (IsWriteRefusal (before ++ s ∷ after)) failure
 line_refused first before s after count Memory none is h = tt

@@ -38,7 +38,7 @@ AreMaps t (Some written) texts =
 pub record Collates (target : TargetValue) (style : Option Written)
     (c : CollatedValue) : Type 0 where
   pub resolved : IsResolved target
-  -- the dyndep text is that of one statement an object, in order, byte for byte: these have no
+  -- the dyndep text is that of one statement per object, in order, byte for byte: these have no
   -- fault, so that every build line keeps the limit
   pub text : text_or_fault (statements_of (table_of target)) ≡ Ok c.dyndep
   -- it stands for these statements, and for no others

@@ -19,6 +19,6 @@ statement_of task = record {
   restat = not (length task.0.provided == 0);
 }
 
--- one statement an object, in the order of the objects
+-- one statement per object, in the order of the objects
 abbrev pub statements_of : TableValue → List StatementValue
 statements_of t = map statement_of (tasks_of t)

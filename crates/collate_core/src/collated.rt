@@ -6,8 +6,9 @@ use ninja_text::Path;
 use std::marker::Model;
 
 /// What a target collates to: the text of its dyndep file, that of its info, its objects, and with
-/// a style the text of a map for each. Only [`collate`](crate::collate) and
+/// a style the text of a map for each. It keeps them as one value, which has the headline. Only [`collate`](crate::collate) and
 /// [`project`](crate::project) make one.
+#[derive(Drop)]
 pub struct Collated {
     dyndep: Vec<u8>,
     info: Vec<u8>,
@@ -15,19 +16,8 @@ pub struct Collated {
     maps: Vec<Vec<u8>>,
 }
 
-// Not derived: a derived drop stands, field by field, wherever a value goes.
-impl Drop for Collated {
-    fn drop(self) {
-        let Collated {
-            dyndep: _,
-            info: _,
-            objects: _,
-            maps: _,
-        } = self;
-    }
-}
-
-/// The parts of a collated target, given up.
+/// The parts of a [`Collated`], given up: the texts can be written from where they are, with no
+/// copy.
 #[derive(Drop)]
 pub struct CollatedParts {
     /// The text of the dyndep file.
@@ -119,7 +109,7 @@ impl Collated {
         &self.maps
     }
 
-    /// Gives up the parts, so that the texts can be written from where they lie, with no copy.
+    /// Gives up the parts.
     pub fn into_parts(self) -> CollatedParts
         ensures dyndep { result.dyndep.items ≡ self.dyndep }
         ensures info { result.info.items ≡ self.info }

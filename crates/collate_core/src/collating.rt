@@ -86,32 +86,11 @@ fn collated_of<M: MapStyle, S: BuildHasher + Copy>(
 {
     headline();
     added_files();
-    let (text, maps) = text_and_maps(alloc, table, style)?;
+    let text = text_of(alloc, table.resolved())?;
+    let maps = maps_of(alloc, table, style)?;
     let info = info_text_of(alloc, target.name, target.kept, table, hash_builder)?;
     let objects = objects_of(alloc, table)?;
     Ok(Collated::new(text, info, objects, maps))
-}
-
-/// The dyndep text of a table's objects, and with a style the text of a map for each; else the
-/// first refusal, which is that of each target whose documents have this table.
-fn text_and_maps<M: MapStyle, S: BuildHasher>(
-    alloc: Global,
-    table: &Table<S>,
-    style: Option<&M>,
-) -> Result<(Vec<u8>, Vec<Vec<u8>>), Failure<Refusal>>
-    ensures text { IfOk result (λ both.
-        text_or_fault (statements_of table.now) ≡ Ok both.0.items) }
-    ensures meaning { IfOk result (λ both. StandsForOnly both.0.items (statements_of table.now)) }
-    ensures spelled { OnOk result (All HasSpelled (statements_of table.now)) }
-    ensures maps { IfOk result (λ both.
-        AreMaps table.now (option_map M.written (option_copied style.entry))
-        (map (λ m. m.items) both.1.items)) }
-    ensures refused { IfErr result (ForFault (IsTextsRefusal table.now
-        (option_map M.written (option_copied style.entry)))) }
-{
-    let text = text_of(alloc, table.resolved())?;
-    let maps = maps_of(alloc, table, style)?;
-    Ok((text, maps))
 }
 
 /// Collates a target to its dyndep text alone: the text that [`collate`] without a style answers.

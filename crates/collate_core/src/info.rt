@@ -27,22 +27,9 @@ pub(crate) fn info_text_of<S: BuildHasher + Copy>(
         (λ text. ReadsBack (info_of_table name.now kept.now table.now) text.items) }
 {
     added_files();
-    let info = lent_info_of(alloc, name, kept, table, hash_builder)?;
-    lent_info_write(alloc, &info)
-}
-
-/// The info of a target of this name, which keeps the modules of these names to itself.
-fn lent_info_of<'t, S: BuildHasher + Copy>(
-    alloc: Global,
-    name: &'t TargetName,
-    kept: &[Name],
-    table: &'t Table<S>,
-    hash_builder: S,
-) -> Result<LentInfo<'t>, AllocError>
-    ensures { IfOk result (λ info. info ≡ info_of_table name.now kept.now table.now) }
-{
     let set = set_of(alloc, kept, hash_builder)?;
-    info_of_table(alloc, name, &set, table)
+    let info = info_of_table(alloc, name, &set, table)?;
+    lent_info_write(alloc, &info)
 }
 
 /// The names as a set, which each module is looked up in.

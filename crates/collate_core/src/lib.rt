@@ -8,7 +8,7 @@
 //!   nor two refusals.
 //!   [`collate_dyndep`] answers the dyndep text alone (`specs/Headline.antt`, `IsDyndepOf`).
 //! - What it answers has the headline (`specs/Headline.antt`, `IsHeadline`): the dyndep text stands
-//!   for one statement an object and for nothing else, and on every build that names the file on
+//!   for one statement per object and for nothing else, and on every build that names the file on
 //!   exactly the objects it has exactly one effect, which adds to each object's edge exactly what
 //!   the object provides and requires.
 //! - [`rehearse`] reads any text in any pieces and applies it to a build, and [`check_edges`] puts
@@ -31,18 +31,22 @@
 //! `reached_modules_as_inputs`.
 //!
 //! The definitions speak of one table, which is a function of the documents' bytes
-//! (`specs/Documents.antt`, `table_of`). Those that only private clauses speak of stand in
+//! (`specs/Documents.antt`, `table_of`). Those that only private clauses speak of are in
 //! `specs/inner/`.
 //!
-//! It stands on `scan_docs` for documents, on `module_table` for modules by name, on `module_maps`
-//! for their maps, on `dyndep_file` for the texts, on `build_effect` and `dep_order` for builds, on
-//! `ninja_text` for paths, on `indexmap` for the set of the names of private modules, and on
-//! `thiserror` for its refusals.
+//! It uses `scan_docs` for documents, `module_table` for modules by name, `module_maps` for their
+//! maps, `dyndep_file` for the texts, `build_effect` and `dep_order` for builds, `ninja_text` for
+//! paths, `indexmap` for the set of the names of private modules, and `thiserror` for its refusals.
+//!
+//! A target has five types, by what is known of it: `TargetSpec` of `scan_docs` is what its target
+//! document says, with the names of its files; a [`Target`] has the files' bytes, and is what
+//! [`collate`] takes; a [`ProjectTarget`] links earlier targets of its project in place of infos,
+//! and is what [`project`] takes; a [`Collated`] is what either comes to, and [`CollatedParts`] are
+//! its texts, given up to be written.
 //!
 //! `must-fail/` has a wrong body of each public function but of the laws, which have none.
 #![tactic(auto)]
 
-mod builds;
 mod check;
 mod collated;
 mod collating;
@@ -57,12 +61,12 @@ mod statements;
 mod table;
 mod target;
 
-pub use builds::{no_false_wait, no_race};
 pub use check::{check_edges, check_edges_with_hasher};
 pub use collated::{Collated, CollatedParts};
 pub use collating::{collate, collate_dyndep, collate_dyndep_with_hasher, collate_with_hasher};
 pub use fault::{Refusal, RehearseFault};
-pub use laws::{headline, one_outcome, project_maps, project_orders};
+pub use laws::{headline, no_false_wait, no_race, one_outcome, project_maps, project_orders};
+pub use module_maps::{Clang, Gcc, MapEntry, MapFault, MapStyle, ModuleMap};
 pub use projects::{ProjectOut, ProjectTarget, project, project_with_hasher};
 pub use rehearsal::{rehearse, rehearse_with_hasher};
 pub use table::RULE_LIMIT;

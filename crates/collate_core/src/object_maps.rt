@@ -30,25 +30,13 @@ pub(crate) fn maps_of<M: MapStyle, S: BuildHasher>(
 {
     match style {
         None => Ok(Vec::new(alloc)),
-        Some(style) => texts_of(alloc, table, style),
+        Some(style) => {
+            let mut needs = table.needs(alloc)?;
+            let mut texts = Vec::with_capacity(alloc, table.objects().len())?;
+            add_texts(alloc, table, &mut needs, style, &mut texts)?;
+            Ok(texts)
+        }
     }
-}
-
-/// The text of each object's map, or the first that is refused.
-fn texts_of<M: MapStyle, S: BuildHasher>(
-    alloc: Global,
-    table: &Table<S>,
-    style: &M,
-) -> Result<Vec<Vec<u8>>, Failure<Refusal>>
-    ensures maps { IfOk result (λ maps.
-        AreMaps table.now (Some (M.written style.now)) (map (λ m. m.items) maps.items)) }
-    ensures refused { IfErr result
-        (ForFault (IsMapsRefusal table.now (Some (M.written style.now)))) }
-{
-    let mut needs = table.needs(alloc)?;
-    let mut texts = Vec::with_capacity(alloc, table.objects().len())?;
-    add_texts(alloc, table, &mut needs, style, &mut texts)?;
-    Ok(texts)
 }
 
 /// Adds the text of each object's map, up to the first that is refused.

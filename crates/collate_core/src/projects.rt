@@ -19,8 +19,8 @@ use std::alloc::{AllocError, Global};
 use std::hash::{BuildHasher, BuildHasherDefault, FoldHasher};
 use std::marker::Model;
 
-/// A target of a project, with its scan documents as bytes, which links earlier ones by index. It
-/// borrows all its parts.
+/// A target of a project to collate: a [`Target`](crate::Target) that links earlier ones by index in
+/// place of the infos, which the project writes. It borrows all its parts.
 #[derive(Drop)]
 pub struct ProjectTarget<'a> {
     pub name: &'a TargetName,

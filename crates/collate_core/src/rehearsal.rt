@@ -49,27 +49,12 @@ pub fn rehearse_with_hasher<S: BuildHasher + Copy>(
     laws::one_list();
     laws::list_or_fault();
     match read_pieces(alloc, text, cuts) {
-        Ok(dyndep) => applied(alloc, graph, name, &dyndep, hash_builder),
+        Ok(dyndep) => apply_with_hasher(alloc, graph, name, &dyndep, hash_builder).map_err(
+            |failure| failure.map(|fault| RehearseFault::Effect { fault }),
+        ),
         Err(Failure::Memory) => Err(Failure::Memory),
         Err(Failure::Fault(fault)) => Err(Failure::Fault(RehearseFault::Read { fault })),
     }
-}
-
-/// The graph after the effect of these statements, as the dyndep file of that name.
-fn applied<S: BuildHasher + Copy>(
-    alloc: Global,
-    graph: &Graph,
-    name: &Path,
-    dyndep: &Dyndep,
-    hash_builder: S,
-) -> Result<Graph, Failure<RehearseFault>>
-    ensures effect { IfOk result (OnlyEffect graph.now name.now dyndep.now) }
-    ensures fault { IfErr result
-        (ForFault (ForEffect (IsWithoutEffect graph.now name.now dyndep.now))) }
-{
-    apply_with_hasher(alloc, graph, name, dyndep, hash_builder).map_err(|failure| failure.map(
-        |fault| RehearseFault::Effect { fault },
-    ))
 }
 
 /// The statements of a text that is fed in pieces of these lengths.

@@ -15,7 +15,7 @@ use ninja_text::{Failure, Path};
 use scan_docs::{Name, Rule};
 use std::alloc::{AllocError, Global};
 
-/// The text of one statement an object, in the order of the objects: its output is the object, its
+/// The text of one statement per object, in the order of the objects: its output is the object, its
 /// implicit outputs are the files of the modules that the object provides, in order of provision,
 /// and its implicit inputs the files of those that it requires, in order of first mention. `restat`
 /// is on exactly where it has implicit outputs. Or the first whose build line is too long.

@@ -1,10 +1,10 @@
-//! Targets.
+//! A target to collate.
 
 use scan_docs::{Name, Setting, TargetName};
 use std::marker::Model;
 
-/// A target, with its documents as bytes. It borrows all its parts: the infos may be those that
-/// other targets gave.
+/// A target to collate: what its target document names (`scan_docs::TargetSpec`), with its documents
+/// as bytes. It borrows all its parts: the infos may be those that other targets gave.
 #[derive(Drop)]
 pub struct Target<'a> {
     pub name: &'a TargetName,

@@ -1,4 +1,4 @@
-use Rattle.std.proofs.Common.{ℕ, List, subst, sym}
+use Rattle.std.proofs.Common.{rules, ℕ, List, IfOk, IfErr, subst, sym}
 use Rattle.std.proofs.lemmas.Result.{IfOk-weaker, IfErr-weaker}
 use Rattle.ninja_text.specs.Failure.{ForFault}
 use Rattle.ninja_text.specs.declared.failure.Failure.{Failure}
@@ -32,16 +32,18 @@ lacks text name old statements stands (Fault (Read fault)) h = absurd h
 pub returns-in-Ok-clause-effect : goal.returns-in-Ok-clause-effect
 returns-in-Ok-clause-effect g c =
     let statements : List StatementValue = c.in-Ok.dyndep in
-    IfOk-weaker c.applied.result (OnlyEffect c.args.graph.now c.args.name.now statements) (HasEffect c.args.text.now c.args.name.now c.args.graph.now)
+    let effect : IfOk c.map_err.result (OnlyEffect c.args.graph.now c.args.name.now statements) = search rules in
+    IfOk-weaker c.map_err.result (OnlyEffect c.args.graph.now c.args.name.now statements) (HasEffect c.args.text.now c.args.name.now c.args.graph.now)
     (λ new h. (statements, only c.one_list.ensures c.args.text.now statements c.in-Ok.ensures.read, h))
-    c.applied.ensures.effect
+    effect
 
 pub returns-in-Ok-clause-fault : goal.returns-in-Ok-clause-fault
 returns-in-Ok-clause-fault g c =
     let statements : List StatementValue = c.in-Ok.dyndep in
-    IfErr-weaker c.applied.result (ForFault (ForEffect (IsWithoutEffect c.args.graph.now c.args.name.now statements))) (ForFault (IsRehearseFault c.args.text.now c.args.name.now c.args.graph.now))
+    let fault : IfErr c.map_err.result (ForFault (ForEffect (IsWithoutEffect c.args.graph.now c.args.name.now statements))) = search rules in
+    IfErr-weaker c.map_err.result (ForFault (ForEffect (IsWithoutEffect c.args.graph.now c.args.name.now statements))) (ForFault (IsRehearseFault c.args.text.now c.args.name.now c.args.graph.now))
     (lacks c.args.text.now c.args.name.now c.args.graph.now statements (only c.one_list.ensures c.args.text.now statements c.in-Ok.ensures.read))
-    c.applied.ensures.fault
+    fault
 
 pub returns-in-Err-Fault-clause-fault : goal.returns-in-Err-Fault-clause-fault
 returns-in-Err-Fault-clause-fault g c =

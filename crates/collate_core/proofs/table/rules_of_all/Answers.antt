@@ -1,15 +1,22 @@
-use Rattle.std.proofs.Common.{ℕ, ◌+◌, ◌<◌, ◌≤◌, List, ◌++◌, length, map, subst, sym, arith, length-append}
-use Rattle.scan_docs.specs.Scan.{RuleValue}
+use Rattle.std.proofs.Common.{◌≡◌, ℕ, ◌+◌, ◌<◌, ◌≤◌, List, ◌++◌, length, map, subst, sym, arith, length-append}
+use Rattle.scan_docs.specs.Document.{IsAccepted}
+use Rattle.scan_docs.specs.Scan.{SettingValue, RuleValue, AreRules}
+use Rattle.scan_docs.specs.ScanChecks.{scan_checks}
+use Rattle.scan_docs.specs.Values.{rules_of}
+use Rattle.collate_core.specs.Documents.{IsScanAccepted}
 use Rattle.collate_core.specs.Refusals.{IsScanRefusal}
 use Rattle.collate_core.proofs.Scans.{ScansSoFar, all_scans, rules_of_scans, lent_scans, past_limit, refused_scan}
 use Rattle.collate_core.proofs.table.rules_of_all.Goals as goal
+
+accepted : (s : SettingValue) (scan : List ℕ) (rules : List RuleValue) → rules ≡ rules_of s scan → IsAccepted (scan_checks s) (AreRules s) scan rules → IsScanAccepted s scan
+accepted s scan rules same is = subst (IsAccepted (scan_checks s) (AreRules s) scan) same is
 
 pub returns-then-len-clause-refused : goal.returns-then-len-clause-refused
 returns-then-len-clause-refused c =
     let rules : List RuleValue = c.loop-index.rules.items in
     let more : List RuleValue = c.in-Ok.found.items in
     let past : 65536 < length (rules ++ more) = omega (arith, length-append rules more, c.loop-index.invariant.short, c.if-len.true, c.len.ensures, c.len-in-Ok.ensures) in
-    past_limit (λ scan. scan.now) c.args.scans.now c.loop-index.index _ c.args.setting.now rules more c.loop-index-test.true c.loop-index.invariant c.in-Ok.ensures.accepted c.in-Ok.ensures.rules past
+    past_limit (λ scan. scan.now) c.args.scans.now c.loop-index.index _ c.args.setting.now rules more c.loop-index-test.true c.loop-index.invariant (accepted c.args.setting.now _ more c.in-Ok.ensures.value c.in-Ok.ensures.accepted) c.in-Ok.ensures.value past
 
 pub returns-in-Err-Fault-clause-refused : goal.returns-in-Err-Fault-clause-refused
 returns-in-Err-Fault-clause-refused c =
@@ -24,7 +31,7 @@ loop-index-preserved c =
     let more : List RuleValue = c.in-Ok.found.items in
     let short : length (rules ++ more) ≤ 65536 = omega (arith, length-append rules more, c.loop-index.invariant.short, c.if-len.false, c.len.ensures, c.len-in-Ok.ensures) in
     subst (ScansSoFar c.args.setting.now (map (λ scan. scan.now) c.args.scans.now) (i + 1)) (sym c.in_ok-append-in-Ok.ensures.items)
-    (lent_scans (λ scan. scan.now) c.args.scans.now i _ c.args.setting.now rules more c.loop-index-test.true c.loop-index.invariant c.in-Ok.ensures.accepted c.in-Ok.ensures.rules c.in-Ok.ensures.text short)
+    (lent_scans (λ scan. scan.now) c.args.scans.now i _ c.args.setting.now rules more c.loop-index-test.true c.loop-index.invariant (accepted c.args.setting.now _ more c.in-Ok.ensures.value c.in-Ok.ensures.accepted) c.in-Ok.ensures.value c.in-Ok.ensures.text short)
 
 pub returns-clause-accepted : goal.returns-clause-accepted
 returns-clause-accepted c = all_scans (λ scan. scan.now) c.args.scans.now c.loop-index.index c.args.setting.now c.loop-index.rules.items c.loop-index-test.false c.loop-index.invariant

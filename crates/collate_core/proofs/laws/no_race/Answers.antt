@@ -4,7 +4,7 @@ use Rattle.collate_core.proofs.TargetBuilds.{gained_after_target}
 use Rattle.collate_core.proofs.ProjectBuilds.{gained_after_project, all_made}
 use Rattle.collate_core.specs.Documents.{table_of}
 use Rattle.collate_core.specs.BuildLaws.{tables_of}
-use Rattle.collate_core.proofs.builds.no_race.Goals as goal
+use Rattle.collate_core.proofs.laws.no_race.Goals as goal
 
 pub returns-clause-target : goal.returns-clause-target
 returns-clause-target c = λ target g new after.
