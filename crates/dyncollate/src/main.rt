@@ -12,16 +12,19 @@
 //! to what is printed, and on `ninja_text` for writers whose calls are counted.
 #![tactic(auto)]
 
+mod system_files;
+
+use crate::system_files::SystemFiles;
 use command_line::{Task, task_of};
 use commands::{Answer, Folder, further_names, names_of, print, read_files, task_run, write_files};
 use ninja_text::Counted;
 use std::alloc::AllocError;
+use std::env;
 use std::hash::RandomState;
 use std::io::ErrorKind;
 use std::process::ExitCode;
 use std::random::RandomSource;
 use std::rt::{Env, Files};
-use std::{env, fs, io};
 
 fn main(rt: HostRuntime) -> ExitCode {
     let answer = answer_of(&rt);
@@ -64,24 +67,4 @@ fn task_answer<R: Files + AllocGlobal>(
     files.append(&mut further)?;
     let answer = task_run(alloc, keys, task, read, &files)?;
     write_files(alloc, answer, &mut folder)
-}
-
-/// The files of the system.
-#[derive(Drop)]
-struct SystemFiles<'a, R> {
-    rt: &'a R,
-}
-
-impl<R: Files + AllocGlobal> Folder for SystemFiles<'_, R> {
-    ghost use Rattle.std.specs.Prelude.{None};
-
-    ghost calls = { λ _. None };
-
-    fn read(&mut self, name: &str) -> io::Result<Vec<u8>> {
-        fs::read(self.rt, name)
-    }
-
-    fn write(&mut self, name: &str, bytes: &[u8]) -> io::Result<()> {
-        fs::write(self.rt, name, bytes)
-    }
 }
