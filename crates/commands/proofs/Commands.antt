@@ -1,18 +1,15 @@
 -- What a run of `collate` answers.
-use Rattle.std.proofs.Common.{◌≡◌, ℕ, suc, List, [], ◌∷◌, ◌++◌, map, zip, Option, Some, None, refl, ap, sym, subst, ◌∙◌, codes, arith}
+use Rattle.std.proofs.Common.{◌≡◌, ℕ, suc, List, [], ◌∷◌, map, zip, Option, refl, ap, sym, subst, arith}
 use Rattle.std.specs.Prelude.{All, IsUtf8}
 use Rattle.std.specs.List.{AllZip}
 use Rattle.std.proofs.lemmas.List.Elements.{All-nil, All-cons, All-append, All-map}
 use Rattle.scan_docs.specs.Scan.{SettingValue, RuleValue, IsRule}
-use Rattle.scan_docs.specs.Target as document
 use Rattle.scan_docs.specs.Values.{rules_of}
 use Rattle.module_maps.specs.Maps.{Written}
 use Rattle.collate_core.specs.Values.{TargetValue, CollatedValue}
 use Rattle.collate_core.specs.Documents.{all_rules, table_of, IsScanAccepted}
 use Rattle.collate_core.specs.Collation.{Collates}
 use Rattle.commands.specs.declared.answer.Answer.{Answer}
-use Rattle.commands.specs.Answers.{Fails}
-use Rattle.commands.specs.CollateCommand.{Reading, first_unread, listing_of, names_in, target_in, AnswersTargetOf, AnswersSpec}
 use Rattle.commands.specs.EdgeChecks.{AnswersEdges}
 
 -- ---- the edges
@@ -47,22 +44,3 @@ pub zip_map : {A B C D : Type 0} (f : A → C) (g : B → D) (xs : List A) (ys :
 zip_map f g [] ys = refl
 zip_map f g (x ∷ xs) [] = refl
 zip_map f g (x ∷ xs) (y ∷ ys) = ap (λ l. (f x, g y) ∷ l) (zip_map f g xs ys)
-
--- ---- the target document
-
--- all files are there, and this is the answer to the target
-pub read : (reading : Reading) (spec : document.TargetValue) (answer : Answer) → first_unread reading (names_in spec) ≡ None → AnswersTargetOf spec (listing_of reading spec.edges) (target_in reading spec) answer → AnswersSpec reading spec answer
-read reading spec answer complete h = record {
-  unread = λ name e. let no : Some name ≡ None = sym e ∙ complete in cc;
-  read = λ e. h;
-}
-
--- this file is the first that is not there
-pub unread : (reading : Reading) (spec : document.TargetValue) (answer : Answer) (name : List ℕ) → first_unread reading (names_in spec) ≡ Some name → Fails 3 (codes "cannot read " ++ name) answer → AnswersSpec reading spec answer
-unread reading spec answer name first h = record {
-  unread = λ other e. subst (λ r. Fails 3 (codes "cannot read " ++ r) answer) (some_same (sym first ∙ e)) h;
-  read = λ complete. let no : Some name ≡ None = sym first ∙ complete in cc;
-}
-  where
-    some_same : {x y : List ℕ} → Some x ≡ Some y → x ≡ y
-    some_same e = cc

@@ -10,7 +10,13 @@ use Rattle.build_effect.specs.declared.fault.GraphFault.TheVariants.{DyndepNotIn
 use Rattle.build_effect.specs.declared.fault.ListingFault.TheVariants.{NoGraph}
 use Rattle.commands.specs.EdgeFaults.{listing_fault_text, effect_text, cycle_text}
 use Rattle.commands.specs.Order.{order_text}
-use Rattle.commands.specs.Answers.{line}
+use Rattle.commands.specs.Answers.{Fails, line}
+use Rattle.std.specs.Prelude.{Ok, Err}
+use Rattle.std.specs.declared.io.Error.{Error}
+use Rattle.scan_docs.specs.Target as document
+use Rattle.commands.specs.declared.answer.Answer.{Answer}
+use Rattle.commands.specs.Files.{Ends, ReadsTarget, TargetFilesValue, ended, read, unread}
+use Rattle.commands.specs.Folder.{FileCall, reading}
 
 -- `a.o` provides `A` and requires `B`, which `b.o` provides
 abbrev two_rules : List RuleValue
@@ -69,3 +75,40 @@ unread_file = refl
 
 added_twice : effect_text (AddedTwice (codes "mod/B.bmi")) ≡ codes "E7 AddedTwice mod/B.bmi"
 added_twice = refl
+
+-- a target document that names a scan document, an info and a listing of edges
+abbrev named : document.TargetValue
+named = record {
+  target = codes "app";
+  module_dir = codes "mod";
+  module_ext = codes ".bmi";
+  build_dir = None;
+  scans = codes "a.ddi" ∷ [];
+  linked = codes "k.info" ∷ [];
+  kept = [];
+  dyndep = codes "app.dd";
+  info = codes "app.info";
+  map_form = None;
+  edges = Some (codes "edges");
+}
+
+abbrev its_files : TargetFilesValue
+its_files = record { scans = codes "A" ∷ []; infos = codes "K" ∷ []; listing = Some (codes "E") }
+
+abbrev listing_call : List FileCall
+listing_call = reading (codes "edges") (Ok (codes "E")) ∷ []
+
+abbrev info_calls : List FileCall
+info_calls = reading (codes "k.info") (Ok (codes "K")) ∷ listing_call
+
+-- they are read in this order, each once
+in_order : (answer : Answer) → ReadsTarget {X = ⊥} named (codes "k.info" ∷ []) (λ files. Ends (λ a. files ≡ its_files))
+    (reading (codes "a.ddi") (Ok (codes "A")) ∷ info_calls) (ended (Ok answer))
+in_order answer = read (codes "A") info_calls refl (read (codes "K") listing_call refl (read (codes "E") [] refl (refl, refl)))
+
+-- none is read after one that can't be
+one_unread : (answer : Answer) (error : Error) → Fails 3 (codes "cannot read k.info") answer →
+    ReadsTarget {X = ⊥} named (codes "k.info" ∷ []) (λ files. Ends (λ a. ⊥))
+    (reading (codes "a.ddi") (Ok (codes "A")) ∷ reading (codes "k.info") (Err error) ∷ []) (ended (Ok answer))
+one_unread answer error h =
+    read (codes "A") (reading (codes "k.info") (Err error) ∷ []) refl (unread error refl h)

@@ -4,11 +4,10 @@ pub mod Dyndeps
 pub mod EdgeChecks
 pub mod Examples
 pub mod FileCalls
-pub mod FileNames
 pub mod Listings
+pub mod Parts
 pub mod ProjectRuns
 pub mod ProjectTargets
-pub mod Readings
 pub mod Results
 pub mod TargetDocuments
 pub mod Targets

@@ -1,18 +1,19 @@
 -- What a run of `project` answers to targets that are read.
 use Rattle.std.proofs.Common.{◌≡◌, ℕ, zero, suc, ◌+◌, ◌<◌, ◌≤◌, inl, inr, List, [], ◌∷◌, ◌++◌, length, take, get_or, map, zip, Option, Some, None, refl, ap, ap₂, sym, subst, ◌∙◌, arith}
-use Rattle.std.specs.Prelude.{slice_get, All}
+use Rattle.std.specs.Prelude.{slice_get, option_map, All}
 use Rattle.std.specs.Option.{option_map_or}
 use Rattle.std.proofs.lemmas.List.{take_more, take_all, length-map, map_push}
 use Rattle.std.proofs.lemmas.List.Elements.{All-same, All-push, All-nil, All-cons, All-tail, All-head}
 use Rattle.std.proofs.lemmas.Grind.{flat_map-append}
-use Rattle.std.proofs.lemmas.Option.{slice_get_within, get_or_from_slice_get, slice_get-get_or}
+use Rattle.std.proofs.lemmas.Option.{slice_get_within, get_or_from_slice_get, slice_get-get_or, slice_get-map}
 use Rattle.module_maps.specs.Maps.{Written}
 use Rattle.collate_core.specs.Values.{TargetValue, CollatedValue, ProjectTargetValue}
 use Rattle.collate_core.specs.Projects.{target_of, IsProject, IsLinkedRefusal, IsProjectRefusal}
 use Rattle.collate_core.specs.Refusals.{IsRefusal}
 use Rattle.collate_core.specs.declared.fault.Refusal.{Refusal}
 use Rattle.collate_core.specs.declared.fault.Refusal.TheVariants.{Scan, Info, Table, StatementTooLong, Map, LinkedLater}
-use Rattle.commands.specs.CollateCommand.{FileValue, dyndep_path, files_of}
+use Rattle.commands.specs.CollateCommand.{dyndep_path, files_of}
+use Rattle.commands.specs.Files.{FileValue}
 use Rattle.commands.specs.EdgeChecks.{PassesEdges, FailsEdges}
 use Rattle.commands.specs.ProjectCommand.{ReadTargetValue, project_target, PassesOwn, FailsOwn, names_at, all_files}
 use Rattle.commands.specs.declared.edges.EdgesFault.{EdgesFault}
@@ -80,6 +81,15 @@ are_outs style targets outs project =
     )
 
 -- ---- two lists side by side
+
+-- two lists that are the same under two views are so at each index
+pub same_length : {A B C : Type 0} (f : A → C) (h : B → C) (xs : List A) (ys : List B) → map f xs ≡ map h ys → length xs ≡ length ys
+same_length f h xs ys e = sym (length-map xs f) ∙ ap length e ∙ length-map ys h
+
+pub same_at : {A B C : Type 0} (f : A → C) (h : B → C) (xs : List A) (ys : List B) (i : ℕ) (x : A) (y : B) →
+    map f xs ≡ map h ys → slice_get xs i ≡ Some x → slice_get ys i ≡ Some y → f x ≡ h y
+same_at f h xs ys i x y e at here =
+    some_same (sym (slice_get-map f xs i ∙ ap (option_map f) at) ∙ ap (λ zs. slice_get zs i) e ∙ slice_get-map h ys i ∙ ap (option_map h) here)
 
 pub zip_at : {A B : Type 0} (xs : List A) (ys : List B) (i : ℕ) (x : A) (y : B) → slice_get xs i ≡ Some x → slice_get ys i ≡ Some y → slice_get (zip xs ys) i ≡ Some (x, y)
 zip_at [] ys i x y e f = cc

@@ -1,14 +1,11 @@
 -- One more target of a project.
 use Rattle.std.proofs.Common.{◌≡◌, ℕ, zero, suc, ◌+◌, ◌<◌, ◌⊎◌, inl, inr, Bool, true, false, cond, List, [], ◌∷◌, ◌++◌, length, take, get_or, map, Option, Some, None, refl, ap, ap₂, sym, subst, ◌∙◌, bytes_eq, arith}
-use Rattle.std.specs.Prelude.{slice_get, option_map, All}
-use Rattle.std.proofs.lemmas.List.{take-map}
+use Rattle.std.specs.Prelude.{slice_get, All}
+use Rattle.std.proofs.lemmas.List.{map_push, take_more}
 use Rattle.std.proofs.lemmas.List.Elements.{All-nil, All-cons}
-use Rattle.std.proofs.lemmas.Option.{slice_get_within, slice_get-get_or, slice_get-map}
-use Rattle.commands.specs.CollateCommand.{Reading}
-use Rattle.commands.specs.ProjectCommand.{ReadTargetValue, index_or_head, last_with, LinksTo, IsRead, AreRead, none, one_more, FailsTarget, FailsReading}
-use Rattle.commands.specs.declared.answer.Answer.{Answer}
+use Rattle.std.proofs.lemmas.Option.{slice_get_within, slice_get-get_or}
+use Rattle.commands.specs.ProjectCommand.{ReadTargetValue, index_or_head, last_with, LinksTo}
 use Rattle.commands.specs.inner.ProjectTargets.{LinkEarlier}
-use Rattle.commands.proofs.Readings.{mapped_next}
 
 some_same : {X : Type 0} {x y : X} → Some x ≡ Some y → x ≡ y
 some_same e = cc
@@ -46,7 +43,7 @@ writer_push ts t key index old new before is at updates info =
 
 -- ---- links
 
-links_within : (ts : List ReadTargetValue) (infos : List (List ℕ)) (linked : List ℕ) → LinksTo ts infos linked → All (λ k. k < length ts) linked
+pub links_within : (ts : List ReadTargetValue) (infos : List (List ℕ)) (linked : List ℕ) → LinksTo ts infos linked → All (λ k. k < length ts) linked
 links_within ts [] [] e = All-nil (λ k. k < length ts)
 links_within ts [] (k ∷ ks) e = cc
 links_within ts (i ∷ is) [] e = cc
@@ -61,36 +58,23 @@ in_push [] x (suc k) y e = cc
 in_push (z ∷ zs) x zero y e = inl e
 in_push (z ∷ zs) x (suc k) y e = elim (in_push zs x k y e) [ inl h ↦ inl h | inr h ↦ inr (ap suc h.0, h.1) ]
 
--- targets that are read link earlier ones
-pub links_earlier : (reading : Reading) (names : List (List ℕ)) (targets : List ReadTargetValue) → AreRead reading names targets → LinkEarlier targets
-links_earlier reading _ _ none = λ index t e. absurd (let within : index < 0 = slice_get_within [] index t e in omega (arith, within))
-links_earlier reading _ _ (one_more names targets name target before here) = λ index t e. elim (in_push targets target index t e) [
-  | inl h ↦ links_earlier reading names targets before index t h
+-- one target more, which links earlier ones
+pub links_push : (targets : List ReadTargetValue) (target : ReadTargetValue) → LinkEarlier targets →
+    All (λ k. k < length targets) target.linked → LinkEarlier (targets ++ target ∷ [])
+links_push targets target before own = λ index t e. elim (in_push targets target index t e) [
+  | inl h ↦ before index t h
   | inr h ↦
-      let own : All (λ k. k < length targets) target.linked = links_within targets target.spec.linked target.linked here.behind.linked in
       subst (λ (t : ReadTargetValue). All (λ k. k < index) t.linked) h.1 (subst (λ n. All (λ k. k < n) target.linked) (sym h.0) own)
 ]
 
--- ---- the targets of the names so far
+pub no_links : LinkEarlier []
+no_links = λ index t e. absurd (let within : index < 0 = slice_get_within [] index t e in omega (arith, within))
+
+-- ---- lists by index
 
 pub at_index : {X : Type 0} (xs : List X) (i : ℕ) (x : X) → i < length xs → x ≡ get_or xs i x → slice_get xs i ≡ Some x
 at_index xs i x within is = slice_get-get_or xs i x within ∙ ap Some (sym is)
 
-pub one_more_read : {X : Type 0} (f : X → List ℕ) (reading : Reading) (names : List X) (i : ℕ) (name : X) (targets : List ReadTargetValue) (target : ReadTargetValue) →
-    i < length names → name ≡ get_or names i name → AreRead reading (map f (take i names)) targets → IsRead reading targets (f name) target →
-    AreRead reading (map f (take (i + 1) names)) (targets ++ target ∷ [])
-one_more_read f reading names i name targets target within is before here =
-    subst (λ ns. AreRead reading ns (targets ++ target ∷ [])) (sym (mapped_next f names i name within is))
-    (one_more (map f (take i names)) targets (f name) target before here)
-
-pub fails_at : {X : Type 0} (f : X → List ℕ) (reading : Reading) (names : List X) (i : ℕ) (name : X) (targets : List ReadTargetValue) (answer : Answer) →
-    i < length names → name ≡ get_or names i name → AreRead reading (map f (take i names)) targets → FailsTarget reading targets (f name) answer →
-    FailsReading reading (map f names) answer
-fails_at f reading names i name targets answer within is before fails = record {
-  index = i;
-  name = f name;
-  here = slice_get-map f names i ∙ ap (option_map f) (at_index names i name within is);
-  earlier = targets;
-  read = subst (λ ns. AreRead reading ns targets) (sym (take-map f i names)) before;
-  fails = fails;
-}
+-- one more element, mapped
+pub mapped_next : {X Y : Type 0} (f : X → Y) (xs : List X) (i : ℕ) (x : X) → i < length xs → x ≡ get_or xs i x → map f (take (i + 1) xs) ≡ map f (take i xs) ++ f x ∷ []
+mapped_next f xs i x within is = ap (map f) (take_more xs i x within ∙ ap (λ z. take i xs ++ z ∷ []) (sym is)) ∙ map_push f (take i xs) x

@@ -1,5 +1,5 @@
 -- What the command `effect` answers.
-use Rattle.std.specs.Prelude.{ℕ, List, ◌++◌, Option, Some, None, Result, Ok, Err, codes}
+use Rattle.std.specs.Prelude.{ℕ, List, ◌++◌, Result, Ok, Err, codes}
 use Rattle.ninja_text.specs.FaultTexts.{path_fault_text}
 use Rattle.ninja_text.specs.Paths.{path_of}
 use Rattle.ninja_text.specs.declared.fault.PathFault.{PathFault}
@@ -12,9 +12,10 @@ use Rattle.build_effect.specs.declared.fault.EffectFault.{EffectFault}
 use Rattle.build_effect.specs.declared.fault.ListingWriteFault.{ListingWriteFault}
 use Rattle.build_effect.specs.declared.fault.ListingWriteFault.TheVariants.{ListingTooLong, Io}
 use Rattle.commands.specs.declared.answer.Answer.{Answer}
-use Rattle.commands.specs.Answers.{Prints, Fails, Refuses}
+use Rattle.commands.specs.Answers.{Prints, Refuses}
 use Rattle.commands.specs.Dyndeps.{AnswersDyndep}
 use Rattle.commands.specs.EdgeFaults.{first_output, effect_text}
+use Rattle.commands.specs.Files.{Run, Ends, ReadsFile}
 use Rattle.commands.specs.Listings.{AnswersListing}
 
 -- the listing is printed, or refused with the first output of the edge whose line is too long
@@ -58,7 +59,7 @@ AnswersNamed (Err fault) edges dyndep answer =
 abbrev pub AnswersEffect : List ℕ → List ℕ → List ℕ → Answer → Type 0
 AnswersEffect name edges dyndep answer = AnswersNamed (path_of name) edges dyndep answer
 
--- the same, where the dyndep file can be read
-abbrev pub AnswersFiles : List ℕ → List ℕ → List ℕ → Option (List ℕ) → Answer → Type 0
-AnswersFiles name edges file (Some dyndep) answer = AnswersEffect name edges dyndep answer
-AnswersFiles name edges file None answer = Fails 3 (codes "cannot read " ++ file) answer
+-- a run reads the dyndep file, and answers to it and to these bytes of an edge listing
+abbrev pub AnswersEffectFile : List ℕ → List ℕ → List ℕ → Run
+AnswersEffectFile name edges dyndep calls step =
+    ReadsFile dyndep (λ text. Ends (AnswersEffect name edges text)) calls step

@@ -1,89 +1,91 @@
--- The files that a task reads besides its own, and what is read and written by calls.
-use Rattle.std.specs.Prelude.{◌≡◌, ℕ, List, [], ◌∷◌, ◌++◌, map, Result, Ok, Err, IfOk, String, Vec, codes}
-use Rattle.std.specs.Global.{Global}
+-- How a run reads files, one after another, and how those of an answer are written.
+use Rattle.std.specs.Prelude.{◌≡◌, ⊤, ℕ, List, [], ◌∷◌, ◌++◌, map, Option, Some, None, Result, Ok, Err, IfOk, codes}
 use Rattle.std.specs.declared.alloc.AllocError.{AllocError}
 use Rattle.std.specs.declared.io.Error.{Error}
+use Rattle.ninja_text.specs.declared.failure.Failure.{Failure}
+use Rattle.ninja_text.specs.declared.failure.Failure.TheVariants.{Memory, Fault}
 use Rattle.scan_docs.specs.Target as document
 use Rattle.commands.specs.declared.answer.Answer.{Answer}
 use Rattle.commands.specs.Answers.{Fails, file_value}
 use Rattle.commands.specs.Folder.{FileCall, reading, writing}
-use Rattle.scan_docs.specs.Project.{ProjectValue}
-use Rattle.commands.specs.CollateCommand.{FileValue, HasSpec, names_in}
-use Rattle.commands.specs.ProjectCommand.{HasProject, names_of_target}
-use Rattle.command_line.specs.Tasks.{TaskValue, one, collate, show, effect, order, project}
 
--- the names are those of the files that the target document names, if it is accepted
-abbrev pub NamesIn : List ℕ → List (List ℕ) → Type 0
-NamesIn bytes names = (spec : document.TargetValue) → HasSpec bytes spec → names ≡ names_in spec
+-- ---- parts of runs
 
--- the names are those of the target documents that the project document names, if it is accepted
-abbrev pub NamesInProject : List ℕ → List (List ℕ) → Type 0
-NamesInProject bytes names = (p : ProjectValue) → HasProject bytes p → names ≡ p.targets
+-- What a part of a run leads to: the run goes on with a value, or it ends with an answer, or
+-- without one, where memory was refused.
+abbrev pub Step : Type 0 → Type 0
+Step X = Result X (Failure Answer)
 
--- The names of the files that a task reads besides its own, by what reading its own answered: those
--- of a target document, the target documents of a project, the dyndep file of an effect, and else
--- none.
-abbrev pub NamesOf : TaskValue → Result (Vec ℕ Global) Error → List (List ℕ) → Type 0
-NamesOf (collate target) (Ok bytes) names = NamesIn bytes.items names
-NamesOf (collate target) (Err error) names = names ≡ []
-NamesOf (one scan dir ext) read names = names ≡ []
-NamesOf (show dyndep) read names = names ≡ []
-NamesOf (effect name edges dyndep) (Ok bytes) names = names ≡ dyndep ∷ []
-NamesOf (effect name edges dyndep) (Err error) names = names ≡ []
-NamesOf (order edges) read names = names ≡ []
-NamesOf (project document) (Ok bytes) names = NamesInProject bytes.items names
-NamesOf (project document) (Err error) names = names ≡ []
+-- what a whole run leads to
+abbrev pub ended : {X : Type 0} → Result Answer AllocError → Step X
+ended (Ok answer) = Err (Fault answer)
+ended (Err refused) = Err Memory
 
--- the names are those of the files that a project reads for the target document, if it is accepted
-abbrev pub NamesInTarget : List ℕ → List (List ℕ) → Type 0
-NamesInTarget bytes names =
-    (spec : document.TargetValue) → HasSpec bytes spec → names ≡ names_of_target spec
+-- what is said of a part of a run, by the calls that it makes and by what it leads to
+abbrev pub Part : Type 0 → Type 1
+Part X = List FileCall → Step X → Type 0
 
--- the names are those of the files that a project reads for its target documents, one after another
-abbrev pub NamesInTargets : List FileValue → List (List ℕ) → Type 0
-NamesInTargets [] names = names ≡ []
-NamesInTargets (document ∷ documents) names =
-    (first : List (List ℕ)) × (others : List (List ℕ)) × NamesInTarget document.1 first
-    × NamesInTargets documents others × (names ≡ first ++ others)
+-- what is said of a whole run, which never goes on
+abbrev pub Run : Type 1
+Run = Part ⊥
 
--- The names of the files that a task reads last, by the files that it read before: those that the
--- target documents of a project name, and else none.
-abbrev pub FurtherNamesOf : TaskValue → List FileValue → List (List ℕ) → Type 0
-FurtherNamesOf (project document) files names = NamesInTargets files names
-FurtherNamesOf (one scan dir ext) files names = names ≡ []
-FurtherNamesOf (collate target) files names = names ≡ []
-FurtherNamesOf (show dyndep) files names = names ≡ []
-FurtherNamesOf (effect name edges dyndep) files names = names ≡ []
-FurtherNamesOf (order edges) files names = names ≡ []
+-- the run ends, and this holds of its answer, if memory was not refused
+abbrev pub EndsWith : {X : Type 0} → (Answer → Type 0) → Step X → Type 0
+EndsWith Holds (Ok value) = ⊥
+EndsWith Holds (Err Memory) = ⊤
+EndsWith Holds (Err (Fault answer)) = Holds answer
 
--- ---- what was read and written
+-- no call is made, the run ends, and this holds of its answer
+abbrev pub Ends : {X : Type 0} → (Answer → Type 0) → Part X
+Ends Holds calls step = (calls ≡ []) × EndsWith Holds step
 
--- the calls that read these files
-abbrev pub reads_of : List FileValue → List FileCall
-reads_of = map (λ file. reading file.0 (Ok file.1))
+-- ---- files that are read
+
+-- A run reads the file of this name, and with its bytes goes on like this. Or it can't be read, and
+-- the run ends with that. Or memory is refused before.
+pub data ReadsFile {X : Type 0} (name : List ℕ) (Then : List ℕ → Part X) (calls : List FileCall)
+    (step : Step X) : Type 0 where
+  read : (bytes : List ℕ) (others : List FileCall) → calls ≡ reading name (Ok bytes) ∷ others →
+      Then bytes others step → ReadsFile name Then calls step
+  unread : (error : Error) → calls ≡ reading name (Err error) ∷ [] →
+      EndsWith (Fails 3 (codes "cannot read " ++ name)) step → ReadsFile name Then calls step
+  no_memory : calls ≡ [] → step ≡ Err Memory → ReadsFile name Then calls step
+
+-- the same with the files of these names, one after another
+abbrev pub ReadsFiles : {X : Type 0} → List (List ℕ) → (List (List ℕ) → Part X) → Part X
+ReadsFiles [] Then calls step = Then [] calls step
+ReadsFiles (name ∷ names) Then calls step =
+    ReadsFile name (λ bytes. ReadsFiles names (λ others. Then (bytes ∷ others))) calls step
+
+-- the same with the file of a name, where there is one
+abbrev pub ReadsListing : {X : Type 0} → Option (List ℕ) → (Option (List ℕ) → Part X) → Part X
+ReadsListing None Then calls step = Then None calls step
+ReadsListing (Some name) Then calls step = ReadsFile name (λ bytes. Then (Some bytes)) calls step
+
+-- the bytes of the files of a target: its scan documents, the infos that it links, and its listing
+-- of edges, if it names one
+pub record TargetFilesValue : Type 0 where
+  pub scans : List (List ℕ)
+  pub infos : List (List ℕ)
+  pub listing : Option (List ℕ)
+
+-- the same with the files of a target, in this order: the scan documents that it names, infos of
+-- these names, and the listing of edges
+abbrev pub ReadsTarget : {X : Type 0} → document.TargetValue → List (List ℕ)
+    → (TargetFilesValue → Part X) → Part X
+ReadsTarget spec linked Then calls step =
+    ReadsFiles spec.scans (λ scans. ReadsFiles linked (λ infos. ReadsListing spec.edges (λ listing.
+    Then (record { scans = scans; infos = infos; listing = listing })))) calls step
+
+-- ---- files that are written
+
+-- a file: its name, and its bytes
+abbrev pub FileValue : Type 0
+FileValue = List ℕ × List ℕ
 
 -- the calls that wrote these files
 abbrev pub writes_of : List FileValue → List FileCall
 writes_of = map (λ file. writing file.0 file.1 (Ok tt))
-
--- These calls read these files, which have the names, in order, each once; or the first of them,
--- and then the next call answered an error.
-pub data EndsReading (names : List (List ℕ)) (files : List FileValue) (calls : List FileCall)
-    : Type 0 where
-  all_read : names ≡ map (λ file. file.0) files → calls ≡ reads_of files →
-      EndsReading names files calls
-  one_unread : (name : List ℕ) (others : List (List ℕ)) (error : Error) →
-      names ≡ map (λ file. file.0) files ++ name ∷ others →
-      calls ≡ reads_of files ++ reading name (Err error) ∷ [] → EndsReading names files calls
-
--- The files that were kept are those that the calls read. Where memory was refused, the calls end
--- at some of the names.
-abbrev pub IsRead : List (List ℕ) → List FileCall
-    → Result (Vec (String Global × Vec ℕ Global) Global) AllocError → Type 0
-IsRead names calls (Ok files) = EndsReading names (map file_value files.items) calls
-IsRead names calls (Err refused) =
-    (first : List (List ℕ)) × (others : List (List ℕ)) × (names ≡ first ++ others)
-    × ((files : List FileValue) × EndsReading first files calls)
 
 -- The calls wrote the files of an answer, in order, each once, and the answer is left. Or they
 -- wrote those before one, the call for that one answered an error, and the run fails with its name.

@@ -1,5 +1,5 @@
 -- What the command `project` answers.
-use Rattle.std.specs.Prelude.{◌≡◌, ℕ, suc, List, [], ◌∷◌, ◌++◌, length, map, zip, take, slice_get, All, Bool, bytes_eq, if◌then◌else◌, Option, Some, None, codes}
+use Rattle.std.specs.Prelude.{◌≡◌, ℕ, suc, List, [], ◌∷◌, ◌++◌, length, map, zip, take, slice_get, All, Bool, bytes_eq, if◌then◌else◌, Option, Some, None, Err, codes}
 use Rattle.std.specs.Fmt.{decimal}
 use Rattle.std.specs.List.{flat_map}
 use Rattle.std.specs.Option.{option_map_or}
@@ -20,16 +20,15 @@ use Rattle.collate_core.specs.Projects.{IsProjectRefusal}
 use Rattle.collate_core.specs.declared.fault.Refusal.{Refusal}
 use Rattle.commands.specs.declared.answer.Answer.{Answer}
 use Rattle.commands.specs.declared.edges.EdgesFault.{EdgesFault}
-use Rattle.commands.specs.Answers.{Fails, Refuses, Writes}
-use Rattle.commands.specs.CollateCommand.{FileValue, Reading, first_unread, bytes_of, listing_of, list_of, dyndep_path, setting_in, style_of, files_of, HasSpec, spec_text}
+use Rattle.commands.specs.Answers.{Refuses, Writes}
+use Rattle.commands.specs.CollateCommand.{dyndep_path, setting_in, style_of, files_of, HasSpec, spec_text}
+use Rattle.commands.specs.Files.{FileValue, TargetFilesValue, Step, Part, Run, Ends, ReadsFile, ReadsTarget}
+use Rattle.commands.specs.Folder.{FileCall}
+use Rattle.ninja_text.specs.declared.failure.Failure.TheVariants.{Memory}
 use Rattle.commands.specs.EdgeChecks.{PassesEdges, FailsEdges, edges_text}
 use Rattle.commands.specs.RefusalTexts.{refusal_by_names}
 
 -- ---- the targets that are read
-
--- what a project reads of a target: its scan documents, and then the listing of edges
-abbrev pub names_of_target : document.TargetValue → List (List ℕ)
-names_of_target spec = spec.scans ++ list_of spec.edges
 
 -- A target that was read: the members of its document, the indexes of the targets that it links,
 -- and the bytes of its scan documents and of the listing of edges, if it names one.
@@ -54,40 +53,9 @@ abbrev pub HasFormOf : List ReadTargetValue → document.TargetValue → Type 0
 HasFormOf [] spec = Unit {0}
 HasFormOf (first ∷ others) spec = spec.map_form ≡ first.spec.map_form
 
--- The file of this name is there, and is a target document with these members.
-pub record HasDocument (reading : Reading) (name : List ℕ)
-    (spec : document.TargetValue) : Type 0 where
-  pub bytes : List ℕ
-  pub here : reading name ≡ Some bytes
-  pub accepted : HasSpec bytes spec
-
 -- each of these infos is that of a target, and these are the indexes of the last such ones
 abbrev pub LinksTo : List ReadTargetValue → List (List ℕ) → List ℕ → Type 0
 LinksTo earlier infos linked = map (last_with earlier) infos ≡ map Some linked
-
--- A target is read behind earlier ones: it has their form, what it links is among them, and the
--- files that it names are there.
-pub record IsReadBehind (reading : Reading) (earlier : List ReadTargetValue)
-    (target : ReadTargetValue) : Type 0 where
-  pub form : HasFormOf earlier target.spec
-  pub linked : LinksTo earlier target.spec.linked target.linked
-  pub complete : first_unread reading (names_of_target target.spec) ≡ None
-  pub scans : target.scans ≡ bytes_of reading target.spec.scans
-  pub listing : target.listing ≡ listing_of reading target.spec.edges
-
--- The target of the document of this name is read behind earlier ones.
-pub record IsRead (reading : Reading) (earlier : List ReadTargetValue) (name : List ℕ)
-    (target : ReadTargetValue) : Type 0 where
-  pub document : HasDocument reading name target.spec
-  pub behind : IsReadBehind reading earlier target
-
--- the targets of the documents of these names are read, one behind the other
-pub data AreRead (reading : Reading) : List (List ℕ) → List ReadTargetValue → Type 0 where
-  none : AreRead reading [] []
-  one_more : (names : List (List ℕ)) (targets : List ReadTargetValue) (name : List ℕ)
-      (target : ReadTargetValue) → AreRead reading names targets →
-      IsRead reading targets name target →
-      AreRead reading (names ++ name ∷ []) (targets ++ target ∷ [])
 
 -- what is reported of the target of this index
 abbrev pub target_text : ℕ → List ℕ → List ℕ
@@ -99,45 +67,37 @@ LinksLater earlier infos =
     (index : ℕ) × (info : List ℕ) × (slice_get infos index ≡ Some info)
     × (last_with earlier info ≡ None)
 
--- A target with these members can't be read behind earlier ones, and the run says why: the first
--- of these reasons.
-pub data FailsBehind (reading : Reading) (earlier : List ReadTargetValue)
-    (spec : document.TargetValue) (answer : Answer) : Type 0 where
+-- the target with these members, which links those of these indexes, and of these files
+abbrev pub read_target : document.TargetValue → List ℕ → TargetFilesValue → ReadTargetValue
+read_target spec linked files =
+    record { spec = spec; linked = linked; scans = files.scans; listing = files.listing }
+
+-- What a run does after earlier targets with one of these members, to go on with the target: it
+-- ends with the first fault, or reads the target's files, without infos. The fault is that
+pub data AnswersAfter {X : Type 0} (earlier : List ReadTargetValue) (spec : document.TargetValue)
+    (Then : ReadTargetValue → Part X) (calls : List FileCall) (step : Step X) : Type 0 where
   -- its maps are of another form than those of the first target
   other_form : (HasFormOf earlier spec → ⊥) →
-      Refuses (target_text (length earlier) (spec_text (BadShape Document Map))) answer →
-      FailsBehind reading earlier spec answer
-  -- or else it links no earlier target
+      Ends (Refuses (target_text (length earlier) (spec_text (BadShape Document Map)))) calls step →
+      AnswersAfter earlier spec Then calls step
+  -- or else that it links no earlier target
   not_earlier : HasFormOf earlier spec → LinksLater earlier spec.linked →
-      Refuses (target_text (length earlier) (codes "K3 LinkedLater")) answer →
-      FailsBehind reading earlier spec answer
-  -- or else a file that it names can't be read
-  incomplete : (linked : List ℕ) (file : List ℕ) → HasFormOf earlier spec →
-      LinksTo earlier spec.linked linked → first_unread reading (names_of_target spec) ≡ Some file →
-      Fails 3 (codes "cannot read " ++ file) answer →
-      FailsBehind reading earlier spec answer
+      Ends (Refuses (target_text (length earlier) (codes "K3 LinkedLater"))) calls step →
+      AnswersAfter earlier spec Then calls step
+  faultless : (linked : List ℕ) → HasFormOf earlier spec → LinksTo earlier spec.linked linked →
+      ReadsTarget spec [] (λ files. Then (read_target spec linked files)) calls step →
+      AnswersAfter earlier spec Then calls step
+  no_memory : calls ≡ [] → step ≡ Err Memory → AnswersAfter earlier spec Then calls step
 
--- The target of the document of this name can't be read behind earlier ones: the document can't be
--- read, or it is refused, or the target can't be.
-pub data FailsTarget (reading : Reading) (earlier : List ReadTargetValue) (name : List ℕ)
-    (answer : Answer) : Type 0 where
-  unread : reading name ≡ None → Fails 3 (codes "cannot read " ++ name) answer →
-      FailsTarget reading earlier name answer
-  refused : (bytes : List ℕ) (fault : DocFault) → reading name ≡ Some bytes →
-      IsRefused target_checks bytes fault →
-      Refuses (target_text (length earlier) (spec_text fault)) answer →
-      FailsTarget reading earlier name answer
-  fails_behind : (spec : document.TargetValue) → HasDocument reading name spec →
-      FailsBehind reading earlier spec answer → FailsTarget reading earlier name answer
-
--- The first target that can't be read is that of this index, and the run says why.
-pub record FailsReading (reading : Reading) (names : List (List ℕ)) (answer : Answer) : Type 0 where
-  pub index : ℕ
-  pub name : List ℕ
-  pub here : slice_get names index ≡ Some name
-  pub earlier : List ReadTargetValue
-  pub read : AreRead reading (take index names) earlier
-  pub fails : FailsTarget reading earlier name answer
+-- What a run does after earlier targets with the bytes of a target document, to go on with its
+-- target. Of a refused document it reads no file.
+pub record AnswersNext {X : Type 0} (earlier : List ReadTargetValue)
+    (Then : ReadTargetValue → Part X) (bytes : List ℕ) (calls : List FileCall)
+    (step : Step X) : Type 0 where
+  pub accepted : (spec : document.TargetValue) → HasSpec bytes spec →
+      AnswersAfter earlier spec Then calls step
+  pub refused : (fault : DocFault) → IsRefused target_checks bytes fault →
+      Ends (Refuses (target_text (length earlier) (spec_text fault))) calls step
 
 -- ---- the targets as a project
 
@@ -207,12 +167,13 @@ pub data AnswersReadTargets (targets : List ReadTargetValue)
       IsProjectRefusal (style_of (form_of targets)) (map project_target targets) index refusal →
       Refuses (refused_text targets index target refusal) answer → AnswersReadTargets targets answer
 
--- What a run answers to the names of target documents: it goes through them in order, and reports
--- the first target that can't be read, or answers to all of them.
-pub data AnswersNames (reading : Reading) (names : List (List ℕ)) (answer : Answer) : Type 0 where
-  all_read : (targets : List ReadTargetValue) → AreRead reading names targets →
-      AnswersReadTargets targets answer → AnswersNames reading names answer
-  one_unread : FailsReading reading names answer → AnswersNames reading names answer
+-- what a run does after earlier targets with the names of target documents: it reads one after
+-- another, and when all are read, answers to their targets
+abbrev pub AnswersNames : List ReadTargetValue → List (List ℕ) → Run
+AnswersNames earlier [] calls step = Ends (AnswersReadTargets earlier) calls step
+AnswersNames earlier (name ∷ names) calls step =
+    ReadsFile name (AnswersNext earlier (λ target. AnswersNames (earlier ++ target ∷ []) names))
+    calls step
 
 -- ---- the project document
 
@@ -224,9 +185,10 @@ HasProject bytes project = IsAccepted project_checks IsProject bytes project
 abbrev pub project_text : DocFault → List ℕ
 project_text fault = codes "project: " ++ doc_fault_text fault
 
--- What a run answers to these bytes of a project document, where files are read like this.
-pub record AnswersProject (bytes : List ℕ) (reading : Reading) (answer : Answer) : Type 0 where
+-- What a run reads and answers to these bytes of a project document. Of a refused one it reads no
+-- file.
+pub record AnswersProject (bytes : List ℕ) (calls : List FileCall) (step : Step ⊥) : Type 0 where
   pub accepted : (project : ProjectValue) → HasProject bytes project →
-      AnswersNames reading project.targets answer
+      AnswersNames [] project.targets calls step
   pub refused : (fault : DocFault) → IsRefused project_checks bytes fault →
-      Refuses (project_text fault) answer
+      Ends (Refuses (project_text fault)) calls step

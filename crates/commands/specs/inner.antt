@@ -1,5 +1,5 @@
 pub mod EdgeChecks
+pub mod Parts
 pub mod ProjectTargets
-pub mod Readings
 pub mod Refusals
 pub mod TargetDocuments

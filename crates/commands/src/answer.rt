@@ -1,8 +1,9 @@
 //! What a run of a command answers.
 
-ghost use Rattle.std.specs.Prelude.{◌≡◌, ◌++◌, [], map, IfOk, codes};
+ghost use Rattle.std.specs.Prelude.{◌≡◌, ◌++◌, [], Err, map, IfOk, codes};
 ghost use Rattle.dyndep_file.specs.WriteFaults.{text_or_fault};
 ghost use Rattle.commands.specs.Answers.{visible, line, file_value, Writes, Fails, AnswersText};
+ghost use Rattle.commands.specs.Files.{ended};
 
 use dyndep_file::Dyndep;
 use ninja_text::Failure;
@@ -114,4 +115,24 @@ pub(crate) fn visible(byte: u8) -> u8
     ensures { result ≡ visible byte }
 {
     if byte < 32 || byte == 127 { b'?' } else { byte }
+}
+
+/// How a part of a run ends that has this answer, or none for want of memory.
+pub(crate) fn ended<T>(answer: Result<Answer, AllocError>) -> Result<T, Failure<Answer>>
+    ensures { result ≡ ended answer }
+{
+    match answer {
+        Ok(answer) => Err(Failure::Fault(answer)),
+        Err(AllocError) => Err(Failure::Memory),
+    }
+}
+
+/// The answer of a run that a part of it ended.
+pub(crate) fn answered(failure: Failure<Answer>) -> Result<Answer, AllocError>
+    ensures { ended {X = ⊥} result ≡ Err failure }
+{
+    match failure {
+        Failure::Memory => Err(AllocError),
+        Failure::Fault(answer) => Ok(answer),
+    }
 }

@@ -4,13 +4,17 @@ ghost use Rattle.std.specs.Prelude.{◌≡◌, Some, None, [], ◌∷◌, ◌++�
 ghost use Rattle.ninja_text.specs.Failure.{ForFault};
 ghost use Rattle.collate_core.specs.Collation.{Collates};
 ghost use Rattle.collate_core.specs.Refusals.{IsRefusal};
-ghost use Rattle.commands.specs.Answers.{file_value, Writes, Refuses};
-ghost use Rattle.commands.specs.CollateCommand.{first_of, first_unread, bytes_of, listing_of, names_in, dyndep_path, setting_in, style_of, map_name, files_of, AnswersTargetOf, AnswersSpec, AnswersCollate, spec_text};
-ghost use Rattle.commands.specs.EdgeChecks.{PassesEdges, FailsEdges, AnswersEdges};
+ghost use Rattle.commands.specs.Answers.{file_value, Refuses};
+ghost use Rattle.commands.specs.CollateCommand.{style_of, map_name, files_of, WritesCollated, AnswersTargetOf, AnswersSpec, AnswersCollate, spec_text};
+ghost use Rattle.commands.specs.EdgeChecks.{PassesEdges, FailsEdges};
+ghost use Rattle.commands.specs.Files.{ended};
+ghost use Rattle.commands.specs.Folder.{Makes};
+ghost use Rattle.commands.specs.Targets.{AnswersTarget};
 
-use crate::answer::Answer;
+use crate::answer::{Answer, answered};
 use crate::edges::{EdgesFault, edges_check, edges_refused};
-use crate::reading::{Files, read_each, read_named};
+use crate::folder::Folder;
+use crate::reading::{TargetFiles, slices};
 use crate::refusal::failed_run;
 use crate::target_document::TargetDocument;
 use collate_core::{Collated, CollatedParts, Refusal, Target, collate_with_hasher, one_outcome};
@@ -20,21 +24,22 @@ use scan_docs::{DocFault, MapForm, TargetSpec};
 use std::alloc::{AllocError, Global};
 use std::hash::RandomState;
 
-/// Runs `collate TARGETFILE` on the bytes of the target document, and on files by name. Of a name
-/// that is there twice the first file counts, and one that is not there counts as a file that can't
-/// be read. What is to be written are the map of each object, where the document wants maps, then
-/// the info, and last the dyndep file. Where the document names a listing of edges, they have to
-/// have an order after the effect of that dyndep file.
-pub fn collate_run(
+/// Runs `collate TARGETFILE` on the bytes of the target document. The files that it names are read
+/// from the folder: scan documents, infos, and the listing of edges last. What is to be written are
+/// the map of each object, where the document wants maps, then the info, and last the dyndep file.
+/// Where the document names a listing of edges, they have to have an order after the effect of that
+/// dyndep file. Of a refused document no file is read.
+pub fn collate_run<F: Folder>(
     alloc: Global,
     keys: RandomState,
-    spec: &[u8],
-    files: &[(String, Vec<u8>)],
+    document: &[u8],
+    folder: &mut F,
 ) -> Result<Answer, AllocError>
-    ensures { IfOk result (AnswersCollate spec.now (first_of (map file_value files.now))) }
+    ensures { Makes (F.calls folder.old) (F.calls folder.new) (λ calls.
+        AnswersCollate document.now calls (ended result)) }
 {
-    match TargetDocument::read(alloc, spec) {
-        Ok(document) => accepted_run(alloc, keys, &document, files),
+    match TargetDocument::read(alloc, document) {
+        Ok(document) => document_answer(alloc, keys, &document, folder),
         Err(Failure::Memory) => Err(AllocError),
         Err(Failure::Fault(fault)) => spec_refused(alloc, &fault),
     }
@@ -48,102 +53,60 @@ fn spec_refused(alloc: Global, fault: &DocFault) -> Result<Answer, AllocError>
     Answer::failed(alloc, 1, message.as_bytes())
 }
 
-/// The answer to an accepted target document, of these files.
-fn accepted_run(
-    alloc: Global,
-    keys: RandomState,
-    document: &TargetDocument,
-    files: &[(String, Vec<u8>)],
-) -> Result<Answer, AllocError>
-    ensures { IfOk result (AnswersSpec (first_of (map file_value files.now)) document.now) }
-{
-    let files = Files::of(alloc, keys, files)?;
-    document_run(alloc, keys, document, &files)
-}
-
 /// The answer to an accepted target document.
-fn document_run(
+fn document_answer<F: Folder>(
     alloc: Global,
     keys: RandomState,
     document: &TargetDocument,
-    files: &Files,
+    folder: &mut F,
 ) -> Result<Answer, AllocError>
-    ensures { IfOk result (AnswersSpec (first_of files.now) document.now) }
+    ensures { Makes (F.calls folder.old) (F.calls folder.new) (λ calls.
+        AnswersSpec document.now calls (ended result)) }
 {
-    match documents_of(alloc, document.spec(), files) {
-        Ok((scans, infos, listing)) => documents_run(
-            alloc, keys, document, &scans, &infos, listing,
-        ),
-        Err(Failure::Memory) => Err(AllocError),
-        Err(Failure::Fault(name)) => Answer::unread(alloc, name),
+    let spec = document.spec();
+    match TargetFiles::read(alloc, spec, &spec.linked, folder) {
+        Ok(files) => files_answer(alloc, keys, document, &files),
+        Err(failure) => answered(failure),
     }
 }
 
-/// The scan documents, the infos and the listing of edges that a target document names, or the
-/// first name of a file that is not there.
-fn documents_of<'s, 'f>(
-    alloc: Global,
-    spec: &'s TargetSpec,
-    files: &Files<'f>,
-) -> Result<(Vec<&'f [u8]>, Vec<&'f [u8]>, Option<&'f [u8]>), Failure<&'s str>>
-    ensures scans { IfOk result (λ documents. map (λ d. d.now) documents.0.items
-        ≡ bytes_of (first_of files.now) spec.now.scans) }
-    ensures infos { IfOk result (λ documents. map (λ d. d.now) documents.1.items
-        ≡ bytes_of (first_of files.now) spec.now.linked) }
-    ensures listing { IfOk result (λ documents. option_copied documents.2
-        ≡ listing_of (first_of files.now) spec.now.edges) }
-    ensures complete { IfOk result (λ _.
-        first_unread (first_of files.now) (names_in spec.now) ≡ None) }
-    ensures unread { IfErr result (ForFault (λ name.
-        first_unread (first_of files.now) (names_in spec.now) ≡ Some name.now)) }
-{
-    let scans = read_each(alloc, files, &spec.scans)?;
-    let infos = read_each(alloc, files, &spec.linked)?;
-    let listing = read_named(files, &spec.edges)?;
-    Ok((scans, infos, listing))
-}
-
-/// The answer to a target document whose files were read.
-fn documents_run(
+/// The answer to the target of a document, of these files.
+fn files_answer(
     alloc: Global,
     keys: RandomState,
     document: &TargetDocument,
-    scans: &[&[u8]],
-    infos: &[&[u8]],
-    listing: Option<&[u8]>,
+    files: &TargetFiles,
 ) -> Result<Answer, AllocError>
-    ensures { IfOk result (AnswersTargetOf document.now (option_copied listing.entry) (record {
-      name = document.now.target;
-      setting = setting_in document.now;
-      scans = map (λ d. d.now) scans.now;
-      infos = map (λ d. d.now) infos.now;
-      kept = document.now.kept;
-    })) }
+    ensures { IfOk result (AnswersTargetOf document.now files.now) }
 {
+    let scans = slices(alloc, &files.scans)?;
+    let infos = slices(alloc, &files.infos)?;
     let spec = document.spec();
     let target = Target {
         name: &spec.target,
         setting: document.setting(),
-        scans,
-        infos,
+        scans: &scans,
+        infos: &infos,
         kept: &spec.kept,
     };
-    target_run(alloc, keys, &target, document, listing)
+    target_answer(alloc, keys, &target, document, files.listing())
 }
 
-/// The answer to the target of a target document.
-fn target_run(
+/// The answer to a target, with the listing of edges that its document names, if it names one.
+fn target_answer(
     alloc: Global,
     keys: RandomState,
     target: &Target<'_>,
     document: &TargetDocument,
     listing: Option<&[u8]>,
 ) -> Result<Answer, AllocError>
-    ensures { IfOk result (AnswersTargetOf document.now (option_copied listing.entry) target.now) }
+    ensures { IfOk result (AnswersTarget
+        (WritesCollated document.now (option_copied listing.entry))
+        target.now (style_of document.now.map_form)) }
 {
     one_outcome();
     match collate_in(alloc, keys, target, document.spec().map) {
-        Ok(collated) => collated_run(alloc, keys, collated, document, listing),
+        Ok(collated) => collated_answer(alloc, keys, collated, document, listing),
         Err(failure) => failed_run(alloc, target, failure),
     }
 }
@@ -170,7 +133,7 @@ pub(crate) fn edges_pass(
 
 /// The answer to a collated target: its files, or what is wrong with the edges of the listing, if
 /// there is one.
-fn collated_run(
+fn collated_answer(
     alloc: Global,
     keys: RandomState,
     collated: Collated,
@@ -178,23 +141,17 @@ fn collated_run(
     listing: Option<&[u8]>,
 ) -> Result<Answer, AllocError>
     requires { All IsUtf8 collated.objects }
-    ensures { IfOk result (AnswersEdges (option_copied listing.entry) (dyndep_path document.now)
-        collated.dyndep (files_of document.now collated)) }
+    ensures { IfOk result
+        (WritesCollated document.now (option_copied listing.entry) collated) }
 {
     match edges_pass(alloc, keys, listing, document.path(), &collated) {
-        Ok(()) => files_run(alloc, collated, document.spec()),
+        Ok(()) => {
+            let files = files_of(alloc, collated, document.spec())?;
+            Ok(Answer::writes(alloc, files))
+        }
         Err(Failure::Memory) => Err(AllocError),
         Err(Failure::Fault(fault)) => edges_refused(alloc, &fault),
     }
-}
-
-/// The answer that writes the files of a collated target.
-fn files_run(alloc: Global, collated: Collated, spec: &TargetSpec) -> Result<Answer, AllocError>
-    requires { All IsUtf8 collated.objects }
-    ensures { IfOk result (Writes (files_of spec.now collated)) }
-{
-    let files = files_of(alloc, collated, spec)?;
-    Ok(Answer::writes(alloc, files))
 }
 
 /// Collates a target, with maps of this form, if one is given.

@@ -1,17 +1,18 @@
 //! The command `effect`: a listing after the effect of a dyndep file.
 
-ghost use Rattle.std.specs.Prelude.{map, IfOk};
-ghost use Rattle.commands.specs.Answers.{file_value};
-ghost use Rattle.commands.specs.CollateCommand.{first_of};
+ghost use Rattle.std.specs.Prelude.{IfOk};
 ghost use Rattle.commands.specs.Dyndeps.{AnswersDyndep};
-ghost use Rattle.commands.specs.Effect.{AnswersNew, AnswersEffectOf, AnswersGraph, AnswersEffect, AnswersFiles};
+ghost use Rattle.commands.specs.Effect.{AnswersNew, AnswersEffectOf, AnswersGraph, AnswersEffect, AnswersEffectFile};
+ghost use Rattle.commands.specs.Files.{ended};
+ghost use Rattle.commands.specs.Folder.{Makes};
 ghost use Rattle.commands.specs.Listings.{AnswersListing};
 
-use crate::answer::Answer;
+use crate::answer::{Answer, answered};
 use crate::dyndep_text::{dyndep_read, dyndep_refused};
 use crate::edge_fault::{effect_text, first_output};
+use crate::folder::Folder;
 use crate::listing::{is_graph, listing_read, listing_refused};
-use crate::reading::Files;
+use crate::reading::read_file;
 use crate::table_fault::joined;
 use build_effect::{Graph, ListingWriteFault, apply_with_hasher, listing_write, one_listing};
 use dyndep_file::{Dyndep, laws};
@@ -19,29 +20,9 @@ use ninja_text::{Counted, Failure, Path};
 use std::alloc::{AllocError, Global};
 use std::hash::RandomState;
 
-/// Runs `effect NAME EDGES DYNDEP` on the bytes of the edge listing, where the dyndep file is among
-/// these. Of a name that is there twice the first file counts.
-pub fn effect_files(
-    alloc: Global,
-    keys: RandomState,
-    name: &str,
-    edges: &[u8],
-    dyndep: &str,
-    files: &[(String, Vec<u8>)],
-) -> Result<Answer, AllocError>
-    ensures { IfOk result (AnswersFiles name.now edges.now dyndep.now
-        (first_of (map file_value files.now) dyndep.now)) }
-{
-    let files = Files::of(alloc, keys, files)?;
-    match files.get(dyndep) {
-        Some(text) => effect_run(alloc, keys, name, edges, text),
-        None => Answer::unread(alloc, dyndep),
-    }
-}
-
 /// Runs `effect NAME EDGES DYNDEP` on the name and the bytes of the two files. The name is looked
 /// at first, then the listing, and then the dyndep file.
-pub(crate) fn effect_run(
+pub fn effect_run(
     alloc: Global,
     keys: RandomState,
     name: &str,
@@ -57,6 +38,25 @@ pub(crate) fn effect_run(
             let message = format!(in alloc; "name: {fault}")?;
             Answer::failed(alloc, 1, message.as_bytes())
         }
+    }
+}
+
+/// Runs `effect NAME EDGES DYNDEP` on the name, the bytes of the edge listing, and the dyndep file
+/// of that name, which is read before anything is looked at.
+pub(crate) fn effect_of_file<F: Folder>(
+    alloc: Global,
+    keys: RandomState,
+    name: &str,
+    edges: &[u8],
+    dyndep: &str,
+    folder: &mut F,
+) -> Result<Answer, AllocError>
+    ensures { Makes (F.calls folder.old) (F.calls folder.new) (λ calls.
+        AnswersEffectFile name.now edges.now dyndep.now calls (ended result)) }
+{
+    match read_file(alloc, dyndep, folder) {
+        Ok(text) => effect_run(alloc, keys, name, edges, &text),
+        Err(failure) => answered(failure),
     }
 }
 

@@ -1,30 +1,28 @@
-//! The commands of the program `dyncollate`, from the bytes of the files that they name to what
-//! the program answers: its exit status, its texts for standard output and standard error, and the
-//! files to be written; and the way of a run from its task to what is written and printed. No
-//! function makes a call of the system: `main` hands in a [`Folder`] and two writers.
+//! The commands of the program `dyncollate`, from a task to what the program answers: its exit
+//! status, its texts for standard output and standard error, and the files to be written; and what
+//! is written and printed of that. No function makes a call of the system: `main` hands in a
+//! [`Folder`] and two writers.
 //!
-//! - [`one_run`], [`collate_run`], [`project_run`], [`effect_files`], [`order_run`] and
-//!   [`show_run`] are the commands of these names, and their contracts are what the program
-//!   promises of each (`specs/One.antt`, `CollateCommand.antt`, `ProjectCommand.antt`,
-//!   `Effect.antt`, `Order.antt`, `Show.antt`). None of them reads or writes a file.
-//! - [`task_run`] answers a task by what reading its files gave: it calls the command
-//!   (`specs/Runs.antt`).
-//! - [`names_of`] and [`further_names`] say which files a task reads besides its own, [`read_files`]
-//!   reads files from a [`Folder`], and [`write_files`] writes those of an answer to one
-//!   (`specs/Files.antt`, `Folder.antt`).
-//! - [`print`] writes an answer's texts and gives the exit status (`specs/Printing.antt`).
+//! - [`task_run`] reads the file of a task from a folder and calls the command (`specs/Runs.antt`).
+//! - [`collate_run`] and [`project_run`] are the commands of these names. They read the files that
+//!   their document names from the folder, each when its turn comes and once
+//!   (`specs/CollateCommand.antt`, `ProjectCommand.antt`, `Files.antt`, `Folder.antt`).
+//! - [`one_run`], [`effect_run`], [`order_run`] and [`show_run`] are the others, on the bytes of
+//!   their files (`specs/One.antt`, `Effect.antt`, `Order.antt`, `Show.antt`).
+//! - [`write_files`] writes the files of an answer to a folder, and [`print`] its texts, and gives
+//!   the exit status (`specs/Files.antt`, `Printing.antt`).
 //! - [`Answer`] is what a command answers, and the line that it fails with (`specs/Answers.antt`).
-//! - `target_document` is an accepted target document, and `project_targets` the targets of a
-//!   project that were read.
-//! - `reading` finds files by their names, `listing` and `dyndep_text` read listings and dyndep
-//!   files, and `edges` checks the edges that a target document names.
+//! - `reading` reads files from a folder, `target_document` is an accepted target document, and
+//!   `project_targets` reads the targets of a project.
+//! - `listing` and `dyndep_text` read listings and dyndep files, and `edges` checks the edges that a
+//!   target document names.
 //! - `refusal` reports why a target is refused, `table_fault` why its modules have no table, and
 //!   `edge_fault` what is wrong with edges.
 //!
-//! The definitions that only private clauses speak of stand in `specs/inner/`.
+//! The definitions that only private clauses speak of are in `specs/inner/`.
 //!
 //! It stands on the other library crates of this repository, of which `command_line` says what a
-//! task is, and on `indexmap` for the tables of files and infos by name.
+//! task is, and on `indexmap` for the table of the infos that a project writes.
 #![tactic(auto)]
 
 mod answer;
@@ -50,8 +48,8 @@ mod target_document;
 
 pub use answer::Answer;
 pub use collate::collate_run;
-pub use effect::effect_files;
-pub use files::{further_names, names_of, read_files, write_files};
+pub use effect::effect_run;
+pub use files::write_files;
 pub use folder::Folder;
 pub use one::one_run;
 pub use order::order_run;

@@ -1,19 +1,22 @@
 //! The command `project`: the files of all targets of a project.
 
-ghost use Rattle.std.specs.Prelude.{◌≡◌, ◌<◌, ◌++◌, Some, All, IsUtf8, List, ℕ, length, map, zip, slice_get, string_bytes, IfOk, IfErr, OnOk};
+ghost use Rattle.std.specs.Prelude.{◌≡◌, ◌<◌, ◌++◌, [], Some, All, IsUtf8, List, ℕ, length, map, zip, slice_get, string_bytes, IfOk, IfErr, OnOk};
 ghost use Rattle.ninja_text.specs.Failure.{ForFault};
 ghost use Rattle.collate_core.specs.Projects.{IsProject, IsProjectRefusal};
-ghost use Rattle.commands.specs.Answers.{file_value, Writes, Refuses};
-ghost use Rattle.commands.specs.CollateCommand.{first_of, style_of, files_of};
+ghost use Rattle.commands.specs.Answers.{file_value, Refuses};
+ghost use Rattle.commands.specs.CollateCommand.{style_of, files_of};
 ghost use Rattle.commands.specs.EdgeChecks.{edges_text};
+ghost use Rattle.commands.specs.Files.{ended};
+ghost use Rattle.commands.specs.Folder.{Makes};
 ghost use Rattle.commands.specs.ProjectCommand.{ReadTargetValue, target_text, project_target, form_of, names_at, refused_text, PassesOwn, FailsFirst, all_files, AnswersCollatedTargets, AnswersReadTargets, AnswersNames, AnswersProject, project_text};
 ghost use Rattle.commands.specs.inner.ProjectTargets.{LinkEarlier, IsReportable, AreOuts};
 
-use crate::answer::Answer;
+use crate::answer::{Answer, answered};
 use crate::collate::{edges_pass, files_of};
 use crate::edges::{EdgesFault, edges_text};
-use crate::project_targets::{ReadTarget, read_targets, target_failed};
-use crate::reading::Files;
+use crate::folder::Folder;
+use crate::project_targets::{ReadTarget, Targets, read_target, target_failed};
+use crate::reading::slices;
 use crate::refusal::refusal_by_names;
 use collate_core::{Collated, ProjectOut, ProjectTarget, Refusal, project_with_hasher};
 use module_maps::{Clang, Gcc};
@@ -22,24 +25,24 @@ use scan_docs::{DocFault, MapForm, TargetName, TargetSpec, project_read};
 use std::alloc::{AllocError, Global};
 use std::hash::RandomState;
 
-/// Runs `project FILE` on the bytes of the project document, and on files by name. Of a name that
-/// is there twice the first file counts, and one that is not there counts as a file that can't be
-/// read.
+/// Runs `project FILE` on the bytes of the project document. The files of the targets are read from
+/// the folder, target by target: the document of each, which may only link targets before it and
+/// has the first one's form of maps, its scan documents and its listing of edges. Behind a refused
+/// document no file is read. All targets are read before the first is collated.
 ///
-/// All targets are read before the first is collated: the document of each, which may only link
-/// targets before it and has the first one's form of maps, its scan documents and its listing of
-/// edges. What is to be written are the files of `collate`, target by target; infos that targets
-/// link are not read, since the project writes them.
-pub fn project_run(
+/// What is to be written are the files of `collate`, target by target; infos that targets link are
+/// not read, since the project writes them.
+pub fn project_run<F: Folder>(
     alloc: Global,
     keys: RandomState,
     document: &[u8],
-    files: &[(String, Vec<u8>)],
+    folder: &mut F,
 ) -> Result<Answer, AllocError>
-    ensures { IfOk result (AnswersProject document.now (first_of (map file_value files.now))) }
+    ensures { Makes (F.calls folder.old) (F.calls folder.new) (λ calls.
+        AnswersProject document.now calls (ended result)) }
 {
     match project_read(alloc, document) {
-        Ok(spec) => names_run(alloc, keys, &spec.targets, &Files::of(alloc, keys, files)?),
+        Ok(spec) => names_answer(alloc, keys, &spec.targets, folder),
         Err(Failure::Memory) => Err(AllocError),
         Err(Failure::Fault(fault)) => project_refused(alloc, &fault),
     }
@@ -54,23 +57,27 @@ fn project_refused(alloc: Global, fault: &DocFault) -> Result<Answer, AllocError
 }
 
 /// The answer to the target documents of these names.
-fn names_run(
+fn names_answer<F: Folder>(
     alloc: Global,
     keys: RandomState,
     names: &[String],
-    files: &Files,
+    folder: &mut F,
 ) -> Result<Answer, AllocError>
-    ensures { IfOk result (AnswersNames (first_of files.now) (map string_bytes names.now)) }
+    ensures { Makes (F.calls folder.old) (F.calls folder.new) (λ calls.
+        AnswersNames [] (map string_bytes names.now) calls (ended result)) }
 {
-    match read_targets(alloc, keys, files, names) {
-        Ok(targets) => targets_run(alloc, keys, &targets),
-        Err(Failure::Memory) => Err(AllocError),
-        Err(Failure::Fault(answer)) => Ok(answer),
+    let mut targets = Targets::new(alloc, keys);
+    for name in names {
+        match read_target(alloc, &targets, name.as_str(), folder) {
+            Ok(target) => targets = targets.with(alloc, target)?,
+            Err(failure) => return answered(failure),
+        }
     }
+    targets_answer(alloc, keys, &targets.into_vec())
 }
 
 /// The answer to targets that were read.
-fn targets_run(
+fn targets_answer(
     alloc: Global,
     keys: RandomState,
     targets: &[ReadTarget],
@@ -79,10 +86,10 @@ fn targets_run(
     ensures { IfOk result (AnswersReadTargets targets.now) }
 {
     match collate_all(alloc, keys, targets) {
-        Ok(out) => collated_run(alloc, keys, targets, out.targets),
+        Ok(out) => collated_answer(alloc, keys, targets, out.targets),
         Err(Failure::Memory) => Err(AllocError),
         Err(Failure::Fault(refused)) => {
-            let answer = refused_run(alloc, targets, &refused);
+            let answer = refused_answer(alloc, targets, &refused);
             // Here, by one call: what it holds would be dropped field by field at the end.
             drop(refused);
             answer
@@ -102,8 +109,21 @@ fn collate_all(
         IsProjectRefusal (style_of (form_of targets.now))
         (map project_target targets.now) refused.0 refused.1)) }
 {
-    let parts = in_project(alloc, targets)?;
+    let scans = scans_of(alloc, targets)?;
+    let parts = in_project(alloc, targets, &scans)?;
     project_in(alloc, keys, &parts, form_of(targets))
+}
+
+/// The scan documents of each target, lent.
+fn scans_of<'t>(alloc: Global, targets: &'t [ReadTarget]) -> Result<Vec<Vec<&'t [u8]>>, AllocError>
+    ensures { IfOk result (λ scans. map (λ lent. map (λ s. s.now) lent.items) scans.items
+        ≡ map (λ target. target.scans) targets.now) }
+{
+    let mut scans = Vec::with_capacity(alloc, targets.len())?;
+    for target in targets {
+        scans.push(slices(alloc, &target.files.scans)?)?;
+    }
+    Ok(scans)
 }
 
 /// Collates targets as a project has them, with maps of this form, if one is given.
@@ -125,16 +145,19 @@ fn project_in(
     }
 }
 
-/// The targets as a project has them.
+/// The targets as a project has them, with their scan documents.
 fn in_project<'t>(
     alloc: Global,
     targets: &'t [ReadTarget],
+    scans: &'t [Vec<&[u8]>],
 ) -> Result<Vec<ProjectTarget<'t>>, AllocError>
+    requires { map (λ lent. map (λ s. s.now) lent.items) scans.now
+        ≡ map (λ target. target.scans) targets.now }
     ensures { IfOk result (λ parts. parts.items ≡ map project_target targets.now) }
 {
     let mut parts = Vec::with_capacity(alloc, targets.len())?;
-    for target in targets {
-        parts.push(target.in_project())?;
+    for (index, target) in targets.iter().enumerate() {
+        parts.push(target.in_project(&scans[index]))?;
     }
     Ok(parts)
 }
@@ -150,7 +173,7 @@ fn form_of(targets: &[ReadTarget]) -> Option<MapForm>
 }
 
 /// The answer to targets of which that of this index is refused.
-fn refused_run(
+fn refused_answer(
     alloc: Global,
     targets: &[ReadTarget],
     refused: &(usize, Refusal),
@@ -163,8 +186,9 @@ fn refused_run(
     let index = refused.0;
     let target = &targets[index];
     let names = linked_names(alloc, targets, &target.linked)?;
+    let scans = slices(alloc, &target.files.scans)?;
     let setting = target.document.setting();
-    let text = refusal_by_names(alloc, setting, &target.scans, &names, &refused.1)?;
+    let text = refusal_by_names(alloc, setting, &scans, &names, &refused.1)?;
     target_failed(alloc, index, &text)
 }
 
@@ -189,7 +213,7 @@ fn linked_names<'t>(
 
 /// The answer to targets that collated to these: their files, or what is wrong with the edges of
 /// the first whose edges are faulty.
-fn collated_run(
+fn collated_answer(
     alloc: Global,
     keys: RandomState,
     targets: &[ReadTarget],
@@ -199,23 +223,13 @@ fn collated_run(
     ensures { IfOk result (AnswersCollatedTargets (zip targets.now outs.items)) }
 {
     match all_pass(alloc, keys, targets, &outs) {
-        Ok(()) => files_run(alloc, targets, outs),
+        Ok(()) => {
+            let files = all_files(alloc, targets, outs)?;
+            Ok(Answer::writes(alloc, files))
+        }
         Err(Failure::Memory) => Err(AllocError),
         Err(Failure::Fault((index, fault))) => edges_failed(alloc, index, &fault),
     }
-}
-
-/// The answer that writes the files of all targets, which collated to these.
-fn files_run(
-    alloc: Global,
-    targets: &[ReadTarget],
-    outs: Vec<Collated>,
-) -> Result<Answer, AllocError>
-    requires { All (λ c. All IsUtf8 c.objects) outs.items }
-    ensures { IfOk result (Writes (all_files (zip targets.now outs.items))) }
-{
-    let files = all_files(alloc, targets, outs)?;
-    Ok(Answer::writes(alloc, files))
 }
 
 /// The answer to a target of this index whose edges are faulty.
@@ -243,7 +257,7 @@ fn all_pass(
         match edges_pass(
             alloc,
             keys,
-            target.listing,
+            target.files.listing(),
             target.document.path(),
             &outs[index],
         ) {

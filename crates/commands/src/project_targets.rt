@@ -1,14 +1,17 @@
 //! The targets of a project, as their documents and the files that these name are read.
 
-ghost use Rattle.std.specs.Prelude.{◌≡◌, ◌++◌, ◌∷◌, [], List, ℕ, None, Some, map, string_bytes, bytes_eq, if◌then◌else◌, option_copied, IfOk, IfErr, OnOk, IfNone, IfSome, IsTrue, Decides, length};
-ghost use Rattle.ninja_text.specs.Failure.{ForFault};
+ghost use Rattle.std.specs.Prelude.{◌≡◌, ◌<◌, ◌++◌, ◌∷◌, [], List, ℕ, None, Some, All, map, string_bytes, bytes_eq, if◌then◌else◌, option_copied, IfOk, OnOk, IfNone, IfSome, Decides, length};
 ghost use Rattle.commands.specs.Answers.{Refuses};
-ghost use Rattle.commands.specs.CollateCommand.{first_of, first_unread, bytes_of, listing_of, spec_text};
-ghost use Rattle.commands.specs.ProjectCommand.{names_of_target, last_with, target_text, project_target, LinksTo, LinksLater, HasDocument, HasFormOf, IsReadBehind, IsRead, AreRead, FailsBehind, FailsTarget, FailsReading};
-ghost use Rattle.commands.specs.inner.ProjectTargets.{writer_of};
+ghost use Rattle.commands.specs.CollateCommand.{spec_text};
+ghost use Rattle.commands.specs.Files.{ReadsFile};
+ghost use Rattle.commands.specs.Folder.{Makes};
+ghost use Rattle.commands.specs.ProjectCommand.{last_with, target_text, project_target, LinksTo, LinksLater, HasFormOf, AnswersAfter, AnswersNext};
+ghost use Rattle.commands.specs.inner.Parts.{GoesOn};
+ghost use Rattle.commands.specs.inner.ProjectTargets.{writer_of, LinkEarlier};
 
-use crate::answer::Answer;
-use crate::reading::{Files, read_each, read_named};
+use crate::answer::{Answer, ended};
+use crate::folder::Folder;
+use crate::reading::{TargetFiles, read_file};
 use crate::target_document::TargetDocument;
 use collate_core::ProjectTarget;
 use indexmap::IndexMap;
@@ -20,40 +23,33 @@ use std::marker::Model;
 
 /// A target that was read.
 #[derive(Drop)]
-pub(crate) struct ReadTarget<'f> {
+pub(crate) struct ReadTarget {
     pub document: TargetDocument,
     /// The indexes of the targets that it links.
     pub linked: Vec<usize>,
-    /// The scan documents.
-    pub scans: Vec<&'f [u8]>,
-    /// The listing of edges, if the document names one.
-    pub listing: Option<&'f [u8]>,
+    /// Its files, without infos.
+    pub files: TargetFiles,
 }
 
-impl<'f> Model for ReadTarget<'f> {
-    ghost use Rattle.std.specs.Prelude.{map, option_copied};
-    ghost use Rattle.commands.specs.ProjectCommand.{ReadTargetValue};
+impl Model for ReadTarget {
+    ghost use Rattle.commands.specs.ProjectCommand.{ReadTargetValue, read_target};
 
     ghost Value = { ReadTargetValue };
 
-    ghost view = { λ t. record {
-      spec = t.document;
-      linked = t.linked.items;
-      scans = map (λ s. s.now) t.scans.items;
-      listing = option_copied t.listing;
-    } };
+    ghost view = { λ t. read_target t.document t.linked.items t.files };
 }
 
-impl<'f> ReadTarget<'f> {
-    /// The target as a project has it.
-    pub(crate) fn in_project(&self) -> ProjectTarget<'_>
+impl ReadTarget {
+    /// The target as a project has it, with its scan documents.
+    pub(crate) fn in_project<'t>(&'t self, scans: &'t [&[u8]]) -> ProjectTarget<'t>
+        requires { map (λ s. s.now) scans.now ≡ self.now.scans }
         ensures { result ≡ project_target self.now }
     {
         let spec = self.document.spec();
         ProjectTarget {
             name: &spec.target,
             setting: self.document.setting(),
-            scans: &self.scans,
+            scans,
             linked: &self.linked,
             kept: &spec.kept,
         }
@@ -62,27 +58,27 @@ impl<'f> ReadTarget<'f> {
 
 /// The targets of a project that were read so far.
 #[derive(Drop)]
-struct Targets<'f> {
-    read: Vec<ReadTarget<'f>>,
+pub(crate) struct Targets {
+    read: Vec<ReadTarget>,
     writers: Writers,
 }
 
-impl<'f> Model for Targets<'f> {
+impl Model for Targets {
     ghost use Rattle.std.specs.Prelude.{◌≡◌, List, ℕ};
     ghost use Rattle.commands.specs.ProjectCommand.{ReadTargetValue, last_with};
-    ghost use Rattle.commands.specs.inner.ProjectTargets.{writer_of};
+    ghost use Rattle.commands.specs.inner.ProjectTargets.{writer_of, LinkEarlier};
 
     ghost Value = { List ReadTargetValue };
 
     ghost view = { λ t. t.read.items };
 
-    ghost invariant = { λ t. (info : List ℕ) →
-        writer_of t.writers.indexes info ≡ last_with t.read.items info };
+    ghost invariant = { λ t. LinkEarlier t.read.items × ((info : List ℕ) →
+        writer_of t.writers.indexes info ≡ last_with t.read.items info) };
 }
 
-impl<'f> Targets<'f> {
+impl Targets {
     /// No targets.
-    fn new(alloc: Global, keys: RandomState) -> Targets<'f>
+    pub(crate) fn new(alloc: Global, keys: RandomState) -> Targets
         ensures { result ≡ [] }
     {
         Targets {
@@ -91,9 +87,10 @@ impl<'f> Targets<'f> {
         }
     }
 
-    /// One more target behind these.
-    fn with(self, alloc: Global, target: ReadTarget<'f>) -> Result<Targets<'f>, AllocError>
-        ensures { IfOk result (λ targets. targets ≡ self.entry ++ target.entry ∷ []) }
+    /// These and one more target, which links some of these.
+    pub(crate) fn with(self, alloc: Global, target: ReadTarget) -> Result<Targets, AllocError>
+        requires { All (λ k. k < length self) target.linked }
+        ensures { IfOk result (λ targets. targets ≡ self ++ target ∷ []) }
     {
         let Targets { read, writers } = self;
         let mut read = read;
@@ -129,8 +126,9 @@ impl<'f> Targets<'f> {
     }
 
     /// The targets, by index.
-    fn into_vec(self) -> Vec<ReadTarget<'f>>
-        ensures { result.items ≡ self.entry }
+    pub(crate) fn into_vec(self) -> Vec<ReadTarget>
+        ensures targets { result.items ≡ self }
+        ensures links { LinkEarlier result.items }
     {
         self.read
     }
@@ -173,108 +171,51 @@ impl Writers {
     }
 }
 
-/// The targets of these documents, in order, or how the run ends with the first that can't be read.
-pub(crate) fn read_targets<'f>(
+/// The target of the document of this name, which is read after earlier ones, or how the run ends
+/// where it can't be read.
+pub(crate) fn read_target<F: Folder>(
     alloc: Global,
-    keys: RandomState,
-    files: &Files<'f>,
-    names: &[String],
-) -> Result<Vec<ReadTarget<'f>>, Failure<Answer>>
-    ensures read { IfOk result (λ targets.
-        AreRead (first_of files.now) (map string_bytes names.now) targets.items) }
-    ensures fails { IfErr result
-        (ForFault (FailsReading (first_of files.now) (map string_bytes names.now))) }
-{
-    let mut targets = Targets::new(alloc, keys);
-    for name in names {
-        let target = read_target(alloc, files, &targets, name.as_str())?;
-        targets = targets.with(alloc, target)?;
-    }
-    Ok(targets.into_vec())
-}
-
-/// The target of the document of this name behind earlier ones, or how the run ends where it can't
-/// be read.
-fn read_target<'f>(
-    alloc: Global,
-    files: &Files<'f>,
-    earlier: &Targets<'f>,
-    name: &str,
-) -> Result<ReadTarget<'f>, Failure<Answer>>
-    ensures read { IfOk result (IsRead (first_of files.now) earlier.now name.now) }
-    ensures fails { IfErr result
-        (ForFault (FailsTarget (first_of files.now) earlier.now name.now)) }
-{
-    let document = document_of(alloc, files, earlier, name)?;
-    let (linked, scans, listing) = parts_of(alloc, files, earlier, &document)?;
-    Ok(ReadTarget {
-        document,
-        linked,
-        scans,
-        listing,
-    })
-}
-
-/// The target document of this name behind earlier ones, or how the run ends where it can't be
-/// read.
-fn document_of(
-    alloc: Global,
-    files: &Files,
     earlier: &Targets,
     name: &str,
-) -> Result<TargetDocument, Failure<Answer>>
-    ensures read { IfOk result (HasDocument (first_of files.now) name.now) }
-    ensures fails { IfErr result
-        (ForFault (FailsTarget (first_of files.now) earlier.now name.now)) }
+    folder: &mut F,
+) -> Result<ReadTarget, Failure<Answer>>
+    ensures read { Makes (F.calls folder.old) (F.calls folder.new) (λ calls. ReadsFile
+        name.now (AnswersNext earlier.now (GoesOn (λ target. target))) calls result) }
+    ensures links { IfOk result (λ target. All (λ k. k < length earlier.now) target.linked) }
 {
-    let Some(bytes) = files.get(name) else {
-        return Err(Failure::Fault(Answer::unread(alloc, name)?));
-    };
-    match TargetDocument::read(alloc, bytes) {
-        Ok(document) => Ok(document),
+    let bytes = read_file(alloc, name, folder)?;
+    match TargetDocument::read(alloc, &bytes) {
+        Ok(document) => target_of(alloc, earlier, document, folder),
         Err(Failure::Memory) => Err(Failure::Memory),
-        Err(Failure::Fault(fault)) => {
-            let answer = spec_refused(alloc, earlier.len(), &fault)?;
-            Err(Failure::Fault(answer))
-        }
+        Err(Failure::Fault(fault)) => ended(spec_refused(alloc, earlier.len(), &fault)),
     }
 }
 
-/// What a target of this document links and reads behind earlier ones, or how the run ends where it
-/// can't be read.
-fn parts_of<'f>(
+/// The target of this document after earlier ones, whose files are read, or how the run ends where
+/// it is refused or a file can't be read.
+fn target_of<F: Folder>(
     alloc: Global,
-    files: &Files<'f>,
-    earlier: &Targets<'f>,
-    document: &TargetDocument,
-) -> Result<(Vec<usize>, Vec<&'f [u8]>, Option<&'f [u8]>), Failure<Answer>>
-    ensures read { IfOk result (λ parts.
-        IsReadBehind (first_of files.now) earlier.now (record {
-          spec = document.now;
-          linked = parts.0.items;
-          scans = map (λ d. d.now) parts.1.items;
-          listing = option_copied parts.2;
-        })) }
-    ensures fails { IfErr result
-        (ForFault (FailsBehind (first_of files.now) earlier.now document.now)) }
+    earlier: &Targets,
+    document: TargetDocument,
+    folder: &mut F,
+) -> Result<ReadTarget, Failure<Answer>>
+    ensures read { Makes (F.calls folder.old) (F.calls folder.new) (λ calls. AnswersAfter
+        earlier.now document (GoesOn (λ target. target)) calls result) }
+    ensures links { IfOk result (λ target. All (λ k. k < length earlier.now) target.linked) }
 {
     let spec = document.spec();
     if !earlier.have_form(spec) {
-        let answer = other_form(alloc, earlier.len())?;
-        return Err(Failure::Fault(answer));
+        return ended(other_form(alloc, earlier.len()));
     }
     let Some(linked) = linked_in(alloc, earlier, &spec.linked)? else {
-        let answer = target_failed(alloc, earlier.len(), b"K3 LinkedLater")?;
-        return Err(Failure::Fault(answer));
+        return ended(target_failed(alloc, earlier.len(), b"K3 LinkedLater"));
     };
-    match documents_of(alloc, files, spec) {
-        Ok((scans, listing)) => Ok((linked, scans, listing)),
-        Err(Failure::Memory) => Err(Failure::Memory),
-        Err(Failure::Fault(name)) => {
-            let answer = Answer::unread(alloc, name)?;
-            Err(Failure::Fault(answer))
-        }
-    }
+    let files = TargetFiles::read(alloc, spec, &[], folder)?;
+    Ok(ReadTarget {
+        document,
+        linked,
+        files,
+    })
 }
 
 /// The answer to a target of this index whose maps have another form than those of the first one.
@@ -325,25 +266,4 @@ fn linked_in(
         }
     }
     Ok(Some(linked))
-}
-
-/// The scan documents and the listing of edges that a target document names, or the first name of a
-/// file that is not there.
-fn documents_of<'s, 'f>(
-    alloc: Global,
-    files: &Files<'f>,
-    spec: &'s TargetSpec,
-) -> Result<(Vec<&'f [u8]>, Option<&'f [u8]>), Failure<&'s str>>
-    ensures scans { IfOk result (λ documents. map (λ d. d.now) documents.0.items
-        ≡ bytes_of (first_of files.now) spec.now.scans) }
-    ensures listing { IfOk result (λ documents. option_copied documents.1
-        ≡ listing_of (first_of files.now) spec.now.edges) }
-    ensures complete { IfOk result (λ _.
-        first_unread (first_of files.now) (names_of_target spec.now) ≡ None) }
-    ensures unread { IfErr result (ForFault (λ name.
-        first_unread (first_of files.now) (names_of_target spec.now) ≡ Some name.now)) }
-{
-    let scans = read_each(alloc, files, &spec.scans)?;
-    let listing = read_named(files, &spec.edges)?;
-    Ok((scans, listing))
 }

@@ -1,126 +1,139 @@
-//! The files that a command was given, by name.
+//! How a run reads files from a folder: each when its turn comes, and none behind one that can't be
+//! read.
 
-ghost use Rattle.std.specs.Prelude.{◌≡◌, List, ℕ, Some, None, map, string_bytes, option_copied, option_map, IfOk, IfErr};
-ghost use Rattle.ninja_text.specs.Failure.{ForFault};
-ghost use Rattle.commands.specs.Answers.{file_value};
-ghost use Rattle.commands.specs.CollateCommand.{first_of, first_unread, bytes_of, listing_of, list_of};
-ghost use Rattle.commands.specs.inner.Readings.{reading_of};
+ghost use Rattle.std.specs.Prelude.{◌≡◌, map, string_bytes, option_map, option_copied, IfOk};
+ghost use Rattle.commands.specs.Files.{ReadsFile, ReadsFiles, ReadsListing, ReadsTarget};
+ghost use Rattle.commands.specs.Folder.{Makes};
+ghost use Rattle.commands.specs.inner.Parts.{GoesOn, contents};
 
-use indexmap::IndexMap;
+use crate::answer::{Answer, ended};
+use crate::folder::Folder;
 use ninja_text::Failure;
+use scan_docs::TargetSpec;
 use std::alloc::{AllocError, Global};
-use std::hash::RandomState;
+use std::io::ErrorKind;
 use std::marker::Model;
 
-/// The files that a command was given. Of a name that is there twice the first file counts.
+/// The bytes of the file of this name, or how the run ends where it can't be read.
+pub(crate) fn read_file<F: Folder>(
+    alloc: Global,
+    name: &str,
+    folder: &mut F,
+) -> Result<Vec<u8>, Failure<Answer>>
+    ensures { Makes (F.calls folder.old) (F.calls folder.new) (λ calls.
+        ReadsFile name.now (GoesOn (λ bytes. bytes.items)) calls result) }
+{
+    match folder.read(name) {
+        Ok(bytes) => Ok(bytes),
+        Err(error) if error.kind() == ErrorKind::OutOfMemory => Err(Failure::Memory),
+        Err(_) => ended(Answer::unread(alloc, name)),
+    }
+}
+
+/// The bytes of the files of these names, which are read one after another, or how the run ends
+/// with the first that can't be read.
+pub(crate) fn read_in_turn<F: Folder>(
+    alloc: Global,
+    names: &[String],
+    folder: &mut F,
+) -> Result<Vec<Vec<u8>>, Failure<Answer>>
+    ensures { Makes (F.calls folder.old) (F.calls folder.new) (λ calls.
+        ReadsFiles (map string_bytes names.now) (GoesOn contents)
+        calls result) }
+{
+    let mut files = Vec::with_capacity(alloc, names.len())?;
+    for name in names {
+        let bytes = read_file(alloc, name.as_str(), folder)?;
+        files.push(bytes)?;
+    }
+    Ok(files)
+}
+
+/// The bytes of the file of a name, where there is one, or how the run ends where it can't be read.
+fn read_listing<F: Folder>(
+    alloc: Global,
+    name: &Option<String>,
+    folder: &mut F,
+) -> Result<Option<Vec<u8>>, Failure<Answer>>
+    ensures { Makes (F.calls folder.old) (F.calls folder.new) (λ calls. ReadsListing
+        (option_map string_bytes name.now) (GoesOn (option_map (λ file. file.items)))
+        calls result) }
+{
+    match name {
+        Some(name) => match read_file(alloc, name.as_str(), folder) {
+            Ok(bytes) => Ok(Some(bytes)),
+            Err(failure) => Err(failure),
+        },
+        None => Ok(None),
+    }
+}
+
+/// The bytes of the files of a target.
 #[derive(Drop)]
-pub(crate) struct Files<'f> {
-    given: &'f [(String, Vec<u8>)],
-    /// The bytes of the first file of each name.
-    table: IndexMap<&'f str, &'f [u8], RandomState>,
+pub(crate) struct TargetFiles {
+    /// The scan documents.
+    pub scans: Vec<Vec<u8>>,
+    /// The infos of targets that it links.
+    pub infos: Vec<Vec<u8>>,
+    /// The listing of edges, if its document names one.
+    pub listing: Option<Vec<u8>>,
 }
 
-impl<'f> Model for Files<'f> {
-    ghost use Rattle.std.specs.Prelude.{◌≡◌, List, ℕ, map};
-    ghost use Rattle.commands.specs.Answers.{file_value};
-    ghost use Rattle.commands.specs.CollateCommand.{FileValue, first_of};
-    ghost use Rattle.commands.specs.inner.Readings.{reading_of};
+impl Model for TargetFiles {
+    ghost use Rattle.std.specs.Prelude.{option_map};
+    ghost use Rattle.commands.specs.Files.{TargetFilesValue};
+    ghost use Rattle.commands.specs.inner.Parts.{contents};
 
-    ghost Value = { List FileValue };
+    ghost Value = { TargetFilesValue };
 
-    ghost view = { λ f. map file_value f.given.now };
-
-    ghost invariant = { λ f. (name : List ℕ) →
-        reading_of f.table name ≡ first_of (map file_value f.given.now) name };
+    ghost view = { λ f. record {
+      scans = contents f.scans;
+      infos = contents f.infos;
+      listing = option_map (λ file. file.items) f.listing;
+    } };
 }
 
-impl<'f> Files<'f> {
-    /// These files.
-    pub(crate) fn of(
+impl TargetFiles {
+    /// Reads the scan documents that a target document names, the infos of these names, and the
+    /// listing of edges, in this order.
+    pub(crate) fn read<F: Folder>(
         alloc: Global,
-        keys: RandomState,
-        given: &'f [(String, Vec<u8>)],
-    ) -> Result<Files<'f>, AllocError>
-        ensures { IfOk result (λ files. files ≡ map file_value given.now) }
+        spec: &TargetSpec,
+        infos: &[String],
+        folder: &mut F,
+    ) -> Result<TargetFiles, Failure<Answer>>
+        ensures { Makes (F.calls folder.old) (F.calls folder.new) (λ calls. ReadsTarget
+            spec.now (map string_bytes infos.now) (GoesOn (λ files. files)) calls result) }
     {
-        let table = first_files(alloc, keys, given)?;
-        Ok(Files { given, table })
+        let scans = read_in_turn(alloc, &spec.scans, folder)?;
+        let infos = read_in_turn(alloc, infos, folder)?;
+        let listing = read_listing(alloc, &spec.edges, folder)?;
+        Ok(TargetFiles {
+            scans,
+            infos,
+            listing,
+        })
     }
 
-    /// The bytes of the file of this name, if it is there.
-    pub(crate) fn get(&self, name: &str) -> Option<&'f [u8]>
-        ensures { option_copied result ≡ first_of self.now name.now }
+    /// The listing of edges, if there is one.
+    pub(crate) fn listing(&self) -> Option<&[u8]>
+        ensures { option_copied result ≡ self.now.listing }
     {
-        match self.table.get(&name) {
-            Some(bytes) => Some(*bytes),
+        match &self.listing {
+            Some(bytes) => Some(bytes.as_slice()),
             None => None,
         }
     }
 }
 
-/// The bytes of the first file of each name.
-fn first_files<'f>(
-    alloc: Global,
-    keys: RandomState,
-    files: &'f [(String, Vec<u8>)],
-) -> Result<IndexMap<&'f str, &'f [u8], RandomState>, AllocError>
-    ensures { IfOk result (λ found. (name : List ℕ) →
-        reading_of found name ≡ first_of (map file_value files.now) name) }
+/// The bytes of files, lent.
+pub(crate) fn slices(alloc: Global, files: &[Vec<u8>]) -> Result<Vec<&[u8]>, AllocError>
+    ensures { IfOk result (λ slices. map (λ s. s.now) slices.items
+        ≡ map (λ file. file.items) files.now) }
 {
-    let mut found = IndexMap::with_hasher(alloc, keys);
+    let mut slices = Vec::with_capacity(alloc, files.len())?;
     for file in files {
-        let name = file.0.as_str();
-        if found.get(&name).is_none() {
-            found.insert(name, file.1.as_slice())?;
-        }
+        slices.push(file.as_slice())?;
     }
-    Ok(found)
-}
-
-/// The bytes of the files of these names, or the first name whose file is not there.
-pub(crate) fn read_each<'n, 'f>(
-    alloc: Global,
-    files: &Files<'f>,
-    names: &'n [String],
-) -> Result<Vec<&'f [u8]>, Failure<&'n str>>
-    ensures read { IfOk result (λ documents. map (λ document. document.now) documents.items
-        ≡ bytes_of (first_of files.now) (map string_bytes names.now)) }
-    ensures complete { IfOk result (λ _.
-        first_unread (first_of files.now) (map string_bytes names.now) ≡ None) }
-    ensures unread { IfErr result (ForFault (λ name.
-        first_unread (first_of files.now) (map string_bytes names.now) ≡ Some name.now)) }
-{
-    let mut documents = Vec::with_capacity(alloc, names.len())?;
-    for name in names {
-        let name = name.as_str();
-        match files.get(name) {
-            Some(bytes) => documents.push(bytes)?,
-            None => return Err(Failure::Fault(name)),
-        }
-    }
-    Ok(documents)
-}
-
-/// The bytes of the file of a name, where there is one, or the name where its file is not there.
-pub(crate) fn read_named<'n, 'f>(
-    files: &Files<'f>,
-    name: &'n Option<String>,
-) -> Result<Option<&'f [u8]>, Failure<&'n str>>
-    ensures read { IfOk result (λ listing. option_copied listing
-        ≡ listing_of (first_of files.now) (option_map string_bytes name.now)) }
-    ensures complete { IfOk result (λ _. first_unread (first_of files.now)
-        (list_of (option_map string_bytes name.now)) ≡ None) }
-    ensures unread { IfErr result (ForFault (λ unread. first_unread (first_of files.now)
-        (list_of (option_map string_bytes name.now)) ≡ Some unread.now)) }
-{
-    match name {
-        Some(name) => {
-            let name = name.as_str();
-            match files.get(name) {
-                Some(bytes) => Ok(Some(bytes)),
-                None => Err(Failure::Fault(name)),
-            }
-        }
-        None => Ok(None),
-    }
+    Ok(slices)
 }

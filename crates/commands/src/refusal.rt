@@ -51,7 +51,7 @@ fn target_refused(alloc: Global, target: &Target, refusal: &Refusal) -> Result<A
 /// What is reported of a refusal of this target.
 ///
 /// A refusal has the indexes of objects and infos, and the line has their paths and names. So the
-/// documents are read once more, which only a run that is refused pays for.
+/// documents are scanned once more, which only a run that is refused pays for.
 fn refusal_text(alloc: Global, target: &Target, refusal: &Refusal) -> Result<Vec<u8>, AllocError>
     requires { HasTable target.now refusal.now }
     ensures { IfOk result (λ text. text.items ≡ refusal_text target.now refusal.now) }

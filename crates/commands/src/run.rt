@@ -1,60 +1,59 @@
-//! A run of the program, once the files of its task were read or could not be.
+//! A run of the program, from its task to its answer.
 
-ghost use Rattle.std.specs.Prelude.{map, IfOk};
-ghost use Rattle.commands.specs.Answers.{file_value};
-ghost use Rattle.commands.specs.CollateCommand.{first_of};
 ghost use Rattle.command_line.specs.Tasks.{task_value};
-ghost use Rattle.commands.specs.Runs.{AnswersBytes, AnswersRead};
+ghost use Rattle.commands.specs.Files.{ended};
+ghost use Rattle.commands.specs.Folder.{Makes};
+ghost use Rattle.commands.specs.Runs.{AnswersBytes, AnswersTask};
 
-use crate::answer::Answer;
+use crate::answer::{Answer, answered};
 use crate::collate::collate_run;
-use crate::effect::effect_files;
+use crate::effect::effect_of_file;
+use crate::folder::Folder;
 use crate::one::one_run;
 use crate::order::order_run;
 use crate::project::project_run;
+use crate::reading::read_file;
 use crate::show::show_run;
 use command_line::Task;
 use std::alloc::{AllocError, Global};
 use std::hash::RandomState;
-use std::io;
-use std::io::ErrorKind;
 
-/// What a run answers to its task, by what reading the task's file answered, and by the other files
-/// that were read.
-pub fn task_run(
+/// What a run answers to its task. The files that it names are read from the folder, each when its
+/// turn comes; none is written.
+pub fn task_run<F: Folder>(
     alloc: Global,
     keys: RandomState,
     task: &Task,
-    read: io::Result<Vec<u8>>,
-    files: &[(String, Vec<u8>)],
+    folder: &mut F,
 ) -> Result<Answer, AllocError>
-    ensures { IfOk result
-        (AnswersRead (task_value task.now) (first_of (map file_value files.now)) read) }
+    ensures { Makes (F.calls folder.old) (F.calls folder.new) (λ calls.
+        AnswersTask (task_value task.now) calls (ended result)) }
 {
-    match read {
-        Ok(bytes) => bytes_run(alloc, keys, task, &bytes, files),
-        Err(error) if error.kind() == ErrorKind::OutOfMemory => Err(AllocError),
-        Err(_) => Answer::unread(alloc, task.file()),
+    match read_file(alloc, task.file(), folder) {
+        Ok(bytes) => bytes_run(alloc, keys, task, &bytes, folder),
+        Err(failure) => answered(failure),
     }
 }
 
-/// What a run answers to its task, by the bytes of the task's file and the other files.
-fn bytes_run(
+/// What a run answers to its task, by the bytes of the task's file.
+fn bytes_run<F: Folder>(
     alloc: Global,
     keys: RandomState,
     task: &Task,
     bytes: &[u8],
-    files: &[(String, Vec<u8>)],
+    folder: &mut F,
 ) -> Result<Answer, AllocError>
-    ensures { IfOk result
-        (AnswersBytes (task_value task.now) (first_of (map file_value files.now)) bytes.now) }
+    ensures { Makes (F.calls folder.old) (F.calls folder.new) (λ calls.
+        AnswersBytes (task_value task.now) bytes.now calls (ended result)) }
 {
     match task {
         Task::One { dir, ext, .. } => one_run(alloc, keys, bytes, dir, ext),
-        Task::Collate { .. } => collate_run(alloc, keys, bytes, files),
+        Task::Collate { .. } => collate_run(alloc, keys, bytes, folder),
         Task::Show { .. } => show_run(alloc, bytes),
-        Task::Effect { name, dyndep, .. } => effect_files(alloc, keys, name, bytes, dyndep, files),
+        Task::Effect { name, dyndep, .. } => {
+            effect_of_file(alloc, keys, name, bytes, dyndep, folder)
+        }
         Task::Order { .. } => order_run(alloc, keys, bytes),
-        Task::Project { .. } => project_run(alloc, keys, bytes, files),
+        Task::Project { .. } => project_run(alloc, keys, bytes, folder),
     }
 }

@@ -16,7 +16,7 @@ mod system_files;
 
 use crate::system_files::SystemFiles;
 use command_line::{Task, task_of};
-use commands::{Answer, Folder, further_names, names_of, print, read_files, task_run, write_files};
+use commands::{Answer, print, task_run, write_files};
 use ninja_text::Counted;
 use std::alloc::AllocError;
 use std::env;
@@ -50,8 +50,7 @@ fn answer_of<R: Env + Files + RandomSource + AllocGlobal>(rt: &R) -> Result<Answ
     }
 }
 
-/// What the program answers to its task, once it has read the task's files and written those of the
-/// answer.
+/// What the program answers to its task, once it has written the files of the answer.
 fn task_answer<R: Files + AllocGlobal>(
     rt: &R,
     keys: RandomState,
@@ -59,12 +58,6 @@ fn task_answer<R: Files + AllocGlobal>(
 ) -> Result<Answer, AllocError> {
     let alloc = rt.alloc();
     let mut folder = SystemFiles { rt };
-    let read = folder.read(task.file());
-    let names = names_of(alloc, task, &read)?;
-    let mut files = read_files(alloc, &names, &mut folder)?;
-    let names = further_names(alloc, task, &files)?;
-    let mut further = read_files(alloc, &names, &mut folder)?;
-    files.append(&mut further)?;
-    let answer = task_run(alloc, keys, task, read, &files)?;
+    let answer = task_run(alloc, keys, task, &mut folder)?;
     write_files(alloc, answer, &mut folder)
 }

@@ -1,12 +1,10 @@
 use Rattle.std.proofs.Common.{rules, ◌≡◌, ℕ, ◌+◌, [], ◌∷◌, ◌++◌, codes, List, drop, map, take, string_bytes, refl, ap, sym, subst, ◌∙◌}
-use Rattle.std.specs.Prelude.{Ok, Err, IfOk, Result}
-use Rattle.std.specs.declared.io.Error.{Error}
+use Rattle.std.specs.Prelude.{Ok, Err, IfOk}
 use Rattle.std.proofs.lemmas.List.{map-append, take-append-drop, take_more}
 use Rattle.commands.specs.Answers.{Fails, file_value}
-use Rattle.commands.specs.CollateCommand.{FileValue}
-use Rattle.commands.specs.Files.{one_unwritten, writes_of}
+use Rattle.commands.specs.Files.{FileValue, one_unwritten, writes_of}
 use Rattle.commands.specs.Folder.{Adds, writing}
-use Rattle.commands.proofs.FileCalls.{done_of, error_of, left, one_made}
+use Rattle.commands.proofs.FileCalls.{done_of, error_of, left, both_made}
 use Rattle.commands.proofs.files.write_files.Goals as goal
 
 -- the file that could not be written
@@ -29,8 +27,8 @@ returns-then-is_err g c =
     subst (λ fs. drop i fs ≡ item ∷ drop (i + 1) fs) c.deref-file-items.ensures.value
     (left c.deref-file-items.result.now i item c.loop-file-test.true c.file-item.is) in (
       writes_of files ++ writing (string_bytes item.0) item.1.items (Err failed.0) ∷ [],
-      one_made start before behind (writes_of files)
-          (writing (string_bytes item.0) item.1.items (Err failed.0)) c.loop-file.invariant
+      both_made start before behind (writes_of files)
+          (writing (string_bytes item.0) item.1.items (Err failed.0) ∷ []) c.loop-file.invariant
           (subst (λ made. Adds before behind (made ∷ [])) call c.write.ensures),
       one_unwritten files (map file_value (drop (i + 1) all)) (file_value item) failed.0
           (ap (map file_value) (sym (take-append-drop i all) ∙ ap (λ rest. take i all ++ rest) rest)
@@ -65,6 +63,6 @@ loop-file-preserved g c =
     ∙ ap writes_of (map-append file_value (take i all) (item ∷ []))
     ∙ map-append (λ (f : FileValue). writing f.0 f.1 (Ok tt)) files (file_value item ∷ []) in
     subst (Adds start behind) (sym more)
-    (one_made start before behind (writes_of files)
-    (writing (string_bytes item.0) item.1.items (Ok tt)) c.loop-file.invariant
+    (both_made start before behind (writes_of files)
+    (writing (string_bytes item.0) item.1.items (Ok tt) ∷ []) c.loop-file.invariant
     (subst (λ made. Adds before behind (made ∷ [])) call c.write.ensures))

@@ -1,10 +1,41 @@
-use Rattle.std.proofs.Common.{◌∷◌, [], ◌++◌, ap₂}
-use Rattle.commands.specs.ProjectCommand.{project_target}
-use Rattle.commands.proofs.Readings.{mapped_next}
+use Rattle.std.proofs.Common.{◌≡◌, ◌∙◌, ◌+◌, ◌<◌, ℕ, List, ◌∷◌, [], ◌++◌, length, take, map, ap, ap₂, subst, sym, arith}
+use Rattle.std.specs.Prelude.{Vec}
+use Rattle.std.specs.Borrow.{Bor}
+use Rattle.std.specs.Global.{Global}
+use Rattle.collate_core.specs.Values.{ProjectTargetValue}
+use Rattle.commands.specs.ProjectCommand.{ReadTargetValue, project_target}
+use Rattle.commands.proofs.ProjectRuns.{same_at, same_length}
+use Rattle.commands.proofs.ProjectTargets.{at_index, mapped_next}
 use Rattle.commands.proofs.project.in_project.Goals as goal
 
+abbrev texts : Vec (Bor (List ℕ)) Global → List (List ℕ)
+texts lent = map (λ (text : Bor (List ℕ)). text.now) lent.items
+
+-- each target has its scan documents
+pub bounds-scans-index : goal.bounds-scans-index
+bounds-scans-index c =
+    let within : c.loop-index.index < length c.args.targets.now = c.loop-index-test.true in
+    let same : length c.args.scans.now ≡ length c.args.targets.now =
+    same_length texts (λ (t : ReadTargetValue). t.scans) c.args.scans.now c.args.targets.now c.requires in
+    omega (arith, within, same)
+
+pub in_project-requires : goal.in_project-requires
+in_project-requires c =
+    let targets = c.args.targets.now in
+    let scans = c.args.scans.now in
+    let i : ℕ = c.loop-index.index in
+    let within : i < length targets = c.loop-index-test.true in
+    let same : length scans ≡ length targets = same_length texts (λ (t : ReadTargetValue). t.scans) scans targets c.requires in
+    ap (map (λ (text : Bor (List ℕ)). text.now)) c.deref.ensures.value
+    ∙ same_at texts (λ (t : ReadTargetValue). t.scans) scans targets i c.index-scans-index.result c.index-targets-index.result c.requires
+    (at_index scans i c.index-scans-index.result (omega (arith, within, same)) c.index-scans-index.is)
+    (at_index targets i c.index-targets-index.result within c.index-targets-index.is)
+
 -- one target more
-pub loop-target-preserved : goal.loop-target-preserved
-loop-target-preserved c =
-    rw (c.in_ok-push.ensures.items, mapped_next project_target c.args.targets.now c.loop-target.target-index c.target-item.result c.loop-target-test.true c.target-item.is)
-    (ap₂ (λ a b. a ++ b ∷ []) c.loop-target.invariant c.in_project.ensures)
+pub loop-index-preserved : goal.loop-index-preserved
+loop-index-preserved c =
+    let targets = c.args.targets.now in
+    let i : ℕ = c.loop-index.index in
+    subst (λ (parts : List ProjectTargetValue). parts ≡ map project_target (take (i + 1) targets)) (sym c.in_ok-push.ensures.items)
+    (ap₂ (λ a b. a ++ b ∷ []) c.loop-index.invariant c.in_project.ensures
+    ∙ sym {A = List ProjectTargetValue} (mapped_next project_target targets i c.index-targets-index.result c.loop-index-test.true c.index-targets-index.is))

@@ -3,5 +3,5 @@ use Rattle.commands.specs.ProjectCommand.{project_target}
 use Rattle.commands.proofs.project.in_project.Given as goal
 
 -- the targets so far
-abbrev pub invariant-loop-target : goal.invariant-loop-target
-invariant-loop-target l = l.parts.items ≡ map project_target (take l.target-index l.targets)
+abbrev pub invariant-loop-index : goal.invariant-loop-index
+invariant-loop-index l = l.parts.items ≡ map project_target (take l.index l.targets)

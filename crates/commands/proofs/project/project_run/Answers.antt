@@ -1,40 +1,47 @@
-use Rattle.std.proofs.Common.{◌≡◌, List, ℕ, map, string_bytes, ap, subst, ◌∙◌}
+use Rattle.std.proofs.Common.{◌≡◌, ◌∙◌, ℕ, List, [], map, string_bytes, refl, ap, subst}
 use Rattle.std.specs.Prelude.{IfOk}
-use Rattle.std.proofs.lemmas.Result.{IfOk-weaker}
 use Rattle.ninja_text.specs.Failure.{ForFault}
 use Rattle.scan_docs.specs.Document.{IsRefused}
 use Rattle.scan_docs.specs.Project.{ProjectValue}
 use Rattle.scan_docs.specs.ProjectChecks.{project_checks}
-use Rattle.commands.specs.Answers.{file_value, Refuses}
-use Rattle.commands.specs.CollateCommand.{FileValue, Reading, first_of}
+use Rattle.scan_docs.specs.declared.fault.DocFault.{DocFault}
+use Rattle.commands.specs.Answers.{Refuses}
+use Rattle.commands.specs.Files.{ended}
 use Rattle.commands.specs.ProjectCommand.{AnswersNames, AnswersProject, project_text}
+use Rattle.commands.proofs.FileCalls.{held, untouched}
+use Rattle.commands.proofs.Parts.{ended_with, project_stops}
 use Rattle.commands.proofs.project.project_run.Goals as goal
 
 -- the members that were read are the ones that the document has
-pub returns-in_ok-of-in-Ok : goal.returns-in_ok-of-in-Ok
-returns-in_ok-of-in-Ok c =
-    let reading : Reading = first_of (map file_value c.args.files.now) in
-    let named : map string_bytes c.deref.result.now ≡ c.in-Ok.spec.targets = ap (map string_bytes) c.deref.ensures.value ∙ ap (λ (p : ProjectValue). p.targets) c.spec.view_is in
-    IfOk-weaker c.names_run-in-Ok.result _ (AnswersProject c.args.document.now reading)
-    (λ answer h.
-    let own : AnswersNames reading c.in-Ok.spec.targets answer =
-    subst (λ (names : List (List ℕ)). AnswersNames reading names answer) named
-    (subst (λ (files : List FileValue). AnswersNames (first_of files) (map string_bytes c.deref.result.now) answer) c.in_ok-of-in-Ok.ensures h) in
+pub returns-in-Ok : goal.returns-in-Ok
+returns-in-Ok g c =
+    let step = ended c.names_answer.result in
+    let named : map string_bytes c.deref.result.now ≡ c.in-Ok.spec.targets =
+    ap (map string_bytes) c.deref.ensures.value ∙ ap (λ (p : ProjectValue). p.targets) c.spec.view_is in
+    held _ _ (λ calls. AnswersNames [] (map string_bytes c.deref.result.now) calls step) (λ calls. AnswersProject c.args.document.now calls step) c.names_answer.ensures
+    (λ calls h.
+    let own : AnswersNames [] c.in-Ok.spec.targets calls step = subst (λ (names : List (List ℕ)). AnswersNames [] names calls step) named h in
     record {
-      accepted = λ project has. subst (λ (p : ProjectValue). AnswersNames reading p.targets answer) (c.project_read.ensures.one_answer.one_value c.in-Ok.spec project c.in-Ok.ensures.accepted has) own;
+      accepted = λ project has. subst (λ (p : ProjectValue). AnswersNames [] p.targets calls step) (c.project_read.ensures.one_answer.one_value c.in-Ok.spec project c.in-Ok.ensures.accepted has) own;
       refused = λ fault is. absurd (c.project_read.ensures.one_answer.not_both c.in-Ok.spec fault c.in-Ok.ensures.accepted is);
     })
-    c.names_run-in-Ok.ensures
+
+pub returns-in-Err-Memory : goal.returns-in-Err-Memory
+returns-in-Err-Memory g c = untouched _ _ (project_stops c.args.document.now)
 
 -- a refused document has no members, and no other fault
 pub returns-in-Err-Fault : goal.returns-in-Err-Fault
-returns-in-Err-Fault c =
-    let reading : Reading = first_of (map file_value c.args.files.now) in
+returns-in-Err-Fault g c =
+    let result = c.project_refused.result in
     let own : IsRefused project_checks c.args.document.now c.in-Err-Fault.fault =
     subst (ForFault (IsRefused project_checks c.args.document.now)) c.in-Err-Fault.field-0-is c.in-Err-Fault.ensures.refused in
-    IfOk-weaker c.project_refused.result (Refuses (project_text c.in-Err-Fault.fault)) (AnswersProject c.args.document.now reading)
-    (λ answer h. record {
+    let line : IfOk result (Refuses (project_text c.in-Err-Fault.fault)) =
+    subst (λ (f : DocFault). IfOk result (Refuses (project_text f))) c.in-Err-Fault.fault-is c.project_refused.ensures in
+    untouched _ (λ calls. AnswersProject c.args.document.now calls (ended result)) (record {
       accepted = λ project has. absurd (c.project_read.ensures.one_answer.not_both project c.in-Err-Fault.fault has own);
-      refused = λ fault is. subst (λ f. Refuses (project_text f) answer) (c.project_read.ensures.one_answer.one_fault c.in-Err-Fault.fault fault own is) h;
+      refused = λ fault is. (
+        refl,
+        ended_with (Refuses (project_text fault)) result (ended result) refl
+            (subst (λ (f : DocFault). IfOk result (Refuses (project_text f))) (c.project_read.ensures.one_answer.one_fault c.in-Err-Fault.fault fault own is) line),
+      );
     })
-    (subst (λ f. IfOk c.project_refused.result (Refuses (project_text f))) c.in-Err-Fault.fault-is c.project_refused.ensures)

@@ -1,4 +1,4 @@
-use Rattle.std.proofs.Common.{◌≡◌, ap, ◌∙◌, cond, bytes_eq, Some}
+use Rattle.std.proofs.Common.{ap, ◌∙◌, cond, bytes_eq, Some}
 use Rattle.std.specs.String.{string_bytes}
 use Rattle.std.proofs.lemmas.Map.Text.{hash_map_updates_text}
 use Rattle.commands.specs.inner.ProjectTargets.{writer_of}
