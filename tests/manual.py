@@ -52,6 +52,6 @@ class Manual(unittest.TestCase):
 
     def test_form(self):
         if shutil.which("mandoc"):
-            linted = subprocess.run(["mandoc", "-T", "lint", PAGE], capture_output=True, text=True, check=False)
+            linted = subprocess.run(["mandoc", "-T", "lint", "-W", "style", PAGE], capture_output=True, text=True, check=False)
             self.assertEqual(linted.stdout + linted.stderr, "")
         self.assertRegex(self.page, r"(?m)^\.Dt DYNCOLLATE 1$")
