@@ -1,0 +1,260 @@
+"""The version, the archive that ./release makes, and what ./install puts where."""
+import gzip
+import hashlib
+import os
+import re
+import shutil
+import subprocess
+import tarfile
+import tempfile
+import time
+import unittest
+from pathlib import Path
+
+from tests import program
+
+TOP = Path(program.TOP)
+VERSION = (TOP / "VERSION").read_text().strip()
+NAME = f"dyncollate-{VERSION}-linux-x86_64"
+# what ./release takes from the commit, and what it needs itself
+SOURCES = ["CHANGELOG.md", "README.md", "docs", "examples", "install"]
+TOOLS = [".gitignore", "VERSION", "build", "crates.txt", "release"]
+EXAMPLE = "ninja_dyndep_version = 1\nbuild obj/b.o | mod/B.bmi: dyndep\n  restat = 1\n"
+HELLO = ("ninja_dyndep_version = 1\nbuild obj/main.o: dyndep | bmi/greet.pcm\n"
+         "build obj/greet.o | bmi/greet.pcm: dyndep | bmi/words.pcm\n  restat = 1\n"
+         "build obj/words.o | bmi/words.pcm: dyndep\n  restat = 1\n")
+
+
+# without what git tells a hook of the repository that it is called in
+ENVIRONMENT = {name: text for name, text in os.environ.items() if not name.startswith("GIT_")}
+
+
+def call(*words, env=None, **given):
+    """The status of a command, and what it prints on both outputs."""
+    ran = subprocess.run(words, env=env or ENVIRONMENT, stdin=subprocess.DEVNULL, capture_output=True, text=True, check=False, **given)
+    return ran.returncode, ran.stdout, ran.stderr
+
+
+def git(*words, cwd=TOP):
+    return subprocess.run(["git", "-c", "user.name=a", "-c", "user.email=a@example.com", *words], cwd=cwd, env=ENVIRONMENT,
+                          stdout=subprocess.PIPE, text=True, check=True).stdout
+
+
+def is_clone():
+    return bool(shutil.which("git")) and call("git", "-C", TOP, "rev-parse", "--show-toplevel")[1] == f"{TOP}\n"
+
+
+class Version(unittest.TestCase):
+    def test_form(self):
+        self.assertRegex((TOP / "VERSION").read_text(), r"\A(0|[1-9]\d*)(\.(0|[1-9]\d*)){2}\n\Z")
+
+    def test_changelog(self):
+        """The first version of the changelog is this one, and has a day."""
+        found = re.findall(r"^## \[([^]]+)\](.*)$", (TOP / "CHANGELOG.md").read_text(), re.M)
+        name, day = next(it for it in found if it[0] != "Unreleased")
+        self.assertEqual(name, VERSION)
+        self.assertRegex(day, r"\A - \d{4}-\d\d-\d\d\Z")
+
+    def test_manual(self):
+        self.assertIn(f"\n.Os dyncollate {VERSION}\n", (TOP / "docs/dyncollate.1").read_text())
+
+    def test_tag(self):
+        if not is_clone():
+            self.skipTest("this is no clone")
+        self.assertIn(git("tag", "--points-at", "HEAD", "--list", "v[0-9]*").split(), ([], [f"v{VERSION}"]))
+
+
+class Archive(unittest.TestCase):
+    """An archive of a clone that has the files of this one, and its program."""
+    seconds = 5
+
+    @classmethod
+    def setUpClass(cls):
+        super().setUpClass()
+        for tool in "readelf", "rt", "strip":
+            if not shutil.which(tool):
+                raise unittest.SkipTest(f"{tool} is missing")
+        if not is_clone():
+            raise unittest.SkipTest("this is no clone")
+        folder = tempfile.TemporaryDirectory(prefix="dyncollate-")
+        cls.addClassCleanup(folder.cleanup)
+        cls.room = Path(folder.name)
+        cls.clone = cls.room / "clone"
+        for name in git("ls-files", *SOURCES, *TOOLS).splitlines():
+            (cls.clone / name).parent.mkdir(parents=True, exist_ok=True)
+            shutil.copy2(TOP / name, cls.clone / name)
+        git("init", "-q", cwd=cls.clone)
+        git("add", ".", cwd=cls.clone)
+        git("commit", "-qm", "all", cwd=cls.clone)
+        cls.build(cls.clone)
+        cls.made = cls.release()
+        cls.archive = cls.clone / f"{NAME}.tar.gz"
+        cls.home = cls.room / NAME
+        if cls.archive.exists():
+            with tarfile.open(cls.archive) as tar:
+                tar.extractall(cls.room)
+
+    @staticmethod
+    def build(clone):
+        """The program is there as ./build leaves it."""
+        out = clone / "crates/dyncollate/out"
+        out.mkdir(parents=True)
+        shutil.copy2(program.PROGRAM, out / "dyncollate")
+        time.sleep(0.02)
+        (out / "built").write_bytes(b"crates.txt\0")
+
+    @classmethod
+    def release(cls, *words, clone=None, **environment):
+        clone = clone or cls.clone
+        return call("./release", *words, cwd=clone, env=ENVIRONMENT | environment)
+
+    def test_made(self):
+        self.assertEqual(self.made, (0, f"{NAME}.tar.gz\n", ""))
+
+    def test_twice_it_has_the_same_bytes(self):
+        """Also from another clone of the commit, in another place, whose files are of other times and rights."""
+        before = self.archive.read_bytes()
+        other = self.room / "another" / "place"
+        git("clone", "-q", self.clone, other)
+        for path in other.rglob("*"):
+            if ".git" not in path.parts:
+                path.chmod(path.stat().st_mode & 0o700)
+        self.build(other)
+        self.assertEqual(self.release(clone=other, LANG="tr_TR.UTF-8", TZ="Asia/Kolkata")[0], 0)
+        self.assertEqual((other / f"{NAME}.tar.gz").read_bytes(), before)
+
+    def test_members(self):
+        """What is in it: nothing of the machine, the user or the time when it was made."""
+        committed = int(git("log", "-1", "--format=%ct", cwd=self.clone))
+        with tarfile.open(self.archive) as tar:
+            members = tar.getmembers()
+        wanted = git("ls-files", *SOURCES, cwd=self.clone).splitlines() + ["PROVED.txt", "SHA256SUMS", "dyncollate"]
+        self.assertEqual(sorted(it.name for it in members if it.isfile()), sorted(f"{NAME}/{it}" for it in wanted))
+        self.assertEqual([it.name for it in members], sorted(it.name for it in members))
+        self.assertEqual({(it.uid, it.gid, it.uname, it.gname, it.mtime) for it in members}, {(0, 0, "", "", committed)})
+        self.assertEqual({it.mode for it in members}, {0o644, 0o755})
+        with open(self.archive, "rb") as file:
+            self.assertEqual(file.read(8)[3:], bytes(5), "neither a name nor a time in the head of gzip")
+        self.assertNotIn(os.fsencode(self.room), gzip.decompress(self.archive.read_bytes()))
+
+    def test_checksums(self):
+        sums = dict(reversed(line.split("  ", 1)) for line in (self.home / "SHA256SUMS").read_text().splitlines())
+        files = {str(it.relative_to(self.home)): it for it in self.home.rglob("*") if it.is_file() and it.name != "SHA256SUMS"}
+        self.assertEqual(sums, {name: hashlib.sha256(it.read_bytes()).hexdigest() for name, it in files.items()})
+
+    def test_what_was_proved(self):
+        """PROVED.txt names the commit and the toolchain, and without a log claims nothing of the gate."""
+        text = (self.home / "PROVED.txt").read_text()
+        self.assertIn(f"dyncollate {VERSION}, of commit {git('rev-parse', 'HEAD', cwd=self.clone).strip()}\n", text)
+        self.assertIn(call("rt", "version")[1].strip(), text)
+        self.assertIn("No log of ./test was given", text)
+        self.assertNotIn("passed", text)
+
+    def test_log(self):
+        """The lines of a log are quoted where it is of this commit, and all passed."""
+        commit = git("rev-parse", "HEAD", cwd=self.clone)
+        gate = "rt: ok; handles allowed: none; must-fail edits: 3 refused; every proof and must-fail edit was done in this run\n"
+        good = f"commit {commit}some line\n{gate}7 passed, 0 failed\nmore\n9 passed, 0 failed\n"
+        for wrong in (good.replace(commit, "0" * 40 + "\n"), good.replace("rt: ok", "rt: no"), good.replace("9 passed, 0", "9 passed, 1"),
+                      good.replace("9 passed, 0 failed\n", "")[:-len("more\n")] + "cut", ""):
+            (self.room / "log").write_text(wrong)
+            status, out, err = self.release(str(self.room / "log"))
+            self.assertEqual((status, out), (1, ""), wrong)
+            self.assertRegex(err, r"\Arelease: ")
+        (self.room / "log").write_text(good)
+        folder = self.room / "logged"
+        folder.mkdir()
+        self.assertEqual(call(self.clone / "release", self.room / "log", cwd=folder), (0, f"{NAME}.tar.gz\n", ""))
+        with tarfile.open(folder / f"{NAME}.tar.gz") as tar:
+            text = tar.extractfile(f"{NAME}/PROVED.txt").read().decode()
+        lines = [line.strip() for line in text.splitlines()]
+        self.assertIn(gate.strip(), " ".join(lines))
+        self.assertEqual([it for it in lines if "passed" in it], ["7 passed, 0 failed", "9 passed, 0 failed"])
+
+    def test_refusals(self):
+        for change in lambda: (self.clone / "VERSION").write_text("9.9.9\n"), lambda: (self.clone / "further").write_text(""):
+            change()
+            self.assertEqual(self.release(), (1, "", "release: the tree is not that of its commit (git status)\n"))
+            git("checkout", "-q", "VERSION", cwd=self.clone)
+            (self.clone / "further").unlink(missing_ok=True)
+        self.assertEqual(self.release("a", "b")[0], 2)
+
+    def test_sources_that_changed_since_the_program_was_built(self):
+        """The program is built first; here the toolchain for that is missing."""
+        clone = self.room / "changed"
+        git("clone", "-q", self.clone, clone)
+        self.build(clone)
+        time.sleep(0.02)
+        os.utime(clone / "crates.txt")
+        # rt is there, but no toolchain for it
+        (self.room / "bin").mkdir()
+        (self.room / "bin/rt").write_text("#!/bin/sh\nexit 1\n")
+        (self.room / "bin/rt").chmod(0o755)
+        status, out, err = self.release(clone=clone, PATH=f"{self.room}/bin:{ENVIRONMENT['PATH']}")
+        self.assertEqual((status, out, err.splitlines()[-1]), (3, "", "release: the program is not built, so there is nothing to be released"))
+
+    def test_in_an_empty_root(self):
+        """With nothing but the C library, the program does what README shows, and collates."""
+        as_root = [] if os.getuid() == 0 else ["unshare", "-r"]
+        if call(*as_root, "chroot", "/", "true")[0]:
+            self.skipTest("chroot is not allowed")
+        root = self.room / "root"
+        shutil.copytree(self.home, root)
+        files = re.findall(r"(?:=> )?(/\S+) \(0x", call("ldd", root / "dyncollate")[1])
+        self.assertEqual({os.path.basename(it) for it in files}, {"libc.so.6", "ld-linux-x86-64.so.2"})
+        for file in files:
+            (root / file[1:]).parent.mkdir(parents=True, exist_ok=True)
+            shutil.copy(file, root / file[1:])
+        self.assertEqual(call(*as_root, "chroot", root, "./dyncollate", "one", "examples/b.ddi", "mod", ".bmi"), (0, EXAMPLE, ""))
+        (root / "app.target.json").write_text(
+            '{"version":1,"target":"app","module-dir":"bmi","module-ext":".pcm","scans":["examples/hello/app.ddi"],'
+            '"dyndep":"app.dd","info":"app.info.json","map":"clang"}')
+        (root / "obj").mkdir()
+        before = set(root.rglob("*"))
+        self.assertEqual(call(*as_root, "chroot", root, "./dyncollate", "collate", "app.target.json"), (0, "", ""))
+        made = {str(it.relative_to(root)): it.read_text() for it in set(root.rglob("*")) - before}
+        self.assertEqual(sorted(made), ["app.dd", "app.info.json", *(f"obj/{it}.o.modmap" for it in ("greet", "main", "words"))])
+        self.assertEqual(made["app.dd"], HELLO)
+        self.assertEqual(made["obj/main.o.modmap"], "-fmodule-file=greet=bmi/greet.pcm\n-fmodule-file=words=bmi/words.pcm\n")
+
+    def test_install(self):
+        """It says what it puts where, also a second time, and takes away exactly that."""
+        prefix = self.room / "a prefix"
+        (prefix / "share/doc").mkdir(parents=True)
+        installed = [prefix / it for it in ("share/dyncollate/installed", "bin/dyncollate", "share/man/man1/dyncollate.1")]
+        said = "".join(f"{it}\n" for it in installed)
+        before = sorted(prefix.rglob("*"))
+        for _ in range(2):
+            self.assertEqual(call(self.home / "install", prefix), (0, said, ""))
+        self.assertEqual(sorted(it for it in prefix.rglob("*") if it.is_file()), sorted(installed))
+        self.assertEqual(call(prefix / "bin/dyncollate", "one", self.home / "examples/b.ddi", "mod", ".bmi"), (0, EXAMPLE, ""))
+        self.assertEqual((prefix / "share/man/man1/dyncollate.1").read_bytes(), (self.home / "docs/dyncollate.1").read_bytes())
+        status, out, err = call(self.home / "install", "--uninstall", prefix)
+        self.assertEqual((status, err), (0, ""))
+        self.assertEqual(sorted(prefix.rglob("*")), before)
+        removed = [prefix / it for it in ("bin", "share/dyncollate", "share/man", "share/man/man1")] + installed
+        self.assertEqual(sorted(out.splitlines()), sorted(f"removed {it}" for it in removed))
+        self.assertEqual(call(self.home / "install", "--uninstall", prefix),
+                         (1, "", f"install: nothing is installed there: there is no {installed[0]}\n"))
+
+    def test_install_keeps_what_others_put_there(self):
+        prefix = self.room / "shared"
+        self.assertEqual(call(self.home / "install", prefix)[0], 0)
+        (prefix / "bin/other").write_text("")
+        self.assertEqual(call(self.home / "install", "--uninstall", prefix)[0], 0)
+        self.assertEqual(sorted(prefix.rglob("*")), [prefix / "bin", prefix / "bin/other"])
+
+    def test_install_words(self):
+        for words in [], ["a", "b"], [""], ["-x"], ["--uninstall"], ["--uninstall", "-x"]:
+            status, out, err = call(self.home / "install", *words, cwd=self.room)
+            self.assertEqual((status, out, err.split(":")[:2]), (2, "", ["install", " usage"]), words)
+
+    def test_install_from_the_sources(self):
+        """The program is not that of the archive, which is at the top there."""
+        prefix = self.room / "of sources"
+        self.assertEqual(call(self.clone / "install", prefix)[0], 0)
+        self.assertEqual((prefix / "bin/dyncollate").read_bytes(), Path(program.PROGRAM).read_bytes())
+
+    def test_install_where_no_file_can_be_made(self):
+        (self.room / "file").write_text("")
+        self.assertEqual(call(self.home / "install", self.room / "file"), (1, "", f"install: cannot make the folder {self.room}/file\n"))
