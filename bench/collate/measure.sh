@@ -1,7 +1,7 @@
 #!/usr/bin/env bash
 # Measures `dyncollate collate`, the whole program with reading and writing, beside plain C++ that does the same and
 # proves nothing, and beside cmake where it is there: measure.sh [LARGEST]. The targets are those of documents.awk with
-# 1,000, 10,000 and 60,000 objects, as far as they have no more than LARGEST, and those of chain.awk with 20,000. It
+# 100, 1,000, 10,000 and 60,000 objects, as far as they have no more than LARGEST, and those of chain.awk with 20,000. It
 # fails where the two do not write the same files. bench/common.sh says what is printed. The labels:
 #   each, all     a scan document for each object, and one of all of them; behind it the form of maps
 #   cmake         cmake -E cmake_ninja_dyndep on the documents of each, by itself; what its dyndep file says must be
@@ -34,7 +34,7 @@ measure_cmake() {
     (cd "$directory" && mkdir -p "${folders[@]}")
     # shellcheck disable=SC2046
     alone cmake.gcc "$1" "$2" "$3" 0 "$directory" "$(command -v cmake)" -E cmake_ninja_dyndep \
-        --tdi=../documents/DyndepInfo.json --lang=CXX --modmapfmt=gcc --dd=t.dd \
+        --tdi=../documents/DyndepInfo.json --lang=CXX --modmapfmt=gcc --dd=./t.dd \
         $(seq -f '../documents/%.0f.ddi' 0 $(($1 - 1)))
     cmp <(what_it_says "$directory/t.dd") <(what_it_says "$work/program/t.dd") >&2
 }
@@ -76,6 +76,6 @@ measure_chain() {
 }
 
 # how many objects a target has, and how often it is collated
-each_size measure_size '1000 20' '10000 6' '60000 3'
+each_size measure_size '100 100' '1000 20' '10000 6' '60000 3'
 measure_chain 5
 report objects each.none each.clang each.gcc cmake all.none all.clang all.gcc chain ring
