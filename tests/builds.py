@@ -16,7 +16,7 @@ from collections import namedtuple
 from pathlib import Path
 
 from tests import program
-from tests.tools import TOOLS, output_of, tool, version
+from tests.tools import TOOLS, of_versions, output_of, tool, version
 
 TOP = Path(program.TOP)
 JOBS = 8
@@ -361,6 +361,68 @@ for one, (changes, forms) in BUILT.items():
     for form_ in forms:
         title = f"{one.title()}{'InA' if form_ == 'project' else 'With'}{form_.title()}"
         globals()[title] = type(title, (changes, Built, Folder), {"example": one, "form": form_})
+
+# ---- import std
+
+def standard_modules(compiler, *asked):
+    """The sources of the standard library's modules, where a compiler has a list of them."""
+    listed = output_of(compiler, *asked)[1].strip() if compiler else ""
+    if not os.path.isfile(listed):
+        return None
+    modules = json.loads(Path(listed).read_text())["modules"]
+    return [os.path.realpath(os.path.join(os.path.dirname(listed), it["source-path"])) for it in modules]
+
+
+class ImportsStd:
+    """What examples/std is tested for, by either form of manifest."""
+    seconds = 60
+    users = ["src/main.cpp", "src/words.cpp", "src/words.cppm"]
+
+    def test_from_nothing_and_touched(self):
+        """The modules std and std.compat are compiled once, before what imports them."""
+        self.copy("std", self.form)
+        self.makes("one 2\ntwo 1")
+        self.compiled(*self.modules, *self.users)
+        self.idle()
+        touch("src/words.cppm")
+        self.compiles(*self.users)
+        edit("src/words.cpp", r"^import std\.compat;", "")
+        edit("src/words.cpp", r"::isalpha", "std::isalpha")
+        self.compiles("src/words.cpp")
+
+
+class StdWithClang(ImportsStd, Folder):
+    form, tools = "clang", ["ninja", "clang", "scanner"]
+
+    def setUp(self):
+        super().setUp()
+        self.modules = standard_modules(tool("clang"), "-stdlib=libc++", "-print-file-name=libc++.modules.json")
+        if not self.modules:
+            self.skipTest("libc++-19-dev: not there")
+
+    def test_the_guide_quotes_its_manifest(self):
+        self.copy("std", "clang")
+        page = (TOP / "docs/GUIDE.md").read_text()
+        section = re.search(r"^### `import std;`\n.*?^### ", page, re.M | re.S)[0]
+        targets, manifest = re.findall("^```\n(.*?)^```$", section, re.M | re.S)
+        self.assertIn(targets, Path("targets").read_text())
+        # the page has the folder of Debian's libc++-19-dev
+        manifest = manifest.replace("/usr/lib/llvm-19/share/libc++/v1", os.path.dirname(self.modules[0]))
+        written = Path("build.ninja").read_text().splitlines()
+        self.assertEqual([it for it in manifest.splitlines() if it not in written], [])
+
+
+class StdWithGcc(ImportsStd, Folder):
+    form, tools = "gcc", ["ninja", "clang", "scanner"]
+
+    def setUp(self):
+        super().setUp()
+        for name in of_versions("g++", 15, 16):
+            self.modules = standard_modules(shutil.which(name), "-print-file-name=libstdc++.modules.json")
+            if self.modules:
+                self.environment["GCC"] = name
+                return
+        self.skipTest("g++-15: not there")
 
 
 # ---- other builds
