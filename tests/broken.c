@@ -1,7 +1,7 @@
 // Loaded before the C library, it breaks one call of the system: in the way that the environment names as BROKEN, which
 // broken_programs.py has a row for. It needs no header, so that the toolchain's own clang compiles it.
 typedef __SIZE_TYPE__ size;
-enum { TO_WRITE = 1, CREATED = 0100, TRUNCATED = 01000, APPENDED = 02000, NO_WAIT = 04000 };
+enum { TO_WRITE = 1, TO_READ_AND_WRITE = 2, CREATED = 0100, TRUNCATED = 01000, APPENDED = 02000, NO_WAIT = 04000 };
 enum { ABORTED = 6, KILLED = 9 };
 #define NEXT ((void *)-1L)
 #define WANT "dyncollate: out of memory\n"
@@ -14,6 +14,7 @@ extern int strcmp(const char *, const char *);
 extern int strncmp(const char *, const char *, size);
 extern char *strrchr(const char *, int);
 extern size strlen(const char *);
+extern int unlink(const char *);
 extern int kill(int, int);
 extern int getpid(void);
 extern void _exit(int);
@@ -88,7 +89,7 @@ long read(int file, void *bytes, size count) {
 }
 
 int open(const char *name, int flags, int mode) {
-  int is_written = flags & TO_WRITE;
+  int is_written = flags & (TO_WRITE | TO_READ_AND_WRITE);
   const char *end = strrchr(name, '/');
   reads = 0;
   if (!is_written && is("a_file_opened_twice")) {
@@ -100,16 +101,10 @@ int open(const char *name, int flags, int mode) {
     }
     return __open(name, flags | NO_WAIT);
   }
-  if (is_written && is("a_file_not_emptied"))
-    flags &= ~TRUNCATED;
-  if (is_written && is("a_file_added_to"))
-    flags = flags & ~TRUNCATED | APPENDED;
   if (is_written && is("no_file_made"))
     flags &= ~CREATED;
   if (is_written && is("a_file_in_this_folder") && end)
     name = end + 1;
-  if (is_written && is("the_dyndep_file_nowhere") && ends(name, ".dd"))
-    name = "/dev/null";
   if (is_written && is("the_line_in_a_file"))
     __close(2);
   int file = __open(name, flags, mode);
@@ -118,6 +113,30 @@ int open(const char *name, int flags, int mode) {
   if (file < 0 && is_written && is("a_file_that_cannot_be_made"))
     return __open("/dev/null", flags);
   return file;
+}
+
+// The file is copied, byte by byte, in place of being renamed.
+static int copied(const char *from, const char *to, int flags) {
+  int source = __open(from, 0), target = __open(to, TO_WRITE | CREATED | flags, 0666);
+  char byte;
+  while (__read(source, &byte, 1) > 0)
+    __write(target, &byte, 1);
+  __close(source);
+  __close(target);
+  return unlink(from);
+}
+
+int rename(const char *from, const char *to) {
+  int (*next)(const char *, const char *) = dlsym(NEXT, "rename");
+  if (is("a_file_not_emptied"))
+    return copied(from, to, 0);
+  if (is("a_file_added_to"))
+    return copied(from, to, APPENDED);
+  if (is("a_file_in_place"))
+    return copied(from, to, TRUNCATED);
+  if (is("the_dyndep_file_nowhere") && ends(to, ".dd"))
+    return unlink(from);
+  return next(from, to);
 }
 
 int getentropy(void *bytes, size count) {

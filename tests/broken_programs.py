@@ -108,6 +108,7 @@ CALLS = [
     Broken("files opened twice", "a_file_opened_twice", "devices.Inputs", "byte_by_byte_show"),
     Broken("files not emptied before they are written", "a_file_not_emptied", "earlier_files.Overwritten", "GCC_s_maps"),
     Broken("files added to", "a_file_added_to", "earlier_files.Overwritten", "GCC_s_maps"),
+    Broken("files written in place", "a_file_in_place", "whole_files.AtOnce", ""),
     Broken("files written only where they are", "no_file_made", "targets", "GCC_s_maps"),
     Broken("files written to the current folder", "a_file_in_this_folder", "files.Collated", "single_clang"),
     Broken("a dyndep file written nowhere", "the_dyndep_file_nowhere", "targets", "GCC_s_maps"),

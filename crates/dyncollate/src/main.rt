@@ -51,7 +51,7 @@ fn answer_of<R: Env + Files + RandomSource + AllocGlobal>(rt: &R) -> Result<Answ
 }
 
 /// What the program answers to its task, once it has written the files of the answer.
-fn task_answer<R: Files + AllocGlobal>(
+fn task_answer<R: Files + RandomSource + AllocGlobal>(
     rt: &R,
     keys: RandomState,
     task: &Task,

@@ -1,6 +1,14 @@
 //! The files of the system, as a folder.
+//!
+//! A file is replaced whole: its bytes go to a new file beside it, which is then renamed. Whoever
+//! opens the name meanwhile, or after a run that was killed, finds the bytes from before or the new
+//! ones. What no new file can take the place of, as a device, a pipe, or a file in a folder that
+//! may not be written, is written in place.
 
 use commands::Folder;
+use std::fs::{File, OpenFile, Permissions};
+use std::io::{ErrorKind, Write};
+use std::random::RandomSource;
 use std::rt::Files;
 use std::{fs, io};
 
@@ -10,7 +18,7 @@ pub(crate) struct SystemFiles<'a, R> {
     pub(crate) rt: &'a R,
 }
 
-impl<R: Files + AllocGlobal> Folder for SystemFiles<'_, R> {
+impl<R: Files + RandomSource + AllocGlobal> Folder for SystemFiles<'_, R> {
     ghost use Rattle.std.specs.Prelude.{None};
 
     ghost calls = { λ _. None };
@@ -20,6 +28,93 @@ impl<R: Files + AllocGlobal> Folder for SystemFiles<'_, R> {
     }
 
     fn write(&mut self, name: &str, bytes: &[u8]) -> io::Result<()> {
-        fs::write(self.rt, name, bytes)
+        match fs::symlink_metadata(self.rt, name) {
+            Ok(old) if old.is_symlink() => write_behind_link(self.rt, name, bytes),
+            Ok(old) if old.is_file() => write_whole(self.rt, name, Some(old.permissions()), bytes),
+            Err(error) if error.kind() == ErrorKind::NotFound => {
+                write_whole(self.rt, name, None, bytes)
+            }
+            _ => fs::write(self.rt, name, bytes),
+        }
+    }
+}
+
+/// Writes the file that a link leads to. The link stays.
+fn write_behind_link<R: Files + RandomSource + AllocGlobal>(
+    rt: &R,
+    link: &str,
+    bytes: &[u8],
+) -> io::Result<()> {
+    let Ok(target) = fs::canonicalize(rt, link) else {
+        return fs::write(rt, link, bytes);
+    };
+    match fs::metadata(rt, target.as_path()) {
+        Ok(old) if old.is_file() => {
+            write_whole(rt, target.as_str(), Some(old.permissions()), bytes)
+        }
+        _ => fs::write(rt, link, bytes),
+    }
+}
+
+/// Writes a file that is replaced whole where a new one can take its place, with these permissions.
+fn write_whole<R: Files + RandomSource + AllocGlobal>(
+    rt: &R,
+    name: &str,
+    permissions: Option<Permissions>,
+    bytes: &[u8],
+) -> io::Result<()> {
+    let Ok(new) = name_beside(rt, name) else {
+        return fs::write(rt, name, bytes);
+    };
+    if replace(rt, name, new.as_str(), permissions, bytes)? {
+        Ok(())
+    } else {
+        fs::write(rt, name, bytes)
+    }
+}
+
+/// A name beside this one that no other run has.
+fn name_beside<R: RandomSource + AllocGlobal>(rt: &R, name: &str) -> io::Result<String> {
+    let mut bytes = [0; 8];
+    rt.fill_bytes(&mut bytes)?;
+    let number = u64::from_le_bytes(bytes);
+    Ok(format!(in rt.alloc(); "{name}.{number:016x}.tmp")?)
+}
+
+/// Writes the bytes to the file `new`, and renames it. Answers whether it could be made and renamed;
+/// that the disk is full, or that it could not be written, is an error, and the old file stays.
+fn replace<R: Files>(
+    rt: &R,
+    name: &str,
+    new: &str,
+    permissions: Option<Permissions>,
+    bytes: &[u8],
+) -> io::Result<bool> {
+    let mut file = match File::create_new(rt, new) {
+        Ok(file) => file,
+        Err(error) => return unless_full(error),
+    };
+    if let Some(permissions) = permissions {
+        // Where this fails the system keeps no such permissions.
+        let _ = file.set_permissions(permissions);
+    }
+    let written = file.write_all(bytes);
+    drop(file);
+    let ended = match written {
+        Ok(()) => match fs::rename(rt, new, name) {
+            Ok(()) => return Ok(true),
+            Err(error) => unless_full(error),
+        },
+        Err(error) => Err(error),
+    };
+    let _ = fs::remove_file(rt, new);
+    ended
+}
+
+/// A file is written in place where it can't be replaced, but not on a full disk.
+fn unless_full(error: io::Error) -> io::Result<bool> {
+    match error.kind() {
+        ErrorKind::StorageFull | ErrorKind::QuotaExceeded => Err(error),
+        _ => Ok(false),
     }
 }

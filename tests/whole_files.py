@@ -1,0 +1,234 @@
+"""Files are replaced whole: what is there after a run that was killed, or whose calls failed, and what others see meanwhile."""
+import errno
+import itertools
+import os
+import re
+import resource
+import shutil
+import signal
+import stat
+import subprocess
+import tempfile
+import threading
+
+from tests import program
+from tests.case import MEMORY, Case, cannot, lay, read, tree, write
+
+SCAN = (b'{"version":1,"rules":[{"primary-output":"a.o","provides":[{"logical-name":"A"}]},'
+        b'{"primary-output":"b.o","requires":[{"logical-name":"A"}]}]}')
+DONE = 0, b"", b""
+
+
+def target(folder, dyndep=b"t.dd"):
+    """A target whose modules are in this folder, which stands in each file that is written."""
+    return (b'{"version":1,"target":"t","module-dir":"%s","module-ext":".bmi","scans":["t.ddi"],"dyndep":"%s","info":"t.json",'
+            b'"map":"clang"}' % (folder, dyndep))
+
+
+def written(folder, dyndep=b"t.dd"):
+    """The files of that target, in the order in which they are written."""
+    file = folder + b"/A.bmi"
+    return {b"a.o.modmap": b"-x c++-module\n-fmodule-output=%s\n" % file,
+            b"b.o.modmap": b"-fmodule-file=A=%s\n" % file,
+            b"t.json": b'{"modules":[{"bmi":"%s","name":"A","requires":[],"visibility":"public"}],"target":"t","version":2}' % file,
+            dyndep: b"ninja_dyndep_version = 1\nbuild a.o | %s: dyndep\n  restat = 1\nbuild b.o: dyndep | %s\n" % (file, file)}
+
+
+READ = {"t.target.json": target(b"new"), "t.ddi": SCAN}
+NEW = written(b"new")
+OLD = {name: b"before\n" for name in NEW}
+TEMPORARY = re.compile(rb"(.+)\.[0-9a-f]{16}\.tmp")
+
+
+class Faults(Case):
+    """Runs with a fault at each call on files in turn."""
+    seconds = 10
+
+    @classmethod
+    def setUpClass(cls):
+        super().setUpClass()
+        folder = tempfile.TemporaryDirectory(prefix="dyncollate-")
+        cls.addClassCleanup(folder.cleanup)
+        cls.library = f"{folder.name}/fault_at_call.so"
+        subprocess.run([f"{program.TOP}/tests/preload", f"{program.TOP}/tests/fault_at_call.c", cls.library], check=True)
+
+    def run_with_fault(self, old, number, **more):
+        """The answer of a run with a fault at the call of this number, and the files that are left of those that it writes."""
+        lay(READ | {os.fsdecode(name): text for name, text in old.items()})
+        before = dict(self.caller.environment)
+        self.caller.environment.update(LD_PRELOAD=self.library, KILLED_AT=str(number), **more)
+        answer = self.caller.run("collate", "t.target.json")
+        self.caller.environment = before
+        left = tree()
+        for name in READ:
+            self.same(left.pop(os.fsencode(name)), READ[name], name)
+        return answer, left
+
+    def whole(self, old, left, temporaries):
+        """Each file has all bytes from before, or all of the new ones, and these come first in the order of the files. Nothing
+        else is there but so many temporaries, at most, with a beginning of the new bytes."""
+        left = dict(left)
+        found = [left.pop(name, None) for name in NEW]
+        news = sum(text == NEW[name] for name, text in zip(NEW, found))
+        self.same(found, [*NEW.values()][:news] + [old.get(name) for name in NEW][news:], "the files")
+        self.assertLessEqual(len(left), temporaries, left)
+        for name, text in left.items():
+            of = TEMPORARY.fullmatch(name)
+            self.assertTrue(of and NEW[of[1]].startswith(text), (name, text))
+        return news
+
+    def killed(self, old):
+        """What a kill at each call in turn leaves: how many files are new, and the temporaries."""
+        for number in itertools.count(1):
+            answer, left = self.run_with_fault(old, number)
+            if answer[0] == 0:
+                self.same((answer, left), (DONE, NEW))
+                return
+            with self.subTest(number):
+                self.same(answer, (-signal.SIGKILL, b"", b""))
+                yield self.whole(old, left, 1), {name: text for name, text in left.items() if name not in NEW}
+                self.same(self.caller.run("collate", "t.target.json"), DONE, "the next run")
+                self.same({name: text for name, text in tree().items() if name in NEW}, NEW, "the next run")
+
+    def test_killed(self):
+        for old in {}, OLD:
+            seen = list(self.killed(old))
+            self.assertGreaterEqual(len(seen), 5 * len(NEW), "calls")
+            self.assertGreaterEqual({news for news, _ in seen}, set(range(len(NEW))))
+            halves = {TEMPORARY.fullmatch(name)[1] for _, left in seen for name, text in left.items() if text}
+            self.assertEqual(halves, set(NEW), "temporaries that were half written")
+
+    def test_refused(self):
+        """A call that fails, for want of space, of rights or for another reason, leaves whole files and no temporary."""
+        for old in {}, OLD:
+            calls = len(list(self.killed(old)))
+            for error, number in itertools.product((errno.ENOSPC, errno.EACCES, errno.EIO), range(1, calls + 1)):
+                with self.subTest(old=old, error=errno.errorcode[error], call=number):
+                    answer, left = self.run_with_fault(old, number, FAILS_WITH=str(error))
+                    news = self.whole(old, left, 0)
+                    if news == len(NEW):
+                        self.same(answer, DONE)
+                    else:
+                        names = [os.fsdecode(name) for name in NEW]
+                        self.assertIn(answer, [cannot("read", it) for it in READ] + [cannot("write", names[news])])
+
+
+class Replaced(Case):
+    """What becomes of the file that is replaced."""
+
+    def collate(self, **more):
+        lay(READ | more)
+        return self.caller.run("collate", "t.target.json")
+
+    def test_a_file_that_may_not_be_written(self):
+        lay(READ | {"t.dd": b"before\n"})
+        os.chmod("t.dd", 0o444)
+        self.same(self.caller.run("collate", "t.target.json"), DONE)
+        self.same((stat.S_IMODE(os.stat("t.dd").st_mode), read("t.dd")), (0o444, NEW[b"t.dd"]))
+
+    def test_a_hard_link_keeps_the_bytes(self):
+        lay(READ | {"t.dd": b"before\n"})
+        os.link("t.dd", "cached")
+        self.same(self.caller.run("collate", "t.target.json"), DONE)
+        self.same((read("cached"), read("t.dd")), (b"before\n", NEW[b"t.dd"]))
+
+    def test_a_link_stays_and_its_file_is_replaced(self):
+        for there in True, False:
+            lay(READ)
+            with tempfile.TemporaryDirectory(dir=MEMORY) as other:
+                if there:
+                    write(f"{other}/file", b"before\n")
+                os.symlink(f"{other}/file", f"{other}/link")
+                os.symlink(f"{other}/link", "t.dd")
+                self.same(self.caller.run("collate", "t.target.json"), DONE)
+                self.same((os.readlink("t.dd"), tree(os.fsencode(other))),
+                          (f"{other}/link", {b"file": NEW[b"t.dd"], b"link": NEW[b"t.dd"]}), there)
+            os.remove("t.dd")
+            self.same(set(os.listdir(b".")), set(map(os.fsencode, READ)) | set(NEW) - {b"t.dd"}, there)
+
+    def test_a_pipe_is_written(self):
+        for link in False, True:
+            lay(READ)
+            os.mkfifo("pipe" if link else "t.dd")
+            if link:
+                os.symlink("pipe", "t.dd")
+            found = []
+            reader = threading.Thread(target=lambda: found.append(read("t.dd")), daemon=True)
+            reader.start()
+            self.same(self.caller.run("collate", "t.target.json"), DONE)
+            reader.join(10)
+            self.same((found, stat.S_ISFIFO(os.stat("t.dd").st_mode)), ([NEW[b"t.dd"]], True), link)
+
+    def test_a_name_too_long_for_another_beside_it(self):
+        name = b"d" * 250
+        for _ in range(2):
+            self.same(self.collate(**{"t.target.json": target(b"new", name)}), DONE)
+            self.same(tree(), {b"t.target.json": target(b"new", name), b"t.ddi": SCAN} | written(b"new", name))
+
+    def test_a_file_too_large(self):
+        """A file that can't be written to its end is as it was."""
+        for size in range(len(NEW[b"a.o.modmap"])):
+            lay(READ | {os.fsdecode(name): text for name, text in OLD.items()})
+            before = tree()
+            unread, pipe = os.pipe()
+            limits = resource.getrlimit(resource.RLIMIT_FSIZE)
+            resource.setrlimit(resource.RLIMIT_FSIZE, (size, limits[1]))
+            child = self.caller.begin("collate", "t.target.json", err=pipe)
+            resource.setrlimit(resource.RLIMIT_FSIZE, limits)
+            os.close(pipe)
+            ended = self.caller.end(child)
+            with open(unread, "rb") as said:
+                self.same((ended[0], said.read(), tree()), (3, cannot("write", "a.o.modmap")[2], before), size)
+
+    def test_a_folder_that_may_not_be_written(self):
+        """What could be written without another name still can."""
+        lay(READ | {os.fsdecode(name): text for name, text in OLD.items()})
+        for name in NEW:
+            os.chmod(name, 0o666)
+        shutil.copy(program.PROGRAM, "program")
+        os.chmod("program", 0o755)
+        os.chmod(".", 0o555)
+        nobody = {"user": 65534, "group": 65534, "extra_groups": []} if os.getuid() == 0 else {}
+        ran = subprocess.run(["./program", "collate", "t.target.json"], capture_output=True, check=False, **nobody)
+        os.chmod(".", 0o755)
+        os.remove("program")
+        self.same((ran.returncode, ran.stdout, ran.stderr), DONE)
+        self.same(tree(), {os.fsencode(name): text for name, text in READ.items()} | NEW)
+
+    def test_a_mount_point(self):
+        """A file that can't be renamed onto is written in place."""
+        lay(READ | {"t.dd": b"before\n"})
+        mounted = 'mount --bind t.dd t.dd 2> /dev/null || exit 99; exec "$@"'
+        ran = subprocess.run(["unshare", "-m" if os.getuid() == 0 else "-rm", "sh", "-c", mounted, "sh", program.PROGRAM, "collate",
+                              "t.target.json"], capture_output=True, check=False)
+        if ran.returncode == 99 or ran.stderr.startswith(b"unshare:"):
+            self.skipTest("no file was mounted")
+        self.same((ran.returncode, ran.stdout, ran.stderr), DONE)
+        self.same(tree(), {os.fsencode(name): text for name, text in READ.items()} | NEW)
+
+
+class AtOnce(Case):
+    """Runs at once that write other bytes to the same files."""
+    seconds = 10
+
+    def test_each_file_is_of_one_run(self):
+        """And so it is whenever another program reads it."""
+        folders = b"1" * 500, b"2" * 3500, b"3" * 2000
+        news = [written(folder) for folder in folders]
+        files = {f"{at}.json": target(folder) for at, folder in enumerate(folders)} | {"t.ddi": SCAN}
+        seen = {name: set() for name in NEW}
+        for _ in range(150):
+            lay(files | {os.fsdecode(name): text for name, text in OLD.items()})
+            children = [self.caller.begin("collate", f"{at}.json") for at in range(len(folders))]
+            for _ in range(20):
+                for name in NEW:
+                    text = read(name)
+                    self.assertIn(text, [OLD[name]] + [new[name] for new in news])
+                    seen[name].add(text)
+            self.same([self.caller.end(child) for child in children], [DONE] * len(folders))
+            left = tree()
+            for name in NEW:
+                self.assertIn(left.pop(name), [new[name] for new in news])
+            self.same(left, {os.fsencode(name): text for name, text in files.items()})
+        for name, texts in seen.items():
+            self.assertGreater(len(texts), 2, f"{name}: the reader saw too few of the files")
