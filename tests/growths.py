@@ -2,9 +2,9 @@
 
 - The worked rows, by the program. A run has to answer that memory was refused, and to write no file; or what it answers where
   nothing is refused, since it can do without some growths.
-- The tests of the modules `growths` of base_tests and library_tests (crates/*/src/growths.rt and crates/*/src/*/growths.rt). A
-  test has to end well, or with the error that memory was refused (`AllocError`, `AllocFailed`, `Failure::Memory`); an assertion
-  that fails, or any other end, is a failure.
+- The tests of the modules `growths` of library_tests (crates/library_tests/src/*/growths.rt). A test has to end well, or with
+  the error that memory was refused (`AllocError`, `AllocFailed`, `Failure::Memory`); an assertion that fails, or any other end,
+  is a failure.
 """
 import fcntl
 import glob
@@ -20,7 +20,7 @@ from tests.tables import worked
 
 load_tests = side_by_side
 
-CRATES = "base_tests", "library_tests"
+CRATES = "library_tests",
 NO_MEMORY = 3, b"", b"dyncollate: out of memory\n"
 REFUSED = re.compile(rb"^error: (Alloc(Error|Failed)\b|Memory$)", re.MULTILINE)
 

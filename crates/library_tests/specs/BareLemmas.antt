@@ -1,4 +1,4 @@
--- What a style owes: it reads back what it wrote, and reads nothing else.
+-- What a style has to prove: it reads back what it wrote, and reads nothing else.
 use Rattle.std.proofs.Common.{◌≡◌, true, ℕ, zero, suc, List, [], ◌∷◌, ◌++◌, map, slice_get, Option, Some, None, Ok, refl, ap, sym, subst, ◌∙◌, arith, append-nil, codes}
 use Rattle.std.proofs.lemmas.List.Elements.{All-append, All-nil}
 use Rattle.std.proofs.lemmas.List.Splits.{join_with_byte-slice_split}

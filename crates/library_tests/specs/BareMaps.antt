@@ -1,4 +1,4 @@
--- A style of a caller's own: a path a line, and no names.
+-- A style of a caller's own: a path per line, and no names.
 use Rattle.std.specs.Prelude.{ℕ, List, [], map, Option, Some, None, Result, Ok, Err}
 use Rattle.std.specs.List.{flat_map}
 use Rattle.module_maps.specs.Values.{ModuleMapValue}

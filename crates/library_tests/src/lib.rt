@@ -1,25 +1,34 @@
-//! Tests of the libraries from `scan_docs` up, as their callers see them: calls that the program
-//! does not make, and that succeed where memory is ample. What the program's calls answer is shown
-//! by the rows that the built program is called with (`tests/rows`), of which the worked ones are
-//! called with each growth of memory refused, too (`tests/growths.py`).
+//! Tests of the libraries, as their callers see them, with a module for each crate under test: what
+//! the built program can't be asked, such as texts in pieces, calls that it does not make, and
+//! readers, writers and growths of memory that fail. What it can be asked is asked of it, in rows
+//! of `tests/rows`, of which the worked ones are called with each growth of memory refused, too
+//! (`tests/growths.py`).
 //!
-//! The tests of `growths` are run by `tests/growths.py` with each growth of memory refused in turn.
-//! The tests of the libraries below stand in `base_tests`.
+//! The tests of each module `growths` are run by `tests/growths.py` with each growth of memory
+//! refused in turn. `examples` has for each crate a caller's example, which its README quotes.
 //!
-//! They stand here since the prover proves a crate a second time where it has tests of its own.
+//! They are a crate of their own since the prover proves a crate a second time where it has tests.
 #![tactic(auto)]
 
 #[cfg(test)]
-mod bare;
+mod build_effect_tests;
+#[cfg(test)]
+mod collate_core_tests;
 #[cfg(test)]
 mod common;
 #[cfg(test)]
-mod growths;
+mod dep_order_tests;
 #[cfg(test)]
-mod maps;
+mod dyndep_file_tests;
 #[cfg(test)]
-mod rehearsals;
+mod examples;
 #[cfg(test)]
-mod tables;
+mod failing;
 #[cfg(test)]
-mod targets;
+mod module_maps_tests;
+#[cfg(test)]
+mod module_table_tests;
+#[cfg(test)]
+mod ninja_text_tests;
+#[cfg(test)]
+mod scan_docs_tests;

@@ -1,0 +1,85 @@
+//! Edges of a caller's own, and the order of edges after an effect. What listings, effects and orders
+//! are answered is rows of `tests/rows`.
+ghost use Rattle.std.specs.Prelude.{◌≢◌, [], All, IfOk};
+
+mod growths;
+
+use crate::common::{path, value};
+use crate::dyndep_file_tests::TWO_STATEMENTS;
+use build_effect::{Edge, Graph, ListingReader, apply, edge_order, listing_write};
+use dep_order::Sorting;
+use dyndep_file::{Dyndep, DyndepReader};
+use ninja_text::Counted;
+use std::alloc::Global;
+use std::test::Fail;
+
+/// The compilations of both objects, which name `t.dd`, and a library of both.
+pub(crate) const LIBRARY: &[u8] =
+    b"build a.o: cxx a.cpp || t.dd\n  dyndep = t.dd\nbuild b.o: cxx b.cpp || t.dd\n  dyndep = t.dd\nbuild lib: ar a.o b.o\n";
+
+/// The same edges after the effect of the dyndep text.
+pub(crate) const LIBRARY_AFTER: &[u8] =
+    b"build a.o | mod/A.bmi: cxx a.cpp | mod/B.bmi || t.dd\n  dyndep = t.dd\n  restat = 1\nbuild b.o | mod/B.bmi: cxx b.cpp || t.dd\n  dyndep = t.dd\n  restat = 1\nbuild lib: ar a.o b.o\n";
+
+/// The graph of a listing.
+pub(crate) fn graph_of(alloc: Global, listing: &[u8]) -> Result<Graph, Fail> {
+    let mut reader = ListingReader::new(alloc);
+    value(reader.feed(listing))?;
+    value(reader.finish())
+}
+
+/// Edges: one, with every part that an edge can have.
+pub(crate) fn whole_edge(alloc: Global) -> Result<Vec<Edge>, Fail>
+    ensures { IfOk result (λ edges. All (λ e. e.outputs ≢ []) edges.items) }
+{
+    let edge = Edge {
+        rule: Vec::from_slice(alloc, b"cxx")?,
+        outputs: vec![in alloc; path(alloc, "a.o")?]?,
+        implicit_outputs: vec![in alloc; path(alloc, "a.d")?]?,
+        inputs: vec![in alloc; path(alloc, "a.cpp")?]?,
+        implicit_inputs: vec![in alloc; path(alloc, "a.h")?]?,
+        order_only: vec![in alloc; path(alloc, "t.dd")?]?,
+        dyndep: Some(path(alloc, "t.dd")?),
+        restat: true,
+    };
+    Ok(vec![in alloc; edge]?)
+}
+
+/// The listing of that edge.
+pub(crate) const WHOLE_EDGE: &[u8] =
+    b"build a.o | a.d: cxx a.cpp | a.h || t.dd\n  dyndep = t.dd\n  restat = 1\n";
+
+/// The listing of a graph, which is no longer than that of the library after the effect. The room
+/// is made first, so that the writer does not fail.
+pub(crate) fn listing_of(alloc: Global, graph: &Graph) -> Result<Vec<u8>, Fail> {
+    let mut out = Counted::new(Vec::with_capacity(alloc, LIBRARY_AFTER.len())?);
+    value(listing_write(alloc, graph, &mut out))?;
+    Ok(out.into_inner())
+}
+
+/// The statements of the dyndep text.
+fn statements(alloc: Global) -> Result<Dyndep, Fail> {
+    let mut reader = DyndepReader::new(alloc);
+    value(reader.feed(TWO_STATEMENTS))?;
+    value(reader.finish())
+}
+
+/// The library's edges after the effect of the statements.
+fn applied(alloc: Global) -> Result<Graph, Fail> {
+    let graph = graph_of(alloc, LIBRARY)?;
+    let dyndep = statements(alloc)?;
+    value(apply(alloc, &graph, &path(alloc, "t.dd")?, &dyndep))
+}
+
+/// An order of the library's edges after the effect of the statements, or their least cycle.
+pub(crate) fn order_after_effect(alloc: Global) -> Result<Sorting, Fail> {
+    Ok(edge_order(alloc, &applied(alloc)?)?)
+}
+
+/// Whether the edges have this order.
+pub(crate) fn is_order(sorting: &Sorting, wanted: &[usize]) -> bool {
+    match sorting {
+        Sorting::Order(indexes) => indexes.as_slice() == wanted,
+        Sorting::Cycle(_) => false,
+    }
+}

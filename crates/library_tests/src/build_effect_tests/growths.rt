@@ -1,0 +1,27 @@
+//! Edges of a caller's own, and edges in order after an effect, whose growths of memory
+//! `tests/growths.py` refuses in turn. A test answers `AllocError` or `Failure::Memory` where a
+//! call answered that memory was refused, and nowhere else; every other answer has to be the
+//! example's.
+
+use super::{WHOLE_EDGE, is_order, listing_of, order_after_effect, whole_edge};
+use crate::common::value;
+use build_effect::Graph;
+use std::hash::RandomState;
+use std::test::Fail;
+
+#[test]
+fn a_graph_of_the_callers_own_edges(rt: HostRuntime) -> Result<(), Fail> {
+    let alloc = rt.alloc();
+    let graph = value(Graph::new(alloc, whole_edge(alloc)?))?;
+    assert!(rt; listing_of(alloc, &graph)?.as_slice() == WHOLE_EDGE);
+    let keys = RandomState::new(&rt)?;
+    let graph = value(Graph::new_with_hasher(alloc, whole_edge(alloc)?, keys))?;
+    assert!(rt; listing_of(alloc, &graph)?.as_slice() == WHOLE_EDGE);
+    Ok(())
+}
+
+#[test]
+fn edges_after_an_effect(rt: HostRuntime) -> Result<(), Fail> {
+    assert!(rt; is_order(&order_after_effect(rt.alloc())?, &[1, 0, 2]));
+    Ok(())
+}

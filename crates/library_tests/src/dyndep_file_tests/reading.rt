@@ -1,0 +1,124 @@
+//! Texts that are read in pieces of every size. The lines that are refused, and further lines that
+//! are accepted, are rows of `tests/rows`.
+use super::TWO_STATEMENTS;
+use crate::failing::{Bytewise, bytewise_reader, has_given};
+use dyndep_file::{Dyndep, DyndepReader, LineFault, ReadFault, read_all};
+use ninja_text::{Counted, Failure};
+use std::alloc::{AllocError, Global};
+use std::test::Fail;
+
+pub(super) fn line_fault(line: u64, fault: LineFault) -> ReadFault {
+    ReadFault::AtLine { line, fault }
+}
+
+/// Whether the statements have this text.
+fn has_text(alloc: Global, dyndep: &Dyndep, text: &[u8]) -> Result<bool, AllocError> {
+    match dyndep.to_text(alloc) {
+        Ok(found) => Ok(found.as_slice() == text),
+        Err(Failure::Memory) => Err(AllocError),
+        Err(Failure::Fault(_fault)) => Ok(false),
+    }
+}
+
+/// Whether a reader answered statements that are written so, or this fault.
+pub(super) fn is_answer(
+    alloc: Global,
+    answer: Result<Dyndep, Failure<ReadFault>>,
+    wanted: Result<&[u8], ReadFault>,
+) -> Result<bool, AllocError> {
+    match (answer, wanted) {
+        (Ok(dyndep), Ok(text)) => has_text(alloc, &dyndep, text),
+        (Err(Failure::Memory), _) => Err(AllocError),
+        (Err(Failure::Fault(found)), Err(fault)) => Ok(found == fault),
+        _ => Ok(false),
+    }
+}
+
+/// Whether a text that is fed in pieces of this size is answered so. A reader that refused a
+/// piece is fed the others too, and answers at its end as it did then.
+pub(super) fn answers_in_pieces(
+    alloc: Global,
+    text: &[u8],
+    size: usize,
+    wanted: Result<&[u8], ReadFault>,
+) -> Result<bool, AllocError> {
+    let mut reader = DyndepReader::new(alloc);
+    for piece in text.chunks(size.max(1)) {
+        let _ = reader.feed(piece);
+    }
+    is_answer(alloc, reader.finish(), wanted)
+}
+
+/// Whether the text is answered so in pieces of every size.
+fn always_answers(
+    alloc: Global,
+    text: &[u8],
+    wanted: Result<&[u8], ReadFault>,
+) -> Result<bool, AllocError> {
+    for size in 1..=text.len() {
+        if !answers_in_pieces(alloc, text, size, wanted)? {
+            return Ok(false);
+        }
+    }
+    Ok(true)
+}
+
+/// Lines of every kind, with both ends of a line, and continuations over both.
+const EVERY_LINE: &[u8] =
+    b"# $\n\r\nninja_dyndep_version=1.0\r\nbuild a$\r\n  b.o $\n: dyndep | d$ e $$f$$\r\n  # why \0$\r\r\n  restat = x $\n  y\r\nbuild a$\n$:b: dyndep\n\n";
+
+#[test]
+fn a_text_is_read_in_every_cutting(rt: HostRuntime) -> Result<(), Fail> {
+    let text =
+        b"ninja_dyndep_version = 1\nbuild ab.o: dyndep | d$ e $$f$$\n  restat = 1\nbuild a$:b: dyndep\n";
+    assert!(rt; always_answers(rt.alloc(), TWO_STATEMENTS, Ok(TWO_STATEMENTS))?);
+    assert!(rt; always_answers(rt.alloc(), EVERY_LINE, Ok(text))?);
+    Ok(())
+}
+
+#[test]
+fn a_text_is_refused_in_every_cutting(rt: HostRuntime) -> Result<(), Fail> {
+    let truncated = Err(line_fault(4, LineFault::Truncated));
+    assert!(rt; always_answers(rt.alloc(), &TWO_STATEMENTS[..90], truncated)?);
+    let text = b"ninja_dyndep_version = 1\nbuild a $\r\n: dyndep\nrule cc\n build\n";
+    let bad_line = Err(line_fault(4, LineFault::BadLine));
+    assert!(rt; always_answers(rt.alloc(), text, bad_line)?);
+    Ok(())
+}
+
+/// Whether a reader is read with this answer, in that many calls, of which that many failed.
+fn reads_as(
+    alloc: Global,
+    input: Counted<Bytewise<'_>>,
+    wanted: Result<&[u8], ReadFault>,
+    calls: usize,
+    failures: u128,
+) -> Result<bool, AllocError> {
+    let mut input = input;
+    let answer = read_all(alloc, &mut input);
+    Ok(is_answer(alloc, answer, wanted)? && has_given(input, calls, failures))
+}
+
+#[test]
+fn a_reader_is_read_to_its_end(rt: HostRuntime) -> Result<(), Fail> {
+    let input = bytewise_reader(TWO_STATEMENTS, 0);
+    assert!(rt; reads_as(rt.alloc(), input, Ok(TWO_STATEMENTS), 124, 0)?);
+    Ok(())
+}
+
+#[test]
+fn a_failed_read_is_not_tried_again(rt: HostRuntime) -> Result<(), Fail> {
+    for call in 1..124usize {
+        let input = bytewise_reader(TWO_STATEMENTS, call);
+        assert!(rt; reads_as(rt.alloc(), input, Err(ReadFault::Io), call, 1)?);
+    }
+    Ok(())
+}
+
+#[test]
+fn a_refused_text_is_read_no_further(rt: HostRuntime) -> Result<(), Fail> {
+    let input = bytewise_reader(b"ninja_dyndep_version = 2\nrule cc\n", 26);
+    let refused = Err(line_fault(1, LineFault::BadVersion));
+    assert!(rt; reads_as(rt.alloc(), input, refused, 25, 0)?);
+    Ok(())
+}

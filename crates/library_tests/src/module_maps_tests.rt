@@ -1,0 +1,190 @@
+//! What the styles of maps read, and the maps that there are not.
+
+mod bare;
+mod growths;
+
+use crate::common::{name, path, push_line, some, value};
+pub(crate) use bare::Bare;
+use module_maps::map_lines::{LineForm, pair_in, push_named};
+use module_maps::{Clang, Gcc, MapEntry, MapFault, MapStyle, ModuleMap};
+use ninja_text::{Failure, Path};
+use scan_docs::Name;
+use std::alloc::{AllocError, Global};
+use std::test::Fail;
+
+/// Modules with these names and paths.
+fn pairs(alloc: Global, texts: &[(&str, &str)]) -> Result<Vec<(Name, Path)>, Fail> {
+    let mut pairs = Vec::new(alloc);
+    for text in texts {
+        pairs.push((name(alloc, text.0)?, path(alloc, text.1)?))?;
+    }
+    Ok(pairs)
+}
+
+/// The map of an object that provides `A` and needs `B`.
+fn map_of_two(alloc: Global) -> Result<ModuleMap, Fail> {
+    let provided = pairs(alloc, &[("A", "mod/A.bmi")])?;
+    let needed = pairs(alloc, &[("B", "mod/B.bmi")])?;
+    some(ModuleMap::new(provided, needed))
+}
+
+/// The entries, one per line.
+fn entries_text(alloc: Global, entries: &[MapEntry]) -> Result<Vec<u8>, AllocError> {
+    let mut out = Vec::new(alloc);
+    for entry in entries {
+        match &entry.name {
+            Some(name) => out.extend_from_slice(name.text().as_bytes())?,
+            None => out.push(b'-')?,
+        }
+        out.push(b' ')?;
+        push_line(&mut out, entry.path.bytes())?;
+    }
+    Ok(out)
+}
+
+/// The entries of a line of GCC's form and of one of Clang's, which comes after it.
+pub(crate) fn entries_of_lines(alloc: Global) -> Result<Vec<u8>, Fail> {
+    let mut entries = Vec::new(alloc);
+    let first = some(Gcc.entry(alloc, &entries, b"A mod/A.bmi")?)?;
+    entries.push(first)?;
+    let second = some(Clang.entry(alloc, &entries, b"-fmodule-file=B=mod/B.bmi")?)?;
+    entries.push(second)?;
+    Ok(entries_text(alloc, &entries)?)
+}
+
+/// The entry of a module that is in a text as a name, `=` and a path.
+pub(crate) fn entry_of_pair(alloc: Global) -> Result<Vec<u8>, Fail> {
+    let pair = some(pair_in(alloc, b'=', b"M:p=mod/M=p.bmi")?)?;
+    let mut entries = Vec::new(alloc);
+    push_named(alloc, &mut entries, &[pair])?;
+    Ok(entries_text(alloc, &entries)?)
+}
+
+/// The entries that the style keeps of the map.
+fn kept<M: MapStyle>(alloc: Global, style: &M, map: &ModuleMap) -> Result<Vec<u8>, AllocError> {
+    let entries = style.keeps(alloc, map)?;
+    entries_text(alloc, &entries)
+}
+
+/// The entries that the style reads in a text of its form.
+fn entries_in<M: MapStyle>(alloc: Global, style: &M, text: &str) -> Result<Vec<u8>, Fail> {
+    let entries = value(style.read(alloc, text.as_bytes()))?;
+    Ok(entries_text(alloc, &entries)?)
+}
+
+/// Whether the style writes this text of the map, keeps these entries of it, and reads them in the
+/// text.
+fn has_text<M: MapStyle>(
+    alloc: Global,
+    style: &M,
+    map: &ModuleMap,
+    text: &str,
+    entries: &str,
+) -> Result<bool, Fail> {
+    Ok(
+        value(style.write(alloc, map))?.as_slice() == text.as_bytes()
+            && kept(alloc, style, map)?.as_slice() == entries.as_bytes()
+            && entries_in(alloc, style, text)?.as_slice() == entries.as_bytes(),
+    )
+}
+
+/// The same of the map of an object that provides `A` and needs `B`.
+pub(crate) fn is_read_back<M: MapStyle>(
+    alloc: Global,
+    style: &M,
+    text: &str,
+    entries: &str,
+) -> Result<bool, Fail> {
+    has_text(alloc, style, &map_of_two(alloc)?, text, entries)
+}
+
+/// The number of the first line that the style can't read, if there is one.
+fn bad_line<M: MapStyle>(alloc: Global, style: &M, text: &str) -> Result<Option<u64>, AllocError> {
+    match style.read(alloc, text.as_bytes()) {
+        Err(Failure::Memory) => Err(AllocError),
+        Err(Failure::Fault(MapFault::BadMapLine { line })) => Ok(Some(line)),
+        _ => Ok(None),
+    }
+}
+
+#[test]
+fn a_text_that_is_no_map_of_gcc_is_refused_at_its_first_bad_line(
+    rt: HostRuntime,
+) -> Result<(), Fail> {
+    for (text, line) in [
+        ("A mod/A.bmi", 1),
+        ("A ./a\n", 1),
+        ("A a\n a\n", 2),
+        ("A a\n\n", 2),
+        ("A a b\n", 1),
+    ] {
+        assert!(rt; bad_line(rt.alloc(), &Gcc, text)? == Some(line));
+    }
+    assert!(rt; entries_in(rt.alloc(), &Gcc, "")?.is_empty());
+    Ok(())
+}
+
+#[test]
+fn a_text_that_is_no_map_of_clang_is_refused_at_its_first_bad_line(
+    rt: HostRuntime,
+) -> Result<(), Fail> {
+    for (text, line) in [
+        ("-x c++-module\n", 2),
+        ("-x c++-module\n-fmodule-output=a", 2),
+        ("-x c++-module\n-fmodule-output=a\n-x c++-module\n", 3),
+        ("-fmodule-output=a\n", 1),
+        ("-fmodule-file=C=c\n-fmodule-file=B=b\n", 2),
+    ] {
+        assert!(rt; bad_line(rt.alloc(), &Clang, text)? == Some(line));
+    }
+    assert!(rt; entries_in(rt.alloc(), &Clang, "")?.is_empty());
+    let found = entries_in(rt.alloc(), &Clang, "-fmodule-file=B=a=b\n")?;
+    assert!(rt; found.as_slice() == b"B a=b\n".as_slice());
+    Ok(())
+}
+
+/// Whether the style does not write the map, since its text can't have this path.
+fn is_unfit<M: MapStyle>(
+    alloc: Global,
+    style: &M,
+    map: &ModuleMap,
+    text: &str,
+) -> Result<bool, AllocError> {
+    match style.write(alloc, map) {
+        Err(Failure::Memory) => Err(AllocError),
+        Err(Failure::Fault(MapFault::MapPath { path })) => Ok(
+            !style.fits(map) && path.bytes() == text.as_bytes(),
+        ),
+        _ => Ok(false),
+    }
+}
+
+/// Two provided modules, which Clang's maps can't have, and two paths that no map can have.
+fn unfit_map(alloc: Global) -> Result<ModuleMap, Fail> {
+    let provided = pairs(alloc, &[("A", "a"), ("B", "b")])?;
+    let needed = pairs(alloc, &[("C", "my mods/C"), ("D", "it's")])?;
+    some(ModuleMap::new(provided, needed))
+}
+
+#[test]
+fn a_path_that_a_map_cannot_have_fits_no_style(rt: HostRuntime) -> Result<(), Fail> {
+    let alloc = rt.alloc();
+    let map = unfit_map(alloc)?;
+    assert!(rt; is_unfit(alloc, &Gcc, &map, "my mods/C")?);
+    assert!(rt; is_unfit(alloc, &Clang, &map, "my mods/C")?);
+    assert!(rt; is_unfit(alloc, &Bare, &map, "my mods/C")?);
+    Ok(())
+}
+
+/// Whether there is a map of these needed modules.
+fn is_map(alloc: Global, needed: &[(&str, &str)]) -> Result<bool, Fail> {
+    Ok(ModuleMap::new(Vec::new(alloc), pairs(alloc, needed)?).is_some())
+}
+
+#[test]
+fn needed_names_rise_strictly(rt: HostRuntime) -> Result<(), Fail> {
+    assert!(rt; is_map(rt.alloc(), &[("B", "b"), ("C", "c")])?);
+    assert!(rt; !is_map(rt.alloc(), &[("C", "c"), ("B", "b")])?);
+    assert!(rt; !is_map(rt.alloc(), &[("B", "b"), ("B", "b")])?);
+    Ok(())
+}

@@ -1,0 +1,12 @@
+//! Look-ups in a table, whose growths of memory `tests/growths.py` refuses in turn. A test answers
+//! `AllocError` or `Failure::Memory` where a call answered that memory was refused, and nowhere
+//! else; every other answer has to be the example's.
+
+use super::is_answered;
+use std::test::Fail;
+
+#[test]
+fn who_provides_a_module_and_what_is_needed(rt: HostRuntime) -> Result<(), Fail> {
+    assert!(rt; is_answered(rt.alloc())?);
+    Ok(())
+}

@@ -1,0 +1,117 @@
+//! What no clause says: that a call succeeds where memory is left, and readers and writers that
+//! fail. What paths mean, and which texts are none, are rows of `tests/rows`.
+ghost use Rattle.std.specs.Prelude.{◌≡◌};
+
+mod assigning;
+mod cutter;
+mod growths;
+mod lexing;
+
+use crate::failing::{Bytewise, Refusing, bytewise_reader, has_given, has_got, refusing_writer};
+use ninja_text::{Counted, ReadCall};
+use std::io;
+use std::io::ErrorKind;
+use std::test::Fail;
+
+/// Whether a call answers that this many bytes went in or out.
+fn is_count(answer: io::Result<usize>, wanted: usize) -> bool {
+    match answer {
+        Ok(count) => count == wanted,
+        Err(_error) => false,
+    }
+}
+
+/// Whether a call answers the error of the tests' readers and writers.
+fn is_interrupted(answer: io::Result<usize>) -> bool {
+    match answer {
+        Ok(_) => false,
+        Err(error) => error.kind() == ErrorKind::Interrupted,
+    }
+}
+
+/// Whether this many bytes of a piece are taken, and this many calls failed by then. An empty piece, of
+/// which nothing can be taken, does not fail.
+fn takes(out: &mut Counted<Refusing>, piece: &[u8], taken: usize, failures: u128) -> bool {
+    is_count(out.write(piece), taken) && out.failures() == failures
+}
+
+#[test]
+fn each_write_is_one_call_and_counted_where_it_fails(rt: HostRuntime) -> Result<(), Fail> {
+    let mut out = refusing_writer(rt.alloc(), 5, 3, false)?;
+    let rows: &[(&[u8], usize, u128)] = &[
+        (b"", 0, 0),
+        (b"abcd", 3, 0),
+        (b"de", 2, 0),
+        (b"f", 0, 1),
+        (b"", 0, 1),
+        (b"fg", 0, 2),
+    ];
+    for (piece, taken, failures) in rows {
+        assert!(rt; takes(&mut out, piece, *taken, *failures));
+    }
+    assert!(rt; has_got(out, b"abcde", 6, 2));
+    Ok(())
+}
+
+#[test]
+fn a_write_that_answers_an_error_is_counted(rt: HostRuntime) -> Result<(), Fail> {
+    let mut out = refusing_writer(rt.alloc(), 0, 3, true)?;
+    assert!(rt; is_interrupted(out.write(b"f")));
+    assert!(rt; has_got(out, b"", 1, 1));
+    Ok(())
+}
+
+/// Whether a reader that fails at its second call gives a byte, an error, and its end, of which the
+/// second alone counts as failed.
+fn gives_each(input: &mut Counted<Bytewise<'_>>) -> bool {
+    let mut buf = [0; 4];
+    is_count(input.read(&mut buf), 1)
+        && buf[0] == 7
+        && input.failures() == 0
+        && is_interrupted(input.read(&mut buf))
+        && input.failures() == 1
+        && is_count(input.read(&mut buf), 0)
+}
+
+#[test]
+fn each_read_is_one_call_and_counted_where_it_fails(rt: HostRuntime) {
+    let mut input = bytewise_reader(b"\x07", 2);
+    assert!(rt; gives_each(&mut input));
+    assert!(rt; has_given(input, 3, 1));
+}
+
+/// A source that counts its calls, and says so.
+#[derive(Drop)]
+struct Tally {
+    calls: u64,
+}
+
+impl ReadCall for Tally {
+    ghost use Rattle.std.specs.Prelude.{◌≡◌, ◌+◌, ◌-◌, ◌^◌, min, None};
+
+    ghost remaining = { λ _. None };
+
+    ghost reads = { λ old new _ _. new.calls ≡ min (old.calls + 1) (2 ^ 64 - 1) };
+
+    fn read_call(&mut self, _buf: &mut [u8]) -> io::Result<usize> {
+        self.calls = self.calls.saturating_add(1);
+        Err(ErrorKind::Interrupted.into())
+    }
+}
+
+/// How many calls of a source two reads make. That the answer is 2 is proved of what the source
+/// says of its calls.
+fn calls_of_two_reads() -> u64
+    ensures { result ≡ 2 }
+{
+    let mut input = Counted::new(Tally { calls: 0 });
+    let _ = input.read(&mut []);
+    let _ = input.read(&mut []);
+    input.into_inner().calls
+}
+
+#[test]
+fn two_reads_are_two_calls(rt: HostRuntime) -> Result<(), Fail> {
+    assert!(rt; calls_of_two_reads() == 2);
+    Ok(())
+}

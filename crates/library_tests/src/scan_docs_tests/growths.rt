@@ -1,0 +1,24 @@
+//! An info that is read and written, whose growths of memory `tests/growths.py` refuses in turn. A
+//! test answers `AllocError` or `Failure::Memory` where a call answered that memory was refused,
+//! and nowhere else; every other answer has to be the example's.
+
+use scan_docs::{info_read, info_write};
+use std::alloc::Global;
+use std::test::Fail;
+
+/// The info that is read in the document, as it is written.
+fn written_again(alloc: Global, document: &[u8]) -> Result<Vec<u8>, Fail> {
+    let info = info_read(alloc, document)?;
+    Ok(info_write(alloc, &info)?)
+}
+
+#[test]
+fn an_info_that_is_written(rt: HostRuntime) -> Result<(), Fail> {
+    let document =
+        br#"{"modules":[{"bmi":"./lib//A.bmi","name":"A","requires":[{"bmi":"b","name":"B"}],"visibility":"public"},{"bmi":"b","name":"B","requires":[],"visibility":"private"}],"target":"t","version":2}"#;
+    let wanted =
+        br#"{"modules":[{"bmi":"lib/A.bmi","name":"A","requires":[{"bmi":"b","name":"B"}],"visibility":"public"},{"bmi":"b","name":"B","requires":[],"visibility":"private"}],"target":"t","version":2}"#;
+    let found = written_again(rt.alloc(), document)?;
+    assert!(rt; found.as_slice() == wanted.as_slice());
+    Ok(())
+}
