@@ -1,5 +1,5 @@
-// Files, read and written whole. Where the environment variable PLAIN_CALLS names a file, what is read and written is noted
-// there, a line for each call, for floor.cpp.
+// Files, read and written whole; one that is written takes the place of the old one by a rename. Where the environment
+// variable PLAIN_CALLS names a file, what is read and written is noted there, a line for each call, for floor.cpp.
 #pragma once
 
 #include <fcntl.h>
@@ -70,10 +70,36 @@ inline bool write_all(int file, std::string_view text) {
     return true;
 }
 
+// Whether a new file with this text took the place of the one of this name.
+inline bool replace_file(const std::string& name, std::string_view text) {
+    const std::string other = name + "." + std::to_string(getpid()) + ".tmp";
+    struct stat old;
+    const bool is_there = lstat(name.c_str(), &old) == 0;
+    if (is_there && !S_ISREG(old.st_mode)) {
+        return false;
+    }
+    {
+        const OpenFile file(other.c_str(), O_WRONLY | O_CREAT | O_EXCL);
+        if (file.get() < 0) {
+            return false;
+        }
+        if (is_there) {
+            fchmod(file.get(), old.st_mode & 07777);
+        }
+        if (!write_all(file.get(), text)) {
+            unlink(other.c_str());
+            throw FileError("cannot write " + name);
+        }
+    }
+    return rename(other.c_str(), name.c_str()) == 0;
+}
+
 inline void write_file(const std::string& name, std::string_view text) {
-    const OpenFile file(name.c_str(), O_WRONLY | O_CREAT | O_TRUNC);
-    if (file.get() < 0 || !write_all(file.get(), text)) {
-        throw FileError("cannot write " + name);
+    if (!replace_file(name, text)) {
+        const OpenFile file(name.c_str(), O_WRONLY | O_CREAT | O_TRUNC);
+        if (file.get() < 0 || !write_all(file.get(), text)) {
+            throw FileError("cannot write " + name);
+        }
     }
     note('w', text.size(), name);
 }
