@@ -193,6 +193,20 @@ class Archive(unittest.TestCase):
         status, out, err = self.release(clone=clone, PATH=f"{self.room}/bin:{ENVIRONMENT['PATH']}")
         self.assertEqual((status, out, err.splitlines()[-1]), (3, "", "release: the program is not built, so there is nothing to be released"))
 
+    def test_a_toolchain_that_came_after_the_program(self):
+        """It is not the one that proved it."""
+        clone, kit = self.room / "older", self.room / "kit"
+        git("clone", "-q", self.clone, clone)
+        self.build(clone)
+        (kit / "bin").mkdir(parents=True)
+        time.sleep(0.02)
+        (kit / "KIT-ID").write_text("")
+        (kit / "bin/rt").write_text("#!/bin/sh\necho another kit\n")
+        (kit / "bin/rt").chmod(0o755)
+        status, out, err = self.release(clone=clone, PATH=f"{kit}/bin:{ENVIRONMENT['PATH']}")
+        self.assertEqual((status, out), (1, ""))
+        self.assertRegex(err, r"\Arelease: the toolchain is newer than the program")
+
     def test_in_an_empty_root(self):
         """With nothing but the C library, the program does what README shows, and collates."""
         as_root = [] if os.getuid() == 0 else ["unshare", "-r"]

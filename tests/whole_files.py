@@ -20,7 +20,7 @@ DONE = 0, b"", b""
 
 
 def target(folder, dyndep=b"t.dd"):
-    """A target whose modules are in this folder, which stands in each file that is written."""
+    """A target whose modules are in this folder, which is in each file that is written."""
     return (b'{"version":1,"target":"t","module-dir":"%s","module-ext":".bmi","scans":["t.ddi"],"dyndep":"%s","info":"t.json",'
             b'"map":"clang"}' % (folder, dyndep))
 
