@@ -12,6 +12,7 @@ import unittest
 from pathlib import Path
 
 from tests import program
+from tests.tools import tool
 
 TOP = Path(program.TOP)
 VERSION = (TOP / "VERSION").read_text().strip()
@@ -230,6 +231,18 @@ class Archive(unittest.TestCase):
         self.assertEqual(sorted(made), ["app.dd", "app.info.json", *(f"obj/{it}.o.modmap" for it in ("greet", "main", "words"))])
         self.assertEqual(made["app.dd"], HELLO)
         self.assertEqual(made["obj/main.o.modmap"], "-fmodule-file=greet=bmi/greet.pcm\n-fmodule-file=words=bmi/words.pcm\n")
+
+    def test_a_build(self):
+        """The archive's generator writes the manifest, and Ninja calls the archive's program."""
+        names = {"CLANG": tool("clang"), "SCANNER": tool("scanner"), "DYNCOLLATE": str(self.home / "dyncollate")}
+        if not (tool("ninja") and all(names.values())):
+            self.skipTest("ninja-build, clang-19 or clang-tools-19: not there")
+        folder = self.room / "build"
+        shutil.copytree(self.home / "examples/libs", folder)
+        subprocess.run([self.home / "examples/generate", "clang"], input=(folder / "targets").read_bytes(), cwd=folder,
+                       env=ENVIRONMENT | names, check=True)
+        self.assertEqual(call(tool("ninja"), cwd=folder)[0], 0)
+        self.assertEqual(call(folder / "app"), (0, "42\n", ""))
 
     def test_install(self):
         """It says what it puts where, also a second time, and takes away exactly that."""

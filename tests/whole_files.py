@@ -185,13 +185,15 @@ class Replaced(Case):
         lay(READ | {os.fsdecode(name): text for name, text in OLD.items()})
         for name in NEW:
             os.chmod(name, 0o666)
-        shutil.copy(program.PROGRAM, "program")
-        os.chmod("program", 0o755)
         os.chmod(".", 0o555)
         nobody = {"user": 65534, "group": 65534, "extra_groups": []} if os.getuid() == 0 else {}
-        ran = subprocess.run(["./program", "collate", "t.target.json"], capture_output=True, check=False, **nobody)
+        with tempfile.TemporaryDirectory(prefix="dyncollate-") as room:
+            # a copy that anybody may run
+            os.chmod(room, 0o755)
+            os.chmod(shutil.copy(program.PROGRAM, room), 0o755)
+            called = [f"{room}/{os.path.basename(program.PROGRAM)}", "collate", "t.target.json"]
+            ran = subprocess.run(called, capture_output=True, check=False, **nobody)
         os.chmod(".", 0o755)
-        os.remove("program")
         self.same((ran.returncode, ran.stdout, ran.stderr), DONE)
         self.same(tree(), {os.fsencode(name): text for name, text in READ.items()} | NEW)
 
