@@ -10,7 +10,7 @@ use Rattle.serde_json.specs.Sent.{number_token}
 use Rattle.scan_docs.proofs.JsonReader.{Token, end_object, key_token, string_token, value, items}
 use Rattle.scan_docs.proofs.InfoTokens.{list_tokens, requirement_tokens, module_tokens, info_tokens}
 
--- a list has a token for each entry, and one more, before those behind it
+-- a list has a token for each entry, and one more, before those that come after
 longer : {X : Type 0} (written : X → List Token → List Token) → ((x : X) (ts : List Token) → length ts < length (written x ts)) → (xs : List X) (ts : List Token) → length xs + length ts < length (list_tokens written xs ts)
 longer written more [] ts = omega arith
 longer written more (x ∷ xs) ts = omega (arith, longer written more xs ts, more x (list_tokens written xs ts))

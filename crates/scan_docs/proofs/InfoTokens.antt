@@ -1,4 +1,4 @@
--- The tokens of an info's text, and what they are parsed as.
+-- The tokens of an info's text.
 use Rattle.std.proofs.Common.{◌≡◌, ℕ, List, [], ◌∷◌, ◌++◌, map, true, false, codes, decimal, refl, ap, ◌∙◌, append_assoc}
 use Rattle.std.specs.Fmt.{digits}
 use Rattle.std.specs.List.{flat_map}
@@ -23,7 +23,7 @@ before_brace s r = string_read s (125 ∷ r) (end_object ∷ tokens_after r) ref
 
 -- ---- a list
 
--- entries as tokens, before those behind them
+-- entries as tokens, before those that come after them
 abbrev pub list_tokens : {X : Type 0} → (X → List Token → List Token) → List X → List Token → List Token
 list_tokens written [] ts = end_array ∷ ts
 list_tokens written (x ∷ xs) ts = written x (list_tokens written xs ts)
@@ -46,7 +46,7 @@ module _ {X : Type 0} (tree : X → Data) (written : X → List Token → List T
 abbrev pub requirement_tokens : List ℕ × List ℕ → List Token → List Token
 requirement_tokens p ts = begin_object ∷ key_token (codes "bmi") ∷ string_token p.1 ∷ key_token (codes "name") ∷ string_token p.0 ∷ end_object ∷ ts
 
--- a member that is a text, before what stands behind it
+-- a member that is a text, before what comes after it
 abbrev pub member_text : List ℕ → List ℕ → List ℕ → List ℕ
 member_text key s r = 34 ∷ key ++ 34 ∷ 58 ∷ 34 ∷ (flat_map escaped s ++ 34 ∷ r)
 

@@ -48,12 +48,12 @@ key_token = text_token true
 abbrev pub string_token : List ℕ → Token
 string_token = text_token false
 
--- the tokens behind a value
+-- the tokens after a value
 abbrev pub tokens_after : List ℕ → List Token
 unfolding serde_json_on_literals
 tokens_after = the (λ f. (xs : List ℕ) → tokens (93 ∷ xs) ≡ end_array ∷ f xs) _ (λ xs. refl)
 
--- the tokens behind a comma
+-- the tokens after a comma
 abbrev pub tokens_next : List ℕ → List Token
 unfolding serde_json_on_literals
 tokens_next = the (λ f. (xs : List ℕ) → tokens_after (44 ∷ xs) ≡ f xs) _ (λ xs. refl)
