@@ -1,13 +1,15 @@
-"""Compares the tables of docs/PROVED.md with the sources, and looks for public calls that no test makes.
+"""Compares docs/PROVED.md and the pages of the crates with the sources, and looks for public calls that no test makes.
 
-    python3 -m unittest tests.reading       each row of a table, and each public call that may answer that memory was refused
-    python3 -m tests.reading --write        puts the table of what one has to read into docs/PROVED.md
+    python3 -m unittest tests.reading       each row of a table, each example and each file that a page names, and each public
+                                            call that may answer that memory was refused
+    python3 -m tests.reading --write        puts the table of what one has to read into docs/PROVED.md, and the examples into
+                                            the pages of the crates
 
-That table counts lines for theorems, each of which is the contract of a call, or one clause of it. A line of `specs/` counts
+The table of what one has to read counts lines for theorems, each of which is the contract of a call, or one clause of it. A line of `specs/` counts
 where it belongs to a definition (the comment above it, its type and its body) that the contract names, or that a definition
 which counts names. Not counted are types that are declared in `src/`, and the words of the kit's library.
 
-No clause can say that memory is left, so a body that answers want of memory whenever it is called would be proved. A public
+No clause can say that memory is left, so a body that answers whenever it is called that memory was refused would be proved. A public
 call whose result has that answer is therefore made by a test, or by code of another crate, which the program's tests run.
 """
 import re
@@ -22,7 +24,7 @@ CRATES = [line.split(":")[0] for line in (TOP.parent / "crates.txt").read_text()
 COMMANDS = ("one_run", "collate_run", "project_run", "effect_run", "order_run", "show_run")
 # How the table calls a theorem; its crate, its call, and its clause, or "" for the whole contract.
 THEOREMS = [(f"`{call}`", "commands", call, "") for call in COMMANDS] + [("the headline", "collate_core", "collate", "headline")]
-HEAD = [f"| file in `crates/` | its lines | to read for {' | '.join(theorem[0] for theorem in THEOREMS)} | names |",
+HEAD = [f"| file in `crates/*/specs/` | its lines | to read for {' | '.join(theorem[0] for theorem in THEOREMS)} | names |",
         "|---" * (len(THEOREMS) + 3) + "|"]
 BEGINNING = re.compile(r"^(?:abbrev|unfoldable|pub record|pub data) (?:pub )?(\S+)", re.M)
 DECLARED = re.compile(r"\b(?:abbrev|unfoldable|record|data|fn|struct|enum|trait|ensures|ghost) (?:pub )?(\w+)|^ +(?:pub )?(\w+) :", re.M)
@@ -89,18 +91,26 @@ def rests_on(crate, call, clause):
     return done
 
 
+def shown(file):
+    """How the table writes the name of a file."""
+    return file.replace("/specs/", "/")
+
+
 def reading_table(old):
     """The rows, in the order of the old ones; a file that is new comes last."""
     read = [rests_on(*theorem[1:]) for theorem in THEOREMS]
     order = re.findall(r"^\| `([^`]+)` \|", old, re.M)
+
+    def index(file):
+        return (order + [shown(file)]).index(shown(file)), file
     rows, counts = [], []
-    for file in sorted({file for one in read for file, _ in one}, key=lambda file: ((order + [file]).index(file), file)):
+    for file in sorted({file for one in read for file, _ in one}, key=index):
         specs = SPECS[file]
         here = [[name for name in specs.definitions if (file, name) in one] for one in read]
         counts.append([sum(specs.definitions[name].count("\n") + 1 for name in names) for names in here])
         names = [f"`{name}`" for name in specs.definitions if any(name in one for one in here)]
         listed = "all" if len(names) == len(specs.definitions) else ", ".join(names)
-        rows.append(f"| `{file}` | {specs.length} | {' | '.join(str(count or '') for count in counts[-1])} | {listed} |")
+        rows.append(f"| `{shown(file)}` | {specs.length} | {' | '.join(str(count or '') for count in counts[-1])} | {listed} |")
     sums = [f"{sum(column)} of {sum(map(bool, column))} files" for column in zip(*counts)]
     return HEAD + rows + [f"| in all | | {' | '.join(sums)} | |"]
 
@@ -124,7 +134,7 @@ def unknown(crate, row):
         yield from (one for one in quoted if one not in files and re.search(r"\w", one) and one.split("::")[-1] not in known)
 
 
-# ---- public calls that can want memory
+# ---- public calls that can answer that memory was refused
 
 HEADER = re.compile(r"^( *)(pub )?(?:pub\(\w+\) )?fn (\w+)(.*?)(?=;$| \{$|^ *\{$|^ *(?:requires|ensures)\b)", re.M | re.S)
 IMPL = re.compile(r"^impl(?:<[^{]*?>)? (?:([\w:]+)(?:<[^{]*?>)? for )?(\w+)[^{]*\{$.*?^\}$", re.M | re.S)
@@ -225,14 +235,48 @@ def by_file(table):
 
 
 def table_in(page):
-    return re.search(r"^\| file in `crates/` (?:.*\n(?=\|))*.*", page, re.M)[0]
+    return re.search(r"^\| file in `crates/.*\n(?:\|.*\n)*", page, re.M)[0].rstrip("\n")
 
 
-def rows_of_calls(page):
-    """Each row of the tables of calls and laws, and its crate."""
-    for crate, section in re.findall(r"^## `(\w+)`(.*?)(?=^## |\Z)", page, re.M | re.S):
-        tables = "".join(re.findall(r"^\| call or law .*\n\|-.*\n((?:\|.*\n)*)", section, re.M))
-        yield from ((crate, row) for row in re.findall(r"^\|.*\|$", tables, re.M))
+# ---- the pages
+
+def page_of(crate):
+    return TOP / crate / "README.md"
+
+
+def rows_of_calls():
+    """Each row of the tables of calls and laws, and its crate: in docs/PROVED.md the one that the section's heading names."""
+    pages = [(crate, page_of(crate).read_text()) for crate in CRATES]
+    for heading, section in re.findall(r"^## (.*)\n(.*?)(?=^## |\Z)", PAGE.read_text(), re.M | re.S):
+        pages += [(crate, section) for crate in CRATES if heading.endswith(f"`{crate}`")]
+    for crate, page in pages:
+        for table in re.findall(r"^\| call or law .*\n\|-.*\n((?:\|.*\n)*)", page, re.M):
+            yield from ((crate, row) for row in table.splitlines())
+
+
+EXAMPLES = {path.stem.removesuffix("_example"): path for path in sorted((TOP / "library_tests/src/examples").glob("*.rt"))}
+QUOTED = re.compile(r"(?<=^```rust\n).*?(?=^```$)", re.M | re.S)
+
+
+def example(path):
+    """What a page quotes of an example: all that comes after the lines that say what it is."""
+    return re.sub(r"^(//!.*\n)+", "", path.read_text())
+
+
+def with_example(page, path):
+    """The page of a crate with the example in the block of code after its name."""
+    name = re.escape(f"`{path.relative_to(TOP.parent).as_posix()}`")
+    return re.sub(rf"({name}:\n\n```rust\n).*?(?=^```$)", lambda found: found[1] + example(path), page, flags=re.M | re.S)
+
+
+def named_files(page):
+    """The files that a page names by their paths from the top, or that it links to; NAME is any name."""
+    text = page.read_text()
+    for name in re.findall(r"`((?:bench|crates|docs|examples|tests)/[^\s`]*)`", text):
+        if not name.endswith("/out"):
+            yield TOP.parent, name.replace("NAME", "*")
+    for name in re.findall(r"\]\((?!https?:|#)([^)#]+)", text):
+        yield page.parent, name
 
 
 class Reading(unittest.TestCase):
@@ -246,11 +290,34 @@ class Reading(unittest.TestCase):
 
     def test_rows_of_calls(self):
         """The sources have what a row names."""
-        rows = list(rows_of_calls(PAGE.read_text()))
-        self.assertEqual({crate for crate, _ in rows}, {crate for crate in CRATES if "_tests" not in crate and crate != "dyncollate"})
+        rows = list(rows_of_calls())
+        self.assertEqual({crate for crate, _ in rows}, {crate for crate in CRATES if crate not in ("dyncollate", "library_tests")})
         for crate, row in rows:
             with self.subTest(crate=crate, row=row):
                 self.assertEqual(list(unknown(crate, row)), [])
+
+    def test_examples(self):
+        """The page of a library quotes its example: python3 -m tests.reading --write"""
+        self.assertEqual(set(EXAMPLES), set(CRATES) - {"command_line", "commands", "dyncollate", "library_tests"})
+        for crate, path in EXAMPLES.items():
+            with self.subTest(crate):
+                self.assertIn(example(path), QUOTED.findall(page_of(crate).read_text()))
+
+    def test_quotations(self):
+        """Code in the page of a crate is, word for word, in a file that the page names before it."""
+        for crate in CRATES:
+            page = page_of(crate).read_text()
+            for block in QUOTED.finditer(page):
+                files = [TOP.parent / name for name in re.findall(r"`(crates/[^`]+\.rt)`", page[:block.start()])]
+                with self.subTest(crate, code=block[0]):
+                    self.assertTrue(any(block[0] in file.read_text() for file in files))
+
+    def test_named_files(self):
+        """The files that a page names are there."""
+        for page in [TOP.parent / "README.md", TOP.parent / "CONTRIBUTING.md", *TOP.parent.glob("docs/*.md"), *TOP.glob("*/README.md")]:
+            for folder, name in named_files(page):
+                with self.subTest(page.relative_to(TOP.parent).as_posix(), name=name):
+                    self.assertTrue(any(folder.glob(name)) if "*" in name else (folder / name).exists())
 
     def test_public_calls(self):
         """A test or another crate makes each public call that may answer that memory was refused."""
@@ -268,6 +335,8 @@ def main():
     page = PAGE.read_text()
     old = table_in(page)
     PAGE.write_text(page.replace(old, "\n".join(reading_table(old))))
+    for crate, path in EXAMPLES.items():
+        page_of(crate).write_text(with_example(page_of(crate).read_text(), path))
     return 0
 
 

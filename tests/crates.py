@@ -1,0 +1,56 @@
+"""The picture of the crates in docs/ARCHITECTURE.md is that of crates.txt.
+
+    python3 -m unittest tests.crates        compares the two
+    python3 -m tests.crates --write         puts the picture into the page
+
+An arrow leads from a crate to one that it uses. Left out are the kit's libraries, and arrows to what a crate also uses through
+another.
+"""
+import re
+import sys
+import unittest
+from pathlib import Path
+
+TOP = Path(__file__).resolve().parent.parent
+PAGE = TOP / "docs/ARCHITECTURE.md"
+PICTURE = re.compile(r"(?<=^```mermaid\n).*?(?=^```$)", re.M | re.S)
+
+
+def uses(text):
+    """The repository's crates that each crate uses, in the order of crates.txt."""
+    lines = [line.split(":") for line in text.splitlines()]
+    crates = [name for name, _ in lines]
+    return {name: [one for one in crates if one in used.split()] for name, used in lines}
+
+
+def picture(used):
+    below = {}
+    for crate in used:  # each comes after those that it uses
+        below[crate] = set(used[crate]).union(*(below[one] for one in used[crate]))
+    lines = ["flowchart BT"]
+    for crate, ones in used.items():
+        through = set().union(*(below[one] for one in ones))
+        lines += [f"  {crate} --> {one}" for one in ones if one not in through] or [f"  {crate}"]
+    return "\n".join(lines) + "\n"
+
+
+class Crates(unittest.TestCase):
+    def test_picture(self):
+        """python3 -m tests.crates --write"""
+        self.assertEqual(PICTURE.findall(PAGE.read_text()), [picture(uses((TOP / "crates.txt").read_text()))])
+
+    def test_arrows(self):
+        """A crate that is used through another has no arrow of its own."""
+        used = uses("low: std_library\nmiddle: low\nhigh: low middle\n")
+        self.assertEqual(picture(used), "flowchart BT\n  low\n  middle --> low\n  high --> middle\n")
+
+    def test_table(self):
+        """The table of the page has each crate, once and in the order of crates.txt."""
+        rows = re.findall(r"^\| \[`(\w+)`\]\(\.\./crates/\1\) \|", PAGE.read_text(), re.M)
+        self.assertEqual(rows, list(uses((TOP / "crates.txt").read_text())))
+
+
+if __name__ == "__main__":
+    if sys.argv[1:] != ["--write"]:
+        raise SystemExit(__doc__)
+    PAGE.write_text(PICTURE.sub(lambda _: picture(uses((TOP / "crates.txt").read_text())), PAGE.read_text()))
