@@ -1,4 +1,4 @@
-"""The pages, and the lines `//!` and `///` of the crates below, are in plain English, as the Rust book and the Ninja manual are.
+"""The pages, and the lines `//!` and `///` of the sources, are in plain English, as the Rust book and the Ninja manual are.
 
     python3 -m unittest tests.words
 
@@ -9,8 +9,6 @@ import unittest
 from pathlib import Path
 
 TOP = Path(__file__).resolve().parent.parent
-# The crates whose lines `//!` and `///` are read.
-CRATES = ("library_tests",)
 
 # A turn, what is written in its place, and the same thing said by both.
 TURNS = [
@@ -69,10 +67,11 @@ class Words(unittest.TestCase):
                 self.assertEqual(list(wrong(page.read_text())), [])
 
     def test_doc_lines(self):
-        for crate in CRATES:
-            for path in sorted((TOP / "crates" / crate / "src").rglob("*.rt")):
-                with self.subTest(path.relative_to(TOP).as_posix()):
-                    self.assertEqual(list(wrong(documented(path))), [])
+        sources = sorted(TOP.glob("crates/*/src/**/*.rt"))
+        self.assertTrue(sources)
+        for path in sources:
+            with self.subTest(path.relative_to(TOP).as_posix()):
+                self.assertEqual(list(wrong(documented(path))), [])
 
 
 if __name__ == "__main__":

@@ -76,7 +76,7 @@ pub enum EffectFault {
 }
 
 impl EffectFault {
-    /// The file that the fault is about, but for a text that is no path.
+    /// The file that the fault is about, except for a text that is no path.
     pub fn path(&self) -> Option<&Path>
         ensures { option_copied result ≡ effect_fault_path self.now }
     {

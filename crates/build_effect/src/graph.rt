@@ -36,7 +36,7 @@ impl Graph {
     /// which Ninja takes no build statement (Ninja 1.11 manual, "Build statements").
     ///
     /// E1 `ProducedTwice`: a file is made twice; the first that is made again is reported, over the
-    /// edges in order and in each over its outputs before its implicit outputs. Else E2
+    /// edges in order and in each over its outputs before its implicit outputs. Or E2
     /// `DyndepNotInput`: an edge names a dyndep file that is not among its inputs of any kind
     /// ("Dynamic dependencies"); the first such edge is reported. The edges are dropped then, and
     /// where memory is refused.

@@ -63,8 +63,8 @@ pub fn one_listing_fault()
 {}
 
 /// Each line is of one class at most, and has one cause of refusal at most. After lines that some
-/// listing begins with, it is of a class with which one goes on, or it has a cause, and not both. A
-/// line with another cause than `Form` is of no class at all.
+/// listing begins with, it is of a class with which one continues, or it has a cause, and not both.
+/// A line with another cause than `Form` is of no class at all.
 pub fn listing_lines()
     ensures class { OneClass }
     ensures decided { LineOrCause }

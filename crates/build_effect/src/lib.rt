@@ -5,7 +5,7 @@
 //!
 //! - A [`Graph`] is a list of [`Edge`]s, each with an output. [`Graph::new`] takes every such list
 //!   in which no file is made twice and each edge that names a dyndep file has it among its inputs,
-//!   and else answers E1 or E2 (`specs/Graphs.antt`, `IsGraph`; `specs/Faults.antt`,
+//!   and otherwise answers E1 or E2 (`specs/Graphs.antt`, `IsGraph`; `specs/Faults.antt`,
 //!   `IsGraphFault`).
 //! - [`ListingReader`] reads a listing of edges that comes in pieces of any size. For every cutting
 //!   the answer is the graph of the edges that the form gives the whole text, or the first faulty
@@ -16,9 +16,9 @@
 //!   that is too long, E9, before the first byte. After a failed write, Y3, a beginning of the text
 //!   went out (`specs/ListingWriting.antt`, `listing_text`, `first_too_long`).
 //! - [`apply`] answers the graph after the effect of a dyndep file. The effect is a relation of two
-//!   graphs: the answer has it, and no other graph does. Else it answers the first fault in the
-//!   order E8, E5, E4, E6, E7, and then no graph has the effect (`specs/Effect.antt`, `OnlyEffect`,
-//!   `HasNoEffect`; `specs/Faults.antt`, `IsEffectFault`).
+//!   graphs: the answer has it, and no other graph does. Otherwise it answers the first fault in
+//!   the order E8, E5, E4, E6, E7, and then no graph has the effect (`specs/Effect.antt`,
+//!   `OnlyEffect`, `HasNoEffect`; `specs/Faults.antt`, `IsEffectFault`).
 //! - [`edge_order`] answers an order in which each edge is after the makers of its inputs of
 //!   all kinds, or the least cycle (`specs/Graphs.antt`, `EdgeNeeds`).
 //!
@@ -27,7 +27,7 @@
 //! any order, and when the graph can be ordered afterwards (`specs/Premises.antt`, `Checks.antt`,
 //! `Files.antt`, `Numbering.antt`). [`one_listing`], [`listing_or_fault`] and [`one_listing_fault`]
 //! say that a text lists one list of edges or has one fault, and not both, [`listing_lines`] that a
-//! line goes on with a listing or has one cause why not, and [`written_listing`] that what is
+//! line continues a listing or has one cause why not, and [`written_listing`] that what is
 //! written of a graph reads back, where its rules have names that listings have
 //! (`specs/ListingReading.antt`, `ListingLaws.antt`).
 //!
@@ -55,8 +55,8 @@
 //!   clauses of [`apply`], and those of `makers.rt` and `needs.rt` that of [`edge_order`]. A plain
 //!   call has the clauses of the call with a hasher. [`GraphFault::path`] has nothing else to lend.
 //!
-//! It stands on `ninja_text` for paths and lines, on `dyndep_file` for statements, on `dep_order`
-//! for orders and cycles, on `indexmap` for look-ups, and on `thiserror` for its fault types.
+//! It uses `ninja_text` for paths and lines, `dyndep_file` for statements, `dep_order` for
+//! orders and cycles, `indexmap` for look-ups, and `thiserror` for its fault types.
 #![tactic(auto)]
 
 mod added;

@@ -30,10 +30,10 @@ use std::hash::{BuildHasher, BuildHasherDefault, FoldHasher};
 /// file, the info and, with a style, a map for each object (P1689R5 for the scan documents, the
 /// Ninja 1.11 manual, "Dynamic dependencies", for the dyndep file).
 ///
-/// It succeeds exactly where the target has no [`Refusal`], want of memory aside, and else reports
-/// the first in the order of that type; [`one_outcome`](crate::one_outcome) says so of both.
-/// What is answered has the headline: whatever build names the dyndep file on exactly the objects,
-/// the file adds to each object's edge exactly what the object provides and requires.
+/// It succeeds exactly where the target has no [`Refusal`], unless memory is refused, and otherwise
+/// reports the first in the order of that type; [`one_outcome`](crate::one_outcome) says so of
+/// both. What is answered has the headline: whatever build names the dyndep file on exactly the
+/// objects, the file adds to each object's edge exactly what the object provides and requires.
 pub fn collate<M: MapStyle>(
     alloc: Global,
     target: &Target<'_>,

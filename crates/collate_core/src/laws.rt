@@ -42,7 +42,7 @@ pub fn project_maps()
 
 /// A target that collates has no refusal, and a target has one at most; and so it is with a project
 /// whose targets all collate, and with any project: `collate` and `project` succeed exactly where
-/// there is none, and else report the one that there is, want of memory aside.
+/// there is none, and otherwise report the one that there is, unless memory is refused.
 pub fn one_outcome()
     ensures collate { CollatedIsNotRefused }
     ensures one { OneRefusal }

@@ -3,7 +3,7 @@
 //!
 //! - [`collate`] takes the scan documents of a target and the infos of the targets that it links.
 //!   It succeeds exactly where none of the faults of [`Refusal`] is present
-//!   (`specs/Collation.antt`, `Collates`), and else reports the first in that order
+//!   (`specs/Collation.antt`, `Collates`), and otherwise reports the first in that order
 //!   (`specs/Refusals.antt`, `IsRefusal`). The law [`one_outcome`] says that there is never both,
 //!   nor two refusals.
 //!   [`collate_dyndep`] answers the dyndep text alone (`specs/Headline.antt`, `IsDyndepOf`).
@@ -41,8 +41,8 @@
 //! A target has five types, by what is known of it: `TargetSpec` of `scan_docs` is what its target
 //! document says, with the names of its files; a [`Target`] has the files' bytes, and is what
 //! [`collate`] takes; a [`ProjectTarget`] links earlier targets of its project in place of infos,
-//! and is what [`project`] takes; a [`Collated`] is what either comes to, and [`CollatedParts`] are
-//! its texts, given up to be written.
+//! and is what [`project`] takes; a [`Collated`] is what either makes of them, and
+//! [`CollatedParts`] are its texts, given up to be written.
 //!
 //! `must-fail/` has a wrong body of each public function but of the laws, which have none.
 #![tactic(auto)]

@@ -65,7 +65,7 @@ impl<'a> Task<'a> {
 ///
 /// A call is the name of a command and exactly as many operands as it takes. The first `--` after
 /// the command is dropped; before it an argument of two or more bytes that begins with `-` is a
-/// flag, which no call has. Every other argument is an operand as it stands, the empty one and `-`
+/// flag, which no call has. Every other argument is an operand as it is, the empty one and `-`
 /// too.
 pub fn task_of<'a>(alloc: Global, arguments: &'a [String]) -> Result<Option<Task<'a>>, AllocError>
     ensures { IfOk result (AreCallOf (map string_bytes arguments.now)) }

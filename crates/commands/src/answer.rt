@@ -117,7 +117,7 @@ pub(crate) fn visible(byte: u8) -> u8
     if byte < 32 || byte == 127 { b'?' } else { byte }
 }
 
-/// How a part of a run ends that has this answer, or none for want of memory.
+/// How a part of a run ends that has this answer, or none where memory was refused.
 pub(crate) fn ended<T>(answer: Result<Answer, AllocError>) -> Result<T, Failure<Answer>>
     ensures { result ≡ ended answer }
 {

@@ -193,7 +193,7 @@ pub(crate) fn files_of(
     Ok(files)
 }
 
-/// Puts a file of this name behind those that are there.
+/// Appends a file of this name.
 fn push_file(
     alloc: Global,
     files: &mut Vec<(String, Vec<u8>)>,

@@ -1,6 +1,6 @@
 //! The commands of the program `dyncollate`, from a task to what the program answers: its exit
 //! status, its texts for standard output and standard error, and the files to be written; and what
-//! is written and printed of that. No function makes a call of the system: `main` hands in a
+//! is written and printed of that. No function makes a call of the system: `main` passes a
 //! [`Folder`] and two writers.
 //!
 //! - [`task_run`] reads the file of a task from a folder and calls the command (`specs/Runs.antt`).
@@ -14,15 +14,15 @@
 //! - [`Answer`] is what a command answers, and the line that it fails with (`specs/Answers.antt`).
 //! - `reading` reads files from a folder, `target_document` is an accepted target document, and
 //!   `project_targets` reads the targets of a project.
-//! - `listing` and `dyndep_text` read listings and dyndep files, and `edges` checks the edges that a
-//!   target document names.
+//! - `listing` and `dyndep_text` read listings and dyndep files, and `edges` checks the edges that
+//!   a target document names.
 //! - `refusal` reports why a target is refused, `table_fault` why its modules have no table, and
 //!   `edge_fault` what is wrong with edges.
 //!
 //! The definitions that only private clauses speak of are in `specs/inner/`.
 //!
-//! It stands on the other library crates of this repository, of which `command_line` says what a
-//! task is, and on `indexmap` for the table of the infos that a project writes.
+//! It uses the other library crates of this repository, of which `command_line` says what a
+//! task is, and `indexmap` for the table of the infos that a project writes.
 #![tactic(auto)]
 
 mod answer;

@@ -45,7 +45,7 @@ fn graph_run(alloc: Global, keys: RandomState, graph: &Graph) -> Result<Answer, 
     }
 }
 
-/// The first output of each of these edges, one a line. Control bytes are printed as `?`.
+/// The first output of each of these edges, one per line. Control bytes are printed as `?`.
 fn order_text(alloc: Global, edges: &[Edge], order: &[usize]) -> Result<Vec<u8>, AllocError>
     ensures { IfOk result (λ text. text.items ≡ order_text edges.now order.now) }
 {

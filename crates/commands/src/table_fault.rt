@@ -166,7 +166,7 @@ fn target_name<'t>(names: &[&'t TargetName], index: usize) -> &'t [u8]
     }
 }
 
-/// The parts, one behind the other.
+/// The parts, one after the other.
 pub(crate) fn joined(alloc: Global, parts: &[&[u8]]) -> Result<Vec<u8>, AllocError>
     ensures { IfOk result (λ text. text.items ≡ flat_map (λ part. part.now) parts.now) }
 {

@@ -30,8 +30,8 @@ pub fn components_of(
     Ok(components)
 }
 
-/// Gives the number to the root and to all that users lead to from it, but for the nodes that have
-/// one.
+/// Gives the number to the root and to all that users lead to from it, except for the nodes that
+/// have one.
 fn add_component(
     alloc: Global,
     users: &[&[usize]],

@@ -2,12 +2,12 @@
 //! node reaches.
 //!
 //! Nodes are numbered from 0. `order` answers all nodes, each after what it needs, by smallest
-//! numbers, or else the least cycle; `reach` answers what chains of needs lead to, and `Reaching`
+//! numbers, or the least cycle; `reach` answers what chains of needs lead to, and `Reaching`
 //! the same from one node after the other. One clause says all of each: `IsSortingOf` of
 //! `specs/Sortings.antt`, which rests on `specs/Orders.antt` and `specs/Cycles.antt`, and
-//! `IsReach` and `AreReached` of `specs/Needs.antt`. The only error is want of memory. The module
-//! `laws` has the laws of these definitions: there is at most one order and one least cycle, and an
-//! order exactly where there is no cycle.
+//! `IsReach` and `AreReached` of `specs/Needs.antt`. The only error is that memory was refused. The
+//! module `laws` has the laws of these definitions: there is at most one order and one least cycle,
+//! and an order exactly where there is no cycle.
 //!
 //! The definitions speak of any relation between numbered things. A caller with needs of its own
 //! makes the digraph of the same needs, and carries the answer over with the lemmas of
@@ -29,8 +29,8 @@
 //! - What only the clauses of these private functions speak of is defined below `specs/inner`:
 //!   users, spans, marks, steps and so on.
 //!
-//! Work grows linearly with the nodes and needs, but for a logarithm in ordering nodes, and no call
-//! recurses. The crate depends on `std` alone.
+//! Work grows linearly with the nodes and needs, except for a logarithm in ordering nodes, and no
+//! call recurses. The crate depends on `std` alone.
 //!
 //! `must-fail/` has a wrong body of each public function but of the laws, which have none.
 //!
@@ -136,8 +136,8 @@ pub enum Sorting {
     Cycle(Vec<usize>),
 }
 
-/// The order by smallest numbers, or the least cycle where the needs have no order. The error is
-/// want of memory alone.
+/// The order by smallest numbers, or the least cycle where the needs have no order. The only error
+/// is that memory was refused.
 pub fn order(alloc: Global, graph: &Digraph) -> Result<Sorting, AllocError>
     ensures { IfOk result (IsSortingOf (length graph.now) (NodeNeeds graph.now)) }
 {
@@ -145,8 +145,8 @@ pub fn order(alloc: Global, graph: &Digraph) -> Result<Sorting, AllocError>
     sort_nodes(alloc, needs.as_slice())
 }
 
-/// The node itself and all that chains of needs lead to from it, in rising order. The error is want
-/// of memory alone.
+/// The node itself and all that chains of needs lead to from it, in rising order. The only error is
+/// that memory was refused.
 pub fn reach(alloc: Global, graph: &Digraph, from: usize) -> Result<Vec<usize>, AllocError>
     requires { from < length graph.now }
     ensures { IfOk result (λ reached. IsReach (NodeNeeds graph.now) from reached.items) }

@@ -1,4 +1,4 @@
-//! Numbers given to nodes, as a search comes to them.
+//! Numbers given to nodes, as a search finds them.
 ghost use Rattle.std.specs.Prelude.{◌<◌, All, OnOk, length};
 ghost use Rattle.dep_order.specs.inner.Marks.{AreMarked};
 

@@ -31,7 +31,7 @@ impl<'g> Model for Reaching<'g> {
 }
 
 impl<'g> Reaching<'g> {
-    /// A search in the digraph. The error is want of memory alone.
+    /// A search in the digraph. The only error is that memory was refused.
     pub fn new(alloc: Global, graph: &'g Digraph) -> Result<Reaching<'g>, AllocError>
         ensures { IfOk result (λ reaching. reaching ≡ graph.now) }
     {
@@ -40,7 +40,7 @@ impl<'g> Reaching<'g> {
     }
 
     /// The node itself and all that chains of needs lead to from it, each once, in no set order.
-    /// The error is want of memory alone, and the search may go on after it.
+    /// The only error is that memory was refused, and the search may continue after it.
     pub fn from(&mut self, alloc: Global, node: usize) -> Result<Vec<usize>, AllocError>
         requires { node < length self.old }
         ensures same { self.new ≡ self.old }

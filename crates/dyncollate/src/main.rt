@@ -4,12 +4,12 @@
 //! Status 0: done. 1: refused. 2: the arguments are no proper call. 3: a file could not be read or
 //! written, or memory was refused. For each but 0 one line on standard error says why.
 //!
-//! What it does between the calls of the system stands, with its promises, in the libraries
+//! What it does between the calls of the system is, with its promises, in the libraries
 //! `command_line` and `commands`. What is left to `main` is to get the arguments and random bytes,
 //! to hand the files of the system to `commands` as a folder, and to end with the status.
 //!
-//! It stands on `command_line` for the task of its arguments, on `commands` for a run from its task
-//! to what is printed, and on `ninja_text` for writers whose calls are counted.
+//! It uses `command_line` for the task of its arguments, `commands` for a run from its task to what
+//! is printed, and `ninja_text` for writers whose calls are counted.
 #![tactic(auto)]
 
 mod system_files;

@@ -1,6 +1,6 @@
 //! The files of the system, as a folder.
 //!
-//! A file is replaced whole: its bytes go to a new file beside it, which is then renamed. Whoever
+//! A file is replaced whole: its bytes go to a new file next to it, which is then renamed. Whoever
 //! opens the name meanwhile, or after a run that was killed, finds the bytes from before or the new
 //! ones. What no new file can take the place of, as a device, a pipe, or a file in a folder that
 //! may not be written, is written in place.
@@ -73,7 +73,7 @@ fn write_whole<R: Files + RandomSource + AllocGlobal>(
     }
 }
 
-/// A name beside this one that no other run has.
+/// A name next to this one that no other run has.
 fn name_beside<R: RandomSource + AllocGlobal>(rt: &R, name: &str) -> io::Result<String> {
     let mut bytes = [0; 8];
     rt.fill_bytes(&mut bytes)?;
@@ -81,8 +81,9 @@ fn name_beside<R: RandomSource + AllocGlobal>(rt: &R, name: &str) -> io::Result<
     Ok(format!(in rt.alloc(); "{name}.{number:016x}.tmp")?)
 }
 
-/// Writes the bytes to the file `new`, and renames it. Answers whether it could be made and renamed;
-/// that the disk is full, or that it could not be written, is an error, and the old file stays.
+/// Writes the bytes to the file `new`, and renames it. Answers whether it could be made and
+/// renamed; that the disk is full, or that it could not be written, is an error, and the old file
+/// stays.
 fn replace<R: Files>(
     rt: &R,
     name: &str,

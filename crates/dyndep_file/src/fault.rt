@@ -21,7 +21,7 @@ pub enum LineFault {
     /// A line that is neither a comment nor blank comes before the version line, or no version line
     /// comes at all.
     NoVersion,
-    /// The version is neither `1` nor `1.0`, or goes on as another number would.
+    /// The version is neither `1` nor `1.0`, or continues as another number would.
     BadVersion,
     /// A second version line.
     SecondVersion,

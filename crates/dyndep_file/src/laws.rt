@@ -22,7 +22,7 @@ pub fn one_fault()
     ensures { OneFault }
 {}
 
-/// A reader that goes on was fed no faulty line, and no line that is too long.
+/// A reader that continues was fed no faulty line, and no line that is too long.
 pub fn unrefused()
     ensures { GoesOnUnrefused }
 {}

@@ -20,8 +20,8 @@
 //!
 //! Definitions that only private clauses speak of are in `specs/inner/`.
 //!
-//! It stands on `ninja_text`, which cuts the lines, finds their tokens, spells paths and counts
-//! failed calls, and on `thiserror`, which derives `Error` for its faults.
+//! It uses `ninja_text`, which cuts the lines, finds their tokens, spells paths and counts
+//! failed calls, and `thiserror`, which derives `Error` for its faults.
 //!
 //! `must-fail/` has a wrong body of each public function but of the laws, which have none.
 #![tactic(auto)]

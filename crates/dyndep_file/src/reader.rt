@@ -49,8 +49,8 @@ impl DyndepReader {
     /// Takes the next piece of the text, all of it.
     ///
     /// The first faulty line is answered as soon as its end is there, and `LineTooLong` as soon as
-    /// 1,048,576 bytes hold no end; `Io` never. A reader that refused, for want of memory too,
-    /// answers the same from then on.
+    /// 1,048,576 bytes hold no end; `Io` never. After a refusal, `Memory` included, the
+    /// answer is the same from then on.
     pub fn feed(&mut self, piece: &[u8]) -> Result<(), Failure<ReadFault>>
         ensures failed { (failure : Failure ReadFault) → self.old.failed ≡ Some failure →
             (result ≡ Err failure) × (self.new ≡ self.old) }

@@ -13,7 +13,7 @@ use std::alloc::Global;
 /// Writes the text of a dyndep file.
 ///
 /// A path without a spelling and too long a build line are reported before the first byte, as is
-/// want of memory: the writer is as it was then. After an `Io` exactly so many bytes went out, and
+/// `Memory`: the writer is as it was then. After an `Io` exactly that many bytes went out, and
 /// they are a beginning of the text. Each call of the writer is given what is left of the text, and
 /// after a call that failed none is made.
 pub fn write<W: WriteCall>(

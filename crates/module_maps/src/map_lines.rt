@@ -1,5 +1,5 @@
-//! What the styles of module maps share, and what helps to write another: the paths that can be in a
-//! map, and how its lines are read.
+//! What the styles of module maps share, and what helps to write another: the paths that can be in
+//! a map, and how its lines are read.
 ghost use Rattle.std.specs.Prelude.{◌≡◌, ◌<◌, ◌≤◌, ◌==◌, ◌++◌, List, ℕ, [], ◌∷◌, length, map, Some, None, IfOk, OnOk, IfSome, MatchOption, option_copied, position};
 ghost use Rattle.ninja_text.specs.Failure.{Gives};
 ghost use Rattle.std.specs.List.{sum_by};
@@ -19,7 +19,7 @@ pub trait LineForm {
     /// How a line is read, without its end, after the entries of the lines before it.
     ghost form: { Self → LineForm };
 
-    /// The entry of a line, if it is of the form. `AllocError`: want of memory.
+    /// The entry of a line, if it is of the form. `AllocError`: memory was refused.
     fn entry(
         &self,
         alloc: Global,
@@ -31,7 +31,7 @@ pub trait LineForm {
 
 /// The entries that there are, and those of the lines of a text, which are numbered on from
 /// `number`, 3 at most: at most two lines are before them. Or K4 with the first
-/// line that is not of the form, or has no end. `Memory`: want of memory.
+/// line that is not of the form, or has no end. `Memory`: memory was refused.
 pub fn read_lines<F: LineForm>(
     alloc: Global,
     form: &F,
@@ -90,7 +90,7 @@ fn index_of(text: &[u8], mark: u8) -> Option<usize>
 }
 
 /// The module in a text: a name, the first byte that is the mark, and a path of a map.
-/// `AllocError`: want of memory.
+/// `AllocError`: memory was refused.
 pub fn pair_in(alloc: Global, mark: u8, text: &[u8]) -> Result<Option<(Name, Path)>, AllocError>
     ensures { IfOk result (λ pair. pair ≡ pair_in mark text.now) }
 {
@@ -118,7 +118,7 @@ fn name_in(alloc: Global, text: &[u8]) -> Result<Option<Name>, AllocError>
 }
 
 /// The text as a path of a map: the canonical text of a path, with no byte that needs quotes.
-/// `AllocError`: want of memory.
+/// `AllocError`: memory was refused.
 #[tactic(auto, unfolding(crate::specs::MapLines::path_in))]
 pub fn path_in(alloc: Global, text: &[u8]) -> Result<Option<Path>, AllocError>
     ensures { IfOk result (λ path. path ≡ path_in text.now) }
@@ -173,8 +173,8 @@ fn unfit_in(pairs: &[(Name, Path)]) -> Option<&Path>
     None
 }
 
-/// How many bytes the lines of modules have, each with so many beside its name and its path, or the
-/// greatest number where they have more.
+/// How many bytes the lines of modules have, each with that many besides its name and its path, or
+/// the greatest number where they have more.
 pub(crate) fn lines_len(pairs: &[(Name, Path)], beside: usize) -> usize
     ensures { result ≡ capped (sum_by (line_len beside) pairs.now) }
 {
@@ -190,7 +190,7 @@ pub(crate) fn lines_len(pairs: &[(Name, Path)], beside: usize) -> usize
     len
 }
 
-/// Adds the entries of modules, with their names. `AllocError`: want of memory.
+/// Adds the entries of modules, with their names. `AllocError`: memory was refused.
 pub fn push_named(
     alloc: Global,
     entries: &mut Vec<MapEntry>,
@@ -209,7 +209,7 @@ pub fn push_named(
     Ok(())
 }
 
-/// Adds the entries of modules, without their names. `AllocError`: want of memory.
+/// Adds the entries of modules, without their names. `AllocError`: memory was refused.
 pub fn push_nameless(
     alloc: Global,
     entries: &mut Vec<MapEntry>,

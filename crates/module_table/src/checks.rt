@@ -35,7 +35,7 @@ mod repeated;
 mod required;
 mod rings;
 
-/// What a table keeps beside its objects and infos, so that no look-up searches them.
+/// What a table keeps besides its objects and infos, so that no look-up searches them.
 #[derive(Drop)]
 pub(crate) struct Index<S: BuildHasher> {
     /// The names of all provided modules. A name's index is that of its module.

@@ -2,7 +2,7 @@
 //!
 //! [`Table::build`] makes a table of a target's rules and of the infos of the targets that it
 //! links. It succeeds exactly where none of the faults M1 to M10 is present (`specs/Faults.antt`,
-//! `IsFault`), and else reports one that is present, with its data, and of the lowest code
+//! `IsFault`), and otherwise reports one that is present, with its data, and of the lowest code
 //! (`IsReported`). What holds where none is present is stated in `specs/Sound.antt`. The law
 //! [`sound_tables`] says that this holds exactly there, and [`one_fault`] that no other fault is
 //! reported (`specs/Outcomes.antt`).
@@ -45,13 +45,13 @@
 //! That one list at most has exactly the pairs of a relation is in `proofs/ForCallers.antt`, which
 //! alone of the proofs is cited by other crates.
 //!
-//! It uses `scan_docs` for rules, infos and names, `ninja_text` for paths, `dep_order` for rings and
-//! for what a module leads to, `indexmap` for look-ups, and `thiserror` for its fault.
+//! It uses `scan_docs` for rules, infos and names, `ninja_text` for paths, `dep_order` for rings
+//! and for what a module leads to, `indexmap` for look-ups, and `thiserror` for its fault.
 //!
 //! `must-fail/` has a wrong body of each public function but of the laws, which have none, and of
-//! those that only hand on what a [`Resolved`] has: [`Table::objects`], [`Table::resolved`] and
+//! those that only pass on what a [`Resolved`] has: [`Table::objects`], [`Table::resolved`] and
 //! [`Table::into_resolved`]. `objects_left_out` and `required_by_the_first_object` are of what they
-//! hand on.
+//! pass on.
 #![tactic(auto)]
 
 mod checks;

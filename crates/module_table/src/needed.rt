@@ -78,7 +78,7 @@ impl<'t> Needs<'t> {
     }
 
     /// All modules that chains of requirements lead to from the object, in byte order of names. The
-    /// error is want of memory alone, and other objects may be asked for after it.
+    /// only error is that memory was refused, and other objects may be asked for after it.
     pub fn of(
         &mut self,
         alloc: Global,

@@ -17,7 +17,7 @@ use std::marker::Model;
 /// Feed it a piece; while a line waits, take it by `next_line` and feed the rest of the piece. A
 /// line ends at its first LF that no `$` before it escapes; in a comment, at its first LF. Of an
 /// unfinished line the cutter holds the bytes, at most [`LINE_LIMIT`] of them, and one small state,
-/// so that the search for its end goes on where it stopped.
+/// so that the search for its end continues where it stopped.
 #[derive(Drop)]
 pub struct LineCutter {
     buffer: Vec<u8>,
@@ -33,7 +33,7 @@ enum Phase {
     Waiting { text_len: usize },
     /// The buffer holds a line that was lent, and whose bytes count no more.
     Lent,
-    /// The line at hand is too long.
+    /// The line is too long.
     Failed,
 }
 
@@ -110,7 +110,7 @@ impl LineCutter {
         }
     }
 
-    /// The number of the line at hand, or of the one that comes next.
+    /// The number of the line that waits, or of the one that comes next.
     pub fn number(&self) -> u64
         ensures { result ≡ self.now.number }
     {
@@ -172,9 +172,9 @@ impl LineCutter {
     }
 }
 
-/// How far the line at hand goes into a piece.
+/// How far the line that is cut goes into a piece.
 enum Reach {
-    /// To its end, after so many bytes of the piece; its text has this length.
+    /// To its end, after that many bytes of the piece; its text has this length.
     Whole { taken: usize, text_len: usize },
     /// To the piece's end, and on.
     Part(ScanState),
@@ -182,7 +182,7 @@ enum Reach {
     TooLong,
 }
 
-/// The state of the line at hand. A line that was lent is given up.
+/// The state of the line that is cut. A line that was lent is given up.
 fn go_on(buffer: &mut Vec<u8>, phase: Phase) -> ScanState
     requires { IsGoing phase × PhaseFits phase buffer.old.items }
     ensures fits { PhaseFits (Phase.Gathering result) buffer.new.items }

@@ -1,4 +1,4 @@
-//! What a call answers that may want memory.
+//! What a call answers that may be refused memory.
 ghost use Rattle.std.specs.Prelude.{◌≡◌};
 ghost use Rattle.ninja_text.specs.Failure.{Turns, ForFault};
 
@@ -6,7 +6,8 @@ use std::alloc::{AllocError, AllocFailed};
 use std::fmt;
 use thiserror::Error;
 
-/// Why a call that may want memory gave no value: a growth was refused, or the input has a fault.
+/// Why a call that may be refused memory gave no value: a growth was refused, or the input has a
+/// fault.
 ///
 /// A fault type never speaks of memory itself, so a fault is always a fact about the input.
 #[derive(Clone, Copy, Debug, PartialEq, Eq, Error)]

@@ -33,7 +33,7 @@ impl fmt::Display for PathFault {
     }
 }
 
-/// Why a cutter gives no further line, with the number of the line at hand.
+/// Why a cutter gives no further line, with the number of the line.
 #[derive(Clone, Copy, Debug, PartialEq, Eq, Error)]
 pub enum CutFault {
     /// The first [`LINE_LIMIT`](crate::LINE_LIMIT) bytes of this line hold no end.

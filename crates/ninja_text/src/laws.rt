@@ -52,9 +52,9 @@ pub fn one_canonical_list()
     ensures only { (list other : List (List ℕ)) → ReducesTo list other → other ≡ reduced list }
 {}
 
-/// The path of a text has the components that the text's components come to, whatever the
-/// choice of steps, and is absolute where the text is; a text whose components come to none has no
-/// path; and each path has the shape that its name promises.
+/// The path of a text has the components that are left of the text's components, whatever the
+/// choice of steps, and is absolute where the text is; a text of whose components none are left has
+/// no path; and each path has the shape that its name promises.
 pub fn path_meaning()
     ensures path { (text path : List ℕ) → path_of text ≡ Ok path
         → (is_rooted path ≡ is_rooted text) × ReducesTo (components text) (parts path) }

@@ -12,8 +12,8 @@
 //!   (`specs/Lines.antt`, `specs/Cutting.antt`), and its buffer never passes [`LINE_LIMIT`] bytes.
 //! - [`LineReader`] reads bytes that come so into a [`LineState`], line by line: it answers the
 //!   state that all lines lead to, or the first line that is refused (`specs/LineReading.antt`).
-//! - What a text stands for, and which fault it has, is defined once for all formats whose lines are
-//!   each of a class (`specs/LineFormats.antt`), and what a reader of one has read too
+//! - What a text stands for, and which fault it has, is defined once for all formats whose lines
+//!   are each of a class (`specs/LineFormats.antt`), and what a reader of one has read too
 //!   (`specs/FormatReading.antt`). That a text has the one or the other, and only one, is proved of
 //!   each format whose single lines and ends have.
 //! - `specs/Firsts.antt` has words for what comes first in a list, for the crates above.
@@ -26,16 +26,16 @@
 //!   (`specs/Meanings.antt`), so that reader and writer mean the same.
 //! - [`Counted`] counts the failed calls of a reader or a writer, and writes a text up to the first
 //!   one (`specs/Counting.antt`).
-//! - [`Failure`] is what a call answers that may want memory (`specs/Failure.antt`).
+//! - [`Failure`] is what a call answers that may be refused memory (`specs/Failure.antt`).
 //! - How [`PathFault`], [`CutFault`] and [`LexFault`] are printed is proved too
 //!   (`specs/FaultTexts.antt`).
 //!
 //! Definitions that private clauses alone speak of are below `specs/inner/`, and what other
-//! crates cite of the proofs in `proofs/ForCallers.antt`. The crate stands on `std`, and on
+//! crates cite of the proofs in `proofs/ForCallers.antt`. The crate uses `std`, and
 //! `thiserror`, which derives `Error` for its faults.
 //!
 //! `must-fail/` has a wrong body of each public function but of the laws, which have none, and of
-//! [`Failure::map`] and [`Counted::into_inner`], which can only hand on values of any type.
+//! [`Failure::map`] and [`Counted::into_inner`], which can only pass on values of any type.
 #![tactic(auto)]
 
 mod assigning;

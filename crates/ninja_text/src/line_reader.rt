@@ -82,8 +82,8 @@ impl<F: Copy, S: LineState<Fault = F> + Drop> LineReader<S, F> {
     /// Takes the next piece of the text, all of it.
     ///
     /// The first line that the state refuses is answered as soon as its end is there, and
-    /// `LineTooLong` as soon as [`LINE_LIMIT`](crate::LINE_LIMIT) bytes hold no end. A reader that
-    /// refused, for want of memory too, answers the same from then on.
+    /// `LineTooLong` as soon as [`LINE_LIMIT`](crate::LINE_LIMIT) bytes hold no end. After a
+    /// refusal, `Memory` included, the answer is the same from then on.
     pub fn feed(&mut self, piece: &[u8]) -> Result<(), Failure<F>>
         ensures failed { StaysRefused self.old result self.new }
         // Whatever bytes it was fed before this piece, and whatever lines they were.

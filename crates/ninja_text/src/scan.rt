@@ -20,7 +20,7 @@ pub(crate) enum ScanState {
     DollarReturn,
 }
 
-/// Where a scan came to.
+/// Where a scan stopped.
 pub(crate) enum Scanned {
     /// The line ends: its text's length, and its own.
     End { text_len: usize, line_len: usize },

@@ -8,7 +8,7 @@ ghost use Rattle.ninja_text.specs.inner.PlainTexts.{is_dollar};
 /// A unit of a line that is no comment.
 #[derive(Clone, Copy)]
 pub(crate) enum LineUnit {
-    /// `$` and a line's end, with the spaces after it; so many bytes.
+    /// `$` and a line's end, with the spaces after it; that many bytes.
     Continuation(usize),
     /// `$` and this byte.
     Escape(u8),

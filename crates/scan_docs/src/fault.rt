@@ -101,7 +101,7 @@ pub(crate) fn bad_shape(place: Place, member: Member) -> Failure<DocFault>
     Failure::Fault(DocFault::BadShape { place, member })
 }
 
-/// The refusal of a path, or want of memory.
+/// The refusal of a path, or that memory was refused.
 pub(crate) fn bad_path(place: Place, failure: Failure<PathFault>) -> Failure<DocFault>
     ensures { Turns (λ fault other. other ≡ DocFault.BadPath place fault) failure result }
 {

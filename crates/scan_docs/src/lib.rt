@@ -4,7 +4,7 @@
 //! - [`scan`] reads the rules of a scan document, [`info_read`] what a target tells the targets
 //!   that link it, [`spec_read`] what a target is made of, and [`project_read`] which target
 //!   documents a project has. Each answers what the document means exactly where all checks hold,
-//!   and else the refusal of the first check that fails. The checks are lists in
+//!   and otherwise the refusal of the first check that fails. The checks are lists in
 //!   `specs/ScanChecks.antt`, `specs/InfoChecks.antt`, `specs/TargetChecks.antt` and
 //!   `specs/ProjectChecks.antt`, the meanings in `specs/Scan.antt`, `specs/Info.antt`,
 //!   `specs/Target.antt` and `specs/Project.antt`; `specs/Document.antt` puts them together.

@@ -55,8 +55,8 @@ impl ListingReader {
     /// Takes the next piece of the text, all of it.
     ///
     /// E3, the first faulty line, is answered as soon as its end is there, and `LineTooLong` as
-    /// soon as 1,048,576 bytes hold no end. A reader that refused, for want of memory too, answers
-    /// the same from then on.
+    /// soon as 1,048,576 bytes hold no end. After a refusal, `Memory` included, the answer is the
+    /// same from then on.
     pub fn feed(&mut self, piece: &[u8]) -> Result<(), Failure<LineFault>>
         ensures failed { (failure : Failure LineFault) → self.old.failed ≡ Some failure →
             (result ≡ Err failure) × (self.new ≡ self.old) }

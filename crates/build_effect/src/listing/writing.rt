@@ -15,8 +15,8 @@ use std::alloc::{AllocError, Global};
 /// Writes the edges of a graph as Ninja spells them (Ninja 1.11 manual, "Build statements"): for
 /// each its build line, and its bindings `dyndep` and `restat`.
 ///
-/// Too long a build line is reported before the first byte, as is want of memory: the writer is as
-/// it was then. After an `Io` exactly so many bytes went out, and they are a beginning of the text.
+/// Too long a build line is reported before the first byte, as is `Memory`: the writer is as it
+/// was then. After an `Io` exactly that many bytes went out, and they are a beginning of the text.
 pub fn listing_write<W: WriteCall>(
     alloc: Global,
     graph: &Graph,

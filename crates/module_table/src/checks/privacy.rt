@@ -71,7 +71,7 @@ pub(crate) fn check_infos_allowed<S: BuildHasher>(
     }
 }
 
-/// M10: each name that is to be private is one that an object provides.
+/// M10: each name that is to be private is provided by an object.
 pub(crate) fn check_kept<S: BuildHasher>(
     alloc: Global,
     modules: &Modules<S>,
