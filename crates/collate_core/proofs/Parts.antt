@@ -12,7 +12,7 @@ use Rattle.dyndep_file.specs.Reading.{StandsForOnly}
 use Rattle.scan_docs.specs.Scan.{RuleValue}
 use Rattle.scan_docs.specs.InfoText.{info_text, ReadsBack}
 use Rattle.module_table.specs.TableValue.{TableValue}
-use Rattle.module_table.specs.Faults.{IsFault, IsReported}
+use Rattle.module_table.specs.Faults.{IsFault}
 use Rattle.module_table.specs.Sound.{IsSound, KeptAreProvided}
 use Rattle.module_table.specs.declared.fault.TableFault.{TableFault}
 use Rattle.module_maps.specs.Maps.{Written}
@@ -23,7 +23,7 @@ use Rattle.collate_core.specs.Statements.{statements_of}
 use Rattle.collate_core.specs.Infos.{info_of_table}
 use Rattle.collate_core.specs.Collation.{IsMapText, AreMaps, Collates}
 use Rattle.collate_core.specs.Refusals.{IsRefusal}
-use Rattle.collate_core.specs.inner.Parts.{ForTable, IsWriteRefusal, IsMapsRefusal, IsTextsRefusal, HasSpelled}
+use Rattle.collate_core.specs.inner.Parts.{IsWriteRefusal, IsMapsRefusal, IsTextsRefusal, HasSpelled}
 use Rattle.collate_core.specs.declared.fault.Refusal.{Refusal}
 use Rattle.collate_core.specs.declared.fault.Refusal.TheVariants.{Scan, Info, Table, StatementTooLong, Map, LinkedLater}
 use Rattle.collate_core.proofs.Writing.{has_paths}
@@ -57,18 +57,6 @@ collates target style t ss c table same h =
 
 pub resolved : (target : TargetValue) (t : TableValue) → t ≡ table_of target → AreAccepted target → ((fault : TableFault) → IsFault t target.kept fault → ⊥) → IsSound t → KeptAreProvided t target.kept → IsResolved target
 resolved target t table documents no_fault sound kept = record { documents = documents; no_fault = subst (λ u. (fault : TableFault) → IsFault u target.kept fault → ⊥) table no_fault; sound = subst IsSound table sound; kept = subst (λ u. KeptAreProvided u target.kept) table kept }
-
-table_refusal : (target : TargetValue) → AreAccepted target → (refusal : Refusal) → ForTable (IsReported (table_of target) target.kept) refusal → (style : Option Written) → IsRefusal target style refusal
-table_refusal target documents (Table fault) h style = (documents, h)
-table_refusal target documents (Scan i fault) h style = absurd h
-table_refusal target documents (Info i fault) h style = absurd h
-table_refusal target documents (StatementTooLong k) h style = absurd h
-table_refusal target documents (Map o fault) h style = absurd h
-table_refusal target documents LinkedLater h style = absurd h
-
-pub table_refused : (target : TargetValue) → AreAccepted target → (failure : Failure Refusal) → ForFault (ForTable (IsReported (table_of target) target.kept)) failure → ForFault (λ refusal. (style : Option Written) → IsRefusal target style refusal) failure
-table_refused target documents Memory h = tt
-table_refused target documents (Fault refusal) h = table_refusal target documents refusal h
 
 write_refusal : (target : TargetValue) (style : Option Written) → IsResolved target → (refusal : Refusal) → IsWriteRefusal (statements_of (table_of target)) refusal → IsRefusal target style refusal
 write_refusal target style resolved (StatementTooLong k) h = (resolved, h)

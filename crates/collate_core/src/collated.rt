@@ -5,15 +5,26 @@ ghost use Rattle.collate_core.specs.Headline.{HasStatements};
 use ninja_text::Path;
 use std::marker::Model;
 
-/// What a target collates to: the text of its dyndep file, that of its info, its objects, and with
-/// a style the text of a map for each. It keeps them as one value, which has the headline. Only [`collate`](crate::collate) and
-/// [`project`](crate::project) make one.
-#[derive(Drop)]
+/// What a target collates to, as one value, which has the headline: the text of its dyndep file,
+/// that of its info, its objects, and with a style the text of a map for each. Only
+/// [`collate`](crate::collate) and [`project`](crate::project) make one.
 pub struct Collated {
     dyndep: Vec<u8>,
     info: Vec<u8>,
     objects: Vec<Path>,
     maps: Vec<Vec<u8>>,
+}
+
+// Not derived: a derived drop is written out, field by field, wherever a value goes.
+impl Drop for Collated {
+    fn drop(self) {
+        let Collated {
+            dyndep: _,
+            info: _,
+            objects: _,
+            maps: _,
+        } = self;
+    }
 }
 
 /// The parts of a [`Collated`], given up: the texts can be written from where they are, with no

@@ -1,15 +1,12 @@
 //! Collating a target.
-ghost use Rattle.std.specs.Prelude.{◌≡◌, map, None, Ok, All, IfOk, OnOk, IfErr};
+ghost use Rattle.std.specs.Prelude.{◌≡◌, map, None, IfOk, IfErr};
 ghost use Rattle.std.specs.Option.{option_copied, option_map};
 ghost use Rattle.ninja_text.specs.Failure.{ForFault};
-ghost use Rattle.dyndep_file.specs.Reading.{StandsForOnly};
-ghost use Rattle.dyndep_file.specs.WriteFaults.{text_or_fault};
 ghost use Rattle.collate_core.specs.Documents.{IsResolved, table_of};
-ghost use Rattle.collate_core.specs.Statements.{statements_of};
-ghost use Rattle.collate_core.specs.Collation.{AreMaps, Collates};
+ghost use Rattle.collate_core.specs.Collation.{Collates};
 ghost use Rattle.collate_core.specs.Headline.{IsHeadline, IsDyndepOf};
 ghost use Rattle.collate_core.specs.Refusals.{IsRefusal};
-ghost use Rattle.collate_core.specs.inner.Parts.{HasSpelled, IsTableText, IsTextsRefusal};
+ghost use Rattle.collate_core.specs.inner.Parts.{IsTableText};
 
 use crate::collated::Collated;
 use crate::fault::Refusal;

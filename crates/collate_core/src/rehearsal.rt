@@ -2,9 +2,7 @@
 ghost use Rattle.std.specs.Prelude.{IfOk, IfErr};
 ghost use Rattle.ninja_text.specs.Failure.{ForFault};
 ghost use Rattle.dyndep_file.specs.Reading.{StandsFor};
-ghost use Rattle.build_effect.specs.Effect.{OnlyEffect};
-ghost use Rattle.collate_core.specs.Rehearsal.{HasEffect, IsWithoutEffect, IsReported, IsRehearseFault};
-ghost use Rattle.collate_core.specs.inner.Parts.{ForEffect};
+ghost use Rattle.collate_core.specs.Rehearsal.{HasEffect, IsReported, IsRehearseFault};
 
 use crate::fault::RehearseFault;
 use build_effect::{Graph, apply_with_hasher};

@@ -10,7 +10,6 @@ use Rattle.scan_docs.specs.Scan.{IsRuleText}
 use Rattle.scan_docs.specs.InfoText.{IsInfoText}
 use Rattle.scan_docs.specs.declared.fault.DocFault.{DocFault}
 use Rattle.module_table.specs.TableValue.{TableValue}
-use Rattle.module_table.specs.declared.fault.TableFault.{TableFault}
 use Rattle.module_maps.specs.Maps.{Written}
 use Rattle.build_effect.specs.declared.fault.EffectFault.{EffectFault}
 use Rattle.collate_core.specs.Values.{TargetValue, CollatedValue, ProjectTargetValue}
@@ -19,7 +18,7 @@ use Rattle.collate_core.specs.Collation.{Collates}
 use Rattle.collate_core.specs.Refusals.{IsMapRefusal, IsRefusal}
 use Rattle.collate_core.specs.Projects.{target_of, LinksEarlier}
 use Rattle.collate_core.specs.declared.fault.Refusal.{Refusal}
-use Rattle.collate_core.specs.declared.fault.Refusal.TheVariants.{Scan, Info, Table, StatementTooLong, Map}
+use Rattle.collate_core.specs.declared.fault.Refusal.TheVariants.{Scan, Info, StatementTooLong, Map}
 use Rattle.collate_core.specs.declared.fault.RehearseFault.{RehearseFault}
 use Rattle.collate_core.specs.declared.fault.RehearseFault.TheVariants.{Effect}
 
@@ -50,11 +49,6 @@ ForScan P other = ⊥
 abbrev pub ForInfo : (ℕ → DocFault → Type 0) → Refusal → Type 0
 ForInfo P (Info index fault) = P index fault
 ForInfo P other = ⊥
-
--- the refusal is of the table, and this holds of its fault
-abbrev pub ForTable : (TableFault → Type 0) → Refusal → Type 0
-ForTable P (Table fault) = P fault
-ForTable P other = ⊥
 
 -- the fault is of the effect, and this holds of it
 abbrev pub ForEffect : (EffectFault → Type 0) → RehearseFault → Type 0
