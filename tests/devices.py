@@ -275,7 +275,7 @@ def read_in_order(it):
     if command == "effect":
         return [it.words[2], it.words[3]]
     if command == "project":
-        return ["project.json"] + [f"{at}.{ending}" for ending in ("json", "ddi") for at in range(3)]
+        return ["project.json"] + [f"{at}.{ending}" for at in range(3) for ending in ("json", "ddi")]
     if command == "collate":
         return [name for name in ("t.target.json", "m.ddi", "two.ddi", "l.json", "t.edges") if name in it.files]
     return [it.words[1]]
@@ -361,7 +361,7 @@ class Inputs(Devices):
         os.close(pipe)
         ran = self.caller.run("collate", "t.target.json", others=[(0, end)])
         os.close(end)
-        self.same(ran, refused(b"M1 ObjectTwice main.o"))
+        self.same(ran, refused(b"scan 1: S1 NotJson document"))
 
 
 CALLS = [["show"], ["one", "mod", ".bmi"], ["collate"], ["order"], ["effect", "t.dd", "/dev/null"]]
