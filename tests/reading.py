@@ -270,13 +270,17 @@ def with_example(page, path):
 
 
 def named_files(page):
-    """The files that a page names by their paths from the top, or that it links to; NAME is any name."""
+    """The files that a page names by their paths from the top, that a crate's page names by theirs in the crate, outside of its
+    tables, or that a page links to; NAME is any name."""
     text = page.read_text()
     for name in re.findall(r"`((?:bench|crates|docs|examples|tests)/[^\s`]*)`", text):
         if not name.endswith("/out"):
             yield TOP.parent, name.replace("NAME", "*")
     for name in re.findall(r"\]\((?!https?:|#)([^)#]+)", text):
         yield page.parent, name
+    if page.parent.parent == TOP:
+        for name in re.findall(r"`((?:must-fail|proofs|specs|src)/[^\s`]*)`", re.sub(r"^\|.*", "", text, flags=re.M)):
+            yield page.parent, name.replace("NAME", "*")
 
 
 class Reading(unittest.TestCase):
@@ -318,6 +322,17 @@ class Reading(unittest.TestCase):
             for folder, name in named_files(page):
                 with self.subTest(page.relative_to(TOP.parent).as_posix(), name=name):
                     self.assertTrue(any(folder.glob(name)) if "*" in name else (folder / name).exists())
+
+    def test_walk(self):
+        """The sources have what the walk of docs/ARCHITECTURE.md names."""
+        walk = re.search(r"^## The walk.*?(?=^## )", (TOP.parent / "docs/ARCHITECTURE.md").read_text(), re.M | re.S)[0]
+        known = set(re.findall(r"\w+", (TOP.parent / "crates.txt").read_text())).union(*NAMES.values())
+        for name in re.findall(r"`([\w:]+)`", walk):
+            with self.subTest(name):
+                self.assertIn(name.split("::")[-1], known)
+        for file in re.findall(r"`([\w/]+\.rt)`", walk):
+            with self.subTest(file):
+                self.assertTrue(any(path.as_posix().endswith(f"/{file}") for path in NAMES))
 
     def test_public_calls(self):
         """A test or another crate makes each public call that may answer that memory was refused."""
