@@ -23,7 +23,8 @@ fn table(alloc: Global, document: &[u8]) -> Result<Table, Fail> {
 fn a_required_module_has_a_file(rt: HostRuntime) -> Result<(), Fail> {
     let table = table(rt.alloc(), DOCUMENT)?;
     assert!(rt; !table.objects().is_empty());
-    let (name, file) = &table.required(0)[0];
-    assert!(rt; name.text() == "B" && file.bytes() == b"mod/B.pcm".as_slice());
+    let required = table.required(0);
+    assert!(rt; required.len() == 1 && required[0].0.text() == "B");
+    assert!(rt; required[0].1.bytes() == b"mod/B.pcm".as_slice());
     Ok(())
 }
