@@ -10,7 +10,7 @@ pub none_made : (known : Option (List FileCall)) → Adds known known []
 none_made None = refl
 none_made (Some before) = ap Some (sym (append-nil before))
 
--- calls, and more behind them
+-- calls, and more after them
 pub both_made : (old mid new : Option (List FileCall)) (calls more : List FileCall) →
     Adds old mid calls → Adds mid new more → Adds old new (calls ++ more)
 both_made None mid new calls more so_far next = rw so_far at next
@@ -22,7 +22,7 @@ pub held : (old new : Option (List FileCall)) (Holds Then : List FileCall → Ty
     Makes old new Holds → ((calls : List FileCall) → Holds calls → Then calls) → Makes old new Then
 held old new Holds Then (calls, made, h) to = (calls, made, to calls h)
 
--- of calls and of more behind them
+-- of calls and of more after them
 pub continued : (old mid new : Option (List FileCall)) (First Second Both : List FileCall → Type 0) →
     Makes old mid First → Makes mid new Second →
     ((calls more : List FileCall) → First calls → Second more → Both (calls ++ more)) →

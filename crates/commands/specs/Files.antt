@@ -41,8 +41,8 @@ Ends Holds calls step = (calls ≡ []) × EndsWith Holds step
 
 -- ---- files that are read
 
--- A run reads the file of this name, and with its bytes goes on like this. Or it can't be read, and
--- the run ends with that. Or memory is refused before.
+-- A run reads the file of this name, and goes on like this with its bytes; or the file can't be
+-- read, and the run ends with its name; or memory is refused before.
 pub data ReadsFile {X : Type 0} (name : List ℕ) (Then : List ℕ → Part X) (calls : List FileCall)
     (step : Step X) : Type 0 where
   read : (bytes : List ℕ) (others : List FileCall) → calls ≡ reading name (Ok bytes) ∷ others →
@@ -51,13 +51,13 @@ pub data ReadsFile {X : Type 0} (name : List ℕ) (Then : List ℕ → Part X) (
       EndsWith (Fails 3 (codes "cannot read " ++ name)) step → ReadsFile name Then calls step
   no_memory : calls ≡ [] → step ≡ Err Memory → ReadsFile name Then calls step
 
--- the same with the files of these names, one after another
+-- a run reads the files of these names, one after another, and goes on like this with their bytes
 abbrev pub ReadsFiles : {X : Type 0} → List (List ℕ) → (List (List ℕ) → Part X) → Part X
 ReadsFiles [] Then calls step = Then [] calls step
 ReadsFiles (name ∷ names) Then calls step =
     ReadsFile name (λ bytes. ReadsFiles names (λ others. Then (bytes ∷ others))) calls step
 
--- the same with the file of a name, where there is one
+-- a run reads the file of a name, where there is one, and goes on like this
 abbrev pub ReadsListing : {X : Type 0} → Option (List ℕ) → (Option (List ℕ) → Part X) → Part X
 ReadsListing None Then calls step = Then None calls step
 ReadsListing (Some name) Then calls step = ReadsFile name (λ bytes. Then (Some bytes)) calls step
@@ -69,8 +69,8 @@ pub record TargetFilesValue : Type 0 where
   pub infos : List (List ℕ)
   pub listing : Option (List ℕ)
 
--- the same with the files of a target, in this order: the scan documents that it names, infos of
--- these names, and the listing of edges
+-- a run reads the files of a target in this order: the scan documents that its document names,
+-- infos of these names, and the listing of edges
 abbrev pub ReadsTarget : {X : Type 0} → document.TargetValue → List (List ℕ)
     → (TargetFilesValue → Part X) → Part X
 ReadsTarget spec linked Then calls step =

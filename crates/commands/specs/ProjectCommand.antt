@@ -72,15 +72,15 @@ abbrev pub read_target : document.TargetValue → List ℕ → TargetFilesValue 
 read_target spec linked files =
     record { spec = spec; linked = linked; scans = files.scans; listing = files.listing }
 
--- What a run does after earlier targets with one of these members, to go on with the target: it
--- ends with the first fault, or reads the target's files, without infos. The fault is that
+-- What a run does with a target of these members after earlier ones: it ends with the first of two
+-- faults, or reads the target's files, without infos, and goes on like this with the target.
 pub data AnswersAfter {X : Type 0} (earlier : List ReadTargetValue) (spec : document.TargetValue)
     (Then : ReadTargetValue → Part X) (calls : List FileCall) (step : Step X) : Type 0 where
   -- its maps are of another form than those of the first target
   other_form : (HasFormOf earlier spec → ⊥) →
       Ends (Refuses (target_text (length earlier) (spec_text (BadShape Document Map)))) calls step →
       AnswersAfter earlier spec Then calls step
-  -- or else that it links no earlier target
+  -- or else it links one that is no earlier target
   not_earlier : HasFormOf earlier spec → LinksLater earlier spec.linked →
       Ends (Refuses (target_text (length earlier) (codes "K3 LinkedLater"))) calls step →
       AnswersAfter earlier spec Then calls step
@@ -89,8 +89,8 @@ pub data AnswersAfter {X : Type 0} (earlier : List ReadTargetValue) (spec : docu
       AnswersAfter earlier spec Then calls step
   no_memory : calls ≡ [] → step ≡ Err Memory → AnswersAfter earlier spec Then calls step
 
--- What a run does after earlier targets with the bytes of a target document, to go on with its
--- target. Of a refused document it reads no file.
+-- What a run does with these bytes of a target document after earlier targets, before it goes on
+-- like this with the target. Of a refused document it reads no file.
 pub record AnswersNext {X : Type 0} (earlier : List ReadTargetValue)
     (Then : ReadTargetValue → Part X) (bytes : List ℕ) (calls : List FileCall)
     (step : Step X) : Type 0 where

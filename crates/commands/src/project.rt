@@ -27,7 +27,7 @@ use std::hash::RandomState;
 
 /// Runs `project FILE` on the bytes of the project document. The files of the targets are read from
 /// the folder, target by target: the document of each, which may only link targets before it and
-/// has the first one's form of maps, its scan documents and its listing of edges. Behind a refused
+/// has the first one's form of maps, its scan documents and its listing of edges. After a refused
 /// document no file is read. All targets are read before the first is collated.
 ///
 /// What is to be written are the files of `collate`, target by target; infos that targets link are
