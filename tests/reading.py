@@ -1,7 +1,8 @@
-"""Compares docs/PROVED.md and the pages of the crates with the sources, and looks for public calls that no test makes.
+"""Compares docs/PROVED.md and the pages of the crates with the sources, looks for public calls that no test makes, and sees to it
+that definitions say what their lists of numbers are.
 
     python3 -m unittest tests.reading       each row of a table, each example and each file that a page names, and each public
-                                            call that may answer that memory was refused
+                                            call that may answer that memory was refused; and the words of definitions
     python3 -m tests.reading --write        puts the table of what one has to read into docs/PROVED.md, and the examples into
                                             the pages of the crates
 
@@ -341,6 +342,51 @@ class Reading(unittest.TestCase):
         for one in calls.public():
             with self.subTest("::".join(filter(None, (one.crate, one.type, one.name)))):
                 self.assertTrue(calls.is_called(one), "no test and no other crate makes this call")
+
+
+# ---- the words of definitions
+
+# The files that give names to lists of numbers, and to the numbers of bytes.
+FILES_OF_NAMES = ("ninja_text/specs/Bytes.antt", "dep_order/specs/Numbers.antt", "command_line/specs/Arguments.antt")
+BYTE_NUMBER = re.compile(r"(?:== |∷ |\bthen |\belse |\bnat_l[et] (?:\w+ )?)\d\d+\b|\b\d\d+ ∷")
+
+
+def read_by_callers():
+    """The definitions that a caller reads: all of specs/ but those for private clauses, and the lemmas of a trait's laws."""
+    for file, specs in SPECS.items():
+        if "/inner/" not in file and "_laws/" not in file:
+            for name, text in specs.definitions.items():
+                yield file, name, re.sub(r"--.*|codes \"[^\"]*\"", "", text)
+
+
+class Words(unittest.TestCase):
+    def test_one_crate_for_a_name(self):
+        """No definition has the name of one in another crate."""
+        crates = defaultdict(set)
+        for file, name, _ in read_by_callers():
+            crates[name].add(file.split("/")[0])
+        self.assertTrue(crates)
+        for name, found in crates.items():
+            with self.subTest(name):
+                self.assertEqual(len(found), 1, sorted(found))
+
+    def test_bytes_have_names(self):
+        """Definitions call a byte by its name."""
+        for file, name, text in read_by_callers():
+            if file not in FILES_OF_NAMES:
+                with self.subTest(file, name=name):
+                    self.assertEqual(BYTE_NUMBER.findall(text), [])
+
+    def test_lists_of_numbers_have_names(self):
+        """Definitions and contracts say what a list of numbers is: a text, a path, a name."""
+        for file, name, text in read_by_callers():
+            if file not in FILES_OF_NAMES:
+                with self.subTest(file, name=name):
+                    self.assertNotIn("List ℕ", text)
+        for crate in CRATES:
+            for path in sorted((TOP / crate / "src").rglob("*.rt")):
+                with self.subTest(path.relative_to(TOP).as_posix()):
+                    self.assertNotIn("List ℕ", re.sub(r"//.*", "", path.read_text()))
 
 
 def main():

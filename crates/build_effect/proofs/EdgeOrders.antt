@@ -7,16 +7,16 @@ use Rattle.dep_order.specs.Needs.{IsOrderable}
 use Rattle.dep_order.proofs.ForCallers.{layered}
 use Rattle.dyndep_file.specs.StatementValue.{StatementValue}
 use Rattle.build_effect.specs.EdgeValue.{EdgeValue}
-use Rattle.build_effect.specs.Graphs.{made_by, Reads, MakesAt, Names, EdgeNeeds}
-use Rattle.build_effect.specs.Effect.{IsTheOneOn, Gives, extended}
-use Rattle.build_effect.specs.Premises.{AddsAt, AdditionNeeds, Meets}
+use Rattle.build_effect.specs.Graphs.{made_by, HasInput, MakesAt, Names, EdgeNeeds}
+use Rattle.build_effect.specs.Effect.{IsTheOneOn, Extends, extended}
+use Rattle.build_effect.specs.Premises.{AddsAt, AdditionNeeds, MeetsPremises}
 use Rattle.build_effect.specs.Files.{NamedFile, FilesMeet, GainsExactly}
 use Rattle.build_effect.specs.Numbering.{HasOutputsOnly, IsRisingNumbering, IsAboveOthers, AreOrdered, rank_at, FilesOrder, IsLevelNumbering, LevelOrders}
 use Rattle.build_effect.proofs.Lists.{element_at, choose, three_ways}
 use Rattle.ninja_text.proofs.ForCallers.{same_some, in_append, in_first, in_second}
 
 -- what an extended edge reads: what the edge read, or an added input
-reads_of : (e : EdgeValue) (x : StatementValue) (file : List ℕ) → Reads (extended e x) file → Reads e file ⊎ ((m : ℕ) × (slice_get x.implicit_inputs m ≡ Some file))
+reads_of : (e : EdgeValue) (x : StatementValue) (file : List ℕ) → HasInput (extended e x) file → HasInput e file ⊎ ((m : ℕ) × (slice_get x.implicit_inputs m ≡ Some file))
 reads_of e x file h =
     elim (in_append e.inputs ((e.implicit_inputs ++ x.implicit_inputs) ++ e.order_only) h.0 file h.1) [
       | inl p ↦ inl (h.0, in_first e.inputs (e.implicit_inputs ++ e.order_only) h.0 file p)
@@ -183,12 +183,12 @@ module _ (files : List NamedFile) (g h new : List EdgeValue) (order ranks : List
         let right = second_at a n k x e here has in
         by_first xs a b (not_above n o a b has.0 there.0 e d less.0 has.1 there.1 here new_one.5 has.2 there.2) (omega (arith, left, right, less.1))
 
-    falls_from : (a b j : ℕ) (x : EdgeValue) (file : List ℕ) (e : EdgeValue) → Reads x file → MakesAt new b j file → slice_get g a ≡ Some e → Turns e x → Falls xs a b
+    falls_from : (a b j : ℕ) (x : EdgeValue) (file : List ℕ) (e : EdgeValue) → HasInput x file → MakesAt new b j file → slice_get g a ≡ Some e → Turns e x → Falls xs a b
     unfolding Falls
     falls_from a b j x file e reads made here (inl same) =
-        inl (level.below a b (e, file, j, outputs.others a e here same.0, subst (λ (d : EdgeValue). Reads d file) same.1 reads, makes_same b j file made))
+        inl (level.below a b (e, file, j, outputs.others a e here same.0, subst (λ (d : EdgeValue). HasInput d file) same.1 reads, makes_same b j file made))
     falls_from a b j x file e reads made here (inr one) =
-        elim (reads_of e one.2 file (subst (λ (d : EdgeValue). Reads d file) one.4 reads)) [
+        elim (reads_of e one.2 file (subst (λ (d : EdgeValue). HasInput d file) one.4 reads)) [
           | inl old ↦ inl (level.below a b (record e { implicit_outputs = e.implicit_outputs ++ one.2.implicit_outputs }, file, j, outputs.named one.0 one.3.0 a e one.1 one.2 one.3.1 here one.3.2 one.3.3, old, makes_same b j file made))
           | inr new_input ↦ added_falls a b j e one.0 one.1 one.2 new_input.0 file here one.3 new_input.1 (makes_same b j file made) (origin b j file made)
         ]
@@ -217,14 +217,14 @@ only x (suc n) y e = cc
 both : {X : Type 0} (x : X) (n m : ℕ) (y z : X) → slice_get (x ∷ []) n ≡ Some y → slice_get (x ∷ []) m ≡ Some z → n ≡ m
 both x n m y z a b = (only x n y a).0 ∙ sym (only x m z b).0
 
-module _ (f : NamedFile) (g h new : List EdgeValue) (ranks : List ℕ) (meets : Meets g f.name f.additions) (gives : Gives g f.name f.additions new) (outputs : HasOutputsOnly (f ∷ []) g h)
+module _ (f : NamedFile) (g h new : List EdgeValue) (ranks : List ℕ) (meets : MeetsPremises g f.name f.additions) (gives : Extends g f.name f.additions new) (outputs : HasOutputsOnly (f ∷ []) g h)
     (level : IsLevelNumbering f g h ranks) (added : IsOrderable (length f.additions) (AdditionNeeds f.additions)) where
   abbrev single : List NamedFile
   single = f ∷ []
 
   one_meets : FilesMeet g single
   one_meets = record {
-    each = λ n d at. subst (λ (z : NamedFile). Meets g z.name z.additions) (only f n d at).1 meets;
+    each = λ n d at. subst (λ (z : NamedFile). MeetsPremises g z.name z.additions) (only f n d at).1 meets;
     names_differ = λ n m d e at_d at_e same. both f n m d e at_d at_e;
     added_apart = λ n m k l i j d e file at_d at_e p q. both f n m d e at_d at_e;
   }

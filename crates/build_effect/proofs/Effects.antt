@@ -7,8 +7,8 @@ use Rattle.ninja_text.specs.declared.fault.PathFault.{PathFault}
 use Rattle.dyndep_file.specs.StatementValue.{StatementValue}
 use Rattle.build_effect.specs.EdgeValue.{EdgeValue}
 use Rattle.build_effect.specs.Graphs.{made_by, MakesAt, Names}
-use Rattle.build_effect.specs.Effect.{ArePaths, IsCanonical, AreCanonical, IsOn, IsTheOneOn, extended, Gives, Effect, EffectGives}
-use Rattle.build_effect.specs.Premises.{AddedOnce, Meets, OneEffect}
+use Rattle.build_effect.specs.Effect.{ArePaths, IsCanonical, AreCanonical, IsOn, IsTheOneOn, extended, Extends, Effect, EffectGives}
+use Rattle.build_effect.specs.Premises.{AddedOnce, MeetsPremises, OneEffect}
 use Rattle.build_effect.proofs.Lists.{same_lists, element_at, choose, same_map, same_ok}
 use Rattle.ninja_text.proofs.ForCallers.{in_append, same_some, from_map, to_map}
 
@@ -37,10 +37,10 @@ same_additions ss xs ys c d =
 -- an effect is what the statements give, once their paths are canonical
 pub effect_gives : EffectGives
 effect_gives g new name ss additions canonical effect =
-    subst (λ xs. Gives g name xs new) (same_additions ss effect.additions additions effect.canonical canonical) effect.gives
+    subst (λ xs. Extends g name xs new) (same_additions ss effect.additions additions effect.canonical canonical) effect.gives
 
 -- statements give one graph at most
-pub same_gives : (g : List EdgeValue) (name : List ℕ) (xs : List StatementValue) (new other : List EdgeValue) → Gives g name xs new → Gives g name xs other → new ≡ other
+pub same_gives : (g : List EdgeValue) (name : List ℕ) (xs : List StatementValue) (new other : List EdgeValue) → Extends g name xs new → Extends g name xs other → new ≡ other
 same_gives g name xs new other c d =
     same_lists new other (c.same_edges ∙ sym d.same_edges) (λ i x y ex ey.
     let within : i < length new = slice_get_within _ _ _ ex in
@@ -58,7 +58,7 @@ same_gives g name xs new other c d =
 pub same_effect : (g : List EdgeValue) (name : List ℕ) (ss : List StatementValue) (new other : List EdgeValue) → Effect g name ss new → Effect g name ss other → new ≡ other
 same_effect g name ss new other c d =
     let same : d.additions ≡ c.additions = same_additions ss _ _ d.canonical c.canonical in
-    same_gives g name c.additions new other c.gives (subst (λ xs. Gives g name xs other) same d.gives)
+    same_gives g name c.additions new other c.gives (subst (λ xs. Extends g name xs other) same d.gives)
 
 -- what an edge becomes: itself, or what the one statement on it makes of it
 abbrev pub Becomes : List ℕ → List StatementValue → EdgeValue → EdgeValue → Type 0
@@ -84,7 +84,7 @@ origin_in g name additions i j file e x here makes (inr b) =
       | inr h ↦ inr (e, b.1, b.2, h.0, here, b.3.is, b.3.on, h.2, h.1)
     ]
 
-module _ (g : List EdgeValue) (name : List ℕ) (additions : List StatementValue) (once : AddedOnce additions) (meets : Meets g name additions) where
+module _ (g : List EdgeValue) (name : List ℕ) (additions : List StatementValue) (once : AddedOnce additions) (meets : MeetsPremises g name additions) where
   the_one : (i : ℕ) (e : EdgeValue) → slice_get g i ≡ Some e → Names name e → (k : ℕ) × (a : StatementValue) × IsTheOneOn additions e k a
   the_one i e here names =
       let o = meets.names.one_object i e here names in
@@ -138,7 +138,7 @@ module _ (g : List EdgeValue) (name : List ℕ) (additions : List StatementValue
         let edge : p.0 ≡ q.0 = same_some _ _ (sym p.4 ∙ ap (slice_get g) edges.0 ∙ q.4) in
         (edges.0, p.8 ∙ ap (λ e. length (made_by e) + p.3) edge ∙ ap (λ m. length (made_by q.0) + m) same.1 ∙ sym q.8)
 
-    gives : Gives g name additions new
+    gives : Extends g name additions new
     gives =
         record {
           same_edges = same_length;
@@ -151,6 +151,6 @@ module _ (g : List EdgeValue) (name : List ℕ) (additions : List StatementValue
 pub one_effect : OneEffect
 one_effect g name statements additions canonical once meets =
     let new = after g name additions once meets in
-    let given : Gives g name additions new.0 = gives g name additions once meets new.0 new.1 new.2 in
+    let given : Extends g name additions new.0 = gives g name additions once meets new.0 new.1 new.2 in
     let effect : Effect g name statements new.0 = record { additions = additions; canonical = canonical; gives = given } in
     (new.0, given, record { effect = effect; only = λ other e. same_effect g name statements other new.0 e effect })

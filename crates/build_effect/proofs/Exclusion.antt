@@ -8,9 +8,9 @@ use Rattle.ninja_text.specs.declared.fault.PathFault.{PathFault}
 use Rattle.dyndep_file.specs.StatementValue.{StatementValue}
 use Rattle.build_effect.specs.EdgeValue.{EdgeValue}
 use Rattle.build_effect.specs.Graphs.{made_by, MakesAt, MadeOnce, Names, IsMade}
-use Rattle.build_effect.specs.Effect.{ArePaths, IsCanonical, IsOn, AllBound, Gives, extended}
+use Rattle.build_effect.specs.Effect.{ArePaths, IsCanonical, IsOn, AllBound, Extends, extended}
 use Rattle.build_effect.specs.Faults.{path_texts, IsRepeated, NoneRepeated, AllMentioned, NoneMadeBefore, added_outputs}
-use Rattle.build_effect.specs.Premises.{AddsAt, AddedOnce, Meets}
+use Rattle.build_effect.specs.Premises.{AddsAt, AddedOnce, MeetsPremises}
 use Rattle.build_effect.specs.Checks.{ChecksSuffice, FaultsExclude}
 use Rattle.build_effect.specs.declared.fault.EffectFault.TheVariants.{BadPath, NotBound, StatementTwice, NotMentioned, AddedTwice}
 use Rattle.build_effect.proofs.Lists.{element_at, three_ways, offset, in_flat_map, same_part, from_flat_map}
@@ -45,7 +45,7 @@ module _ (g : List EdgeValue) (name : List ℕ) (additions : List StatementValue
           ]
         ]
 
-    meets : Meets g name additions
+    meets : MeetsPremises g name additions
     meets =
         record {
           made_once = once;
@@ -86,7 +86,7 @@ all_paths s a (suc j) text c at =
       | inr h ↦ path_at s.implicit_inputs a.implicit_inputs h.0 text c.inputs h.2
     ]
 
-module _ (g : List EdgeValue) (name : List ℕ) (additions : List StatementValue) (new : List EdgeValue) (once : MadeOnce g) (gives : Gives g name additions new) where
+module _ (g : List EdgeValue) (name : List ℕ) (additions : List StatementValue) (new : List EdgeValue) (once : MadeOnce g) (gives : Extends g name additions new) where
   -- where an added output stands afterwards
   InNew : ℕ → ℕ → StatementValue → List ℕ → Type 0
   InNew m n a file = (i : ℕ) × (e : EdgeValue) × (slice_get g i ≡ Some e) × Names name e × IsOn a e × MakesAt new i (length (made_by e) + n) file

@@ -3,8 +3,8 @@ use Rattle.std.proofs.Common.{◌≡◌, ◌≢◌, ◌⊎◌, ℕ, ◌+◌, Lis
 use Rattle.std.proofs.lemmas.Option.{slice_get_within}
 use Rattle.dyndep_file.specs.StatementValue.{StatementValue}
 use Rattle.build_effect.specs.EdgeValue.{EdgeValue}
-use Rattle.build_effect.specs.Graphs.{Names, Reads, IsGraph}
-use Rattle.build_effect.specs.Effect.{IsOn, Gives, OnlyEffect, extended}
+use Rattle.build_effect.specs.Graphs.{Names, HasInput, IsGraph}
+use Rattle.build_effect.specs.Effect.{IsOn, Extends, OnlyEffect, extended}
 use Rattle.build_effect.specs.Checks.{ChecksSuffice}
 use Rattle.build_effect.specs.inner.StatementEdges.{statement_on}
 use Rattle.build_effect.specs.inner.Checked.{AreChecked}
@@ -67,7 +67,7 @@ on_or_not (Some k) = inr (k, refl)
 
 module _ (g : List EdgeValue) (name : List ℕ) (ss additions : List StatementValue) (statement_of : List (Option ℕ)) (new : List EdgeValue) (checked : AreChecked g name ss additions statement_of) (are : AreExtended g additions statement_of new) where
   -- they are what the statements give
-  given_are : (given : List EdgeValue) → Gives g name additions given → given ≡ new
+  given_are : (given : List EdgeValue) → Extends g name additions given → given ≡ new
   given_are given gives =
       same_lists given new (gives.same_edges ∙ sym are.as_many) (λ i x y at_x at_y.
       let within = slice_get_within given i x at_x in
@@ -86,11 +86,11 @@ module _ (g : List EdgeValue) (name : List ℕ) (ss additions : List StatementVa
             same_some _ _ (sym at_x ∙ q.3 ∙ ap (λ a. Some (extended at.0 a)) (sym same) ∙ sym (are.more i some.0 at.0 p.0 at.1 some.1 p.1) ∙ at_y)
       ])
 
-  pub is_effect : IsGraph g → ChecksSuffice → Gives g name additions new × OnlyEffect g name ss new
+  pub is_effect : IsGraph g → ChecksSuffice → Extends g name additions new × OnlyEffect g name ss new
   is_effect graph suffice =
       let r = suffice g name ss additions graph.made_once checked.canonical checked.matched.bound checked.matched.single checked.matched.mentioned checked.fresh in
       let same = given_are r.0 r.1 in
-      (subst (Gives g name additions) same r.1, subst (OnlyEffect g name ss) same r.2)
+      (subst (Extends g name additions) same r.1, subst (OnlyEffect g name ss) same r.2)
 
   -- where each edge of the new graph comes from
   from_old : (i : ℕ) (x : EdgeValue) → slice_get new i ≡ Some x → (e : EdgeValue) × (slice_get g i ≡ Some e) × ((x ≡ e) ⊎ ((a : StatementValue) × (x ≡ extended e a)))
@@ -102,7 +102,7 @@ module _ (g : List EdgeValue) (name : List ℕ) (ss additions : List StatementVa
         | inr some ↦ let p = checked.matched.on i some.0 some.1 in (at.0, at.1, inr (p.0, same_some _ _ (sym at_x ∙ are.more i some.0 at.0 p.0 at.1 some.1 p.1)))
       ]
 
-  still_reads : (e : EdgeValue) (a : StatementValue) (file : List ℕ) → Reads e file → Reads (extended e a) file
+  still_reads : (e : EdgeValue) (a : StatementValue) (file : List ℕ) → HasInput e file → HasInput (extended e a) file
   still_reads e a file h =
       elim (in_append e.inputs (e.implicit_inputs ++ e.order_only) h.0 file h.1) [
         | inl p ↦ has_first e.inputs ((e.implicit_inputs ++ a.implicit_inputs) ++ e.order_only) file (h.0, p)
@@ -125,7 +125,7 @@ module _ (g : List EdgeValue) (name : List ℕ) (ss additions : List StatementVa
         dyndep_is_input = λ i x file at names.
             let b = from_old i x at in
             elim b.2 [
-              | inl same ↦ subst (λ (z : EdgeValue). Reads z file) (sym same) (graph.dyndep_is_input i b.0 file b.1 (subst (λ (z : EdgeValue). Names file z) same names))
-              | inr more ↦ subst (λ (z : EdgeValue). Reads z file) (sym more.1) (still_reads b.0 more.0 file (graph.dyndep_is_input i b.0 file b.1 (subst (λ (z : EdgeValue). Names file z) more.1 names)))
+              | inl same ↦ subst (λ (z : EdgeValue). HasInput z file) (sym same) (graph.dyndep_is_input i b.0 file b.1 (subst (λ (z : EdgeValue). Names file z) same names))
+              | inr more ↦ subst (λ (z : EdgeValue). HasInput z file) (sym more.1) (still_reads b.0 more.0 file (graph.dyndep_is_input i b.0 file b.1 (subst (λ (z : EdgeValue). Names file z) more.1 names)))
             ];
       }

@@ -5,8 +5,8 @@ use Rattle.std.proofs.lemmas.Option.{slice_get_within}
 use Rattle.build_effect.proofs.Decides.{path_option_decides}
 use Rattle.build_effect.specs.EdgeValue.{EdgeValue}
 use Rattle.build_effect.specs.Graphs.{Names}
-use Rattle.build_effect.specs.Effect.{IsTheOneOn, Gives, OnlyEffect, extended}
-use Rattle.build_effect.specs.Premises.{AddsAt, Meets}
+use Rattle.build_effect.specs.Effect.{IsTheOneOn, Extends, OnlyEffect, extended}
+use Rattle.build_effect.specs.Premises.{AddsAt, MeetsPremises}
 use Rattle.build_effect.specs.Files.{NamedFile, AreFiles, FilesMeet, Applies, GainsExactly, AreFileIndices, AnyOrder, SameFiles, OrdersEndAlike}
 use Rattle.build_effect.proofs.Lists.{same_lists, element_at}
 use Rattle.ninja_text.proofs.ForCallers.{same_some}
@@ -14,7 +14,7 @@ use Rattle.build_effect.proofs.Effects.{ComesTo, origin_in, one_effect}
 use Rattle.dyndep_file.specs.StatementValue.{StatementValue}
 
 -- what an edge of the graph after an effect comes from
-pub comes_to : (g : List EdgeValue) (name : List ℕ) (additions : List StatementValue) (new : List EdgeValue) → Gives g name additions new → (i : ℕ) (x : EdgeValue) → slice_get new i ≡ Some x → ComesTo g name additions i x
+pub comes_to : (g : List EdgeValue) (name : List ℕ) (additions : List StatementValue) (new : List EdgeValue) → Extends g name additions new → (i : ℕ) (x : EdgeValue) → slice_get new i ≡ Some x → ComesTo g name additions i x
 comes_to g name additions new gives i x here =
     let within : i < length new = slice_get_within _ _ _ here in
     let at : (e : EdgeValue) × (slice_get g i ≡ Some e) = element_at g i (omega (arith, gives.same_edges)) in
@@ -24,7 +24,7 @@ comes_to g name additions new gives i x here =
     ]
 
 -- an edge that names another file is untouched
-module _ (g : List EdgeValue) (name : List ℕ) (additions : List StatementValue) (new : List EdgeValue) (gives : Gives g name additions new) (other : List ℕ) (differ : name ≢ other) where
+module _ (g : List EdgeValue) (name : List ℕ) (additions : List StatementValue) (new : List EdgeValue) (gives : Extends g name additions new) (other : List ℕ) (differ : name ≢ other) where
   not_both : (e : EdgeValue) → Names other e → e.dyndep ≢ Some name
   not_both e names same = differ (same_some _ _ (sym same ∙ names))
 
@@ -40,7 +40,7 @@ module _ (g : List EdgeValue) (name : List ℕ) (additions : List StatementValue
   kept i e here names = gives.others i e here (not_both e names)
 
   -- the premises of another file still hold
-  still_meets : (more : List StatementValue) → Meets g other more → ((k l i j : ℕ) (file : List ℕ) → AddsAt additions k i file → AddsAt more l j file → ⊥) → Meets new other more
+  still_meets : (more : List StatementValue) → MeetsPremises g other more → ((k l i j : ℕ) (file : List ℕ) → AddsAt additions k i file → AddsAt more l j file → ⊥) → MeetsPremises new other more
   still_meets more meets apart =
       record {
         made_once = gives.made_once;
@@ -58,7 +58,7 @@ module _ (g : List EdgeValue) (name : List ℕ) (additions : List StatementValue
 
 -- what stays of the premises for the files that are left
 record RestMeets (files : List NamedFile) (g : List EdgeValue) (order : List ℕ) : Type 0 where
-  each : (p n : ℕ) (f : NamedFile) → slice_get order p ≡ Some n → slice_get files n ≡ Some f → Meets g f.name f.additions
+  each : (p n : ℕ) (f : NamedFile) → slice_get order p ≡ Some n → slice_get files n ≡ Some f → MeetsPremises g f.name f.additions
 
 tail_indices : (files : List NamedFile) (n : ℕ) (order : List ℕ) → AreFileIndices files (n ∷ order) → AreFileIndices files order
 tail_indices files n order indices =
@@ -70,7 +70,7 @@ not_first files n order indices p m e same = let same_index : 0 ≡ suc p = indi
 
 module _ (files : List NamedFile) (start : List EdgeValue) (are : AreFiles files) (all : FilesMeet start files) where
   gains_named : (n : ℕ) (order : List ℕ) (g : List EdgeValue) → AreFileIndices files (n ∷ order) → (f : NamedFile) → slice_get files n ≡ Some f →
-      (mid : List EdgeValue) → Gives g f.name f.additions mid → (new : List EdgeValue) → GainsExactly files mid order new →
+      (mid : List EdgeValue) → Extends g f.name f.additions mid → (new : List EdgeValue) → GainsExactly files mid order new →
       (p m : ℕ) (h : NamedFile) (i : ℕ) (e : EdgeValue) → slice_get (n ∷ order) p ≡ Some m → slice_get files m ≡ Some h → slice_get g i ≡ Some e → Names h.name e →
       (k : ℕ) × (a : StatementValue) × IsTheOneOn h.additions e k a × (slice_get new i ≡ Some (extended e a))
   gains_named n order g indices f at mid first new more zero m h i e listed there here names =
@@ -84,14 +84,14 @@ module _ (files : List NamedFile) (start : List EdgeValue) (are : AreFiles files
       more.named p m h i e listed there (first.others i e here unnamed) names
 
   gains_others : (n : ℕ) (order : List ℕ) (g : List EdgeValue) → AreFileIndices files (n ∷ order) → (f : NamedFile) → slice_get files n ≡ Some f →
-      (mid : List EdgeValue) → Gives g f.name f.additions mid → (new : List EdgeValue) → GainsExactly files mid order new →
+      (mid : List EdgeValue) → Extends g f.name f.additions mid → (new : List EdgeValue) → GainsExactly files mid order new →
       (i : ℕ) (e : EdgeValue) → slice_get g i ≡ Some e → ((p m : ℕ) (h : NamedFile) → slice_get (n ∷ order) p ≡ Some m → slice_get files m ≡ Some h → e.dyndep ≢ Some h.name) → slice_get new i ≡ Some e
   gains_others n order g indices f at mid first new more i e here none =
       more.others i e (first.others i e here (none 0 n f refl at)) (λ p m h listed there. none (suc p) m h listed there)
 
   -- the gains of the first file and those of the rest
   gains : (n : ℕ) (order : List ℕ) (g : List EdgeValue) → AreFileIndices files (n ∷ order) → (f : NamedFile) → slice_get files n ≡ Some f →
-      (mid : List EdgeValue) → Gives g f.name f.additions mid → (new : List EdgeValue) → GainsExactly files mid order new → GainsExactly files g (n ∷ order) new
+      (mid : List EdgeValue) → Extends g f.name f.additions mid → (new : List EdgeValue) → GainsExactly files mid order new → GainsExactly files g (n ∷ order) new
   gains n order g indices f at mid first new more =
       record { same_edges = more.same_edges ∙ first.same_edges; named = gains_named n order g indices f at mid first new more; others = gains_others n order g indices f at mid first new more }
 

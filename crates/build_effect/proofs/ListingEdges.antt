@@ -6,7 +6,7 @@ use Rattle.dep_order.specs.Rows.{rows}
 use Rattle.ninja_text.specs.Paths.{path_of}
 use Rattle.ninja_text.specs.declared.fault.PathFault.{PathFault}
 use Rattle.build_effect.specs.EdgeValue.{EdgeValue}
-use Rattle.build_effect.specs.ListingLines.{EdgeTexts, Class, Build, Dyndep, Restat}
+use Rattle.build_effect.specs.ListingLines.{EdgeTexts, ListingClass, Build, Dyndep, Restat}
 use Rattle.build_effect.specs.inner.ListingWalk.{build_class, dyndep_class, with_path, paths_of, edge_paths, with_last, with_last_dyndep, with_last_restat, step}
 use Rattle.build_effect.specs.ListingGrammar.{bound}
 use Rattle.build_effect.specs.declared.listing.state.Binding.{Binding}
@@ -42,17 +42,17 @@ outputs_pushed (f ∷ es) e all some (suc k) d lt = outputs_pushed es e (λ k d 
 
 -- a binding of `dyndep` passes
 pub dyndep_passes : (binding : Binding) (es new : List EdgeValue) (text path : List ℕ) (restat : Bool) → binding ≡ Open false restat → path_of text ≡ Ok path → new ≡ with_last_dyndep path es
-    → (c : Class) × (dyndep_class (path_of text) ≡ Ok c) × (step binding es c ≡ Some (record { edges = new; binding = Open true restat }))
+    → (c : ListingClass) × (dyndep_class (path_of text) ≡ Ok c) × (step binding es c ≡ Some (record { edges = new; binding = Open true restat }))
 dyndep_passes binding es new text path restat opened is set = (Dyndep path, ap dyndep_class is, rw (opened, set) refl)
 
 -- a binding of `restat` passes
 pub restat_passes : (binding : Binding) (es new : List EdgeValue) (flag dyndep : Bool) → binding ≡ Open dyndep false → new ≡ with_last_restat flag es
-    → (c : Class) × (◌≡◌ {A = Result Class PathFault} (Ok (Restat flag)) (Ok c)) × (step binding es c ≡ Some (record { edges = new; binding = Open dyndep true }))
+    → (c : ListingClass) × (◌≡◌ {A = Result ListingClass PathFault} (Ok (Restat flag)) (Ok c)) × (step binding es c ≡ Some (record { edges = new; binding = Open dyndep true }))
 restat_passes binding es new flag dyndep opened set = (Restat flag, refl, rw (opened, set) refl)
 
 -- a build line passes
 pub build_passes : (binding : Binding) (es new : List EdgeValue) (edge : EdgeValue) (paths : Result EdgeTexts PathFault) (t : EdgeTexts) → paths ≡ Ok t → edge ≡ bound t None None
-    → new ≡ es ++ edge ∷ [] → (c : Class) × (build_class paths ≡ Ok c) × (step binding es c ≡ Some (record { edges = new; binding = Open false false }))
+    → new ≡ es ++ edge ∷ [] → (c : ListingClass) × (build_class paths ≡ Ok c) × (step binding es c ≡ Some (record { edges = new; binding = Open false false }))
 build_passes binding es new edge paths t is same pushed = (Build t, ap build_class is, rw (pushed, same) refl)
 
 -- paths, and those behind them or their fault

@@ -7,17 +7,17 @@ use Rattle.std.proofs.lemmas.Bool.{cases_Bool, and_parts}
 use Rattle.ninja_text.specs.Lexical.{lexical_fault}
 use Rattle.ninja_text.specs.Tokens.{TokenAt, tokens, value_of}
 use Rattle.ninja_text.specs.Assignments.{SeenAssignment, assignment_of}
-use Rattle.ninja_text.specs.Paths.{path_of}
+use Rattle.ninja_text.specs.Paths.{path_of, is_empty}
 use Rattle.ninja_text.specs.declared.fault.LexFault.{LexFault}
 use Rattle.ninja_text.specs.declared.fault.PathFault.{PathFault}
 use Rattle.ninja_text.proofs.ForCallers.{assignment_has_token}
 use Rattle.dyndep_file.specs.Classes.{Symbol, WordSymbol, SignSymbol, symbols, begins_at_start, begins_with_space}
-use Rattle.dyndep_file.specs.Faults.{same_bytes, is_empty, after_build}
+use Rattle.dyndep_file.specs.Faults.{same_bytes, after_build}
 use Rattle.dyndep_file.proofs.TableLemmas.{same_bytes-true, no_indent_at_token}
 use Rattle.build_effect.specs.Effect.{ArePaths}
 use Rattle.build_effect.specs.EdgeValue.{EdgeValue}
-use Rattle.build_effect.specs.ListingLines.{EdgeTexts, IsEdgeLine, Row, CommentRow, BlankRow, BuildRow, DyndepRow, RestatRow, TextIsOfRow, Class, Comment, Blank, Build, Dyndep, Restat, RowIsOfClass, TextIsOfClass}
-use Rattle.build_effect.specs.ListingGrammar.{bound, Begins}
+use Rattle.build_effect.specs.ListingLines.{EdgeTexts, IsEdgeLine, Row, CommentRow, BlankRow, BuildRow, DyndepRow, RestatRow, TextIsOfRow, ListingClass, Comment, Blank, Build, Dyndep, Restat, RowIsOfClass, IsListingLine}
+use Rattle.build_effect.specs.ListingGrammar.{bound, BeginsListing}
 use Rattle.build_effect.specs.ListingSteps.{ListingValue, open_from}
 use Rattle.build_effect.specs.inner.ListingWalk.{run, with_last_dyndep, with_last_restat, step, may_stand, edge_texts, binding_row, build_row, unindented_row, sound_row, row_of, paths_of, dyndep_class, class_of_row, FindsClass, path_cause, row_cause, text_cause}
 use Rattle.build_effect.specs.ListingFaults.{path_texts, IsFirstRefused, as_class, IsTextCause}
@@ -223,14 +223,14 @@ path_cases (text ∷ texts) = first (path_of text) refl (path_cases texts) where
 
 -- ---- classes
 
-class_same : {c d : Class} → ◌≡◌ {A = Result Class PathFault} (Ok c) (Ok d) → c ≡ d
+class_same : {c d : ListingClass} → ◌≡◌ {A = Result ListingClass PathFault} (Ok c) (Ok d) → c ≡ d
 class_same h = cc
 
-no_class : {A : Type 0} {fault : PathFault} {c : Class} → ◌≡◌ {A = Result Class PathFault} (Err fault) (Ok c) → A
+no_class : {A : Type 0} {fault : PathFault} {c : ListingClass} → ◌≡◌ {A = Result ListingClass PathFault} (Err fault) (Ok c) → A
 no_class h = absurd (cc)
 
 -- the class is found that a row is of
-pub class_found : (row : Row) (c : Class) → RowIsOfClass row c → class_of_row row ≡ Ok c
+pub class_found : (row : Row) (c : ListingClass) → RowIsOfClass row c → class_of_row row ≡ Ok c
 class_found CommentRow c is = ap Ok (sym is)
 class_found BlankRow c is = ap Ok (sym is)
 class_found (BuildRow t) c is =
@@ -266,7 +266,7 @@ side_by_side t = simp append_assoc
 
 -- what texts are: paths, and then the row is of a class, or not, for one reason
 abbrev TextsCases : List (List ℕ) → Row → Type 0
-TextsCases texts row = ((c : Class) × RowIsOfClass row c) ⊎ ((fault : PathFault) × IsFirstRefused texts fault × (class_of_row row ≡ Err fault))
+TextsCases texts row = ((c : ListingClass) × RowIsOfClass row c) ⊎ ((fault : PathFault) × IsFirstRefused texts fault × (class_of_row row ≡ Err fault))
 
 -- those of a row
 abbrev ClassCases : Row → Type 0
@@ -324,7 +324,7 @@ class_cases (DyndepRow text) = named (path_of text) refl where
 class_cases (RestatRow flag) = inl (Restat flag, refl)
 
 -- of a row that is of a class, all texts are paths
-all_paths : (row : Row) (c : Class) → RowIsOfClass row c → (paths : List (List ℕ)) × ArePaths (path_texts row) paths
+all_paths : (row : Row) (c : ListingClass) → RowIsOfClass row c → (paths : List (List ℕ)) × ArePaths (path_texts row) paths
 all_paths CommentRow c is = ([], refl)
 all_paths BlankRow c is = ([], refl)
 all_paths (BuildRow t) c is =
@@ -351,21 +351,21 @@ refused_class row fault r = elim (class_cases row) [
 ]
 
 -- a row is of the class that is found
-pub class_is_of : (row : Row) (c : Class) → class_of_row row ≡ Ok c → RowIsOfClass row c
+pub class_is_of : (row : Row) (c : ListingClass) → class_of_row row ≡ Ok c → RowIsOfClass row c
 class_is_of row c h = elim (class_cases row) [
   | inl d ↦ subst (RowIsOfClass row) (class_same (sym (class_found row d.0 d.1) ∙ h)) d.1
   | inr f ↦ no_class (sym f.2 ∙ h)
 ]
 
 -- a line is of the class that is found, and that is found
-pub class_holds : (text : List ℕ) (comment : Bool) (c : Class) → FindsClass text comment c → TextIsOfClass text comment c
+pub class_holds : (text : List ℕ) (comment : Bool) (c : ListingClass) → FindsClass text comment c → IsListingLine text comment c
 class_holds text comment c (row, is, of) = (row, row_holds text comment row is, class_is_of row c of)
 
-pub finds_class : (text : List ℕ) (comment : Bool) (c : Class) → TextIsOfClass text comment c → FindsClass text comment c
+pub finds_class : (text : List ℕ) (comment : Bool) (c : ListingClass) → IsListingLine text comment c → FindsClass text comment c
 finds_class text comment c (row, is, of) = (row, row_found text comment row is, class_found row c of)
 
 -- a line is of one class at most
-pub one_class : (text : List ℕ) (comment : Bool) (c d : Class) → TextIsOfClass text comment c → TextIsOfClass text comment d → d ≡ c
+pub one_class : (text : List ℕ) (comment : Bool) (c d : ListingClass) → IsListingLine text comment c → IsListingLine text comment d → d ≡ c
 one_class text comment c d p q =
     let a = finds_class text comment c p in
     let b = finds_class text comment d q in
@@ -374,14 +374,14 @@ one_class text comment c d p q =
 -- ---- where a line may stand
 
 -- A class of the kind of a row, whatever its texts and its flag are.
-abbrev IsOfKind : Row → Class → Type 0
+abbrev IsOfKind : Row → ListingClass → Type 0
 IsOfKind CommentRow c = c ≡ Comment
 IsOfKind BlankRow c = c ≡ Blank
 IsOfKind (BuildRow texts) c = (paths : EdgeTexts) × (c ≡ Build paths)
 IsOfKind (DyndepRow text) c = (path : List ℕ) × (c ≡ Dyndep path)
 IsOfKind (RestatRow flag) c = (on : Bool) × (c ≡ Restat on)
 
-class_kind : (row : Row) (c : Class) → RowIsOfClass row c → IsOfKind row c
+class_kind : (row : Row) (c : ListingClass) → RowIsOfClass row c → IsOfKind row c
 class_kind CommentRow c is = is
 class_kind BlankRow c is = is
 class_kind (BuildRow texts) c is = (is.0, is.2)
@@ -396,7 +396,7 @@ row_kind (DyndepRow text) = (text, refl)
 row_kind (RestatRow flag) = (flag, refl)
 
 -- a line of a row that may stand does something
-kind_steps : (binding : Binding) (row : Row) (c : Class) (es : List EdgeValue) → may_stand binding row ≡ true → IsOfKind row c → (next : ListingValue) × (step binding es c ≡ Some next)
+kind_steps : (binding : Binding) (row : Row) (c : ListingClass) (es : List EdgeValue) → may_stand binding row ≡ true → IsOfKind row c → (next : ListingValue) × (step binding es c ≡ Some next)
 kind_steps binding CommentRow c es stands is = (record { edges = es; binding = binding }, ap (step binding es) is)
 kind_steps binding BlankRow c es stands is = (record { edges = es; binding = Closed }, ap (step binding es) is)
 kind_steps binding (BuildRow t) c es stands is = (record { edges = es ++ bound is.0 None None ∷ []; binding = Open false false }, ap (step binding es) is.1)
@@ -411,7 +411,7 @@ no_step : {A : Type 0} {next : ListingValue} → ◌≡◌ {A = Option ListingVa
 no_step h = absurd (cc)
 
 -- and one that does something may stand
-step_stands : (binding : Binding) (row : Row) (c : Class) (es : List EdgeValue) (next : ListingValue) → IsOfKind row c → step binding es c ≡ Some next → may_stand binding row ≡ true
+step_stands : (binding : Binding) (row : Row) (c : ListingClass) (es : List EdgeValue) (next : ListingValue) → IsOfKind row c → step binding es c ≡ Some next → may_stand binding row ≡ true
 step_stands binding CommentRow c es next is steps = refl
 step_stands binding BlankRow c es next is steps = refl
 step_stands binding (BuildRow t) c es next is steps = refl
@@ -427,16 +427,16 @@ one_step : (o : Option ListingValue) (end : ListingValue) → option_and_then (�
 one_step None end h = no_step h
 one_step (Some next) end h = (next, refl)
 
-module _ (classes : List Class) (row : Row) (c : Class) (kind : IsOfKind row c) where
+module _ (classes : List ListingClass) (row : Row) (c : ListingClass) (kind : IsOfKind row c) where
   -- a listing goes on with a line that may stand
-  stands_begins : Begins classes → may_stand (open_from Closed classes) row ≡ true → Begins (classes ++ c ∷ [])
+  stands_begins : BeginsListing classes → may_stand (open_from Closed classes) row ≡ true → BeginsListing (classes ++ c ∷ [])
   stands_begins begun stands =
       let front = begins_runs classes begun in
       let next = kind_steps front.0.binding row c front.0.edges (ap (λ b. may_stand b row) (binding_runs classes Closed [] front.0 front.1) ∙ stands) kind in
       runs_begin (classes ++ c ∷ []) next.0 (run_more classes (c ∷ []) Closed [] front.0 front.1 ∙ ap (option_and_then (λ s. run s.binding s.edges [])) next.1)
 
   -- and a line may stand with which one goes on
-  begins_stands : Begins (classes ++ c ∷ []) → may_stand (open_from Closed classes) row ≡ true
+  begins_stands : BeginsListing (classes ++ c ∷ []) → may_stand (open_from Closed classes) row ≡ true
   begins_stands begun =
       let whole = begins_runs (classes ++ c ∷ []) begun in
       let front = run_front classes (c ∷ []) Closed [] whole.0 whole.1 in
@@ -461,12 +461,12 @@ misplaced binding text comment (DyndepRow value) is h = (is.0, is.1)
 misplaced binding text comment (RestatRow flag) is h = (is.0, is.1)
 
 -- What a line is after lines of these classes: of a class that may stand, or it has a cause, and that is found.
-pub data LineCases (classes : List Class) (text : List ℕ) (comment : Bool) : Type 0 where
-  goes_on : (c : Class) → TextIsOfClass text comment c → Begins (classes ++ c ∷ []) → text_cause (open_from Closed classes) text comment ≡ None → LineCases classes text comment
+pub data LineCases (classes : List ListingClass) (text : List ℕ) (comment : Bool) : Type 0 where
+  goes_on : (c : ListingClass) → IsListingLine text comment c → BeginsListing (classes ++ c ∷ []) → text_cause (open_from Closed classes) text comment ≡ None → LineCases classes text comment
   stops_by : (cause : LineCause) → IsTextCause classes text comment cause → text_cause (open_from Closed classes) text comment ≡ Some cause → LineCases classes text comment
 
 -- a line that is of a class has no cause but its form
-pub class_has_form : (classes : List Class) (text : List ℕ) (comment : Bool) (cause : LineCause) (c : Class) → IsTextCause classes text comment cause → TextIsOfClass text comment c → cause ≡ Form
+pub class_has_form : (classes : List ListingClass) (text : List ℕ) (comment : Bool) (cause : LineCause) (c : ListingClass) → IsTextCause classes text comment cause → IsListingLine text comment c → cause ≡ Form
 class_has_form classes text comment (Lexical fault) c is of = no_row (sym (faulty_row text comment fault is.0 is.1) ∙ row_found text comment of.0 of.1)
 class_has_form classes text comment Form c is of = refl
 class_has_form classes text comment (BadPath fault) c is of =
@@ -474,7 +474,7 @@ class_has_form classes text comment (BadPath fault) c is of =
 class_has_form classes text comment LineTooLong c is of = absurd is
 class_has_form classes text comment Truncated c is of = absurd is
 
-module _ (classes : List Class) (begun : Begins classes) (text : List ℕ) (comment : Bool) where
+module _ (classes : List ListingClass) (begun : BeginsListing classes) (text : List ℕ) (comment : Bool) where
   abbrev standing : Row → Bool
   standing row = may_stand (open_from Closed classes) row
 
@@ -510,7 +510,7 @@ module _ (classes : List Class) (begun : Begins classes) (text : List ℕ) (comm
   ]
 
   -- and no listing goes on with it
-  pub cause_stops : (cause : LineCause) (c : Class) → IsTextCause classes text comment cause → TextIsOfClass text comment c → Begins (classes ++ c ∷ []) → ⊥
+  pub cause_stops : (cause : LineCause) (c : ListingClass) → IsTextCause classes text comment cause → IsListingLine text comment c → BeginsListing (classes ++ c ∷ []) → ⊥
   cause_stops cause c is of on =
       let form = subst (IsTextCause classes text comment) (class_has_form classes text comment cause c is of) is in
       form.2 of.0 of.1 (stands_begins classes of.0 (as_class of.0) (row_kind of.0) begun (begins_stands classes of.0 c (class_kind of.0 c of.2) on))
@@ -522,7 +522,7 @@ sound_row_of text comment row fault is c l = no_row (sym (faulty_row text commen
 no_fault : {A : Type 0} {fault : LexFault} → ◌≡◌ {A = Option LexFault} None (Some fault) → A
 no_fault h = absurd (cc)
 
-pub one_text_cause : (classes : List Class) (text : List ℕ) (comment : Bool) (x y : LineCause) → IsTextCause classes text comment x → IsTextCause classes text comment y → y ≡ x
+pub one_text_cause : (classes : List ListingClass) (text : List ℕ) (comment : Bool) (x y : LineCause) → IsTextCause classes text comment x → IsTextCause classes text comment y → y ≡ x
 one_text_cause classes text comment (Lexical f) (Lexical g) a b = let e : ◌≡◌ {A = Option LexFault} (Some g) (Some f) = sym b.1 ∙ a.1 in cc
 one_text_cause classes text comment (Lexical f) Form a b = no_fault (sym b.1 ∙ a.1)
 one_text_cause classes text comment (Lexical f) (BadPath g) a b = sound_row_of text comment b.0 f b.1 a.0 a.1
@@ -532,7 +532,7 @@ one_text_cause classes text comment Form (BadPath g) a b = absurd (a.2 b.0 b.1 b
 one_text_cause classes text comment (BadPath f) (Lexical g) a b = sound_row_of text comment a.0 g a.1 b.0 b.1
 one_text_cause classes text comment (BadPath f) Form a b = absurd (b.2 a.0 a.1 a.2)
 one_text_cause classes text comment (BadPath f) (BadPath g) a b =
-    let e : ◌≡◌ {A = Result Class PathFault} (Err g) (Err f) = sym (refused_class b.0 g b.3) ∙ ap class_of_row (one_row text comment b.0 a.0 b.1 a.1) ∙ refused_class a.0 f a.3 in cc
+    let e : ◌≡◌ {A = Result ListingClass PathFault} (Err g) (Err f) = sym (refused_class b.0 g b.3) ∙ ap class_of_row (one_row text comment b.0 a.0 b.1 a.1) ∙ refused_class a.0 f a.3 in cc
 one_text_cause classes text comment LineTooLong y a b = absurd a
 one_text_cause classes text comment Truncated y a b = absurd a
 one_text_cause classes text comment x LineTooLong a b = absurd b

@@ -10,8 +10,9 @@ use Rattle.ninja_text.specs.declared.fault.LexFault.{LexFault}
 use Rattle.ninja_text.specs.declared.token.TokenKind.{TokenKind}
 use Rattle.ninja_text.specs.declared.token.TokenKind.TheVariants.{Word, Bar, DoubleBar, BarAt, Colon}
 use Rattle.dyndep_file.specs.Classes.{Symbol, WordSymbol, SignSymbol, symbol, symbols, begins_at_start, begins_with_space}
-use Rattle.dyndep_file.specs.Faults.{is_empty, after_build}
-use Rattle.dyndep_file.specs.BuildTokens.{symbol_of, is_word}
+use Rattle.dyndep_file.specs.Faults.{after_build}
+use Rattle.ninja_text.specs.Paths.{is_empty}
+use Rattle.dyndep_file.specs.BuildTokens.{symbol_of, is_this_word}
 use Rattle.build_effect.specs.ListingLines.{CommentRow, BlankRow, is_rule_name}
 use Rattle.build_effect.specs.inner.ListingWalk.{row_of, binding_row, unindented_row, edge_texts, right_texts, front_words, past_words, past_sign, part_words, past_part}
 use Rattle.build_effect.specs.inner.ListingRows.{RulePassed}
@@ -45,7 +46,7 @@ symbols_are text (t ∷ ts) = ap (λ s. symbol t.kind (raw text t) ∷ s) (symbo
 
 -- the tokens after the keyword `build`, by the first symbol
 built_by : (kind : TokenKind) (at_start : Bool) (bytes : List ℕ) (more others : List Symbol) → others ≡ more
-    → after_build at_start (symbol kind bytes ∷ more) ≡ (if at_start && is_word (codes "build") (symbol kind bytes) then Some others else None)
+    → after_build at_start (symbol kind bytes ∷ more) ≡ (if at_start && is_this_word (codes "build") (symbol kind bytes) then Some others else None)
 built_by Word at_start bytes more others h = rw h refl
 built_by Bar true bytes more others h = refl
 built_by Bar false bytes more others h = refl
@@ -59,13 +60,13 @@ built_by Colon false bytes more others h = refl
 -- and by the first token
 built : (text : List ℕ) (ts : List TokenAt) (head : SeenToken) (others : List SeenToken) → head ∷ others ≡ map (with_raw text) ts
     → after_build (begins_at_start ts) (map (λ t. symbol t.kind (raw text t)) ts)
-    ≡ (if (head.start == 0) && is_word (codes "build") (symbol_of head) then Some (map symbol_of others) else None)
+    ≡ (if (head.start == 0) && is_this_word (codes "build") (symbol_of head) then Some (map symbol_of others) else None)
 built text [] head others h = absurd (let x : head ∷ others ≡ [] = h in cc)
 built text (t ∷ ts) head others h =
     let first : head ≡ with_raw text t = (let x : head ∷ others ≡ with_raw text t ∷ map (with_raw text) ts = h in cc) in
     let rest : others ≡ map (with_raw text) ts = (let x : head ∷ others ≡ with_raw text t ∷ map (with_raw text) ts = h in cc) in
     built_by t.kind (t.start == 0) (raw text t) (map (λ t. symbol t.kind (raw text t)) ts) (map symbol_of others) (ap (map symbol_of) rest ∙ symbols_are text ts)
-    ∙ ap (λ (h : SeenToken). if (h.start == 0) && is_word (codes "build") (symbol_of h) then Some (map symbol_of others) else None) (sym first)
+    ∙ ap (λ (h : SeenToken). if (h.start == 0) && is_this_word (codes "build") (symbol_of h) then Some (map symbol_of others) else None) (sym first)
 
 module _ (text : List ℕ) (comment : Bool) (no_comment : comment ≡ false) (sound : lexical_fault text ≡ None) (head : SeenToken) (others : List SeenToken) (all : head ∷ others ≡ seen_tokens text) where
   -- the row of a line that is neither a comment nor blank
@@ -77,7 +78,7 @@ module _ (text : List ℕ) (comment : Bool) (no_comment : comment ≡ false) (so
   indented space = some_row ∙ rw space refl
 
   -- a line that is not indented
-  pub unindented : (builds : Bool) → begins_with_space text ≡ false → builds ≡ (head.start == 0) && is_word (codes "build") (symbol_of head)
+  pub unindented : (builds : Bool) → begins_with_space text ≡ false → builds ≡ (head.start == 0) && is_this_word (codes "build") (symbol_of head)
       → row_of text comment ≡ unindented_row (if builds then Some (map symbol_of others) else None)
   unindented builds space is = some_row ∙ rw space (ap unindented_row (built text (tokens text) head others all ∙ ap (λ b. if b then Some (map symbol_of others) else None) (sym is)))
 

@@ -2,14 +2,14 @@
 use Rattle.std.proofs.Common.{inr, ◌≡◌, ℕ, List, [], ◌∷◌, ◌++◌, refl, Some, None, true, false, Ok}
 use Rattle.std.specs.Prelude.{codes, All}
 use Rattle.std.proofs.lemmas.List.Elements.{All-from_recursion}
-use Rattle.ninja_text.specs.Lines.{text_of, is_comment}
+use Rattle.ninja_text.specs.Lines.{text_of_line, is_comment}
 use Rattle.ninja_text.specs.Paths.{canonical_of, IsPath}
 use Rattle.ninja_text.specs.declared.fault.LexFault.TheVariants.{Variable}
 use Rattle.ninja_text.specs.declared.fault.PathFault.TheVariants.{Empty}
 use Rattle.ninja_text.specs.declared.token.TokenKind.TheVariants.{Bar, DoubleBar}
 use Rattle.dyndep_file.specs.Classes.{WordSymbol, SignSymbol}
 use Rattle.build_effect.specs.EdgeValue.{EdgeValue}
-use Rattle.build_effect.specs.ListingLines.{EdgeTexts, CommentRow, BlankRow, BuildRow, DyndepRow, RestatRow, Class, Comment, Blank, Build, Dyndep, Restat, TextIsOfRow, TextIsOfClass}
+use Rattle.build_effect.specs.ListingLines.{EdgeTexts, CommentRow, BlankRow, BuildRow, DyndepRow, RestatRow, ListingClass, Comment, Blank, Build, Dyndep, Restat, TextIsOfRow, IsListingLine}
 use Rattle.build_effect.specs.inner.ListingWalk.{row_of, class_of_row, FindsClass, line_cause}
 use Rattle.build_effect.specs.ListingGrammar.{IsListing, listing_end, listing_blank, listing_build, no_more_bindings, comment_between, dyndep_binding, restat_binding}
 use Rattle.build_effect.specs.ListingSteps.{open_from}
@@ -201,7 +201,7 @@ edges =
     }
     ∷ []
 
-abbrev classes : List Class
+abbrev classes : List ListingClass
 classes =
     Build (compile (codes "a.o") (codes "a.cpp")) ∷ Dyndep (codes "t.dd") ∷ Comment ∷ Restat true ∷ Build (compile (codes "b.o") (codes "b.cpp")) ∷ Dyndep (codes "t.dd") ∷ Blank
     ∷ Build archive ∷ []
@@ -213,11 +213,11 @@ listing_form =
     (listing_build (dyndep_binding no_more_bindings) (listing_blank (listing_build no_more_bindings listing_end)))
 
 -- its lines are of these classes
-abbrev IsLineOf : List ℕ → Class → Type 0
-IsLineOf line c = TextIsOfClass (text_of line) (is_comment line) c
+abbrev IsLineOf : List ℕ → ListingClass → Type 0
+IsLineOf line c = IsListingLine (text_of_line line) (is_comment line) c
 
-found : (line : List ℕ) (c : Class) → FindsClass (text_of line) (is_comment line) c → IsLineOf line c
-found line c finds = class_holds (text_of line) (is_comment line) c finds
+found : (line : List ℕ) (c : ListingClass) → FindsClass (text_of_line line) (is_comment line) c → IsLineOf line c
+found line c finds = class_holds (text_of_line line) (is_comment line) c finds
 
 first_line : IsLineOf (line (codes "build a.o: cxx a.cpp || t.dd")) (Build (compile (codes "a.o") (codes "a.cpp")))
 unfolding canonical_of

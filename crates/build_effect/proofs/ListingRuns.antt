@@ -3,8 +3,8 @@ use Rattle.std.proofs.Common.{inl, inr, ◌⊎◌, ◌≡◌, ℕ, Bool, true, f
 use Rattle.std.specs.Prelude.{is_some}
 use Rattle.std.proofs.lemmas.List.{append-nil}
 use Rattle.build_effect.specs.EdgeValue.{EdgeValue}
-use Rattle.build_effect.specs.ListingLines.{EdgeTexts, Class, Comment, Blank, Build, Dyndep, Restat}
-use Rattle.build_effect.specs.ListingGrammar.{HasBindings, no_more_bindings, comment_between, dyndep_binding, restat_binding, bound, IsListing, listing_end, listing_comment, listing_blank, listing_build, Begins}
+use Rattle.build_effect.specs.ListingLines.{EdgeTexts, ListingClass, Comment, Blank, Build, Dyndep, Restat}
+use Rattle.build_effect.specs.ListingGrammar.{HasBindings, no_more_bindings, comment_between, dyndep_binding, restat_binding, bound, IsListing, listing_end, listing_comment, listing_blank, listing_build, BeginsListing}
 use Rattle.build_effect.specs.ListingSteps.{ListingValue, left_open, open_from}
 use Rattle.build_effect.specs.inner.ListingWalk.{with_last_dyndep, with_last_restat, step, run}
 use Rattle.build_effect.specs.declared.listing.state.Binding.{Binding}
@@ -38,12 +38,12 @@ last_restat (e ∷ []) t flag dyndep restat = refl
 last_restat (e ∷ f ∷ es) t flag dyndep restat = ap (λ l. e ∷ l) (last_restat (f ∷ es) t flag dyndep restat)
 
 -- the run over these lines ends with these edges
-record RunsTo (binding : Binding) (start : List EdgeValue) (classes : List Class) (result : List EdgeValue) : Type 0 where
+record RunsTo (binding : Binding) (start : List EdgeValue) (classes : List ListingClass) (result : List EdgeValue) : Type 0 where
   final : Binding
   is : run binding start classes ≡ Some (record { edges = result; binding = final })
 
 -- what may follow where no edge is open may follow where one is
-open_runs : (binding : Binding) (classes : List Class) (start result : List EdgeValue) → RunsTo Closed start classes result → RunsTo binding start classes result
+open_runs : (binding : Binding) (classes : List ListingClass) (start result : List EdgeValue) → RunsTo Closed start classes result → RunsTo binding start classes result
 open_runs binding [] start result r =
     let same : start ≡ result = ap (λ s. s.edges) (value_same r.is) in
     record { final = binding; is = ap (λ es. Some (record { edges = es; binding = binding })) same }
@@ -69,7 +69,7 @@ either_none None = refl
 either_none (Some x) = refl
 
 -- the bindings of an open edge set what they name
-bindings_run : {classes more : List Class} {d : Option (List ℕ)} {r : Option Bool} (start result : List EdgeValue) (t : EdgeTexts) (dyndep : Option (List ℕ)) (restat : Option Bool)
+bindings_run : {classes more : List ListingClass} {d : Option (List ℕ)} {r : Option Bool} (start result : List EdgeValue) (t : EdgeTexts) (dyndep : Option (List ℕ)) (restat : Option Bool)
     → HasBindings classes d r more → Apart dyndep d → Apart restat r → RunsTo Closed (start ++ bound t (either dyndep d) (either restat r) ∷ []) more result
     → RunsTo (Open (is_some dyndep) (is_some restat)) (start ++ bound t dyndep restat ∷ []) classes result
 bindings_run start result t dyndep restat (no_more_bindings {more}) a b runs =
@@ -87,7 +87,7 @@ bindings_run start result t dyndep None (restat_binding {classes} {more} {dyndep
     record { final = later.final; is = ap (λ es. run (Open (is_some dyndep) true) es classes) (last_restat start t flag dyndep None) ∙ later.is }
 
 -- the lines of a listing run to its edges
-listing_runs : {classes : List Class} {es : List EdgeValue} (start : List EdgeValue) → IsListing classes es → RunsTo Closed start classes (start ++ es)
+listing_runs : {classes : List ListingClass} {es : List EdgeValue} (start : List EdgeValue) → IsListing classes es → RunsTo Closed start classes (start ++ es)
 listing_runs start listing_end = record { final = Closed; is = ap (λ es. Some (record { edges = es; binding = Closed })) (sym (append-nil start)) }
 listing_runs start (listing_comment l) = let r = listing_runs start l in record { final = r.final; is = r.is }
 listing_runs start (listing_blank l) = let r = listing_runs start l in record { final = r.final; is = r.is }
@@ -98,23 +98,23 @@ listing_runs start (listing_build {paths} {classes} {more} {dyndep} {restat} {ed
     record { final = r.final; is = r.is }
 
 -- lines of these classes list one list of edges at most
-pub one_list_of_edges : {classes : List Class} {es fs : List EdgeValue} → IsListing classes es → IsListing classes fs → es ≡ fs
+pub one_list_of_edges : {classes : List ListingClass} {es fs : List EdgeValue} → IsListing classes es → IsListing classes fs → es ≡ fs
 one_list_of_edges {classes} {es} {fs} a b =
     let r = listing_runs [] a in
     let q = listing_runs [] b in
     ap (λ s. s.edges) (value_same (sym r.is ∙ q.is))
 
 -- the edges that a run adds, where none is open
-record Added (classes : List Class) (start : List EdgeValue) (end : ListingValue) : Type 0 where
+record Added (classes : List ListingClass) (start : List EdgeValue) (end : ListingValue) : Type 0 where
   edges : List EdgeValue
   are : end.edges ≡ start ++ edges
   grammar : IsListing classes edges
 
 -- the bindings and the edges that a run adds, where one is open with these bindings
-record Bound (classes : List Class) (start : List EdgeValue) (t : EdgeTexts) (dyndep : Option (List ℕ)) (restat : Option Bool) (end : ListingValue) : Type 0 where
+record Bound (classes : List ListingClass) (start : List EdgeValue) (t : EdgeTexts) (dyndep : Option (List ℕ)) (restat : Option Bool) (end : ListingValue) : Type 0 where
   d : Option (List ℕ)
   r : Option Bool
-  more : List Class
+  more : List ListingClass
   edges : List EdgeValue
   bindings : HasBindings classes d r more
   apart_d : Apart dyndep d
@@ -123,7 +123,7 @@ record Bound (classes : List Class) (start : List EdgeValue) (t : EdgeTexts) (dy
   are : end.edges ≡ start ++ bound t (either dyndep d) (either restat r) ∷ edges
 
 -- what any run over these lines adds
-record RunAdds (classes : List Class) : Type 0 where
+record RunAdds (classes : List ListingClass) : Type 0 where
   none : (start : List EdgeValue) (end : ListingValue) → run Closed start classes ≡ Some end → Added classes start end
   one : (start : List EdgeValue) (t : EdgeTexts) (dyndep : Option (List ℕ)) (restat : Option Bool) (end : ListingValue)
       → run (Open (is_some dyndep) (is_some restat)) (start ++ bound t dyndep restat ∷ []) classes ≡ Some end → Bound classes start t dyndep restat end
@@ -137,7 +137,7 @@ apart_some x None h = refl
 apart_some x (Some y) h = absurd h
 
 -- no binding comes any more
-no_binding : (classes : List Class) (start : List EdgeValue) (t : EdgeTexts) (dyndep : Option (List ℕ)) (restat : Option Bool) (end : ListingValue) (edges : List EdgeValue)
+no_binding : (classes : List ListingClass) (start : List EdgeValue) (t : EdgeTexts) (dyndep : Option (List ℕ)) (restat : Option Bool) (end : ListingValue) (edges : List EdgeValue)
     → IsListing classes edges → end.edges ≡ start ++ bound t dyndep restat ∷ edges → Bound classes start t dyndep restat end
 no_binding classes start t dyndep restat end edges grammar are = record {
   d = None;
@@ -152,7 +152,7 @@ no_binding classes start t dyndep restat end edges grammar are = record {
 }
 
 -- a binding of `dyndep` comes next
-dyndep_next : (path : List ℕ) (classes : List Class) (later : RunAdds classes) (start : List EdgeValue) (t : EdgeTexts) (dyndep : Option (List ℕ)) (restat : Option Bool) (end : ListingValue)
+dyndep_next : (path : List ℕ) (classes : List ListingClass) (later : RunAdds classes) (start : List EdgeValue) (t : EdgeTexts) (dyndep : Option (List ℕ)) (restat : Option Bool) (end : ListingValue)
     → run (Open (is_some dyndep) (is_some restat)) (start ++ bound t dyndep restat ∷ []) (Dyndep path ∷ classes) ≡ Some end → Bound (Dyndep path ∷ classes) start t dyndep restat end
 dyndep_next path classes later start t (Some p) restat end h = never h
 dyndep_next path classes later start t None restat end h =
@@ -169,7 +169,7 @@ dyndep_next path classes later start t None restat end h =
     }
 
 -- a binding of `restat` comes next
-restat_next : (flag : Bool) (classes : List Class) (later : RunAdds classes) (start : List EdgeValue) (t : EdgeTexts) (dyndep : Option (List ℕ)) (restat : Option Bool) (end : ListingValue)
+restat_next : (flag : Bool) (classes : List ListingClass) (later : RunAdds classes) (start : List EdgeValue) (t : EdgeTexts) (dyndep : Option (List ℕ)) (restat : Option Bool) (end : ListingValue)
     → run (Open (is_some dyndep) (is_some restat)) (start ++ bound t dyndep restat ∷ []) (Restat flag ∷ classes) ≡ Some end → Bound (Restat flag ∷ classes) start t dyndep restat end
 restat_next flag classes later start t dyndep (Some f) end h = never h
 restat_next flag classes later start t dyndep None end h =
@@ -186,7 +186,7 @@ restat_next flag classes later start t dyndep None end h =
     }
 
 -- a run adds just the edges that its lines are a listing of
-run_adds : (classes : List Class) → RunAdds classes
+run_adds : (classes : List ListingClass) → RunAdds classes
 run_adds [] = record {
   none = λ start end h. record { edges = []; are = sym (ap (λ s. s.edges) (value_same h)) ∙ sym (append-nil start); grammar = listing_end };
   one = λ start t dyndep restat end h. no_binding [] start t dyndep restat end [] listing_end (sym (ap (λ s. s.edges) (value_same h)));
@@ -223,11 +223,11 @@ run_adds (Dyndep path ∷ classes) = let later = run_adds classes in record { no
 run_adds (Restat flag ∷ classes) = let later = run_adds classes in record { none = λ start end h. never h; one = restat_next flag classes later }
 
 -- lines that run are a listing of the edges that they run to
-pub run_is_listing : (classes : List Class) (end : ListingValue) → run Closed [] classes ≡ Some end → IsListing classes end.edges
+pub run_is_listing : (classes : List ListingClass) (end : ListingValue) → run Closed [] classes ≡ Some end → IsListing classes end.edges
 run_is_listing classes end h = let a = (run_adds classes).none [] end h in subst (IsListing classes) (sym a.are) a.grammar
 
 -- a run over more lines passes through the fewer
-pub run_front : (classes more : List Class) (binding : Binding) (start : List EdgeValue) (end : ListingValue) → run binding start (classes ++ more) ≡ Some end
+pub run_front : (classes more : List ListingClass) (binding : Binding) (start : List EdgeValue) (end : ListingValue) → run binding start (classes ++ more) ≡ Some end
     → (mid : ListingValue) × (run binding start classes ≡ Some mid) × (run mid.binding mid.edges more ≡ Some end)
 run_front [] more binding start end h = (record { edges = start; binding = binding }, refl, h)
 run_front (c ∷ classes) more binding start end h = elim (cases_step (step binding start c)) [
@@ -236,7 +236,7 @@ run_front (c ∷ classes) more binding start end h = elim (cases_step (step bind
 ]
 
 -- and goes on from there
-pub run_more : (classes more : List Class) (binding : Binding) (start : List EdgeValue) (mid : ListingValue) → run binding start classes ≡ Some mid
+pub run_more : (classes more : List ListingClass) (binding : Binding) (start : List EdgeValue) (mid : ListingValue) → run binding start classes ≡ Some mid
     → run binding start (classes ++ more) ≡ run mid.binding mid.edges more
 run_more [] more binding start mid h = ap (λ s. run s.binding s.edges more) (value_same h)
 run_more (c ∷ classes) more binding start mid h = elim (cases_step (step binding start c)) [
@@ -245,18 +245,18 @@ run_more (c ∷ classes) more binding start mid h = elim (cases_step (step bindi
 ]
 
 -- lines that some listing begins with can be run over
-pub begins_runs : (classes : List Class) → Begins classes → (end : ListingValue) × (run Closed [] classes ≡ Some end)
+pub begins_runs : (classes : List ListingClass) → BeginsListing classes → (end : ListingValue) × (run Closed [] classes ≡ Some end)
 begins_runs classes b =
     let r = listing_runs [] b.2 in
     let front = run_front classes b.0 Closed [] (record { edges = b.1; binding = r.final }) r.is in
     (front.0, front.1)
 
 -- and some listing begins with lines that can be run over
-pub runs_begin : (classes : List Class) (end : ListingValue) → run Closed [] classes ≡ Some end → Begins classes
+pub runs_begin : (classes : List ListingClass) (end : ListingValue) → run Closed [] classes ≡ Some end → BeginsListing classes
 runs_begin classes end h = ([], end.edges, subst (λ cs. IsListing cs end.edges) (sym (append-nil classes)) (run_is_listing classes end h))
 
 -- what a step leaves open depends on the class alone
-left : (binding : Binding) (es : List EdgeValue) (c : Class) (next : ListingValue) → step binding es c ≡ Some next → next.binding ≡ left_open binding c
+left : (binding : Binding) (es : List EdgeValue) (c : ListingClass) (next : ListingValue) → step binding es c ≡ Some next → next.binding ≡ left_open binding c
 left binding es Comment next h = sym (ap (λ s. s.binding) (value_same h))
 left binding es Blank next h = sym (ap (λ s. s.binding) (value_same h))
 left binding es (Build t) next h = sym (ap (λ s. s.binding) (value_same h))
@@ -268,7 +268,7 @@ left (Open dyndep true) es (Restat flag) next h = never h
 left (Open dyndep false) es (Restat flag) next h = sym (ap (λ s. s.binding) (value_same h))
 
 -- and so for a run
-pub binding_runs : (classes : List Class) (binding : Binding) (es : List EdgeValue) (end : ListingValue) → run binding es classes ≡ Some end → end.binding ≡ open_from binding classes
+pub binding_runs : (classes : List ListingClass) (binding : Binding) (es : List EdgeValue) (end : ListingValue) → run binding es classes ≡ Some end → end.binding ≡ open_from binding classes
 binding_runs [] binding es end h = sym (ap (λ s. s.binding) (value_same h))
 binding_runs (c ∷ classes) binding es end h = elim (cases_step (step binding es c)) [
   | inl e ↦ absurd (let x : ◌≡◌ {A = Option ListingValue} None (Some end) = rw e at h in cc)
@@ -276,7 +276,7 @@ binding_runs (c ∷ classes) binding es end h = elim (cases_step (step binding e
 ]
 
 -- a listing is run to its edges
-pub listing_is_run : (classes : List Class) (value : ListingValue) → IsListing classes value.edges → value.binding ≡ open_from Closed classes → run Closed [] classes ≡ Some value
+pub listing_is_run : (classes : List ListingClass) (value : ListingValue) → IsListing classes value.edges → value.binding ≡ open_from Closed classes → run Closed [] classes ≡ Some value
 listing_is_run classes value grammar left_so =
     let r = listing_runs [] grammar in
     let end : ListingValue = record { edges = value.edges; binding = r.final } in

@@ -15,18 +15,18 @@ use Rattle.ninja_text.specs.declared.failure.Failure.{Failure}
 use Rattle.ninja_text.specs.declared.failure.Failure.TheVariants.{Memory, Fault}
 use Rattle.dyndep_file.specs.Writing.{spaced}
 use Rattle.build_effect.specs.EdgeValue.{EdgeValue}
-use Rattle.build_effect.specs.ListingWriting.{edge_line, dyndep_line, restat_line, too_long_from, listing_text, first_too_long, LeavesWriter, WritesInTurn, AnswersFault, text_unless, text_or_fault}
+use Rattle.build_effect.specs.ListingWriting.{edge_line, dyndep_line, restat_line, too_long_from, listing_text, first_too_long, LeavesListingWriter, WritesListingInTurn, AnswersTooLong, listing_text_unless, listing_text_or_fault}
 use Rattle.build_effect.specs.declared.fault.ListingWriteFault.{ListingWriteFault}
 use Rattle.build_effect.specs.declared.fault.ListingWriteFault.TheVariants.{ListingTooLong, Io}
 
 -- the fault is that of an edge
-reported : (o : Option ℕ) (es : List EdgeValue) (f : ListingWriteFault) → text_unless o es ≡ Err f → (k : ℕ) × (o ≡ Some k) × (f ≡ ListingTooLong k)
+reported : (o : Option ℕ) (es : List EdgeValue) (f : ListingWriteFault) → listing_text_unless o es ≡ Err f → (k : ℕ) × (o ≡ Some k) × (f ≡ ListingTooLong k)
 reported None es f h = absurd (let x : ◌≡◌ {A = Result (List ℕ) ListingWriteFault} (Ok (listing_text es)) (Err f) = h in cc)
 reported (Some k) es f h = (k, refl, (let x : ◌≡◌ {A = Result (List ℕ) ListingWriteFault} (Err (ListingTooLong k)) (Err f) = h in cc))
 
 -- no text was made for want of memory, or of this edge
 pub failed : {W : Type 0} (contents : W → Option (List ℕ)) (out : Counted W) (text : List ℕ) (es : List EdgeValue) (failure : Failure ListingWriteFault)
-    → Gives {T = Vec ℕ Global} (λ made. made.items) (Err failure) (text_or_fault es) → LeavesWriter contents out out text failure × AnswersFault {T = Unit {0}} (first_too_long es) (Err failure)
+    → Gives {T = Vec ℕ Global} (λ made. made.items) (Err failure) (listing_text_or_fault es) → LeavesListingWriter contents out out text failure × AnswersTooLong {T = Unit {0}} (first_too_long es) (Err failure)
 failed contents out text es Memory h = (refl, tt)
 failed contents out text es (Fault (ListingTooLong edge)) h =
     let t = reported (first_too_long es) es (ListingTooLong edge) h in
@@ -37,7 +37,7 @@ failed contents out text es (Fault (Io written)) h =
 
 -- no call of the writer was made then
 pub uncalled : {W : Type 0} (writes : Call W) (out : W) (text : List ℕ) (es : List EdgeValue) (failure : Failure ListingWriteFault)
-    → Gives {T = Vec ℕ Global} (λ made. made.items) (Err failure) (text_or_fault es) → WritesInTurn {T = Unit {0}} writes out out text (Err failure)
+    → Gives {T = Vec ℕ Global} (λ made. made.items) (Err failure) (listing_text_or_fault es) → WritesListingInTurn {T = Unit {0}} writes out out text (Err failure)
 uncalled writes out text es Memory h = refl
 uncalled writes out text es (Fault (ListingTooLong edge)) h = refl
 uncalled writes out text es (Fault (Io written)) h =
@@ -45,11 +45,11 @@ uncalled writes out text es (Fault (Io written)) h =
     absurd (let x : Io written ≡ ListingTooLong t.0 = t.2 in cc)
 
 -- a text is that of the edges
-given : (o : Option ℕ) (es : List EdgeValue) (text : List ℕ) → text_unless o es ≡ Ok text → (o ≡ None) × (text ≡ listing_text es)
+given : (o : Option ℕ) (es : List EdgeValue) (text : List ℕ) → listing_text_unless o es ≡ Ok text → (o ≡ None) × (text ≡ listing_text es)
 given None es text h = (refl, (let x : ◌≡◌ {A = Result (List ℕ) ListingWriteFault} (Ok (listing_text es)) (Ok text) = h in cc))
 given (Some k) es text h = absurd (let x : ◌≡◌ {A = Result (List ℕ) ListingWriteFault} (Err (ListingTooLong k)) (Ok text) = h in cc)
 
-pub made : (es : List EdgeValue) (text : Vec ℕ Global) → Gives {T = Vec ℕ Global} (λ made. made.items) (Ok text) (text_or_fault es)
+pub made : (es : List EdgeValue) (text : Vec ℕ Global) → Gives {T = Vec ℕ Global} (λ made. made.items) (Ok text) (listing_text_or_fault es)
     → (first_too_long es ≡ None) × (text.items ≡ listing_text es)
 made es text h = given (first_too_long es) es text.items h
 
@@ -75,10 +75,10 @@ none_goes_on edges i e within is short so_far = so_far ∙ ap (too_long_from i) 
 
 -- the edge at hand is the first whose build line is too long
 pub too_long_here : (edges : List EdgeValue) (i : ℕ) (e : EdgeValue) → i < length edges → e ≡ get_or edges i e → line_limit < length (edge_line e)
-    → too_long_from 0 edges ≡ too_long_from i (drop i edges) → text_or_fault edges ≡ Err (ListingTooLong i)
+    → too_long_from 0 edges ≡ too_long_from i (drop i edges) → listing_text_or_fault edges ≡ Err (ListingTooLong i)
 too_long_here edges i e within is long none =
     let here : too_long_from i (e ∷ drop (i + 1) edges) ≡ Some i = rw (lt-ltb line_limit (length (edge_line e)) long) refl in
-    ap (λ o. text_unless o edges) (none ∙ ap (too_long_from i) (drop_item edges i e within is) ∙ here)
+    ap (λ o. listing_text_unless o edges) (none ∙ ap (too_long_from i) (drop_item edges i e within is) ∙ here)
 
 -- one more path after a space
 pub spaced_goes_on : (paths : List (List ℕ)) (i : ℕ) (path start text new : List ℕ) → i < length paths → path ≡ get_or paths i path → new ≡ (text ++ space ∷ []) ++ escaped path
@@ -90,8 +90,8 @@ spaced_goes_on paths i path start text new within is n so_far =
 
 -- no edge is left, so the text is whole
 pub all_written : (edges : List EdgeValue) (i : ℕ) (text : List ℕ) → length edges ≤ i → text ++ listing_text (drop i edges) ≡ listing_text edges
-    → too_long_from 0 edges ≡ too_long_from i (drop i edges) → text_or_fault edges ≡ Ok text
+    → too_long_from 0 edges ≡ too_long_from i (drop i edges) → listing_text_or_fault edges ≡ Ok text
 all_written edges i text over so_far none =
     let none_left : drop i edges ≡ [] = drop_all i edges over in
     let whole : text ≡ listing_text edges = sym (append-nil text) ∙ ap (λ xs. text ++ listing_text xs) (sym none_left) ∙ so_far in
-    ap (λ o. text_unless o edges) (none ∙ ap (too_long_from i) none_left) ∙ ap (λ t. Ok t) (sym whole)
+    ap (λ o. listing_text_unless o edges) (none ∙ ap (too_long_from i) none_left) ∙ ap (λ t. Ok t) (sym whole)

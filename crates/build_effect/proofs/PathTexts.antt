@@ -6,18 +6,18 @@ use Rattle.ninja_text.specs.Paths.{path_of}
 use Rattle.ninja_text.specs.declared.fault.PathFault.{PathFault}
 use Rattle.dyndep_file.specs.StatementValue.{StatementValue}
 use Rattle.build_effect.specs.Effect.{ArePaths, IsCanonical, AreCanonical}
-use Rattle.build_effect.specs.Faults.{IsRefused, HasRefused}
+use Rattle.build_effect.specs.Faults.{IsNoPath, HasRefused}
 use Rattle.build_effect.specs.inner.BadPaths.{IsBadText, IsBadTextFrom, IsBadTextOf, IsBadStatement}
 use Rattle.build_effect.specs.declared.fault.EffectFault.{EffectFault}
 use Rattle.ninja_text.proofs.ForCallers.{same_some, in_append, in_first, in_second}
 use Rattle.ninja_text.proofs.ForCallers.{from_push, in_take, take_next}
 use Rattle.build_effect.proofs.Exclusion.{path_at, all_paths}
 
-not_both : (text path : List ℕ) → path_of text ≡ Ok path → IsRefused text → ⊥
+not_both : (text path : List ℕ) → path_of text ≡ Ok path → IsNoPath text → ⊥
 not_both text path ok refused = let both : Ok path ≡ Err refused.0 = sym ok ∙ refused.1 in cc
 
 abbrev pub NoneRefused : List (List ℕ) → Type 0
-NoneRefused texts = (j : ℕ) (text : List ℕ) → slice_get texts j ≡ Some text → IsRefused text → ⊥
+NoneRefused texts = (j : ℕ) (text : List ℕ) → slice_get texts j ≡ Some text → IsNoPath text → ⊥
 
 pub none_refused : (texts paths : List (List ℕ)) → ArePaths texts paths → NoneRefused texts
 none_refused texts paths are j text at refused = let p = path_at texts paths j text are at in not_both text p.0 p.1 refused
@@ -37,7 +37,7 @@ pub bad_before : (xs ys : List (List ℕ)) (statement_index from : ℕ) (fault :
 bad_before xs ys statement_index from fault (j, text, first, bad) =
     (j, text, record { here = in_first xs ys j text first.here; holds = first.holds; before = before }, bad)
   where
-    before : (k : ℕ) (y : List ℕ) → k < j → slice_get (xs ++ ys) k ≡ Some y → IsRefused y → ⊥
+    before : (k : ℕ) (y : List ℕ) → k < j → slice_get (xs ++ ys) k ≡ Some y → IsNoPath y → ⊥
     before k y less at refused =
         elim (in_append xs ys k y at) [
           | inl h ↦ first.before k y less h refused
@@ -49,7 +49,7 @@ bad_after xs ys statement_index from fault same none (j, text, first, bad) =
     let same_index : from + j ≡ 0 + (length xs + j) = omega (arith, same) in
     (length xs + j, text, record { here = in_second xs ys j text first.here; holds = first.holds; before = before }, subst (λ n. IsBadText text statement_index n fault) same_index bad)
   where
-    before : (k : ℕ) (y : List ℕ) → k < length xs + j → slice_get (xs ++ ys) k ≡ Some y → IsRefused y → ⊥
+    before : (k : ℕ) (y : List ℕ) → k < length xs + j → slice_get (xs ++ ys) k ≡ Some y → IsNoPath y → ⊥
     before k y less at refused =
         elim (in_append xs ys k y at) [
           | inl h ↦ none k y h refused

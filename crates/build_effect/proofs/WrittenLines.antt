@@ -6,22 +6,21 @@ use Rattle.std.proofs.lemmas.List.{append_assoc, append-nil}
 use Rattle.std.proofs.lemmas.Bool.{cases_Bool, or_parts}
 use Rattle.std.proofs.lemmas.List.Elements.{All-from_recursion}
 use Rattle.ninja_text.specs.Units.{units}
-use Rattle.ninja_text.specs.Lines.{line_limit, IsLine, is_comment, text_of}
+use Rattle.ninja_text.specs.Lines.{line_limit, IsLine, is_comment, text_of_line}
 use Rattle.ninja_text.specs.Lexical.{lexical_fault}
 use Rattle.ninja_text.specs.Tokens.{is_blank, tokens_from, tokens, raw}
 use Rattle.ninja_text.specs.Assignments.{SeenAssignment, after_run, begins_with_equals, tail_units, with_bytes, assignment_of}
 use Rattle.ninja_text.specs.Escapes.{is_unwritable, IsWritable, is_escaped, escaped_byte, escaped}
-use Rattle.ninja_text.specs.Paths.{IsPath}
+use Rattle.ninja_text.specs.Paths.{IsPath, is_empty}
 use Rattle.ninja_text.proofs.ForCallers.{shape, path_unit, path_units, value_of_escaped, word_and, word_token, lexical_none, is_line, text_is}
 use Rattle.dyndep_file.specs.Classes.{Symbol, WordSymbol, symbol, symbols, begins_at_start}
-use Rattle.dyndep_file.specs.Faults.{is_empty}
 use Rattle.dyndep_file.specs.Writing.{spaced}
 use Rattle.build_effect.specs.EdgeValue.{EdgeValue}
 use Rattle.build_effect.specs.Effect.{ArePaths}
 use Rattle.ninja_text.specs.LineFormats.{IsOfClass}
 use Rattle.build_effect.specs.ListingReading.{listing_format}
-use Rattle.build_effect.specs.ListingLines.{is_rule_name, IsEdgeLine, BuildRow, DyndepRow, RestatRow, TextIsOfRow, Class, Build, Dyndep, Restat, RowIsOfClass, TextIsOfClass}
-use Rattle.build_effect.specs.ListingWriting.{part_text, right_text, edge_line, dyndep_line, restat_line}
+use Rattle.build_effect.specs.ListingLines.{is_rule_name, IsEdgeLine, BuildRow, DyndepRow, RestatRow, TextIsOfRow, ListingClass, Build, Dyndep, Restat, RowIsOfClass, IsListingLine}
+use Rattle.build_effect.specs.ListingWriting.{marked_text, right_text, edge_line, dyndep_line, restat_line}
 use Rattle.build_effect.proofs.WrittenSymbols.{Spelled, spelled_none, spelled_space, spelled_path, spelled_name, units_both, escaped_units, HasLine, texts_of, edge_symbols, behind_keyword, line_text, line_written, behind_written, words_of, words_meant, line_is_edge}
 
 -- ---- a text that is put together, by itself and as a line
@@ -35,13 +34,13 @@ module _ {at_word : Bool} (text : List ℕ) (xs : List Symbol) (w : Spelled at_w
   spelled_is_line : is_comment (text ++ 10 ∷ []) ≡ false → IsLine (text ++ 10 ∷ [])
   spelled_is_line said = subst (λ t. IsLine (t ++ 10 ∷ [])) w.text_is (is_line (units text) w.sound (ap (λ t. is_comment (t ++ 10 ∷ [])) w.text_is ∙ said))
 
-  spelled_text : is_comment (text ++ 10 ∷ []) ≡ false → text_of (text ++ 10 ∷ []) ≡ text
-  spelled_text said = ap (λ t. text_of (t ++ 10 ∷ [])) (sym w.text_is) ∙ text_is (units text) w.sound (ap (λ t. is_comment (t ++ 10 ∷ [])) w.text_is ∙ said) ∙ w.text_is
+  spelled_text : is_comment (text ++ 10 ∷ []) ≡ false → text_of_line (text ++ 10 ∷ []) ≡ text
+  spelled_text said = ap (λ t. text_of_line (t ++ 10 ∷ [])) (sym w.text_is) ∙ text_is (units text) w.sound (ap (λ t. is_comment (t ++ 10 ∷ [])) w.text_is ∙ said) ∙ w.text_is
 
   -- the class of the line is that of the text
-  spelled_classed : is_comment (text ++ 10 ∷ []) ≡ false → (c : Class) → length (text ++ 10 ∷ []) ≤ line_limit → TextIsOfClass text false c → IsOfClass listing_format (text ++ 10 ∷ []) c
+  spelled_classed : is_comment (text ++ 10 ∷ []) ≡ false → (c : ListingClass) → length (text ++ 10 ∷ []) ≤ line_limit → IsListingLine text false c → IsOfClass listing_format (text ++ 10 ∷ []) c
   spelled_classed said c short is =
-      (short, subst (λ b. TextIsOfClass (text_of (text ++ 10 ∷ [])) b c) (sym said) (subst (λ t. TextIsOfClass t false c) (sym (spelled_text said)) is))
+      (short, subst (λ b. IsListingLine (text_of_line (text ++ 10 ∷ [])) b c) (sym said) (subst (λ t. IsListingLine t false c) (sym (spelled_text said)) is))
 
 -- ---- paths
 
@@ -123,10 +122,10 @@ module _ (e : EdgeValue) (fit : IsFit e) where
   line_is : line_text e ++ 10 ∷ [] ≡ edge_line e
   line_is =
       let outputs = flat_map spaced e.outputs in
-      let implicit_outputs = part_text (codes " |") e.implicit_outputs in
+      let implicit_outputs = marked_text (codes " |") e.implicit_outputs in
       let inputs = flat_map spaced e.inputs in
-      let implicit_inputs = part_text (codes " |") e.implicit_inputs in
-      let order_only = part_text (codes " ||") e.order_only in
+      let implicit_inputs = marked_text (codes " |") e.implicit_inputs in
+      let order_only = marked_text (codes " ||") e.order_only in
       ap (λ t. t ++ 10 ∷ []) (sym (
       append_assoc (codes "build" ++ outputs ++ implicit_outputs) (codes ": ") (right_text e)
       ∙ append_assoc (codes "build" ++ outputs) implicit_outputs (codes ": " ++ right_text e)

@@ -7,12 +7,11 @@ use Rattle.std.proofs.lemmas.List.Elements.{recursion_from_All, All-from_recursi
 use Rattle.std.proofs.lemmas.Bool.{cases_Bool, ltb-false}
 use Rattle.std.proofs.lemmas.Grind.{flat_map-append}
 use Rattle.ninja_text.specs.Lines.{line_limit, IsLine}
-use Rattle.ninja_text.specs.Paths.{IsPath}
+use Rattle.ninja_text.specs.Paths.{IsPath, is_empty}
 use Rattle.ninja_text.proofs.ForCallers.{AllByRecursion-append, joined}
-use Rattle.dyndep_file.specs.Faults.{is_empty}
 use Rattle.build_effect.specs.EdgeValue.{EdgeValue}
-use Rattle.build_effect.specs.Graphs.{made_by, inputs_of, Reads, IsGraph}
-use Rattle.build_effect.specs.ListingLines.{EdgeTexts, Class, Build, Dyndep, Restat}
+use Rattle.build_effect.specs.Graphs.{made_by, inputs_of, HasInput, IsGraph}
+use Rattle.build_effect.specs.ListingLines.{EdgeTexts, ListingClass, Build, Dyndep, Restat}
 use Rattle.build_effect.specs.ListingGrammar.{no_more_bindings, dyndep_binding, restat_binding, IsListing, listing_end, listing_build}
 use Rattle.ninja_text.proofs.ForCallers.{AreOfClasses-append}
 use Rattle.ninja_text.specs.LineFormats.{AreOfClasses}
@@ -33,18 +32,18 @@ abbrev restat_lines : Bool → List (List ℕ)
 restat_lines true = restat_line true ∷ []
 restat_lines false = []
 
-abbrev dyndep_classes : Option (List ℕ) → List Class
+abbrev dyndep_classes : Option (List ℕ) → List ListingClass
 dyndep_classes None = []
 dyndep_classes (Some path) = Dyndep path ∷ []
 
-abbrev restat_classes : Bool → List Class
+abbrev restat_classes : Bool → List ListingClass
 restat_classes true = Restat true ∷ []
 restat_classes false = []
 
 abbrev lines_of : EdgeValue → List (List ℕ)
 lines_of e = edge_line e ∷ (dyndep_lines e.dyndep ++ restat_lines e.restat)
 
-abbrev classes_of : EdgeValue → List Class
+abbrev classes_of : EdgeValue → List ListingClass
 classes_of e = Build (texts_of e) ∷ (dyndep_classes e.dyndep ++ restat_classes e.restat)
 
 -- The path of a binding is canonical.
@@ -94,7 +93,7 @@ are_classed (e ∷ es) each =
 -- ---- the classes are a listing of the edges
 
 -- the lines of one edge, by its parts, in front of a listing
-one_more : (t : EdgeTexts) (dyndep : Option (List ℕ)) (restat : Bool) (classes : List Class) (es : List EdgeValue) → IsListing classes es
+one_more : (t : EdgeTexts) (dyndep : Option (List ℕ)) (restat : Bool) (classes : List ListingClass) (es : List EdgeValue) → IsListing classes es
     → IsListing (Build t ∷ (dyndep_classes dyndep ++ restat_classes restat ++ classes)) (record {
       rule = t.rule;
       outputs = t.outputs;
@@ -169,7 +168,7 @@ each_of P [] at = tt
 each_of P (x ∷ xs) at = (at 0 x refl, each_of P xs (λ i y h. at (suc i) y h))
 
 module _ (g : List EdgeValue) (is : IsGraph g) (listable : All IsListable g) (short : first_too_long g ≡ None) where
-  dyndep_path : (e : EdgeValue) → All IsPath (inputs_of e) → (dyndep : Option (List ℕ)) → ((file : List ℕ) → dyndep ≡ Some file → Reads e file) → DyndepIsPath dyndep
+  dyndep_path : (e : EdgeValue) → All IsPath (inputs_of e) → (dyndep : Option (List ℕ)) → ((file : List ℕ) → dyndep ≡ Some file → HasInput e file) → DyndepIsPath dyndep
   dyndep_path e paths None reads = tt
   dyndep_path e paths (Some file) reads = let r = reads file refl in all_at IsPath (inputs_of e) paths r.0 file r.1
 

@@ -11,41 +11,41 @@ use Rattle.ninja_text.specs.declared.token.TokenKind.{TokenKind}
 use Rattle.ninja_text.specs.declared.token.TokenKind.TheVariants.{Bar, DoubleBar, Colon}
 use Rattle.ninja_text.specs.Units.{units}
 use Rattle.ninja_text.specs.Tokens.{is_piece, goes_on, tokens_from, value_of}
-use Rattle.ninja_text.specs.Assignments.{is_name_byte}
+use Rattle.ninja_text.specs.Assignments.{is_identifier_byte}
 use Rattle.ninja_text.specs.Escapes.{is_unwritable, IsWritable, escaped_byte, escaped}
 use Rattle.ninja_text.proofs.ForCallers.{is_sound, text_of_units, unit_text, units_read, path_unit, path_units, path_text, path_sound, path_pieces, has_spelling, value_of_escaped, Yields, viewed, no_units, goes_on_piece, space_yields, colon_yields, bar_yields, path_yields, units_are}
 use Rattle.dyndep_file.specs.Classes.{Symbol, WordSymbol, SignSymbol, symbol}
-use Rattle.dyndep_file.specs.Faults.{is_empty}
+use Rattle.ninja_text.specs.Paths.{is_empty}
 use Rattle.dyndep_file.specs.Writing.{spaced}
 use Rattle.build_effect.specs.EdgeValue.{EdgeValue}
-use Rattle.build_effect.specs.ListingLines.{EdgeTexts, is_rule_name, IsPart, IsEdgeLine, meant}
-use Rattle.build_effect.specs.ListingWriting.{part_text}
+use Rattle.build_effect.specs.ListingLines.{EdgeTexts, is_rule_name, IsSignedPart, IsEdgeLine, meant}
+use Rattle.build_effect.specs.ListingWriting.{marked_text}
 
 -- ---- a rule's name is spelled as it is
 
 -- a byte of a name is none that is not
-name_apart : (b c : ℕ) → is_name_byte b ≡ true → is_name_byte c ≡ false → (b == c) ≡ false
+name_apart : (b c : ℕ) → is_identifier_byte b ≡ true → is_identifier_byte c ≡ false → (b == c) ≡ false
 name_apart b c h none = elim (cases_Bool (b == c)) [
-  | inl t ↦ absurd (let x : false ≡ true = sym none ∙ subst (λ n. is_name_byte n ≡ true) (eqb-true b c t) h in cc)
+  | inl t ↦ absurd (let x : false ≡ true = sym none ∙ subst (λ n. is_identifier_byte n ≡ true) (eqb-true b c t) h in cc)
   | inr f ↦ f
 ]
 
-name_plain : (b : ℕ) → is_name_byte b ≡ true → escaped_byte b ≡ b ∷ []
+name_plain : (b : ℕ) → is_identifier_byte b ≡ true → escaped_byte b ≡ b ∷ []
 name_plain b h = rw (name_apart b 36 h refl, name_apart b 32 h refl, name_apart b 58 h refl) refl
 
-name_spelled : (b : ℕ) → is_name_byte b ≡ true → is_unwritable b ≡ false
+name_spelled : (b : ℕ) → is_identifier_byte b ≡ true → is_unwritable b ≡ false
 name_spelled b h = rw (name_apart b 124 h refl, name_apart b 0 h refl, name_apart b 13 h refl, name_apart b 10 h refl) refl
 
-names_plain : (name : List ℕ) → list_all is_name_byte name ≡ true → escaped name ≡ name
+names_plain : (name : List ℕ) → list_all is_identifier_byte name ≡ true → escaped name ≡ name
 names_plain [] h = refl
 names_plain (b ∷ name) h =
-    let p = and_parts (is_name_byte b) (list_all is_name_byte name) h in
+    let p = and_parts (is_identifier_byte b) (list_all is_identifier_byte name) h in
     ap (λ bs. bs ++ escaped name) (name_plain b p.0) ∙ ap (λ bs. b ∷ bs) (names_plain name p.1)
 
-names_spelled : (name : List ℕ) → list_all is_name_byte name ≡ true → AllByRecursion (λ b. is_unwritable b ≡ false) name
+names_spelled : (name : List ℕ) → list_all is_identifier_byte name ≡ true → AllByRecursion (λ b. is_unwritable b ≡ false) name
 names_spelled [] h = tt
 names_spelled (b ∷ name) h =
-    let p = and_parts (is_name_byte b) (list_all is_name_byte name) h in
+    let p = and_parts (is_identifier_byte b) (list_all is_identifier_byte name) h in
     (name_spelled b p.0, names_spelled name p.1)
 
 rule_plain : (rule : List ℕ) → IsTrue (is_rule_name rule) → escaped rule ≡ rule
@@ -149,14 +149,14 @@ module _ (text : List ℕ) (xs : List Symbol) (later : Spelled false text xs) wh
       spelled_space ((escaped path ++ flat_map spaced paths) ++ text) (words (path ∷ paths) ++ xs)
       (first_path_written path paths writable.0 (paths_written paths writable.1))
 
-  bar_written : (paths : List (List ℕ)) → AllByRecursion IsWritable paths → Spelled false (part_text (codes " |") paths ++ text) (part_symbols Bar paths ++ xs)
+  bar_written : (paths : List (List ℕ)) → AllByRecursion IsWritable paths → Spelled false (marked_text (codes " |") paths ++ text) (part_symbols Bar paths ++ xs)
   bar_written [] writable = later
   bar_written (path ∷ paths) writable =
       let behind = (escaped path ++ flat_map spaced paths) ++ text in
       spelled_space (124 ∷ 32 ∷ behind) (SignSymbol Bar ∷ (words (path ∷ paths) ++ xs))
       (spelled_bar behind (words (path ∷ paths) ++ xs) (first_path_written path paths writable.0 (paths_written paths writable.1)))
 
-  double_bar_written : (paths : List (List ℕ)) → AllByRecursion IsWritable paths → Spelled false (part_text (codes " ||") paths ++ text) (part_symbols DoubleBar paths ++ xs)
+  double_bar_written : (paths : List (List ℕ)) → AllByRecursion IsWritable paths → Spelled false (marked_text (codes " ||") paths ++ text) (part_symbols DoubleBar paths ++ xs)
   double_bar_written [] writable = later
   double_bar_written (path ∷ paths) writable =
       let behind = flat_map spaced (path ∷ paths) ++ text in
@@ -166,7 +166,7 @@ module _ (text : List ℕ) (xs : List Symbol) (later : Spelled false text xs) wh
 -- ---- what such symbols are
 
 -- a part
-part_is : (sign : TokenKind) (paths : List (List ℕ)) → IsPart sign (part_symbols sign paths) (map escaped paths)
+part_is : (sign : TokenKind) (paths : List (List ℕ)) → IsSignedPart sign (part_symbols sign paths) (map escaped paths)
 part_is sign [] = inl (refl, refl)
 part_is sign (path ∷ paths) = inr refl
 
@@ -227,29 +227,29 @@ edge_symbols e = words e.outputs ++ implicit_output_symbols e
 
 -- the line without its end, from the rule on, behind the keyword, and whole
 abbrev behind_colon : EdgeValue → List ℕ
-behind_colon e = e.rule ++ (flat_map spaced e.inputs ++ (part_text (codes " |") e.implicit_inputs ++ part_text (codes " ||") e.order_only))
+behind_colon e = e.rule ++ (flat_map spaced e.inputs ++ (marked_text (codes " |") e.implicit_inputs ++ marked_text (codes " ||") e.order_only))
 
 abbrev pub behind_keyword : EdgeValue → List ℕ
-behind_keyword e = flat_map spaced e.outputs ++ (part_text (codes " |") e.implicit_outputs ++ (58 ∷ 32 ∷ behind_colon e))
+behind_keyword e = flat_map spaced e.outputs ++ (marked_text (codes " |") e.implicit_outputs ++ (58 ∷ 32 ∷ behind_colon e))
 
 abbrev pub line_text : EdgeValue → List ℕ
 line_text e = codes "build" ++ behind_keyword e
 
 module _ (e : EdgeValue) (has : HasLine e) where
-  order_written : Spelled false (part_text (codes " ||") e.order_only) (order_symbols e)
+  order_written : Spelled false (marked_text (codes " ||") e.order_only) (order_symbols e)
   order_written =
-      subst (λ t. Spelled false t (order_symbols e)) (append-nil (part_text (codes " ||") e.order_only))
+      subst (λ t. Spelled false t (order_symbols e)) (append-nil (marked_text (codes " ||") e.order_only))
       (double_bar_written [] [] spelled_none e.order_only has.order_only)
 
-  inputs_written : Spelled false (flat_map spaced e.inputs ++ (part_text (codes " |") e.implicit_inputs ++ part_text (codes " ||") e.order_only)) (input_symbols e)
+  inputs_written : Spelled false (flat_map spaced e.inputs ++ (marked_text (codes " |") e.implicit_inputs ++ marked_text (codes " ||") e.order_only)) (input_symbols e)
   inputs_written =
-      paths_written (part_text (codes " |") e.implicit_inputs ++ part_text (codes " ||") e.order_only) (implicit_symbols e)
-      (bar_written (part_text (codes " ||") e.order_only) (order_symbols e) order_written e.implicit_inputs has.implicit_inputs)
+      paths_written (marked_text (codes " |") e.implicit_inputs ++ marked_text (codes " ||") e.order_only) (implicit_symbols e)
+      (bar_written (marked_text (codes " ||") e.order_only) (order_symbols e) order_written e.implicit_inputs has.implicit_inputs)
       e.inputs has.inputs
 
   right_written : Spelled true (behind_colon e) (WordSymbol e.rule ∷ input_symbols e)
   right_written =
-      spelled_name e.rule (flat_map spaced e.inputs ++ (part_text (codes " |") e.implicit_inputs ++ part_text (codes " ||") e.order_only)) (input_symbols e) has.rule inputs_written
+      spelled_name e.rule (flat_map spaced e.inputs ++ (marked_text (codes " |") e.implicit_inputs ++ marked_text (codes " ||") e.order_only)) (input_symbols e) has.rule inputs_written
 
   colon_written : Spelled false (58 ∷ 32 ∷ behind_colon e) (colon_symbols e)
   colon_written =
@@ -258,7 +258,7 @@ module _ (e : EdgeValue) (has : HasLine e) where
 
   pub behind_written : Spelled false (behind_keyword e) (edge_symbols e)
   behind_written =
-      paths_written (part_text (codes " |") e.implicit_outputs ++ (58 ∷ 32 ∷ behind_colon e)) (implicit_output_symbols e)
+      paths_written (marked_text (codes " |") e.implicit_outputs ++ (58 ∷ 32 ∷ behind_colon e)) (implicit_output_symbols e)
       (bar_written (58 ∷ 32 ∷ behind_colon e) (colon_symbols e) colon_written e.implicit_outputs has.implicit_outputs)
       e.outputs has.outputs
 

@@ -1,13 +1,14 @@
 -- The effect of a dyndep file on a graph, as a relation of two graphs (Ninja 1.11 manual, "Dynamic
 -- dependencies").
 use Rattle.std.specs.Prelude.{◌≡◌, ◌≢◌, ℕ, ◌||◌, List, ◌++◌, length, map, slice_get, Some, Ok}
+use Rattle.ninja_text.specs.Bytes.{Text, PathText}
 use Rattle.ninja_text.specs.Paths.{path_of}
 use Rattle.dyndep_file.specs.StatementValue.{StatementValue}
 use Rattle.build_effect.specs.EdgeValue.{EdgeValue}
 use Rattle.build_effect.specs.Graphs.{made_by, MadeOnce, Names}
 
 -- these are the canonical paths of the texts
-abbrev pub ArePaths : List (List ℕ) → List (List ℕ) → Type 0
+abbrev pub ArePaths : List Text → List PathText → Type 0
 ArePaths texts paths = map path_of texts ≡ map Ok paths
 
 -- a is the statement s with its paths made canonical
@@ -35,12 +36,12 @@ pub record IsTheOneOn (additions : List StatementValue) (e : EdgeValue) (k : ℕ
   pub only : (l : ℕ) (b : StatementValue) → slice_get additions l ≡ Some b → IsOn b e → l ≡ k
 
 -- the statement is on an edge that names the file
-abbrev pub IsBound : List EdgeValue → List ℕ → StatementValue → Type 0
+abbrev pub IsBound : List EdgeValue → PathText → StatementValue → Type 0
 IsBound g name a =
     (i : ℕ) × (e : EdgeValue) × (slice_get g i ≡ Some e) × Names name e × IsOn a e
 
 -- so is each of the statements
-abbrev pub AllBound : List EdgeValue → List ℕ → List StatementValue → Type 0
+abbrev pub AllBound : List EdgeValue → PathText → List StatementValue → Type 0
 AllBound g name additions =
     (k : ℕ) (a : StatementValue) → slice_get additions k ≡ Some a → IsBound g name a
 
@@ -53,7 +54,7 @@ extended e a = record e {
 }
 
 -- what the statements, with canonical paths, make of a graph whose edges name the file
-pub record Gives (old : List EdgeValue) (name : List ℕ) (additions : List StatementValue)
+pub record Extends (old : List EdgeValue) (name : PathText) (additions : List StatementValue)
     (new : List EdgeValue) : Type 0 where
   -- both have the same edges by index
   pub same_edges : length new ≡ length old
@@ -70,24 +71,24 @@ pub record Gives (old : List EdgeValue) (name : List ℕ) (additions : List Stat
   pub made_once : MadeOnce new
 
 -- the effect of the dyndep file `name`, which holds these statements, on a graph
-pub record Effect (old : List EdgeValue) (name : List ℕ) (statements : List StatementValue)
+pub record Effect (old : List EdgeValue) (name : PathText) (statements : List StatementValue)
     (new : List EdgeValue) : Type 0 where
   pub additions : List StatementValue
   pub canonical : AreCanonical statements additions
-  pub gives : Gives old name additions new
+  pub gives : Extends old name additions new
 
 -- the effect, and no other graph is one
-pub record OnlyEffect (old : List EdgeValue) (name : List ℕ) (statements : List StatementValue)
+pub record OnlyEffect (old : List EdgeValue) (name : PathText) (statements : List StatementValue)
     (new : List EdgeValue) : Type 0 where
   pub effect : Effect old name statements new
   pub only : (other : List EdgeValue) → Effect old name statements other → other ≡ new
 
 -- no graph is an effect
-abbrev pub HasNoEffect : List EdgeValue → List ℕ → List StatementValue → Type 0
+abbrev pub HasNoEffect : List EdgeValue → PathText → List StatementValue → Type 0
 HasNoEffect old name statements = (new : List EdgeValue) → Effect old name statements new → ⊥
 
 -- an effect of statements is what they give, once their paths are canonical
 abbrev pub EffectGives : Type 0
 EffectGives =
-    (g new : List EdgeValue) (name : List ℕ) (statements additions : List StatementValue) →
-    AreCanonical statements additions → Effect g name statements new → Gives g name additions new
+    (g new : List EdgeValue) (name : PathText) (statements additions : List StatementValue) →
+    AreCanonical statements additions → Effect g name statements new → Extends g name additions new

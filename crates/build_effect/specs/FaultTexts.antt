@@ -1,6 +1,7 @@
 -- How faults are printed: code and name, and of a text that is no path where it is and why.
-use Rattle.std.specs.Prelude.{ℕ, List, ◌++◌, Option, Some, None, codes}
+use Rattle.std.specs.Prelude.{◌++◌, Option, Some, None, codes}
 use Rattle.std.specs.Fmt.{decimal}
+use Rattle.ninja_text.specs.Bytes.{Text, PathText}
 use Rattle.ninja_text.specs.FaultTexts.{path_fault_text}
 use Rattle.build_effect.specs.declared.fault.GraphFault.{GraphFault}
 use Rattle.build_effect.specs.declared.fault.GraphFault.TheVariants.{ProducedTwice, DyndepNotInput}
@@ -8,18 +9,18 @@ use Rattle.build_effect.specs.declared.fault.EffectFault.{EffectFault}
 use Rattle.build_effect.specs.declared.fault.EffectFault.TheVariants.{BadPath, NotBound, StatementTwice, NotMentioned, AddedTwice}
 
 -- why edges are no graph
-abbrev pub graph_fault_text : GraphFault → List ℕ
+abbrev pub graph_fault_text : GraphFault → Text
 graph_fault_text (ProducedTwice path) = codes "E1 ProducedTwice"
 graph_fault_text (DyndepNotInput edge output) = codes "E2 DyndepNotInput"
 
 -- the file that is reported with it
-abbrev pub graph_fault_path : GraphFault → List ℕ
+abbrev pub graph_fault_path : GraphFault → PathText
 graph_fault_path (ProducedTwice path) = path
 graph_fault_path (DyndepNotInput edge output) = output
 
 -- why a dyndep file has no effect; a text that is no path has its statement's index, its own in the
 -- statement, and a cause
-abbrev pub effect_fault_text : EffectFault → List ℕ
+abbrev pub effect_fault_text : EffectFault → Text
 effect_fault_text (BadPath statement path cause) =
     codes "E8 BadPath statement " ++ decimal statement ++ codes " path " ++ decimal path
     ++ codes " " ++ path_fault_text cause
@@ -29,7 +30,7 @@ effect_fault_text (NotMentioned output) = codes "E6 NotMentioned"
 effect_fault_text (AddedTwice path) = codes "E7 AddedTwice"
 
 -- the file that is reported with it, but for a text that is no path
-abbrev pub effect_fault_path : EffectFault → Option (List ℕ)
+abbrev pub effect_fault_path : EffectFault → Option PathText
 effect_fault_path (BadPath statement path fault) = None
 effect_fault_path (NotBound output) = Some output
 effect_fault_path (StatementTwice output) = Some output

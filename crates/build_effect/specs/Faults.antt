@@ -1,11 +1,12 @@
 -- The faults of a list of edges, and those of statements on a graph.
 use Rattle.std.specs.Prelude.{◌≡◌, ◌⊎◌, ℕ, ◌<◌, List, ◌∷◌, ◌++◌, slice_get, Some, Err}
 use Rattle.std.specs.List.{flat_map}
+use Rattle.ninja_text.specs.Bytes.{Text, PathText}
 use Rattle.ninja_text.specs.Paths.{path_of}
 use Rattle.ninja_text.specs.declared.fault.PathFault.{PathFault}
 use Rattle.dyndep_file.specs.StatementValue.{StatementValue}
 use Rattle.build_effect.specs.EdgeValue.{EdgeValue}
-use Rattle.build_effect.specs.Graphs.{made_by, Reads, Names, IsMade, MadeOnce}
+use Rattle.build_effect.specs.Graphs.{made_by, HasInput, Names, IsMade, MadeOnce}
 use Rattle.build_effect.specs.Effect.{AreCanonical, IsOn, IsBound, AllBound}
 use Rattle.ninja_text.specs.Firsts.{IsFirst, IsFirstAt}
 use Rattle.build_effect.specs.declared.fault.GraphFault.{GraphFault}
@@ -14,16 +15,16 @@ use Rattle.build_effect.specs.declared.fault.EffectFault.{EffectFault}
 use Rattle.build_effect.specs.declared.fault.EffectFault.TheVariants.{BadPath, NotBound, StatementTwice, NotMentioned, AddedTwice}
 
 -- the files that the edges make, edge after edge
-abbrev pub made_files : List EdgeValue → List (List ℕ)
+abbrev pub made_files : List EdgeValue → List PathText
 made_files g = flat_map made_by g
 
 -- an earlier index of the list has the file, too
-abbrev pub StandsBefore : List (List ℕ) → ℕ → List ℕ → Type 0
+abbrev pub StandsBefore : List PathText → ℕ → PathText → Type 0
 StandsBefore files k file = (j : ℕ) × (j < k) × (slice_get files j ≡ Some file)
 
 -- the edge names a dyndep file that is none of its inputs
 abbrev pub NamesUnread : EdgeValue → Type 0
-NamesUnread e = (file : List ℕ) × Names file e × (Reads e file → ⊥)
+NamesUnread e = (file : PathText) × Names file e × (HasInput e file → ⊥)
 
 -- the fault that keeps a list of edges from being a graph; the second is looked for only where the
 -- first is not there
@@ -37,16 +38,16 @@ IsGraphFault g (DyndepNotInput i output) =
     × (slice_get e.outputs 0 ≡ Some output)
 
 -- the texts of a statement that have to be paths: output, implicit outputs, implicit inputs
-abbrev pub path_texts : StatementValue → List (List ℕ)
+abbrev pub path_texts : StatementValue → List PathText
 path_texts s = s.output ∷ s.implicit_outputs ++ s.implicit_inputs
 
 -- the text is no path
-abbrev pub IsRefused : List ℕ → Type 0
-IsRefused text = (fault : PathFault) × (path_of text ≡ Err fault)
+abbrev pub IsNoPath : Text → Type 0
+IsNoPath text = (fault : PathFault) × (path_of text ≡ Err fault)
 
 -- one of the statement's texts is no path
 abbrev pub HasRefused : StatementValue → Type 0
-HasRefused s = (j : ℕ) × (text : List ℕ) × (slice_get (path_texts s) j ≡ Some text) × IsRefused text
+HasRefused s = (j : ℕ) × (text : Text) × (slice_get (path_texts s) j ≡ Some text) × IsNoPath text
 
 -- a statement before index k is on the same edge as this one
 abbrev pub IsRepeated : List EdgeValue → List StatementValue → ℕ → StatementValue → Type 0
@@ -65,30 +66,30 @@ IsMentioned additions e =
     (k : ℕ) × (a : StatementValue) × (slice_get additions k ≡ Some a) × IsOn a e
 
 -- each edge that names the file has a statement
-abbrev pub AllMentioned : List EdgeValue → List ℕ → List StatementValue → Type 0
+abbrev pub AllMentioned : List EdgeValue → PathText → List StatementValue → Type 0
 AllMentioned g name additions =
     (i : ℕ) (e : EdgeValue) → slice_get g i ≡ Some e → Names name e → IsMentioned additions e
 
 -- all added outputs, statement after statement
-abbrev pub added_outputs : List StatementValue → List (List ℕ)
+abbrev pub added_outputs : List StatementValue → List PathText
 added_outputs additions = flat_map (λ a. a.implicit_outputs) additions
 
 -- an edge makes the file, or an earlier index of the added outputs has it
-abbrev pub IsMadeBefore : List EdgeValue → List (List ℕ) → ℕ → List ℕ → Type 0
+abbrev pub IsMadeBefore : List EdgeValue → List PathText → ℕ → PathText → Type 0
 IsMadeBefore g added k file = IsMade g file ⊎ StandsBefore added k file
 
 -- no added output is made by an edge or added twice
 abbrev pub NoneMadeBefore : List EdgeValue → List StatementValue → Type 0
 NoneMadeBefore g additions =
-    (k : ℕ) (file : List ℕ) → slice_get (added_outputs additions) k ≡ Some file →
+    (k : ℕ) (file : PathText) → slice_get (added_outputs additions) k ≡ Some file →
     IsMadeBefore g (added_outputs additions) k file → ⊥
 
 -- the fault that is reported: each is looked for only where none of those above it is there
-abbrev pub IsEffectFault : List EdgeValue → List ℕ → List StatementValue → EffectFault → Type 0
+abbrev pub IsEffectFault : List EdgeValue → PathText → List StatementValue → EffectFault → Type 0
 -- the first statement with a text that is no path, and in it the first such text
 IsEffectFault g name statements (BadPath k j fault) =
-    (s : StatementValue) × (text : List ℕ) × IsFirst HasRefused statements k s
-    × IsFirst IsRefused (path_texts s) j text × (path_of text ≡ Err fault)
+    (s : StatementValue) × (text : Text) × IsFirst HasRefused statements k s
+    × IsFirst IsNoPath (path_texts s) j text × (path_of text ≡ Err fault)
 -- the first statement that is on no edge that names the file
 IsEffectFault g name statements (NotBound output) =
     (additions : List StatementValue) × (k : ℕ) × (a : StatementValue)

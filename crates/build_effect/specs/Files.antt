@@ -1,14 +1,16 @@
 -- The effects of several dyndep files, one after the other.
 use Rattle.std.specs.Prelude.{◌≡◌, ◌≢◌, ℕ, ◌<◌, List, [], ◌∷◌, length, slice_get, Some}
+use Rattle.ninja_text.specs.Bytes.{PathText}
+use Rattle.dep_order.specs.Numbers.{Numbers}
 use Rattle.dyndep_file.specs.StatementValue.{StatementValue}
 use Rattle.build_effect.specs.EdgeValue.{EdgeValue}
 use Rattle.build_effect.specs.Graphs.{Names}
 use Rattle.build_effect.specs.Effect.{AreCanonical, IsTheOneOn, OnlyEffect, extended}
-use Rattle.build_effect.specs.Premises.{AddsAt, AddedOnce, Meets}
+use Rattle.build_effect.specs.Premises.{AddsAt, AddedOnce, MeetsPremises}
 
 -- a dyndep file: its name, its statements, and these with canonical paths
 pub record NamedFile : Type 0 where
-  pub name : List ℕ
+  pub name : PathText
   pub statements : List StatementValue
   pub additions : List StatementValue
 
@@ -20,16 +22,17 @@ pub record AreFiles (files : List NamedFile) : Type 0 where
 
 -- each file may be applied to the graph, their names differ, and no two add one file
 pub record FilesMeet (g : List EdgeValue) (files : List NamedFile) : Type 0 where
-  pub each : (n : ℕ) (f : NamedFile) → slice_get files n ≡ Some f → Meets g f.name f.additions
+  pub each : (n : ℕ) (f : NamedFile) → slice_get files n ≡ Some f →
+      MeetsPremises g f.name f.additions
   pub names_differ : (n m : ℕ) (f h : NamedFile) → slice_get files n ≡ Some f →
       slice_get files m ≡ Some h → f.name ≡ h.name → n ≡ m
-  pub added_apart : (n m k l i j : ℕ) (f h : NamedFile) (file : List ℕ) →
+  pub added_apart : (n m k l i j : ℕ) (f h : NamedFile) (file : PathText) →
       slice_get files n ≡ Some f → slice_get files m ≡ Some h →
       AddsAt f.additions k i file → AddsAt h.additions l j file → n ≡ m
 
 -- the files of these indices, applied one after the other, each with exactly one effect, lead from
 -- a graph to another
-abbrev pub Applies : List NamedFile → List EdgeValue → List ℕ → List EdgeValue → Type 0
+abbrev pub Applies : List NamedFile → List EdgeValue → Numbers → List EdgeValue → Type 0
 Applies files old [] new = new ≡ old
 Applies files old (n ∷ order) new =
     (f : NamedFile) × (mid : List EdgeValue) × (slice_get files n ≡ Some f)
@@ -37,7 +40,7 @@ Applies files old (n ∷ order) new =
 
 -- Each edge that names one of these files has gained exactly what the one statement on it adds, and
 -- every other edge stays as it is.
-pub record GainsExactly (files : List NamedFile) (old : List EdgeValue) (order : List ℕ)
+pub record GainsExactly (files : List NamedFile) (old : List EdgeValue) (order : Numbers)
     (new : List EdgeValue) : Type 0 where
   pub same_edges : length new ≡ length old
   pub named : (p n : ℕ) (f : NamedFile) (i : ℕ) (e : EdgeValue) → slice_get order p ≡ Some n →
@@ -50,19 +53,19 @@ pub record GainsExactly (files : List NamedFile) (old : List EdgeValue) (order :
       slice_get new i ≡ Some e
 
 -- these are indices of files, and all different
-pub record AreFileIndices (files : List NamedFile) (order : List ℕ) : Type 0 where
+pub record AreFileIndices (files : List NamedFile) (order : Numbers) : Type 0 where
   pub within : (p n : ℕ) → slice_get order p ≡ Some n → n < length files
   pub differ : (p q n : ℕ) → slice_get order p ≡ Some n → slice_get order q ≡ Some n → p ≡ q
 
 -- files may be applied in any order, and each edge gains exactly its own
 abbrev pub AnyOrder : Type 0
 AnyOrder =
-    (files : List NamedFile) (g : List EdgeValue) (order : List ℕ) →
+    (files : List NamedFile) (g : List EdgeValue) (order : Numbers) →
     AreFiles files → FilesMeet g files → AreFileIndices files order →
     (new : List EdgeValue) × Applies files g order new × GainsExactly files g order new
 
 -- the orders have the same files
-abbrev pub SameFiles : List ℕ → List ℕ → Type 0
+abbrev pub SameFiles : Numbers → Numbers → Type 0
 SameFiles order other =
     ((p n : ℕ) → slice_get order p ≡ Some n → (q : ℕ) × (slice_get other q ≡ Some n))
     × ((p n : ℕ) → slice_get other p ≡ Some n → (q : ℕ) × (slice_get order q ≡ Some n))
@@ -70,7 +73,7 @@ SameFiles order other =
 -- all orders of the same files end alike
 abbrev pub OrdersEndAlike : Type 0
 OrdersEndAlike =
-    (files : List NamedFile) (g : List EdgeValue) (order other : List ℕ)
+    (files : List NamedFile) (g : List EdgeValue) (order other : Numbers)
     (new end : List EdgeValue) →
     AreFiles files → FilesMeet g files → AreFileIndices files order → AreFileIndices files other →
     SameFiles order other → Applies files g order new → Applies files g other end → new ≡ end

@@ -1,45 +1,47 @@
 -- What edges make, read and name, and what makes a list of edges a graph.
 use Rattle.std.specs.Prelude.{◌≡◌, ◌≢◌, ℕ, List, [], ◌++◌, slice_get, Some}
+use Rattle.ninja_text.specs.Bytes.{PathText}
 use Rattle.build_effect.specs.EdgeValue.{EdgeValue}
 
 -- the files that an edge makes: its outputs, then its implicit outputs
-abbrev pub made_by : EdgeValue → List (List ℕ)
+abbrev pub made_by : EdgeValue → List PathText
 made_by e = e.outputs ++ e.implicit_outputs
 
 -- an edge's inputs of all kinds
-abbrev pub inputs_of : EdgeValue → List (List ℕ)
+abbrev pub inputs_of : EdgeValue → List PathText
 inputs_of e = e.inputs ++ (e.implicit_inputs ++ e.order_only)
 
 -- the edge makes the file
-abbrev pub Makes : EdgeValue → List ℕ → Type 0
+abbrev pub Makes : EdgeValue → PathText → Type 0
 Makes e file = (j : ℕ) × (slice_get (made_by e) j ≡ Some file)
 
 -- the file is one of the edge's inputs, of whatever kind
-abbrev pub Reads : EdgeValue → List ℕ → Type 0
-Reads e file = (j : ℕ) × (slice_get (inputs_of e) j ≡ Some file)
+abbrev pub HasInput : EdgeValue → PathText → Type 0
+HasInput e file = (j : ℕ) × (slice_get (inputs_of e) j ≡ Some file)
 
 -- the edge's dyndep binding names the file
-abbrev pub Names : List ℕ → EdgeValue → Type 0
+abbrev pub Names : PathText → EdgeValue → Type 0
 Names file e = e.dyndep ≡ Some file
 
 -- edge i makes the file, which has index j among those that it makes
-abbrev pub MakesAt : List EdgeValue → ℕ → ℕ → List ℕ → Type 0
+abbrev pub MakesAt : List EdgeValue → ℕ → ℕ → PathText → Type 0
 MakesAt g i j file =
     (e : EdgeValue) × (slice_get g i ≡ Some e) × (slice_get (made_by e) j ≡ Some file)
 
 -- some edge makes the file
-abbrev pub IsMade : List EdgeValue → List ℕ → Type 0
+abbrev pub IsMade : List EdgeValue → PathText → Type 0
 IsMade g file = (i : ℕ) × (j : ℕ) × MakesAt g i j file
 
 -- no file is made twice
 abbrev pub MadeOnce : List EdgeValue → Type 0
 MadeOnce g =
-    (i j k l : ℕ) (file : List ℕ) → MakesAt g i j file → MakesAt g k l file → (i ≡ k) × (j ≡ l)
+    (i j k l : ℕ) (file : PathText) → MakesAt g i j file → MakesAt g k l file → (i ≡ k) × (j ≡ l)
 
 -- each dyndep file that an edge names is one of that edge's inputs
 abbrev pub DyndepsAreInputs : List EdgeValue → Type 0
 DyndepsAreInputs g =
-    (i : ℕ) (e : EdgeValue) (file : List ℕ) → slice_get g i ≡ Some e → Names file e → Reads e file
+    (i : ℕ) (e : EdgeValue) (file : PathText) → slice_get g i ≡ Some e → Names file e →
+    HasInput e file
 
 -- What every graph keeps: each edge has an output, no file is made twice, and the dyndep files that
 -- edges name are their inputs.
@@ -51,5 +53,5 @@ pub record IsGraph (g : List EdgeValue) : Type 0 where
 -- edge a needs edge b, which makes one of its inputs
 abbrev pub EdgeNeeds : List EdgeValue → ℕ → ℕ → Type 0
 EdgeNeeds g a b =
-    (e : EdgeValue) × (file : List ℕ) × (j : ℕ) × (slice_get g a ≡ Some e) × Reads e file
+    (e : EdgeValue) × (file : PathText) × (j : ℕ) × (slice_get g a ≡ Some e) × HasInput e file
     × MakesAt g b j file

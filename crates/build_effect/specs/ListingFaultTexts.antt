@@ -1,7 +1,8 @@
 -- How the faults of an edge listing are printed: the line, the code and the name, and why a text is
 -- no path.
-use Rattle.std.specs.Prelude.{ℕ, List, ◌++◌, codes}
+use Rattle.std.specs.Prelude.{◌++◌, codes}
 use Rattle.std.specs.Fmt.{decimal}
+use Rattle.ninja_text.specs.Bytes.{Text}
 use Rattle.ninja_text.specs.FaultTexts.{lex_fault_text, path_fault_text}
 use Rattle.build_effect.specs.FaultTexts.{graph_fault_text}
 use Rattle.build_effect.specs.declared.fault.LineCause.{LineCause}
@@ -13,7 +14,7 @@ use Rattle.build_effect.specs.declared.fault.ListingWriteFault.{ListingWriteFaul
 use Rattle.build_effect.specs.declared.fault.ListingWriteFault.TheVariants.{ListingTooLong, Io}
 
 -- what is wrong with a line
-abbrev pub line_cause_text : LineCause → List ℕ
+abbrev pub line_cause_text : LineCause → Text
 line_cause_text LineTooLong = codes "N5 LineTooLong"
 line_cause_text Truncated = codes "N6 Truncated"
 line_cause_text (Lexical fault) = lex_fault_text fault
@@ -21,16 +22,16 @@ line_cause_text Form = codes "E3 Form"
 line_cause_text (BadPath fault) = codes "E3 Path " ++ path_fault_text fault
 
 -- the line, and what is wrong with it
-abbrev pub line_fault_text : LineFault → List ℕ
-line_fault_text fault =
+abbrev pub listing_line_fault_text : LineFault → Text
+listing_line_fault_text fault =
     codes "line " ++ decimal fault.line ++ codes ": " ++ line_cause_text fault.cause
 
 -- why a listing gave no graph
-abbrev pub listing_fault_text : ListingFault → List ℕ
-listing_fault_text (AtLine fault) = line_fault_text fault
+abbrev pub listing_fault_text : ListingFault → Text
+listing_fault_text (AtLine fault) = listing_line_fault_text fault
 listing_fault_text (NoGraph fault) = graph_fault_text fault
 
 -- why a graph was not written
-abbrev pub listing_write_fault_text : ListingWriteFault → List ℕ
+abbrev pub listing_write_fault_text : ListingWriteFault → Text
 listing_write_fault_text (ListingTooLong edge) = codes "E9 ListingTooLong"
 listing_write_fault_text (Io written) = codes "Y3 Io written " ++ decimal written

@@ -1,18 +1,19 @@
 -- The cause of a faulty line of an edge listing, by the lines before it: lexical, then its form,
 -- then its paths.
-use Rattle.std.specs.Prelude.{◌≡◌, ℕ, ◌<◌, ◌≤◌, Bool, false, List, [], ◌∷◌, ◌++◌, length, Some, None, Err}
-use Rattle.ninja_text.specs.Lines.{line_limit, text_of, is_comment}
+use Rattle.std.specs.Prelude.{◌≡◌, ◌<◌, ◌≤◌, Bool, false, List, [], ◌∷◌, ◌++◌, length, Some, None, Err}
+use Rattle.ninja_text.specs.Bytes.{Text, PathText}
+use Rattle.ninja_text.specs.Lines.{line_limit, text_of_line, is_comment}
 use Rattle.ninja_text.specs.Lexical.{lexical_fault}
 use Rattle.ninja_text.specs.Paths.{path_of}
 use Rattle.ninja_text.specs.declared.fault.PathFault.{PathFault}
 use Rattle.build_effect.specs.Effect.{ArePaths}
-use Rattle.build_effect.specs.ListingLines.{Row, CommentRow, BlankRow, BuildRow, DyndepRow, RestatRow, TextIsOfRow, Class, Comment, Blank, Build, Dyndep, Restat}
-use Rattle.build_effect.specs.ListingGrammar.{Begins}
+use Rattle.build_effect.specs.ListingLines.{Row, CommentRow, BlankRow, BuildRow, DyndepRow, RestatRow, TextIsOfRow, ListingClass, Comment, Blank, Build, Dyndep, Restat}
+use Rattle.build_effect.specs.ListingGrammar.{BeginsListing}
 use Rattle.build_effect.specs.declared.fault.LineCause.{LineCause}
 use Rattle.build_effect.specs.declared.fault.LineCause.TheVariants.{LineTooLong, Lexical, Form, BadPath}
 
 -- the texts of a row that are to be paths, from left to right
-abbrev pub path_texts : Row → List (List ℕ)
+abbrev pub path_texts : Row → List PathText
 path_texts CommentRow = []
 path_texts BlankRow = []
 path_texts (BuildRow t) =
@@ -21,17 +22,17 @@ path_texts (DyndepRow text) = text ∷ []
 path_texts (RestatRow flag) = []
 
 -- The first of these texts that is no path is none for this reason.
-pub record IsFirstRefused (texts : List (List ℕ)) (fault : PathFault) : Type 0 where
-  pub before : List (List ℕ)
-  pub text : List ℕ
-  pub after : List (List ℕ)
+pub record IsFirstRefused (texts : List Text) (fault : PathFault) : Type 0 where
+  pub before : List Text
+  pub text : Text
+  pub after : List Text
   pub whole : texts ≡ before ++ text ∷ after
-  pub paths : List (List ℕ)
+  pub paths : List PathText
   pub are : ArePaths before paths
   pub refused : path_of text ≡ Err fault
 
 -- the class that a row would be of if its texts were paths as they are
-abbrev pub as_class : Row → Class
+abbrev pub as_class : Row → ListingClass
 as_class CommentRow = Comment
 as_class BlankRow = Blank
 as_class (BuildRow texts) = Build texts
@@ -39,13 +40,13 @@ as_class (DyndepRow text) = Dyndep text
 as_class (RestatRow flag) = Restat flag
 
 -- After lines of these classes a line of this row may come, whatever its texts are.
-abbrev pub MayStand : List Class → Row → Type 0
-MayStand classes row = Begins (classes ++ as_class row ∷ [])
+abbrev pub MayStand : List ListingClass → Row → Type 0
+MayStand classes row = BeginsListing (classes ++ as_class row ∷ [])
 
 -- The cause of a line after lines of these classes, by its text without the end, and by whether it
 -- is a comment: its first lexical fault; or it has none, and is of no row that may come here; or
 -- it is of one, and the first of its texts that is no path is none for this reason.
-abbrev pub IsTextCause : List Class → List ℕ → Bool → LineCause → Type 0
+abbrev pub IsTextCause : List ListingClass → Text → Bool → LineCause → Type 0
 IsTextCause classes text comment (Lexical fault) =
     (comment ≡ false) × (lexical_fault text ≡ Some fault)
 IsTextCause classes text comment Form =
@@ -58,7 +59,7 @@ IsTextCause classes text comment other = ⊥
 
 -- The cause of a line, its end included: it passes the limit, or it keeps it and its text has this
 -- cause.
-abbrev pub IsLineCause : List Class → List ℕ → LineCause → Type 0
+abbrev pub IsLineCause : List ListingClass → Text → LineCause → Type 0
 IsLineCause classes line LineTooLong = line_limit < length line
 IsLineCause classes line cause =
-    (length line ≤ line_limit) × IsTextCause classes (text_of line) (is_comment line) cause
+    (length line ≤ line_limit) × IsTextCause classes (text_of_line line) (is_comment line) cause

@@ -4,20 +4,23 @@
 --
 -- where the lines after a build line, up to the next that is blank or builds, bind each name at
 -- most once.
-use Rattle.std.specs.Prelude.{ℕ, Bool, false, List, [], ◌∷◌, ◌++◌, Option, None, Some}
+use Rattle.std.specs.Prelude.{Bool, false, List, [], ◌∷◌, ◌++◌, Option, None, Some}
+use Rattle.ninja_text.specs.Bytes.{PathText}
 use Rattle.build_effect.specs.EdgeValue.{EdgeValue}
-use Rattle.build_effect.specs.ListingLines.{EdgeTexts, Class, Comment, Blank, Build, Dyndep, Restat}
+use Rattle.build_effect.specs.ListingLines.{EdgeTexts, ListingClass, Comment, Blank, Build, Dyndep, Restat}
 
 -- The lines begin with comments and at most one binding of each name, which set these, and go on
 -- with other lines.
-pub data HasBindings : List Class → Option (List ℕ) → Option Bool → List Class → Type 0 where
-  no_more_bindings : {more : List Class} → HasBindings more None None more
-  comment_between : {classes more : List Class} {dyndep : Option (List ℕ)} {restat : Option Bool}
+pub data HasBindings : List ListingClass → Option PathText → Option Bool → List ListingClass
+    → Type 0 where
+  no_more_bindings : {more : List ListingClass} → HasBindings more None None more
+  comment_between : {classes more : List ListingClass} {dyndep : Option PathText}
+      {restat : Option Bool}
       → HasBindings classes dyndep restat more → HasBindings (Comment ∷ classes) dyndep restat more
-  dyndep_binding : {classes more : List Class} {path : List ℕ} {restat : Option Bool}
+  dyndep_binding : {classes more : List ListingClass} {path : PathText} {restat : Option Bool}
       → HasBindings classes None restat more
       → HasBindings (Dyndep path ∷ classes) (Some path) restat more
-  restat_binding : {classes more : List Class} {dyndep : Option (List ℕ)} {flag : Bool}
+  restat_binding : {classes more : List ListingClass} {dyndep : Option PathText} {flag : Bool}
       → HasBindings classes dyndep None more
       → HasBindings (Restat flag ∷ classes) dyndep (Some flag) more
 
@@ -27,7 +30,7 @@ is_on None = false
 is_on (Some flag) = flag
 
 -- the edge of a build line with these paths, and with these bindings
-abbrev pub bound : EdgeTexts → Option (List ℕ) → Option Bool → EdgeValue
+abbrev pub bound : EdgeTexts → Option PathText → Option Bool → EdgeValue
 bound t dyndep restat = record {
   rule = t.rule;
   outputs = t.outputs;
@@ -40,17 +43,18 @@ bound t dyndep restat = record {
 }
 
 -- The lines are a listing of these edges, one for each build line, in order.
-pub data IsListing : List Class → List EdgeValue → Type 0 where
+pub data IsListing : List ListingClass → List EdgeValue → Type 0 where
   listing_end : IsListing [] []
-  listing_comment : {classes : List Class} {edges : List EdgeValue}
+  listing_comment : {classes : List ListingClass} {edges : List EdgeValue}
       → IsListing classes edges → IsListing (Comment ∷ classes) edges
-  listing_blank : {classes : List Class} {edges : List EdgeValue}
+  listing_blank : {classes : List ListingClass} {edges : List EdgeValue}
       → IsListing classes edges → IsListing (Blank ∷ classes) edges
-  listing_build : {paths : EdgeTexts} {classes more : List Class} {dyndep : Option (List ℕ)}
+  listing_build : {paths : EdgeTexts} {classes more : List ListingClass} {dyndep : Option PathText}
       {restat : Option Bool} {edges : List EdgeValue}
       → HasBindings classes dyndep restat more → IsListing more edges
       → IsListing (Build paths ∷ classes) (bound paths dyndep restat ∷ edges)
 
 -- Some listing begins with lines of these classes.
-abbrev pub Begins : List Class → Type 0
-Begins classes = (more : List Class) × (edges : List EdgeValue) × IsListing (classes ++ more) edges
+abbrev pub BeginsListing : List ListingClass → Type 0
+BeginsListing classes =
+    (more : List ListingClass) × (edges : List EdgeValue) × IsListing (classes ++ more) edges

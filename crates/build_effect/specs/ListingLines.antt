@@ -2,32 +2,32 @@
 -- syntax").
 use Rattle.std.specs.Prelude.{◌≡◌, ◌≢◌, ℕ, Bool, true, false, ◌&&◌, not, nat_lt, IsTrue, List, [], ◌∷◌, ◌++◌, length, map, codes, None, Ok, ◌⊎◌}
 use Rattle.std.specs.List.{list_all}
+use Rattle.ninja_text.specs.Bytes.{Text, PathText, Name}
 use Rattle.ninja_text.specs.Lexical.{lexical_fault}
 use Rattle.ninja_text.specs.Tokens.{tokens, value_of}
-use Rattle.ninja_text.specs.Assignments.{is_name_byte}
-use Rattle.ninja_text.specs.Paths.{path_of}
+use Rattle.ninja_text.specs.Assignments.{is_identifier_byte}
+use Rattle.ninja_text.specs.Paths.{path_of, is_empty}
 use Rattle.ninja_text.specs.declared.token.TokenKind.{TokenKind}
 use Rattle.ninja_text.specs.declared.token.TokenKind.TheVariants.{Bar, DoubleBar, Colon}
 use Rattle.dyndep_file.specs.Classes.{Symbol, WordSymbol, SignSymbol, symbols, begins_at_start, begins_with_space, Assigns}
-use Rattle.dyndep_file.specs.Faults.{is_empty}
 use Rattle.build_effect.specs.Effect.{ArePaths}
 
 -- What a build line says: the name of a rule, and words, texts or paths in five places.
 pub record EdgeTexts : Type 0 where
-  pub rule : List ℕ
-  pub outputs : List (List ℕ)
-  pub implicit_outputs : List (List ℕ)
-  pub inputs : List (List ℕ)
-  pub implicit_inputs : List (List ℕ)
-  pub order_only : List (List ℕ)
+  pub rule : Name
+  pub outputs : List PathText
+  pub implicit_outputs : List PathText
+  pub inputs : List PathText
+  pub implicit_inputs : List PathText
+  pub order_only : List PathText
 
 -- whether a rule may be called so: it has letters, digits, `_`, `.` and `-` only, and one at least
-abbrev pub is_rule_name : List ℕ → Bool
-is_rule_name name = not (is_empty name) && list_all is_name_byte name
+abbrev pub is_rule_name : Name → Bool
+is_rule_name name = not (is_empty name) && list_all is_identifier_byte name
 
 -- A part of a build line: nothing at all, or this sign and these words, of which there may be none.
-abbrev pub IsPart : TokenKind → List Symbol → List (List ℕ) → Type 0
-IsPart sign part words =
+abbrev pub IsSignedPart : TokenKind → List Symbol → List Text → Type 0
+IsSignedPart sign part words =
     ((part ≡ []) × (words ≡ [])) ⊎ (part ≡ SignSymbol sign ∷ map WordSymbol words)
 
 -- The tokens are
@@ -38,8 +38,9 @@ IsPart sign part words =
 -- given as they are spelled.
 abbrev pub IsEdgeLine : List Symbol → EdgeTexts → Type 0
 IsEdgeLine symbols words =
-    (made needed waited_for : List Symbol) × IsPart Bar made words.implicit_outputs
-    × IsPart Bar needed words.implicit_inputs × IsPart DoubleBar waited_for words.order_only
+    (made needed waited_for : List Symbol) × IsSignedPart Bar made words.implicit_outputs
+    × IsSignedPart Bar needed words.implicit_inputs
+    × IsSignedPart DoubleBar waited_for words.order_only
     × (words.outputs ≢ []) × IsTrue (is_rule_name words.rule)
     × (symbols ≡ WordSymbol (codes "build") ∷ map WordSymbol words.outputs ++ made
     ++ SignSymbol Colon ∷ WordSymbol words.rule ∷ map WordSymbol words.inputs ++ needed
@@ -64,14 +65,14 @@ pub data Row : Type 0 where
   CommentRow : Row
   BlankRow : Row
   BuildRow : EdgeTexts → Row
-  DyndepRow : List ℕ → Row
+  DyndepRow : Text → Row
   RestatRow : Bool → Row
 
 -- A line is of this row, by its text without the end, and by whether it is a comment: one holds any
 -- bytes, every other line has no lexical fault. A blank line has no token. A build line begins at
 -- its first byte, and its texts are the values of its words. A binding is indented, and `restat` is
 -- on where the value is not empty.
-abbrev pub TextIsOfRow : List ℕ → Bool → Row → Type 0
+abbrev pub TextIsOfRow : Text → Bool → Row → Type 0
 TextIsOfRow text comment CommentRow = comment ≡ true
 TextIsOfRow text comment BlankRow =
     (comment ≡ false) × (lexical_fault text ≡ None) × (tokens text ≡ [])
@@ -83,18 +84,18 @@ TextIsOfRow text comment (DyndepRow value) =
     × (start : ℕ) × Assigns text (codes "dyndep") start value
 TextIsOfRow text comment (RestatRow flag) =
     (comment ≡ false) × (lexical_fault text ≡ None) × IsTrue (begins_with_space text)
-    × (start : ℕ) × (value : List ℕ) × Assigns text (codes "restat") start value
+    × (start : ℕ) × (value : Text) × Assigns text (codes "restat") start value
     × (flag ≡ nat_lt 0 (length value))
 
 -- ---- classes: what a line is, with its paths
 
 -- A comment, a blank line, a build line with its paths, or a binding of `dyndep` or `restat`.
-pub data Class : Type 0 where
-  Comment : Class
-  Blank : Class
-  Build : EdgeTexts → Class
-  Dyndep : List ℕ → Class
-  Restat : Bool → Class
+pub data ListingClass : Type 0 where
+  Comment : ListingClass
+  Blank : ListingClass
+  Build : EdgeTexts → ListingClass
+  Dyndep : PathText → ListingClass
+  Restat : Bool → ListingClass
 
 -- The build line has the rule of the texts, and their canonical paths.
 pub record AreEdgePaths (texts paths : EdgeTexts) : Type 0 where
@@ -107,14 +108,14 @@ pub record AreEdgePaths (texts paths : EdgeTexts) : Type 0 where
 
 -- A line of this row is of this class: each text that is to be a path is one, and the class has the
 -- canonical paths.
-abbrev pub RowIsOfClass : Row → Class → Type 0
+abbrev pub RowIsOfClass : Row → ListingClass → Type 0
 RowIsOfClass CommentRow c = c ≡ Comment
 RowIsOfClass BlankRow c = c ≡ Blank
 RowIsOfClass (BuildRow texts) c =
     (paths : EdgeTexts) × AreEdgePaths texts paths × (c ≡ Build paths)
-RowIsOfClass (DyndepRow text) c = (path : List ℕ) × (path_of text ≡ Ok path) × (c ≡ Dyndep path)
+RowIsOfClass (DyndepRow text) c = (path : PathText) × (path_of text ≡ Ok path) × (c ≡ Dyndep path)
 RowIsOfClass (RestatRow flag) c = c ≡ Restat flag
 
 -- A line of this text, which is a comment or not, is of this class.
-abbrev pub TextIsOfClass : List ℕ → Bool → Class → Type 0
-TextIsOfClass text comment c = (row : Row) × TextIsOfRow text comment row × RowIsOfClass row c
+abbrev pub IsListingLine : Text → Bool → ListingClass → Type 0
+IsListingLine text comment c = (row : Row) × TextIsOfRow text comment row × RowIsOfClass row c

@@ -1,16 +1,17 @@
 -- What a reader of edge listings answers, by all bytes that it was fed, however they were cut into
 -- pieces.
-use Rattle.std.specs.Prelude.{◌≡◌, ◌⊎◌, ℕ, List, Result, Ok, Err}
+use Rattle.std.specs.Prelude.{◌≡◌, ◌⊎◌, List, Result, Ok, Err}
+use Rattle.ninja_text.specs.Bytes.{Bytes}
 use Rattle.ninja_text.specs.LineReading.{LinesRead}
 use Rattle.ninja_text.specs.FormatReading as lines
 use Rattle.ninja_text.specs.Failure.{ForFault}
 use Rattle.ninja_text.specs.declared.failure.Failure.{Failure}
 use Rattle.ninja_text.specs.declared.failure.Failure.TheVariants.{Memory, Fault}
 use Rattle.build_effect.specs.EdgeValue.{EdgeValue}
-use Rattle.build_effect.specs.ListingLines.{Class}
+use Rattle.build_effect.specs.ListingLines.{ListingClass}
 use Rattle.build_effect.specs.ListingGrammar.{IsListing}
 use Rattle.build_effect.specs.ListingSteps.{ListingValue, open_from}
-use Rattle.build_effect.specs.ListingReading.{listing_format, Lists, FaultyLine, FaultyEnd}
+use Rattle.build_effect.specs.ListingReading.{listing_format, Lists, HasFaultyLine, HasFaultyEnd}
 use Rattle.build_effect.specs.Faults.{IsGraphFault}
 use Rattle.build_effect.specs.declared.fault.LineCause.TheVariants.{LineTooLong}
 use Rattle.build_effect.specs.declared.fault.LineFault.{LineFault}
@@ -19,32 +20,32 @@ use Rattle.build_effect.specs.declared.fault.ListingFault.TheVariants.{AtLine, N
 use Rattle.build_effect.specs.declared.listing.state.Binding.TheVariants.{Closed}
 
 -- Lines of these classes are a listing of the edges so far, and leave these bindings open.
-abbrev pub LeadTo : List Class → ListingValue → Type 0
-LeadTo classes value =
+abbrev pub LeadToEdges : List ListingClass → ListingValue → Type 0
+LeadToEdges classes value =
     IsListing classes value.edges × (value.binding ≡ open_from Closed classes)
 
 -- a reader: the lines read, the edges so far, and what it refused with, if it did
-abbrev pub Reader : Type 0
-Reader = LinesRead ListingValue LineFault
+abbrev pub ListingReaderState : Type 0
+ListingReaderState = LinesRead ListingValue LineFault
 
 -- The reader was fed these bytes in all, and has refused none.
-abbrev pub HasRead : List ℕ → Reader → Type 0
-HasRead bytes r = lines.HasRead listing_format LeadTo bytes r
+abbrev pub HasReadListing : Bytes → ListingReaderState → Type 0
+HasReadListing bytes r = lines.HasRead listing_format LeadToEdges bytes r
 
 -- The fault is in the bytes: a line of them is the first faulty one, or their end has reached the
 -- limit of a line. It is the fault of every text that begins with them.
-abbrev pub IsFaultIn : List ℕ → LineFault → Type 0
-IsFaultIn bytes fault =
-    FaultyLine bytes fault ⊎ (FaultyEnd bytes fault × (fault.cause ≡ LineTooLong))
+abbrev pub IsListingFaultIn : Bytes → LineFault → Type 0
+IsListingFaultIn bytes fault =
+    HasFaultyLine bytes fault ⊎ (HasFaultyEnd bytes fault × (fault.cause ≡ LineTooLong))
 
 -- Memory was refused, or the fault is in the bytes.
-abbrev pub IsFailureIn : List ℕ → Failure LineFault → Type 0
-IsFailureIn bytes failure = ForFault (IsFaultIn bytes) failure
+abbrev pub IsListingFailureIn : Bytes → Failure LineFault → Type 0
+IsListingFailureIn bytes failure = ForFault (IsListingFaultIn bytes) failure
 
 -- What `feed` answers, and what the reader is then; by all bytes fed, this call's with them, to a
 -- reader that had refused none.
-abbrev pub Reads : List ℕ → Result Unit (Failure LineFault) → Reader → Type 0
-Reads bytes result new = lines.Reads HasRead IsFaultIn bytes result new
+abbrev pub FeedsListing : Bytes → Result Unit (Failure LineFault) → ListingReaderState → Type 0
+FeedsListing bytes result new = lines.Reads HasReadListing IsListingFaultIn bytes result new
 
 -- what a reader that refused answers at the end
 abbrev pub line_failure : Failure LineFault → Failure ListingFault
@@ -54,9 +55,9 @@ line_failure (Fault fault) = Fault (AtLine fault)
 -- What `finish` answers; by all bytes fed to a reader that has refused none: the graph of the edges
 -- listed, or the fault of the text's end, or why the edges listed are no graph, or memory was
 -- refused.
-abbrev pub Ends : List ℕ → Result (List EdgeValue) (Failure ListingFault) → Type 0
-Ends bytes (Ok graph) = Lists bytes graph
-Ends bytes (Err (Fault (AtLine fault))) = FaultyEnd bytes fault
-Ends bytes (Err (Fault (NoGraph fault))) =
+abbrev pub EndsListing : Bytes → Result (List EdgeValue) (Failure ListingFault) → Type 0
+EndsListing bytes (Ok graph) = Lists bytes graph
+EndsListing bytes (Err (Fault (AtLine fault))) = HasFaultyEnd bytes fault
+EndsListing bytes (Err (Fault (NoGraph fault))) =
     (edges : List EdgeValue) × Lists bytes edges × IsGraphFault edges fault
-Ends bytes (Err Memory) = Unit {0}
+EndsListing bytes (Err Memory) = Unit {0}

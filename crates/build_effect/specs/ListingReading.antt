@@ -1,101 +1,104 @@
 -- Which edges a text lists, and which fault a text has that lists none.
-use Rattle.std.specs.Prelude.{◌≡◌, ◌⊎◌, ℕ, ◌<◌, ◌≤◌, Bool, List, [], ◌∷◌, ◌++◌, length}
+use Rattle.std.specs.Prelude.{◌≡◌, ◌⊎◌, ◌<◌, ◌≤◌, Bool, List, [], ◌∷◌, ◌++◌, length}
+use Rattle.ninja_text.specs.Bytes.{Bytes, Text}
 use Rattle.ninja_text.specs.Lines.{line_limit}
 use Rattle.ninja_text.specs.LineFormats.{LineFormat, LineFaults, IsOfClass, IsFaultyAfter}
 use Rattle.ninja_text.specs.LineFormats as lines
 use Rattle.build_effect.specs.EdgeValue.{EdgeValue}
-use Rattle.build_effect.specs.ListingLines.{Class, TextIsOfClass}
-use Rattle.build_effect.specs.ListingGrammar.{IsListing, Begins}
+use Rattle.build_effect.specs.ListingLines.{ListingClass, IsListingLine}
+use Rattle.build_effect.specs.ListingGrammar.{IsListing, BeginsListing}
 use Rattle.build_effect.specs.ListingFaults.{IsLineCause}
 use Rattle.build_effect.specs.declared.fault.LineCause.{LineCause}
 use Rattle.build_effect.specs.declared.fault.LineCause.TheVariants.{LineTooLong, Truncated, Form}
 use Rattle.build_effect.specs.declared.fault.LineFault.{LineFault}
 
 -- An edge listing is a format of lines.
-abbrev pub listing_format : LineFormat Class (List EdgeValue)
-listing_format = record { text_is_of = TextIsOfClass; grammar = IsListing }
+abbrev pub listing_format : LineFormat ListingClass (List EdgeValue)
+listing_format = record { text_is_of = IsListingLine; grammar = IsListing }
 
 -- The text lists the edges: it is divided into lines, with no bytes left over, and the lines are a
 -- listing of them.
-abbrev pub Lists : List ℕ → List EdgeValue → Type 0
-Lists bytes edges = lines.StandsFor listing_format bytes edges
+abbrev pub Lists : Bytes → List EdgeValue → Type 0
+Lists bytes edges = lines.StandsForValue listing_format bytes edges
 
 -- What is wrong at the end of a text without a faulty line: the bytes left over hold no end and
 -- reach the limit, or they are fewer, but some.
-abbrev pub IsEndCause : List ℕ → LineCause → Type 0
+abbrev pub IsEndCause : Bytes → LineCause → Type 0
 IsEndCause rest LineTooLong = line_limit ≤ length rest
 IsEndCause rest Truncated = (0 < length rest) × (length rest < line_limit)
 IsEndCause rest other = ⊥
 
-abbrev pub listing_faults : LineFaults Class LineCause
+abbrev pub listing_faults : LineFaults ListingClass LineCause
 listing_faults =
     record { of_line = IsLineCause; of_end = λ classes rest cause. IsEndCause rest cause }
 
 -- A line of the text is the first faulty one, with this number and cause.
-abbrev pub FaultyLine : List ℕ → LineFault → Type 0
-FaultyLine bytes fault = lines.FaultyLine listing_format listing_faults bytes fault.line fault.cause
+abbrev pub HasFaultyLine : Bytes → LineFault → Type 0
+HasFaultyLine bytes fault =
+    lines.FaultyLine listing_format listing_faults bytes fault.line fault.cause
 
 -- No line of the text is faulty, and its end is.
-abbrev pub FaultyEnd : List ℕ → LineFault → Type 0
-FaultyEnd bytes fault = lines.FaultyEnd listing_format listing_faults bytes fault.line fault.cause
+abbrev pub HasFaultyEnd : Bytes → LineFault → Type 0
+HasFaultyEnd bytes fault =
+    lines.FaultyEnd listing_format listing_faults bytes fault.line fault.cause
 
 -- The text has this fault, in a line or at its end.
-abbrev pub HasFault : List ℕ → LineFault → Type 0
-HasFault bytes fault = FaultyLine bytes fault ⊎ FaultyEnd bytes fault
+abbrev pub HasListingFault : Bytes → LineFault → Type 0
+HasListingFault bytes fault = HasFaultyLine bytes fault ⊎ HasFaultyEnd bytes fault
 
 -- Law: a text lists one list of edges at most.
 abbrev pub OneListing : Type 0
 OneListing =
-    (bytes : List ℕ) (edges others : List EdgeValue)
+    (bytes : Bytes) (edges others : List EdgeValue)
     → Lists bytes edges → Lists bytes others → others ≡ edges
 
 -- Law: a text that lists edges has no fault.
 abbrev pub ListedIsFaultless : Type 0
 ListedIsFaultless =
-    (bytes : List ℕ) (edges : List EdgeValue) (fault : LineFault)
-    → Lists bytes edges → HasFault bytes fault → ⊥
+    (bytes : Bytes) (edges : List EdgeValue) (fault : LineFault)
+    → Lists bytes edges → HasListingFault bytes fault → ⊥
 
 -- Law: a text lists edges, or has a fault.
 abbrev pub ListingOrFault : Type 0
 ListingOrFault =
-    (bytes : List ℕ)
+    (bytes : Bytes)
     → ((edges : List EdgeValue) × Lists bytes edges)
-    ⊎ ((fault : LineFault) × HasFault bytes fault)
+    ⊎ ((fault : LineFault) × HasListingFault bytes fault)
 
 -- Law: a text has one fault at most, at one line and with one cause.
 abbrev pub OneListingFault : Type 0
 OneListingFault =
-    (bytes : List ℕ) (fault other : LineFault)
-    → HasFault bytes fault → HasFault bytes other → other ≡ fault
+    (bytes : Bytes) (fault other : LineFault)
+    → HasListingFault bytes fault → HasListingFault bytes other → other ≡ fault
 
 -- Law: a line is of one class at most.
 abbrev pub OneClass : Type 0
 OneClass =
-    (text : List ℕ) (comment : Bool) (c d : Class)
-    → TextIsOfClass text comment c → TextIsOfClass text comment d → d ≡ c
+    (text : Text) (comment : Bool) (c d : ListingClass)
+    → IsListingLine text comment c → IsListingLine text comment d → d ≡ c
 
 -- Law: after lines that some listing begins with, a line is of a class with which some listing
 -- goes on, or it has a cause.
 abbrev pub LineOrCause : Type 0
 LineOrCause =
-    (classes : List Class) (line : List ℕ) → Begins classes
-    → ((c : Class) × IsOfClass listing_format line c × Begins (classes ++ c ∷ []))
+    (classes : List ListingClass) (line : Text) → BeginsListing classes
+    → ((c : ListingClass) × IsOfClass listing_format line c × BeginsListing (classes ++ c ∷ []))
     ⊎ ((cause : LineCause) × IsLineCause classes line cause)
 
 -- Law: there, a line that has a cause is of no class with which a listing goes on.
 abbrev pub CauseIsFaulty : Type 0
 CauseIsFaulty =
-    (classes : List Class) (line : List ℕ) (cause : LineCause) → Begins classes
+    (classes : List ListingClass) (line : Text) (cause : LineCause) → BeginsListing classes
     → IsLineCause classes line cause → IsFaultyAfter listing_format classes line
 
 -- Law: a line has one cause at most.
 abbrev pub OneCause : Type 0
 OneCause =
-    (classes : List Class) (line : List ℕ) (cause other : LineCause)
+    (classes : List ListingClass) (line : Text) (cause other : LineCause)
     → IsLineCause classes line cause → IsLineCause classes line other → other ≡ cause
 
 -- Law: a line that is of a class has no cause but its form: lines of that form may not come there.
 abbrev pub ClassHasForm : Type 0
 ClassHasForm =
-    (classes : List Class) (line : List ℕ) (cause : LineCause) (c : Class)
+    (classes : List ListingClass) (line : Text) (cause : LineCause) (c : ListingClass)
     → IsLineCause classes line cause → IsOfClass listing_format line c → cause ≡ Form

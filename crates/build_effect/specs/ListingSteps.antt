@@ -1,7 +1,7 @@
 -- The edges of the lines so far, and which bindings may come for the last of them.
 use Rattle.std.specs.Prelude.{true, false, List, [], ◌∷◌}
 use Rattle.build_effect.specs.EdgeValue.{EdgeValue}
-use Rattle.build_effect.specs.ListingLines.{Class, Comment, Blank, Build, Dyndep, Restat}
+use Rattle.build_effect.specs.ListingLines.{ListingClass, Comment, Blank, Build, Dyndep, Restat}
 use Rattle.build_effect.specs.declared.listing.state.Binding.{Binding}
 use Rattle.build_effect.specs.declared.listing.state.Binding.TheVariants.{Closed, Open}
 
@@ -11,7 +11,7 @@ pub record ListingValue : Type 0 where
   pub binding : Binding
 
 -- what a line leaves open, where these bindings were open before it
-abbrev pub left_open : Binding → Class → Binding
+abbrev pub left_open : Binding → ListingClass → Binding
 left_open binding Comment = binding
 left_open binding Blank = Closed
 left_open binding (Build paths) = Open false false
@@ -21,6 +21,6 @@ left_open (Open dyndep restat) (Dyndep path) = Open true restat
 left_open (Open dyndep restat) (Restat flag) = Open dyndep true
 
 -- which bindings lines leave open, from left to right
-abbrev pub open_from : Binding → List Class → Binding
+abbrev pub open_from : Binding → List ListingClass → Binding
 open_from binding [] = binding
 open_from binding (c ∷ classes) = open_from (left_open binding c) classes

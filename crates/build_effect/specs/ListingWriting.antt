@@ -2,7 +2,7 @@
 -- it answers and leaves.
 use Rattle.std.specs.Prelude.{◌≡◌, ℕ, ◌+◌, Bool, if◌then◌else◌, nat_lt, List, [], ◌∷◌, ◌++◌, length, codes, Option, Some, None, Result, Ok, Err, ⊤}
 use Rattle.std.specs.List.{flat_map}
-use Rattle.ninja_text.specs.Bytes.{line_feed}
+use Rattle.ninja_text.specs.Bytes.{Bytes, Text, PathText, line_feed}
 use Rattle.ninja_text.specs.Escapes.{escaped}
 use Rattle.ninja_text.specs.Lines.{line_limit}
 use Rattle.ninja_text.specs.Counting.{IsCutShort, Call, IsTakenInTurn, IsStoppedInTurn}
@@ -15,38 +15,38 @@ use Rattle.build_effect.specs.declared.fault.ListingWriteFault.{ListingWriteFaul
 use Rattle.build_effect.specs.declared.fault.ListingWriteFault.TheVariants.{ListingTooLong, Io}
 
 -- the mark and each path after a space, where there are any
-abbrev pub part_text : List ℕ → List (List ℕ) → List ℕ
-part_text mark [] = []
-part_text mark (path ∷ paths) = mark ++ flat_map spaced (path ∷ paths)
+abbrev pub marked_text : Text → List PathText → Text
+marked_text mark [] = []
+marked_text mark (path ∷ paths) = mark ++ flat_map spaced (path ∷ paths)
 
 -- what is on the left of the colon, and on its right
-abbrev pub left_text : EdgeValue → List ℕ
+abbrev pub left_text : EdgeValue → Text
 left_text e =
-    codes "build" ++ flat_map spaced e.outputs ++ part_text (codes " |") e.implicit_outputs
+    codes "build" ++ flat_map spaced e.outputs ++ marked_text (codes " |") e.implicit_outputs
 
-abbrev pub right_text : EdgeValue → List ℕ
+abbrev pub right_text : EdgeValue → Text
 right_text e =
-    e.rule ++ flat_map spaced e.inputs ++ part_text (codes " |") e.implicit_inputs
-    ++ part_text (codes " ||") e.order_only
+    e.rule ++ flat_map spaced e.inputs ++ marked_text (codes " |") e.implicit_inputs
+    ++ marked_text (codes " ||") e.order_only
 
 -- the build line of an edge, its end included
-abbrev pub edge_line : EdgeValue → List ℕ
+abbrev pub edge_line : EdgeValue → Text
 edge_line e = left_text e ++ codes ": " ++ right_text e ++ line_feed ∷ []
 
 -- the lines of its bindings
-abbrev pub dyndep_line : Option (List ℕ) → List ℕ
+abbrev pub dyndep_line : Option PathText → Text
 dyndep_line None = []
 dyndep_line (Some path) = codes "  dyndep = " ++ escaped path ++ line_feed ∷ []
 
-abbrev pub restat_line : Bool → List ℕ
+abbrev pub restat_line : Bool → Text
 restat_line restat = if restat then codes "  restat = 1" ++ line_feed ∷ [] else []
 
 -- the lines of an edge
-abbrev pub edge_text : EdgeValue → List ℕ
+abbrev pub edge_text : EdgeValue → Text
 edge_text e = edge_line e ++ dyndep_line e.dyndep ++ restat_line e.restat
 
 -- the text of a graph: the lines of each edge
-abbrev pub listing_text : List EdgeValue → List ℕ
+abbrev pub listing_text : List EdgeValue → Text
 listing_text edges = flat_map edge_text edges
 
 -- whether an edge's build line passes the limit
@@ -62,34 +62,35 @@ abbrev pub first_too_long : List EdgeValue → Option ℕ
 first_too_long edges = too_long_from 0 edges
 
 -- the text, or the first edge whose build line is too long
-abbrev pub text_unless : Option ℕ → List EdgeValue → Result (List ℕ) ListingWriteFault
-text_unless None edges = Ok (listing_text edges)
-text_unless (Some edge) edges = Err (ListingTooLong edge)
+abbrev pub listing_text_unless : Option ℕ → List EdgeValue → Result Text ListingWriteFault
+listing_text_unless None edges = Ok (listing_text edges)
+listing_text_unless (Some edge) edges = Err (ListingTooLong edge)
 
-abbrev pub text_or_fault : List EdgeValue → Result (List ℕ) ListingWriteFault
-text_or_fault edges = text_unless (first_too_long edges) edges
+abbrev pub listing_text_or_fault : List EdgeValue → Result Text ListingWriteFault
+listing_text_or_fault edges = listing_text_unless (first_too_long edges) edges
 
 -- what holds after a call that failed: before the first byte nothing has changed, and an `Io`
 -- comes of a failed call
-abbrev pub LeavesWriter : {W : Type 0} → (W → Option (List ℕ)) → Counted W → Counted W → List ℕ
+abbrev pub LeavesListingWriter : {W : Type 0} → (W → Option Bytes) → Counted W → Counted W → Text
     → Failure ListingWriteFault → Type 0
-LeavesWriter contents old new text Memory = new ≡ old
-LeavesWriter contents old new text (Fault (ListingTooLong edge)) = new ≡ old
-LeavesWriter contents old new text (Fault (Io written)) = IsCutShort contents old new text written
+LeavesListingWriter contents old new text Memory = new ≡ old
+LeavesListingWriter contents old new text (Fault (ListingTooLong edge)) = new ≡ old
+LeavesListingWriter contents old new text (Fault (Io written)) =
+    IsCutShort contents old new text written
 
 -- which calls of the writer were made: on success some that took all of the text; before the first
 -- byte none, and up to an `Io` those that took some bytes, and the one that failed
-abbrev pub WritesInTurn : {W T : Type 0} → Call W → W → W → List ℕ
+abbrev pub WritesListingInTurn : {W T : Type 0} → Call W → W → W → Text
     → Result T (Failure ListingWriteFault) → Type 0
-WritesInTurn writes old new text (Ok done) = IsTakenInTurn writes old new text (length text)
-WritesInTurn writes old new text (Err Memory) = new ≡ old
-WritesInTurn writes old new text (Err (Fault (ListingTooLong edge))) = new ≡ old
-WritesInTurn writes old new text (Err (Fault (Io written))) =
+WritesListingInTurn writes old new text (Ok done) = IsTakenInTurn writes old new text (length text)
+WritesListingInTurn writes old new text (Err Memory) = new ≡ old
+WritesListingInTurn writes old new text (Err (Fault (ListingTooLong edge))) = new ≡ old
+WritesListingInTurn writes old new text (Err (Fault (Io written))) =
     IsStoppedInTurn writes old new text written
 
 -- memory and the writer aside, a call answers the first edge whose build line is too long, if any
-abbrev pub AnswersFault : {T : Type 0} → Option ℕ → Result T (Failure ListingWriteFault) → Type 0
-AnswersFault edge (Ok done) = edge ≡ None
-AnswersFault edge (Err Memory) = ⊤
-AnswersFault edge (Err (Fault (ListingTooLong index))) = edge ≡ Some index
-AnswersFault edge (Err (Fault (Io written))) = edge ≡ None
+abbrev pub AnswersTooLong : {T : Type 0} → Option ℕ → Result T (Failure ListingWriteFault) → Type 0
+AnswersTooLong edge (Ok done) = edge ≡ None
+AnswersTooLong edge (Err Memory) = ⊤
+AnswersTooLong edge (Err (Fault (ListingTooLong index))) = edge ≡ Some index
+AnswersTooLong edge (Err (Fault (Io written))) = edge ≡ None

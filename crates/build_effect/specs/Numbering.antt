@@ -1,12 +1,14 @@
 -- Numberings of edges that show that a graph can be ordered after effects.
 use Rattle.std.specs.Prelude.{◌≡◌, ◌≢◌, ℕ, ◌<◌, ◌≤◌, List, [], ◌∷◌, ◌++◌, length, slice_get, slice_index, Some, Contains}
 use Rattle.std.specs.Option.{option_map_or}
+use Rattle.ninja_text.specs.Bytes.{PathText}
+use Rattle.dep_order.specs.Numbers.{Numbers}
 use Rattle.dep_order.specs.Needs.{IsOrderable}
 use Rattle.dyndep_file.specs.StatementValue.{StatementValue}
 use Rattle.build_effect.specs.EdgeValue.{EdgeValue}
 use Rattle.build_effect.specs.Graphs.{MakesAt, Names, EdgeNeeds}
-use Rattle.build_effect.specs.Effect.{IsTheOneOn, Gives}
-use Rattle.build_effect.specs.Premises.{AddsAt, AdditionNeeds, Meets}
+use Rattle.build_effect.specs.Effect.{IsTheOneOn, Extends}
+use Rattle.build_effect.specs.Premises.{AddsAt, AdditionNeeds, MeetsPremises}
 use Rattle.build_effect.specs.Files.{NamedFile, FilesMeet, GainsExactly}
 
 -- the edge with the outputs alone that a statement adds
@@ -26,7 +28,7 @@ pub record HasOutputsOnly (files : List NamedFile) (old new : List EdgeValue) : 
 -- Of the graph g, whose edges name the files, and h, which is g with the outputs alone that the
 -- files add: the edges of each file have one number, those of a later file none that is smaller,
 -- and what an edge of h needs has a smaller one.
-pub record IsRisingNumbering (files : List NamedFile) (g h : List EdgeValue) (ranks : List ℕ)
+pub record IsRisingNumbering (files : List NamedFile) (g h : List EdgeValue) (ranks : Numbers)
     : Type 0 where
   pub each : length ranks ≡ length h
   pub below : (a b : ℕ) → EdgeNeeds h a b → slice_index ranks b < slice_index ranks a
@@ -40,12 +42,12 @@ pub record IsRisingNumbering (files : List NamedFile) (g h : List EdgeValue) (ra
 
 -- The same of one file: its edges have one number, and each edge that makes an added input which is
 -- no added output has a smaller one.
-pub record IsLevelNumbering (f : NamedFile) (g h : List EdgeValue) (ranks : List ℕ) : Type 0 where
+pub record IsLevelNumbering (f : NamedFile) (g h : List EdgeValue) (ranks : Numbers) : Type 0 where
   pub each : length ranks ≡ length h
   pub below : (a b : ℕ) → EdgeNeeds h a b → slice_index ranks b < slice_index ranks a
   pub level : (i j : ℕ) (d e : EdgeValue) → slice_get g i ≡ Some d → slice_get g j ≡ Some e →
       Names f.name d → Names f.name e → slice_index ranks i ≡ slice_index ranks j
-  pub linked : (k m i j l : ℕ) (a : StatementValue) (e : EdgeValue) (file : List ℕ) →
+  pub linked : (k m i j l : ℕ) (a : StatementValue) (e : EdgeValue) (file : PathText) →
       slice_get f.additions k ≡ Some a → slice_get a.implicit_inputs m ≡ Some file →
       ((o p : ℕ) → AddsAt f.additions o p file → ⊥) → MakesAt h i j file →
       slice_get g l ≡ Some e → Names f.name e → slice_index ranks i < slice_index ranks l
@@ -54,29 +56,30 @@ pub record IsLevelNumbering (f : NamedFile) (g h : List EdgeValue) (ranks : List
 -- be ordered.
 abbrev pub LevelOrders : Type 0
 LevelOrders =
-    (f : NamedFile) (g h new : List EdgeValue) (ranks : List ℕ) → Meets g f.name f.additions →
-    Gives g f.name f.additions new → HasOutputsOnly (f ∷ []) g h → IsLevelNumbering f g h ranks →
+    (f : NamedFile) (g h new : List EdgeValue) (ranks : Numbers) →
+    MeetsPremises g f.name f.additions →
+    Extends g f.name f.additions new → HasOutputsOnly (f ∷ []) g h → IsLevelNumbering f g h ranks →
     IsOrderable (length f.additions) (AdditionNeeds f.additions) →
     IsOrderable (length new) (EdgeNeeds new)
 
 -- the number with index k in row n
-abbrev pub rank_at : List (List ℕ) → ℕ → ℕ → ℕ
+abbrev pub rank_at : List Numbers → ℕ → ℕ → ℕ
 rank_at ranks n k = option_map_or (λ row. slice_index row k) (slice_get ranks n) 0
 
 -- One numbering of the additions of all files, a row for each file, puts each that adds a file
 -- below each that adds it as an input, and the first is of the same file or of an earlier one.
 pub record AreOrdered (files : List NamedFile) : Type 0 where
-  pub ranks : List (List ℕ)
-  pub below : (n m k l i j : ℕ) (f d : NamedFile) (a : StatementValue) (file : List ℕ) →
+  pub ranks : List Numbers
+  pub below : (n m k l i j : ℕ) (f d : NamedFile) (a : StatementValue) (file : PathText) →
       slice_get files n ≡ Some f → slice_get files m ≡ Some d →
       slice_get f.additions k ≡ Some a → slice_get a.implicit_inputs i ≡ Some file →
       AddsAt d.additions l j file → (m ≤ n) × (rank_at ranks m l < rank_at ranks n k)
 
 -- An edge that makes an added input which no file adds as an output has a smaller number than the
 -- edges of the file that adds the input.
-abbrev pub IsAboveOthers : List NamedFile → List EdgeValue → List EdgeValue → List ℕ → Type 0
+abbrev pub IsAboveOthers : List NamedFile → List EdgeValue → List EdgeValue → Numbers → Type 0
 IsAboveOthers files g h ranks =
-    (n k m i j l : ℕ) (f : NamedFile) (a : StatementValue) (e : EdgeValue) (file : List ℕ) →
+    (n k m i j l : ℕ) (f : NamedFile) (a : StatementValue) (e : EdgeValue) (file : PathText) →
     slice_get files n ≡ Some f → slice_get f.additions k ≡ Some a →
     slice_get a.implicit_inputs m ≡ Some file →
     ((o p q : ℕ) (d : NamedFile) → slice_get files o ≡ Some d → AddsAt d.additions p q file → ⊥) →
@@ -87,7 +90,7 @@ IsAboveOthers files g h ranks =
 -- all files, in whatever order, can be ordered.
 abbrev pub FilesOrder : Type 0
 FilesOrder =
-    (files : List NamedFile) (g h new : List EdgeValue) (order ranks : List ℕ) →
+    (files : List NamedFile) (g h new : List EdgeValue) (order ranks : Numbers) →
     FilesMeet g files → ((n : ℕ) → n < length files → Contains order n) →
     GainsExactly files g order new → HasOutputsOnly files g h →
     IsRisingNumbering files g h ranks → IsAboveOthers files g h ranks → AreOrdered files →

@@ -156,9 +156,9 @@ pub struct LineFault {
 
 impl fmt::Display for LineFault {
     ghost use Rattle.std.specs.Prelude.{Some};
-    ghost use Rattle.build_effect.specs.ListingFaultTexts.{line_fault_text};
+    ghost use Rattle.build_effect.specs.ListingFaultTexts.{listing_line_fault_text};
 
-    ghost output = { λ fault. Some (line_fault_text fault) };
+    ghost output = { λ fault. Some (listing_line_fault_text fault) };
 
     fn fmt<W: fmt::Write>(&self, f: &mut fmt::Formatter<W>) -> fmt::Result {
         write!(f, "line {}: {}", self.line, self.cause)

@@ -1,7 +1,7 @@
 //! What makes a list of edges a graph.
 ghost use Rattle.std.specs.Prelude.{◌≡◌, ◌≢◌, [], slice_get, Some, IfOk, IfErr, OnOk, MatchBool, All};
 ghost use Rattle.ninja_text.specs.Failure.{ForFault};
-ghost use Rattle.build_effect.specs.Graphs.{MadeOnce, Reads, DyndepsAreInputs};
+ghost use Rattle.build_effect.specs.Graphs.{MadeOnce, HasInput, DyndepsAreInputs};
 ghost use Rattle.build_effect.specs.Faults.{IsGraphFault, NamesUnread};
 ghost use Rattle.build_effect.specs.inner.Inputs.{Has, NamesInput};
 
@@ -62,7 +62,7 @@ fn reads_dyndep(edge: &Edge) -> bool
 
 /// Whether the file is among the edge's inputs of any kind.
 fn reads(edge: &Edge, file: &Path) -> bool
-    ensures { MatchBool result (Reads edge.now file.now) (Reads edge.now file.now → ⊥) }
+    ensures { MatchBool result (HasInput edge.now file.now) (HasInput edge.now file.now → ⊥) }
 {
     if has(&edge.inputs, file) {
         return true;

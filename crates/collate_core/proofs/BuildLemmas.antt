@@ -5,11 +5,11 @@ use Rattle.std.proofs.lemmas.Option.{slice_get_within, get_or_from_slice_get}
 use Rattle.dep_order.specs.Orders.{IsLeastOrder}
 use Rattle.scan_docs.specs.Scan.{RuleValue}
 use Rattle.build_effect.specs.EdgeValue.{EdgeValue}
-use Rattle.build_effect.specs.Graphs.{Makes, Reads, EdgeNeeds, made_by}
+use Rattle.build_effect.specs.Graphs.{Makes, HasInput, EdgeNeeds, made_by}
 use Rattle.module_table.specs.TableValue.{TableValue}
 use Rattle.module_table.specs.Sound.{IsSound}
 use Rattle.module_table.specs.Added.{required_of, RequiredFiles, AllRequired, OneFile}
-use Rattle.collate_core.specs.Statements.{files_of}
+use Rattle.collate_core.specs.Statements.{module_files}
 use Rattle.collate_core.specs.Headline.{Modules, with_modules}
 use Rattle.collate_core.specs.Builds.{IsMaker, IsReader, RequiresFile, ProvidesFile, IsRunOrder, HasNoRace, HasReason, needed, required, added, HasNoFalseWait}
 use Rattle.collate_core.proofs.ByIndex.{element_at, same_some, from_map, to_map, in_append, in_first, in_second}
@@ -21,61 +21,61 @@ use Rattle.collate_core.proofs.LinkedLemmas.{index_of}
 own_made : (e : EdgeValue) (provided needs : Modules) (file : List ℕ) → Makes e file → Makes (with_modules e provided needs) file
 own_made e provided needs file h =
     elim (in_append e.outputs e.implicit_outputs h.0 file h.1) [
-      | inl out ↦ (h.0, in_first e.outputs (e.implicit_outputs ++ files_of provided) h.0 file out)
-      | inr more ↦ (length e.outputs + more.0, in_second e.outputs (e.implicit_outputs ++ files_of provided) more.0 file (in_first e.implicit_outputs (files_of provided) more.0 file more.2))
+      | inl out ↦ (h.0, in_first e.outputs (e.implicit_outputs ++ module_files provided) h.0 file out)
+      | inr more ↦ (length e.outputs + more.0, in_second e.outputs (e.implicit_outputs ++ module_files provided) more.0 file (in_first e.implicit_outputs (module_files provided) more.0 file more.2))
     ]
 
 added_made : (e : EdgeValue) (provided needs : Modules) (k : ℕ) (name file : List ℕ) → slice_get provided k ≡ Some (name, file) → Makes (with_modules e provided needs) file
 added_made e provided needs k name file at =
-    let here : slice_get (files_of provided) k ≡ Some file = to_map (λ (p : List ℕ × List ℕ). p.1) provided k (name, file) at in
-    (length e.outputs + (length e.implicit_outputs + k), in_second e.outputs (e.implicit_outputs ++ files_of provided) (length e.implicit_outputs + k) file (in_second e.implicit_outputs (files_of provided) k file here))
+    let here : slice_get (module_files provided) k ≡ Some file = to_map (λ (p : List ℕ × List ℕ). p.1) provided k (name, file) at in
+    (length e.outputs + (length e.implicit_outputs + k), in_second e.outputs (e.implicit_outputs ++ module_files provided) (length e.implicit_outputs + k) file (in_second e.implicit_outputs (module_files provided) k file here))
 
 -- a file of these modules, with its index and its name
 abbrev FileOf : Modules → List ℕ → Type 0
 FileOf modules file = (k : ℕ) × (name : List ℕ) × (slice_get modules k ≡ Some (name, file))
 
-file_at : (modules : Modules) (k : ℕ) (file : List ℕ) → slice_get (files_of modules) k ≡ Some file → FileOf modules file
+file_at : (modules : Modules) (k : ℕ) (file : List ℕ) → slice_get (module_files modules) k ≡ Some file → FileOf modules file
 file_at modules k file at =
     let pair = from_map (λ (p : List ℕ × List ℕ). p.1) modules k file at in
     (k, pair.0.0, subst (λ (f : List ℕ). slice_get modules k ≡ Some (pair.0.0, f)) pair.2 pair.1)
 
 made_from : (e : EdgeValue) (provided needs : Modules) (file : List ℕ) → Makes (with_modules e provided needs) file → Makes e file ⊎ FileOf provided file
 made_from e provided needs file h =
-    elim (in_append e.outputs (e.implicit_outputs ++ files_of provided) h.0 file h.1) [
+    elim (in_append e.outputs (e.implicit_outputs ++ module_files provided) h.0 file h.1) [
       | inl out ↦ inl (h.0, in_first e.outputs e.implicit_outputs h.0 file out)
-      | inr more ↦ elim (in_append e.implicit_outputs (files_of provided) more.0 file more.2) [
+      | inr more ↦ elim (in_append e.implicit_outputs (module_files provided) more.0 file more.2) [
         | inl own ↦ inl (length e.outputs + more.0, in_second e.outputs e.implicit_outputs more.0 file own)
         | inr new ↦ inr (file_at provided new.0 file new.2)
       ]
     ]
 
 -- the same of its inputs
-own_read : (e : EdgeValue) (provided needs : Modules) (file : List ℕ) → Reads e file → Reads (with_modules e provided needs) file
+own_read : (e : EdgeValue) (provided needs : Modules) (file : List ℕ) → HasInput e file → HasInput (with_modules e provided needs) file
 own_read e provided needs file h =
-    let implicit : List (List ℕ) = e.implicit_inputs ++ files_of needs in
+    let implicit : List (List ℕ) = e.implicit_inputs ++ module_files needs in
     elim (in_append e.inputs (e.implicit_inputs ++ e.order_only) h.0 file h.1) [
       | inl input ↦ (h.0, in_first e.inputs (implicit ++ e.order_only) h.0 file input)
       | inr more ↦ elim (in_append e.implicit_inputs e.order_only more.0 file more.2) [
-        | inl own ↦ (length e.inputs + more.0, in_second e.inputs (implicit ++ e.order_only) more.0 file (in_first implicit e.order_only more.0 file (in_first e.implicit_inputs (files_of needs) more.0 file own)))
+        | inl own ↦ (length e.inputs + more.0, in_second e.inputs (implicit ++ e.order_only) more.0 file (in_first implicit e.order_only more.0 file (in_first e.implicit_inputs (module_files needs) more.0 file own)))
         | inr last ↦ (length e.inputs + (length implicit + last.0), in_second e.inputs (implicit ++ e.order_only) (length implicit + last.0) file (in_second implicit e.order_only last.0 file last.2))
       ]
     ]
 
-added_read : (e : EdgeValue) (provided needs : Modules) (k : ℕ) (name file : List ℕ) → slice_get needs k ≡ Some (name, file) → Reads (with_modules e provided needs) file
+added_read : (e : EdgeValue) (provided needs : Modules) (k : ℕ) (name file : List ℕ) → slice_get needs k ≡ Some (name, file) → HasInput (with_modules e provided needs) file
 added_read e provided needs k name file at =
-    let here : slice_get (files_of needs) k ≡ Some file = to_map (λ (p : List ℕ × List ℕ). p.1) needs k (name, file) at in
-    let implicit : List (List ℕ) = e.implicit_inputs ++ files_of needs in (
+    let here : slice_get (module_files needs) k ≡ Some file = to_map (λ (p : List ℕ × List ℕ). p.1) needs k (name, file) at in
+    let implicit : List (List ℕ) = e.implicit_inputs ++ module_files needs in (
       length e.inputs + (length e.implicit_inputs + k),
-      in_second e.inputs (implicit ++ e.order_only) (length e.implicit_inputs + k) file (in_first implicit e.order_only (length e.implicit_inputs + k) file (in_second e.implicit_inputs (files_of needs) k file here)),
+      in_second e.inputs (implicit ++ e.order_only) (length e.implicit_inputs + k) file (in_first implicit e.order_only (length e.implicit_inputs + k) file (in_second e.implicit_inputs (module_files needs) k file here)),
     )
 
-read_from : (e : EdgeValue) (provided needs : Modules) (file : List ℕ) → Reads (with_modules e provided needs) file → Reads e file ⊎ FileOf needs file
+read_from : (e : EdgeValue) (provided needs : Modules) (file : List ℕ) → HasInput (with_modules e provided needs) file → HasInput e file ⊎ FileOf needs file
 read_from e provided needs file h =
-    let implicit : List (List ℕ) = e.implicit_inputs ++ files_of needs in
+    let implicit : List (List ℕ) = e.implicit_inputs ++ module_files needs in
     elim (in_append e.inputs (implicit ++ e.order_only) h.0 file h.1) [
       | inl input ↦ inl (h.0, in_first e.inputs (e.implicit_inputs ++ e.order_only) h.0 file input)
       | inr more ↦ elim (in_append implicit e.order_only more.0 file more.2) [
-        | inl implicit_one ↦ elim (in_append e.implicit_inputs (files_of needs) more.0 file implicit_one) [
+        | inl implicit_one ↦ elim (in_append e.implicit_inputs (module_files needs) more.0 file implicit_one) [
           | inl own ↦ inl (length e.inputs + more.0, in_second e.inputs (e.implicit_inputs ++ e.order_only) more.0 file (in_first e.implicit_inputs e.order_only more.0 file own))
           | inr new ↦ inr (file_at needs new.0 file new.2)
         ]
@@ -124,7 +124,7 @@ module _ (required_files : RequiredFiles) (all_required : AllRequired) (one_file
       let is_file : pair.0 ≡ file = one_file t sound name pair.0 file known.1 provided in (
         with_modules e rule.provided (required_of t rule),
         gained.objects t o rule i e inside edge.1 edge.2.1.1 (edge.2.0, edge.2.1.2),
-        subst (Reads (with_modules e rule.provided (required_of t rule))) is_file (added_read e rule.provided (required_of t rule) at.0 name pair.0 at.1),
+        subst (HasInput (with_modules e rule.provided (required_of t rule))) is_file (added_read e rule.provided (required_of t rule) at.0 name pair.0 at.1),
       )
 
   keeps_reader : (i : ℕ) (file : List ℕ) → IsReader g i file → IsReader new i file
@@ -153,10 +153,10 @@ module _ (required_files : RequiredFiles) (all_required : AllRequired) (one_file
       let old = edge_before i x there in
       let e : EdgeValue = old.0 in
       elim (gained.each i e old.1) [
-        | inl same ↦ inl (e, old.1, subst (λ (d : EdgeValue). Reads d file) (same_some _ _ (sym there ∙ same)) reads)
+        | inl same ↦ inl (e, old.1, subst (λ (d : EdgeValue). HasInput d file) (same_some _ _ (sym there ∙ same)) reads)
         | inr (t, o, rule, inside, at, makes) ↦
             let is : x ≡ with_modules e rule.provided (required_of t rule) = same_some _ _ (sym there ∙ gained.objects t o rule i e inside at old.1 makes) in
-            elim (read_from e rule.provided (required_of t rule) file (subst (λ (d : EdgeValue). Reads d file) is reads)) [
+            elim (read_from e rule.provided (required_of t rule) file (subst (λ (d : EdgeValue). HasInput d file) is reads)) [
               | inl own ↦ inl (e, old.1, own)
               | inr more ↦ inr (of_pair t o rule e i file inside at old.1 makes more)
             ]

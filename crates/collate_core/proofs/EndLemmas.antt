@@ -15,7 +15,7 @@ use Rattle.module_table.specs.Added.{Task, tasks_of, required_of, RequiredFiles}
 use Rattle.dyndep_file.specs.StatementValue.{StatementValue}
 use Rattle.collate_core.specs.Values.{CollatedValue, ProjectTargetValue}
 use Rattle.collate_core.specs.Statements.{statement_of, statements_of}
-use Rattle.collate_core.specs.Projects.{IsProject, project_tables}
+use Rattle.collate_core.specs.Projects.{CollatesProject, project_tables}
 use Rattle.collate_core.specs.ProjectOrders.{dyndep_files, Sees, ProjectProvides, IsProjectOrdered, AllOrders}
 use Rattle.collate_core.proofs.ProjectLemmas.{in_zip, as_file}
 use Rattle.collate_core.proofs.LinkedLemmas.{contained, index_of}
@@ -34,7 +34,7 @@ task_input row k i a file e input =
     let q = from_map (λ (p : List ℕ × List ℕ). p.1) x.0.1 i file (ap (λ (z : StatementValue). slice_get z.implicit_inputs i) x.2 ∙ input) in
     (x.0, q.0.0, x.1, contained x.0.1 i (q.0.0, file) (subst (λ (f : List ℕ). slice_get x.0.1 i ≡ Some (q.0.0, f)) q.2 q.1))
 
-module _ (files_order : FilesOrder) (required : RequiredFiles) (style : Option Written) (targets : List ProjectTargetValue) (outs : List CollatedValue) (project : IsProject style targets outs) (orders : AllOrders (project_tables targets outs)) (ordered : IsProjectOrdered targets (project_tables targets outs))
+module _ (files_order : FilesOrder) (required : RequiredFiles) (style : Option Written) (targets : List ProjectTargetValue) (outs : List CollatedValue) (project : CollatesProject style targets outs) (orders : AllOrders (project_tables targets outs)) (ordered : IsProjectOrdered targets (project_tables targets outs))
     (single : (n : ℕ) (t : TableValue) → slice_get (project_tables targets outs) n ≡ Some t → AddedOnce (statements_of t))
     (g : List EdgeValue) (names : List (List ℕ)) (count : length names ≡ length (project_tables targets outs)) (meets : FilesMeet g (dyndep_files names (project_tables targets outs))) where
   abbrev files : List NamedFile

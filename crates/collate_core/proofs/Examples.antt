@@ -3,7 +3,7 @@ use Rattle.std.proofs.Common.{◌≡◌, ℕ, zero, suc, ◌<◌, List, [], ◌�
 use Rattle.std.proofs.lemmas.Slice.Eq.{bytes_eq-Decides}
 use Rattle.scan_docs.specs.Scan.{RuleValue}
 use Rattle.build_effect.specs.EdgeValue.{EdgeValue}
-use Rattle.build_effect.specs.Graphs.{Makes, Reads, EdgeNeeds, made_by}
+use Rattle.build_effect.specs.Graphs.{Makes, HasInput, EdgeNeeds, made_by}
 use Rattle.module_table.specs.TableValue.{TableValue}
 use Rattle.module_table.specs.Modules.{Provides, Requires}
 use Rattle.module_table.specs.declared.fault.Maker.TheVariants.{Object}
@@ -76,14 +76,14 @@ one_of : {X : Type 0} (x y : X) (k : ℕ) → slice_get (x ∷ []) k ≡ Some y 
 one_of x y zero e = same_some _ _ e
 one_of x y (suc k) e = cc
 
-reads_of : (g : List EdgeValue) (i : ℕ) (e : EdgeValue) (file : List ℕ) → slice_get g i ≡ Some e → IsReader g i file → Reads e file
-reads_of g i e file here reader = subst (λ (d : EdgeValue). Reads d file) (same_some _ _ (sym reader.1 ∙ here)) reader.2
+reads_of : (g : List EdgeValue) (i : ℕ) (e : EdgeValue) (file : List ℕ) → slice_get g i ≡ Some e → IsReader g i file → HasInput e file
+reads_of g i e file here reader = subst (λ (d : EdgeValue). HasInput d file) (same_some _ _ (sym reader.1 ∙ here)) reader.2
 
 makes_of : (g : List EdgeValue) (i : ℕ) (e : EdgeValue) (file : List ℕ) → slice_get g i ≡ Some e → IsMaker g i file → Makes e file
 makes_of g i e file here maker = (maker.0, subst (λ (d : EdgeValue). slice_get (made_by d) maker.0 ≡ Some file) (same_some _ _ (sym maker.1.1 ∙ here)) maker.1.2)
 
 b_reads : (file : List ℕ) → IsReader before 1 file → codes "b.cpp" ≡ file
-b_reads file reader = let reads : Reads (edge (codes "b.o") [] (codes "b.cpp") []) file = reads_of before 1 _ file refl reader in one_of (codes "b.cpp") file reads.0 reads.1
+b_reads file reader = let reads : HasInput (edge (codes "b.o") [] (codes "b.cpp") []) file = reads_of before 1 _ file refl reader in one_of (codes "b.cpp") file reads.0 reads.1
 
 a_makes : (file : List ℕ) → IsMaker before 0 file → codes "a.o" ≡ file
 a_makes file maker = let makes : Makes (edge (codes "a.o") [] (codes "a.cpp") []) file = makes_of before 0 _ file refl maker in one_of (codes "a.o") file makes.0 makes.1
@@ -132,7 +132,7 @@ false_wait h = b_not_for_a _ ((h 1 0).0 (_, codes "A.bmi", 1, refl, (1, refl), (
 
 -- and one too few leaves `a.o` without a wait that it has a reason for
 a_reads : (file : List ℕ) → IsReader (with_inputs [] []) 0 file → codes "a.cpp" ≡ file
-a_reads file reader = let reads : Reads (edge (codes "a.o") (codes "A.bmi" ∷ []) (codes "a.cpp") []) file = reads_of (with_inputs [] []) 0 _ file refl reader in one_of (codes "a.cpp") file reads.0 reads.1
+a_reads file reader = let reads : HasInput (edge (codes "a.o") (codes "A.bmi" ∷ []) (codes "a.cpp") []) file = reads_of (with_inputs [] []) 0 _ file refl reader in one_of (codes "a.cpp") file reads.0 reads.1
 
 too_few : HasNoFalseWait tables before (with_inputs [] []) → ⊥
 too_few h = by ((h 0 1).1 (required {file = codes "B.bmi"} a_requires (1, (_, refl, refl))))
@@ -197,11 +197,11 @@ made_file (suc (suc m)) file maker = absurd (nothing maker.1.0 maker.1.1)
 none_needed : (i maker : ℕ) → EdgeNeeds two_after i maker → ⊥
 none_needed zero maker (e, file, j, here, reads, makes) =
     let made = made_file maker file (j, makes) in
-    let read : Reads first_after file = reads_of two_after 0 first_after file refl (e, here, reads) in
+    let read : HasInput first_after file = reads_of two_after 0 first_after file refl (e, here, reads) in
     differ made.0 (codes "a.cpp") file made.1 made.3 (one_of (codes "a.cpp") file read.0 read.1)
 none_needed (suc zero) maker (e, file, j, here, reads, makes) =
     let made = made_file maker file (j, makes) in
-    let read : Reads second_after file = reads_of two_after 1 second_after file refl (e, here, reads) in
+    let read : HasInput second_after file = reads_of two_after 1 second_after file refl (e, here, reads) in
     differ made.0 (codes "b.cpp") file made.2 made.3 (one_of (codes "b.cpp") file read.0 read.1)
 none_needed (suc (suc i)) maker (e, file, j, here, reads, makes) = nothing e here
 

@@ -10,8 +10,8 @@ use Rattle.dyndep_file.specs.Reading.{StandsForOnly}
 use Rattle.scan_docs.specs.Scan.{RuleValue}
 use Rattle.build_effect.specs.EdgeValue.{EdgeValue}
 use Rattle.build_effect.specs.Graphs.{Names}
-use Rattle.build_effect.specs.Effect.{IsCanonical, AreCanonical, Gives, extended}
-use Rattle.build_effect.specs.Premises.{AddsAt, AddedOnce, AdditionNeeds, Meets, OneEffect}
+use Rattle.build_effect.specs.Effect.{IsCanonical, AreCanonical, Extends, extended}
+use Rattle.build_effect.specs.Premises.{AddsAt, AddedOnce, AdditionNeeds, MeetsPremises, OneEffect}
 use Rattle.module_maps.specs.Maps.{Written}
 use Rattle.collate_core.proofs.ByIndex.{from_map, to_map, same_some}
 use Rattle.module_table.specs.TableValue.{TableValue}
@@ -111,7 +111,7 @@ module _ (t : TableValue) (sound : IsSound t) (ordered : AddedOrderable) (once :
       }
 
   -- the effect adds exactly what the objects add
-  pub adds_exactly : (g : List EdgeValue) (name : List ℕ) (new : List EdgeValue) → Meets g name statements → Gives g name statements new → AddsExactly t name g new
+  pub adds_exactly : (g : List EdgeValue) (name : List ℕ) (new : List EdgeValue) → MeetsPremises g name statements → Extends g name statements new → AddsExactly t name g new
   unfolding task_of
   adds_exactly g name new meets gives =
       record {

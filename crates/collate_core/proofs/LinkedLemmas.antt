@@ -14,7 +14,7 @@ use Rattle.collate_core.specs.Values.{CollatedValue, ProjectTargetValue}
 use Rattle.collate_core.specs.Documents.{table_of, IsInfoAccepted}
 use Rattle.collate_core.specs.Infos.{info_of_table}
 use Rattle.collate_core.specs.Collation.{Collates}
-use Rattle.collate_core.specs.Projects.{target_of, linked_infos, project_tables, IsProject}
+use Rattle.collate_core.specs.Projects.{target_of, linked_infos, project_tables, CollatesProject}
 use Rattle.collate_core.proofs.Lists.{all_at}
 
 pub contained : {X : Type 0} (xs : List X) (k : ℕ) (x : X) → slice_get xs k ≡ Some x → Contains xs x
@@ -31,7 +31,7 @@ InfoIs = (bytes : List ℕ) (info : InfoValue) → IsAccepted info_checks IsInfo
 abbrev pub IsInfoOf : List TableValue → ℕ → ℕ → InfoValue → Type 0
 IsInfoOf tables n k info = (u : TableValue) × (name : List ℕ) × (kept : List (List ℕ)) × (k < n) × (slice_get tables k ≡ Some u) × (info_of_table name kept u ≡ info)
 
-module _ (style : Option Written) (targets : List ProjectTargetValue) (outs : List CollatedValue) (project : IsProject style targets outs) where
+module _ (style : Option Written) (targets : List ProjectTargetValue) (outs : List CollatedValue) (project : CollatesProject style targets outs) where
   abbrev tables : List TableValue
   tables = project_tables targets outs
 

@@ -13,7 +13,7 @@ use Rattle.module_maps.specs.declared.module_map.MapEntry.{MapEntry}
 use Rattle.collate_core.proofs.ByIndex.{element_at, in_first, in_append, same_some}
 use Rattle.collate_core.specs.Values.{CollatedValue, ProjectTargetValue}
 use Rattle.collate_core.specs.Collation.{Collates}
-use Rattle.collate_core.specs.Projects.{target_of, linked_infos, IsProject, project_tables, IsLinkedRefusal, IsProjectRefusal}
+use Rattle.collate_core.specs.Projects.{target_of, linked_infos, CollatesProject, project_tables, IsLinkedRefusal, IsProjectRefusal}
 use Rattle.collate_core.specs.ProjectNeeds.{MapsReadBack}
 use Rattle.collate_core.specs.Laws.{ProjectMaps}
 use Rattle.collate_core.specs.declared.fault.Refusal.{Refusal}
@@ -55,7 +55,7 @@ same_target outs more p all = ap (λ infos. record { name = p.name; setting = p.
 pub lower : (a b : ℕ) (linked : List ℕ) → a ≤ b → All (λ k. k < a) linked → All (λ k. k < b) linked
 lower a b linked le all i d within = let less : get_or linked i d < a = all i d within in omega arith
 
-module _ (style : Option Written) (targets : List ProjectTargetValue) (outs : List CollatedValue) (project : IsProject style targets outs)
+module _ (style : Option Written) (targets : List ProjectTargetValue) (outs : List CollatedValue) (project : CollatesProject style targets outs)
     (p : ProjectTargetValue) (c : CollatedValue) (all : All (λ k. k < length outs) p.linked) (collates : Collates (target_of outs p) style c) where
   earlier_more : (n : ℕ) (q : ProjectTargetValue) → (slice_get targets n ≡ Some q) ⊎ ((n ≡ length targets) × (p ≡ q)) → All (λ k. k < n) q.linked
   earlier_more n q (inl h) = project.earlier n q h
@@ -72,7 +72,7 @@ module _ (style : Option Written) (targets : List ProjectTargetValue) (outs : Li
       let here : Collates (target_of (outs ++ c ∷ []) p) style c = subst (λ z. Collates z style c) (same_target outs (c ∷ []) p all) collates in
       subst (λ (z : ProjectTargetValue). Collates (target_of (outs ++ c ∷ []) z) style d) h.1 (subst (λ z. Collates (target_of (outs ++ c ∷ []) p) style z) is_c here)
 
-  pub project_push : IsProject style (targets ++ p ∷ []) (outs ++ c ∷ [])
+  pub project_push : CollatesProject style (targets ++ p ∷ []) (outs ++ c ∷ [])
   project_push = record {
     count = omega (arith, length-append outs (c ∷ []), length-append targets (p ∷ []), project.count);
     earlier = λ n q at. earlier_more n q (in_push targets p n q at);
@@ -81,7 +81,7 @@ module _ (style : Option Written) (targets : List ProjectTargetValue) (outs : Li
 
 -- a style, where one is given, reads the maps back
 pub maps_of_style : {S : Type 0} (o : Option S) (written : S → Written) (kept : S → ModuleMapValue → List MapEntry) (entries : S → List ℕ → Result (List MapEntry) MapFault) →
-    ((s : S) → AreStyleLaws (written s) (kept s) (entries s)) → ProjectMaps → (targets : List ProjectTargetValue) (outs : List CollatedValue) → IsProject (option_map written o) targets outs →
+    ((s : S) → AreStyleLaws (written s) (kept s) (entries s)) → ProjectMaps → (targets : List ProjectTargetValue) (outs : List CollatedValue) → CollatesProject (option_map written o) targets outs →
     IfSome o (λ s. MapsReadBack (entries s) targets (project_tables targets outs) outs)
 maps_of_style None written kept entries laws maps targets outs project = tt
 maps_of_style (Some s) written kept entries laws maps targets outs project = maps (written s) (kept s) (entries s) (laws s) targets outs project
@@ -90,7 +90,7 @@ pub map_push : {A B : Type 0} (f : A → B) (xs : List A) (x : A) (ys : List B) 
 map_push f xs x ys y e h = rw (map-append, e, h) refl
 
 -- the refusal of a target whose predecessors all collate is that of the project
-refused_here : (style : Option Written) (targets : List ProjectTargetValue) (n : ℕ) (outs : List CollatedValue) (p : ProjectTargetValue) → IsProject style (take n targets) outs → slice_get targets n ≡ Some p →
+refused_here : (style : Option Written) (targets : List ProjectTargetValue) (n : ℕ) (outs : List CollatedValue) (p : ProjectTargetValue) → CollatesProject style (take n targets) outs → slice_get targets n ≡ Some p →
     (refusal : Refusal) → IsLinkedRefusal style outs (length outs) p refusal → IsProjectRefusal style targets n refusal
 refused_here style targets n outs p project at refusal h =
     let within : n < length targets = slice_get_within _ _ _ at in
@@ -98,7 +98,7 @@ refused_here style targets n outs p project at refusal h =
     (outs, p, project, at, subst (λ m. IsLinkedRefusal style outs m p refusal) (project.count ∙ count) h)
 
 -- the failure of the target of this index, with the index
-pub failed_here : (style : Option Written) (targets : List ProjectTargetValue) (n : ℕ) (outs : List CollatedValue) (p : ProjectTargetValue) → IsProject style (take n targets) outs → slice_get targets n ≡ Some p →
+pub failed_here : (style : Option Written) (targets : List ProjectTargetValue) (n : ℕ) (outs : List CollatedValue) (p : ProjectTargetValue) → CollatesProject style (take n targets) outs → slice_get targets n ≡ Some p →
     (failure : Failure Refusal) (result : Failure (ℕ × Refusal)) → Turns (λ refusal refused. refused ≡ (n, refusal)) failure result → ForFault (IsLinkedRefusal style outs (length outs) p) failure → ForFault (λ refused. IsProjectRefusal style targets refused.0 refused.1) result
 failed_here style targets n outs p project at Memory result turned h = rw turned tt
 failed_here style targets n outs p project at (Fault refusal) result turned h = rw (turned.2, turned.1) (refused_here style targets n outs p project at refusal h)

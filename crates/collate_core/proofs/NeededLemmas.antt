@@ -20,7 +20,7 @@ use Rattle.module_table.specs.declared.fault.Maker.TheVariants.{Object, Info}
 use Rattle.collate_core.specs.Values.{CollatedValue, ProjectTargetValue}
 use Rattle.collate_core.specs.Statements.{statement_of, statements_of}
 use Rattle.collate_core.specs.Infos.{info_of_table, module_of, modules_of}
-use Rattle.collate_core.specs.Projects.{IsProject, project_tables}
+use Rattle.collate_core.specs.Projects.{CollatesProject, project_tables}
 use Rattle.collate_core.specs.ProjectOrders.{ProjectProvides}
 use Rattle.collate_core.specs.ProjectNeeds.{IsProjectNeeded, direct, onward, AddedApart, MapsReadBack}
 use Rattle.collate_core.proofs.LinkedLemmas.{InfoIs, contained, index_of, collation_at, sound_of, info_at, info_of_link}
@@ -29,7 +29,7 @@ abbrev pub task_in : TableValue → RuleValue → Task
 task_in t rule = (rule, required_of t rule)
 
 module _ (required : RequiredFiles) (all_required : AllRequired) (one_file : OneFile) (once : FilesOnce) (info_is : InfoIs)
-    (style : Option Written) (targets : List ProjectTargetValue) (outs : List CollatedValue) (project : IsProject style targets outs) where
+    (style : Option Written) (targets : List ProjectTargetValue) (outs : List CollatedValue) (project : CollatesProject style targets outs) where
   abbrev tables : List TableValue
   tables = project_tables targets outs
 
@@ -242,7 +242,7 @@ module _ (required : RequiredFiles) (all_required : AllRequired) (one_file : One
 
 module _ (required : RequiredFiles) (all_required : AllRequired) (one_file : OneFile) (once : FilesOnce) (info_is : InfoIs)
     (written : Written) (kept : ModuleMapValue → List MapEntry) (entries : List ℕ → Result (List MapEntry) MapFault) (laws : AreStyleLaws written kept entries)
-    (targets : List ProjectTargetValue) (outs : List CollatedValue) (project : IsProject (Some written) targets outs) where
+    (targets : List ProjectTargetValue) (outs : List CollatedValue) (project : CollatesProject (Some written) targets outs) where
   -- the pairs of a table's map are those of the project
   needed_pairs : (apart : AddedApart (project_tables targets outs)) (n o : ℕ) (t : TableValue) → slice_get (project_tables targets outs) n ≡ Some t → (pairs : List (List ℕ × List ℕ)) → ArePairs (IsNeeded t o) pairs → ArePairs (IsProjectNeeded targets (project_tables targets outs) n o) pairs
   needed_pairs apart n o t at pairs are = record {

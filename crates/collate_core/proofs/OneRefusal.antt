@@ -10,7 +10,7 @@ use Rattle.scan_docs.specs.declared.fault.DocFault.{DocFault}
 use Rattle.scan_docs.specs.declared.fault.DocFault.TheVariants.{TooLarge}
 use Rattle.scan_docs.specs.declared.fault.Place.TheVariants.{Document}
 use Rattle.module_table.specs.TableValue.{TableValue}
-use Rattle.module_table.specs.Outcomes.{OneFault}
+use Rattle.module_table.specs.Outcomes.{OneTableFault}
 use Rattle.module_maps.specs.Maps.{Written}
 use Rattle.module_maps.specs.declared.fault.MapFault.{MapFault}
 use Rattle.collate_core.proofs.ByIndex.{same_some, three_ways}
@@ -28,7 +28,7 @@ use Rattle.collate_core.proofs.Outcomes.{OneAnswer, no_scan, no_info, no_map_fau
 pub equal : (refusal other : Refusal) → refusal ≡ other → IsSameRefusal refusal other
 equal refusal other e = subst (IsSameRefusal refusal) e same_refusal
 
-module _ (answers : OneAnswer) (one_fault : OneFault) where
+module _ (answers : OneAnswer) (one_fault : OneTableFault) where
   -- ---- scan documents
 
   -- the first faulty scan document is so among those before a later one

@@ -13,7 +13,7 @@ use Rattle.scan_docs.specs.Scan.{RuleValue}
 use Rattle.scan_docs.specs.InfoText.{info_text, ReadsBack}
 use Rattle.module_table.specs.TableValue.{TableValue}
 use Rattle.module_table.specs.Faults.{IsFault}
-use Rattle.module_table.specs.Sound.{IsSound, KeptAreProvided}
+use Rattle.module_table.specs.Sound.{IsSound, PrivateAreProvided}
 use Rattle.module_table.specs.declared.fault.TableFault.{TableFault}
 use Rattle.module_maps.specs.Maps.{Written}
 use Rattle.collate_core.proofs.ByIndex.{element_at, in_append, same_some}
@@ -55,8 +55,8 @@ pub collates : (target : TargetValue) (style : Option Written) (t : TableValue) 
 collates target style t ss c table same h =
     of_table target style c (subst (λ u. Given target style u (statements_of u) c) table (subst (λ xs. Given target style t xs c) same h))
 
-pub resolved : (target : TargetValue) (t : TableValue) → t ≡ table_of target → AreAccepted target → ((fault : TableFault) → IsFault t target.kept fault → ⊥) → IsSound t → KeptAreProvided t target.kept → IsResolved target
-resolved target t table documents no_fault sound kept = record { documents = documents; no_fault = subst (λ u. (fault : TableFault) → IsFault u target.kept fault → ⊥) table no_fault; sound = subst IsSound table sound; kept = subst (λ u. KeptAreProvided u target.kept) table kept }
+pub resolved : (target : TargetValue) (t : TableValue) → t ≡ table_of target → AreAccepted target → ((fault : TableFault) → IsFault t target.kept fault → ⊥) → IsSound t → PrivateAreProvided t target.kept → IsResolved target
+resolved target t table documents no_fault sound kept = record { documents = documents; no_fault = subst (λ u. (fault : TableFault) → IsFault u target.kept fault → ⊥) table no_fault; sound = subst IsSound table sound; kept = subst (λ u. PrivateAreProvided u target.kept) table kept }
 
 write_refusal : (target : TargetValue) (style : Option Written) → IsResolved target → (refusal : Refusal) → IsWriteRefusal (statements_of (table_of target)) refusal → IsRefusal target style refusal
 write_refusal target style resolved (StatementTooLong k) h = (resolved, h)

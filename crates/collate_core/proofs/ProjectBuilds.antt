@@ -8,7 +8,7 @@ use Rattle.scan_docs.specs.Scan.{RuleValue}
 use Rattle.build_effect.specs.EdgeValue.{EdgeValue}
 use Rattle.build_effect.specs.Graphs.{Makes, Names}
 use Rattle.build_effect.specs.Effect.{extended}
-use Rattle.build_effect.specs.Premises.{Meets}
+use Rattle.build_effect.specs.Premises.{MeetsPremises}
 use Rattle.build_effect.specs.Files.{NamedFile, GainsExactly}
 use Rattle.module_table.specs.TableValue.{TableValue}
 use Rattle.module_table.specs.Added.{tasks_of, required_of}
@@ -112,7 +112,7 @@ module _ (targets : List ProjectTargetValue) (outs : List CollatedValue) (orders
       let f : NamedFile = as_file (file.0, t) in
       let s : StatementValue = statement_of (rule, required_of t rule) in
       let at : slice_get (statements_of t) o ≡ Some s = to_map statement_of (tasks_of t) o (rule, required_of t rule) (to_map (task_in t) t.objects o rule there) in
-      let meets : Meets g f.name (statements_of t) = after.meets.each n f file.1 in
+      let meets : MeetsPremises g f.name (statements_of t) = after.meets.each n f file.1 in
       let bound = meets.names.bound o rule.object (to_map (λ (a : StatementValue). a.output) (statements_of t) o s at) in
       let index = meets.made_once i makes.0 bound.0 bound.4.0 rule.object (e, here, makes.1) (bound.1, bound.2, bound.4.1) in
       let edge : bound.1 ≡ e = same_some _ _ (sym bound.2 ∙ ap (slice_get g) (sym index.0) ∙ here) in
@@ -128,7 +128,7 @@ module _ (targets : List ProjectTargetValue) (outs : List CollatedValue) (orders
       let t : TableValue = pair.0.1 in
       let at_n : slice_get tables n ≡ Some t = in_zip after.names tables n pair.0 pair.1 in
       let inside = to_tables tables applied p n t listed at_n in
-      let meets : Meets g pair.0.0 (statements_of t) = subst (λ (x : NamedFile). Meets g x.name x.additions) (sym pair.2) (after.meets.each n f at) in
+      let meets : MeetsPremises g pair.0.0 (statements_of t) = subst (λ (x : NamedFile). MeetsPremises g x.name x.additions) (sym pair.2) (after.meets.each n f at) in
       of_named (tables_of targets outs applied) t (contained (tables_of targets outs applied) inside.0 t inside.1) g pair.0.0 meets i e here (names ∙ ap (λ (x : NamedFile). Some x.name) (sym pair.2))
 
   at_index : (t : TableValue) → Contains (tables_of targets outs applied) t → AtIndex tables applied t

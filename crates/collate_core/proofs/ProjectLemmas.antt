@@ -11,7 +11,7 @@ use Rattle.module_table.specs.Added.{AddedOrderable, FilesOnce, FilesApart, Requ
 use Rattle.collate_core.specs.Values.{CollatedValue, ProjectTargetValue}
 use Rattle.collate_core.specs.Documents.{table_of}
 use Rattle.collate_core.specs.Statements.{statements_of}
-use Rattle.collate_core.specs.Projects.{target_of, IsProject, project_tables}
+use Rattle.collate_core.specs.Projects.{target_of, CollatesProject, project_tables}
 use Rattle.collate_core.specs.ProjectOrders.{dyndep_files, AllOrders}
 use Rattle.collate_core.proofs.HeadlineLemmas.{added_once, are_canonical}
 use Rattle.collate_core.proofs.LinkedLemmas.{collation_at, sound_of}
@@ -26,7 +26,7 @@ abbrev pub as_file : List ℕ × TableValue → NamedFile
 as_file x = record { name = x.0; statements = statements_of x.1; additions = statements_of x.1 }
 
 module _ (ordered : AddedOrderable) (once : FilesOnce) (apart : FilesApart) (required : RequiredFiles) (any : AnyOrder) (alike : OrdersEndAlike)
-    (style : Option Written) (targets : List ProjectTargetValue) (outs : List CollatedValue) (project : IsProject style targets outs) where
+    (style : Option Written) (targets : List ProjectTargetValue) (outs : List CollatedValue) (project : CollatesProject style targets outs) where
   abbrev tables : List TableValue
   tables = project_tables targets outs
 

@@ -12,7 +12,7 @@ use Rattle.module_table.specs.TableValue.{TableValue}
 use Rattle.module_table.specs.Modules.{Provides, Requires, IsProvided, DependsOn}
 use Rattle.module_table.specs.Added.{RequiredFiles, AllRequired, OneFile, FilesOnce}
 use Rattle.collate_core.specs.Values.{CollatedValue, ProjectTargetValue}
-use Rattle.collate_core.specs.Projects.{IsProject, project_tables}
+use Rattle.collate_core.specs.Projects.{CollatesProject, project_tables}
 use Rattle.collate_core.specs.ProjectOrders.{ProjectProvides, IsProjectOrdered}
 use Rattle.collate_core.proofs.LinkedLemmas.{InfoIs, index_of, sound_of}
 use Rattle.collate_core.proofs.NeededLemmas.{provided_from, same_provides}
@@ -39,7 +39,7 @@ row_of bound xss n within =
           get_or_from_slice_get ys.0 o z.0 0 z.1 ∙ ys.2 o z.0 z.1 ∙ ap (λ v. n * bound + v) (get_or_from_slice_get xs.0 o x 0 here),
     )
 
-module _ (required : RequiredFiles) (all_required : AllRequired) (one_file : OneFile) (once : FilesOnce) (info_is : InfoIs) (style : Option Written) (targets : List ProjectTargetValue) (outs : List CollatedValue) (project : IsProject style targets outs) where
+module _ (required : RequiredFiles) (all_required : AllRequired) (one_file : OneFile) (once : FilesOnce) (info_is : InfoIs) (style : Option Written) (targets : List ProjectTargetValue) (outs : List CollatedValue) (project : CollatesProject style targets outs) where
   abbrev tables : List TableValue
   tables = project_tables targets outs
 

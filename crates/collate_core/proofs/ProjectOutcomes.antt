@@ -11,7 +11,7 @@ use Rattle.collate_core.specs.Values.{TargetValue, CollatedValue, ProjectTargetV
 use Rattle.collate_core.specs.Documents.{table_of}
 use Rattle.collate_core.specs.Infos.{info_of_table}
 use Rattle.collate_core.specs.Refusals.{IsRefusal}
-use Rattle.collate_core.specs.Projects.{target_of, linked_infos, IsProject, IsLinkedRefusal, IsProjectRefusal}
+use Rattle.collate_core.specs.Projects.{target_of, linked_infos, CollatesProject, IsLinkedRefusal, IsProjectRefusal}
 use Rattle.collate_core.specs.declared.fault.Refusal.{Refusal}
 use Rattle.collate_core.proofs.Lists.{in_take}
 use Rattle.collate_core.proofs.Outcomes.{OneAnswer, not_refused}
@@ -31,8 +31,8 @@ targets_agree outs others bound same p all = ap (λ infos. record { name = p.nam
 written_at : (outs : List CollatedValue) (k : ℕ) (c : CollatedValue) → slice_get outs k ≡ Some c → bytes_at outs k ≡ c.info
 written_at outs k c at = ap (λ (z : Option CollatedValue). option_map_or (λ (x : CollatedValue). x.info) z []) at
 
-module _ (answers : OneAnswer) (style : Option Written) (targets : List ProjectTargetValue) (outs : List CollatedValue) (project : IsProject style targets outs)
-    (n : ℕ) (inside : n ≤ length targets) (others : List CollatedValue) (part : IsProject style (take n targets) others) where
+module _ (answers : OneAnswer) (style : Option Written) (targets : List ProjectTargetValue) (outs : List CollatedValue) (project : CollatesProject style targets outs)
+    (n : ℕ) (inside : n ≤ length targets) (others : List CollatedValue) (part : CollatesProject style (take n targets) others) where
   same_at : (k : ℕ) → k < n → ((j : ℕ) → j < k → bytes_at outs j ≡ bytes_at others j) → bytes_at outs k ≡ bytes_at others k
   same_at k less before =
       let count : length (take n targets) ≡ n = length-take-le n targets inside in
@@ -64,7 +64,7 @@ module _ (answers : OneAnswer) (style : Option Written) (targets : List ProjectT
       not_refused answers (target_of outs p) style c.0 refusal (project.each n p c.0 at c.1) (subst (λ z. IsRefusal z style refusal) same refused)
 
 pub project_not_refused : OneAnswer → (style : Option Written) (targets : List ProjectTargetValue) (outs : List CollatedValue) (n : ℕ) (refusal : Refusal) →
-    IsProject style targets outs → IsProjectRefusal style targets n refusal → ⊥
+    CollatesProject style targets outs → IsProjectRefusal style targets n refusal → ⊥
 project_not_refused answers style targets outs n refusal project (others, p, part, at, refused) =
     let within : n < length targets = slice_get_within _ _ _ at in
     not_here answers style targets outs project n (omega (arith, within)) others part p refusal at refused

@@ -6,7 +6,7 @@ use Rattle.scan_docs.specs.Scan.{RuleValue}
 use Rattle.build_effect.specs.EdgeValue.{EdgeValue}
 use Rattle.build_effect.specs.Graphs.{Names}
 use Rattle.build_effect.specs.Effect.{Effect}
-use Rattle.build_effect.specs.Premises.{Meets}
+use Rattle.build_effect.specs.Premises.{MeetsPremises}
 use Rattle.module_table.specs.TableValue.{TableValue}
 use Rattle.module_table.specs.Sound.{IsSound}
 use Rattle.module_table.specs.Added.{Task, tasks_of, required_of}
@@ -42,14 +42,14 @@ rule_at t o object at =
     (rule.0, rule.1, ap (λ (z : Task). z.0.object) rule.2 ∙ ap (λ (s : StatementValue). s.output) x.2 ∙ a.2)
 
 -- an edge that names the file of a table makes one of its objects
-pub of_named : (tables : List TableValue) (t : TableValue) → Contains tables t → (g : List EdgeValue) (name : List ℕ) → Meets g name (statements_of t) → (i : ℕ) (e : EdgeValue) → slice_get g i ≡ Some e → Names name e → IsOfObject tables e
+pub of_named : (tables : List TableValue) (t : TableValue) → Contains tables t → (g : List EdgeValue) (name : List ℕ) → MeetsPremises g name (statements_of t) → (i : ℕ) (e : EdgeValue) → slice_get g i ≡ Some e → Names name e → IsOfObject tables e
 of_named tables t inside g name meets i e here names =
     let o = meets.names.one_object i e here names in
     let rule = rule_at t o.0 o.1 o.2 in
     (t, o.0, rule.0, inside, rule.1, (o.3.0, o.3.1 ∙ ap Some (sym rule.2)))
 
 -- each object of the statements has an edge
-pub edge_of : (t : TableValue) (g : List EdgeValue) (name : List ℕ) → Meets g name (statements_of t) → (o : ℕ) (rule : RuleValue) → slice_get t.objects o ≡ Some rule → (i : ℕ) × IsMaker g i rule.object
+pub edge_of : (t : TableValue) (g : List EdgeValue) (name : List ℕ) → MeetsPremises g name (statements_of t) → (o : ℕ) (rule : RuleValue) → slice_get t.objects o ≡ Some rule → (i : ℕ) × IsMaker g i rule.object
 edge_of t g name meets o rule there =
     let at : slice_get (statements_of t) o ≡ Some (statement_of (rule, required_of t rule)) = to_map statement_of (tasks_of t) o (rule, required_of t rule) (to_map (task_in t) t.objects o rule there) in
     let bound = meets.names.bound o rule.object (to_map (λ (a : StatementValue). a.output) (statements_of t) o (statement_of (rule, required_of t rule)) at) in
@@ -64,7 +64,7 @@ only_one t u inside = by (index_of (t ∷ []) u inside)
     by (zero, at) = sym (same_some _ _ at)
     by (suc k, at) = cc
 
-gained_exactly : (t : TableValue) → IsSound t → (g new : List EdgeValue) (name : List ℕ) → Meets g name (statements_of t) → AddsExactly t name g new → Gained (t ∷ []) g new
+gained_exactly : (t : TableValue) → IsSound t → (g new : List EdgeValue) (name : List ℕ) → MeetsPremises g name (statements_of t) → AddsExactly t name g new → Gained (t ∷ []) g new
 gained_exactly t sound g new name meets adds = record {
   same_edges = adds.same_edges;
   sound = λ u inside. subst IsSound (sym (only_one t u inside)) sound;

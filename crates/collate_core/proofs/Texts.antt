@@ -6,7 +6,7 @@ use Rattle.std.specs.List.{AllByRecursion}
 use Rattle.std.proofs.lemmas.List.Elements.{All-map, All-tail, All-weaker, All-contains, recursion_from_All}
 use Rattle.ninja_text.specs.Paths.{IsPath}
 use Rattle.scan_docs.specs.Name.{IsName, IsTargetName}
-use Rattle.scan_docs.specs.Sound.{IsSound, IsSoundModule, IsSoundInfo}
+use Rattle.scan_docs.specs.Sound.{IsSoundPair, IsSoundModule, IsSoundInfo}
 use Rattle.scan_docs.specs.Scan.{RuleValue, IsText, IsRuleText}
 use Rattle.scan_docs.specs.InfoText.{IsModuleText, IsInfoText}
 use Rattle.module_table.specs.TableValue.{TableValue}
@@ -14,7 +14,7 @@ use Rattle.module_table.specs.Modules.{IsProvidedBy}
 use Rattle.module_table.specs.Added.{Task, tasks_of, required_of, RequiredFiles}
 use Rattle.module_table.specs.declared.fault.Maker.{Maker}
 use Rattle.module_table.specs.declared.fault.Maker.TheVariants.{Object, Info}
-use Rattle.collate_core.specs.Statements.{files_of, statement_of, statements_of}
+use Rattle.collate_core.specs.Statements.{module_files, statement_of, statements_of}
 use Rattle.collate_core.specs.Collation.{HasPaths}
 use Rattle.collate_core.specs.Infos.{module_of, modules_of, info_of_table}
 use Rattle.collate_core.specs.inner.Parts.{IsTableText}
@@ -58,7 +58,7 @@ module _ (t : TableValue) (text : IsTableText t) (files : RequiredFiles) where
       let found = files t rule k pair.0 pair.1 (slice_get-get_or (required_of t rule) k d within) in
       All-contains IsName rule.required pair.0 h.required found.0
 
-  sound : (pairs : List (List ℕ × List ℕ)) → All (λ pair. IsName pair.0) pairs → All (λ pair. IsText pair.1) pairs → All IsPath (files_of pairs) → All (λ pair. IsSound pair.0 pair.1) pairs
+  sound : (pairs : List (List ℕ × List ℕ)) → All (λ pair. IsName pair.0) pairs → All (λ pair. IsText pair.1) pairs → All IsPath (module_files pairs) → All (λ pair. IsSoundPair pair.0 pair.1) pairs
   sound pairs names texts paths k d within = record {
     named = names k d within;
     canonical = all_mapped IsPath (λ (pair : List ℕ × List ℕ). pair.1) pairs paths k d within;
@@ -67,13 +67,13 @@ module _ (t : TableValue) (text : IsTableText t) (files : RequiredFiles) where
 
   -- the modules that an object provides, and those that it requires
   record IsSoundTask (task : Task) : Type 0 where
-    provided : All (λ pair. IsSound pair.0 pair.1) task.0.provided
-    required : All (λ pair. IsSound pair.0 pair.1) task.1
+    provided : All (λ pair. IsSoundPair pair.0 pair.1) task.0.provided
+    required : All (λ pair. IsSoundPair pair.0 pair.1) task.1
 
   sound_task : (rule : RuleValue) → IsRuleText rule → HasPaths (statement_of (rule, required_of t rule)) → IsSoundTask (rule, required_of t rule)
   sound_task rule h paths =
-      let provided = files_of rule.provided in
-      let inputs = files_of (required_of t rule) in
+      let provided = module_files rule.provided in
+      let inputs = module_files (required_of t rule) in
       let rest = All-tail IsPath rule.object (provided ++ inputs) paths in
       record {
         provided = sound rule.provided h.names h.provided (all_front IsPath provided inputs rest);
@@ -90,7 +90,7 @@ module _ (t : TableValue) (text : IsTableText t) (files : RequiredFiles) where
   sound_modules : (kept : List (List ℕ)) (task : Task) → IsSoundTask task → All IsSoundModule (modules_of kept task)
   sound_modules kept task h =
       All-map IsSoundModule (module_of kept task.1) task.0.provided
-      (All-weaker (λ pair. IsSound pair.0 pair.1) (λ pair. IsSoundModule (module_of kept task.1 pair)) (λ pair named. record { named = named; required = h.required }) task.0.provided h.provided)
+      (All-weaker (λ pair. IsSoundPair pair.0 pair.1) (λ pair. IsSoundModule (module_of kept task.1 pair)) (λ pair named. record { named = named; required = h.required }) task.0.provided h.provided)
 
   pub info_is_sound : (name : List ℕ) (kept : List (List ℕ)) → IsTargetName name → All HasPaths (statements_of t) → IsSoundInfo (info_of_table name kept t)
   info_is_sound name kept is_name paths = record {

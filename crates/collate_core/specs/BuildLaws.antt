@@ -1,10 +1,12 @@
 -- No race and no false wait after the dyndep file of a target, and after those of a project.
 use Rattle.std.specs.Prelude.{◌≡◌, ℕ, ◌<◌, List, [], ◌∷◌, length, slice_get, Option, Contains}
 use Rattle.std.specs.List.{filter_map}
+use Rattle.ninja_text.specs.Bytes.{PathText}
+use Rattle.dep_order.specs.Numbers.{Numbers}
 use Rattle.dep_order.specs.Orders.{IsLeastOrder}
 use Rattle.build_effect.specs.EdgeValue.{EdgeValue}
 use Rattle.build_effect.specs.Graphs.{EdgeNeeds}
-use Rattle.build_effect.specs.Premises.{Meets}
+use Rattle.build_effect.specs.Premises.{MeetsPremises}
 use Rattle.build_effect.specs.Files.{FilesMeet, AreFileIndices, Applies}
 use Rattle.module_table.specs.TableValue.{TableValue}
 use Rattle.module_maps.specs.Maps.{Written}
@@ -13,7 +15,7 @@ use Rattle.collate_core.specs.Documents.{table_of}
 use Rattle.collate_core.specs.Statements.{statements_of}
 use Rattle.collate_core.specs.Headline.{IsHeadline}
 use Rattle.collate_core.specs.Rehearsal.{HasEffect}
-use Rattle.collate_core.specs.Projects.{IsProject, project_tables}
+use Rattle.collate_core.specs.Projects.{CollatesProject, project_tables}
 use Rattle.collate_core.specs.ProjectOrders.{dyndep_files}
 use Rattle.collate_core.specs.Builds.{IsMaker, RequiresFile, IsRunOrder, HasNoRace, HasNoFalseWait}
 
@@ -24,8 +26,8 @@ use Rattle.collate_core.specs.Builds.{IsMaker, RequiresFile, IsRunOrder, HasNoRa
 pub record IsAfterTarget (target : TargetValue) (g new : List EdgeValue) : Type 0 where
   pub collated : CollatedValue
   pub headline : IsHeadline target collated
-  pub name : List ℕ
-  pub meets : Meets g name (statements_of (table_of target))
+  pub name : PathText
+  pub meets : MeetsPremises g name (statements_of (table_of target))
   pub effect : HasEffect collated.dyndep name g new
 
 -- there is no race after the dyndep file of a target
@@ -45,45 +47,45 @@ TargetHasNoFalseWait =
 -- `new` is the graph `g` after the dyndep files of targets of a project, applied in this order, and
 -- `g` meets the premises of `AllOrders`.
 pub record IsAfterProject (targets : List ProjectTargetValue) (outs : List CollatedValue)
-    (applied : List ℕ) (g new : List EdgeValue) : Type 0 where
+    (applied : Numbers) (g new : List EdgeValue) : Type 0 where
   pub style : Option Written
-  pub project : IsProject style targets outs
-  pub names : List (List ℕ)
+  pub project : CollatesProject style targets outs
+  pub names : List PathText
   pub count : length names ≡ length (project_tables targets outs)
   pub meets : FilesMeet g (dyndep_files names (project_tables targets outs))
   pub indices : AreFileIndices (dyndep_files names (project_tables targets outs)) applied
   pub applies : Applies (dyndep_files names (project_tables targets outs)) g applied new
 
 -- the tables of these targets
-abbrev pub tables_of : List ProjectTargetValue → List CollatedValue → List ℕ → List TableValue
+abbrev pub tables_of : List ProjectTargetValue → List CollatedValue → Numbers → List TableValue
 tables_of targets outs applied =
     filter_map (λ n. slice_get (project_tables targets outs) n) applied
 
 -- there is no race after the dyndep files of targets of a project
 abbrev pub ProjectHasNoRace : Type 0
 ProjectHasNoRace =
-    (targets : List ProjectTargetValue) (outs : List CollatedValue) (applied : List ℕ)
+    (targets : List ProjectTargetValue) (outs : List CollatedValue) (applied : Numbers)
     (g new : List EdgeValue) → IsAfterProject targets outs applied g new →
     HasNoRace (tables_of targets outs applied) g new
 
 -- After the files of all its targets, the file of each module that an object requires is made.
 abbrev pub ProjectMakesAll : Type 0
 ProjectMakesAll =
-    (targets : List ProjectTargetValue) (outs : List CollatedValue) (applied : List ℕ)
+    (targets : List ProjectTargetValue) (outs : List CollatedValue) (applied : Numbers)
     (g new : List EdgeValue) → IsAfterProject targets outs applied g new →
     ((n : ℕ) → n < length targets → Contains applied n) →
-    (i : ℕ) (file : List ℕ) → RequiresFile (tables_of targets outs applied) g i file →
+    (i : ℕ) (file : PathText) → RequiresFile (tables_of targets outs applied) g i file →
     (maker : ℕ) × IsMaker new maker file
 
 -- there is no false wait after the dyndep files of targets of a project
 abbrev pub ProjectHasNoFalseWait : Type 0
 ProjectHasNoFalseWait =
-    (targets : List ProjectTargetValue) (outs : List CollatedValue) (applied : List ℕ)
+    (targets : List ProjectTargetValue) (outs : List CollatedValue) (applied : Numbers)
     (g new : List EdgeValue) → IsAfterProject targets outs applied g new →
     HasNoFalseWait (tables_of targets outs applied) g new
 
 -- what `edge_order` answers is an order in which the edges can run
 abbrev pub LeastOrderRuns : Type 0
 LeastOrderRuns =
-    (g : List EdgeValue) (order : List ℕ) →
+    (g : List EdgeValue) (order : Numbers) →
     IsLeastOrder (length g) (EdgeNeeds g) order → IsRunOrder g order

@@ -1,5 +1,6 @@
 -- What a target collates to.
 use Rattle.std.specs.Prelude.{◌≡◌, ℕ, List, [], length, map, slice_get, Option, Some, None, Ok, All}
+use Rattle.ninja_text.specs.Bytes.{Text}
 use Rattle.ninja_text.specs.Paths.{IsPath}
 use Rattle.dyndep_file.specs.StatementValue.{StatementValue}
 use Rattle.dyndep_file.specs.WriteFaults.{text_or_fault, paths_of}
@@ -20,16 +21,16 @@ abbrev pub HasPaths : StatementValue → Type 0
 HasPaths s = All IsPath (paths_of s)
 
 -- the text is what the style writes for the object's map
-abbrev pub IsMapText : TableValue → Written → ℕ → RuleValue → List ℕ → Type 0
+abbrev pub IsMapText : TableValue → Written → ℕ → RuleValue → Text → Type 0
 IsMapText t written object rule text =
     (m : ModuleMapValue) × IsMapOf t object rule m × (written m ≡ Ok text)
 
 -- with a style, one text an object, that of its map; without one, none
-abbrev pub AreMaps : TableValue → Option Written → List (List ℕ) → Type 0
+abbrev pub AreMaps : TableValue → Option Written → List Text → Type 0
 AreMaps t None texts = texts ≡ []
 AreMaps t (Some written) texts =
     (length texts ≡ length t.objects)
-    × ((o : ℕ) (rule : RuleValue) (text : List ℕ) →
+    × ((o : ℕ) (rule : RuleValue) (text : Text) →
     slice_get t.objects o ≡ Some rule → slice_get texts o ≡ Some text →
     IsMapText t written o rule text)
 

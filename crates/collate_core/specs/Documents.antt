@@ -1,6 +1,7 @@
 -- What the documents of a target mean: one table of rules and infos.
 use Rattle.std.specs.Prelude.{ℕ, ◌≤◌, List, length, map, All}
 use Rattle.std.specs.List.{flat_map}
+use Rattle.ninja_text.specs.Bytes.{Text}
 use Rattle.scan_docs.specs.Document.{IsAccepted}
 use Rattle.scan_docs.specs.Scan.{SettingValue, RuleValue, AreRules}
 use Rattle.scan_docs.specs.ScanChecks.{scan_checks}
@@ -8,7 +9,7 @@ use Rattle.scan_docs.specs.Info.{IsInfo}
 use Rattle.scan_docs.specs.InfoChecks.{info_checks}
 use Rattle.module_table.specs.TableValue.{TableValue}
 use Rattle.module_table.specs.Faults.{IsFault}
-use Rattle.module_table.specs.Sound.{IsSound, KeptAreProvided}
+use Rattle.module_table.specs.Sound.{IsSound, PrivateAreProvided}
 use Rattle.module_table.specs.declared.fault.TableFault.{TableFault}
 use Rattle.scan_docs.specs.Values.{rules_of, info_of}
 use Rattle.collate_core.specs.Values.{TargetValue}
@@ -19,7 +20,7 @@ abbrev pub rule_limit : ℕ
 rule_limit = RULE_LIMIT
 
 -- the rules of scan documents, one document after another
-abbrev pub all_rules : SettingValue → List (List ℕ) → List RuleValue
+abbrev pub all_rules : SettingValue → List Text → List RuleValue
 all_rules s scans = flat_map (rules_of s) scans
 
 -- the table of the target's documents: its objects are the rules of all scan documents
@@ -30,15 +31,15 @@ table_of target = record {
 }
 
 -- the scan document passes its checks, and these are its rules
-abbrev pub IsScanAccepted : SettingValue → List ℕ → Type 0
+abbrev pub IsScanAccepted : SettingValue → Text → Type 0
 IsScanAccepted s scan = IsAccepted (scan_checks s) (AreRules s) scan (rules_of s scan)
 
 -- the info document passes its checks, and this is its info
-abbrev pub IsInfoAccepted : List ℕ → Type 0
+abbrev pub IsInfoAccepted : Text → Type 0
 IsInfoAccepted info = IsAccepted info_checks IsInfo info (info_of info)
 
 -- The scan documents pass their checks, and have no more rules than a target may.
-pub record AreScansAccepted (s : SettingValue) (scans : List (List ℕ)) : Type 0 where
+pub record AreScansAccepted (s : SettingValue) (scans : List Text) : Type 0 where
   pub each : All (IsScanAccepted s) scans
   pub limit : length (all_rules s scans) ≤ rule_limit
 
@@ -53,4 +54,4 @@ pub record IsResolved (target : TargetValue) : Type 0 where
   pub no_fault : (fault : TableFault) → IsFault (table_of target) target.kept fault → ⊥
   -- and so it is sound, and has every module that is to be private
   pub sound : IsSound (table_of target)
-  pub kept : KeptAreProvided (table_of target) target.kept
+  pub kept : PrivateAreProvided (table_of target) target.kept

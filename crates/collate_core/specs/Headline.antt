@@ -1,5 +1,6 @@
 -- The headline: what a collated target does to a build.
 use Rattle.std.specs.Prelude.{◌≡◌, ◌≢◌, ℕ, not, ◌==◌, ◌||◌, List, ◌++◌, length, map, slice_get, Some, None, All}
+use Rattle.ninja_text.specs.Bytes.{Text, PathText, Name}
 use Rattle.dep_order.specs.Needs.{IsOrderable}
 use Rattle.dyndep_file.specs.StatementValue.{StatementValue}
 use Rattle.dyndep_file.specs.Reading.{StandsForOnly}
@@ -9,29 +10,29 @@ use Rattle.module_table.specs.Added.{AddedNeeds, required_of}
 use Rattle.build_effect.specs.EdgeValue.{EdgeValue}
 use Rattle.build_effect.specs.Effect.{OnlyEffect}
 use Rattle.build_effect.specs.Graphs.{Makes}
-use Rattle.build_effect.specs.Premises.{AddsAt, AddedOnce, AdditionNeeds, Meets}
+use Rattle.build_effect.specs.Premises.{AddsAt, AddedOnce, AdditionNeeds, MeetsPremises}
 use Rattle.collate_core.specs.Values.{TargetValue, CollatedValue}
 use Rattle.collate_core.specs.Documents.{table_of, IsResolved}
-use Rattle.collate_core.specs.Statements.{files_of, statements_of}
+use Rattle.collate_core.specs.Statements.{module_files, statements_of}
 use Rattle.collate_core.specs.Collation.{HasPaths, Collates}
 
 -- modules: pairs of a name and a file
 abbrev pub Modules : Type 0
-Modules = List (List ℕ × List ℕ)
+Modules = List (Name × PathText)
 
 -- The edge with what an object adds that provides and requires these modules: the files of those
 -- that it provides as implicit outputs, and with them `restat`, and the files of those that it
 -- requires as implicit inputs.
 abbrev pub with_modules : EdgeValue → Modules → Modules → EdgeValue
 with_modules e provided required = record e {
-  implicit_outputs = e.implicit_outputs ++ files_of provided;
-  implicit_inputs = e.implicit_inputs ++ files_of required;
+  implicit_outputs = e.implicit_outputs ++ module_files provided;
+  implicit_inputs = e.implicit_inputs ++ module_files required;
   restat = e.restat || not (length provided == 0);
 }
 
 -- The edge of each object gains exactly what the object provides and requires, and every edge that
 -- does not name the file stays as it is.
-pub record AddsExactly (t : TableValue) (name : List ℕ) (old new : List EdgeValue) : Type 0 where
+pub record AddsExactly (t : TableValue) (name : PathText) (old new : List EdgeValue) : Type 0 where
   pub same_edges : length new ≡ length old
   pub objects : (o : ℕ) (rule : RuleValue) (i : ℕ) (e : EdgeValue) →
       slice_get t.objects o ≡ Some rule → slice_get old i ≡ Some e → Makes e rule.object →
@@ -47,14 +48,14 @@ pub record AddsExactly (t : TableValue) (name : List ℕ) (old new : List EdgeVa
 pub record IsHeadline (target : TargetValue) (c : CollatedValue) : Type 0 where
   pub no_fault : IsResolved target
   pub dyndep : StandsForOnly c.dyndep (statements_of (table_of target))
-  pub effect : (g : List EdgeValue) (name : List ℕ) →
-      Meets g name (statements_of (table_of target)) →
+  pub effect : (g : List EdgeValue) (name : PathText) →
+      MeetsPremises g name (statements_of (table_of target)) →
       (new : List EdgeValue) × OnlyEffect g name (statements_of (table_of target)) new
       × AddsExactly (table_of target) name g new
   pub orderable : IsOrderable (length (table_of target).objects) (AddedNeeds (table_of target))
 
 -- The text is the dyndep text of what the target collates to without maps, which has the headline.
-pub record IsDyndepOf (target : TargetValue) (text : List ℕ) : Type 0 where
+pub record IsDyndepOf (target : TargetValue) (text : Text) : Type 0 where
   pub collated : CollatedValue
   pub collates : Collates target None collated
   pub headline : IsHeadline target collated
@@ -65,15 +66,15 @@ pub record IsDyndepOf (target : TargetValue) (text : List ℕ) : Type 0 where
 -- The text stands for these statements and for no others. Their paths are canonical, their outputs
 -- are the objects; objects and added outputs are all different files; and what is added can be
 -- ordered.
-pub record IsCollatedText (objects : List (List ℕ)) (text : List ℕ)
+pub record IsCollatedText (objects : List PathText) (text : Text)
     (statements : List StatementValue) : Type 0 where
   pub dyndep : StandsForOnly text statements
   pub canonical : All HasPaths statements
   pub outputs : map (λ s. s.output) statements ≡ objects
-  pub objects_differ : (o p : ℕ) (object : List ℕ) →
+  pub objects_differ : (o p : ℕ) (object : PathText) →
       slice_get objects o ≡ Some object → slice_get objects p ≡ Some object → o ≡ p
   pub added_once : AddedOnce statements
-  pub apart : (o k m : ℕ) (object : List ℕ) →
+  pub apart : (o k m : ℕ) (object : PathText) →
       slice_get objects o ≡ Some object → AddsAt statements k m object → ⊥
   pub orderable : IsOrderable (length statements) (AdditionNeeds statements)
 

@@ -1,31 +1,32 @@
 -- The modules of a target, for the targets that link it.
-use Rattle.std.specs.Prelude.{ℕ, Bool, List, map, bytes_eq}
+use Rattle.std.specs.Prelude.{Bool, List, map, bytes_eq}
 use Rattle.std.specs.List.{flat_map, list_any}
+use Rattle.ninja_text.specs.Bytes.{PathText, Name}
 use Rattle.scan_docs.specs.Info.{ModuleValue, InfoValue}
 use Rattle.module_table.specs.TableValue.{TableValue}
 use Rattle.module_table.specs.Added.{Task, tasks_of}
 
 -- whether the name is one of those that a target keeps private
-abbrev pub is_private_name : List (List ℕ) → List ℕ → Bool
-is_private_name kept name = list_any (bytes_eq name) kept
+abbrev pub is_private_name : List Name → Name → Bool
+is_private_name private_names name = list_any (bytes_eq name) private_names
 
 -- a module of an object that requires these, and whether it is private
-abbrev pub module_of : List (List ℕ) → List (List ℕ × List ℕ) → List ℕ × List ℕ → ModuleValue
-module_of kept required pair = record {
+abbrev pub module_of : List Name → List (Name × PathText) → Name × PathText → ModuleValue
+module_of private_names required pair = record {
   name = pair.0;
   file = pair.1;
   required = required;
-  is_private = is_private_name kept pair.0;
+  is_private = is_private_name private_names pair.0;
 }
 
 -- the modules that an object provides, each with what the object requires
-abbrev pub modules_of : List (List ℕ) → Task → List ModuleValue
-modules_of kept task = map (module_of kept task.1) task.0.provided
+abbrev pub modules_of : List Name → Task → List ModuleValue
+modules_of private_names task = map (module_of private_names task.1) task.0.provided
 
 -- the info of a target of this name, which keeps these modules to itself: all modules of its
 -- objects, in the order of the objects, and of one object in order of provision
-abbrev pub info_of_table : List ℕ → List (List ℕ) → TableValue → InfoValue
-info_of_table name kept t = record {
+abbrev pub info_of_table : Name → List Name → TableValue → InfoValue
+info_of_table name private_names t = record {
   target = name;
-  modules = flat_map (modules_of kept) (tasks_of t);
+  modules = flat_map (modules_of private_names) (tasks_of t);
 }

@@ -1,5 +1,6 @@
 -- Laws of collated targets and projects.
 use Rattle.std.specs.Prelude.{◌≡◌, ◌↔◌, ℕ, List, slice_get, Option, Some}
+use Rattle.ninja_text.specs.Bytes.{PathText, Name}
 use Rattle.module_table.specs.TableValue.{TableValue}
 use Rattle.module_table.specs.Needed.{IsNeeded}
 use Rattle.module_table.specs.Outcomes.{IsSameFault}
@@ -11,7 +12,7 @@ use Rattle.collate_core.specs.Values.{TargetValue, CollatedValue, ProjectTargetV
 use Rattle.collate_core.specs.Collation.{Collates}
 use Rattle.collate_core.specs.Headline.{IsHeadline}
 use Rattle.collate_core.specs.Refusals.{IsRefusal}
-use Rattle.collate_core.specs.Projects.{IsProject, IsProjectRefusal, project_tables}
+use Rattle.collate_core.specs.Projects.{CollatesProject, IsProjectRefusal, project_tables}
 use Rattle.collate_core.specs.ProjectOrders.{AllOrders, IsProjectOrdered, EndIsOrderable}
 use Rattle.collate_core.specs.ProjectNeeds.{IsProjectNeeded, AddedApart, MapsReadBack}
 use Rattle.collate_core.specs.declared.fault.Refusal.{Refusal}
@@ -44,7 +45,7 @@ abbrev pub ProjectIsNotRefused : Type 0
 ProjectIsNotRefused =
     (style : Option Written) (targets : List ProjectTargetValue) (outs : List CollatedValue)
     (n : ℕ) (refusal : Refusal) →
-    IsProject style targets outs → IsProjectRefusal style targets n refusal → ⊥
+    CollatesProject style targets outs → IsProjectRefusal style targets n refusal → ⊥
 
 -- and it has one refusal at most, of one target
 abbrev pub OneProjectRefusal : Type 0
@@ -58,32 +59,32 @@ OneProjectRefusal =
 abbrev pub ProjectOrders : Type 0
 ProjectOrders =
     (style : Option Written) (targets : List ProjectTargetValue) (outs : List CollatedValue) →
-    IsProject style targets outs → AllOrders (project_tables targets outs)
+    CollatesProject style targets outs → AllOrders (project_tables targets outs)
 
 -- of each project, one numbering of all objects puts the maker of each required file below its user
 abbrev pub ProjectNumbered : Type 0
 ProjectNumbered =
     (style : Option Written) (targets : List ProjectTargetValue) (outs : List CollatedValue) →
-    IsProject style targets outs → IsProjectOrdered targets (project_tables targets outs)
+    CollatesProject style targets outs → IsProjectOrdered targets (project_tables targets outs)
 
 -- Of each project, a numbering of the graph with the added outputs alone that has the targets one
 -- above the other is enough for an order after all targets.
 abbrev pub ProjectEndOrderable : Type 0
 ProjectEndOrderable =
     (style : Option Written) (targets : List ProjectTargetValue) (outs : List CollatedValue) →
-    IsProject style targets outs → EndIsOrderable (project_tables targets outs)
+    CollatesProject style targets outs → EndIsOrderable (project_tables targets outs)
 
 -- what an object needs in the table of its target is what it needs in the project
 abbrev pub SameNeeds : List ProjectTargetValue → List TableValue → Type 0
 SameNeeds targets tables =
-    (n o : ℕ) (t : TableValue) (name file : List ℕ) → slice_get tables n ≡ Some t →
+    (n o : ℕ) (t : TableValue) (name : Name) (file : PathText) → slice_get tables n ≡ Some t →
     IsNeeded t o name file ↔ IsProjectNeeded targets tables n o name file
 
 -- so it is in each project in which no file is added by two targets
 abbrev pub ProjectNeeds : Type 0
 ProjectNeeds =
     (style : Option Written) (targets : List ProjectTargetValue) (outs : List CollatedValue) →
-    IsProject style targets outs → AddedApart (project_tables targets outs) →
+    CollatesProject style targets outs → AddedApart (project_tables targets outs) →
     SameNeeds targets (project_tables targets outs)
 
 -- of each project, every style reads the objects' maps back
@@ -92,5 +93,5 @@ ProjectMaps =
     (written : Written) (kept : ModuleMapValue → List MapEntry) (entries : Entries) →
     AreStyleLaws written kept entries →
     (targets : List ProjectTargetValue) (outs : List CollatedValue) →
-    IsProject (Some written) targets outs →
+    CollatesProject (Some written) targets outs →
     MapsReadBack entries targets (project_tables targets outs) outs

@@ -1,5 +1,6 @@
 -- What an object needs in a project, and the maps that say so.
 use Rattle.std.specs.Prelude.{◌≡◌, ℕ, List, ◌++◌, slice_get, Some, Ok}
+use Rattle.ninja_text.specs.Bytes.{Text, PathText, Name}
 use Rattle.scan_docs.specs.Scan.{RuleValue}
 use Rattle.build_effect.specs.Premises.{AddsAt}
 use Rattle.module_table.specs.TableValue.{TableValue}
@@ -14,12 +15,12 @@ use Rattle.collate_core.specs.ProjectOrders.{ProjectProvides}
 -- The name is at the end of a chain of names from object o of target n, each required by the object
 -- that provides the one before it, and looked up from the target of that object.
 pub data IsProjectNeeded (targets : List ProjectTargetValue) (tables : List TableValue) :
-    ℕ → ℕ → List ℕ → List ℕ → Type 0 where
-  direct : {n o m p : ℕ} {t : TableValue} {name file : List ℕ} →
+    ℕ → ℕ → Name → PathText → Type 0 where
+  direct : {n o m p : ℕ} {t : TableValue} {name : Name} {file : PathText} →
       slice_get tables n ≡ Some t → Requires t o name →
       ProjectProvides targets tables n m p name file →
       IsProjectNeeded targets tables n o name file
-  onward : {n o m p : ℕ} {t : TableValue} {first name between file : List ℕ} →
+  onward : {n o m p : ℕ} {t : TableValue} {first name : Name} {between file : PathText} →
       slice_get tables n ≡ Some t → Requires t o first →
       ProjectProvides targets tables n m p first between →
       IsProjectNeeded targets tables m p name file → IsProjectNeeded targets tables n o name file
@@ -27,15 +28,15 @@ pub data IsProjectNeeded (targets : List ProjectTargetValue) (tables : List Tabl
 -- no file is added by two targets
 abbrev pub AddedApart : List TableValue → Type 0
 AddedApart tables =
-    (n m k l i j : ℕ) (t u : TableValue) (file : List ℕ) →
+    (n m k l i j : ℕ) (t u : TableValue) (file : PathText) →
     slice_get tables n ≡ Some t → slice_get tables m ≡ Some u →
     AddsAt (statements_of t) k i file → AddsAt (statements_of u) l j file → n ≡ m
 
 -- The text is read as entries whose paths are those of the provided pairs and of all that object o
 -- of target n needs, in byte order of names.
 pub record MapReadsBack (entries : Entries) (targets : List ProjectTargetValue)
-    (tables : List TableValue) (n o : ℕ) (rule : RuleValue) (text : List ℕ) : Type 0 where
-  pub needed : List (List ℕ × List ℕ)
+    (tables : List TableValue) (n o : ℕ) (rule : RuleValue) (text : Text) : Type 0 where
+  pub needed : List (Name × PathText)
   pub found : List MapEntry
   pub are_needed : ArePairs (IsProjectNeeded targets tables n o) needed
   pub reads : entries text ≡ Ok found
@@ -46,7 +47,7 @@ abbrev pub MapsReadBack : Entries → List ProjectTargetValue → List TableValu
     List CollatedValue → Type 0
 MapsReadBack entries targets tables outs =
     AddedApart tables →
-    (n o : ℕ) (c : CollatedValue) (t : TableValue) (rule : RuleValue) (text : List ℕ) →
+    (n o : ℕ) (c : CollatedValue) (t : TableValue) (rule : RuleValue) (text : Text) →
     slice_get outs n ≡ Some c → slice_get tables n ≡ Some t →
     slice_get t.objects o ≡ Some rule → slice_get c.maps o ≡ Some text →
     MapReadsBack entries targets tables n o rule text

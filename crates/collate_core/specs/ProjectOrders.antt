@@ -1,6 +1,8 @@
 -- What the dyndep files of a project do to a build, in any order.
 use Rattle.std.specs.Prelude.{◌≡◌, ◌⊎◌, ℕ, ◌<◌, List, length, map, slice_get, Some, Contains}
 use Rattle.std.specs.List.{zip}
+use Rattle.ninja_text.specs.Bytes.{PathText, Name}
+use Rattle.dep_order.specs.Numbers.{Numbers}
 use Rattle.dyndep_file.specs.StatementValue.{StatementValue}
 use Rattle.dep_order.specs.Needs.{IsOrderable}
 use Rattle.build_effect.specs.EdgeValue.{EdgeValue}
@@ -13,7 +15,7 @@ use Rattle.collate_core.specs.Values.{ProjectTargetValue}
 use Rattle.collate_core.specs.Statements.{statements_of}
 
 -- a dyndep file of statements whose paths are canonical
-abbrev pub dyndep_file : List ℕ → List StatementValue → NamedFile
+abbrev pub dyndep_file : PathText → List StatementValue → NamedFile
 dyndep_file name statements = record {
   name = name;
   statements = statements;
@@ -21,19 +23,19 @@ dyndep_file name statements = record {
 }
 
 -- the dyndep files of the targets under these names
-abbrev pub dyndep_files : List (List ℕ) → List TableValue → List NamedFile
+abbrev pub dyndep_files : List PathText → List TableValue → List NamedFile
 dyndep_files names tables = map (λ x. dyndep_file x.0 (statements_of x.1)) (zip names tables)
 
 -- On graphs that name each file on exactly its target's objects, any order of any targets' files
 -- ends in the graph in which the edge of each object of those targets has gained exactly what its
 -- statement adds, and all orders end alike.
 pub record AllOrders (tables : List TableValue) : Type 0 where
-  pub gains : (g : List EdgeValue) (names : List (List ℕ)) (order : List ℕ) →
+  pub gains : (g : List EdgeValue) (names : List PathText) (order : Numbers) →
       length names ≡ length tables → FilesMeet g (dyndep_files names tables) →
       AreFileIndices (dyndep_files names tables) order →
       (new : List EdgeValue) × Applies (dyndep_files names tables) g order new
       × GainsExactly (dyndep_files names tables) g order new
-  pub alike : (g : List EdgeValue) (names : List (List ℕ)) (order other : List ℕ)
+  pub alike : (g : List EdgeValue) (names : List PathText) (order other : Numbers)
       (new last : List EdgeValue) →
       length names ≡ length tables → FilesMeet g (dyndep_files names tables) →
       AreFileIndices (dyndep_files names tables) order →
@@ -50,7 +52,7 @@ Sees targets n m =
 
 -- object p of target m, which is seen from target n, provides the name with the file
 abbrev pub ProjectProvides : List ProjectTargetValue → List TableValue →
-    ℕ → ℕ → ℕ → List ℕ → List ℕ → Type 0
+    ℕ → ℕ → ℕ → Name → PathText → Type 0
 ProjectProvides targets tables n m p name file =
     (t : TableValue) × (j : ℕ) × Sees targets n m × (slice_get tables m ≡ Some t)
     × Provides t p j name file
@@ -59,10 +61,10 @@ ProjectProvides targets tables n m p name file =
 -- of its file below its user.
 pub record IsProjectOrdered (targets : List ProjectTargetValue)
     (tables : List TableValue) : Type 0 where
-  pub files : (n o : ℕ) (t : TableValue) (name : List ℕ) →
-      slice_get tables n ≡ Some t → Requires t o name → (file : List ℕ) × IsProvided t name file
-  pub ranks : List (List ℕ)
-  pub below : (n o : ℕ) (t : TableValue) (name file : List ℕ) →
+  pub files : (n o : ℕ) (t : TableValue) (name : Name) →
+      slice_get tables n ≡ Some t → Requires t o name → (file : PathText) × IsProvided t name file
+  pub ranks : List Numbers
+  pub below : (n o : ℕ) (t : TableValue) (name : Name) (file : PathText) →
       slice_get tables n ≡ Some t → Requires t o name → IsProvided t name file →
       (m : ℕ) × (p : ℕ) × ProjectProvides targets tables n m p name file
       × (rank_at ranks m p < rank_at ranks n o)
@@ -74,8 +76,8 @@ pub record IsProjectOrdered (targets : List ProjectTargetValue)
 -- smaller, the end of all targets in any order can be ordered.
 abbrev pub EndIsOrderable : List TableValue → Type 0
 EndIsOrderable tables =
-    (g : List EdgeValue) (names : List (List ℕ)) (order : List ℕ)
-    (h : List EdgeValue) (ranks : List ℕ) (new : List EdgeValue) →
+    (g : List EdgeValue) (names : List PathText) (order : Numbers)
+    (h : List EdgeValue) (ranks : Numbers) (new : List EdgeValue) →
     length names ≡ length tables → FilesMeet g (dyndep_files names tables) →
     HasOutputsOnly (dyndep_files names tables) g h →
     IsRisingNumbering (dyndep_files names tables) g h ranks →

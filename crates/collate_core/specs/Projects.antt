@@ -1,6 +1,8 @@
 -- Projects: targets that link earlier ones.
 use Rattle.std.specs.Prelude.{◌≡◌, ◌⊎◌, ℕ, ◌<◌, List, [], length, map, take, slice_get, Option, Some, All}
 use Rattle.std.specs.Option.{option_map_or}
+use Rattle.ninja_text.specs.Bytes.{Text}
+use Rattle.dep_order.specs.Numbers.{Numbers}
 use Rattle.module_table.specs.TableValue.{TableValue}
 use Rattle.module_maps.specs.Maps.{Written}
 use Rattle.collate_core.specs.Values.{TargetValue, CollatedValue, ProjectTargetValue}
@@ -11,7 +13,7 @@ use Rattle.collate_core.specs.declared.fault.Refusal.{Refusal}
 use Rattle.collate_core.specs.declared.fault.Refusal.TheVariants.{LinkedLater}
 
 -- the infos that the targets of these indexes wrote
-abbrev pub linked_infos : List CollatedValue → List ℕ → List (List ℕ)
+abbrev pub linked_infos : List CollatedValue → Numbers → List Text
 linked_infos outs linked = map (λ k. option_map_or (λ c. c.info) (slice_get outs k) []) linked
 
 -- the target with the infos that the linked ones wrote
@@ -30,7 +32,7 @@ project_tables targets outs = map (λ p. table_of (target_of outs p)) targets
 
 -- The targets collate to these, one after another, each with the infos that the linked ones wrote,
 -- all of which are earlier.
-pub record IsProject (style : Option Written) (targets : List ProjectTargetValue)
+pub record CollatesProject (style : Option Written) (targets : List ProjectTargetValue)
     (outs : List CollatedValue) : Type 0 where
   pub count : length outs ≡ length targets
   pub earlier : (n : ℕ) (p : ProjectTargetValue) →
@@ -56,5 +58,6 @@ IsLinkedRefusal style outs n p refusal =
 -- the refusal of the first target that has one: those before it collate
 abbrev pub IsProjectRefusal : Option Written → List ProjectTargetValue → ℕ → Refusal → Type 0
 IsProjectRefusal style targets n refusal =
-    (outs : List CollatedValue) × (p : ProjectTargetValue) × IsProject style (take n targets) outs
+    (outs : List CollatedValue) × (p : ProjectTargetValue)
+    × CollatesProject style (take n targets) outs
     × (slice_get targets n ≡ Some p) × IsLinkedRefusal style outs n p refusal

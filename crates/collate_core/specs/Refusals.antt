@@ -1,5 +1,6 @@
 -- The refusal that `collate` reports: the first fault in its order.
 use Rattle.std.specs.Prelude.{◌≡◌, ◌⊎◌, ℕ, ◌+◌, ◌<◌, List, length, take, slice_get, Option, Some, None, Err, All}
+use Rattle.ninja_text.specs.Bytes.{Text}
 use Rattle.dyndep_file.specs.WriteFaults.{write_fault}
 use Rattle.dyndep_file.specs.declared.fault.WriteFault.TheVariants as write
 use Rattle.scan_docs.specs.Document.{IsRefused}
@@ -23,24 +24,24 @@ use Rattle.collate_core.specs.declared.fault.Refusal.{Refusal}
 use Rattle.collate_core.specs.declared.fault.Refusal.TheVariants.{Scan, Info, Table, StatementTooLong, Map, LinkedLater}
 
 -- the scan document of this index is refused by itself, or takes the rules past the limit
-abbrev pub IsScanFault : SettingValue → List (List ℕ) → ℕ → List ℕ → DocFault → Type 0
+abbrev pub IsScanFault : SettingValue → List Text → ℕ → Text → DocFault → Type 0
 IsScanFault s scans i scan fault =
     IsRefused (scan_checks s) scan fault
     ⊎ (IsScanAccepted s scan × (rule_limit < length (all_rules s (take (i + 1) scans)))
     × (fault ≡ TooLarge Document))
 
 -- The scan document of this index is the first that is faulty, and this is its fault.
-pub record IsScanRefusal (s : SettingValue) (scans : List (List ℕ)) (i : ℕ)
+pub record IsScanRefusal (s : SettingValue) (scans : List Text) (i : ℕ)
     (fault : DocFault) : Type 0 where
   pub before : AreScansAccepted s (take i scans)
-  pub scan : List ℕ
+  pub scan : Text
   pub here : slice_get scans i ≡ Some scan
   pub faulty : IsScanFault s scans i scan fault
 
 -- The info document of this index is the first that is refused, and this is its fault.
-pub record IsInfoRefusal (infos : List (List ℕ)) (i : ℕ) (fault : DocFault) : Type 0 where
+pub record IsInfoRefusal (infos : List Text) (i : ℕ) (fault : DocFault) : Type 0 where
   pub before : All IsInfoAccepted (take i infos)
-  pub info : List ℕ
+  pub info : Text
   pub here : slice_get infos i ≡ Some info
   pub faulty : IsRefused info_checks info fault
 
@@ -51,7 +52,7 @@ IsMapFault t written o rule fault =
 
 -- an object's map is written
 abbrev pub IsMapWritten : TableValue → Written → ℕ → RuleValue → Type 0
-IsMapWritten t written o rule = (text : List ℕ) × IsMapText t written o rule text
+IsMapWritten t written o rule = (text : Text) × IsMapText t written o rule text
 
 -- The map of the object of this index is the first that is refused, and this is its fault.
 pub record IsMapRefusal (t : TableValue) (written : Written) (o : ℕ)
@@ -67,8 +68,8 @@ abbrev pub AllFit : TargetValue → Type 0
 AllFit target = write_fault (statements_of (table_of target)) ≡ None
 
 -- the first build line that does not is that of this statement
-abbrev pub IsTooLong : TargetValue → ℕ → Type 0
-IsTooLong target k =
+abbrev pub IsFirstTooLong : TargetValue → ℕ → Type 0
+IsFirstTooLong target k =
     write_fault (statements_of (table_of target)) ≡ Some (write.StatementTooLong k)
 
 -- The refusal is the one that is reported: each is looked for only where none of those above it is.
@@ -82,7 +83,7 @@ IsRefusal target style (Info i fault) =
 IsRefusal target style (Table fault) =
     AreAccepted target × IsReported (table_of target) target.kept fault
 -- the first statement with too long a build line
-IsRefusal target style (StatementTooLong k) = IsResolved target × IsTooLong target k
+IsRefusal target style (StatementTooLong k) = IsResolved target × IsFirstTooLong target k
 -- with a style, the first object whose map is refused
 IsRefusal target None (Map o fault) = ⊥
 IsRefusal target (Some written) (Map o fault) =

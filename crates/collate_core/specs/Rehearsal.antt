@@ -1,15 +1,17 @@
 -- What rehearsing a text on a graph answers.
-use Rattle.std.specs.Prelude.{ℕ, List, [], ◌∷◌}
+use Rattle.std.specs.Prelude.{List, [], ◌∷◌}
+use Rattle.ninja_text.specs.Bytes.{Text, PathText}
+use Rattle.dep_order.specs.Numbers.{Numbers}
 use Rattle.dep_order.specs.declared.Sorting.{Sorting}
 use Rattle.dep_order.specs.declared.Sorting.TheVariants.{Order, Cycle}
 use Rattle.dyndep_file.specs.StatementValue.{StatementValue}
-use Rattle.dyndep_file.specs.Reading.{StandsFor, StandsForOnly, IsRefused}
+use Rattle.dyndep_file.specs.Reading.{StandsFor, StandsForOnly, HasReadFault}
 use Rattle.dyndep_file.specs.declared.fault.ReadFault.{ReadFault}
 use Rattle.dyndep_file.specs.declared.fault.ReadFault.TheVariants.{AtLine, Io}
 use Rattle.build_effect.specs.EdgeValue.{EdgeValue}
 use Rattle.build_effect.specs.Effect.{OnlyEffect, HasNoEffect}
 use Rattle.build_effect.specs.Faults.{IsEffectFault}
-use Rattle.build_effect.specs.Premises.{Meets}
+use Rattle.build_effect.specs.Premises.{MeetsPremises}
 use Rattle.build_effect.specs.Numbering.{HasOutputsOnly, IsLevelNumbering}
 use Rattle.build_effect.specs.declared.fault.EffectFault.{EffectFault}
 use Rattle.collate_core.specs.Values.{CollatedValue}
@@ -19,35 +21,36 @@ use Rattle.collate_core.specs.declared.fault.RehearseFault.{RehearseFault}
 use Rattle.collate_core.specs.declared.fault.RehearseFault.TheVariants as fault
 
 -- the text stands for some statements and for no others, and these have this effect and no other
-abbrev pub HasEffect : List ℕ → List ℕ → List EdgeValue → List EdgeValue → Type 0
+abbrev pub HasEffect : Text → PathText → List EdgeValue → List EdgeValue → Type 0
 HasEffect text name old new =
     (statements : List StatementValue) × StandsForOnly text statements
     × OnlyEffect old name statements new
 
 -- these statements have no effect, for this reason
-pub record IsWithoutEffect (old : List EdgeValue) (name : List ℕ) (statements : List StatementValue)
+pub record IsWithoutEffect (old : List EdgeValue) (name : PathText)
+    (statements : List StatementValue)
     (fault : EffectFault) : Type 0 where
   pub reason : IsEffectFault old name statements fault
   pub none : HasNoEffect old name statements
 
 -- the text stands for some statements and for no others, and these have no effect, for this reason
-abbrev pub LacksEffect : List ℕ → List ℕ → List EdgeValue → EffectFault → Type 0
+abbrev pub LacksEffect : Text → PathText → List EdgeValue → EffectFault → Type 0
 LacksEffect text name old fault =
     (statements : List StatementValue) × StandsForOnly text statements
     × IsWithoutEffect old name statements fault
 
 -- the fault is the one that the reader of dyndep files reports of the text
-abbrev pub IsReported : List ℕ → ReadFault → Type 0
-IsReported text (AtLine line fault) = IsRefused text (record { line = line; fault = fault })
-IsReported text Io = ⊥
+abbrev pub IsReadFaultOf : Text → ReadFault → Type 0
+IsReadFaultOf text (AtLine line fault) = HasReadFault text (record { line = line; fault = fault })
+IsReadFaultOf text Io = ⊥
 
 -- the text stands for no statements, for this reason
-abbrev pub IsUnreadable : List ℕ → ReadFault → Type 0
+abbrev pub IsUnreadable : Text → ReadFault → Type 0
 IsUnreadable text fault =
-    IsReported text fault × ((statements : List StatementValue) → StandsFor text statements → ⊥)
+    IsReadFaultOf text fault × ((statements : List StatementValue) → StandsFor text statements → ⊥)
 
 -- why a rehearsal was refused
-abbrev pub IsRehearseFault : List ℕ → List ℕ → List EdgeValue → RehearseFault → Type 0
+abbrev pub IsRehearseFault : Text → PathText → List EdgeValue → RehearseFault → Type 0
 IsRehearseFault text name old (fault.Read reason) = IsUnreadable text reason
 IsRehearseFault text name old (fault.Effect reason) = LacksEffect text name old reason
 
@@ -60,15 +63,15 @@ IsOrder (Cycle cycle) = ⊥
 
 -- A numbering of the edges of the graph with the added outputs alone: the edges that name the file
 -- have one number, those that make what they link a smaller one, and needed edges are below.
-pub record IsLevel (name : List ℕ) (statements : List StatementValue)
+pub record IsLevel (name : PathText) (statements : List StatementValue)
     (g : List EdgeValue) : Type 0 where
   pub outputs : List EdgeValue
   pub has_outputs : HasOutputsOnly (dyndep_file name statements ∷ []) g outputs
-  pub ranks : List ℕ
+  pub ranks : Numbers
   pub level : IsLevelNumbering (dyndep_file name statements) g outputs ranks
 
 -- where the graph meets the premises of the headline, and has such a numbering, this is an order
-abbrev pub IsOrderedAt : CollatedValue → List ℕ → List EdgeValue → Sorting → Type 0
+abbrev pub IsOrderedAt : CollatedValue → PathText → List EdgeValue → Sorting → Type 0
 IsOrderedAt c name g sorting =
     (statements : List StatementValue) → IsCollatedText c.objects c.dyndep statements →
-    Meets g name statements → IsLevel name statements g → IsOrder sorting
+    MeetsPremises g name statements → IsLevel name statements g → IsOrder sorting

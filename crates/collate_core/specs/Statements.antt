@@ -1,12 +1,13 @@
 -- The statements of a table's objects.
-use Rattle.std.specs.Prelude.{ℕ, not, ◌==◌, List, length, map}
+use Rattle.std.specs.Prelude.{not, ◌==◌, List, length, map}
+use Rattle.ninja_text.specs.Bytes.{PathText, Name}
 use Rattle.dyndep_file.specs.StatementValue.{StatementValue}
 use Rattle.module_table.specs.TableValue.{TableValue}
 use Rattle.module_table.specs.Added.{Task, tasks_of}
 
 -- the files of modules, which are pairs of a name and a file
-abbrev pub files_of : List (List ℕ × List ℕ) → List (List ℕ)
-files_of modules = map (λ pair. pair.1) modules
+abbrev pub module_files : List (Name × PathText) → List PathText
+module_files modules = map (λ pair. pair.1) modules
 
 -- An object's statement: its path, with the files of the modules that it provides as implicit
 -- outputs, in order of provision, and the files of those that it requires as implicit inputs, in
@@ -14,8 +15,8 @@ files_of modules = map (λ pair. pair.1) modules
 abbrev pub statement_of : Task → StatementValue
 statement_of task = record {
   output = task.0.object;
-  implicit_outputs = files_of task.0.provided;
-  implicit_inputs = files_of task.1;
+  implicit_outputs = module_files task.0.provided;
+  implicit_inputs = module_files task.1;
   restat = not (length task.0.provided == 0);
 }
 

@@ -1,5 +1,6 @@
 //! The info of a target: its modules, for the targets that link it.
 ghost use Rattle.std.specs.Prelude.{◌≡◌, ◌++◌, ℕ, List, IfOk, OnOk};
+ghost use Rattle.ninja_text.specs.Bytes.{Name};
 ghost use Rattle.indexmap.specs.IndexSet.{IsEmpty};
 ghost use Rattle.scan_docs.specs.InfoText.{info_text, ReadsBack};
 ghost use Rattle.collate_core.specs.Infos.{is_private_name, modules_of, info_of_table};
@@ -39,7 +40,7 @@ fn set_of<S: BuildHasher + Copy>(
     hash_builder: S,
 ) -> Result<IndexSet<Name, S>, AllocError>
     ensures { IfOk result
-        (λ set. (name : List ℕ) → is_private_name set.keys name ≡ is_private_name names.now name) }
+        (λ set. (name : Name) → is_private_name set.keys name ≡ is_private_name names.now name) }
 {
     let mut set = IndexSet::with_hasher(alloc, hash_builder);
     add_names(alloc, names, &mut set)?;
@@ -53,7 +54,7 @@ fn add_names<S: BuildHasher>(
     set: &mut IndexSet<Name, S>,
 ) -> Result<(), AllocError>
     requires { IsEmpty set.old }
-    ensures { OnOk result ((name : List ℕ) →
+    ensures { OnOk result ((name : Name) →
         is_private_name set.new.keys name ≡ is_private_name names.now name) }
 {
     for name in names {

@@ -2,7 +2,7 @@
 ghost use Rattle.std.specs.Prelude.{◌≡◌, ◌↔◌, ◌<◌, List, [], IfOk, OnOk, IfErr, IfSome, IsTrue, All, map, length};
 ghost use Rattle.std.specs.Option.{option_copied, option_map};
 ghost use Rattle.ninja_text.specs.Failure.{Turns, ForFault};
-ghost use Rattle.collate_core.specs.Projects.{IsProject, IsProjectRefusal, IsLinkedRefusal, linked_infos, project_tables};
+ghost use Rattle.collate_core.specs.Projects.{CollatesProject, IsProjectRefusal, IsLinkedRefusal, linked_infos, project_tables};
 ghost use Rattle.collate_core.specs.ProjectOrders.{AllOrders, IsProjectOrdered, EndIsOrderable};
 ghost use Rattle.collate_core.specs.ProjectNeeds.{MapsReadBack};
 ghost use Rattle.collate_core.specs.inner.Parts.{CollatesLinked};
@@ -66,7 +66,7 @@ pub fn project<M: MapStyle>(
     style: Option<&M>,
 ) -> Result<ProjectOut, Failure<(usize, Refusal)>>
     ensures collated { IfOk result (λ out.
-        IsProject (option_map M.written (option_copied style.entry))
+        CollatesProject (option_map M.written (option_copied style.entry))
         targets.now out.targets.items) }
     // the dyndep files may be applied in any order, and all orders end alike
     ensures orders { IfOk result (λ out. AllOrders (project_tables targets.now out.targets.items)) }
@@ -97,7 +97,7 @@ pub fn project_with_hasher<M: MapStyle, S: BuildHasher + Copy>(
     hash_builder: S,
 ) -> Result<ProjectOut, Failure<(usize, Refusal)>>
     ensures collated { IfOk result (λ out.
-        IsProject (option_map M.written (option_copied style.entry))
+        CollatesProject (option_map M.written (option_copied style.entry))
         targets.now out.targets.items) }
     // the dyndep files may be applied in any order, and all orders end alike
     ensures orders { IfOk result (λ out. AllOrders (project_tables targets.now out.targets.items)) }
@@ -132,7 +132,7 @@ fn add_outs<M: MapStyle, S: BuildHasher + Copy>(
 ) -> Result<(), Failure<(usize, Refusal)>>
     requires { outs.old.items ≡ [] }
     ensures collated { OnOk result
-        (IsProject (option_map M.written (option_copied style.entry))
+        (CollatesProject (option_map M.written (option_copied style.entry))
         targets.now outs.new.items) }
     ensures refused { IfErr result (ForFault (λ refused.
         IsProjectRefusal (option_map M.written (option_copied style.entry))

@@ -2,7 +2,7 @@
 ghost use Rattle.std.specs.Prelude.{IfOk, IfErr};
 ghost use Rattle.ninja_text.specs.Failure.{ForFault};
 ghost use Rattle.dyndep_file.specs.Reading.{StandsFor};
-ghost use Rattle.collate_core.specs.Rehearsal.{HasEffect, IsReported, IsRehearseFault};
+ghost use Rattle.collate_core.specs.Rehearsal.{HasEffect, IsReadFaultOf, IsRehearseFault};
 
 use crate::fault::RehearseFault;
 use build_effect::{Graph, apply_with_hasher};
@@ -58,7 +58,7 @@ pub fn rehearse_with_hasher<S: BuildHasher + Copy>(
 /// The statements of a text that is fed in pieces of these lengths.
 fn read_pieces(alloc: Global, text: &[u8], cuts: &[usize]) -> Result<Dyndep, Failure<ReadFault>>
     ensures read { IfOk result (StandsFor text.now) }
-    ensures refused { IfErr result (ForFault (IsReported text.now)) }
+    ensures refused { IfErr result (ForFault (IsReadFaultOf text.now)) }
 {
     laws::fault_stays();
     let mut reader = DyndepReader::new(alloc);

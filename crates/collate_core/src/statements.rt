@@ -1,11 +1,12 @@
 //! The text of the statements of a table's objects.
 ghost use Rattle.std.specs.Prelude.{◌≡◌, ◌++◌, ◌∷◌, List, ℕ, [], Ok, All, IfOk, OnOk, IfErr};
+ghost use Rattle.ninja_text.specs.Bytes.{PathText};
 ghost use Rattle.ninja_text.specs.Failure.{ForFault};
 ghost use Rattle.dyndep_file.specs.StatementValue.{StatementValue};
 ghost use Rattle.dyndep_file.specs.WriteFaults.{text_or_fault};
 ghost use Rattle.dyndep_file.specs.Reading.{StandsForOnly};
 ghost use Rattle.dyndep_file.specs.Texts.{IsTextOf};
-ghost use Rattle.collate_core.specs.Statements.{files_of, statement_of, statements_of};
+ghost use Rattle.collate_core.specs.Statements.{module_files, statement_of, statements_of};
 ghost use Rattle.collate_core.specs.inner.Parts.{lent_files, IsSpelled, HasSpelled, IsWriteRefusal, IsLineRefusal};
 
 use crate::fault::Refusal;
@@ -63,11 +64,11 @@ fn lent_statement<'l>(
     outputs: &'l [&'l [u8]],
     inputs: &'l [&'l [u8]],
 ) -> LentStatement<'l>
-    requires outputs { lent_files outputs.now ≡ files_of rule.now.provided }
+    requires outputs { lent_files outputs.now ≡ module_files rule.now.provided }
     requires spelled { All IsSpelled (lent_files outputs.now)
         × All IsSpelled (lent_files inputs.now) }
-    ensures statement { (required : List (List ℕ × List ℕ)) →
-        lent_files inputs.now ≡ files_of required → result ≡ statement_of (rule.now, required) }
+    ensures statement { (required : List (Name × PathText)) →
+        lent_files inputs.now ≡ module_files required → result ≡ statement_of (rule.now, required) }
     ensures spelled { HasSpelled result }
 {
     LentStatement {
@@ -80,7 +81,7 @@ fn lent_statement<'l>(
 
 /// Lends the files of modules, in the place of what was lent before.
 fn lend_files<'m>(modules: &'m [(Name, Path)], files: &mut Vec<&'m [u8]>) -> Result<(), AllocError>
-    ensures files { OnOk result (lent_files files.new.items ≡ files_of modules.now) }
+    ensures files { OnOk result (lent_files files.new.items ≡ module_files modules.now) }
     ensures spelled { OnOk result (All IsSpelled (lent_files files.new.items)) }
 {
     files.clear();

@@ -1,6 +1,6 @@
 -- The definitions on examples whose answers are known.
 use Rattle.std.proofs.Common.{◌≡◌, [], ◌∷◌, Some, None, codes, refl}
-use Rattle.command_line.specs.Tasks.{one, show, effect, order, project, file_of, task_in}
+use Rattle.command_line.specs.Tasks.{one, show, effect, order, project, first_file_of, task_in}
 
 three_operands : task_in (codes "one" ∷ codes "b.ddi" ∷ [] ∷ codes "-" ∷ []) ≡ Some (one (codes "b.ddi") [] (codes "-"))
 three_operands = refl
@@ -20,7 +20,7 @@ operand_too_many = refl
 name_first : task_in (codes "effect" ∷ codes "t.dd" ∷ codes "e" ∷ codes "d" ∷ []) ≡ Some (effect (codes "t.dd") (codes "e") (codes "d"))
 name_first = refl
 
-listing_read_first : file_of (effect (codes "t.dd") (codes "e") (codes "d")) ≡ codes "e"
+listing_read_first : first_file_of (effect (codes "t.dd") (codes "e") (codes "d")) ≡ codes "e"
 listing_read_first = refl
 
 one_argument : task_in (codes "order" ∷ codes "e" ∷ []) ≡ Some (order (codes "e"))

@@ -43,11 +43,11 @@ pub enum Task<'a> {
 }
 
 impl<'a> Task<'a> {
-    ghost use Rattle.command_line.specs.Tasks.{task_value, file_of};
+    ghost use Rattle.command_line.specs.Tasks.{task_value, first_file_of};
 
     /// The file that the task reads first.
     pub fn file(&self) -> &'a str
-        ensures { result.now ≡ file_of (task_value self.now) }
+        ensures { result.now ≡ first_file_of (task_value self.now) }
     {
         match self {
             Task::One { scan, .. } => *scan,

@@ -8,7 +8,7 @@ use Rattle.build_effect.specs.EdgeValue.{EdgeValue}
 use Rattle.build_effect.specs.declared.fault.EffectFault.TheVariants.{AddedTwice}
 use Rattle.build_effect.specs.declared.fault.GraphFault.TheVariants.{DyndepNotInput}
 use Rattle.build_effect.specs.declared.fault.ListingFault.TheVariants.{NoGraph}
-use Rattle.commands.specs.EdgeFaults.{listing_fault_text, effect_text, cycle_text}
+use Rattle.commands.specs.EdgeFaults.{edges_fault_text, effect_text, cycle_text}
 use Rattle.commands.specs.Order.{order_text}
 use Rattle.commands.specs.Answers.{Fails, line}
 use Rattle.std.specs.Prelude.{Ok, Err}
@@ -70,14 +70,14 @@ one_a_line = refl
 cycle : cycle_text three_edges (0 ∷ 1 ∷ 2 ∷ []) ≡ codes "cycle a.o -> b.o -> gen.h"
 cycle = refl
 
-unread_file : listing_fault_text (NoGraph (DyndepNotInput 0 (codes "a.o"))) ≡ codes "E2 DyndepNotInput a.o"
+unread_file : edges_fault_text (NoGraph (DyndepNotInput 0 (codes "a.o"))) ≡ codes "E2 DyndepNotInput a.o"
 unread_file = refl
 
 added_twice : effect_text (AddedTwice (codes "mod/B.bmi")) ≡ codes "E7 AddedTwice mod/B.bmi"
 added_twice = refl
 
 -- a target document that names a scan document, an info and a listing of edges
-abbrev named : document.TargetValue
+abbrev named : document.TargetDocumentValue
 named = record {
   target = codes "app";
   module_dir = codes "mod";

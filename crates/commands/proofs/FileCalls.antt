@@ -3,7 +3,7 @@ use Rattle.std.proofs.Common.{◌≡◌, ◌∙◌, ℕ, ◌+◌, ◌<◌, List,
 use Rattle.std.specs.Prelude.{Result, Ok, Err}
 use Rattle.std.specs.Result.{is_err}
 use Rattle.std.specs.declared.io.Error.{Error}
-use Rattle.commands.specs.Folder.{FileCall, Adds, Makes}
+use Rattle.commands.specs.Folder.{FileCall, Adds, MakesCalls}
 
 -- no call
 pub none_made : (known : Option (List FileCall)) → Adds known known []
@@ -19,20 +19,20 @@ both_made (Some before) mid new calls more so_far next =
 
 -- what follows from what holds of the calls
 pub held : (old new : Option (List FileCall)) (Holds Then : List FileCall → Type 0) →
-    Makes old new Holds → ((calls : List FileCall) → Holds calls → Then calls) → Makes old new Then
+    MakesCalls old new Holds → ((calls : List FileCall) → Holds calls → Then calls) → MakesCalls old new Then
 held old new Holds Then (calls, made, h) to = (calls, made, to calls h)
 
 -- of calls and of more after them
 pub continued : (old mid new : Option (List FileCall)) (First Second Both : List FileCall → Type 0) →
-    Makes old mid First → Makes mid new Second →
+    MakesCalls old mid First → MakesCalls mid new Second →
     ((calls more : List FileCall) → First calls → Second more → Both (calls ++ more)) →
-    Makes old new Both
+    MakesCalls old new Both
 continued old mid new First Second Both (calls, so_far, first) (more, next, second) to =
     (calls ++ more, both_made old mid new calls more so_far next, to calls more first second)
 
 -- of no call
 pub untouched : (known : Option (List FileCall)) (Holds : List FileCall → Type 0) → Holds [] →
-    Makes known known Holds
+    MakesCalls known known Holds
 untouched known Holds h = ([], none_made known, h)
 
 -- the elements that are left, from this one on

@@ -7,29 +7,29 @@ use Rattle.ninja_text.specs.declared.failure.Failure.TheVariants.{Memory, Fault}
 use Rattle.build_effect.specs.EdgeValue.{EdgeValue}
 use Rattle.build_effect.specs.Graphs.{IsGraph}
 use Rattle.build_effect.specs.ListingReading.{Lists, OneListing, ListedIsFaultless}
-use Rattle.build_effect.specs.ListingReaders.{IsFailureIn, Ends, line_failure}
+use Rattle.build_effect.specs.ListingReaders.{IsListingFailureIn, EndsListing, line_failure}
 use Rattle.build_effect.specs.declared.fault.LineFault.{LineFault}
 use Rattle.build_effect.specs.declared.fault.ListingFault.{ListingFault}
 use Rattle.build_effect.specs.declared.fault.ListingFault.TheVariants.{AtLine, NoGraph}
 use Rattle.commands.specs.declared.answer.Answer.{Answer}
 use Rattle.commands.specs.Answers.{Refuses}
-use Rattle.commands.specs.EdgeFaults.{listing_fault_text}
+use Rattle.commands.specs.EdgeFaults.{edges_fault_text}
 use Rattle.commands.specs.Listings.{AnswersEdges, AnswersListing, IsListingFault}
 
 -- ---- what a reader answers at the end
 
-pub listed_at_end : (text : List ℕ) (r : Result (List EdgeValue) (Failure ListingFault)) → Ends text r → IfOk r (Lists text)
+pub listed_at_end : (text : List ℕ) (r : Result (List EdgeValue) (Failure ListingFault)) → EndsListing text r → IfOk r (Lists text)
 listed_at_end text (Ok graph) h = h
 listed_at_end text (Err failure) h = tt
 
-pub refused_at_end : (text : List ℕ) (r : Result (List EdgeValue) (Failure ListingFault)) → Ends text r → IfErr r (ForFault (IsListingFault text))
+pub refused_at_end : (text : List ℕ) (r : Result (List EdgeValue) (Failure ListingFault)) → EndsListing text r → IfErr r (ForFault (IsListingFault text))
 refused_at_end text (Ok graph) h = tt
 refused_at_end text (Err Memory) h = tt
 refused_at_end text (Err (Fault (AtLine fault))) h = inr h
 refused_at_end text (Err (Fault (NoGraph fault))) h = h
 
 -- a fault that the reader reported of the text so far is one of the text
-pub refused_before : (text : List ℕ) (failure : Failure LineFault) → IsFailureIn text failure → ForFault (IsListingFault text) (line_failure failure)
+pub refused_before : (text : List ℕ) (failure : Failure LineFault) → IsListingFailureIn text failure → ForFault (IsListingFault text) (line_failure failure)
 refused_before text Memory h = tt
 refused_before text (Fault fault) h = elim h [ inl line ↦ inl line | inr end ↦ inr end.0 ]
 
@@ -45,7 +45,7 @@ answered AnswersGraph text edges answer one faultless lists graph h = record {
 
 -- and the fault is one that the text has
 pub reported : (AnswersGraph : List EdgeValue → Answer → Type 0) (text : List ℕ) (fault : ListingFault) (answer : Answer) → OneListing → ListedIsFaultless →
-    IsListingFault text fault → Refuses (listing_fault_text fault) answer → AnswersListing AnswersGraph text answer
+    IsListingFault text fault → Refuses (edges_fault_text fault) answer → AnswersListing AnswersGraph text answer
 reported AnswersGraph text (AtLine fault) answer one faultless present h = record {
   listed = λ edges lists. absurd (faultless text edges fault lists present);
   refused = λ other also. record { fault = fault; present = present; refused = h };

@@ -11,7 +11,7 @@ use Rattle.command_line.specs.Tasks.{TaskValue, one, collate, show, effect, orde
 use Rattle.commands.specs.declared.answer.Answer.{Answer}
 use Rattle.commands.specs.CollateCommand.{AnswersTargetOf, AnswersSpec, AnswersCollate}
 use Rattle.commands.specs.Files.{Step, Part, EndsWith, Ends, ReadsFile, read, unread, no_memory, ReadsFiles, ReadsListing, TargetFilesValue, ReadsTarget, ended}
-use Rattle.commands.specs.Folder.{FileCall, Adds, Makes}
+use Rattle.commands.specs.Folder.{FileCall, Adds, MakesCalls}
 use Rattle.commands.specs.ProjectCommand.{ReadTargetValue, read_target, AnswersAfter, other_form, not_earlier, faultless, AnswersNext, AnswersNames, AnswersProject}
 use Rattle.commands.specs.Runs.{AnswersBytes}
 use Rattle.commands.specs.ProjectCommand as project
@@ -93,7 +93,7 @@ listing_then (Some name) T U calls s more t follows to h =
     file_then name (λ bytes. T (Some bytes)) (λ bytes. U (Some bytes)) calls s more t follows
     (λ bytes. to (Some bytes)) h
 
-pub target_then : {X Y : Type 0} (spec : document.TargetValue) (linked : List (List ℕ))
+pub target_then : {X Y : Type 0} (spec : document.TargetDocumentValue) (linked : List (List ℕ))
     (T : TargetFilesValue → Part X) (U : TargetFilesValue → Part Y) (calls : List FileCall)
     (s : Step X) (more : List FileCall) (t : Step Y) → Follows s more t →
     ((files : TargetFilesValue) (c : List FileCall) → T files c s → U files (c ++ more) t) →
@@ -104,7 +104,7 @@ target_then spec linked T U calls s more t follows to h =
     (λ infos d. listing_then spec.edges _ _ d s more t follows
     (λ listing. to (record { scans = scans; infos = infos; listing = listing })))) h
 
-pub after_then : {X Y : Type 0} (earlier : List ReadTargetValue) (spec : document.TargetValue)
+pub after_then : {X Y : Type 0} (earlier : List ReadTargetValue) (spec : document.TargetDocumentValue)
     (T : ReadTargetValue → Part X) (U : ReadTargetValue → Part Y) (calls : List FileCall)
     (s : Step X) (more : List FileCall) (t : Step Y) → Follows s more t →
     ((target : ReadTargetValue) (c : List FileCall) → T target c s → U target (c ++ more) t) →
@@ -180,7 +180,7 @@ pub listing_goes : {X Y : Type 0} (name : Option (List ℕ)) (view : X → Optio
 listing_goes name view U c s more t goes h =
     listing_then name (GoesOn view) U c s more t (follows view U s more t goes) (value_then view U s more t goes) h
 
-pub target_goes : {X Y : Type 0} (spec : document.TargetValue) (linked : List (List ℕ))
+pub target_goes : {X Y : Type 0} (spec : document.TargetDocumentValue) (linked : List (List ℕ))
     (view : X → TargetFilesValue) (U : TargetFilesValue → Part Y) (c : List FileCall) (s : Step X)
     (more : List FileCall) (t : Step Y) → Goes view U s more t →
     ReadsTarget spec linked (GoesOn view) c s → ReadsTarget spec linked U (c ++ more) t
@@ -207,7 +207,7 @@ pub listing_stop : {X : Type 0} (name : Option (List ℕ)) (T : Option (List ℕ
 listing_stop None T stops = stops None
 listing_stop (Some name) T stops = no_memory refl refl
 
-pub target_stop : {X : Type 0} (spec : document.TargetValue) (linked : List (List ℕ))
+pub target_stop : {X : Type 0} (spec : document.TargetDocumentValue) (linked : List (List ℕ))
     (T : TargetFilesValue → Part X) → ((files : TargetFilesValue) → T files [] (Err Memory)) →
     ReadsTarget spec linked T [] (Err Memory)
 target_stop spec linked T stops =
@@ -230,7 +230,7 @@ failure_no_value Holds failure s e = subst (λ s. IfOk s Holds) (sym e) tt
 
 -- what is answered at once
 pub at_once : (known : Option (List FileCall)) (Holds : Answer → Type 0) (r : Result Answer AllocError) →
-    IfOk r Holds → Makes known known (λ calls. Ends {X = ⊥} Holds calls (ended r))
+    IfOk r Holds → MakesCalls known known (λ calls. Ends {X = ⊥} Holds calls (ended r))
 at_once known Holds r h = ([], none_made known, (refl, ended_with Holds r (ended r) refl h))
 
 -- ---- what is left of a run, and what it leads to
@@ -245,7 +245,7 @@ pub leads_none : {X : Type 0} (known : Option (List FileCall)) (Whole : Part X) 
 leads_none known Whole = ([], none_made known, λ more step h. h)
 
 pub leads_on : {X : Type 0} (old mid new : Option (List FileCall)) (Left Less Whole : Part X) (Made : List FileCall → Type 0) →
-    Leads old mid Left Whole → Makes mid new Made →
+    Leads old mid Left Whole → MakesCalls mid new Made →
     ((calls more : List FileCall) (step : Step X) → Made calls → Less more step → Left (calls ++ more) step) →
     Leads old new Less Whole
 leads_on old mid new Left Less Whole Made (before, so_far, leads) (calls, next, made) to = (
@@ -255,12 +255,12 @@ leads_on old mid new Left Less Whole Made (before, so_far, leads) (calls, next, 
 )
 
 pub leads_end : {X : Type 0} (old mid new : Option (List FileCall)) (Left Whole : Part X) (step : Step X) →
-    Leads old mid Left Whole → Makes mid new (λ calls. Left calls step) → Makes old new (λ calls. Whole calls step)
+    Leads old mid Left Whole → MakesCalls mid new (λ calls. Left calls step) → MakesCalls old new (λ calls. Whole calls step)
 leads_end old mid new Left Whole step (before, so_far, leads) (calls, next, h) =
     (before ++ calls, both_made old mid new before calls so_far next, leads calls step h)
 
 pub leads_stop : {X : Type 0} (old new : Option (List FileCall)) (Left Whole : Part X) (step : Step X) →
-    Leads old new Left Whole → Left [] step → Makes old new (λ calls. Whole calls step)
+    Leads old new Left Whole → Left [] step → MakesCalls old new (λ calls. Whole calls step)
 leads_stop old new Left Whole step leads h =
     leads_end old new new Left Whole step leads ([], none_made new, h)
 
@@ -292,7 +292,7 @@ files_before names T before bytes more step h =
 
 -- ---- commands that are refused memory
 
-pub spec_stops : (spec : document.TargetValue) → AnswersSpec spec [] (Err Memory)
+pub spec_stops : (spec : document.TargetDocumentValue) → AnswersSpec spec [] (Err Memory)
 spec_stops spec = target_stop spec spec.linked (λ files. Ends (AnswersTargetOf spec files)) (λ files. (refl, tt))
 
 pub collate_stops : (bytes : List ℕ) → AnswersCollate bytes [] (Err Memory)

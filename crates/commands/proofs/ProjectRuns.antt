@@ -8,7 +8,7 @@ use Rattle.std.proofs.lemmas.Grind.{flat_map-append}
 use Rattle.std.proofs.lemmas.Option.{slice_get_within, get_or_from_slice_get, slice_get-get_or, slice_get-map}
 use Rattle.module_maps.specs.Maps.{Written}
 use Rattle.collate_core.specs.Values.{TargetValue, CollatedValue, ProjectTargetValue}
-use Rattle.collate_core.specs.Projects.{target_of, IsProject, IsLinkedRefusal, IsProjectRefusal}
+use Rattle.collate_core.specs.Projects.{target_of, CollatesProject, IsLinkedRefusal, IsProjectRefusal}
 use Rattle.collate_core.specs.Refusals.{IsRefusal}
 use Rattle.collate_core.specs.declared.fault.Refusal.{Refusal}
 use Rattle.collate_core.specs.declared.fault.Refusal.TheVariants.{Scan, Info, Table, StatementTooLong, Map, LinkedLater}
@@ -70,7 +70,7 @@ element_at [] k within = absurd (omega (arith, within))
 element_at (x ∷ xs) zero within = (x, refl)
 element_at (x ∷ xs) (suc k) within = element_at xs k (omega (arith, within))
 
-pub are_outs : (style : Option Written) (targets : List ReadTargetValue) (outs : List CollatedValue) → IsProject style (map project_target targets) outs → AreOuts targets outs
+pub are_outs : (style : Option Written) (targets : List ReadTargetValue) (outs : List CollatedValue) → CollatesProject style (map project_target targets) outs → AreOuts targets outs
 are_outs style targets outs project =
     let count : length outs ≡ length targets = project.count ∙ length-map targets project_target in (
       count,

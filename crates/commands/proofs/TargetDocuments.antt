@@ -12,7 +12,7 @@ use Rattle.scan_docs.specs.Shape.{text_of}
 use Rattle.scan_docs.specs.Target as document
 use Rattle.scan_docs.specs.Target.{build_dir}
 use Rattle.scan_docs.specs.TargetChecks.{head_checks, name_checks, directory_checks, list_checks, kept_checks, dyndep_checks, file_checks, target_checks}
-use Rattle.scan_docs.specs.Values.{path_in}
+use Rattle.scan_docs.specs.Values.{accepted_path}
 use Rattle.commands.specs.CollateCommand.{HasSpec, dyndep_path}
 use Rattle.commands.specs.inner.TargetDocuments.{IsPlaced}
 
@@ -38,7 +38,7 @@ placed_path : (p : Place) (r : Result (List ℕ) PathFault) → first_refusal (p
 placed_path p (Ok path) h = (path, refl)
 placed_path p (Err fault) h = cc
 
-pub is_placed : (bytes : List ℕ) (spec : document.TargetValue) → HasSpec bytes spec → IsPlaced spec
+pub is_placed : (bytes : List ℕ) (spec : document.TargetDocumentValue) → HasSpec bytes spec → IsPlaced spec
 unfolding target_checks dyndep_checks
 is_placed bytes spec h =
     let d = h.tree in
@@ -49,5 +49,5 @@ is_placed bytes spec h =
     (found.0, ap₂ (λ build name. placed None build name) (sym h.meaning.directory) (sym (ap (λ t. unwrap_or t []) h.meaning.dyndep)) ∙ found.1)
 
 -- the path of the dyndep file
-pub path_known : (spec : document.TargetValue) (path : List ℕ) → placed None spec.build_dir spec.dyndep ≡ Ok path → path ≡ dyndep_path spec
-path_known spec path e = sym (ap path_in e)
+pub path_known : (spec : document.TargetDocumentValue) (path : List ℕ) → placed None spec.build_dir spec.dyndep ≡ Ok path → path ≡ dyndep_path spec
+path_known spec path e = sym (ap accepted_path e)

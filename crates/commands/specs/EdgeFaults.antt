@@ -2,38 +2,40 @@
 use Rattle.std.specs.Prelude.{ℕ, List, [], ◌∷◌, ◌++◌, slice_get, slice_index_or, Option, Some, None, codes}
 use Rattle.std.specs.List.{flat_map}
 use Rattle.std.specs.Option.{option_map_or}
+use Rattle.ninja_text.specs.Bytes.{Text, PathText}
+use Rattle.dep_order.specs.Numbers.{Numbers}
 use Rattle.build_effect.specs.EdgeValue.{EdgeValue}
 use Rattle.build_effect.specs.FaultTexts.{graph_fault_text, graph_fault_path, effect_fault_text, effect_fault_path}
-use Rattle.build_effect.specs.ListingFaultTexts.{line_fault_text}
+use Rattle.build_effect.specs.ListingFaultTexts.{listing_line_fault_text}
 use Rattle.build_effect.specs.declared.fault.EffectFault.{EffectFault}
 use Rattle.build_effect.specs.declared.fault.ListingFault.{ListingFault}
 use Rattle.build_effect.specs.declared.fault.ListingFault.TheVariants.{AtLine, NoGraph}
 
 -- the first output of the edge of that index
-abbrev pub first_output : List EdgeValue → ℕ → List ℕ
+abbrev pub first_output : List EdgeValue → ℕ → PathText
 first_output edges index =
     option_map_or (λ e. slice_index_or e.outputs 0 []) (slice_get edges index) []
 
 -- why a listing gives no graph: the fault of a line, or the file that the edges' fault is about
-abbrev pub listing_fault_text : ListingFault → List ℕ
-listing_fault_text (AtLine fault) = codes "edges: " ++ line_fault_text fault
-listing_fault_text (NoGraph fault) = graph_fault_text fault ++ codes " " ++ graph_fault_path fault
+abbrev pub edges_fault_text : ListingFault → Text
+edges_fault_text (AtLine fault) = codes "edges: " ++ listing_line_fault_text fault
+edges_fault_text (NoGraph fault) = graph_fault_text fault ++ codes " " ++ graph_fault_path fault
 
 -- the file that an effect's fault is about, behind a space, if it is about one
-abbrev pub subject_text : Option (List ℕ) → List ℕ
+abbrev pub subject_text : Option PathText → Text
 subject_text None = []
 subject_text (Some path) = codes " " ++ path
 
 -- why statements have no effect
-abbrev pub effect_text : EffectFault → List ℕ
+abbrev pub effect_text : EffectFault → Text
 effect_text fault = effect_fault_text fault ++ subject_text (effect_fault_path fault)
 
 -- the first outputs of edges, with arrows between them
-abbrev pub chain_text : List EdgeValue → List ℕ → List ℕ
+abbrev pub chain_text : List EdgeValue → Numbers → Text
 chain_text edges [] = []
 chain_text edges (first ∷ others) =
     first_output edges first ++ flat_map (λ next. codes " -> " ++ first_output edges next) others
 
 -- edges that need each other
-abbrev pub cycle_text : List EdgeValue → List ℕ → List ℕ
+abbrev pub cycle_text : List EdgeValue → Numbers → Text
 cycle_text edges cycle = codes "cycle " ++ chain_text edges cycle

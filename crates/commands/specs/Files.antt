@@ -1,7 +1,8 @@
 -- How a run reads files, one after another, and how those of an answer are written.
-use Rattle.std.specs.Prelude.{◌≡◌, ⊤, ℕ, List, [], ◌∷◌, ◌++◌, map, Option, Some, None, Result, Ok, Err, IfOk, codes}
+use Rattle.std.specs.Prelude.{◌≡◌, ⊤, List, [], ◌∷◌, ◌++◌, map, Option, Some, None, Result, Ok, Err, IfOk, codes}
 use Rattle.std.specs.declared.alloc.AllocError.{AllocError}
 use Rattle.std.specs.declared.io.Error.{Error}
+use Rattle.ninja_text.specs.Bytes.{Bytes, Text, PathText}
 use Rattle.ninja_text.specs.declared.failure.Failure.{Failure}
 use Rattle.ninja_text.specs.declared.failure.Failure.TheVariants.{Memory, Fault}
 use Rattle.scan_docs.specs.Target as document
@@ -43,35 +44,35 @@ Ends Holds calls step = (calls ≡ []) × EndsWith Holds step
 
 -- A run reads the file of this name, and goes on like this with its bytes; or the file can't be
 -- read, and the run ends with its name; or memory is refused before.
-pub data ReadsFile {X : Type 0} (name : List ℕ) (Then : List ℕ → Part X) (calls : List FileCall)
+pub data ReadsFile {X : Type 0} (name : PathText) (Then : Bytes → Part X) (calls : List FileCall)
     (step : Step X) : Type 0 where
-  read : (bytes : List ℕ) (others : List FileCall) → calls ≡ reading name (Ok bytes) ∷ others →
+  read : (bytes : Bytes) (others : List FileCall) → calls ≡ reading name (Ok bytes) ∷ others →
       Then bytes others step → ReadsFile name Then calls step
   unread : (error : Error) → calls ≡ reading name (Err error) ∷ [] →
       EndsWith (Fails 3 (codes "cannot read " ++ name)) step → ReadsFile name Then calls step
   no_memory : calls ≡ [] → step ≡ Err Memory → ReadsFile name Then calls step
 
 -- a run reads the files of these names, one after another, and goes on like this with their bytes
-abbrev pub ReadsFiles : {X : Type 0} → List (List ℕ) → (List (List ℕ) → Part X) → Part X
+abbrev pub ReadsFiles : {X : Type 0} → List PathText → (List Bytes → Part X) → Part X
 ReadsFiles [] Then calls step = Then [] calls step
 ReadsFiles (name ∷ names) Then calls step =
     ReadsFile name (λ bytes. ReadsFiles names (λ others. Then (bytes ∷ others))) calls step
 
 -- a run reads the file of a name, where there is one, and goes on like this
-abbrev pub ReadsListing : {X : Type 0} → Option (List ℕ) → (Option (List ℕ) → Part X) → Part X
+abbrev pub ReadsListing : {X : Type 0} → Option PathText → (Option Text → Part X) → Part X
 ReadsListing None Then calls step = Then None calls step
 ReadsListing (Some name) Then calls step = ReadsFile name (λ bytes. Then (Some bytes)) calls step
 
 -- the bytes of the files of a target: its scan documents, the infos that it links, and its listing
 -- of edges, if it names one
 pub record TargetFilesValue : Type 0 where
-  pub scans : List (List ℕ)
-  pub infos : List (List ℕ)
-  pub listing : Option (List ℕ)
+  pub scans : List Text
+  pub infos : List Text
+  pub listing : Option Text
 
 -- a run reads the files of a target in this order: the scan documents that its document names,
 -- infos of these names, and the listing of edges
-abbrev pub ReadsTarget : {X : Type 0} → document.TargetValue → List (List ℕ)
+abbrev pub ReadsTarget : {X : Type 0} → document.TargetDocumentValue → List PathText
     → (TargetFilesValue → Part X) → Part X
 ReadsTarget spec linked Then calls step =
     ReadsFiles spec.scans (λ scans. ReadsFiles linked (λ infos. ReadsListing spec.edges (λ listing.
@@ -81,7 +82,7 @@ ReadsTarget spec linked Then calls step =
 
 -- a file: its name, and its bytes
 abbrev pub FileValue : Type 0
-FileValue = List ℕ × List ℕ
+FileValue = PathText × Bytes
 
 -- the calls that wrote these files
 abbrev pub writes_of : List FileValue → List FileCall
@@ -89,11 +90,11 @@ writes_of = map (λ file. writing file.0 file.1 (Ok tt))
 
 -- The calls wrote the files of an answer, in order, each once, and the answer is left. Or they
 -- wrote those before one, the call for that one answered an error, and the run fails with its name.
-pub data IsWritten (answer : Answer) (calls : List FileCall) (result : Result Answer AllocError)
+pub data WritesAnswer (answer : Answer) (calls : List FileCall) (result : Result Answer AllocError)
     : Type 0 where
   all_written : calls ≡ writes_of (map file_value answer.files.items) → result ≡ Ok answer →
-      IsWritten answer calls result
+      WritesAnswer answer calls result
   one_unwritten : (before after : List FileValue) (file : FileValue) (error : Error) →
       map file_value answer.files.items ≡ before ++ file ∷ after →
       calls ≡ writes_of before ++ writing file.0 file.1 (Err error) ∷ [] →
-      IfOk result (Fails 3 (codes "cannot write " ++ file.0)) → IsWritten answer calls result
+      IfOk result (Fails 3 (codes "cannot write " ++ file.0)) → WritesAnswer answer calls result

@@ -2,14 +2,15 @@
 use Rattle.std.specs.Prelude.{◌≡◌, ℕ, List, ◌++◌, Option, option_map, Result, Ok, Err, Vec}
 use Rattle.std.specs.Global.{Global}
 use Rattle.std.specs.declared.io.Error.{Error}
+use Rattle.ninja_text.specs.Bytes.{Bytes, PathText}
 
 -- one call, by the name of the file, the bytes that are written, and the answer
 pub data FileCall : Type 0 where
-  reading : List ℕ → Result (List ℕ) Error → FileCall
-  writing : List ℕ → List ℕ → Result (Unit {0}) Error → FileCall
+  reading : PathText → Result Bytes Error → FileCall
+  writing : PathText → Bytes → Result (Unit {0}) Error → FileCall
 
 -- the bytes that a call read, or its error
-abbrev pub answer_of : Result (Vec ℕ Global) Error → Result (List ℕ) Error
+abbrev pub answer_of : Result (Vec ℕ Global) Error → Result Bytes Error
 answer_of (Ok bytes) = Ok bytes.items
 answer_of (Err error) = Err error
 
@@ -18,6 +19,6 @@ abbrev pub Adds : Option (List FileCall) → Option (List FileCall) → List Fil
 Adds old new calls = new ≡ option_map (λ before. before ++ calls) old
 
 -- calls were made of which this holds, and no other
-abbrev pub Makes : Option (List FileCall) → Option (List FileCall) → (List FileCall → Type 0)
+abbrev pub MakesCalls : Option (List FileCall) → Option (List FileCall) → (List FileCall → Type 0)
     → Type 0
-Makes old new Holds = (calls : List FileCall) × Adds old new calls × Holds calls
+MakesCalls old new Holds = (calls : List FileCall) × Adds old new calls × Holds calls

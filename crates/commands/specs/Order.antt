@@ -1,6 +1,8 @@
 -- What the command `order` answers.
-use Rattle.std.specs.Prelude.{ℕ, List, [], ◌∷◌, ◌++◌, length, map}
+use Rattle.std.specs.Prelude.{List, [], ◌∷◌, ◌++◌, length, map}
 use Rattle.std.specs.List.{flat_map}
+use Rattle.ninja_text.specs.Bytes.{Text, line_feed}
+use Rattle.dep_order.specs.Numbers.{Numbers}
 use Rattle.dep_order.specs.Sortings.{IsSortingOf}
 use Rattle.dep_order.specs.declared.Sorting.{Sorting}
 use Rattle.dep_order.specs.declared.Sorting.TheVariants.{Order, Cycle}
@@ -11,9 +13,9 @@ use Rattle.commands.specs.Answers.{visible, Prints, Refuses}
 use Rattle.commands.specs.EdgeFaults.{first_output, cycle_text}
 
 -- the first output of each of these edges, one a line
-abbrev pub order_text : List EdgeValue → List ℕ → List ℕ
+abbrev pub order_text : List EdgeValue → Numbers → Text
 order_text edges order =
-    flat_map (λ index. map visible (first_output edges index) ++ 10 ∷ []) order
+    flat_map (λ index. map visible (first_output edges index) ++ line_feed ∷ []) order
 
 -- an order is printed, and a cycle is refused
 abbrev pub AnswersSorting : List EdgeValue → Sorting → Answer → Type 0

@@ -3,6 +3,7 @@ use Rattle.std.specs.Prelude.{◌≡◌, ℕ, suc, List, [], ◌∷◌, ◌++◌
 use Rattle.std.specs.Fmt.{decimal}
 use Rattle.std.specs.List.{flat_map}
 use Rattle.std.specs.Option.{option_map_or}
+use Rattle.ninja_text.specs.Bytes.{Bytes, Text, PathText, Name}
 use Rattle.scan_docs.specs.Document.{IsAccepted, IsRefused}
 use Rattle.scan_docs.specs.FaultTexts.{doc_fault_text}
 use Rattle.scan_docs.specs.Project.{ProjectValue, IsProject}
@@ -25,6 +26,7 @@ use Rattle.commands.specs.CollateCommand.{dyndep_path, setting_in, style_of, fil
 use Rattle.commands.specs.Files.{FileValue, TargetFilesValue, Step, Part, Run, Ends, ReadsFile, ReadsTarget}
 use Rattle.commands.specs.Folder.{FileCall}
 use Rattle.ninja_text.specs.declared.failure.Failure.TheVariants.{Memory}
+use Rattle.dep_order.specs.Numbers.{Numbers}
 use Rattle.commands.specs.EdgeChecks.{PassesEdges, FailsEdges, edges_text}
 use Rattle.commands.specs.RefusalTexts.{refusal_by_names}
 
@@ -33,10 +35,10 @@ use Rattle.commands.specs.RefusalTexts.{refusal_by_names}
 -- A target that was read: the members of its document, the indexes of the targets that it links,
 -- and the bytes of its scan documents and of the listing of edges, if it names one.
 pub record ReadTargetValue : Type 0 where
-  pub spec : document.TargetValue
-  pub linked : List ℕ
-  pub scans : List (List ℕ)
-  pub listing : Option (List ℕ)
+  pub spec : document.TargetDocumentValue
+  pub linked : Numbers
+  pub scans : List Text
+  pub listing : Option Text
 
 -- the index in a list, if its tail has one, and else that of the head, if that is meant
 abbrev pub index_or_head : Option ℕ → Bool → Option ℕ
@@ -44,38 +46,38 @@ index_or_head (Some index) is_head = Some (suc index)
 index_or_head None is_head = if is_head then Some 0 else None
 
 -- the index of the last of these targets whose info has this name
-abbrev pub last_with : List ReadTargetValue → List ℕ → Option ℕ
+abbrev pub last_with : List ReadTargetValue → PathText → Option ℕ
 last_with [] info = None
 last_with (head ∷ tail) info = index_or_head (last_with tail info) (bytes_eq head.spec.info info)
 
 -- the maps of a target have the form of those of the first of these
-abbrev pub HasFormOf : List ReadTargetValue → document.TargetValue → Type 0
+abbrev pub HasFormOf : List ReadTargetValue → document.TargetDocumentValue → Type 0
 HasFormOf [] spec = Unit {0}
 HasFormOf (first ∷ others) spec = spec.map_form ≡ first.spec.map_form
 
 -- each of these infos is that of a target, and these are the indexes of the last such ones
-abbrev pub LinksTo : List ReadTargetValue → List (List ℕ) → List ℕ → Type 0
+abbrev pub LinksTo : List ReadTargetValue → List PathText → Numbers → Type 0
 LinksTo earlier infos linked = map (last_with earlier) infos ≡ map Some linked
 
 -- what is reported of the target of this index
-abbrev pub target_text : ℕ → List ℕ → List ℕ
+abbrev pub target_text : ℕ → Text → Text
 target_text index text = codes "target " ++ decimal index ++ codes ": " ++ text
 
 -- one of these infos is that of no target
-abbrev pub LinksLater : List ReadTargetValue → List (List ℕ) → Type 0
+abbrev pub LinksLater : List ReadTargetValue → List PathText → Type 0
 LinksLater earlier infos =
-    (index : ℕ) × (info : List ℕ) × (slice_get infos index ≡ Some info)
+    (index : ℕ) × (info : PathText) × (slice_get infos index ≡ Some info)
     × (last_with earlier info ≡ None)
 
 -- the target with these members, which links those of these indexes, and of these files
-abbrev pub read_target : document.TargetValue → List ℕ → TargetFilesValue → ReadTargetValue
+abbrev pub read_target : document.TargetDocumentValue → Numbers → TargetFilesValue → ReadTargetValue
 read_target spec linked files =
     record { spec = spec; linked = linked; scans = files.scans; listing = files.listing }
 
 -- What a run does with a target of these members after earlier ones: it ends with the first of two
 -- faults, or reads the target's files, without infos, and goes on like this with the target.
-pub data AnswersAfter {X : Type 0} (earlier : List ReadTargetValue) (spec : document.TargetValue)
-    (Then : ReadTargetValue → Part X) (calls : List FileCall) (step : Step X) : Type 0 where
+pub data AnswersAfter {X : Type 0} (earlier : List ReadTargetValue)
+    (spec : document.TargetDocumentValue) (Then : ReadTargetValue → Part X) (calls : List FileCall) (step : Step X) : Type 0 where
   -- its maps are of another form than those of the first target
   other_form : (HasFormOf earlier spec → ⊥) →
       Ends (Refuses (target_text (length earlier) (spec_text (BadShape Document Map)))) calls step →
@@ -84,7 +86,7 @@ pub data AnswersAfter {X : Type 0} (earlier : List ReadTargetValue) (spec : docu
   not_earlier : HasFormOf earlier spec → LinksLater earlier spec.linked →
       Ends (Refuses (target_text (length earlier) (codes "K3 LinkedLater"))) calls step →
       AnswersAfter earlier spec Then calls step
-  faultless : (linked : List ℕ) → HasFormOf earlier spec → LinksTo earlier spec.linked linked →
+  faultless : (linked : Numbers) → HasFormOf earlier spec → LinksTo earlier spec.linked linked →
       ReadsTarget spec [] (λ files. Then (read_target spec linked files)) calls step →
       AnswersAfter earlier spec Then calls step
   no_memory : calls ≡ [] → step ≡ Err Memory → AnswersAfter earlier spec Then calls step
@@ -92,9 +94,9 @@ pub data AnswersAfter {X : Type 0} (earlier : List ReadTargetValue) (spec : docu
 -- What a run does with these bytes of a target document after earlier targets, before it goes on
 -- like this with the target. Of a refused document it reads no file.
 pub record AnswersNext {X : Type 0} (earlier : List ReadTargetValue)
-    (Then : ReadTargetValue → Part X) (bytes : List ℕ) (calls : List FileCall)
+    (Then : ReadTargetValue → Part X) (bytes : Bytes) (calls : List FileCall)
     (step : Step X) : Type 0 where
-  pub accepted : (spec : document.TargetValue) → HasSpec bytes spec →
+  pub accepted : (spec : document.TargetDocumentValue) → HasSpec bytes spec →
       AnswersAfter earlier spec Then calls step
   pub refused : (fault : DocFault) → IsRefused target_checks bytes fault →
       Ends (Refuses (target_text (length earlier) (spec_text fault))) calls step
@@ -117,12 +119,12 @@ form_of [] = None
 form_of (first ∷ others) = first.spec.map_form
 
 -- the names of the targets of these indexes
-abbrev pub names_at : List ReadTargetValue → List ℕ → List (List ℕ)
+abbrev pub names_at : List ReadTargetValue → Numbers → List Name
 names_at targets indexes =
     map (λ k. option_map_or (λ t. t.spec.target) (slice_get targets k) []) indexes
 
 -- what is reported of the target of this index where it does not collate
-abbrev pub refused_text : List ReadTargetValue → ℕ → ReadTargetValue → Refusal → List ℕ
+abbrev pub refused_text : List ReadTargetValue → ℕ → ReadTargetValue → Refusal → Text
 refused_text targets index t refusal = target_text index
     (refusal_by_names (setting_in t.spec) t.scans (names_at targets t.linked) refusal)
 
@@ -160,7 +162,7 @@ pub data AnswersCollatedTargets (pairs : List (ReadTargetValue × CollatedValue)
 pub data AnswersReadTargets (targets : List ReadTargetValue)
     (answer : Answer) : Type 0 where
   all_collate : (outs : List CollatedValue) →
-      core.IsProject (style_of (form_of targets)) (map project_target targets) outs →
+      core.CollatesProject (style_of (form_of targets)) (map project_target targets) outs →
       AnswersCollatedTargets (zip targets outs) answer → AnswersReadTargets targets answer
   one_refused : (index : ℕ) (target : ReadTargetValue) (refusal : Refusal) →
       slice_get targets index ≡ Some target →
@@ -169,7 +171,7 @@ pub data AnswersReadTargets (targets : List ReadTargetValue)
 
 -- what a run does after earlier targets with the names of target documents: it reads one after
 -- another, and when all are read, answers to their targets
-abbrev pub AnswersNames : List ReadTargetValue → List (List ℕ) → Run
+abbrev pub AnswersNames : List ReadTargetValue → List PathText → Run
 AnswersNames earlier [] calls step = Ends (AnswersReadTargets earlier) calls step
 AnswersNames earlier (name ∷ names) calls step =
     ReadsFile name (AnswersNext earlier (λ target. AnswersNames (earlier ++ target ∷ []) names))
@@ -178,16 +180,16 @@ AnswersNames earlier (name ∷ names) calls step =
 -- ---- the project document
 
 -- the document is accepted, and these are its members
-abbrev pub HasProject : List ℕ → ProjectValue → Type 0
+abbrev pub HasProject : Bytes → ProjectValue → Type 0
 HasProject bytes project = IsAccepted project_checks IsProject bytes project
 
 -- what is reported of a refused project document
-abbrev pub project_text : DocFault → List ℕ
+abbrev pub project_text : DocFault → Text
 project_text fault = codes "project: " ++ doc_fault_text fault
 
 -- What a run reads and answers to these bytes of a project document. Of a refused one it reads no
 -- file.
-pub record AnswersProject (bytes : List ℕ) (calls : List FileCall) (step : Step ⊥) : Type 0 where
+pub record AnswersProject (bytes : Bytes) (calls : List FileCall) (step : Step ⊥) : Type 0 where
   pub accepted : (project : ProjectValue) → HasProject bytes project →
       AnswersNames [] project.targets calls step
   pub refused : (fault : DocFault) → IsRefused project_checks bytes fault →

@@ -1,6 +1,7 @@
 -- How the refusals of a target are reported.
 use Rattle.std.specs.Prelude.{ℕ, List, ◌++◌, map, codes}
 use Rattle.std.specs.Fmt.{decimal}
+use Rattle.ninja_text.specs.Bytes.{Text, Name}
 use Rattle.dyndep_file.specs.FaultTexts.{write_fault_text}
 use Rattle.dyndep_file.specs.declared.fault.WriteFault.TheVariants as write
 use Rattle.scan_docs.specs.FaultTexts.{doc_fault_text}
@@ -16,19 +17,19 @@ use Rattle.collate_core.specs.declared.fault.Refusal.TheVariants.{Scan, Info, Ta
 use Rattle.commands.specs.TableFaults.{object_path, fault_text}
 
 -- a faulty document, by its kind and its index
-abbrev pub document_text : List ℕ → ℕ → DocFault → List ℕ
+abbrev pub document_text : Text → ℕ → DocFault → Text
 document_text kind index fault =
     kind ++ codes " " ++ decimal index ++ codes ": " ++ doc_fault_text fault
 
 -- why an object has no map: the path that a map can't have, or the object that provides two modules
-abbrev pub map_text : List RuleValue → ℕ → MapFault → List ℕ
+abbrev pub map_text : List RuleValue → ℕ → MapFault → Text
 map_text objects object (MapPath path) = codes "K1 MapPath " ++ path
 map_text objects object TwoProvided = codes "K2 TwoProvided " ++ object_path objects object
 map_text objects object (BadMapLine line) = codes "K4 BadMapLine line " ++ decimal line
 
 -- Why a target with this setting and these scan documents is refused, which links targets of these
 -- names. Objects are named by the paths that the scan documents give, and infos by those names.
-abbrev pub refusal_by_names : SettingValue → List (List ℕ) → List (List ℕ) → Refusal → List ℕ
+abbrev pub refusal_by_names : SettingValue → List Text → List Name → Refusal → Text
 refusal_by_names setting scans names (Scan index fault) = document_text (codes "scan") index fault
 refusal_by_names setting scans names (Info index fault) = document_text (codes "info") index fault
 refusal_by_names setting scans names (Table fault) =
@@ -40,6 +41,6 @@ refusal_by_names setting scans names (Map object fault) =
 refusal_by_names setting scans names LinkedLater = codes "K3 LinkedLater"
 
 -- Why a target is refused, where infos are named by the names that stand in them.
-abbrev pub refusal_text : TargetValue → Refusal → List ℕ
+abbrev pub refusal_text : TargetValue → Refusal → Text
 refusal_text target refusal = refusal_by_names target.setting target.scans
     (map (λ info. (info_of info).target) target.infos) refusal

@@ -1,5 +1,5 @@
 -- What a run reads and answers to its task.
-use Rattle.std.specs.Prelude.{ℕ, List}
+use Rattle.ninja_text.specs.Bytes.{Bytes}
 use Rattle.commands.specs.CollateCommand.{AnswersCollate}
 use Rattle.commands.specs.Dyndeps.{AnswersDyndep}
 use Rattle.commands.specs.Effect.{AnswersEffectFile}
@@ -9,10 +9,10 @@ use Rattle.commands.specs.One.{setting_of, AnswersDocument}
 use Rattle.commands.specs.Order.{AnswersOrder}
 use Rattle.commands.specs.ProjectCommand.{AnswersProject}
 use Rattle.commands.specs.Show.{AnswersShow}
-use Rattle.command_line.specs.Tasks.{TaskValue, one, collate, show, effect, order, project, file_of}
+use Rattle.command_line.specs.Tasks.{TaskValue, one, collate, show, effect, order, project, first_file_of}
 
 -- what a run reads and answers to the bytes of its task's file
-abbrev pub AnswersBytes : TaskValue → List ℕ → Run
+abbrev pub AnswersBytes : TaskValue → Bytes → Run
 AnswersBytes (one scan dir ext) bytes calls step =
     Ends (AnswersDocument (setting_of dir ext) bytes) calls step
 AnswersBytes (collate target) bytes calls step = AnswersCollate bytes calls step
@@ -24,4 +24,4 @@ AnswersBytes (project document) bytes calls step = AnswersProject bytes calls st
 
 -- a run reads the file of its task, and answers to its bytes
 abbrev pub AnswersTask : TaskValue → Run
-AnswersTask task calls step = ReadsFile (file_of task) (AnswersBytes task) calls step
+AnswersTask task calls step = ReadsFile (first_file_of task) (AnswersBytes task) calls step

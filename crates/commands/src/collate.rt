@@ -8,7 +8,7 @@ ghost use Rattle.commands.specs.Answers.{file_value, Refuses};
 ghost use Rattle.commands.specs.CollateCommand.{style_of, map_name, files_of, WritesCollated, AnswersTargetOf, AnswersSpec, AnswersCollate, spec_text};
 ghost use Rattle.commands.specs.EdgeChecks.{PassesEdges, FailsEdges};
 ghost use Rattle.commands.specs.Files.{ended};
-ghost use Rattle.commands.specs.Folder.{Makes};
+ghost use Rattle.commands.specs.Folder.{MakesCalls};
 ghost use Rattle.commands.specs.Targets.{AnswersTarget};
 
 use crate::answer::{Answer, answered};
@@ -35,7 +35,7 @@ pub fn collate_run<F: Folder>(
     document: &[u8],
     folder: &mut F,
 ) -> Result<Answer, AllocError>
-    ensures { Makes (F.calls folder.old) (F.calls folder.new) (λ calls.
+    ensures { MakesCalls (F.calls folder.old) (F.calls folder.new) (λ calls.
         AnswersCollate document.now calls (ended result)) }
 {
     match TargetDocument::read(alloc, document) {
@@ -60,7 +60,7 @@ fn document_answer<F: Folder>(
     document: &TargetDocument,
     folder: &mut F,
 ) -> Result<Answer, AllocError>
-    ensures { Makes (F.calls folder.old) (F.calls folder.new) (λ calls.
+    ensures { MakesCalls (F.calls folder.old) (F.calls folder.new) (λ calls.
         AnswersSpec document.now calls (ended result)) }
 {
     let spec = document.spec();

@@ -5,7 +5,7 @@ ghost use Rattle.ninja_text.specs.Failure.{ForFault};
 ghost use Rattle.dyndep_file.specs.FaultTexts.{read_fault_text};
 ghost use Rattle.dyndep_file.specs.Reading.{StandsFor};
 ghost use Rattle.commands.specs.Answers.{Refuses};
-ghost use Rattle.commands.specs.Dyndeps.{IsReported};
+ghost use Rattle.collate_core.specs.Rehearsal.{IsReadFaultOf};
 
 use crate::answer::Answer;
 use dyndep_file::{Dyndep, DyndepReader, ReadFault};
@@ -15,7 +15,7 @@ use std::alloc::{AllocError, Global};
 /// The statements of a dyndep text.
 pub(crate) fn dyndep_read(alloc: Global, text: &[u8]) -> Result<Dyndep, Failure<ReadFault>>
     ensures read { IfOk result (StandsFor text.now) }
-    ensures refused { IfErr result (ForFault (IsReported text.now)) }
+    ensures refused { IfErr result (ForFault (IsReadFaultOf text.now)) }
 {
     let mut reader = DyndepReader::new(alloc);
     match reader.feed(text) {

@@ -2,15 +2,15 @@
 //! reported.
 
 ghost use Rattle.std.specs.Prelude.{◌≡◌, IfOk};
-ghost use Rattle.commands.specs.EdgeFaults.{first_output, listing_fault_text, effect_text, chain_text, cycle_text};
+ghost use Rattle.commands.specs.EdgeFaults.{first_output, edges_fault_text, effect_text, chain_text, cycle_text};
 
 use crate::table_fault::joined;
 use build_effect::{Edge, EffectFault, ListingFault};
 use std::alloc::{AllocError, Global};
 
 /// What is reported of a listing that gives no graph.
-pub(crate) fn listing_fault_text(alloc: Global, fault: &ListingFault) -> Result<Vec<u8>, AllocError>
-    ensures { IfOk result (λ text. text.items ≡ listing_fault_text fault.now) }
+pub(crate) fn edges_fault_text(alloc: Global, fault: &ListingFault) -> Result<Vec<u8>, AllocError>
+    ensures { IfOk result (λ text. text.items ≡ edges_fault_text fault.now) }
 {
     match fault {
         ListingFault::AtLine(fault) => {

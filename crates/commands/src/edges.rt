@@ -7,7 +7,7 @@ ghost use Rattle.commands.specs.EdgeChecks.{AreOrderedAfter, ListsOrdered, IsEdg
 ghost use Rattle.commands.specs.inner.EdgeChecks.{AreFaultyAfter};
 
 use crate::answer::Answer;
-use crate::edge_fault::{cycle_text, effect_text, listing_fault_text};
+use crate::edge_fault::{cycle_text, effect_text, edges_fault_text};
 use crate::listing::listing_read;
 use build_effect::{EffectFault, Graph, ListingFault};
 use collate_core::{Collated, check_edges_with_hasher};
@@ -79,7 +79,7 @@ pub(crate) fn edges_text(alloc: Global, fault: &EdgesFault) -> Result<Vec<u8>, A
     ensures { IfOk result (λ text. text.items ≡ edges_text fault.now) }
 {
     match fault {
-        EdgesFault::Listing(fault) => listing_fault_text(alloc, fault),
+        EdgesFault::Listing(fault) => edges_fault_text(alloc, fault),
         EdgesFault::Effect(fault) => effect_text(alloc, fault),
         EdgesFault::Cycle { graph, cycle } => cycle_text(alloc, graph.edges(), cycle),
     }

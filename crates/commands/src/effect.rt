@@ -4,7 +4,7 @@ ghost use Rattle.std.specs.Prelude.{IfOk};
 ghost use Rattle.commands.specs.Dyndeps.{AnswersDyndep};
 ghost use Rattle.commands.specs.Effect.{AnswersNew, AnswersEffectOf, AnswersGraph, AnswersEffect, AnswersEffectFile};
 ghost use Rattle.commands.specs.Files.{ended};
-ghost use Rattle.commands.specs.Folder.{Makes};
+ghost use Rattle.commands.specs.Folder.{MakesCalls};
 ghost use Rattle.commands.specs.Listings.{AnswersListing};
 
 use crate::answer::{Answer, answered};
@@ -51,7 +51,7 @@ pub(crate) fn effect_of_file<F: Folder>(
     dyndep: &str,
     folder: &mut F,
 ) -> Result<Answer, AllocError>
-    ensures { Makes (F.calls folder.old) (F.calls folder.new) (λ calls.
+    ensures { MakesCalls (F.calls folder.old) (F.calls folder.new) (λ calls.
         AnswersEffectFile name.now edges.now dyndep.now calls (ended result)) }
 {
     match read_file(alloc, dyndep, folder) {

@@ -1,7 +1,7 @@
 //! The files that a run writes.
 
-ghost use Rattle.commands.specs.Files.{IsWritten};
-ghost use Rattle.commands.specs.Folder.{Makes};
+ghost use Rattle.commands.specs.Files.{WritesAnswer};
+ghost use Rattle.commands.specs.Folder.{MakesCalls};
 
 use crate::answer::Answer;
 use crate::folder::Folder;
@@ -14,8 +14,8 @@ pub fn write_files<F: Folder>(
     answer: Answer,
     folder: &mut F,
 ) -> Result<Answer, AllocError>
-    ensures { Makes (F.calls folder.old) (F.calls folder.new)
-        (λ calls. IsWritten answer calls result) }
+    ensures { MakesCalls (F.calls folder.old) (F.calls folder.new)
+        (λ calls. WritesAnswer answer calls result) }
 {
     for file in &answer.files {
         if folder.write(file.0.as_str(), file.1.as_slice()).is_err() {

@@ -6,11 +6,11 @@ ghost use Rattle.build_effect.specs.Graphs.{IsGraph};
 ghost use Rattle.build_effect.specs.ListingReaders.{line_failure};
 ghost use Rattle.build_effect.specs.ListingReading.{Lists};
 ghost use Rattle.commands.specs.Answers.{Refuses};
-ghost use Rattle.commands.specs.EdgeFaults.{listing_fault_text};
+ghost use Rattle.commands.specs.EdgeFaults.{edges_fault_text};
 ghost use Rattle.commands.specs.Listings.{IsListingFault};
 
 use crate::answer::Answer;
-use crate::edge_fault::listing_fault_text;
+use crate::edge_fault::edges_fault_text;
 use build_effect::{Graph, LineFault, ListingFault, ListingReader};
 use ninja_text::Failure;
 use std::alloc::{AllocError, Global};
@@ -51,8 +51,8 @@ pub(crate) fn is_graph(graph: &Graph)
 
 /// The answer to a listing that gives no graph.
 pub(crate) fn listing_refused(alloc: Global, fault: &ListingFault) -> Result<Answer, AllocError>
-    ensures { IfOk result (Refuses (listing_fault_text fault.now)) }
+    ensures { IfOk result (Refuses (edges_fault_text fault.now)) }
 {
-    let message = listing_fault_text(alloc, fault)?;
+    let message = edges_fault_text(alloc, fault)?;
     Answer::failed(alloc, 1, &message)
 }

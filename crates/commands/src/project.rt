@@ -2,12 +2,12 @@
 
 ghost use Rattle.std.specs.Prelude.{◌≡◌, ◌<◌, ◌++◌, [], Some, All, IsUtf8, List, ℕ, length, map, zip, slice_get, string_bytes, IfOk, IfErr, OnOk};
 ghost use Rattle.ninja_text.specs.Failure.{ForFault};
-ghost use Rattle.collate_core.specs.Projects.{IsProject, IsProjectRefusal};
+ghost use Rattle.collate_core.specs.Projects.{CollatesProject, IsProjectRefusal};
 ghost use Rattle.commands.specs.Answers.{file_value, Refuses};
 ghost use Rattle.commands.specs.CollateCommand.{style_of, files_of};
 ghost use Rattle.commands.specs.EdgeChecks.{edges_text};
 ghost use Rattle.commands.specs.Files.{ended};
-ghost use Rattle.commands.specs.Folder.{Makes};
+ghost use Rattle.commands.specs.Folder.{MakesCalls};
 ghost use Rattle.commands.specs.ProjectCommand.{ReadTargetValue, target_text, project_target, form_of, names_at, refused_text, PassesOwn, FailsFirst, all_files, AnswersCollatedTargets, AnswersReadTargets, AnswersNames, AnswersProject, project_text};
 ghost use Rattle.commands.specs.inner.ProjectTargets.{LinkEarlier, IsReportable, AreOuts};
 
@@ -38,7 +38,7 @@ pub fn project_run<F: Folder>(
     document: &[u8],
     folder: &mut F,
 ) -> Result<Answer, AllocError>
-    ensures { Makes (F.calls folder.old) (F.calls folder.new) (λ calls.
+    ensures { MakesCalls (F.calls folder.old) (F.calls folder.new) (λ calls.
         AnswersProject document.now calls (ended result)) }
 {
     match project_read(alloc, document) {
@@ -63,7 +63,7 @@ fn names_answer<F: Folder>(
     names: &[String],
     folder: &mut F,
 ) -> Result<Answer, AllocError>
-    ensures { Makes (F.calls folder.old) (F.calls folder.new) (λ calls.
+    ensures { MakesCalls (F.calls folder.old) (F.calls folder.new) (λ calls.
         AnswersNames [] (map string_bytes names.now) calls (ended result)) }
 {
     let mut targets = Targets::new(alloc, keys);
@@ -103,7 +103,7 @@ fn collate_all(
     keys: RandomState,
     targets: &[ReadTarget],
 ) -> Result<ProjectOut, Failure<(usize, Refusal)>>
-    ensures collated { IfOk result (λ out. IsProject (style_of (form_of targets.now))
+    ensures collated { IfOk result (λ out. CollatesProject (style_of (form_of targets.now))
         (map project_target targets.now) out.targets.items) }
     ensures refused { IfErr result (ForFault (λ refused.
         IsProjectRefusal (style_of (form_of targets.now))
@@ -134,7 +134,7 @@ fn project_in(
     form: Option<MapForm>,
 ) -> Result<ProjectOut, Failure<(usize, Refusal)>>
     ensures collated { IfOk result (λ out.
-        IsProject (style_of form) parts.now out.targets.items) }
+        CollatesProject (style_of form) parts.now out.targets.items) }
     ensures refused { IfErr result (ForFault (λ refused.
         IsProjectRefusal (style_of form) parts.now refused.0 refused.1)) }
 {

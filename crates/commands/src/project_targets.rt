@@ -1,10 +1,11 @@
 //! The targets of a project, as their documents and the files that these name are read.
 
 ghost use Rattle.std.specs.Prelude.{◌≡◌, ◌<◌, ◌++◌, ◌∷◌, [], List, ℕ, None, Some, All, map, string_bytes, bytes_eq, if◌then◌else◌, option_copied, IfOk, OnOk, IfNone, IfSome, Decides, length};
+ghost use Rattle.ninja_text.specs.Bytes.{Bytes, PathText};
 ghost use Rattle.commands.specs.Answers.{Refuses};
 ghost use Rattle.commands.specs.CollateCommand.{spec_text};
 ghost use Rattle.commands.specs.Files.{ReadsFile};
-ghost use Rattle.commands.specs.Folder.{Makes};
+ghost use Rattle.commands.specs.Folder.{MakesCalls};
 ghost use Rattle.commands.specs.ProjectCommand.{last_with, target_text, project_target, LinksTo, LinksLater, HasFormOf, AnswersAfter, AnswersNext};
 ghost use Rattle.commands.specs.inner.Parts.{GoesOn};
 ghost use Rattle.commands.specs.inner.ProjectTargets.{writer_of, LinkEarlier};
@@ -64,6 +65,7 @@ pub(crate) struct Targets {
 }
 
 impl Model for Targets {
+    ghost use Rattle.ninja_text.specs.Bytes.{PathText};
     ghost use Rattle.std.specs.Prelude.{◌≡◌, List, ℕ};
     ghost use Rattle.commands.specs.ProjectCommand.{ReadTargetValue, last_with};
     ghost use Rattle.commands.specs.inner.ProjectTargets.{writer_of, LinkEarlier};
@@ -72,7 +74,7 @@ impl Model for Targets {
 
     ghost view = { λ t. t.read.items };
 
-    ghost invariant = { λ t. LinkEarlier t.read.items × ((info : List ℕ) →
+    ghost invariant = { λ t. LinkEarlier t.read.items × ((info : PathText) →
         writer_of t.writers.indexes info ≡ last_with t.read.items info) };
 }
 
@@ -143,7 +145,7 @@ struct Writers {
 impl Writers {
     /// No info has a writer.
     fn new(alloc: Global, keys: RandomState) -> Writers
-        ensures { (info : List ℕ) → writer_of result.indexes info ≡ None }
+        ensures { (info : PathText) → writer_of result.indexes info ≡ None }
     {
         Writers {
             indexes: IndexMap::with_hasher(alloc, keys),
@@ -152,7 +154,7 @@ impl Writers {
 
     /// This target writes that info.
     fn insert(&mut self, alloc: Global, info: &str, index: usize) -> Result<(), AllocError>
-        ensures { OnOk result ((other : List ℕ) → writer_of self.new.indexes other
+        ensures { OnOk result ((other : Bytes) → writer_of self.new.indexes other
             ≡ (if bytes_eq info.now other then Some index else writer_of self.old.indexes other)) }
     {
         let info = String::from_str(alloc, info)?;
@@ -179,7 +181,7 @@ pub(crate) fn read_target<F: Folder>(
     name: &str,
     folder: &mut F,
 ) -> Result<ReadTarget, Failure<Answer>>
-    ensures read { Makes (F.calls folder.old) (F.calls folder.new) (λ calls. ReadsFile
+    ensures read { MakesCalls (F.calls folder.old) (F.calls folder.new) (λ calls. ReadsFile
         name.now (AnswersNext earlier.now (GoesOn (λ target. target))) calls result) }
     ensures links { IfOk result (λ target. All (λ k. k < length earlier.now) target.linked) }
 {
@@ -199,7 +201,7 @@ fn target_of<F: Folder>(
     document: TargetDocument,
     folder: &mut F,
 ) -> Result<ReadTarget, Failure<Answer>>
-    ensures read { Makes (F.calls folder.old) (F.calls folder.new) (λ calls. AnswersAfter
+    ensures read { MakesCalls (F.calls folder.old) (F.calls folder.new) (λ calls. AnswersAfter
         earlier.now document (GoesOn (λ target. target)) calls result) }
     ensures links { IfOk result (λ target. All (λ k. k < length earlier.now) target.linked) }
 {

@@ -3,7 +3,7 @@
 
 ghost use Rattle.std.specs.Prelude.{◌≡◌, map, string_bytes, option_map, option_copied, IfOk};
 ghost use Rattle.commands.specs.Files.{ReadsFile, ReadsFiles, ReadsListing, ReadsTarget};
-ghost use Rattle.commands.specs.Folder.{Makes};
+ghost use Rattle.commands.specs.Folder.{MakesCalls};
 ghost use Rattle.commands.specs.inner.Parts.{GoesOn, contents};
 
 use crate::answer::{Answer, ended};
@@ -20,7 +20,7 @@ pub(crate) fn read_file<F: Folder>(
     name: &str,
     folder: &mut F,
 ) -> Result<Vec<u8>, Failure<Answer>>
-    ensures { Makes (F.calls folder.old) (F.calls folder.new) (λ calls.
+    ensures { MakesCalls (F.calls folder.old) (F.calls folder.new) (λ calls.
         ReadsFile name.now (GoesOn (λ bytes. bytes.items)) calls result) }
 {
     match folder.read(name) {
@@ -37,7 +37,7 @@ pub(crate) fn read_in_turn<F: Folder>(
     names: &[String],
     folder: &mut F,
 ) -> Result<Vec<Vec<u8>>, Failure<Answer>>
-    ensures { Makes (F.calls folder.old) (F.calls folder.new) (λ calls.
+    ensures { MakesCalls (F.calls folder.old) (F.calls folder.new) (λ calls.
         ReadsFiles (map string_bytes names.now) (GoesOn contents)
         calls result) }
 {
@@ -55,7 +55,7 @@ fn read_listing<F: Folder>(
     name: &Option<String>,
     folder: &mut F,
 ) -> Result<Option<Vec<u8>>, Failure<Answer>>
-    ensures { Makes (F.calls folder.old) (F.calls folder.new) (λ calls. ReadsListing
+    ensures { MakesCalls (F.calls folder.old) (F.calls folder.new) (λ calls. ReadsListing
         (option_map string_bytes name.now) (GoesOn (option_map (λ file. file.items)))
         calls result) }
 {
@@ -102,7 +102,7 @@ impl TargetFiles {
         infos: &[String],
         folder: &mut F,
     ) -> Result<TargetFiles, Failure<Answer>>
-        ensures { Makes (F.calls folder.old) (F.calls folder.new) (λ calls. ReadsTarget
+        ensures { MakesCalls (F.calls folder.old) (F.calls folder.new) (λ calls. ReadsTarget
             spec.now (map string_bytes infos.now) (GoesOn (λ files. files)) calls result) }
     {
         let scans = read_in_turn(alloc, &spec.scans, folder)?;

@@ -2,7 +2,7 @@
 
 ghost use Rattle.command_line.specs.Tasks.{task_value};
 ghost use Rattle.commands.specs.Files.{ended};
-ghost use Rattle.commands.specs.Folder.{Makes};
+ghost use Rattle.commands.specs.Folder.{MakesCalls};
 ghost use Rattle.commands.specs.Runs.{AnswersBytes, AnswersTask};
 
 use crate::answer::{Answer, answered};
@@ -26,7 +26,7 @@ pub fn task_run<F: Folder>(
     task: &Task,
     folder: &mut F,
 ) -> Result<Answer, AllocError>
-    ensures { Makes (F.calls folder.old) (F.calls folder.new) (λ calls.
+    ensures { MakesCalls (F.calls folder.old) (F.calls folder.new) (λ calls.
         AnswersTask (task_value task.now) calls (ended result)) }
 {
     match read_file(alloc, task.file(), folder) {
@@ -43,7 +43,7 @@ fn bytes_run<F: Folder>(
     bytes: &[u8],
     folder: &mut F,
 ) -> Result<Answer, AllocError>
-    ensures { Makes (F.calls folder.old) (F.calls folder.new) (λ calls.
+    ensures { MakesCalls (F.calls folder.old) (F.calls folder.new) (λ calls.
         AnswersBytes (task_value task.now) bytes.now calls (ended result)) }
 {
     match task {

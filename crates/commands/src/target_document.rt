@@ -33,10 +33,10 @@ impl Drop for TargetDocument {
 
 impl Model for TargetDocument {
     ghost use Rattle.std.specs.Prelude.{◌≡◌};
-    ghost use Rattle.scan_docs.specs.Target.{TargetValue};
+    ghost use Rattle.scan_docs.specs.Target.{TargetDocumentValue};
     ghost use Rattle.commands.specs.CollateCommand.{dyndep_path, setting_in};
 
-    ghost Value = { TargetValue };
+    ghost Value = { TargetDocumentValue };
 
     ghost view = { λ d. d.spec };
 

@@ -1,3 +1,4 @@
+pub mod Numbers
 pub mod Needs
 pub mod Orders
 pub mod Cycles

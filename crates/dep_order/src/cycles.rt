@@ -1,6 +1,7 @@
 //! The least cycle: its first node by a search or by components, its length by levels, and its
 //! nodes one by one.
 ghost use Rattle.std.specs.Prelude.{◌<◌, ◌≤◌, ℕ, All, IfOk, length, List, Some};
+ghost use Rattle.dep_order.specs.Numbers.{Numbers};
 ghost use Rattle.dep_order.specs.Needs.{NodeNeeds, NeedsAreNodes, needs_of};
 ghost use Rattle.dep_order.specs.Cycles.{IsCycle, IsLeastCycle, first_of};
 ghost use Rattle.dep_order.specs.inner.Users.{AreUsers};
@@ -39,7 +40,7 @@ fn first_suspect(needs: &[&[usize]], users: &[&[usize]]) -> usize
     requires users { AreUsers (lists needs.now) (lists users.now) }
     requires cycle { HasCycle (NodeNeeds (lists needs.now)) }
     ensures node { result < length needs.now }
-    ensures none_lower { (cycle : List ℕ)
+    ensures none_lower { (cycle : Numbers)
         → IsCycle (NodeNeeds (lists needs.now)) cycle
         → result ≤ first_of cycle }
 {

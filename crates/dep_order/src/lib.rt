@@ -85,11 +85,12 @@ pub struct Digraph {
 }
 
 impl Model for Digraph {
-    ghost use Rattle.std.specs.Prelude.{ℕ, List};
+    ghost use Rattle.std.specs.Prelude.{List};
+    ghost use Rattle.dep_order.specs.Numbers.{Numbers};
     ghost use Rattle.dep_order.specs.Needs.{NeedsAreNodes};
     ghost use Rattle.dep_order.specs.Rows.{rows};
 
-    ghost Value = { List (List ℕ) };
+    ghost Value = { List Numbers };
 
     ghost view = { λ graph. rows graph.needs.items };
 

@@ -21,9 +21,10 @@ pub struct Reaching<'g> {
 }
 
 impl<'g> Model for Reaching<'g> {
-    ghost use Rattle.std.specs.Prelude.{◌≡◌, ℕ, List, length};
+    ghost use Rattle.std.specs.Prelude.{◌≡◌, List, length};
+    ghost use Rattle.dep_order.specs.Numbers.{Numbers};
 
-    ghost Value = { List (List ℕ) };
+    ghost Value = { List Numbers };
 
     ghost view = { λ reaching. reaching.graph.now };
 

@@ -7,7 +7,7 @@ use Rattle.ninja_text.specs.Counting.{held, Call, TakesInTurn}
 use Rattle.ninja_text.specs.declared.counting.Counted.{Counted}
 use Rattle.ninja_text.specs.declared.failure.Failure.{Failure}
 use Rattle.dyndep_file.specs.StatementValue.{StatementValue}
-use Rattle.dyndep_file.specs.ReadingAll.{ReadTurn, ReadsInTurn, LastCall, AtEnd, Failed, Refused, NotMade, IsLastCall, AnswersAfter, bytes_read, IsReadFrom}
+use Rattle.dyndep_file.specs.ReadingAll.{ReadTurn, ReadsInTurn, LastCall, AtEnd, Failed, Refused, NotMade, IsLastCall, AnswersLastCall, bytes_read, IsReadFrom}
 use Rattle.dyndep_file.specs.declared.fault.ReadFault.{ReadFault}
 
 -- the count that a call answered
@@ -22,7 +22,7 @@ counts old new answer buffer = (new ≡ old + 1) × (answer ≡ Ok 0)
 
 -- the last call of it is the first one
 last_is_first : (old now new : ℕ) (turns : List (ReadTurn ℕ)) (last : LastCall ℕ) (result : Result (List StatementValue) (Failure ReadFault))
-    → ReadsInTurn counts old turns now → IsLastCall counts now new last → AnswersAfter (bytes_read turns) last result → new ≡ old + 1
+    → ReadsInTurn counts old turns now → IsLastCall counts now new last → AnswersLastCall (bytes_read turns) last result → new ≡ old + 1
 last_is_first old now new (turn ∷ turns) last result h ended answer = absurd (omega (arith, same_count turn.count 0 h.0.call.1, h.0.some))
 last_is_first old now new [] AtEnd result h ended answer = omega (arith, h, ended.2.0)
 last_is_first old now new [] Failed result h ended answer = absurd (let wrong : ◌≡◌ {A = Result ℕ Error} (Err ended.1) (Ok 0) = ended.3.1 in cc)

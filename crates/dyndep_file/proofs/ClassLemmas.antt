@@ -8,9 +8,10 @@ use Rattle.ninja_text.specs.Assignments.{SeenAssignment, assignment_of}
 use Rattle.ninja_text.specs.declared.fault.LexFault.{LexFault}
 use Rattle.ninja_text.proofs.ForCallers.{assignment_has_token}
 use Rattle.dyndep_file.specs.StatementValue.{StatementValue}
-use Rattle.dyndep_file.specs.Classes.{Class, Comment, Blank, Version, Build, Binding, Symbol, WordSymbol, SignSymbol, symbol, symbols, begins_at_start, begins_with_space, IsPart}
-use Rattle.dyndep_file.specs.Classes.{IsBuild, Assigns, TextIsOfClass, is_version_one}
-use Rattle.dyndep_file.specs.Faults.{same_bytes, is_empty, after_build, value_assigned, output_fault, indented_fault, version_fault, build_or_other_fault, unindented_fault}
+use Rattle.dyndep_file.specs.Classes.{DyndepClass, Comment, Blank, Version, Build, Binding, Symbol, WordSymbol, SignSymbol, symbol, symbols, begins_at_start, begins_with_space, IsPart}
+use Rattle.dyndep_file.specs.Classes.{IsBuild, Assigns, IsDyndepLine, is_version_one}
+use Rattle.dyndep_file.specs.Faults.{same_bytes, after_build, value_assigned, output_fault, indented_fault, version_fault, build_or_other_fault, unindented_fault}
+use Rattle.ninja_text.specs.Paths.{is_empty}
 use Rattle.dyndep_file.specs.Faults.{text_fault, text_line_fault, lexical_fault_or}
 use Rattle.dyndep_file.specs.Steps.{ProgressValue, step}
 use Rattle.dyndep_file.specs.declared.fault.LineFault.{LineFault}
@@ -21,7 +22,7 @@ use Rattle.dyndep_file.proofs.TableLemmas.{same_bytes-true, symbol_is_word, no_i
 use Rattle.dyndep_file.proofs.BuildLemmas.{words_before_colon, after_colon, parts}
 
 -- the class's index in this list: comment, blank, build line, binding, version line
-abbrev class_index : Class → ℕ
+abbrev class_index : DyndepClass → ℕ
 class_index Comment = 0
 class_index Blank = 1
 class_index (Build output outputs inputs) = 2
@@ -81,7 +82,7 @@ no_keyword text a h start name = elim (cases_Bool (is_keyword_line text)) [
 ]
 
 -- the tests find the class of each text
-index_of_class : (text : List ℕ) (comment : Bool) (c : Class) → TextIsOfClass text comment c → index_of text comment ≡ class_index c
+index_of_class : (text : List ℕ) (comment : Bool) (c : DyndepClass) → IsDyndepLine text comment c → index_of text comment ≡ class_index c
 index_of_class text comment Comment is = rw is refl
 index_of_class text comment Blank is = rw is.0 (rw (ap is_empty is.2) refl)
 index_of_class text comment Version is =
@@ -150,7 +151,7 @@ build_same : {o p : List ℕ} {os ps ins qs : List (List ℕ)} → o ≡ p → o
 build_same a b c = rw (a, b, c) refl
 
 -- a line's text is of one class
-pub class_one : (text : List ℕ) (comment : Bool) (c d : Class) → TextIsOfClass text comment c → TextIsOfClass text comment d → c ≡ d
+pub class_one : (text : List ℕ) (comment : Bool) (c d : DyndepClass) → IsDyndepLine text comment c → IsDyndepLine text comment d → c ≡ d
 class_one text comment Comment Comment p q = refl
 class_one text comment Blank Blank p q = refl
 class_one text comment Version Version p q = refl
@@ -172,13 +173,13 @@ none_else h = absurd (cc)
 
 -- a class that a text is of, and that may stand at a stage
 pub record CanStand (stage : Stage) (ss : List StatementValue) (text : List ℕ) (comment : Bool) : Type 0 where
-  pub class : Class
-  pub is : TextIsOfClass text comment class
+  pub class : DyndepClass
+  pub is : IsDyndepLine text comment class
   pub next : ProgressValue
   pub steps : step stage ss class ≡ Some next
 
 -- the same, by its parts
-passes : (stage : Stage) (ss : List StatementValue) (text : List ℕ) (comment : Bool) (c : Class) → TextIsOfClass text comment c
+passes : (stage : Stage) (ss : List StatementValue) (text : List ℕ) (comment : Bool) (c : DyndepClass) → IsDyndepLine text comment c
     → ((next : ProgressValue) × (step stage ss c ≡ Some next)) → CanStand stage ss text comment
 passes stage ss text comment c is s = record { class = c; is = is; next = s.0; steps = s.1 }
 

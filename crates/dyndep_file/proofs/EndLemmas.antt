@@ -2,12 +2,12 @@
 use Rattle.std.proofs.Common.{inl, inr, ◌≡◌, false, List}
 use Rattle.std.specs.List.{list_any}
 use Rattle.std.proofs.lemmas.Bool.{cases_Bool}
-use Rattle.dyndep_file.specs.Classes.{Class}
+use Rattle.dyndep_file.specs.Classes.{DyndepClass}
 use Rattle.dyndep_file.specs.Faults.{is_version, is_open, stage_after}
 use Rattle.dyndep_file.specs.declared.progress.Stage.TheVariants.{BeforeVersion, NoneOpen, Open}
 
 -- before the version no line is a version line
-pub no_version : (classes : List Class) → stage_after classes ≡ BeforeVersion → list_any is_version classes ≡ false
+pub no_version : (classes : List DyndepClass) → stage_after classes ≡ BeforeVersion → list_any is_version classes ≡ false
 no_version classes h = elim (cases_Bool (list_any is_version classes)) [
   | inr f ↦ f
   | inl t ↦ elim (cases_Bool (is_open classes)) [

@@ -4,15 +4,15 @@ use Rattle.std.specs.Prelude.{Option, if◌then◌else◌, nat_le, nat_lt}
 use Rattle.std.specs.Option.{option_and_then}
 use Rattle.std.specs.List.{list_any}
 use Rattle.std.proofs.lemmas.Bool.{cases_lt, lt-ltb, le-leb, lt-leb}
-use Rattle.ninja_text.specs.Lines.{line_limit, text_of, is_comment}
+use Rattle.ninja_text.specs.Lines.{line_limit, text_of_line, is_comment}
 use Rattle.ninja_text.specs.LineFormats.{IsOfClass, Begins, IsFaultyAfter, IsDecided}
 use Rattle.ninja_text.proofs.ForCallers as lines
 use Rattle.dyndep_file.specs.StatementValue.{StatementValue}
-use Rattle.dyndep_file.specs.Classes.{Class, Version}
+use Rattle.dyndep_file.specs.Classes.{DyndepClass, Version}
 use Rattle.dyndep_file.specs.Grammar.{IsDyndepFile, comment_first, blank_first, version_line, body_end}
 use Rattle.dyndep_file.specs.Faults.{is_version, stage_after, line_fault, text_line_fault}
 use Rattle.dyndep_file.specs.Steps.{ProgressValue, run}
-use Rattle.dyndep_file.specs.Reading.{dyndep_format, dyndep_faults, StandsFor, FaultAt, IsEndFault, IsRefused}
+use Rattle.dyndep_file.specs.Reading.{dyndep_format, dyndep_faults, StandsFor, FaultAt, IsEndFault, HasReadFault}
 use Rattle.dyndep_file.specs.declared.fault.LineFault.{LineFault}
 use Rattle.dyndep_file.specs.declared.fault.LineFault.TheVariants.{LineTooLong, Truncated, NoVersion}
 use Rattle.dyndep_file.specs.declared.progress.Stage.{Stage}
@@ -23,13 +23,13 @@ use Rattle.dyndep_file.proofs.FaultLemmas.{faulty_after, too_long_is, fault_is}
 use Rattle.dyndep_file.proofs.ClassLemmas.{class_one, can_stand}
 
 -- a dyndep file has a version line
-file_has_version : {classes : List Class} {ss : List StatementValue} → IsDyndepFile classes ss → list_any is_version classes ≡ true
+file_has_version : {classes : List DyndepClass} {ss : List StatementValue} → IsDyndepFile classes ss → list_any is_version classes ≡ true
 file_has_version (comment_first b) = file_has_version b
 file_has_version (blank_first b) = file_has_version b
 file_has_version (version_line b) = refl
 
 -- a text with a version line and no bytes left over has no fault at its end
-no_end_fault : (classes : List Class) (fault : LineFault) → list_any is_version classes ≡ true → IsEndFault [] classes fault → ⊥
+no_end_fault : (classes : List DyndepClass) (fault : LineFault) → list_any is_version classes ≡ true → IsEndFault [] classes fault → ⊥
 no_end_fault classes LineTooLong has h = omega arith
 no_end_fault classes Truncated has h = omega arith
 no_end_fault classes NoVersion has h = let x : true ≡ false = sym has ∙ h.1 in cc
@@ -41,17 +41,17 @@ fault_cases None = inl refl
 fault_cases (Some fault) = inr (fault, refl)
 
 -- a line is of a class with which a dyndep file goes on, or it has a fault, and none goes on with it
-line_decided : (classes : List Class) (line : List ℕ) → Begins dyndep_format classes
-    → ((c : Class) × IsOfClass dyndep_format line c × Begins dyndep_format (classes ++ c ∷ []))
+line_decided : (classes : List DyndepClass) (line : List ℕ) → Begins dyndep_format classes
+    → ((c : DyndepClass) × IsOfClass dyndep_format line c × Begins dyndep_format (classes ++ c ∷ []))
     ⊎ ((fault : LineFault) × (line_fault (stage_after classes) line ≡ Some fault) × IsFaultyAfter dyndep_format classes line)
 line_decided classes line begun =
     let ran = begins_runs classes begun in
     elim (cases_lt line_limit (length line)) [
       | inl long ↦ inr (LineTooLong, too_long_is classes line long, λ c is on. absurd (omega (arith, long, short_enough c is)))
-      | inr short ↦ elim (fault_cases (text_line_fault ran.0.stage (text_of line) (is_comment line))) [
+      | inr short ↦ elim (fault_cases (text_line_fault ran.0.stage (text_of_line line) (is_comment line))) [
         | inr f ↦ inr (f.0, fault_is classes line ran.0 f.0 ran.1 short f.1, faulty_after classes line ran.0 f.0 ran.1 f.1)
         | inl none ↦
-            let s = can_stand ran.0.stage ran.0.statements (text_of line) (is_comment line) none in
+            let s = can_stand ran.0.stage ran.0.statements (text_of_line line) (is_comment line) none in
             inl (
               s.class,
               (short, s.is),
@@ -60,19 +60,19 @@ line_decided classes line begun =
             )
       ]
     ] where
-      short_enough : (c : Class) → IsOfClass dyndep_format line c → length line ≤ line_limit
+      short_enough : (c : DyndepClass) → IsOfClass dyndep_format line c → length line ≤ line_limit
       short_enough c is = is.0
 
 -- lines with which a dyndep file begins are a whole one, or the end has a fault
-abbrev EndDecided : List Class → List ℕ → Type 0
+abbrev EndDecided : List DyndepClass → List ℕ → Type 0
 EndDecided classes rest = ((rest ≡ []) × (ss : List StatementValue) × IsDyndepFile classes ss) ⊎ ((fault : LineFault) × IsEndFault rest classes fault)
 
-at_stage : (classes : List Class) (end : ProgressValue) → run BeforeVersion [] classes ≡ Some end → (stage : Stage) → end.stage ≡ stage → EndDecided classes []
+at_stage : (classes : List DyndepClass) (end : ProgressValue) → run BeforeVersion [] classes ≡ Some end → (stage : Stage) → end.stage ≡ stage → EndDecided classes []
 at_stage classes end ran BeforeVersion at = inr (NoVersion, (refl, no_version classes (sym (stage_runs classes end ran) ∙ at)))
 at_stage classes end ran NoneOpen at = inl (refl, end.statements, run_is_file classes end ran (ap is_past at))
 at_stage classes end ran Open at = inl (refl, end.statements, run_is_file classes end ran (ap is_past at))
 
-end_decided : (classes : List Class) (rest : List ℕ) → Begins dyndep_format classes → EndDecided classes rest
+end_decided : (classes : List DyndepClass) (rest : List ℕ) → Begins dyndep_format classes → EndDecided classes rest
 end_decided classes [] begun = let ran = begins_runs classes begun in at_stage classes ran.0 ran.1 ran.0.stage refl
 end_decided classes (b ∷ rest) begun = elim (cases_lt (length (b ∷ rest)) line_limit) [
   | inl lt ↦ inr (Truncated, (omega arith, lt))
@@ -88,7 +88,7 @@ abbrev fault_of_end : List ℕ → LineFault
 fault_of_end rest = if nat_le line_limit (length rest) then LineTooLong else if nat_lt 0 (length rest) then Truncated else NoVersion
 
 -- the fault of the end depends on the bytes left over alone
-end_fault_is : (rest : List ℕ) (classes : List Class) (fault : LineFault) → IsEndFault rest classes fault → fault ≡ fault_of_end rest
+end_fault_is : (rest : List ℕ) (classes : List DyndepClass) (fault : LineFault) → IsEndFault rest classes fault → fault ≡ fault_of_end rest
 end_fault_is rest classes LineTooLong h = rw (le-leb line_limit (length rest) h) refl
 end_fault_is rest classes Truncated h = rw (lt-leb line_limit (length rest) h.1, lt-ltb 0 (length rest) h.0) refl
 end_fault_is rest classes NoVersion h = sym (ap fault_of_end h.0)
@@ -112,11 +112,11 @@ pub one_list : (bytes : List ℕ) (ss ts : List StatementValue) → StandsFor by
 one_list bytes ss ts a b = lines.one_value dyndep_format dyndep_faults decided bytes ss ts a b
 
 -- and where it does, it has no fault
-pub not_both : (bytes : List ℕ) (ss : List StatementValue) (found : FaultAt) → StandsFor bytes ss → IsRefused bytes found → ⊥
+pub not_both : (bytes : List ℕ) (ss : List StatementValue) (found : FaultAt) → StandsFor bytes ss → HasReadFault bytes found → ⊥
 not_both bytes ss found a f = lines.not_both dyndep_format dyndep_faults decided bytes ss found.line found.fault a f
 
 -- else it has one
-pub one_of_both : (bytes : List ℕ) → ((ss : List StatementValue) × StandsFor bytes ss) ⊎ ((found : FaultAt) × IsRefused bytes found)
+pub one_of_both : (bytes : List ℕ) → ((ss : List StatementValue) × StandsFor bytes ss) ⊎ ((found : FaultAt) × HasReadFault bytes found)
 one_of_both bytes = elim (lines.value_or_fault dyndep_format dyndep_faults decided bytes) [ inl all ↦ inl all | inr stop ↦ inr (record { line = stop.0; fault = stop.1 }, stop.2) ]
 
 -- faults with the same number and the same reason are the same
@@ -124,5 +124,5 @@ found_same : {l m : ℕ} {f g : LineFault} → l ≡ m → f ≡ g → ◌≡◌
 found_same a b = rw (a, b) refl
 
 -- and just one
-pub one_fault : (bytes : List ℕ) (a b : FaultAt) → IsRefused bytes a → IsRefused bytes b → a ≡ b
+pub one_fault : (bytes : List ℕ) (a b : FaultAt) → HasReadFault bytes a → HasReadFault bytes b → a ≡ b
 one_fault bytes a b f g = let same = lines.one_fault dyndep_format dyndep_faults decided bytes a.line b.line a.fault b.fault f g in found_same same.0 same.1

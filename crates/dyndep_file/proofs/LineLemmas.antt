@@ -9,11 +9,12 @@ use Rattle.ninja_text.specs.Assignments.{SeenAssignment, assignment_of}
 use Rattle.ninja_text.specs.declared.failure.Failure.{Failure}
 use Rattle.ninja_text.specs.declared.failure.Failure.TheVariants.{Memory, Fault}
 use Rattle.dyndep_file.specs.StatementValue.{StatementValue}
-use Rattle.dyndep_file.specs.Classes.{Class, Blank, Build, Binding, Symbol, WordSymbol, SignSymbol, symbols, begins_at_start, begins_with_space, TextIsOfClass}
-use Rattle.dyndep_file.specs.Faults.{same_bytes, is_empty, after_build, value_assigned, indented_fault, version_fault, build_fault, build_or_other_fault, unindented_fault}
+use Rattle.dyndep_file.specs.Classes.{DyndepClass, Blank, Build, Binding, Symbol, WordSymbol, SignSymbol, symbols, begins_at_start, begins_with_space, IsDyndepLine}
+use Rattle.dyndep_file.specs.Faults.{same_bytes, after_build, value_assigned, indented_fault, version_fault, build_fault, build_or_other_fault, unindented_fault}
+use Rattle.ninja_text.specs.Paths.{is_empty}
 use Rattle.dyndep_file.specs.Faults.{text_fault, lexical_fault_or}
 use Rattle.dyndep_file.specs.Steps.{ProgressValue, step, with_last_restat}
-use Rattle.dyndep_file.specs.BuildTokens.{symbol_of, is_word}
+use Rattle.dyndep_file.specs.BuildTokens.{symbol_of, is_this_word}
 use Rattle.dyndep_file.specs.inner.BuildLines.{IsNamed}
 use Rattle.dyndep_file.specs.inner.LineReading.{PassesOr, IsBuildOf, with_name, IsBindingOf, IsVersionLineOf}
 use Rattle.dyndep_file.specs.declared.fault.LineFault.{LineFault}
@@ -22,8 +23,8 @@ use Rattle.dyndep_file.specs.declared.progress.Stage.TheVariants.{NoneOpen, Open
 use Rattle.dyndep_file.proofs.TableLemmas.{same_bytes-refl, same_bytes-true, is_word-true, symbol_is_word, no_indent_at_token, no_version}
 
 -- the same answer, under another reading of the fault and the class
-pub passes_as : {fault other : Option LineFault} (is as_is : Class → Type 0) (old : ProgressValue) (r : Result Unit (Failure LineFault)) (new : ProgressValue)
-    → other ≡ fault → ((c : Class) → is c → as_is c) → PassesOr fault is old r new → PassesOr other as_is old r new
+pub passes_as : {fault other : Option LineFault} (is as_is : DyndepClass → Type 0) (old : ProgressValue) (r : Result Unit (Failure LineFault)) (new : ProgressValue)
+    → other ≡ fault → ((c : DyndepClass) → is c → as_is c) → PassesOr fault is old r new → PassesOr other as_is old r new
 passes_as is as_is old (Ok u) new e turn h = (h.0, turn h.0 h.1, h.2)
 passes_as is as_is old (Err (Fault found)) new e turn h = e ∙ h
 passes_as is as_is old (Err Memory) new e turn h = tt
@@ -40,7 +41,7 @@ last_set (x ∷ y ∷ ss) (suc n) s flag len at = ap (λ l. x ∷ l) (last_set (
 -- a build line opens its statement
 pub opens : (stage : Stage) (before after : List StatementValue) (statement : StatementValue) (symbols : List Symbol) → (stage ≡ NoneOpen) ⊎ (stage ≡ Open)
     → after ≡ before ++ statement ∷ [] → IsNamed symbols statement
-    → (c : Class) × IsBuildOf symbols c × (step stage before c ≡ Some (record { stage = Open; statements = after }))
+    → (c : DyndepClass) × IsBuildOf symbols c × (step stage before c ≡ Some (record { stage = Open; statements = after }))
 opens stage before after statement symbols may pushed named =
     let c = Build (value_of named.0) (map value_of named.1) (map value_of named.2) in (
       c,
@@ -88,7 +89,7 @@ module _ (text : List ℕ) (sound : lexical_fault text ≡ None) where
   symbols_seen ts e = ap (map symbol_of) e ∙ seen_symbols (tokens text)
 
   -- a text without tokens is blank
-  pub blank : (ts : List SeenToken) → ts ≡ seen_tokens text → ts ≡ [] → TextIsOfClass text false Blank
+  pub blank : (ts : List SeenToken) → ts ≡ seen_tokens text → ts ≡ [] → IsDyndepLine text false Blank
   blank ts e none = (refl, sound, nothing (tokens text) (sym e ∙ none)) where
     nothing : (ts : List TokenAt) → map (with_raw text) ts ≡ [] → ts ≡ []
     nothing [] h = refl
@@ -130,9 +131,9 @@ module _ (text : List ℕ) (sound : lexical_fault text ≡ None) where
     starts_as = let f = first head others all in ap begins_at_start f.are ∙ ap (λ (t : SeenToken). t.start == 0) f.is
 
     -- a text that begins with the keyword
-    module _ (begins : ((head.start == 0) && is_word (codes "build") (symbol_of head)) ≡ true) where
-      both : ((head.start == 0) ≡ true) × (is_word (codes "build") (symbol_of head) ≡ true)
-      both = and_parts (head.start == 0) (is_word (codes "build") (symbol_of head)) begins
+    module _ (begins : ((head.start == 0) && is_this_word (codes "build") (symbol_of head)) ≡ true) where
+      both : ((head.start == 0) ≡ true) × (is_this_word (codes "build") (symbol_of head) ≡ true)
+      both = and_parts (head.start == 0) (is_this_word (codes "build") (symbol_of head)) begins
 
       keyword : symbol_of head ≡ WordSymbol (codes "build")
       keyword = is_word-true (codes "build") (symbol_of head) both.1
@@ -154,32 +155,32 @@ module _ (text : List ℕ) (sound : lexical_fault text ≡ None) where
             kept : (b : Bool) → b ≡ true → after_build b (WordSymbol (codes "build") ∷ map symbol_of others) ≡ Some (map symbol_of others)
             kept b h = rw h refl
 
-      pub keyword_class : (c : Class) → IsBuildOf (map symbol_of others) c → TextIsOfClass text false c
+      pub keyword_class : (c : DyndepClass) → IsBuildOf (map symbol_of others) c → IsDyndepLine text false c
       keyword_class c is =
           let n = is.3 in
-          subst (TextIsOfClass text false) (sym is.4)
+          subst (IsDyndepLine text false) (sym is.4)
           (refl, sound, is.0, is.1, is.2, (n.before, n.after, n.is_before, n.is_after, at_start, symbols_are ∙ ap (λ s. WordSymbol (codes "build") ∷ s) n.are), refl, refl, refl)
 
     -- a text that is not indented and does not begin with the keyword
-    pub other_text : ((head.start == 0) && is_word (codes "build") (symbol_of head)) ≡ false → begins_with_space text ≡ false
+    pub other_text : ((head.start == 0) && is_this_word (codes "build") (symbol_of head)) ≡ false → begins_with_space text ≡ false
         → lexical_fault_or (lexical_fault text) (text_fault stage text) ≡ unindented_fault stage (value_assigned (codes "ninja_dyndep_version") (assignment_of text)) None
     other_text begins indent = unindented_text indent ∙ ap (unindented_fault stage (value_assigned (codes "ninja_dyndep_version") (assignment_of text))) none where
-      refused : (s : Symbol) (b : Bool) (more : List Symbol) → (b && is_word (codes "build") s) ≡ false → after_build b (s ∷ more) ≡ None
+      refused : (s : Symbol) (b : Bool) (more : List Symbol) → (b && is_this_word (codes "build") s) ≡ false → after_build b (s ∷ more) ≡ None
       refused (WordSymbol word) b more h = rw h refl
       refused (SignSymbol kind) b more h = refl
 
       none : after_build (begins_at_start (tokens text)) (symbols text) ≡ None
       none = ap (after_build (begins_at_start (tokens text))) (sym (symbols_seen (head ∷ others) all))
-          ∙ refused (symbol_of head) (begins_at_start (tokens text)) (map symbol_of others) (subst (λ b. (b && is_word (codes "build") (symbol_of head)) ≡ false) (sym starts_as) begins)
+          ∙ refused (symbol_of head) (begins_at_start (tokens text)) (map symbol_of others) (subst (λ b. (b && is_this_word (codes "build") (symbol_of head)) ≡ false) (sym starts_as) begins)
 
   -- an indented assignment to `restat` is a binding
-  pub binding_class : begins_with_space text ≡ true → (c : Class) → IsBindingOf (assignment_of text) c → TextIsOfClass text false c
-  binding_class indent c is = subst (TextIsOfClass text false) (sym is.3)
+  pub binding_class : begins_with_space text ≡ true → (c : DyndepClass) → IsBindingOf (assignment_of text) c → IsDyndepLine text false c
+  binding_class indent c is = subst (IsDyndepLine text false) (sym is.3)
       (refl, sound, indent, is.0.name_start, value_of is.0.raw_value, (is.0, is.1, refl, is.2, refl), refl)
 
   -- an assignment at the first byte to a version that is read is a version line
-  pub version_class : (c : Class) → IsVersionLineOf (assignment_of text) c → TextIsOfClass text false c
-  version_class c is = subst (TextIsOfClass text false) (sym is.4.0) (refl, sound, value_of is.0.raw_value, (is.0, is.1, is.2, is.3, refl), is.4.1)
+  pub version_class : (c : DyndepClass) → IsVersionLineOf (assignment_of text) c → IsDyndepLine text false c
+  version_class c is = subst (IsDyndepLine text false) (sym is.4.0) (refl, sound, value_of is.0.raw_value, (is.0, is.1, is.2, is.3, refl), is.4.1)
 
 -- a binding sets the flag and closes the statement
 pub binds : (stage : Stage) (before after : List StatementValue) (flag other : Bool) → stage ≡ Open → flag ≡ other → after ≡ with_last_restat other before

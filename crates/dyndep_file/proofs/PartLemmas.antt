@@ -10,7 +10,7 @@ use Rattle.ninja_text.specs.declared.token.Token.{Token}
 use Rattle.ninja_text.specs.declared.token.TokenKind.{TokenKind}
 use Rattle.ninja_text.specs.declared.token.TokenKind.TheVariants.{Word, Bar, Colon}
 use Rattle.ninja_text.specs.declared.token.Words.{Words}
-use Rattle.dyndep_file.specs.StatementValue.{StatementValue, statement_of}
+use Rattle.dyndep_file.specs.StatementValue.{StatementValue, statement_with}
 use Rattle.dyndep_file.specs.Classes.{Symbol, WordSymbol, SignSymbol, symbol}
 use Rattle.dyndep_file.specs.Faults.{output_fault, after_output_fault, implicit_outputs_fault, rule_fault, after_rule_fault, implicit_inputs_fault}
 use Rattle.dyndep_file.specs.BuildTokens.{symbol_of, symbols_left}
@@ -34,7 +34,7 @@ takes_more old values word value new t is = record {
 
 -- statements of equal parts are equal
 same_statement : {o p : List ℕ} {os ps is qs : List (List ℕ)} → o ≡ p → os ≡ ps → is ≡ qs
-    → ◌≡◌ {A = StatementValue} (statement_of o os is false) (statement_of p ps qs false)
+    → ◌≡◌ {A = StatementValue} (statement_with o os is false) (statement_with p ps qs false)
 same_statement a b c = rw (a, b, c) refl
 
 -- the tokens of a build line, and what is left after the output, the implicit outputs and the rule
@@ -54,7 +54,7 @@ module _ (all : List Symbol) (output : List ℕ) (after_output : List Symbol) (t
       fault_after_rule = sym (ap rule_fault takes_rule) ∙ fault_at_rule
 
       -- the parts are those of the statement that the tokens name
-      pub named : (inputs : List (List ℕ)) → TakesInputs after_rule inputs → IsNamed all (statement_of output outputs inputs false)
+      pub named : (inputs : List (List ℕ)) → TakesInputs after_rule inputs → IsNamed all (statement_with output outputs inputs false)
       named inputs takes_inputs = (
         takes_output.word,
         takes_outputs.words,

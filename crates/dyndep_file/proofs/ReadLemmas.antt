@@ -6,9 +6,9 @@ use Rattle.std.specs.Io.KnownBytes.{Consumes, Keeps, IsAtEnd}
 use Rattle.std.proofs.lemmas.List.{append-nil, length-take-le}
 use Rattle.ninja_text.specs.declared.failure.Failure.{Failure}
 use Rattle.ninja_text.specs.declared.failure.Failure.TheVariants.{Fault}
-use Rattle.dyndep_file.specs.Classes.{Class}
+use Rattle.dyndep_file.specs.Classes.{DyndepClass}
 use Rattle.ninja_text.specs.Lines.{line_limit}
-use Rattle.dyndep_file.specs.Reader.{LeadTo, Reader, HasRead, Ends, IsFaultIn, IsFailureIn}
+use Rattle.dyndep_file.specs.Reader.{LeadToStatements, DyndepReaderState, HasReadDyndep, EndsDyndepFile, IsReadFaultIn, IsReadFailureIn}
 use Rattle.std.specs.declared.io.Error.{Error}
 use Rattle.ninja_text.specs.Counting.{held, failures, one_more, Call, Counts}
 use Rattle.ninja_text.specs.declared.counting.Counted.{Counted}
@@ -46,12 +46,12 @@ consumes_nothing None = tt
 consumes_nothing (Some p) = refl
 
 -- what a reader took has no fault
-pub unrefused : (bytes : List ℕ) (r : Reader) → HasRead bytes r → IsUnrefused bytes
-unrefused bytes r has line fault refused = lines.none_refused dyndep_format LeadTo PassesLine RefusesLine fault_of_cutter dyndep_faults decided runs_begin bytes r has line fault (found refused) where
-  too_long : (f : LineFault) (rest : List ℕ) (classes : List Class) → f ≡ LineTooLong → IsEndFault rest classes f → line_limit ≤ length rest
+pub unrefused : (bytes : List ℕ) (r : DyndepReaderState) → HasReadDyndep bytes r → IsUnrefused bytes
+unrefused bytes r has line fault refused = lines.none_refused dyndep_format LeadToStatements PassesLine RefusesLine fault_of_cutter dyndep_faults decided runs_begin bytes r has line fault (found refused) where
+  too_long : (f : LineFault) (rest : List ℕ) (classes : List DyndepClass) → f ≡ LineTooLong → IsEndFault rest classes f → line_limit ≤ length rest
   too_long f rest classes is reason = subst (IsEndFault rest classes) is reason
 
-  found : IsFaultIn bytes (AtLine line fault) → FaultyLine dyndep_format dyndep_faults bytes line fault ⊎ ((e : FaultyEnd dyndep_format dyndep_faults bytes line fault) × (line_limit ≤ length e.rest))
+  found : IsReadFaultIn bytes (AtLine line fault) → FaultyLine dyndep_format dyndep_faults bytes line fault ⊎ ((e : FaultyEnd dyndep_format dyndep_faults bytes line fault) × (line_limit ≤ length e.rest))
   found (inl f) = inl f
   found (inr e) = inr (e.0, too_long fault e.0.rest e.0.classes e.1 e.0.reason)
 
@@ -63,15 +63,15 @@ err_is (Err e) failure h = ap Err (sym h)
 -- ---- the calls of a reader
 
 -- The calls so far each gave some bytes, and the reader of dyndep files was fed all of these.
-pub record ReadSoFar {R : Type 0} (remaining : R → Option (List ℕ)) (reads : Call R) (old now : R) (reader : Reader) (calls : ℕ) : Type 0 where
+pub record ReadSoFar {R : Type 0} (remaining : R → Option (List ℕ)) (reads : Call R) (old now : R) (reader : DyndepReaderState) (calls : ℕ) : Type 0 where
   pub turns : List (ReadTurn R)
   pub in_turn : ReadsInTurn reads old turns now
   pub consumed : Consumes (remaining old) (remaining now) (bytes_read turns)
-  pub has_read : HasRead (bytes_read turns) reader
+  pub has_read : HasReadDyndep (bytes_read turns) reader
   pub counted : calls ≤ length (bytes_read turns)
 
 -- no call so far
-pub no_call : {R : Type 0} (remaining : R → Option (List ℕ)) (reads : Call R) (old : R) (reader : Reader) → HasRead [] reader → ReadSoFar remaining reads old old reader 0
+pub no_call : {R : Type 0} (remaining : R → Option (List ℕ)) (reads : Call R) (old : R) (reader : DyndepReaderState) → HasReadDyndep [] reader → ReadSoFar remaining reads old old reader 0
 no_call remaining reads old reader h = record {
   turns = [];
   in_turn = refl;
@@ -97,16 +97,16 @@ some_bytes reads now turn bytes calls gives so_far =
     omega (arith, gives.some))
 
 -- a call that gave bytes which were not refused
-pub one_more_call : {R : Type 0} (remaining : R → Option (List ℕ)) (reads : Call R) (old now : R) (before after : Reader) (calls : ℕ) (turn : ReadTurn R)
+pub one_more_call : {R : Type 0} (remaining : R → Option (List ℕ)) (reads : Call R) (old now : R) (before after : DyndepReaderState) (calls : ℕ) (turn : ReadTurn R)
     → (s : ReadSoFar remaining reads old now before calls) → GivesSome reads now turn → Consumes (remaining now) (remaining turn.reader) (bytes_of turn)
-    → HasRead (bytes_read s.turns ++ bytes_of turn) after → ReadSoFar remaining reads old turn.reader after (calls + 1)
+    → HasReadDyndep (bytes_read s.turns ++ bytes_of turn) after → ReadSoFar remaining reads old turn.reader after (calls + 1)
 one_more_call remaining reads old now before after calls turn s gives consumed fed =
     let bytes = bytes_more s.turns turn in
     record {
       turns = s.turns ++ turn ∷ [];
       in_turn = one_more_turn reads old now s.turns turn s.in_turn gives;
       consumed = subst (Consumes (remaining old) (remaining turn.reader)) bytes (consumes_more (remaining old) (remaining now) (remaining turn.reader) (bytes_read s.turns) (bytes_of turn) s.consumed consumed);
-      has_read = subst (λ x. HasRead x after) bytes fed;
+      has_read = subst (λ x. HasReadDyndep x after) bytes fed;
       counted = subst (λ x. calls + 1 ≤ length x) bytes (some_bytes reads now turn (bytes_read s.turns) calls gives s.counted);
     }
 
@@ -117,10 +117,10 @@ kept : {R : Type 0} (old new : Counted R) → failures new ≡ failures old → 
 kept old new h = h
 
 -- at the reader's end
-pub ended : {R : Type 0} (remaining : R → Option (List ℕ)) (reads : Call R) (old new : Counted R) (now : R) (reader : Reader) (calls : ℕ) (buffer : List ℕ) (result : Result (List StatementValue) (Failure ReadFault))
+pub ended : {R : Type 0} (remaining : R → Option (List ℕ)) (reads : Call R) (old new : Counted R) (now : R) (reader : DyndepReaderState) (calls : ℕ) (buffer : List ℕ) (result : Result (List StatementValue) (Failure ReadFault))
     → (s : ReadSoFar remaining reads (held old) now reader calls) → length buffer ≡ buffer_len → reads now (held new) (Ok 0) buffer
     → Consumes (remaining now) (remaining (held new)) [] → IsAtEnd (remaining (held new)) → failures new ≡ failures old
-    → Ends (bytes_read s.turns) result → IsReadFrom remaining reads old new result
+    → EndsDyndepFile (bytes_read s.turns) result → IsReadFrom remaining reads old new result
 ended remaining reads old new now reader calls buffer result s room call consumed at_end count ends = record {
   turns = s.turns;
   before = now;
@@ -135,7 +135,7 @@ ended remaining reads old new now reader calls buffer result s room call consume
 }
 
 -- a call failed
-pub failed : {R : Type 0} (remaining : R → Option (List ℕ)) (reads : Call R) (old new : Counted R) (now : R) (reader : Reader) (calls : ℕ) (buffer : List ℕ) (error : Error)
+pub failed : {R : Type 0} (remaining : R → Option (List ℕ)) (reads : Call R) (old new : Counted R) (now : R) (reader : DyndepReaderState) (calls : ℕ) (buffer : List ℕ) (error : Error)
     → (s : ReadSoFar remaining reads (held old) now reader calls) → length buffer ≡ buffer_len → reads now (held new) (Err error) buffer
     → Keeps (remaining now) (remaining (held new)) → failures new ≡ one_more (failures old) → IsReadFrom remaining reads old new (Err (Fault Io))
 failed remaining reads old new now reader calls buffer error s room call keeps count = record {
@@ -152,11 +152,11 @@ failed remaining reads old new now reader calls buffer error s room call keeps c
 }
 
 -- a call gave bytes that were refused
-pub refused : {R : Type 0} (remaining : R → Option (List ℕ)) (reads : Call R) (old new : Counted R) (now : R) (reader : Reader) (calls : ℕ) (buffer : List ℕ) (count : ℕ) (failure : Failure ReadFault)
+pub refused : {R : Type 0} (remaining : R → Option (List ℕ)) (reads : Call R) (old new : Counted R) (now : R) (reader : DyndepReaderState) (calls : ℕ) (buffer : List ℕ) (count : ℕ) (failure : Failure ReadFault)
     (result : Result (List StatementValue) (Failure ReadFault)) → (s : ReadSoFar remaining reads (held old) now reader calls)
     → GivesSome reads now (record { reader = held new; buffer = buffer; count = count })
     → Consumes (remaining now) (remaining (held new)) (take count buffer) → failures new ≡ failures old
-    → IsFailureIn (bytes_read s.turns ++ take count buffer) failure → IsErrAnd result (λ e. e ≡ failure) → IsReadFrom remaining reads old new result
+    → IsReadFailureIn (bytes_read s.turns ++ take count buffer) failure → IsErrAnd result (λ e. e ≡ failure) → IsReadFrom remaining reads old new result
 refused remaining reads old new now reader calls buffer count failure result s gives consumed kept is_in is_err = record {
   turns = s.turns;
   before = now;
@@ -171,7 +171,7 @@ refused remaining reads old new now reader calls buffer count failure result s g
 }
 
 -- no further call is made
-pub no_more : {R : Type 0} (remaining : R → Option (List ℕ)) (reads : Call R) (old new : Counted R) (reader : Reader) (calls : ℕ)
+pub no_more : {R : Type 0} (remaining : R → Option (List ℕ)) (reads : Call R) (old new : Counted R) (reader : DyndepReaderState) (calls : ℕ)
     → ReadSoFar remaining reads (held old) (held new) reader calls → failures new ≡ failures old → 2 ^ 64 - 1 ≤ calls → IsReadFrom remaining reads old new (Err (Fault Io))
 no_more remaining reads old new reader calls s count many = record {
   turns = s.turns;

@@ -5,9 +5,9 @@ use Rattle.std.specs.List.{list_all}
 use Rattle.dyndep_file.specs.Faults.{is_open, is_comment_class, stage_after}
 use Rattle.std.proofs.lemmas.List.{append-nil}
 use Rattle.dyndep_file.specs.StatementValue.{StatementValue}
-use Rattle.dyndep_file.specs.Classes.{Class, Comment, Blank, Version, Build, Binding}
+use Rattle.dyndep_file.specs.Classes.{DyndepClass, Comment, Blank, Version, Build, Binding}
 use Rattle.dyndep_file.specs.Grammar.{HasBinding, binding_here, comment_before, IsDyndepBody, body_end, body_comment, body_blank, body_build, body_build_binding, IsDyndepFile}
-use Rattle.dyndep_file.specs.Grammar.{comment_first, blank_first, version_line, Begins}
+use Rattle.dyndep_file.specs.Grammar.{comment_first, blank_first, version_line, BeginsDyndepFile}
 use Rattle.dyndep_file.specs.Steps.{ProgressValue, with_last_restat, step, run}
 use Rattle.dyndep_file.specs.declared.progress.Stage.{Stage}
 use Rattle.dyndep_file.specs.declared.progress.Stage.TheVariants.{BeforeVersion, NoneOpen, Open}
@@ -23,7 +23,7 @@ is_past NoneOpen = true
 is_past Open = true
 
 -- the lines lead past the version, to these statements
-pub record RunsTo (stage : Stage) (start : List StatementValue) (classes : List Class) (result : List StatementValue) : Type 0 where
+pub record RunsTo (stage : Stage) (start : List StatementValue) (classes : List DyndepClass) (result : List StatementValue) : Type 0 where
   pub final : Stage
   pub is : run stage start classes ≡ Some (record { stage = final; statements = result })
   pub past : is_past final ≡ true
@@ -40,7 +40,7 @@ progress_same : {x y : ProgressValue} → ◌≡◌ {A = Option ProgressValue} (
 progress_same h = cc
 
 -- what may follow where no statement is open may follow where one is
-open_runs : (classes : List Class) (start result : List StatementValue) → RunsTo NoneOpen start classes result → RunsTo Open start classes result
+open_runs : (classes : List DyndepClass) (start result : List StatementValue) → RunsTo NoneOpen start classes result → RunsTo Open start classes result
 open_runs [] start result r =
     let same : start ≡ result = ap (λ s. s.statements) (progress_same r.is) in
     record { final = Open; is = ap (λ ss. Some (record { stage = Open; statements = ss })) same; past = refl }
@@ -52,19 +52,19 @@ open_runs (Build o outs ins ∷ classes) start result r = record { final = r.fin
 open_runs (Binding flag ∷ classes) start result r = absurd (let x : None ≡ Some (record { stage = r.final; statements = result }) = r.is in cc)
 
 -- the binding of an open statement sets its flag
-binding_runs : {classes more : List Class} {flag : Bool} (start result : List StatementValue) (o : List ℕ) (outs ins : List (List ℕ)) → HasBinding classes flag more
+binding_runs : {classes more : List DyndepClass} {flag : Bool} (start result : List StatementValue) (o : List ℕ) (outs ins : List (List ℕ)) → HasBinding classes flag more
     → RunsTo NoneOpen (start ++ statement o outs ins flag ∷ []) more result → RunsTo Open (start ++ statement o outs ins false ∷ []) classes result
 binding_runs start result o outs ins (binding_here {flag} {more}) r =
     record { final = r.final; is = ap (λ ss. run NoneOpen ss more) (with_last_restat-push start o outs ins flag) ∙ r.is; past = r.past }
 binding_runs start result o outs ins (comment_before b) r = let later = binding_runs start result o outs ins b r in record { final = later.final; is = later.is; past = later.past }
 
 -- statements added behind one that was added are added with it
-pushed_runs : (stage : Stage) (classes : List Class) (start : List StatementValue) (s : StatementValue) (ss : List StatementValue)
+pushed_runs : (stage : Stage) (classes : List DyndepClass) (start : List StatementValue) (s : StatementValue) (ss : List StatementValue)
     → RunsTo stage (start ++ s ∷ []) classes ((start ++ s ∷ []) ++ ss) → RunsTo stage (start ++ s ∷ []) classes (start ++ s ∷ ss)
 pushed_runs stage classes start s ss r = subst (RunsTo stage (start ++ s ∷ []) classes) (append_assoc start (s ∷ []) ss) r
 
 -- the lines of a body run to its statements
-body_runs : {classes : List Class} {ss : List StatementValue} (start : List StatementValue) → IsDyndepBody classes ss → RunsTo NoneOpen start classes (start ++ ss)
+body_runs : {classes : List DyndepClass} {ss : List StatementValue} (start : List StatementValue) → IsDyndepBody classes ss → RunsTo NoneOpen start classes (start ++ ss)
 body_runs start body_end = record { final = NoneOpen; is = ap (λ ss. Some (record { stage = NoneOpen; statements = ss })) (sym (append-nil start)); past = refl }
 body_runs start (body_comment b) = let r = body_runs start b in record { final = r.final; is = r.is; past = r.past }
 body_runs start (body_blank b) = let r = body_runs start b in record { final = r.final; is = r.is; past = r.past }
@@ -78,32 +78,32 @@ body_runs start (body_build_binding {output} {outputs} {inputs} {classes} {more}
     record { final = r.final; is = r.is; past = r.past }
 
 -- the lines of a dyndep file run to its statements
-pub file_runs : {classes : List Class} {ss : List StatementValue} → IsDyndepFile classes ss → RunsTo BeforeVersion [] classes ss
+pub file_runs : {classes : List DyndepClass} {ss : List StatementValue} → IsDyndepFile classes ss → RunsTo BeforeVersion [] classes ss
 file_runs (comment_first b) = let r = file_runs b in record { final = r.final; is = r.is; past = r.past }
 file_runs (blank_first b) = let r = file_runs b in record { final = r.final; is = r.is; past = r.past }
 file_runs (version_line b) = let r = body_runs [] b in record { final = r.final; is = r.is; past = r.past }
 
 -- lines of these classes are a dyndep file with one list of statements at most
-pub one_list_of_statements : {classes : List Class} {ss ts : List StatementValue} → IsDyndepFile classes ss → IsDyndepFile classes ts → ss ≡ ts
+pub one_list_of_statements : {classes : List DyndepClass} {ss ts : List StatementValue} → IsDyndepFile classes ss → IsDyndepFile classes ts → ss ≡ ts
 one_list_of_statements {classes} {ss} {ts} a b =
     let r = file_runs a in
     let q = file_runs b in
     ap (λ s. s.statements) (progress_same (sym r.is ∙ q.is))
 
 -- a comment may stand behind a build line
-insert_comment : {o : List ℕ} {outs ins : List (List ℕ)} {classes : List Class} {ss : List StatementValue} → IsDyndepBody (Build o outs ins ∷ classes) ss
+insert_comment : {o : List ℕ} {outs ins : List (List ℕ)} {classes : List DyndepClass} {ss : List StatementValue} → IsDyndepBody (Build o outs ins ∷ classes) ss
     → IsDyndepBody (Build o outs ins ∷ Comment ∷ classes) ss
 insert_comment (body_build b) = body_build (body_comment b)
 insert_comment (body_build_binding d b) = body_build_binding (comment_before d) b
 
 -- the statements that a run adds, and its lines are a body with them
-record Added (classes : List Class) (start : List StatementValue) (end : ProgressValue) : Type 0 where
+record Added (classes : List DyndepClass) (start : List StatementValue) (end : ProgressValue) : Type 0 where
   statements : List StatementValue
   are : end.statements ≡ start ++ statements
   grammar : IsDyndepBody classes statements
 
 -- the statements that any run over these lines adds, where no statement is open and where one is
-record RunAdds (classes : List Class) : Type 0 where
+record RunAdds (classes : List DyndepClass) : Type 0 where
   none : (start : List StatementValue) (end : ProgressValue) → run NoneOpen start classes ≡ Some end → Added classes start end
   one : (start : List StatementValue) (o : List ℕ) (outs ins : List (List ℕ)) (end : ProgressValue) → run Open (start ++ statement o outs ins false ∷ []) classes ≡ Some end
       → Added (Build o outs ins ∷ classes) start end
@@ -117,7 +117,7 @@ never : {end : ProgressValue} {A : Type 0} → ◌≡◌ {A = Option ProgressVal
 never h = absurd (cc)
 
 -- a run past the version adds just the statements that its lines are a body with
-run_adds : (classes : List Class) → RunAdds classes
+run_adds : (classes : List DyndepClass) → RunAdds classes
 run_adds [] = record {
   none = λ start end h. record { statements = []; are = at_end h ∙ sym (append-nil start); grammar = body_end };
   one = λ start o outs ins end h. record { statements = statement o outs ins false ∷ []; are = at_end h; grammar = body_build body_end };
@@ -149,7 +149,7 @@ run_adds (Binding flag ∷ classes) = let later = run_adds classes in record {
 }
 
 -- lines that run past the version are a dyndep file with the statements that they run to
-pub run_is_file : (classes : List Class) (end : ProgressValue) → run BeforeVersion [] classes ≡ Some end → is_past end.stage ≡ true → IsDyndepFile classes end.statements
+pub run_is_file : (classes : List DyndepClass) (end : ProgressValue) → run BeforeVersion [] classes ≡ Some end → is_past end.stage ≡ true → IsDyndepFile classes end.statements
 run_is_file [] end h past = absurd (let x : false ≡ true = ap (λ s. is_past s.stage) (progress_same h) ∙ past in cc)
 run_is_file (Comment ∷ classes) end h past = comment_first (run_is_file classes end h past)
 run_is_file (Blank ∷ classes) end h past = blank_first (run_is_file classes end h past)
@@ -158,7 +158,7 @@ run_is_file (Build o outs ins ∷ classes) end h past = never h
 run_is_file (Binding flag ∷ classes) end h past = never h
 
 -- a run over more lines passes through the fewer
-run_front : (classes more : List Class) (stage : Stage) (start : List StatementValue) (end : ProgressValue) → run stage start (classes ++ more) ≡ Some end
+run_front : (classes more : List DyndepClass) (stage : Stage) (start : List StatementValue) (end : ProgressValue) → run stage start (classes ++ more) ≡ Some end
     → (mid : ProgressValue) × (run stage start classes ≡ Some mid) × (run mid.stage mid.statements more ≡ Some end)
 run_front [] more stage start end h = (record { stage = stage; statements = start }, refl, h)
 run_front (c ∷ classes) more stage start end h = elim (cases_step (step stage start c)) [
@@ -170,7 +170,7 @@ run_front (c ∷ classes) more stage start end h = elim (cases_step (step stage 
   cases_step (Some next) = inr (next, refl)
 
 -- and goes on from there
-pub run_more : (classes more : List Class) (stage : Stage) (start : List StatementValue) (mid : ProgressValue) → run stage start classes ≡ Some mid
+pub run_more : (classes more : List DyndepClass) (stage : Stage) (start : List StatementValue) (mid : ProgressValue) → run stage start classes ≡ Some mid
     → run stage start (classes ++ more) ≡ run mid.stage mid.statements more
 run_more [] more stage start mid h = ap (λ s. run s.stage s.statements more) (progress_same h)
 run_more (c ∷ classes) more stage start mid h = elim (cases_step (step stage start c)) [
@@ -182,14 +182,14 @@ run_more (c ∷ classes) more stage start mid h = elim (cases_step (step stage s
   cases_step (Some next) = inr (next, refl)
 
 -- lines that some dyndep file begins with can be run over
-pub begins_runs : (classes : List Class) → Begins classes → (end : ProgressValue) × (run BeforeVersion [] classes ≡ Some end)
+pub begins_runs : (classes : List DyndepClass) → BeginsDyndepFile classes → (end : ProgressValue) × (run BeforeVersion [] classes ≡ Some end)
 begins_runs classes b =
     let r = file_runs b.2 in
     let front = run_front classes b.0 BeforeVersion [] (record { stage = r.final; statements = b.1 }) r.is in
     (front.0, front.1)
 
 -- and some dyndep file begins with lines that can be run over
-pub runs_begin : (classes : List Class) (end : ProgressValue) → run BeforeVersion [] classes ≡ Some end → Begins classes
+pub runs_begin : (classes : List DyndepClass) (end : ProgressValue) → run BeforeVersion [] classes ≡ Some end → BeginsDyndepFile classes
 runs_begin [] end h = (Version ∷ [], [], version_line body_end)
 runs_begin (Comment ∷ classes) end h = let b = runs_begin classes end h in (b.0, b.1, comment_first b.2)
 runs_begin (Blank ∷ classes) end h = let b = runs_begin classes end h in (b.0, b.1, blank_first b.2)
@@ -200,7 +200,7 @@ runs_begin (Build o outs ins ∷ classes) end h = never h
 runs_begin (Binding flag ∷ classes) end h = never h
 
 -- the stage after these lines, where no statement was open before them and where one was
-record Stages (classes : List Class) : Type 0 where
+record Stages (classes : List DyndepClass) : Type 0 where
   none : (start : List StatementValue) (end : ProgressValue) → run NoneOpen start classes ≡ Some end → end.stage ≡ (if is_open classes then Open else NoneOpen)
   one : (start : List StatementValue) (end : ProgressValue) → run Open start classes ≡ Some end → end.stage ≡ (if list_all is_comment_class classes || is_open classes then Open else NoneOpen)
 
@@ -209,7 +209,7 @@ stage_same : {stage : Stage} {start : List StatementValue} {end : ProgressValue}
 stage_same h = sym (ap (λ s. s.stage) (progress_same h))
 
 -- the stage depends on the classes alone
-stages : (classes : List Class) → Stages classes
+stages : (classes : List DyndepClass) → Stages classes
 stages [] = record { none = λ start end h. stage_same h; one = λ start end h. stage_same h }
 stages (Comment ∷ classes) = let later = stages classes in record { none = λ start end h. later.none start end h; one = λ start end h. later.one start end h }
 stages (Blank ∷ classes) = let later = stages classes in record { none = λ start end h. later.none start end h; one = λ start end h. later.none start end h }
@@ -222,7 +222,7 @@ stages (Build o outs ins ∷ classes) =
 stages (Binding flag ∷ classes) = let later = stages classes in record { none = λ start end h. never h; one = λ start end h. later.none (with_last_restat flag start) end h }
 
 -- a run from the beginning of a file ends at the stage after its lines
-pub stage_runs : (classes : List Class) (end : ProgressValue) → run BeforeVersion [] classes ≡ Some end → end.stage ≡ stage_after classes
+pub stage_runs : (classes : List DyndepClass) (end : ProgressValue) → run BeforeVersion [] classes ≡ Some end → end.stage ≡ stage_after classes
 stage_runs [] end h = stage_same h
 stage_runs (Comment ∷ classes) end h = stage_runs classes end h
 stage_runs (Blank ∷ classes) end h = stage_runs classes end h

@@ -5,12 +5,12 @@ use Rattle.std.specs.List.{flat_map}
 use Rattle.std.proofs.Math.Seq.{take-append_seam}
 use Rattle.std.proofs.lemmas.List.{take-append-drop, take-append-le}
 use Rattle.std.proofs.lemmas.Bool.{cases_lt}
-use Rattle.ninja_text.specs.Lines.{line_limit, LineEnd, line_end, IsLine, Divides, text_of, is_comment}
+use Rattle.ninja_text.specs.Lines.{line_limit, LineEnd, line_end, IsLine, Divides, text_of_line, is_comment}
 use Rattle.ninja_text.proofs.ForCallers.{line_end-append, divides_some, AllByRecursion-append, one_more_line}
 use Rattle.dyndep_file.specs.Faults.{text_line_fault, stage_after}
 use Rattle.ninja_text.specs.LineFormats.{FaultyLine, FaultyEnd}
-use Rattle.dyndep_file.specs.Reading.{dyndep_format, dyndep_faults, IsRefused}
-use Rattle.dyndep_file.specs.Reader.{IsFaultIn}
+use Rattle.dyndep_file.specs.Reading.{dyndep_format, dyndep_faults, HasReadFault}
+use Rattle.dyndep_file.specs.Reader.{IsReadFaultIn}
 use Rattle.dyndep_file.specs.declared.fault.LineFault.{LineFault}
 use Rattle.dyndep_file.specs.declared.fault.LineFault.TheVariants.{LineTooLong}
 use Rattle.dyndep_file.specs.declared.fault.ReadFault.TheVariants.{AtLine}
@@ -57,7 +57,7 @@ too_long other false e = absurd (cc)
 
 -- bytes at the end that reach the limit of a line stay so, or become a line that is too long
 end_stays : (bytes more : List ℕ) (line : ℕ) (e : FaultyEnd dyndep_format dyndep_faults bytes line LineTooLong) (lines : List (List ℕ)) (rest : List ℕ)
-    → Divides (e.rest ++ more) lines rest → IsRefused (bytes ++ more) (record { line = line; fault = LineTooLong })
+    → Divides (e.rest ++ more) lines rest → HasReadFault (bytes ++ more) (record { line = line; fault = LineTooLong })
 end_stays bytes more line e [] rest d =
     inr (record {
       lines = e.lines;
@@ -88,13 +88,13 @@ end_stays bytes more line e (l ∷ ls) rest d =
       begun = e.begun;
       faulty = λ c of_class begins. absurd (omega (arith, past, of_class.0));
       number = e.number;
-      reason = too_long (text_line_fault (stage_after e.classes) (text_of l) (is_comment l)) (nat_lt line_limit (length l)) (is_longer (length l) past);
+      reason = too_long (text_line_fault (stage_after e.classes) (text_of_line l) (is_comment l)) (nat_lt line_limit (length l)) (is_longer (length l) past);
     })
 
 -- the fault is that of every text that begins with the bytes
-pub fault_stays : (bytes more : List ℕ) (line : ℕ) (fault : LineFault) → IsFaultIn bytes (AtLine line fault) → IsRefused (bytes ++ more) (record { line = line; fault = fault })
+pub fault_stays : (bytes more : List ℕ) (line : ℕ) (fault : LineFault) → IsReadFaultIn bytes (AtLine line fault) → HasReadFault (bytes ++ more) (record { line = line; fault = fault })
 fault_stays bytes more line fault (inl f) = inl (line_stays bytes more line fault f)
 fault_stays bytes more line fault (inr h) =
     let e : FaultyEnd dyndep_format dyndep_faults bytes line LineTooLong = subst (FaultyEnd dyndep_format dyndep_faults bytes line) h.1 h.0 in
     let d = divides_some (e.rest ++ more) in
-    subst (λ f. IsRefused (bytes ++ more) (record { line = line; fault = f })) (sym h.1) (end_stays bytes more line e d.0 d.1 d.2)
+    subst (λ f. HasReadFault (bytes ++ more) (record { line = line; fault = f })) (sym h.1) (end_stays bytes more line e d.0 d.1 d.2)

@@ -10,11 +10,12 @@ use Rattle.ninja_text.specs.declared.token.TokenKind.TheVariants.{Word, Bar, Dou
 use Rattle.ninja_text.specs.Assignments.{SeenAssignment, assignment_of}
 use Rattle.ninja_text.proofs.ForCallers.{token_indented, name_indented, assignment_parts, slice_first}
 use Rattle.dyndep_file.specs.StatementValue.{StatementValue}
-use Rattle.dyndep_file.specs.Classes.{Class, Comment, Blank, Version, Build, Binding, Symbol, WordSymbol, SignSymbol, symbol, symbols, begins_at_start, IsPart, IsBuild, Assigns}
-use Rattle.dyndep_file.specs.Classes.{begins_with_space, is_version_one, TextIsOfClass}
-use Rattle.dyndep_file.specs.Faults.{same_bytes, is_empty, implicit_inputs_fault, after_rule_fault, rule_fault, implicit_outputs_fault, after_output_fault, output_fault}
+use Rattle.dyndep_file.specs.Classes.{DyndepClass, Comment, Blank, Version, Build, Binding, Symbol, WordSymbol, SignSymbol, symbol, symbols, begins_at_start, IsPart, IsBuild, Assigns}
+use Rattle.dyndep_file.specs.Classes.{begins_with_space, is_version_one, IsDyndepLine}
+use Rattle.dyndep_file.specs.Faults.{same_bytes, implicit_inputs_fault, after_rule_fault, rule_fault, implicit_outputs_fault, after_output_fault, output_fault}
+use Rattle.ninja_text.specs.Paths.{is_empty}
 use Rattle.dyndep_file.specs.Faults.{after_build, value_assigned, indented_fault, build_fault, build_or_other_fault, unindented_fault, text_fault, text_line_fault}
-use Rattle.dyndep_file.specs.BuildTokens.{is_word}
+use Rattle.dyndep_file.specs.BuildTokens.{is_this_word}
 use Rattle.dyndep_file.specs.Steps.{ProgressValue, step}
 use Rattle.dyndep_file.specs.declared.progress.Stage.{Stage}
 use Rattle.dyndep_file.specs.declared.progress.Stage.TheVariants.{BeforeVersion, NoneOpen, Open}
@@ -32,7 +33,7 @@ same_bytes-true [] (y ∷ ys) h = absurd (let x : false ≡ true = h in cc)
 same_bytes-true (x ∷ xs) [] h = absurd (let x : false ≡ true = h in cc)
 
 -- only the word of these bytes passes the test for it
-pub is_word-true : (bytes : List ℕ) (s : Symbol) → is_word bytes s ≡ true → s ≡ WordSymbol bytes
+pub is_word-true : (bytes : List ℕ) (s : Symbol) → is_this_word bytes s ≡ true → s ≡ WordSymbol bytes
 is_word-true bytes (WordSymbol word) h = ap WordSymbol (same_bytes-true word bytes h)
 is_word-true bytes (SignSymbol kind) h = absurd (let x : false ≡ true = h in cc)
 
@@ -187,7 +188,7 @@ never : {end : ProgressValue} {A : Type 0} → ◌≡◌ {A = Option ProgressVal
 never h = absurd (cc)
 
 -- a line of a class that may stand at a stage has no fault there
-pub no_fault : (stage : Stage) (ss : List StatementValue) (text : List ℕ) (comment : Bool) (c : Class) (next : ProgressValue) → TextIsOfClass text comment c
+pub no_fault : (stage : Stage) (ss : List StatementValue) (text : List ℕ) (comment : Bool) (c : DyndepClass) (next : ProgressValue) → IsDyndepLine text comment c
     → step stage ss c ≡ Some next → text_line_fault stage text comment ≡ None
 no_fault stage ss text comment Comment next is steps = rw is refl
 no_fault stage ss text comment Blank next is steps = without_lexical_fault text stage comment is.0 is.1 (rw (ap is_empty is.2) refl)

@@ -15,7 +15,7 @@ use Rattle.ninja_text.specs.Escapes.{is_writable, IsWritable}
 use Rattle.ninja_text.proofs.ForCallers.{is_writable-meaning}
 use Rattle.dyndep_file.specs.StatementValue.{StatementValue}
 use Rattle.dyndep_file.specs.Writing.{build_line, dyndep_text}
-use Rattle.dyndep_file.specs.WriteFaults.{text_unless, text_or_fault, LeavesWriter, StopsInTurn, AnswersFault, write_fault, paths_of, statement_fault, fault_from, CanBeWritten}
+use Rattle.dyndep_file.specs.WriteFaults.{text_unless, text_or_fault, LeavesWriter, StopsInTurn, AnswersWriteFault, write_fault, paths_of, statement_fault, fault_from, CanBeWritten}
 use Rattle.dyndep_file.specs.declared.fault.WriteFault.{WriteFault}
 use Rattle.dyndep_file.specs.declared.fault.WriteFault.TheVariants.{Unwritable, StatementTooLong, Io}
 use Rattle.dyndep_file.proofs.Positions.{position_none}
@@ -169,7 +169,7 @@ given (Some fault) statements text h = cc
 -- A failure to make the text is what a call may answer before the first byte.
 pub failed : {W : Type 0} (contents : W → Option (List ℕ)) (out : Counted W) (text : List ℕ) (statements : List StatementValue) (failure : Failure WriteFault)
     → Gives {T = Vec ℕ Global} (λ made. made.items) (Err failure) (text_or_fault statements)
-    → LeavesWriter contents out out text failure × AnswersFault {T = Unit {0}} (write_fault statements) (Err failure)
+    → LeavesWriter contents out out text failure × AnswersWriteFault {T = Unit {0}} (write_fault statements) (Err failure)
 failed contents out text statements Memory h = (refl, tt)
 failed contents out text statements (Fault (Unwritable statement path)) h = (refl, reported (write_fault statements) statements (Unwritable statement path) h)
 failed contents out text statements (Fault (StatementTooLong statement)) h = (refl, reported (write_fault statements) statements (StatementTooLong statement) h)

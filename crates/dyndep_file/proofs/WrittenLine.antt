@@ -4,7 +4,7 @@ use Rattle.std.specs.Prelude.{codes}
 use Rattle.std.specs.List.{flat_map, AllByRecursion}
 use Rattle.std.proofs.lemmas.List.{append-nil, append_assoc}
 use Rattle.std.proofs.lemmas.List.Elements.{recursion_from_All}
-use Rattle.ninja_text.specs.Lines.{IsLine, is_comment, text_of}
+use Rattle.ninja_text.specs.Lines.{IsLine, is_comment, text_of_line}
 use Rattle.ninja_text.specs.Tokens.{value_of}
 use Rattle.ninja_text.specs.Escapes.{IsWritable, escaped}
 use Rattle.ninja_text.specs.declared.token.TokenKind.TheVariants.{Bar, Colon}
@@ -12,7 +12,7 @@ use Rattle.ninja_text.proofs.ForCallers.{value_of_escaped, Written, written_none
 use Rattle.dyndep_file.specs.StatementValue.{StatementValue}
 use Rattle.ninja_text.specs.LineFormats.{IsOfClass}
 use Rattle.dyndep_file.specs.Reading.{dyndep_format}
-use Rattle.dyndep_file.specs.Classes.{Class, Build, Symbol, WordSymbol, SignSymbol, symbol, IsPart, IsBuild, TextIsOfClass}
+use Rattle.dyndep_file.specs.Classes.{DyndepClass, Build, Symbol, WordSymbol, SignSymbol, symbol, IsPart, IsBuild, IsDyndepLine}
 use Rattle.dyndep_file.specs.Writing.{part_text, build_line}
 use Rattle.dyndep_file.specs.WriteFaults.{paths_of, CanBeWritten}
 
@@ -69,7 +69,7 @@ line_text s = codes "build" ++ (32 ∷ (escaped s.output ++ after_output_text s)
 abbrev line_symbols : StatementValue → List Symbol
 line_symbols s = WordSymbol (codes "build") ∷ WordSymbol (escaped s.output) ∷ after_output_symbols s
 
-abbrev pub build_class : StatementValue → Class
+abbrev pub build_class : StatementValue → DyndepClass
 build_class s = Build s.output s.implicit_outputs s.implicit_inputs
 
 values_of : (paths : List (List ℕ)) → AllByRecursion IsWritable paths → paths ≡ map value_of (map escaped paths)
@@ -117,7 +117,7 @@ module _ (s : StatementValue) (can : CanBeWritten s) where
         written_tokens symbol (line_text s) (line_symbols s) line_written,
       )
 
-  pub text_classed : TextIsOfClass (line_text s) false (build_class s)
+  pub text_classed : IsDyndepLine (line_text s) false (build_class s)
   text_classed = (
     refl,
     written_sound symbol (line_text s) (line_symbols s) line_written,
@@ -134,7 +134,7 @@ module _ (s : StatementValue) (can : CanBeWritten s) where
   pub line_is : line_text s ++ 10 ∷ [] ≡ build_line s
   line_is = simp append_assoc
 
-  pub text_is : text_of (line_text s ++ 10 ∷ []) ≡ line_text s
+  pub text_is : text_of_line (line_text s ++ 10 ∷ []) ≡ line_text s
   text_is = written_text symbol (line_text s) (line_symbols s) line_written refl
 
   pub build_is_line : IsLine (build_line s)
@@ -143,6 +143,6 @@ module _ (s : StatementValue) (can : CanBeWritten s) where
   pub build_classed : IsOfClass dyndep_format (build_line s) (build_class s)
   build_classed = (
     can.line,
-    subst (λ line. TextIsOfClass (text_of line) (is_comment line) (build_class s)) line_is
-        (subst (λ text. TextIsOfClass text false (build_class s)) (sym text_is) text_classed),
+    subst (λ line. IsDyndepLine (text_of_line line) (is_comment line) (build_class s)) line_is
+        (subst (λ text. IsDyndepLine text false (build_class s)) (sym text_is) text_classed),
   )

@@ -9,7 +9,7 @@ use Rattle.ninja_text.specs.Lines.{IsLine, Divides}
 use Rattle.ninja_text.specs.Assignments.{SeenAssignment}
 use Rattle.ninja_text.proofs.ForCallers.{AllByRecursion-append, joined}
 use Rattle.dyndep_file.specs.StatementValue.{StatementValue}
-use Rattle.dyndep_file.specs.Classes.{Class, Version, Build, Binding, Assigns}
+use Rattle.dyndep_file.specs.Classes.{DyndepClass, Version, Build, Binding, Assigns}
 use Rattle.dyndep_file.specs.Grammar.{IsDyndepBody, IsDyndepFile, binding_here, body_end, body_build, body_build_binding, version_line}
 use Rattle.ninja_text.proofs.ForCallers.{AreOfClasses-append}
 use Rattle.ninja_text.specs.LineFormats.{IsOfClass, AreOfClasses}
@@ -46,13 +46,13 @@ restat_classed = (omega arith, (refl, refl, refl, 2, codes "1", restat_assigns, 
 abbrev pub flag_lines : Bool → List (List ℕ)
 flag_lines flag = if flag then restat_line ∷ [] else []
 
-abbrev pub flag_classes : Bool → List Class
+abbrev pub flag_classes : Bool → List DyndepClass
 flag_classes flag = if flag then Binding true ∷ [] else []
 
 abbrev pub lines_of : StatementValue → List (List ℕ)
 lines_of s = build_line s ∷ flag_lines s.restat
 
-abbrev pub classes_of : StatementValue → List Class
+abbrev pub classes_of : StatementValue → List DyndepClass
 classes_of s = Build s.output s.implicit_outputs s.implicit_inputs ∷ flag_classes s.restat
 
 flag_are_lines : (flag : Bool) → AllByRecursion IsLine (flag_lines flag)
@@ -72,7 +72,7 @@ are_classed [] can = tt
 are_classed (s ∷ ss) can = AreOfClasses-append dyndep_format (lines_of s) (flat_map lines_of ss) (classes_of s) (flat_map classes_of ss) (build_classed s can.0, flag_classed s.restat) (are_classed ss can.1)
 
 -- the lines of one statement and its flag, in front of a body
-build_with_flag : (output : List ℕ) (outputs inputs : List (List ℕ)) (flag : Bool) (classes : List Class) (ss : List StatementValue) → IsDyndepBody classes ss
+build_with_flag : (output : List ℕ) (outputs inputs : List (List ℕ)) (flag : Bool) (classes : List DyndepClass) (ss : List StatementValue) → IsDyndepBody classes ss
     → IsDyndepBody (Build output outputs inputs ∷ (flag_classes flag ++ classes)) (record { output = output; implicit_outputs = outputs; implicit_inputs = inputs; restat = flag } ∷ ss)
 build_with_flag output outputs inputs true classes ss body = body_build_binding binding_here body
 build_with_flag output outputs inputs false classes ss body = body_build body
@@ -96,7 +96,7 @@ lines_text (s ∷ ss) =
 abbrev pub lines_for : List StatementValue → List (List ℕ)
 lines_for ss = first_line ∷ flat_map lines_of ss
 
-abbrev pub classes_for : List StatementValue → List Class
+abbrev pub classes_for : List StatementValue → List DyndepClass
 classes_for ss = Version ∷ flat_map classes_of ss
 
 pub divided_for : (ss : List StatementValue) → AllByRecursion CanBeWritten ss → Divides (dyndep_text ss) (lines_for ss) []

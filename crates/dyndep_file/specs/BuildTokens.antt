@@ -1,5 +1,6 @@
 -- A line's tokens as the grammar of dyndep files sees them.
-use Rattle.std.specs.Prelude.{ℕ, Bool, false, List, map}
+use Rattle.std.specs.Prelude.{Bool, false, List, map}
+use Rattle.ninja_text.specs.Bytes.{Text}
 use Rattle.ninja_text.specs.Tokens.{SeenToken}
 use Rattle.ninja_text.specs.TokenViews.{tokens_left}
 use Rattle.ninja_text.specs.declared.token.Words.{Words}
@@ -15,6 +16,6 @@ abbrev pub symbols_left : Words → List Symbol
 symbols_left words = map symbol_of (tokens_left words)
 
 -- whether it is the word of just these bytes
-abbrev pub is_word : List ℕ → Symbol → Bool
-is_word bytes (WordSymbol word) = same_bytes word bytes
-is_word bytes (SignSymbol kind) = false
+abbrev pub is_this_word : Text → Symbol → Bool
+is_this_word bytes (WordSymbol word) = same_bytes word bytes
+is_this_word bytes (SignSymbol kind) = false

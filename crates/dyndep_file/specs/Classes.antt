@@ -2,7 +2,7 @@
 -- "Lexical syntax").
 use Rattle.std.specs.Prelude.{◌≡◌, ℕ, Bool, true, false, ◌==◌, ◌&&◌, ◌||◌, not, nat_lt, IsTrue, List, [], ◌∷◌, ◌++◌, length, map, codes, ◌⊎◌, Some, None}
 use Rattle.ninja_text.specs.Units.{is_digit}
-use Rattle.ninja_text.specs.Bytes.{space}
+use Rattle.ninja_text.specs.Bytes.{Text, PathText, Name, space, dot, digit_zero, digit_one}
 use Rattle.ninja_text.specs.Lexical.{lexical_fault}
 use Rattle.ninja_text.specs.Tokens.{TokenAt, tokens, raw, value_of}
 use Rattle.ninja_text.specs.declared.token.TokenKind.{TokenKind}
@@ -12,21 +12,21 @@ use Rattle.ninja_text.specs.Assignments.{SeenAssignment, assignment_of}
 -- What a line is: a comment, a blank line, the version line, a build line with its explicit output,
 -- its implicit outputs and its implicit inputs, or a binding of `restat`, which sets the flag or
 -- does not.
-pub data Class : Type 0 where
-  Comment : Class
-  Blank : Class
-  Version : Class
-  Build : List ℕ → List (List ℕ) → List (List ℕ) → Class
-  Binding : Bool → Class
+pub data DyndepClass : Type 0 where
+  Comment : DyndepClass
+  Blank : DyndepClass
+  Version : DyndepClass
+  Build : PathText → List PathText → List PathText → DyndepClass
+  Binding : Bool → DyndepClass
 
 -- a token of a build line: a word with its bytes as they are spelled, or one of the signs `|`,
 -- `||`, `|@` and `:`
 pub data Symbol : Type 0 where
-  WordSymbol : List ℕ → Symbol
+  WordSymbol : Text → Symbol
   SignSymbol : TokenKind → Symbol
 
 -- the symbol of a token of this kind and with these bytes
-abbrev pub symbol : TokenKind → List ℕ → Symbol
+abbrev pub symbol : TokenKind → Text → Symbol
 symbol Word bytes = WordSymbol bytes
 symbol Bar bytes = SignSymbol Bar
 symbol DoubleBar bytes = SignSymbol DoubleBar
@@ -34,7 +34,7 @@ symbol BarAt bytes = SignSymbol BarAt
 symbol Colon bytes = SignSymbol Colon
 
 -- the symbols of a line's tokens
-abbrev pub symbols : List ℕ → List Symbol
+abbrev pub symbols : Text → List Symbol
 symbols text = map (λ t. symbol t.kind (raw text t)) (tokens text)
 
 -- whether there is a token, and the first one begins at the line's first byte
@@ -44,13 +44,13 @@ begins_at_start (t ∷ ts) = t.start == 0
 
 -- Implicit outputs or implicit inputs: nothing at all, or `|` and these words, of which there may
 -- be none.
-abbrev pub IsPart : List Symbol → List (List ℕ) → Type 0
+abbrev pub IsPart : List Symbol → List Text → Type 0
 IsPart part words =
     ((part ≡ []) × (words ≡ [])) ⊎ (part ≡ SignSymbol Bar ∷ map WordSymbol words)
 
 -- The line is `build output | outputs : dyndep | inputs`, and begins at its first byte; the words
 -- are given as they are spelled.
-abbrev pub IsBuild : List ℕ → List ℕ → List (List ℕ) → List (List ℕ) → Type 0
+abbrev pub IsBuild : Text → PathText → List PathText → List PathText → Type 0
 IsBuild text output outputs inputs =
     (before after : List Symbol) × IsPart before outputs × IsPart after inputs
     × IsTrue (begins_at_start (tokens text))
@@ -59,51 +59,51 @@ IsBuild text output outputs inputs =
 
 -- The line is an assignment to this name, which begins at this byte, of this value, without
 -- escapes.
-abbrev pub Assigns : List ℕ → List ℕ → ℕ → List ℕ → Type 0
+abbrev pub Assigns : Text → Name → ℕ → Text → Type 0
 Assigns text name start value =
     (a : SeenAssignment) × (assignment_of text ≡ Some a) × (a.name_start ≡ start) × (a.name ≡ name)
     × (value_of a.raw_value ≡ value)
 
 -- whether the line is indented: its first byte is a space
-abbrev pub begins_with_space : List ℕ → Bool
+abbrev pub begins_with_space : Text → Bool
 begins_with_space [] = false
 begins_with_space (b ∷ bytes) = b == space
 
 -- whether a number ends before these bytes: no digit comes next and, where dots are refused, no `.`
-abbrev pub ends_number : Bool → List ℕ → Bool
+abbrev pub ends_number : Bool → Text → Bool
 ends_number dots [] = true
-ends_number dots (b ∷ bytes) = not (is_digit b) && (dots || not (b == 46))
+ends_number dots (b ∷ bytes) = not (is_digit b) && (dots || not (b == dot))
 
 -- whether a version is one that Ninja 1.11 reads: `1` and then neither a digit nor `.`, or `1.0`
 -- and then no digit
-abbrev pub is_version_one : List ℕ → Bool
+abbrev pub is_version_one : Text → Bool
 is_version_one [] = false
-is_version_one (a ∷ rest) = (a == 49) && (ends_number false rest || dot_zero rest) where
-  dot_zero : List ℕ → Bool
+is_version_one (a ∷ rest) = (a == digit_one) && (ends_number false rest || dot_zero rest) where
+  dot_zero : Text → Bool
   dot_zero [] = false
   dot_zero (a ∷ []) = false
-  dot_zero (a ∷ b ∷ rest) = (a == 46) && (b == 48) && ends_number true rest
+  dot_zero (a ∷ b ∷ rest) = (a == dot) && (b == digit_zero) && ends_number true rest
 
 -- A line is of this class, by its text without the end, and by whether it is a comment: one holds
 -- any bytes, every other line has no lexical fault. A blank line has no token. A version line
 -- assigns a version that is read, and its name is at the first byte. The paths of a build line
 -- are the values of its words, without escapes. A binding is an indented assignment to `restat`,
 -- and sets the flag where the value is not empty.
-abbrev pub TextIsOfClass : List ℕ → Bool → Class → Type 0
-TextIsOfClass text comment Comment = comment ≡ true
-TextIsOfClass text comment Blank =
+abbrev pub IsDyndepLine : Text → Bool → DyndepClass → Type 0
+IsDyndepLine text comment Comment = comment ≡ true
+IsDyndepLine text comment Blank =
     (comment ≡ false) × (lexical_fault text ≡ None) × (tokens text ≡ [])
-TextIsOfClass text comment Version =
+IsDyndepLine text comment Version =
     (comment ≡ false) × (lexical_fault text ≡ None)
-    × (value : List ℕ) × Assigns text (codes "ninja_dyndep_version") 0 value
+    × (value : Text) × Assigns text (codes "ninja_dyndep_version") 0 value
     × IsTrue (is_version_one value)
-TextIsOfClass text comment (Build output outputs inputs) =
+IsDyndepLine text comment (Build output outputs inputs) =
     (comment ≡ false) × (lexical_fault text ≡ None)
-    × (raw_output : List ℕ) × (raw_outputs raw_inputs : List (List ℕ))
+    × (raw_output : Text) × (raw_outputs raw_inputs : List Text)
     × IsBuild text raw_output raw_outputs raw_inputs
     × (output ≡ value_of raw_output) × (outputs ≡ map value_of raw_outputs)
     × (inputs ≡ map value_of raw_inputs)
-TextIsOfClass text comment (Binding flag) =
+IsDyndepLine text comment (Binding flag) =
     (comment ≡ false) × (lexical_fault text ≡ None) × IsTrue (begins_with_space text)
-    × (start : ℕ) × (value : List ℕ) × Assigns text (codes "restat") start value
+    × (start : ℕ) × (value : Text) × Assigns text (codes "restat") start value
     × (flag ≡ nat_lt 0 (length value))

@@ -1,6 +1,7 @@
 -- How the faults of a dyndep file are printed: the code, the name, and where the fault is.
-use Rattle.std.specs.Prelude.{ℕ, List, ◌++◌, codes}
+use Rattle.std.specs.Prelude.{◌++◌, codes}
 use Rattle.std.specs.Fmt.{decimal}
+use Rattle.ninja_text.specs.Bytes.{Text}
 use Rattle.ninja_text.specs.FaultTexts.{lex_fault_text}
 use Rattle.dyndep_file.specs.declared.fault.LineFault.{LineFault}
 use Rattle.dyndep_file.specs.declared.fault.LineFault.TheVariants.{LineTooLong, Truncated, Lexical, NoVersion, BadVersion, SecondVersion, Indent, BadLine}
@@ -11,7 +12,7 @@ use Rattle.dyndep_file.specs.declared.fault.WriteFault.{WriteFault}
 use Rattle.dyndep_file.specs.declared.fault.WriteFault.TheVariants as write
 
 -- what is wrong with a line
-abbrev pub line_fault_text : LineFault → List ℕ
+abbrev pub line_fault_text : LineFault → Text
 line_fault_text LineTooLong = codes "N5 LineTooLong"
 line_fault_text Truncated = codes "N6 Truncated"
 line_fault_text (Lexical fault) = lex_fault_text fault
@@ -29,13 +30,13 @@ line_fault_text Validation = codes "Y14 Validation"
 line_fault_text BadBinding = codes "Y15 BadBinding"
 
 -- why a dyndep file was not read
-abbrev pub read_fault_text : ReadFault → List ℕ
+abbrev pub read_fault_text : ReadFault → Text
 read_fault_text (AtLine line fault) =
     codes "line " ++ decimal line ++ codes ": " ++ line_fault_text fault
 read_fault_text Io = codes "Y16 Io"
 
 -- why a list of statements was not written
-abbrev pub write_fault_text : WriteFault → List ℕ
+abbrev pub write_fault_text : WriteFault → Text
 write_fault_text (write.Unwritable statement path) =
     codes "Y1 Unwritable statement " ++ decimal statement ++ codes " path " ++ decimal path
 write_fault_text (write.StatementTooLong statement) =

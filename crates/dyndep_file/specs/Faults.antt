@@ -2,13 +2,15 @@
 -- tokens of a build line. Both follow the Ninja 1.11 manual, "Dyndep file reference".
 use Rattle.std.specs.Prelude.{ℕ, Bool, true, false, ◌==◌, ◌&&◌, ◌||◌, not, nat_lt, if◌then◌else◌, is_some, List, [], ◌∷◌, length, codes, Option, Some, None}
 use Rattle.std.specs.List.{list_any, list_all}
-use Rattle.ninja_text.specs.Lines.{line_limit, is_comment, text_of}
+use Rattle.ninja_text.specs.Bytes.{Bytes, Text, Name}
+use Rattle.ninja_text.specs.Paths.{is_empty}
+use Rattle.ninja_text.specs.Lines.{line_limit, is_comment, text_of_line}
 use Rattle.ninja_text.specs.Lexical.{lexical_fault}
 use Rattle.ninja_text.specs.Tokens.{tokens, value_of}
 use Rattle.ninja_text.specs.declared.token.TokenKind.TheVariants.{Word, Bar, DoubleBar, BarAt, Colon}
 use Rattle.ninja_text.specs.Assignments.{SeenAssignment, assignment_of}
 use Rattle.ninja_text.specs.declared.fault.LexFault.{LexFault}
-use Rattle.dyndep_file.specs.Classes.{Class, Comment, Version, Build, Symbol, WordSymbol, SignSymbol, symbols, begins_at_start, begins_with_space, is_version_one}
+use Rattle.dyndep_file.specs.Classes.{DyndepClass, Comment, Version, Build, Symbol, WordSymbol, SignSymbol, symbols, begins_at_start, begins_with_space, is_version_one}
 use Rattle.dyndep_file.specs.declared.fault.LineFault.{LineFault}
 use Rattle.dyndep_file.specs.declared.fault.LineFault.TheVariants.{LineTooLong, Lexical, NoVersion, BadVersion, SecondVersion, Indent, BadLine}
 use Rattle.dyndep_file.specs.declared.fault.LineFault.TheVariants.{NoOutput, SecondOutput, BadRule, ExplicitInput, OrderOnly, Validation, BadBinding}
@@ -16,42 +18,37 @@ use Rattle.dyndep_file.specs.declared.progress.Stage.{Stage}
 use Rattle.dyndep_file.specs.declared.progress.Stage.TheVariants.{BeforeVersion, NoneOpen, Open}
 
 -- whether two lists of bytes are equal
-abbrev pub same_bytes : List ℕ → List ℕ → Bool
+abbrev pub same_bytes : Bytes → Bytes → Bool
 same_bytes [] [] = true
 same_bytes (x ∷ xs) (y ∷ ys) = (x == y) && same_bytes xs ys
 same_bytes [] (y ∷ ys) = false
 same_bytes (x ∷ xs) [] = false
 
--- whether a list has no element
-abbrev pub is_empty : {A : Type 0} → List A → Bool
-is_empty [] = true
-is_empty (x ∷ xs) = false
-
 -- ---- the columns of the table of lines: what comes before a line
 
 -- whether it is the class of a version line
-abbrev pub is_version : Class → Bool
+abbrev pub is_version : DyndepClass → Bool
 is_version Version = true
 is_version other = false
 
 -- whether it is the class of a build line
-abbrev pub is_build : Class → Bool
+abbrev pub is_build : DyndepClass → Bool
 is_build (Build output outputs inputs) = true
 is_build other = false
 
 -- whether it is the class of a comment
-abbrev pub is_comment_class : Class → Bool
+abbrev pub is_comment_class : DyndepClass → Bool
 is_comment_class Comment = true
 is_comment_class other = false
 
 -- whether a statement is open: after some build line there are only comments
-abbrev pub is_open : List Class → Bool
+abbrev pub is_open : List DyndepClass → Bool
 is_open [] = false
 is_open (c ∷ classes) = (is_build c && list_all is_comment_class classes) || is_open classes
 
 -- the column for a line after lines of these classes: before the version, no statement open, or a
 -- statement open
-abbrev pub stage_after : List Class → Stage
+abbrev pub stage_after : List DyndepClass → Stage
 stage_after classes =
     if not (list_any is_version classes) then BeforeVersion
     else if is_open classes then Open
@@ -119,7 +116,7 @@ indented_fault NoneOpen restat = Some Indent
 indented_fault Open restat = if restat then None else Some BadBinding
 
 -- a version line, by its value
-abbrev pub version_fault : Stage → List ℕ → Option LineFault
+abbrev pub version_fault : Stage → Text → Option LineFault
 version_fault BeforeVersion value = if is_version_one value then None else Some BadVersion
 version_fault NoneOpen value = Some SecondVersion
 version_fault Open value = Some SecondVersion
@@ -148,7 +145,7 @@ after_build at_start (SignSymbol other ∷ more) = None
 
 -- where the name begins and what is assigned, where a line is an assignment to this name; None for
 -- any other line
-abbrev pub value_assigned : List ℕ → Option SeenAssignment → Option (ℕ × List ℕ)
+abbrev pub value_assigned : Name → Option SeenAssignment → Option (ℕ × Text)
 value_assigned name None = None
 value_assigned name (Some a) =
     if same_bytes a.name name then Some (a.name_start, value_of a.raw_value) else None
@@ -161,7 +158,7 @@ build_or_other_fault stage None = Some (other_fault stage)
 
 -- a line that is not indented, by what it assigns to the version, if that, and by its tokens after
 -- `build`, if it is a build line
-abbrev pub unindented_fault : Stage → Option (ℕ × List ℕ) → Option (List Symbol)
+abbrev pub unindented_fault : Stage → Option (ℕ × Text) → Option (List Symbol)
     → Option LineFault
 unindented_fault stage (Some version) build =
     if version.0 == 0 then version_fault stage version.1
@@ -170,7 +167,7 @@ unindented_fault stage None build = build_or_other_fault stage build
 
 -- a line's text without lexical fault that is no comment; a blank line, which has no token, has no
 -- fault
-abbrev pub text_fault : Stage → List ℕ → Option LineFault
+abbrev pub text_fault : Stage → Text → Option LineFault
 text_fault stage text =
     let restat = is_some (value_assigned (codes "restat") (assignment_of text)) in
     if is_empty (tokens text) then None
@@ -184,12 +181,12 @@ lexical_fault_or (Some fault) otherwise = Some (Lexical fault)
 lexical_fault_or None otherwise = otherwise
 
 -- the fault of a line's text without its end, by whether the line is a comment, which has none
-abbrev pub text_line_fault : Stage → List ℕ → Bool → Option LineFault
+abbrev pub text_line_fault : Stage → Text → Bool → Option LineFault
 text_line_fault stage text comment =
     if comment then None else lexical_fault_or (lexical_fault text) (text_fault stage text)
 
 -- the fault of a line, its end included; None where it has none
-abbrev pub line_fault : Stage → List ℕ → Option LineFault
+abbrev pub line_fault : Stage → Text → Option LineFault
 line_fault stage line =
     if nat_lt line_limit (length line) then Some LineTooLong
-    else text_line_fault stage (text_of line) (is_comment line)
+    else text_line_fault stage (text_of_line line) (is_comment line)

@@ -2,27 +2,28 @@
 -- none.
 use Rattle.std.specs.Prelude.{◌≡◌, ℕ, ◌<◌, ◌≤◌, false, List, [], length, Some}
 use Rattle.std.specs.List.{list_any}
+use Rattle.ninja_text.specs.Bytes.{Bytes}
 use Rattle.ninja_text.specs.Lines.{line_limit}
 use Rattle.ninja_text.specs.LineFormats.{LineFormat, LineFaults}
 use Rattle.ninja_text.specs.LineFormats as lines
 use Rattle.dyndep_file.specs.StatementValue.{StatementValue}
-use Rattle.dyndep_file.specs.Classes.{Class, TextIsOfClass}
+use Rattle.dyndep_file.specs.Classes.{DyndepClass, IsDyndepLine}
 use Rattle.dyndep_file.specs.Grammar.{IsDyndepFile}
 use Rattle.dyndep_file.specs.Faults.{stage_after, line_fault, is_version}
 use Rattle.dyndep_file.specs.declared.fault.LineFault.{LineFault}
 use Rattle.dyndep_file.specs.declared.fault.LineFault.TheVariants.{LineTooLong, Truncated, NoVersion}
 
 -- A dyndep file is a format of lines.
-abbrev pub dyndep_format : LineFormat Class (List StatementValue)
-dyndep_format = record { text_is_of = TextIsOfClass; grammar = IsDyndepFile }
+abbrev pub dyndep_format : LineFormat DyndepClass (List StatementValue)
+dyndep_format = record { text_is_of = IsDyndepLine; grammar = IsDyndepFile }
 
 -- The text stands for the statements: it is divided into lines, with no bytes left over, and the
 -- lines are a dyndep file with them.
-abbrev pub StandsFor : List ℕ → List StatementValue → Type 0
-StandsFor bytes statements = lines.StandsFor dyndep_format bytes statements
+abbrev pub StandsFor : Bytes → List StatementValue → Type 0
+StandsFor bytes statements = lines.StandsForValue dyndep_format bytes statements
 
 -- The text stands for these statements, and for no others.
-pub record StandsForOnly (bytes : List ℕ) (statements : List StatementValue) : Type 0 where
+pub record StandsForOnly (bytes : Bytes) (statements : List StatementValue) : Type 0 where
   pub stands : StandsFor bytes statements
   pub only : (others : List StatementValue) → StandsFor bytes others → others ≡ statements
 
@@ -33,19 +34,19 @@ pub record FaultAt : Type 0 where
 
 -- What is wrong at the end of a text without a faulty line: the bytes left over hold no end and
 -- reach the limit, or they are fewer but some, or there are none and no version line came.
-abbrev pub IsEndFault : List ℕ → List Class → LineFault → Type 0
+abbrev pub IsEndFault : Bytes → List DyndepClass → LineFault → Type 0
 IsEndFault rest classes LineTooLong = line_limit ≤ length rest
 IsEndFault rest classes Truncated = (0 < length rest) × (length rest < line_limit)
 IsEndFault rest classes NoVersion = (rest ≡ []) × (list_any is_version classes ≡ false)
 IsEndFault rest classes other = ⊥
 
 -- The faults of a line are those of the tables.
-abbrev pub dyndep_faults : LineFaults Class LineFault
+abbrev pub dyndep_faults : LineFaults DyndepClass LineFault
 dyndep_faults = record {
   of_line = λ classes line fault. line_fault (stage_after classes) line ≡ Some fault;
   of_end = λ classes rest fault. IsEndFault rest classes fault;
 }
 
 -- The text has this fault, in its first faulty line or at its end.
-abbrev pub IsRefused : List ℕ → FaultAt → Type 0
-IsRefused bytes found = lines.HasFault dyndep_format dyndep_faults bytes found.line found.fault
+abbrev pub HasReadFault : Bytes → FaultAt → Type 0
+HasReadFault bytes found = lines.HasFault dyndep_format dyndep_faults bytes found.line found.fault

@@ -3,20 +3,21 @@ use Rattle.std.specs.Prelude.{◌≡◌, ℕ, ◌<◌, ◌≤◌, ◌-◌, ◌^�
 use Rattle.std.specs.List.{flat_map}
 use Rattle.std.specs.Io.KnownBytes.{Consumes, IsAtEnd}
 use Rattle.std.specs.declared.io.Error.{Error}
+use Rattle.ninja_text.specs.Bytes.{Bytes}
 use Rattle.ninja_text.specs.Counting.{held, failures, Call, Counts}
 use Rattle.ninja_text.specs.declared.counting.Counted.{Counted}
 use Rattle.ninja_text.specs.declared.failure.Failure.{Failure}
 use Rattle.ninja_text.specs.declared.failure.Failure.TheVariants.{Fault}
 use Rattle.dyndep_file.specs.StatementValue.{StatementValue}
-use Rattle.dyndep_file.specs.Reader.{IsFaultIn, IsFailureIn, Ends}
+use Rattle.dyndep_file.specs.Reader.{IsReadFaultIn, IsReadFailureIn, EndsDyndepFile}
 use Rattle.dyndep_file.specs.declared.fault.LineFault.{LineFault}
 use Rattle.dyndep_file.specs.declared.fault.ReadFault.{ReadFault}
 use Rattle.dyndep_file.specs.declared.fault.ReadFault.TheVariants.{AtLine, Io}
 
 -- No line of the bytes is faulty, and the rest without an end is below the limit: whatever follows,
 -- a reader goes on.
-abbrev pub IsUnrefused : List ℕ → Type 0
-IsUnrefused bytes = (line : ℕ) (fault : LineFault) → IsFaultIn bytes (AtLine line fault) → ⊥
+abbrev pub IsUnrefused : Bytes → Type 0
+IsUnrefused bytes = (line : ℕ) (fault : LineFault) → IsReadFaultIn bytes (AtLine line fault) → ⊥
 
 -- the length of the buffer that each call is given
 abbrev pub buffer_len : ℕ
@@ -25,15 +26,15 @@ buffer_len = 4096
 -- a call that gave bytes: the reader after it, the buffer, and how many bytes of that it gave
 pub record ReadTurn (R : Type 0) : Type 0 where
   pub reader : R
-  pub buffer : List ℕ
+  pub buffer : Bytes
   pub count : ℕ
 
 -- the bytes that a call gave
-abbrev pub bytes_of : {R : Type 0} → ReadTurn R → List ℕ
+abbrev pub bytes_of : {R : Type 0} → ReadTurn R → Bytes
 bytes_of turn = take turn.count turn.buffer
 
 -- the bytes that calls gave, one call after another
-abbrev pub bytes_read : {R : Type 0} → List (ReadTurn R) → List ℕ
+abbrev pub bytes_read : {R : Type 0} → List (ReadTurn R) → Bytes
 bytes_read turns = flat_map bytes_of turns
 
 -- The reader was called with the buffer, and gave some bytes.
@@ -57,7 +58,7 @@ pub data LastCall (R : Type 0) : Type 0 where
   NotMade : LastCall R
 
 -- the bytes that it gave
-abbrev pub last_bytes : {R : Type 0} → LastCall R → List ℕ
+abbrev pub last_bytes : {R : Type 0} → LastCall R → Bytes
 last_bytes AtEnd = []
 last_bytes Failed = []
 last_bytes (Refused turn) = bytes_of turn
@@ -73,9 +74,9 @@ has_failed NotMade = false
 -- The call that led from one reader to the other was answered so.
 abbrev pub IsLastCall : {R : Type 0} → Call R → R → R → LastCall R → Type 0
 IsLastCall reads before after AtEnd =
-    (buffer : List ℕ) × (length buffer ≡ buffer_len) × reads before after (Ok 0) buffer
+    (buffer : Bytes) × (length buffer ≡ buffer_len) × reads before after (Ok 0) buffer
 IsLastCall reads before after Failed =
-    (buffer : List ℕ) × (error : Error) × (length buffer ≡ buffer_len)
+    (buffer : Bytes) × (error : Error) × (length buffer ≡ buffer_len)
     × reads before after (Err error) buffer
 IsLastCall reads before after (Refused turn) = GivesSome reads before turn × (turn.reader ≡ after)
 IsLastCall reads before after NotMade = before ≡ after
@@ -87,17 +88,17 @@ Answer = Result (List StatementValue) (Failure ReadFault)
 -- What is answered, by the bytes of the calls before the last one, and by that: at the reader's end
 -- what `finish` answers, `Io` for an error, for bytes that are refused the fault that is in them or
 -- want of memory, and `Io` at 2^64 - 1 bytes.
-abbrev pub AnswersAfter : {R : Type 0} → List ℕ → LastCall R → Answer → Type 0
-AnswersAfter front AtEnd result = Ends front result
-AnswersAfter front Failed result = result ≡ Err (Fault Io)
-AnswersAfter front (Refused turn) result =
-    (failure : Failure ReadFault) × IsFailureIn (front ++ bytes_of turn) failure
+abbrev pub AnswersLastCall : {R : Type 0} → Bytes → LastCall R → Answer → Type 0
+AnswersLastCall front AtEnd result = EndsDyndepFile front result
+AnswersLastCall front Failed result = result ≡ Err (Fault Io)
+AnswersLastCall front (Refused turn) result =
+    (failure : Failure ReadFault) × IsReadFailureIn (front ++ bytes_of turn) failure
     × (result ≡ Err failure)
-AnswersAfter front NotMade result = (2 ^ 64 - 1 ≤ length front) × (result ≡ Err (Fault Io))
+AnswersLastCall front NotMade result = (2 ^ 64 - 1 ≤ length front) × (result ≡ Err (Fault Io))
 
 -- Calls gave bytes that were not refused, there was one last call, or none, and no other; and the
 -- answer is of these bytes.
-pub record IsReadFrom {R : Type 0} (remaining : R → Option (List ℕ)) (reads : Call R)
+pub record IsReadFrom {R : Type 0} (remaining : R → Option Bytes) (reads : Call R)
     (old new : Counted R) (result : Answer) : Type 0 where
   pub turns : List (ReadTurn R)
   pub before : R
@@ -105,7 +106,7 @@ pub record IsReadFrom {R : Type 0} (remaining : R → Option (List ℕ)) (reads 
   pub in_turn : ReadsInTurn reads (held old) turns before
   pub ended : IsLastCall reads before (held new) last
   pub unrefused : IsUnrefused (bytes_read turns)
-  pub answer : AnswersAfter (bytes_read turns) last result
+  pub answer : AnswersLastCall (bytes_read turns) last result
   pub count : Counts (has_failed last) (failures old) (failures new)
   -- where the bytes that the reader still has are known
   pub consumed : Consumes (remaining (held old)) (remaining (held new))

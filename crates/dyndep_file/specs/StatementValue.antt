@@ -1,16 +1,17 @@
 -- A statement of a dyndep file: its paths, without escapes, and its flag.
-use Rattle.std.specs.Prelude.{ℕ, Bool, List}
+use Rattle.std.specs.Prelude.{Bool, List}
+use Rattle.ninja_text.specs.Bytes.{PathText}
 
 -- Its paths are the bytes that their spellings stand for.
 pub record StatementValue : Type 0 where
-  pub output : List ℕ
-  pub implicit_outputs : List (List ℕ)
-  pub implicit_inputs : List (List ℕ)
+  pub output : PathText
+  pub implicit_outputs : List PathText
+  pub implicit_inputs : List PathText
   pub restat : Bool
 
 -- the statement of these paths and this flag
-abbrev pub statement_of : List ℕ → List (List ℕ) → List (List ℕ) → Bool → StatementValue
-statement_of output outputs inputs flag = record {
+abbrev pub statement_with : PathText → List PathText → List PathText → Bool → StatementValue
+statement_with output outputs inputs flag = record {
   output = output;
   implicit_outputs = outputs;
   implicit_inputs = inputs;

@@ -1,8 +1,9 @@
 -- The statements of the lines so far, and what one more line does to them.
-use Rattle.std.specs.Prelude.{ℕ, Bool, false, List, [], ◌∷◌, ◌++◌, Option, Some, None}
+use Rattle.std.specs.Prelude.{Bool, false, List, [], ◌∷◌, ◌++◌, Option, Some, None}
 use Rattle.std.specs.Option.{option_and_then}
-use Rattle.dyndep_file.specs.StatementValue.{StatementValue, statement_of}
-use Rattle.dyndep_file.specs.Classes.{Class, Comment, Blank, Version, Build, Binding}
+use Rattle.ninja_text.specs.Bytes.{PathText}
+use Rattle.dyndep_file.specs.StatementValue.{StatementValue, statement_with}
+use Rattle.dyndep_file.specs.Classes.{DyndepClass, Comment, Blank, Version, Build, Binding}
 use Rattle.dyndep_file.specs.declared.progress.Stage.{Stage}
 use Rattle.dyndep_file.specs.declared.progress.Stage.TheVariants.{BeforeVersion, NoneOpen, Open}
 
@@ -19,17 +20,17 @@ with_last_restat flag (s ∷ []) = record s { restat = flag } ∷ []
 with_last_restat flag (s ∷ t ∷ ss) = s ∷ with_last_restat flag (t ∷ ss)
 
 -- one more statement, which is open, and whose flag is off as yet
-abbrev pub open_statement : List StatementValue → List ℕ → List (List ℕ) → List (List ℕ)
+abbrev pub open_statement : List StatementValue → PathText → List PathText → List PathText
     → ProgressValue
 open_statement statements output outputs inputs = record {
   stage = Open;
-  statements = statements ++ statement_of output outputs inputs false ∷ [];
+  statements = statements ++ statement_with output outputs inputs false ∷ [];
 }
 
 -- What a line of this class does, where it may come. A comment changes nothing. A blank line
 -- closes the open statement. The version line comes once, before all build lines. A build line
 -- opens a statement. A binding sets the open statement's flag and closes the statement.
-abbrev pub step : Stage → List StatementValue → Class → Option ProgressValue
+abbrev pub step : Stage → List StatementValue → DyndepClass → Option ProgressValue
 step BeforeVersion ss Comment = Some (record { stage = BeforeVersion; statements = ss })
 step BeforeVersion ss Blank = Some (record { stage = BeforeVersion; statements = ss })
 step BeforeVersion ss Version = Some (record { stage = NoneOpen; statements = ss })
@@ -48,7 +49,7 @@ step Open ss (Binding flag) =
     Some (record { stage = NoneOpen; statements = with_last_restat flag ss })
 
 -- what lines of these classes do, one after another
-abbrev pub run : Stage → List StatementValue → List Class → Option ProgressValue
+abbrev pub run : Stage → List StatementValue → List DyndepClass → Option ProgressValue
 run stage ss [] = Some (record { stage = stage; statements = ss })
 run stage ss (c ∷ classes) =
     option_and_then (λ s. run s.stage s.statements classes) (step stage ss c)

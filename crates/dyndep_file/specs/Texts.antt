@@ -1,5 +1,6 @@
 -- A text to which statements are added one after another.
 use Rattle.std.specs.Prelude.{◌≡◌, ℕ, List, length, None, Ok}
+use Rattle.ninja_text.specs.Bytes.{Bytes}
 use Rattle.dyndep_file.specs.StatementValue.{StatementValue}
 use Rattle.dyndep_file.specs.Reading.{StandsForOnly}
 use Rattle.dyndep_file.specs.Writing.{dyndep_text}
@@ -7,7 +8,7 @@ use Rattle.dyndep_file.specs.WriteFaults.{write_fault, text_or_fault}
 
 -- its bytes so far, and how many statements were added
 pub record TextValue : Type 0 where
-  pub bytes : List ℕ
+  pub bytes : Bytes
   pub count : ℕ
 
 -- These statements were added, of which none has a fault.
@@ -17,7 +18,7 @@ pub record IsTextOf (statements : List StatementValue) (text : TextValue) : Type
   pub unfaulted : write_fault statements ≡ None
 
 -- The bytes are the text of these statements, and the grammar relates them to no others.
-pub record IsFinished (statements : List StatementValue) (bytes : List ℕ) : Type 0 where
+pub record IsFinished (statements : List StatementValue) (bytes : Bytes) : Type 0 where
   pub text : text_or_fault statements ≡ Ok bytes
   pub unfaulted : write_fault statements ≡ None
   pub meaning : StandsForOnly bytes statements

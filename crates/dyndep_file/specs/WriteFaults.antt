@@ -1,6 +1,7 @@
 -- Which lists of statements can't be written, and what a call that writes leaves.
 use Rattle.std.specs.Prelude.{◌≡◌, ℕ, ◌+◌, ◌≤◌, nat_lt, not, if◌then◌else◌, List, [], ◌∷◌, ◌++◌, length, All, position, Option, Some, None, option_map, Result, Ok, Err, ⊤}
 use Rattle.std.specs.Option.{option_or}
+use Rattle.ninja_text.specs.Bytes.{Bytes, Text, PathText}
 use Rattle.ninja_text.specs.declared.counting.Counted.{Counted}
 use Rattle.ninja_text.specs.declared.failure.Failure.{Failure}
 use Rattle.ninja_text.specs.declared.failure.Failure.TheVariants.{Memory, Fault}
@@ -13,7 +14,7 @@ use Rattle.dyndep_file.specs.declared.fault.WriteFault.{WriteFault}
 use Rattle.dyndep_file.specs.declared.fault.WriteFault.TheVariants.{Unwritable, StatementTooLong, Io}
 
 -- a statement's paths, in the order that faults count them in
-abbrev pub paths_of : StatementValue → List (List ℕ)
+abbrev pub paths_of : StatementValue → List PathText
 paths_of s = s.output ∷ (s.implicit_outputs ++ s.implicit_inputs)
 
 -- the fault of the statement at an index: the first path that has no spelling, else too long a
@@ -34,12 +35,12 @@ abbrev pub write_fault : List StatementValue → Option WriteFault
 write_fault statements = fault_from 0 statements
 
 -- the text, unless there is a fault
-abbrev pub text_unless : Option WriteFault → List StatementValue → Result (List ℕ) WriteFault
+abbrev pub text_unless : Option WriteFault → List StatementValue → Result Text WriteFault
 text_unless None statements = Ok (dyndep_text statements)
 text_unless (Some fault) statements = Err fault
 
 -- the text of a list of statements, or its fault, where there is one
-abbrev pub text_or_fault : List StatementValue → Result (List ℕ) WriteFault
+abbrev pub text_or_fault : List StatementValue → Result Text WriteFault
 text_or_fault statements = text_unless (write_fault statements) statements
 
 -- A statement that can be written: each path has a spelling, and the build line keeps the limit.
@@ -49,7 +50,7 @@ pub record CanBeWritten (s : StatementValue) : Type 0 where
 
 -- what holds after a call that failed: before the first byte nothing has changed, and an `Io`
 -- comes of a failed call
-abbrev pub LeavesWriter : {W : Type 0} → (W → Option (List ℕ)) → Counted W → Counted W → List ℕ
+abbrev pub LeavesWriter : {W : Type 0} → (W → Option Bytes) → Counted W → Counted W → Text
     → Failure WriteFault → Type 0
 LeavesWriter contents old new text Memory = new ≡ old
 LeavesWriter contents old new text (Fault (Unwritable statement path)) = new ≡ old
@@ -58,7 +59,7 @@ LeavesWriter contents old new text (Fault (Io written)) = IsCutShort contents ol
 
 -- which calls of the writer a call has made that failed: before the first byte none, and up to an
 -- `Io` those that took some bytes, and the one that failed
-abbrev pub StopsInTurn : {W : Type 0} → Call W → W → W → List ℕ → Failure WriteFault → Type 0
+abbrev pub StopsInTurn : {W : Type 0} → Call W → W → W → Text → Failure WriteFault → Type 0
 StopsInTurn writes old new text Memory = new ≡ old
 StopsInTurn writes old new text (Fault (Unwritable statement path)) = new ≡ old
 StopsInTurn writes old new text (Fault (StatementTooLong statement)) = new ≡ old
@@ -66,16 +67,17 @@ StopsInTurn writes old new text (Fault (Io written)) = IsStoppedInTurn writes ol
 
 -- which calls of the writer were made: on success some that took all of the text
 abbrev pub WritesInTurn : {W T : Type 0}
-    → Call W → W → W → List ℕ → Result T (Failure WriteFault) → Type 0
+    → Call W → W → W → Text → Result T (Failure WriteFault) → Type 0
 WritesInTurn writes old new text (Ok done) = IsTakenInTurn writes old new text (length text)
 WritesInTurn writes old new text (Err failure) = StopsInTurn writes old new text failure
 
 -- memory and the writer aside, a call answers the statements' fault, where there is one
-abbrev pub AnswersFault : {T : Type 0} → Option WriteFault → Result T (Failure WriteFault) → Type 0
-AnswersFault fault (Ok done) = fault ≡ None
-AnswersFault fault (Err Memory) = ⊤
-AnswersFault fault (Err (Fault (Unwritable statement path))) =
+abbrev pub AnswersWriteFault : {T : Type 0} → Option WriteFault → Result T (Failure WriteFault)
+    → Type 0
+AnswersWriteFault fault (Ok done) = fault ≡ None
+AnswersWriteFault fault (Err Memory) = ⊤
+AnswersWriteFault fault (Err (Fault (Unwritable statement path))) =
     fault ≡ Some (Unwritable statement path)
-AnswersFault fault (Err (Fault (StatementTooLong statement))) =
+AnswersWriteFault fault (Err (Fault (StatementTooLong statement))) =
     fault ≡ Some (StatementTooLong statement)
-AnswersFault fault (Err (Fault (Io written))) = fault ≡ None
+AnswersWriteFault fault (Err (Fault (Io written))) = fault ≡ None

@@ -7,7 +7,7 @@ ghost use Rattle.ninja_text.specs.Tokens.{value_of};
 ghost use Rattle.ninja_text.specs.TokenViews.{seen_token};
 ghost use Rattle.dyndep_file.specs.Classes.{WordSymbol, SignSymbol};
 ghost use Rattle.dyndep_file.specs.Faults.{same_bytes, output_fault, after_output_fault, implicit_outputs_fault, rule_fault, after_rule_fault, implicit_inputs_fault};
-ghost use Rattle.dyndep_file.specs.BuildTokens.{is_word, symbol_of, symbols_left};
+ghost use Rattle.dyndep_file.specs.BuildTokens.{is_this_word, symbol_of, symbols_left};
 ghost use Rattle.dyndep_file.specs.inner.BuildLines.{TakesOr, TakesOutput, TakesOutputs, TakesInputs, TakesWords, IsNamed};
 ghost use Rattle.dyndep_file.specs.inner.Paths.{texts};
 
@@ -151,7 +151,7 @@ fn words_to_end(alloc: Global, words: Words<'_>) -> Result<Vec<Vec<u8>>, Failure
 
 /// Whether a token is the word of just these bytes.
 pub(crate) fn is_keyword(token: Token<'_>, keyword: &[u8]) -> bool
-    ensures { result ≡ is_word keyword.now (symbol_of (seen_token token.entry)) }
+    ensures { result ≡ is_this_word keyword.now (symbol_of (seen_token token.entry)) }
 {
     token.kind() == TokenKind::Word && is_same(token.raw(), keyword)
 }

@@ -4,7 +4,7 @@ ghost use Rattle.dyndep_file.specs.StatementValue.{StatementValue};
 ghost use Rattle.dyndep_file.specs.Writing.{dyndep_text};
 ghost use Rattle.dyndep_file.specs.WriteFaults.{write_fault, CanBeWritten};
 ghost use Rattle.dyndep_file.specs.Reading.{StandsForOnly};
-ghost use Rattle.dyndep_file.specs.Laws.{OneList, NotBoth, OneOfBoth, OneFault, GoesOnUnrefused, FaultStays, OnlyTooLong, IsTooLong, FirstFault};
+ghost use Rattle.dyndep_file.specs.Laws.{OneList, NotBoth, OneOfBoth, OneReadFault, GoesOnUnrefused, FaultStays, OnlyTooLong, TooLongIfWritable, FirstFault};
 
 /// The grammar relates a text to at most one list of statements.
 pub fn one_list()
@@ -19,7 +19,7 @@ pub fn list_or_fault()
 
 /// A text has at most one fault, at one line.
 pub fn one_fault()
-    ensures { OneFault }
+    ensures { OneReadFault }
 {}
 
 /// A reader that continues was fed no faulty line, and no line that is too long.
@@ -37,7 +37,7 @@ pub fn fault_stays()
 /// has each such statement.
 pub fn long_lines()
     ensures lists { OnlyTooLong }
-    ensures statements { IsTooLong }
+    ensures statements { TooLongIfWritable }
 {}
 
 /// The fault of a statement after some without a fault is that of the list, whatever comes after.

@@ -4,9 +4,9 @@ ghost use Rattle.ninja_text.specs.LineViews.{seen_line};
 ghost use Rattle.ninja_text.specs.Lexical.{lexical_fault};
 ghost use Rattle.ninja_text.specs.Tokens.{seen_tokens};
 ghost use Rattle.ninja_text.specs.TokenViews.{seen_token, tokens_left};
-ghost use Rattle.dyndep_file.specs.Classes.{TextIsOfClass, begins_with_space};
+ghost use Rattle.dyndep_file.specs.Classes.{IsDyndepLine, begins_with_space};
 ghost use Rattle.dyndep_file.specs.Faults.{text_line_fault};
-ghost use Rattle.dyndep_file.specs.BuildTokens.{symbol_of, is_word};
+ghost use Rattle.dyndep_file.specs.BuildTokens.{symbol_of, is_this_word};
 ghost use Rattle.dyndep_file.specs.inner.LineReading.{PassesOr, ReadsLine};
 
 use crate::build_line::is_keyword;
@@ -39,7 +39,7 @@ fn read_text(
 ) -> Result<(), Failure<LineFault>>
     ensures { let view = seen_line line.entry in
         PassesOr (text_line_fault progress.old.stage view.text view.comment)
-        (TextIsOfClass view.text view.comment)
+        (IsDyndepLine view.text view.comment)
         progress.old result progress.new }
 {
     if line.is_comment() {
@@ -62,7 +62,7 @@ fn read_tokens(
     requires sound { lexical_fault (seen_line line).text ≡ None }
     requires all { tokens_left tokens ≡ seen_tokens (seen_line line).text }
     ensures { PassesOr (text_line_fault progress.old.stage (seen_line line.entry).text false)
-        (TextIsOfClass (seen_line line.entry).text false)
+        (IsDyndepLine (seen_line line.entry).text false)
         progress.old result progress.new }
 {
     let mut tokens = tokens;
@@ -88,7 +88,7 @@ fn read_tokens(
 /// Whether a line whose first token this is is a build line.
 fn begins_build_line(first: Token<'_>) -> bool
     ensures { result ≡ ((seen_token first.entry).start == 0)
-        && is_word (codes "build") (symbol_of (seen_token first.entry)) }
+        && is_this_word (codes "build") (symbol_of (seen_token first.entry)) }
 {
     first.start() == 0 && is_keyword(first, b"build")
 }

@@ -21,21 +21,22 @@ pub struct DyndepReader {
 }
 
 impl Model for DyndepReader {
-    ghost use Rattle.dyndep_file.specs.Reader.{Reader};
+    ghost use Rattle.dyndep_file.specs.Reader.{DyndepReaderState};
 
-    ghost Value = { Reader };
+    ghost Value = { DyndepReaderState };
 
     ghost view = { λ r. r.lines };
 }
 
 impl DyndepReader {
-    ghost use Rattle.dyndep_file.specs.Reader.{HasRead, Reads, Ends};
+    ghost use Rattle.ninja_text.specs.Bytes.{Bytes};
+    ghost use Rattle.dyndep_file.specs.Reader.{HasReadDyndep, FeedsDyndep, EndsDyndepFile};
     ghost use Rattle.dyndep_file.specs.declared.fault.ReadFault.{ReadFault};
     ghost use Rattle.ninja_text.specs.declared.failure.Failure.{Failure};
 
     /// A reader that was fed nothing. It takes no memory yet.
     pub fn new(alloc: Global) -> DyndepReader
-        ensures { HasRead [] result }
+        ensures { HasReadDyndep [] result }
     {
         let progress = Progress {
             stage: Stage::BeforeVersion,
@@ -55,8 +56,8 @@ impl DyndepReader {
         ensures failed { (failure : Failure ReadFault) → self.old.failed ≡ Some failure →
             (result ≡ Err failure) × (self.new ≡ self.old) }
         // Whatever bytes it was fed before this piece.
-        ensures all { (bytes : List ℕ) → HasRead bytes self.old →
-            Reads (bytes ++ piece.now) result self.new }
+        ensures all { (bytes : Bytes) → HasReadDyndep bytes self.old →
+            FeedsDyndep (bytes ++ piece.now) result self.new }
     {
         self.lines.feed(piece)
     }
@@ -68,7 +69,7 @@ impl DyndepReader {
     pub fn finish(self) -> Result<Dyndep, Failure<ReadFault>>
         ensures failed { (failure : Failure ReadFault) → self.failed ≡ Some failure →
             result ≡ Err failure }
-        ensures all { (bytes : List ℕ) → HasRead bytes self → Ends bytes result }
+        ensures all { (bytes : Bytes) → HasReadDyndep bytes self → EndsDyndepFile bytes result }
     {
         let (progress, next_line) = self.lines.finish()?;
         answer_at_end(progress, next_line)

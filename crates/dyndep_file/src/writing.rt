@@ -3,7 +3,7 @@ ghost use Rattle.std.specs.Prelude.{MatchResult, OnOk};
 ghost use Rattle.ninja_text.specs.Counting.{held, IsWritten};
 ghost use Rattle.dyndep_file.specs.Reading.{StandsForOnly};
 ghost use Rattle.dyndep_file.specs.Writing.{dyndep_text};
-ghost use Rattle.dyndep_file.specs.WriteFaults.{write_fault, LeavesWriter, WritesInTurn, AnswersFault};
+ghost use Rattle.dyndep_file.specs.WriteFaults.{write_fault, LeavesWriter, WritesInTurn, AnswersWriteFault};
 
 use crate::fault::WriteFault;
 use crate::statement::Dyndep;
@@ -26,7 +26,7 @@ pub fn write<W: WriteCall>(
         (λ failure. LeavesWriter W.contents out.old out.new (dyndep_text dyndep.now) failure) }
     ensures calls { WritesInTurn W.writes (held out.old) (held out.new)
         (dyndep_text dyndep.now) result }
-    ensures fault { AnswersFault (write_fault dyndep.now) result }
+    ensures fault { AnswersWriteFault (write_fault dyndep.now) result }
     // The grammar relates the text to these statements, and to no others.
     ensures meaning { OnOk result (StandsForOnly (dyndep_text dyndep.now) dyndep.now) }
 {

@@ -1,51 +1,50 @@
 -- The maps of Clang: where a module is provided, the line that says so and a line with its path;
 -- then for each needed module a line with its name, `=` and its path, in byte order of names.
-use Rattle.std.specs.Prelude.{ℕ, ◌-◌, Bool, true, List, [], ◌∷◌, ◌++◌, length, map, slice_get, nat_lt, if◌then◌else◌, Option, Some, None, Result, Ok, Err, bytes_eq, codes}
+use Rattle.std.specs.Prelude.{◌-◌, Bool, true, List, [], ◌∷◌, ◌++◌, length, map, slice_get, nat_lt, if◌then◌else◌, Option, Some, None, Result, Ok, Err, bytes_eq, codes}
 use Rattle.std.specs.List.{flat_map}
 use Rattle.std.specs.Cmp.Lexicographic.{slice_cmp}
 use Rattle.std.specs.Ordering.{nat_cmp, is_lt}
+use Rattle.ninja_text.specs.Bytes.{Text, PathText, Name, equals_sign}
 use Rattle.module_maps.specs.Values.{ModuleMapValue}
 use Rattle.module_maps.specs.Maps.{pairs_of}
-use Rattle.module_maps.specs.MapLines.{first_unfit, named, nameless, ended, behind, path_in, pair_in, LineForm, read_lines, lines_of}
+use Rattle.module_maps.specs.MapLines.{first_unfit, named, nameless, ended_line, behind, path_in, pair_in, LineForm, read_lines, lines_of}
 use Rattle.module_maps.specs.declared.module_map.MapEntry.{MapEntry}
 use Rattle.module_maps.specs.declared.fault.MapFault.{MapFault}
 use Rattle.module_maps.specs.declared.fault.MapFault.TheVariants.{MapPath, TwoProvided, BadMapLine}
 
 -- the line before that of the provided module's path
-abbrev pub module_flag : List ℕ
+abbrev pub module_flag : Text
 module_flag = codes "-x c++-module"
 
-abbrev pub output_flag : List ℕ
+abbrev pub output_flag : Text
 output_flag = codes "-fmodule-output="
 
-abbrev pub file_flag : List ℕ
+abbrev pub file_flag : Text
 file_flag = codes "-fmodule-file="
 
 -- the byte between a name and a path: `=`
-abbrev pub equals : ℕ
-equals = 61
-
 -- the lines of the provided module and of a needed one, without their ends
-abbrev pub output_line : List ℕ × List ℕ → List ℕ
+abbrev pub output_line : Name × PathText → Text
 output_line pair = output_flag ++ pair.1
 
-abbrev pub file_line : List ℕ × List ℕ → List ℕ
-file_line pair = file_flag ++ pair.0 ++ equals ∷ pair.1
+abbrev pub file_line : Name × PathText → Text
+file_line pair = file_flag ++ pair.0 ++ equals_sign ∷ pair.1
 
 -- the two lines of a provided module
-abbrev pub output_text : List ℕ × List ℕ → List ℕ
-output_text pair = ended module_flag ++ ended (output_line pair)
+abbrev pub output_text : Name × PathText → Text
+output_text pair = ended_line module_flag ++ ended_line (output_line pair)
 
-abbrev pub clang_text : ModuleMapValue → List ℕ
-clang_text m = flat_map output_text m.provided ++ flat_map (λ pair. ended (file_line pair)) m.needed
+abbrev pub clang_text : ModuleMapValue → Text
+clang_text m =
+    flat_map output_text m.provided ++ flat_map (λ pair. ended_line (file_line pair)) m.needed
 
 -- the lines, unless a path is unfit, or else two modules are provided
-abbrev pub clang_result : ModuleMapValue → Option (List ℕ) → Result (List ℕ) MapFault
+abbrev pub clang_result : ModuleMapValue → Option PathText → Result Text MapFault
 clang_result m (Some path) = Err (MapPath path)
 clang_result m None = if nat_lt 1 (length m.provided) then Err TwoProvided else Ok (clang_text m)
 
 -- what is written for a map
-abbrev pub clang_written : ModuleMapValue → Result (List ℕ) MapFault
+abbrev pub clang_written : ModuleMapValue → Result Text MapFault
 clang_written m = clang_result m (first_unfit (pairs_of m))
 
 -- what is kept: the provided modules without their names, and the needed ones with them
@@ -53,26 +52,26 @@ abbrev pub clang_kept : ModuleMapValue → List MapEntry
 clang_kept m = map nameless m.provided ++ map named m.needed
 
 -- the names rise from that of the entry before, if it has one
-abbrev pub rises : Option (List ℕ) → List ℕ → Bool
+abbrev pub rises : Option Name → Name → Bool
 rises None name = true
 rises (Some before) name = is_lt (slice_cmp nat_cmp before name)
 
-abbrev pub rises_behind : Option MapEntry → List ℕ → Bool
+abbrev pub rises_behind : Option MapEntry → Name → Bool
 rises_behind None name = true
 rises_behind (Some entry) name = rises entry.name name
 
 -- the module in what follows the flag
-abbrev pub file_pair : Option (List ℕ) → Option (List ℕ × List ℕ)
+abbrev pub file_pair : Option Text → Option (Name × PathText)
 file_pair None = None
-file_pair (Some rest) = pair_in equals rest
+file_pair (Some rest) = pair_in equals_sign rest
 
 -- the path in what follows the flag
-abbrev pub output_path : Option (List ℕ) → Option (List ℕ)
+abbrev pub output_path : Option Text → Option PathText
 output_path None = None
 output_path (Some rest) = path_in rest
 
 -- the entry of a needed module, if its name rises
-abbrev pub file_entry : List MapEntry → Option (List ℕ × List ℕ) → Option MapEntry
+abbrev pub file_entry : List MapEntry → Option (Name × PathText) → Option MapEntry
 file_entry entries None = None
 file_entry entries (Some pair) =
     if rises_behind (slice_get entries (length entries - 1)) pair.0 then Some (named pair) else None
@@ -82,19 +81,19 @@ abbrev pub clang_form : LineForm
 clang_form entries line = file_entry entries (file_pair (behind file_flag line))
 
 -- the provided module's path, and the lines after it
-abbrev pub read_behind : Option (List ℕ) → List (List ℕ) → Result (List MapEntry) MapFault
+abbrev pub read_behind : Option PathText → List Text → Result (List MapEntry) MapFault
 read_behind None lines = Err (BadMapLine 2)
 read_behind (Some path) lines =
     read_lines clang_form (record { name = None; path = path } ∷ []) 3 lines
 
 -- the lines after the first, which says that a module is provided
-abbrev pub read_provided : List (List ℕ) → Result (List MapEntry) MapFault
+abbrev pub read_provided : List Text → Result (List MapEntry) MapFault
 read_provided [] = Err (BadMapLine 2)
 read_provided (last ∷ []) = Err (BadMapLine 2)
 read_provided (line ∷ next ∷ lines) =
     read_behind (output_path (behind output_flag line)) (next ∷ lines)
 
-abbrev pub clang_read : List (List ℕ) → Result (List MapEntry) MapFault
+abbrev pub clang_read : List Text → Result (List MapEntry) MapFault
 clang_read [] = read_lines clang_form [] 1 []
 clang_read (last ∷ []) = read_lines clang_form [] 1 (last ∷ [])
 clang_read (first ∷ next ∷ lines) =
@@ -102,5 +101,5 @@ clang_read (first ∷ next ∷ lines) =
     else read_lines clang_form [] 1 (first ∷ next ∷ lines)
 
 -- what is read in a text
-abbrev pub clang_entries : List ℕ → Result (List MapEntry) MapFault
+abbrev pub clang_entries : Text → Result (List MapEntry) MapFault
 clang_entries text = clang_read (lines_of text)

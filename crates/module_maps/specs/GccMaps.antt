@@ -1,25 +1,25 @@
 -- The maps of GCC: for each module a line with its name, a space and its path.
-use Rattle.std.specs.Prelude.{ℕ, List, [], ◌∷◌, ◌++◌, map, option_map, Option, Some, None, Result, Ok, Err}
+use Rattle.std.specs.Prelude.{List, [], ◌∷◌, ◌++◌, map, option_map, Option, Some, None, Result, Ok, Err}
 use Rattle.std.specs.List.{flat_map}
-use Rattle.ninja_text.specs.Bytes.{space}
+use Rattle.ninja_text.specs.Bytes.{Text, PathText, Name, space}
 use Rattle.module_maps.specs.Values.{ModuleMapValue}
 use Rattle.module_maps.specs.Maps.{pairs_of}
-use Rattle.module_maps.specs.MapLines.{first_unfit, named, ended, pair_in, LineForm, read_lines, lines_of}
+use Rattle.module_maps.specs.MapLines.{first_unfit, named, ended_line, pair_in, LineForm, read_lines, lines_of}
 use Rattle.module_maps.specs.declared.module_map.MapEntry.{MapEntry}
 use Rattle.module_maps.specs.declared.fault.MapFault.{MapFault}
 use Rattle.module_maps.specs.declared.fault.MapFault.TheVariants.{MapPath}
 
 -- the line of a module, without its end
-abbrev pub gcc_line : List ℕ × List ℕ → List ℕ
+abbrev pub gcc_line : Name × PathText → Text
 gcc_line pair = pair.0 ++ space ∷ pair.1
 
 -- the lines, unless a path is unfit
-abbrev pub gcc_text : List (List ℕ × List ℕ) → Option (List ℕ) → Result (List ℕ) MapFault
+abbrev pub gcc_text : List (Name × PathText) → Option PathText → Result Text MapFault
 gcc_text pairs (Some path) = Err (MapPath path)
-gcc_text pairs None = Ok (flat_map (λ pair. ended (gcc_line pair)) pairs)
+gcc_text pairs None = Ok (flat_map (λ pair. ended_line (gcc_line pair)) pairs)
 
 -- what is written for a map
-abbrev pub gcc_written : ModuleMapValue → Result (List ℕ) MapFault
+abbrev pub gcc_written : ModuleMapValue → Result Text MapFault
 gcc_written m = gcc_text (pairs_of m) (first_unfit (pairs_of m))
 
 -- what is kept: each module with its name
@@ -31,5 +31,5 @@ abbrev pub gcc_form : LineForm
 gcc_form entries line = option_map named (pair_in space line)
 
 -- what is read in a text
-abbrev pub gcc_entries : List ℕ → Result (List MapEntry) MapFault
+abbrev pub gcc_entries : Text → Result (List MapEntry) MapFault
 gcc_entries text = read_lines gcc_form [] 1 (lines_of text)

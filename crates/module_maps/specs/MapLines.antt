@@ -1,9 +1,9 @@
 -- What the styles of module maps share: the paths that can be in a map, and how its lines are read.
-use Rattle.std.specs.Prelude.{ℕ, ◌+◌, ◌==◌, Bool, not, ◌&&◌, if◌then◌else◌, nat_le, List, [], ◌∷◌, ◌++◌, length, take, drop, option_map, Option, Some, None, Result, Ok, Err, bytes_eq, position}
+use Rattle.std.specs.Prelude.{ℕ, ◌+◌, ◌==◌, Bool, not, ◌&&◌, if◌then◌else◌, nat_lt, List, [], ◌∷◌, ◌++◌, length, take, drop, option_map, Option, Some, None, Result, Ok, Err, bytes_eq, position}
 use Rattle.std.specs.List.{list_all, slice_split}
 use Rattle.std.specs.Str.{is_utf8}
 use Rattle.ninja_text.specs.Paths.{path_of, is_empty}
-use Rattle.ninja_text.specs.Bytes.{line_feed}
+use Rattle.ninja_text.specs.Bytes.{Byte, Text, PathText, Name, line_feed, space, double_quote, single_quote, backslash, delete}
 use Rattle.ninja_text.specs.declared.fault.PathFault.{PathFault}
 use Rattle.scan_docs.specs.Name.{is_name}
 use Rattle.module_maps.specs.declared.module_map.MapEntry.{MapEntry}
@@ -12,14 +12,16 @@ use Rattle.module_maps.specs.declared.fault.MapFault.TheVariants.{BadMapLine}
 
 -- no control byte, no space, no 127, and none of `'`, `"` and `\`
 abbrev pub is_map_byte : ℕ → Bool
-is_map_byte b = nat_le 33 b && not (b == 127) && not (b == 39) && not (b == 34) && not (b == 92)
+is_map_byte b = 
+    nat_lt space b && not (b == delete) && not (b == single_quote) && not (b == double_quote)
+    && not (b == backslash)
 
 -- whether a path can be in a map
-abbrev pub is_fit : List ℕ → Bool
+abbrev pub is_fit : PathText → Bool
 is_fit path = list_all is_map_byte path
 
 -- the first of the paths that cannot
-abbrev pub first_unfit : List (List ℕ × List ℕ) → Option (List ℕ)
+abbrev pub first_unfit : List (Name × PathText) → Option PathText
 first_unfit [] = None
 first_unfit (pair ∷ pairs) = if is_fit pair.1 then first_unfit pairs else Some pair.1
 
@@ -27,64 +29,64 @@ abbrev pub is_line_end : ℕ → Bool
 is_line_end b = b == line_feed
 
 -- the lines of a text, without their ends, and after them what follows the last end
-abbrev pub lines_of : List ℕ → List (List ℕ)
+abbrev pub lines_of : Text → List Text
 lines_of text = slice_split is_line_end text
 
 -- the text as a path, if it is the canonical text of the path that it means
-abbrev pub canonical_in : List ℕ → Result (List ℕ) PathFault → Option (List ℕ)
+abbrev pub canonical_in : Text → Result PathText PathFault → Option PathText
 canonical_in text (Ok path) = if bytes_eq path text then Some text else None
 canonical_in text (Err fault) = None
 
 -- the text as a path of a map
-unfoldable pub path_in : List ℕ → Option (List ℕ)
+unfoldable pub path_in : Text → Option PathText
 path_in text = if is_fit text then canonical_in text (path_of text) else None
 
 -- the text as a name of a module
-unfoldable pub name_in : List ℕ → Option (List ℕ)
+unfoldable pub name_in : Text → Option Name
 name_in text = if is_utf8 text && is_name text then Some text else None
 
 -- what is before the first such byte, and what is after it
-abbrev pub cut : ℕ → List ℕ → Option (List ℕ × List ℕ)
+abbrev pub cut : Byte → Text → Option (Text × Text)
 cut mark text = option_map (λ i. (take i text, drop (i + 1) text)) (position (λ b. b == mark) text)
 
 -- both, where both are there
-abbrev pub both : Option (List ℕ) → Option (List ℕ) → Option (List ℕ × List ℕ)
+abbrev pub both : Option Name → Option PathText → Option (Name × PathText)
 both None path = None
 both (Some name) None = None
 both (Some name) (Some path) = Some (name, path)
 
 -- the name and the path in two texts
-abbrev pub pair_of : Option (List ℕ × List ℕ) → Option (List ℕ × List ℕ)
-pair_of None = None
-pair_of (Some texts) = both (name_in texts.0) (path_in texts.1)
+abbrev pub read_pair : Option (Text × Text) → Option (Name × PathText)
+read_pair None = None
+read_pair (Some texts) = both (name_in texts.0) (path_in texts.1)
 
 -- the module in a text: a name, the first byte that is the mark, and a path
-unfoldable pub pair_in : ℕ → List ℕ → Option (List ℕ × List ℕ)
-pair_in mark text = pair_of (cut mark text)
+unfoldable pub pair_in : Byte → Text → Option (Name × PathText)
+pair_in mark text = read_pair (cut mark text)
 
 -- a line with its end
-abbrev pub ended : List ℕ → List ℕ
-ended line = line ++ line_feed ∷ []
+abbrev pub ended_line : Text → Text
+ended_line line = line ++ line_feed ∷ []
 
 -- the entry of a module with its name, and without
-abbrev pub named : List ℕ × List ℕ → MapEntry
+abbrev pub named : Name × PathText → MapEntry
 named pair = record { name = Some pair.0; path = pair.1 }
 
-abbrev pub nameless : List ℕ × List ℕ → MapEntry
+abbrev pub nameless : Name × PathText → MapEntry
 nameless pair = record { name = None; path = pair.1 }
 
 -- what follows a prefix
-abbrev pub behind : List ℕ → List ℕ → Option (List ℕ)
+abbrev pub behind : Text → Text → Option Text
 behind prefix text =
     if bytes_eq (take (length prefix) text) prefix then Some (drop (length prefix) text) else None
 
 -- how a line is read, without its end, after the entries of the lines before it
 abbrev pub LineForm : Type 0
-LineForm = List MapEntry → List ℕ → Option MapEntry
+LineForm = List MapEntry → Text → Option MapEntry
 
 -- The entries of earlier lines and of these, which are numbered on from n; the last is what follows
 -- the last line's end, and has to be empty.
-abbrev pub read_lines : LineForm → List MapEntry → ℕ → List (List ℕ) →
+abbrev pub read_lines : LineForm → List MapEntry → ℕ → List Text →
     Result (List MapEntry) MapFault
 read_lines form entries n [] = Ok entries
 read_lines form entries n (last ∷ []) = if is_empty last then Ok entries else Err (BadMapLine n)

@@ -4,6 +4,7 @@ use Rattle.std.specs.List.{All}
 use Rattle.std.specs.Ordering.{nat_cmp}
 use Rattle.std.specs.Cmp.Lexicographic.{slice_cmp}
 use Rattle.std.specs.declared.cmp.Ordering.TheVariants.{Less}
+use Rattle.ninja_text.specs.Bytes.{Text, PathText, Name, Precedes}
 use Rattle.ninja_text.specs.Paths.{IsPath}
 use Rattle.scan_docs.specs.Name.{is_name}
 use Rattle.module_maps.specs.Values.{ModuleMapValue}
@@ -11,49 +12,45 @@ use Rattle.module_maps.specs.declared.module_map.MapEntry.{MapEntry}
 use Rattle.module_maps.specs.declared.fault.MapFault.{MapFault}
 
 -- the pairs of a map, provided ones first
-abbrev pub pairs_of : ModuleMapValue → List (List ℕ × List ℕ)
+abbrev pub pairs_of : ModuleMapValue → List (Name × PathText)
 pairs_of m = m.provided ++ m.needed
 
 -- The pair is of a name, which is text, and a path.
-pub record IsModule (pair : List ℕ × List ℕ) : Type 0 where
+pub record IsModulePair (pair : Name × PathText) : Type 0 where
   pub name : IsTrue (is_name pair.0)
   pub text : IsUtf8 pair.0
   pub path : IsPath pair.1
 
--- the first name comes before the second in byte order
-abbrev pub Precedes : List ℕ → List ℕ → Type 0
-Precedes a b = slice_cmp nat_cmp a b ≡ Less
-
 -- the names rise strictly in byte order
-abbrev pub IsRising : List (List ℕ × List ℕ) → Type 0
+abbrev pub IsRising : List (Name × PathText) → Type 0
 IsRising pairs = AllPairs (λ a b. Precedes a.0 b.0) pairs
 
 -- The pairs are of names and paths, and the names of the needed modules rise.
 pub record IsModuleMap (m : ModuleMapValue) : Type 0 where
-  pub provided : All IsModule m.provided
-  pub needed : All IsModule m.needed
+  pub provided : All IsModulePair m.provided
+  pub needed : All IsModulePair m.needed
   pub rising : IsRising m.needed
 
 -- The entries are those of the pairs, in order; a name may be left out.
-pub record AreEntriesOf (pairs : List (List ℕ × List ℕ)) (entries : List MapEntry) : Type 0 where
+pub record AreEntriesOf (pairs : List (Name × PathText)) (entries : List MapEntry) : Type 0 where
   pub paths : map (λ e. e.path) entries ≡ map (λ p. p.1) pairs
-  pub names : (k : ℕ) (e : MapEntry) (name : List ℕ) →
+  pub names : (k : ℕ) (e : MapEntry) (name : Name) →
       slice_get entries k ≡ Some e → e.name ≡ Some name →
-      (path : List ℕ) × (slice_get pairs k ≡ Some (name, path))
+      (path : PathText) × (slice_get pairs k ≡ Some (name, path))
 
 -- ---- styles
 
 -- what a style writes for a map, or why it writes nothing
 abbrev pub Written : Type 0
-Written = ModuleMapValue → Result (List ℕ) MapFault
+Written = ModuleMapValue → Result Text MapFault
 
 -- what a style reads in a text, or the fault of the first bad line
 abbrev pub Entries : Type 0
-Entries = List ℕ → Result (List MapEntry) MapFault
+Entries = Text → Result (List MapEntry) MapFault
 
 -- what was written for a map is read as what the style keeps of it
 abbrev pub ReadsWritten : Written → (ModuleMapValue → List MapEntry) → Entries → Type 0
-ReadsWritten written kept entries = (m : ModuleMapValue) (text : List ℕ) →
+ReadsWritten written kept entries = (m : ModuleMapValue) (text : Text) →
     IsModuleMap m → written m ≡ Ok text → entries text ≡ Ok (kept m)
 
 -- what the style keeps are the map's paths in order, each name given being that of its pair
@@ -62,7 +59,7 @@ KeepsPairs kept = (m : ModuleMapValue) → IsModuleMap m → AreEntriesOf (pairs
 
 -- The text was written for a map, of which this is kept.
 pub record IsWrittenText (written : Written) (kept : ModuleMapValue → List MapEntry)
-    (text : List ℕ) (found : List MapEntry) : Type 0 where
+    (text : Text) (found : List MapEntry) : Type 0 where
   pub value : ModuleMapValue
   pub is_map : IsModuleMap value
   pub is_written : written value ≡ Ok text
@@ -70,7 +67,7 @@ pub record IsWrittenText (written : Written) (kept : ModuleMapValue → List Map
 
 -- no other text is read than those that are written for maps
 abbrev pub ReadsWrittenOnly : Written → (ModuleMapValue → List MapEntry) → Entries → Type 0
-ReadsWrittenOnly written kept entries = (text : List ℕ) (found : List MapEntry) →
+ReadsWrittenOnly written kept entries = (text : Text) (found : List MapEntry) →
     entries text ≡ Ok found → IsWrittenText written kept text found
 
 -- What every style keeps to.

@@ -2,7 +2,7 @@
 ghost use Rattle.std.specs.Prelude.{◌≡◌, ◌++◌, ◌-◌, map, length, slice_get, IfOk, OnOk};
 ghost use Rattle.std.specs.List.{flat_map};
 ghost use Rattle.ninja_text.specs.Failure.{Gives};
-ghost use Rattle.module_maps.specs.MapLines.{ended, behind, lines_of};
+ghost use Rattle.module_maps.specs.MapLines.{ended_line, behind, lines_of};
 ghost use Rattle.module_maps.specs.ClangMaps.{file_flag, file_line, file_pair, output_flag, output_path, output_text, clang_text, rises_behind, read_provided};
 
 use crate::fault::MapFault;
@@ -181,7 +181,7 @@ fn push_outputs(text: &mut Vec<u8>, pairs: &[(Name, Path)]) -> Result<(), AllocE
 
 fn push_files(text: &mut Vec<u8>, pairs: &[(Name, Path)]) -> Result<(), AllocError>
     ensures { OnOk result (text.new.items ≡
-        text.old.items ++ flat_map (λ pair. ended (file_line pair)) pairs.now) }
+        text.old.items ++ flat_map (λ pair. ended_line (file_line pair)) pairs.now) }
 {
     for pair in pairs {
         text.extend_from_slice(b"-fmodule-file=")?;

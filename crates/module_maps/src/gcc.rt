@@ -2,7 +2,7 @@
 ghost use Rattle.std.specs.Prelude.{◌≡◌, ◌++◌, ℕ, List, Ok, IfOk, OnOk};
 ghost use Rattle.std.specs.List.{flat_map};
 ghost use Rattle.module_maps.specs.Maps.{pairs_of};
-ghost use Rattle.module_maps.specs.MapLines.{ended};
+ghost use Rattle.module_maps.specs.MapLines.{ended_line};
 ghost use Rattle.module_maps.specs.GccMaps.{gcc_line};
 ghost use Rattle.module_maps.specs.declared.module_map.MapEntry.{MapEntry};
 
@@ -85,7 +85,7 @@ impl LineForm for Gcc {
 /// The lines of a map.
 fn text_of(alloc: Global, map: &ModuleMap) -> Result<Vec<u8>, AllocError>
     ensures { IfOk result (λ text.
-        text.items ≡ flat_map (λ pair. ended (gcc_line pair)) (pairs_of map.now)) }
+        text.items ≡ flat_map (λ pair. ended_line (gcc_line pair)) (pairs_of map.now)) }
 {
     let provided = lines_len(map.provided(), b" \n".len());
     let needed = lines_len(map.needed(), b" \n".len());
@@ -97,7 +97,7 @@ fn text_of(alloc: Global, map: &ModuleMap) -> Result<Vec<u8>, AllocError>
 
 fn push_lines(text: &mut Vec<u8>, pairs: &[(Name, Path)]) -> Result<(), AllocError>
     ensures { OnOk result (text.new.items ≡
-        text.old.items ++ flat_map (λ pair. ended (gcc_line pair)) pairs.now) }
+        text.old.items ++ flat_map (λ pair. ended_line (gcc_line pair)) pairs.now) }
 {
     for pair in pairs {
         text.extend_from_slice(pair.0.text().as_bytes())?;

@@ -1,5 +1,6 @@
 //! Styles of module maps.
 ghost use Rattle.std.specs.Prelude.{◌≡◌, ◌↔◌, List, ℕ, Result, Ok, IsOk, IsTrue, IfOk};
+ghost use Rattle.ninja_text.specs.Bytes.{Text};
 ghost use Rattle.ninja_text.specs.Failure.{Gives};
 ghost use Rattle.module_maps.specs.Values.{ModuleMapValue};
 ghost use Rattle.module_maps.specs.Maps.{ReadsWritten, ReadsWrittenOnly, KeepsPairs};
@@ -14,13 +15,13 @@ use std::alloc::{AllocError, Global};
 /// A style of module maps: how a text says to a compiler where modules are.
 pub trait MapStyle {
     /// The text that the style writes for a map, or why it writes none.
-    ghost written: { Self → ModuleMapValue → Result (List ℕ) MapFault };
+    ghost written: { Self → ModuleMapValue → Result Text MapFault };
 
     /// What a text of the style keeps of a map.
     ghost kept: { Self → ModuleMapValue → List MapEntry };
 
     /// The entries that the style reads in a text, or the fault of its first bad line.
-    ghost entries: { Self → List ℕ → Result (List MapEntry) MapFault };
+    ghost entries: { Self → Text → Result (List MapEntry) MapFault };
 
     /// Whether the style can write the map.
     fn fits(&self, map: &ModuleMap) -> bool

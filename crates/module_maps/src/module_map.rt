@@ -1,7 +1,8 @@
 //! Module maps.
 ghost use Rattle.std.specs.Prelude.{◌≡◌, ◌↔◌, IsSome, IfSome, IsTrue};
 ghost use Rattle.std.specs.List.{All};
-ghost use Rattle.module_maps.specs.Maps.{IsModuleMap, IsModule, Precedes, IsRising};
+ghost use Rattle.module_maps.specs.Maps.{IsModuleMap, IsModulePair, IsRising};
+ghost use Rattle.ninja_text.specs.Bytes.{Precedes};
 
 use ninja_text::Path;
 use scan_docs::Name;
@@ -72,7 +73,7 @@ impl ModuleMap {
 /// Learns that the pairs are of names and paths. Each of their types promises so of a value that is
 /// looked at, but of the elements of a list nothing is known before.
 fn learn_modules(pairs: &[(Name, Path)])
-    ensures { All IsModule pairs.now }
+    ensures { All IsModulePair pairs.now }
 {
     for pair in pairs {
         let _ = pair.0.text();

@@ -18,7 +18,8 @@ use Rattle.std.proofs.lemmas.List.{length_push, length-set, get_or-set_same, get
 use Rattle.std.proofs.lemmas.List.Sorted.{ranks_by, sorted_far, Contains-permutation, IsPermutation-sym}
 use Rattle.module_table.specs.TableValue.{TableValue}
 use Rattle.module_table.specs.Modules.{Provision, provisions}
-use Rattle.module_table.specs.Needed.{Precedes, lent}
+use Rattle.module_table.specs.Needed.{lent}
+use Rattle.ninja_text.specs.Bytes.{Precedes}
 use Rattle.module_table.specs.inner.Indexed.{pair_at}
 use Rattle.module_table.specs.Sound.{IsSound}
 use Rattle.module_table.specs.inner.Ranks.{Numbered, AreListed, AreByName, AreNumbers, AreRanks, AreRanked}

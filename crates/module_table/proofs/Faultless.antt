@@ -13,9 +13,9 @@ use Rattle.dep_order.specs.Cycles.{IsCycle, IsLeastCycle}
 use Rattle.dep_order.proofs.ForCallers.{AreWithin, orderable_same, cycle_same, orderable_or_cycle, least_is_short, no_cycle_without_least}
 use Rattle.module_table.specs.TableValue.{TableValue}
 use Rattle.module_table.specs.Modules.{Provides, Requires, InfoRequires, IsProvided, IsInfoProvided, DependsOn, Provision, provisions, InfoRequirement, info_requirements}
-use Rattle.module_table.specs.Firsts.{IsFirst, IsFirstRepetition}
+use Rattle.ninja_text.specs.Firsts.{IsFirstRepetition, IsFirst}
 use Rattle.module_table.specs.Faults.{IsFault, Claim, claims, Collides, IsUnknown, IsInfoUnknown, Disagrees, HasPrivate, IsPrivateName, IsPrivateElsewhere, Requiring, IsFirstRequired, IsUnprovided}
-use Rattle.module_table.specs.Sound.{IsSound, KeptAreProvided}
+use Rattle.module_table.specs.Sound.{IsSound, PrivateAreProvided}
 use Rattle.module_table.specs.Outcomes.{HasNoFault, FaultlessIsSound}
 use Rattle.module_table.specs.inner.Repetition.{AllDiffer}
 use Rattle.module_table.specs.inner.Views.{names_of, IsAbsent}
@@ -212,7 +212,7 @@ module _ (t : TableValue) (kept : List (List ℕ)) (none : HasNoFault t kept) wh
       r.0 _ r.2 (info, keeps, ne)))
       (cases_eq info i)
 
-  kept_provided : KeptAreProvided t kept
+  kept_provided : PrivateAreProvided t kept
   kept_provided name has =
       let there = placed kept name has in
       let foreign = nowhere (IsUnprovided t) kept (λ place n first. none (PrivateUnknown n) (place, first)) there.0 name there.1 in

@@ -13,7 +13,8 @@ use Rattle.std.proofs.lemmas.Map.Keys.{IsDistinct-from_apart, IsDistinct-IsPermu
 use Rattle.dep_order.specs.Needs.{NodeNeeds, Reaches, AreReached}
 use Rattle.module_table.specs.TableValue.{TableValue}
 use Rattle.module_table.specs.Modules.{IsProvided, Provision, provisions}
-use Rattle.module_table.specs.Needed.{ArePairs, IsNeeded, Precedes, lent}
+use Rattle.module_table.specs.Needed.{ArePairs, IsNeeded, lent}
+use Rattle.ninja_text.specs.Bytes.{Precedes}
 use Rattle.module_table.specs.Sound.{IsSound}
 use Rattle.module_table.specs.inner.Views.{names_of}
 use Rattle.module_table.specs.inner.Graph.{IsModuleGraph}

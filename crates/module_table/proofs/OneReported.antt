@@ -4,9 +4,9 @@ use Rattle.scan_docs.specs.Scan.{RuleValue}
 use Rattle.dep_order.proofs.ForCallers.{one_cycle}
 use Rattle.module_table.specs.TableValue.{TableValue}
 use Rattle.module_table.specs.Modules.{DependsOn, provisions, Provision, InfoRequirement}
-use Rattle.module_table.specs.Firsts.{IsFirst, IsFirstRepetition}
+use Rattle.ninja_text.specs.Firsts.{IsFirstRepetition, IsFirst}
 use Rattle.module_table.specs.Faults.{IsReported, IsFirstRequired, HasPrivate, Claim, code_number}
-use Rattle.module_table.specs.Outcomes.{IsSameFault, same, same_ring, OneFault}
+use Rattle.module_table.specs.Outcomes.{IsSameFault, same, same_ring, OneTableFault}
 use Rattle.module_table.specs.inner.Repetition.{AllDiffer}
 use Rattle.module_table.specs.inner.Views.{names_of}
 use Rattle.module_table.specs.declared.fault.Maker.TheVariants.{Object, Info}
@@ -149,6 +149,6 @@ one_of_code t kept (PrivateUnknown name) (PrivateUnknown other) e a b =
     by_same _ _ (ap PrivateUnknown (one_first _ _ a.present.0 b.present.0 name other a.present.1 b.present.1))
 one_of_code t kept fault other e a b = absurd (omega (arith, e))
 
-pub one_told : OneFault
+pub one_told : OneTableFault
 one_told t kept fault other a b =
     one_of_code t kept fault other (omega (arith, a.lowest other b.present, b.lowest fault a.present)) a b

@@ -5,7 +5,8 @@ use Rattle.std.specs.Ordering.{ordering_reverse}
 use Rattle.std.specs.declared.cmp.Ordering.TheVariants.{Less, Greater}
 use Rattle.std.proofs.lemmas.Cmp.{nat_list_cmp_total}
 use Rattle.std.proofs.lemmas.Option.{slice_get_within, get_or_from_slice_get}
-use Rattle.module_table.specs.Needed.{ArePairs, Precedes}
+use Rattle.module_table.specs.Needed.{ArePairs}
+use Rattle.ninja_text.specs.Bytes.{Precedes}
 use Rattle.module_table.proofs.Places.{same_some}
 use Rattle.module_table.proofs.Required.{Has, contained}
 use Rattle.module_table.proofs.Numbering.{placed}

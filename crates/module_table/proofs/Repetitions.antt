@@ -8,7 +8,7 @@ use Rattle.std.proofs.lemmas.List.Folds.{list_any_at}
 use Rattle.std.proofs.lemmas.Option.{slice_get_within, get_or_from_slice_get, slice_get-get_or}
 use Rattle.std.proofs.lemmas.List.Quantifiers.{position-Some}
 use Rattle.module_table.specs.inner.Repetition.{AllDiffer, RepeatsFirst}
-use Rattle.module_table.specs.Firsts.{IsFirstRepetition}
+use Rattle.ninja_text.specs.Firsts.{IsFirstRepetition}
 use Rattle.module_table.proofs.Places.{same_some, to_map}
 use Rattle.module_table.proofs.Required.{from_map}
 

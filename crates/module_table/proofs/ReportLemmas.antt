@@ -9,7 +9,7 @@ use Rattle.ninja_text.specs.declared.failure.Failure.{Failure}
 use Rattle.ninja_text.specs.declared.failure.Failure.TheVariants.{Memory, Fault}
 use Rattle.module_table.specs.TableValue.{TableValue}
 use Rattle.module_table.specs.Modules.{IsProvided, IsProvidedBy, Provision, provisions}
-use Rattle.module_table.specs.Firsts.{IsFirst}
+use Rattle.ninja_text.specs.Firsts.{IsFirst}
 use Rattle.module_table.specs.Faults.{Claim, claims, claims_of, own_claims, module_claims, IsUnknown}
 use Rattle.module_table.specs.inner.Repetition.{AllDiffer, RepeatsFirst}
 use Rattle.module_table.specs.inner.Views.{names_of, files_of, IsProvidedTwice, IsMadeTwice, IsAbsent}

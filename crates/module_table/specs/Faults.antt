@@ -1,12 +1,13 @@
 -- The faults of a table, and which one is reported.
 use Rattle.std.specs.Prelude.{◌≡◌, ◌≢◌, ℕ, ◌≤◌, Bool, true, false, ◌||◌, List, ◌++◌, map, slice_get, Some, IsTrue}
 use Rattle.std.specs.List.{enumerate_from}
+use Rattle.ninja_text.specs.Bytes.{PathText, Name}
 use Rattle.scan_docs.specs.Scan.{RuleValue}
 use Rattle.scan_docs.specs.Info.{ModuleValue}
 use Rattle.dep_order.specs.Cycles.{IsLeastCycle}
 use Rattle.module_table.specs.TableValue.{TableValue}
 use Rattle.module_table.specs.Modules.{Provides, Requires, InfoProvides, IsProvided, IsInfoProvided, DependsOn, Provision, provisions, InfoRequirement, info_requirements}
-use Rattle.module_table.specs.Firsts.{IsFirst, IsFirstRepetition}
+use Rattle.ninja_text.specs.Firsts.{IsFirstRepetition, IsFirst}
 use Rattle.module_table.specs.declared.fault.Maker.{Maker}
 use Rattle.module_table.specs.declared.fault.Maker.TheVariants.{Object, Info}
 use Rattle.module_table.specs.declared.fault.TableFault.{TableFault}
@@ -15,7 +16,7 @@ use Rattle.module_table.specs.declared.fault.TableFault.TheVariants.{ObjectTwice
 -- a file that somebody makes, and whether it is a module's
 pub record Claim : Type 0 where
   pub maker : Maker
-  pub file : List ℕ
+  pub file : PathText
   pub is_module : Bool
 
 abbrev pub own_claims : List RuleValue → List Claim
@@ -38,24 +39,24 @@ abbrev pub Collides : Claim → Claim → Type 0
 Collides a b = (a.file ≡ b.file) × IsTrue (a.is_module || b.is_module)
 
 -- nobody provides the name
-abbrev pub IsUnknown : TableValue → List ℕ → Type 0
-IsUnknown t name = (file : List ℕ) → IsProvided t name file → ⊥
+abbrev pub IsUnknown : TableValue → Name → Type 0
+IsUnknown t name = (file : PathText) → IsProvided t name file → ⊥
 
 -- no info provides the name
 abbrev pub IsInfoUnknown : TableValue → InfoRequirement → Type 0
-IsInfoUnknown t r = (file : List ℕ) → IsInfoProvided t r.name file → ⊥
+IsInfoUnknown t r = (file : PathText) → IsInfoProvided t r.name file → ⊥
 
 -- an info provides the name with another file
 abbrev pub Disagrees : TableValue → InfoRequirement → Type 0
-Disagrees t r = (file : List ℕ) × IsInfoProvided t r.name file × (file ≢ r.file)
+Disagrees t r = (file : PathText) × IsInfoProvided t r.name file × (file ≢ r.file)
 
 -- the info provides the name, and the module is private to its target
-abbrev pub HasPrivate : TableValue → ℕ → List ℕ → Type 0
+abbrev pub HasPrivate : TableValue → ℕ → Name → Type 0
 HasPrivate t info name = (index : ℕ) × (entry : ModuleValue) × InfoProvides t info index entry
     × (entry.name ≡ name) × (entry.is_private ≡ true)
 
 -- the module of that name is private to the target of some info
-abbrev pub IsPrivateName : TableValue → List ℕ → Type 0
+abbrev pub IsPrivateName : TableValue → Name → Type 0
 IsPrivateName t name = (info : ℕ) × HasPrivate t info name
 
 -- the module of that name is private to another target than that of the module that requires it
@@ -63,66 +64,68 @@ abbrev pub IsPrivateElsewhere : TableValue → InfoRequirement → Type 0
 IsPrivateElsewhere t r = (info : ℕ) × HasPrivate t info r.name × (info ≢ r.info)
 
 -- some name of the list is one of which P holds
-abbrev pub Requiring : (List ℕ → Type 0) → RuleValue → Type 0
-Requiring P rule = (index : ℕ) × (name : List ℕ) × (slice_get rule.required index ≡ Some name)
+abbrev pub Requiring : (Name → Type 0) → RuleValue → Type 0
+Requiring P rule = (index : ℕ) × (name : Name) × (slice_get rule.required index ≡ Some name)
     × P name
 
 -- the first object that requires a name of which P holds, and the first such name of it
-pub record IsFirstRequired (P : List ℕ → Type 0) (objects : List RuleValue) (object : ℕ)
-    (name : List ℕ) : Type 0 where
+pub record IsFirstRequired (P : Name → Type 0) (objects : List RuleValue) (object : ℕ)
+    (name : Name) : Type 0 where
   pub rule : RuleValue
   pub index : ℕ
   pub first_object : IsFirst (Requiring P) objects object rule
   pub first_name : IsFirst P rule.required index name
 
 -- no object provides the name
-abbrev pub IsUnprovided : TableValue → List ℕ → Type 0
-IsUnprovided t name = (object : ℕ) (index : ℕ) (file : List ℕ) → Provides t object index name file
+abbrev pub IsUnprovided : TableValue → Name → Type 0
+IsUnprovided t name = (object : ℕ) (index : ℕ) (file : PathText) → Provides t object index name file
     → ⊥
 
--- the fault is present in the table, with these names kept, and this is its data
-abbrev pub IsFault : TableValue → List (List ℕ) → TableFault → Type 0
+-- the fault is present in the table, with these private names, and this is its data
+abbrev pub IsFault : TableValue → List Name → TableFault → Type 0
 -- M1: two objects have one path
-IsFault t kept (ObjectTwice path first second) =
+IsFault t private_names (ObjectTwice path first second) =
     (i : ℕ) × (j : ℕ) × IsFirstRepetition (λ a b. a ≡ b)
     (map (λ rule. rule.object) t.objects) i j path path × (first ≡ Object i)
     × (second ≡ Object j)
 -- M2: two infos have one target name
-IsFault t kept (InfoTwice target) =
+IsFault t private_names (InfoTwice target) =
     (i : ℕ) × (j : ℕ) × IsFirstRepetition (λ a b. a ≡ b)
     (map (λ info. info.target) t.infos) i j target target
 -- M3: a name is provided twice
-IsFault t kept (ProvidedTwice name first second) =
+IsFault t private_names (ProvidedTwice name first second) =
     (i : ℕ) × (j : ℕ) × (a : Provision) × (b : Provision)
     × IsFirstRepetition (λ x y. x.name ≡ y.name) (provisions t) i j a b
     × (b.name ≡ name) × (a.maker ≡ first) × (b.maker ≡ second)
 -- M4: a file is made twice, at least once as a module's
-IsFault t kept (BmiTwice path first second) =
+IsFault t private_names (BmiTwice path first second) =
     (i : ℕ) × (j : ℕ) × (a : Claim) × (b : Claim) × IsFirstRepetition Collides (claims t) i j a b
     × (b.file ≡ path) × (a.maker ≡ first) × (b.maker ≡ second)
 -- M5: an object requires a name that nobody provides
-IsFault t kept (ModuleUnknown name object) = IsFirstRequired (IsUnknown t) t.objects object name
+IsFault t private_names (ModuleUnknown name object) =
+    IsFirstRequired (IsUnknown t) t.objects object name
 -- M6: an info's module requires a name that no info provides
-IsFault t kept (InfoUnknown target module_name name) =
+IsFault t private_names (InfoUnknown target module_name name) =
     (index : ℕ) × (r : InfoRequirement) × IsFirst (IsInfoUnknown t) (info_requirements t) index r
     × (r.target ≡ target) × (r.module_name ≡ module_name) × (r.name ≡ name)
 -- M7: an info's module requires a name with another file than that of the info that provides it
-IsFault t kept (InfoDisagrees target module_name name) =
+IsFault t private_names (InfoDisagrees target module_name name) =
     (index : ℕ) × (r : InfoRequirement) × IsFirst (Disagrees t) (info_requirements t) index r
     × (r.target ≡ target) × (r.module_name ≡ module_name) × (r.name ≡ name)
 -- M8: objects need each other's modules in a ring
-IsFault t kept (ImportCycle objects) = IsLeastCycle (DependsOn t) objects.items
+IsFault t private_names (ImportCycle objects) = IsLeastCycle (DependsOn t) objects.items
 -- M9: an object requires a module that is private to the target of an info
-IsFault t kept (ModulePrivate name info (Object object)) =
+IsFault t private_names (ModulePrivate name info (Object object)) =
     IsFirstRequired (IsPrivateName t) t.objects object name × HasPrivate t info name
 -- M9: or no object does, and a module of another info
-IsFault t kept (ModulePrivate name info (Info user)) =
-    ((object : ℕ) (other : List ℕ) → Requires t object other → IsPrivateName t other → ⊥)
+IsFault t private_names (ModulePrivate name info (Info user)) =
+    ((object : ℕ) (other : Name) → Requires t object other → IsPrivateName t other → ⊥)
     × ((index : ℕ) × (r : InfoRequirement)
     × IsFirst (IsPrivateElsewhere t) (info_requirements t) index r
     × (r.name ≡ name) × (r.info ≡ user) × HasPrivate t info name × (info ≢ user))
 -- M10: a name is to be private, and no object provides it
-IsFault t kept (PrivateUnknown name) = (index : ℕ) × IsFirst (IsUnprovided t) kept index name
+IsFault t private_names (PrivateUnknown name) =
+    (index : ℕ) × IsFirst (IsUnprovided t) private_names index name
 
 -- the number of the fault's code
 abbrev pub code_number : TableFault → ℕ
@@ -138,6 +141,8 @@ code_number (ModulePrivate name info user) = 9
 code_number (PrivateUnknown name) = 10
 
 -- The fault that is reported: it is present, and none with a lower code is.
-pub record IsReported (t : TableValue) (kept : List (List ℕ)) (fault : TableFault) : Type 0 where
-  pub present : IsFault t kept fault
-  pub lowest : (other : TableFault) → IsFault t kept other → code_number fault ≤ code_number other
+pub record IsReported (t : TableValue) (private_names : List Name) (fault : TableFault)
+    : Type 0 where
+  pub present : IsFault t private_names fault
+  pub lowest : (other : TableFault) → IsFault t private_names other →
+      code_number fault ≤ code_number other

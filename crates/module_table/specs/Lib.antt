@@ -1,6 +1,5 @@
 pub mod TableValue
 pub mod Modules
-pub mod Firsts
 pub mod Faults
 pub mod FaultNames
 pub mod Sound

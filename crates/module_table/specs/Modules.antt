@@ -2,6 +2,7 @@
 -- is in a list go by index, from 0.
 use Rattle.std.specs.Prelude.{◌≡◌, ℕ, Bool, false, List, ◌++◌, map, slice_get, Some, Contains}
 use Rattle.std.specs.List.{flat_map, enumerate_from}
+use Rattle.ninja_text.specs.Bytes.{PathText, Name}
 use Rattle.scan_docs.specs.Scan.{RuleValue}
 use Rattle.scan_docs.specs.Info.{InfoValue, ModuleValue}
 use Rattle.module_table.specs.TableValue.{TableValue}
@@ -11,12 +12,12 @@ use Rattle.module_table.specs.declared.fault.Maker.TheVariants.{Object, Info}
 -- ---- as relations
 
 -- the object provides the name at this index, with the file
-abbrev pub Provides : TableValue → ℕ → ℕ → List ℕ → List ℕ → Type 0
+abbrev pub Provides : TableValue → ℕ → ℕ → Name → PathText → Type 0
 Provides t object index name file = (rule : RuleValue) × (slice_get t.objects object ≡ Some rule)
     × (slice_get rule.provided index ≡ Some (name, file))
 
 -- the object requires the name
-abbrev pub Requires : TableValue → ℕ → List ℕ → Type 0
+abbrev pub Requires : TableValue → ℕ → Name → Type 0
 Requires t object name = (rule : RuleValue) × (slice_get t.objects object ≡ Some rule)
     × Contains rule.required name
 
@@ -26,27 +27,27 @@ InfoProvides t info index entry = (value : InfoValue) × (slice_get t.infos info
     × (slice_get value.modules index ≡ Some entry)
 
 -- this module of an info requires the name, and says that this is its file
-abbrev pub InfoRequires : TableValue → ℕ → ℕ → ModuleValue → List ℕ → List ℕ → Type 0
+abbrev pub InfoRequires : TableValue → ℕ → ℕ → ModuleValue → Name → PathText → Type 0
 InfoRequires t info index entry name file = InfoProvides t info index entry
     × Contains entry.required (name, file)
 
 -- the object or the info provides the name with the file
-abbrev pub IsProvidedBy : TableValue → Maker → List ℕ → List ℕ → Type 0
+abbrev pub IsProvidedBy : TableValue → Maker → Name → PathText → Type 0
 IsProvidedBy t (Object object) name file = (index : ℕ) × Provides t object index name file
 IsProvidedBy t (Info info) name file = (index : ℕ) × (entry : ModuleValue)
     × InfoProvides t info index entry × (entry.name ≡ name) × (entry.file ≡ file)
 
 -- somebody provides the name with the file
-abbrev pub IsProvided : TableValue → List ℕ → List ℕ → Type 0
+abbrev pub IsProvided : TableValue → Name → PathText → Type 0
 IsProvided t name file = (maker : Maker) × IsProvidedBy t maker name file
 
 -- some info provides the name with the file
-abbrev pub IsInfoProvided : TableValue → List ℕ → List ℕ → Type 0
+abbrev pub IsInfoProvided : TableValue → Name → PathText → Type 0
 IsInfoProvided t name file = (info : ℕ) × IsProvidedBy t (Info info) name file
 
 -- the one object requires a name that the other one provides
 abbrev pub DependsOn : TableValue → ℕ → ℕ → Type 0
-DependsOn t object other = (name : List ℕ) × (file : List ℕ) × (index : ℕ) × Requires t object name
+DependsOn t object other = (name : Name) × (file : PathText) × (index : ℕ) × Requires t object name
     × Provides t other index name file
 
 -- ---- as lists, in the order in which faults are looked for
@@ -54,8 +55,8 @@ DependsOn t object other = (name : List ℕ) × (file : List ℕ) × (index : �
 -- a provided module
 pub record Provision : Type 0 where
   pub maker : Maker
-  pub name : List ℕ
-  pub file : List ℕ
+  pub name : Name
+  pub file : PathText
   pub is_private : Bool
 
 abbrev pub object_provisions : ℕ × RuleValue → List Provision
@@ -76,12 +77,12 @@ provisions t = flat_map object_provisions (enumerate_from 0 t.objects)
 -- a requirement of an info's module
 pub record InfoRequirement : Type 0 where
   pub info : ℕ
-  pub target : List ℕ
-  pub module_name : List ℕ
-  pub name : List ℕ
-  pub file : List ℕ
+  pub target : Name
+  pub module_name : Name
+  pub name : Name
+  pub file : PathText
 
-abbrev pub module_requirements : ℕ → List ℕ → ModuleValue → List InfoRequirement
+abbrev pub module_requirements : ℕ → Name → ModuleValue → List InfoRequirement
 module_requirements info target entry = map
     (λ r. record { info = info; target = target; module_name = entry.name; name = r.0; file = r.1 })
     entry.required

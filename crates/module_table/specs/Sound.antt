@@ -1,5 +1,7 @@
 -- A table without a fault.
 use Rattle.std.specs.Prelude.{◌≡◌, ℕ, ◌<◌, List, length, slice_get, Some, Contains}
+use Rattle.ninja_text.specs.Bytes.{PathText, Name}
+use Rattle.dep_order.specs.Numbers.{Numbers}
 use Rattle.scan_docs.specs.Scan.{RuleValue}
 use Rattle.scan_docs.specs.Info.{InfoValue, ModuleValue}
 use Rattle.dep_order.specs.Needs.{IsOrderable}
@@ -23,21 +25,22 @@ pub record IsSound (t : TableValue) : Type 0 where
   pub files_differ : (i j : ℕ) (a b : Claim) → i < j → slice_get (claims t) i ≡ Some a
       → slice_get (claims t) j ≡ Some b → Collides a b → ⊥
   -- what an object requires is provided
-  pub known : (o : ℕ) (name : List ℕ) → Requires t o name → (file : List ℕ) × IsProvided t name file
+  pub known : (o : ℕ) (name : Name) → Requires t o name → (file : PathText) × IsProvided t name file
   -- what an info's module requires is provided by an info, with the file that it says
-  pub infos_known : (i j : ℕ) (m : ModuleValue) (name file : List ℕ)
+  pub infos_known : (i j : ℕ) (m : ModuleValue) (name : Name) (file : PathText)
       → InfoRequires t i j m name file → IsInfoProvided t name file
   -- no objects need each other's modules in a ring
-  pub acyclic : (cycle : List ℕ) → IsCycle (DependsOn t) cycle → ⊥
+  pub acyclic : (cycle : Numbers) → IsCycle (DependsOn t) cycle → ⊥
   pub orderable : IsOrderable (length t.objects) (DependsOn t)
   -- no object requires a module that is private to the target of an info
-  pub objects_allowed : (o info : ℕ) (name : List ℕ) → Requires t o name → HasPrivate t info name
+  pub objects_allowed : (o info : ℕ) (name : Name) → Requires t o name → HasPrivate t info name
       → ⊥
   -- and no info's module requires one that is private to another target
-  pub infos_allowed : (i j info : ℕ) (m : ModuleValue) (name file : List ℕ)
+  pub infos_allowed : (i j info : ℕ) (m : ModuleValue) (name : Name) (file : PathText)
       → InfoRequires t i j m name file → HasPrivate t info name → info ≡ i
 
 -- every name that is to be private is one that an object provides
-abbrev pub KeptAreProvided : TableValue → List (List ℕ) → Type 0
-KeptAreProvided t kept = (name : List ℕ) → Contains kept name → (object : ℕ) × (index : ℕ)
-    × (file : List ℕ) × Provides t object index name file
+abbrev pub PrivateAreProvided : TableValue → List Name → Type 0
+PrivateAreProvided t private_names =
+    (name : Name) → Contains private_names name → (object : ℕ) × (index : ℕ)
+    × (file : PathText) × Provides t object index name file

@@ -2,6 +2,7 @@
 //! have passed: M1 to M4 are in `repeated.rt`, M5 to M7 in `required.rt`, M8 in `rings.rt`, M9 and
 //! M10 in `privacy.rt`.
 ghost use Rattle.std.specs.Prelude.{◌≡◌, ℕ, List, map, IfOk, IfErr, OnOk};
+ghost use Rattle.ninja_text.specs.Bytes.{Name};
 ghost use Rattle.ninja_text.specs.Failure.{ForFault};
 ghost use Rattle.indexmap.specs.IndexSet.{IsEmpty};
 ghost use Rattle.dep_order.specs.Rows.{rows};
@@ -107,9 +108,9 @@ fn check_repetitions<'t, S: BuildHasher + Copy>(
     requires { IsEmpty paths.old }
     ensures modules { IfOk result
         (λ modules. modules ≡ table_with objects.now infos.now) }
-    ensures passed { OnOk result ((kept : List (List ℕ)) →
+    ensures passed { OnOk result ((kept : List Name) →
         Passed 5 (table_with objects.now infos.now) kept) }
-    ensures fault { IfErr result (ForFault (λ fault. (kept : List (List ℕ)) →
+    ensures fault { IfErr result (ForFault (λ fault. (kept : List Name) →
         IsReported (table_with objects.now infos.now) kept fault)) }
 {
     check_objects(alloc, objects, paths)?;

@@ -1,7 +1,7 @@
 //! Laws of tables: functions that do nothing, and whose contracts callers' proofs may cite.
 
 ghost use Rattle.module_table.specs.Added.{AddedOrderable, FilesOnce, FilesApart, RequiredFiles, AllRequired, OneFile};
-ghost use Rattle.module_table.specs.Outcomes.{SoundHasNoFault, FaultlessIsSound, OneFault};
+ghost use Rattle.module_table.specs.Outcomes.{SoundHasNoFault, FaultlessIsSound, OneTableFault};
 
 /// A table is sound, and its objects provide the names that are to be private, exactly where none
 /// of the faults M1 to M10 is present.
@@ -13,7 +13,7 @@ pub fn sound_tables()
 /// Of a table that has faults one is reported, and no other: the same data, and of a ring the same
 /// objects in order.
 pub fn one_fault()
-    ensures { OneFault }
+    ensures { OneTableFault }
 {}
 
 /// What a sound table means for the files that are added to a build: what objects gain as inputs

@@ -1,6 +1,7 @@
 //! The modules that objects need, themselves and through others.
 ghost use Rattle.std.specs.Prelude.{◌≡◌, ◌<◌, ◌+◌, ◌^◌, ℕ, List, All, map, length, slice_get, Some, IfOk};
 ghost use Rattle.std.specs.List.{filter_map};
+ghost use Rattle.ninja_text.specs.Bytes.{PathText, Name};
 ghost use Rattle.module_table.specs.TableValue.{table_with};
 ghost use Rattle.module_table.specs.Needed.{ArePairs, IsNeeded, lent};
 ghost use Rattle.module_table.specs.Sound.{IsSound};
@@ -149,7 +150,7 @@ pub(crate) fn named_at<'t>(
     infos: &'t [Info],
     origin: (Maker, usize),
 ) -> (&'t Name, &'t Path)
-    requires { (name : List ℕ) × (file : List ℕ)
+    requires { (name : Name) × (file : PathText)
         × IsNamedAt objects.now infos.now origin (name, file) }
     ensures { IsNamedAt objects.now infos.now origin (result.0.now, result.1.now) }
 {
@@ -166,7 +167,7 @@ pub(crate) fn named_at<'t>(
 }
 
 fn pair_of_object(objects: &[Rule], object: usize, index: usize) -> &(Name, Path)
-    requires { (name : List ℕ) × (file : List ℕ)
+    requires { (name : Name) × (file : PathText)
         × IsObjectsPair objects.now object index (name, file) }
     ensures { IsObjectsPair objects.now object index result.now }
 {

@@ -5,7 +5,7 @@ ghost use Rattle.scan_docs.specs.Scan.{RuleValue};
 ghost use Rattle.module_table.specs.TableValue.{table_with};
 ghost use Rattle.module_table.specs.Modules.{IsProvidedBy};
 ghost use Rattle.module_table.specs.Faults.{IsReported, IsFault, IsUnknown};
-ghost use Rattle.module_table.specs.Sound.{IsSound, KeptAreProvided};
+ghost use Rattle.module_table.specs.Sound.{IsSound, PrivateAreProvided};
 ghost use Rattle.module_table.specs.Needed.{ArePairs, IsNeeded};
 ghost use Rattle.module_table.specs.Added.{required_of};
 ghost use Rattle.module_table.specs.declared.fault.TableFault.{TableFault};
@@ -67,7 +67,7 @@ impl Table {
     ) -> Result<Table, Failure<TableFault>>
         ensures table { IfOk result (λ table. table ≡ table_with objects.items infos.items) }
         ensures sound { IfOk result IsSound }
-        ensures kept { IfOk result (λ table. KeptAreProvided table kept.now) }
+        ensures kept { IfOk result (λ table. PrivateAreProvided table kept.now) }
         ensures no_fault { IfOk result
             (λ table. (fault : TableFault) → IsFault table kept.now fault → ⊥) }
         ensures fault { IfErr result
@@ -89,7 +89,7 @@ impl<S: BuildHasher + Copy> Table<S> {
     ) -> Result<Table<S>, Failure<TableFault>>
         ensures table { IfOk result (λ table. table ≡ table_with objects.items infos.items) }
         ensures sound { IfOk result IsSound }
-        ensures kept { IfOk result (λ table. KeptAreProvided table kept.now) }
+        ensures kept { IfOk result (λ table. PrivateAreProvided table kept.now) }
         ensures no_fault { IfOk result
             (λ table. (fault : TableFault) → IsFault table kept.now fault → ⊥) }
         ensures fault { IfErr result

@@ -7,7 +7,7 @@ use Rattle.std.proofs.lemmas.List.{length-take-le, append-nil, take-append-drop,
 use Rattle.std.proofs.lemmas.List.Sums.{sum_by-append}
 use Rattle.std.proofs.lemmas.Grind.{flat_map-append}
 use Rattle.std.proofs.lemmas.Bool.{cases_Bool, leb-false, cases_lt}
-use Rattle.ninja_text.specs.Lines.{line_limit, LineEnd, line_end, IsLine, Divides, LogicalLine, logical_line, logical_lines, number_after, line_feeds_in, text_of, text_before, is_comment}
+use Rattle.ninja_text.specs.Lines.{line_limit, LineEnd, line_end, IsLine, Divides, LogicalLine, logical_line, logical_lines, number_after, line_feeds_in, text_of_line, text_before, is_comment}
 use Rattle.ninja_text.specs.Scanning.{scan_from}
 use Rattle.ninja_text.specs.Cutting.{CutterState, feed_outcome, feed_outcome_at, Feeds, FeedsAll, Cuts, waiting_line, lent_next, after_lending}
 use Rattle.ninja_text.specs.declared.fault.CutFault.{CutFault}
@@ -181,7 +181,7 @@ module _ (taken : List ℕ) (lent : List LogicalLine) where
     };
     short = subst (AllByRecursion (λ line. length line ≤ line_limit)) (sym (append-nil (cuts.lines ++ bytes ∷ []))) cuts.short;
     lent_are = ap (λ l. l ++ waiting_line (record { number = number; bytes = bytes; waits = true; failed = false }) ∷ []) cuts.lent_are
-        ∙ ap (λ n. logical_lines [] cuts.lines ++ record { text = text_of bytes; number = n; comment = is_comment bytes } ∷ []) cuts.number
+        ∙ ap (λ n. logical_lines [] cuts.lines ++ record { text = text_of_line bytes; number = n; comment = is_comment bytes } ∷ []) cuts.number
         ∙ sym (logical_lines-push [] cuts.lines bytes);
     number = ap (λ n. min 18446744073709551615 (n + line_feeds_in bytes)) cuts.number ∙ number_after-append (joined cuts.lines) bytes ∙ ap number_after (sym (joined-push cuts.lines bytes));
   }
@@ -190,7 +190,7 @@ module _ (taken : List ℕ) (lent : List LogicalLine) where
   lends_all h cuts = lending_keeps h.number h.bytes h.waits h.failed cuts
 
 -- the text of a line that was scanned
-pub text_scanned : (line : List ℕ) (text_len : ℕ) → scan_from 0 Start line ≡ End text_len (length line) → text_of line ≡ take text_len line
+pub text_scanned : (line : List ℕ) (text_len : ℕ) → scan_from 0 Start line ≡ End text_len (length line) → text_of_line line ≡ take text_len line
 text_scanned line text_len h = let e : line_end line ≡ Some (record { text_len = text_len; line_len = length line }) = line_end_scanned line ∙ ap end_of h in ap (text_before line) e
 
 front_same : (a b x y : List ℕ) → IsLine a → IsLine b → a ++ x ≡ b ++ y → a ≡ b

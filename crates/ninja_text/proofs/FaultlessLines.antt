@@ -7,7 +7,7 @@ use Rattle.ninja_text.specs.Units.{units, unit_len, with_continuation}
 use Rattle.ninja_text.specs.declared.unit.LineUnit.{LineUnit}
 use Rattle.ninja_text.specs.declared.unit.LineUnit.TheVariants.{Continuation, Escape, Byte}
 use Rattle.ninja_text.specs.declared.fault.LexFault.{LexFault}
-use Rattle.ninja_text.specs.Lines.{LineEnd, begins_with_line_feed, end_from, text_before, text_of}
+use Rattle.ninja_text.specs.Lines.{LineEnd, begins_with_line_feed, end_from, text_before, text_of_line}
 use Rattle.ninja_text.specs.Lexical.{begins_variable, is_escapable, unit_fault, earlier, first_fault}
 use Rattle.ninja_text.specs.Escapes.{is_escaped}
 use Rattle.ninja_text.specs.Meanings.{IsFaultless}
@@ -187,10 +187,10 @@ all_proper (u ∷ us) index h i =
     and_from _ _ (unit_proper index u f.0 p.0) (all_proper us (index + unit_len u) f.1 p.1)
 
 -- the units of the text of a line that has no fault
-pub faultless_units : (line : List ℕ) → IsFaultless line → list_all is_proper (units (text_of line)) ≡ true
+pub faultless_units : (line : List ℕ) → IsFaultless line → list_all is_proper (units (text_of_line line)) ≡ true
 faultless_units line r =
     let inner = inner_units line 0 _ (rw r.no_comment at r.is_line.1) in
-    all_proper (units (text_of line)) 0 r.no_fault
+    all_proper (units (text_of_line line)) 0 r.no_fault
     (ap (λ t. list_all is_inner (units t)) (ap (text_before line) r.is_line.1 ∙ ap (λ n. take n line) (inner.at ∙ from_zero inner.count)) ∙ inner.inner) where
       from_zero : (n : ℕ) → 0 + n ≡ n
       from_zero n = omega arith

@@ -4,8 +4,8 @@ use Rattle.std.specs.Prelude.{Result}
 use Rattle.std.specs.List.{AllByRecursion}
 use Rattle.std.proofs.lemmas.List.{append-nil, take-append-drop, length-take-le}
 use Rattle.ninja_text.specs.Lines.{line_limit, LineEnd, line_end, IsLine, Divides, LogicalLine, logical_lines}
-use Rattle.ninja_text.specs.LineReading.{Passes, Refuses, LeadTo, BeginsWith, IsTooLong, IsNextFault, HasFailureBehind, LinesRead, HasLentAll, FeedsLines}
-use Rattle.ninja_text.specs.LineFormats.{LineFormat, LineFaults, IsOfClass, AreOfClasses, AreTextsOfClasses, Begins, StandsFor, IsFaultyAfter, FaultyLine, FaultyEnd, IsDecided}
+use Rattle.ninja_text.specs.LineReading.{Passes, RefusesWith, LeadTo, BeginsWith, IsTooLong, IsNextFault, HasFailureBehind, LinesRead, HasLentAll, FeedsLines}
+use Rattle.ninja_text.specs.LineFormats.{LineFormat, LineFaults, IsOfClass, AreOfClasses, AreTextsOfClasses, Begins, StandsForValue, IsFaultyAfter, FaultyLine, FaultyEnd, IsDecided}
 use Rattle.ninja_text.specs.FormatReading.{AreReadTo, HasRead, Reads}
 use Rattle.ninja_text.specs.Failure.{ForFault}
 use Rattle.ninja_text.specs.declared.failure.Failure.{Failure}
@@ -40,7 +40,7 @@ module _ {C V : Type 0} (format : LineFormat C V) where
 
   -- and with nothing after them stand for what their classes do
   pub all_lent : (bytes : List ℕ) (lent : List LogicalLine) (number : ℕ) (classes : List C) (value : V) → BeginsWith bytes lent number [] → AreTextsOfClasses format lent classes → format.grammar classes value
-      → StandsFor format bytes value
+      → StandsForValue format bytes value
   all_lent bytes lent number classes value begins texts grammar = record {
     lines = begins.lines;
     classes = classes;
@@ -98,7 +98,7 @@ module _ {C V : Type 0} (format : LineFormat C V) where
           inl (faulty_next line (drop e.line_len rest) fault (sym (take-append-drop e.line_len rest)) (front_is_line rest e h) (λ c is _. omega (arith, short_enough line c is, past)) (of_line line past))
 
 -- a reader of lines whose states are those that the classes of its lines lead to
-module _ {C V S E : Type 0} (format : LineFormat C V) (leads : List C → S → Type 0) (passes : Passes S) (refuses : Refuses S E) (of_cutter : CutFault → E) where
+module _ {C V S E : Type 0} (format : LineFormat C V) (leads : List C → S → Type 0) (passes : Passes S) (refuses : RefusesWith S E) (of_cutter : CutFault → E) where
   module _ (steps : (classes : List C) (old new : S) (line : LogicalLine) → leads classes old → passes old line new → (c : C) × format.text_is_of line.text line.comment c × leads (classes ++ c ∷ []) new) where
     -- more lines that passed
     read_on : (lent more : List LogicalLine) (old new : S) → AreReadTo format leads lent old → LeadTo passes old more new → AreReadTo format leads (lent ++ more) new

@@ -3,8 +3,8 @@ use Rattle.std.proofs.Common.{inl, inr, ◌⊎◌, ◌≡◌, ℕ, List, [], ◌
 use Rattle.std.specs.List.{flat_map, AllByRecursion}
 use Rattle.std.proofs.lemmas.List.{append-nil}
 use Rattle.std.proofs.lemmas.Grind.{flat_map-append}
-use Rattle.ninja_text.specs.Lines.{line_end, IsLine, Divides, text_of, is_comment, number_after}
-use Rattle.ninja_text.specs.LineFormats.{LineFormat, LineFaults, IsOfClass, AreOfClasses, Begins, StandsFor, FaultyLine, FaultyEnd, HasFault, IsDecided}
+use Rattle.ninja_text.specs.Lines.{line_end, IsLine, Divides, text_of_line, is_comment, number_after}
+use Rattle.ninja_text.specs.LineFormats.{LineFormat, LineFaults, IsOfClass, AreOfClasses, Begins, StandsForValue, FaultyLine, FaultyEnd, HasFault, IsDecided}
 use Rattle.ninja_text.proofs.CutLemmas.{AllByRecursion-append, divides_one, divides_some}
 
 -- equal lists with equal first elements
@@ -65,10 +65,10 @@ module _ {C V : Type 0} (format : LineFormat C V) where
     classes_one [] [] (d ∷ ds) p q = absurd q
     classes_one (l ∷ lines) [] ds p q = absurd p
     classes_one (l ∷ lines) (c ∷ cs) [] p q = absurd q
-    classes_one (l ∷ lines) (c ∷ cs) (d ∷ ds) p q = cons_same (decided.one_class (text_of l) (is_comment l) c d p.0.1 q.0.1) (classes_one lines cs ds p.1 q.1)
+    classes_one (l ∷ lines) (c ∷ cs) (d ∷ ds) p q = cons_same (decided.one_class (text_of_line l) (is_comment l) c d p.0.1 q.0.1) (classes_one lines cs ds p.1 q.1)
 
     -- a text stands for one value at most
-    pub one_value : (bytes : List ℕ) (v w : V) → StandsFor format bytes v → StandsFor format bytes w → v ≡ w
+    pub one_value : (bytes : List ℕ) (v w : V) → StandsForValue format bytes v → StandsForValue format bytes w → v ≡ w
     one_value bytes v w a b =
         let same = (divides_one bytes a.lines b.lines [] [] a.divided b.divided).0 in
         let classes = classes_one b.lines a.classes b.classes (subst (λ ls. AreOfClasses format ls a.classes) same a.classed) b.classed in
@@ -89,7 +89,7 @@ module _ {C V : Type 0} (format : LineFormat C V) where
     split_classes (l ∷ before) line after (c ∷ cs) [] p q = absurd q
     split_classes (l ∷ before) line after (c ∷ cs) (d ∷ ds) p q =
         let later = split_classes before line after cs ds p.1 q.1 in
-        record { class = later.class; more = later.more; is = later.is; are = cons_same (decided.one_class (text_of l) (is_comment l) c d p.0.1 q.0.1) later.are }
+        record { class = later.class; more = later.more; is = later.is; are = cons_same (decided.one_class (text_of_line l) (is_comment l) c d p.0.1 q.0.1) later.are }
 
     -- the lines of a text with a faulty one
     faulty_lines : (bytes : List ℕ) (n : ℕ) (fault : F) (f : FaultyLine format faults bytes n fault) → (lines : List (List ℕ)) × (rest : List ℕ) × GoesBeyond f.before f.line lines × Divides bytes lines rest
@@ -118,7 +118,7 @@ module _ {C V : Type 0} (format : LineFormat C V) where
         begun_not_faulty bytes n fault f lines classes (d.2.0, (divides_one bytes lines d.0 rest d.1 divided d.3).0 ∙ d.2.1) classed begun
 
     -- a text that stands for something has no fault
-    pub not_both : (bytes : List ℕ) (v : V) (n : ℕ) (fault : F) → StandsFor format bytes v → HasFault format faults bytes n fault → ⊥
+    pub not_both : (bytes : List ℕ) (v : V) (n : ℕ) (fault : F) → StandsForValue format bytes v → HasFault format faults bytes n fault → ⊥
     not_both bytes v n fault a (inl f) =
         no_faulty_line bytes n fault a.lines [] a.classes a.divided a.classed ([], v, subst (λ cs. format.grammar cs v) (sym (append-nil a.classes)) a.grammar) f
     not_both bytes v n fault a (inr f) =
@@ -129,7 +129,7 @@ module _ {C V : Type 0} (format : LineFormat C V) where
     -- ---- a text stands for something, or has a fault
 
     abbrev Outcome : List ℕ → Type 0
-    Outcome bytes = ((value : V) × StandsFor format bytes value) ⊎ ((n : ℕ) × (fault : F) × HasFault format faults bytes n fault)
+    Outcome bytes = ((value : V) × StandsForValue format bytes value) ⊎ ((n : ℕ) × (fault : F) × HasFault format faults bytes n fault)
 
     -- by the bytes after all lines
     at_end : (bytes : List ℕ) (lines : List (List ℕ)) (rest : List ℕ) (classes : List C) → Divides bytes lines rest → AreOfClasses format lines classes → Begins format classes → Outcome bytes

@@ -2,7 +2,7 @@
 use Rattle.std.proofs.Common.{◌≡◌, ℕ, List, [], ◌∷◌, ◌++◌, refl, Some, None, false, take, map}
 use Rattle.std.specs.Prelude.{codes}
 use Rattle.std.specs.Option.{option_map}
-use Rattle.ninja_text.specs.Lines.{line_end, text_of, number_after, is_comment, logical_lines}
+use Rattle.ninja_text.specs.Lines.{line_end, text_of_line, number_after, is_comment, logical_lines}
 use Rattle.ninja_text.specs.Lexical.{lexical_fault}
 use Rattle.ninja_text.specs.declared.fault.LexFault.TheVariants.{Nul, LoneCr, Variable, BadEscape}
 use Rattle.ninja_text.specs.declared.token.TokenKind.TheVariants.{Word, Bar, DoubleBar, BarAt, Colon}
@@ -22,23 +22,23 @@ apart = codes "build a.o $" ++ 10 ∷ [] ++ codes ": dyndep" ++ 10 ∷ []
 joined_line : line_end joined ≡ Some (record { text_len = 20; line_len = 21 })
 joined_line = refl
 
-joined_tokens : tokens (text_of joined) ≡ record { kind = Word; start = 0; end = 5 } ∷ record { kind = Word; start = 6; end = 12 }
+joined_tokens : tokens (text_of_line joined) ≡ record { kind = Word; start = 0; end = 5 } ∷ record { kind = Word; start = 6; end = 12 }
     ∷ record { kind = Colon; start = 12; end = 13 } ∷ record { kind = Word; start = 14; end = 20 } ∷ []
 joined_tokens = refl
 
-joined_value : map (λ t. value_of (raw (text_of joined) t)) (tokens (text_of joined)) ≡ codes "build" ∷ codes "ab" ∷ codes ":" ∷ codes "dyndep" ∷ []
+joined_value : map (λ t. value_of (raw (text_of_line joined) t)) (tokens (text_of_line joined)) ≡ codes "build" ∷ codes "ab" ∷ codes ":" ∷ codes "dyndep" ∷ []
 joined_value = refl
 
 joined_cr_line : option_map (λ e. e.line_len) (line_end (joined_cr ++ codes "more")) ≡ Some 23
 joined_cr_line = refl
 
-joined_cr_text : text_of joined_cr ≡ take 21 joined_cr
+joined_cr_text : text_of_line joined_cr ≡ take 21 joined_cr
 joined_cr_text = refl
 
-joined_cr_value : map (λ t. value_of (raw (text_of joined_cr) t)) (tokens (text_of joined_cr)) ≡ codes "build" ∷ codes "ab" ∷ codes ":" ∷ codes "dyndep" ∷ []
+joined_cr_value : map (λ t. value_of (raw (text_of_line joined_cr) t)) (tokens (text_of_line joined_cr)) ≡ codes "build" ∷ codes "ab" ∷ codes ":" ∷ codes "dyndep" ∷ []
 joined_cr_value = refl
 
-apart_value : map (λ t. value_of (raw (text_of apart) t)) (tokens (text_of apart)) ≡ codes "build" ∷ codes "a.o" ∷ codes ":" ∷ codes "dyndep" ∷ []
+apart_value : map (λ t. value_of (raw (text_of_line apart) t)) (tokens (text_of_line apart)) ≡ codes "build" ∷ codes "a.o" ∷ codes ":" ∷ codes "dyndep" ∷ []
 apart_value = refl
 
 -- `a $` LF ` b` is two words
@@ -70,23 +70,23 @@ n8 = refl
 n10_return : lexical_fault (codes "build a$" ++ 13 ∷ [] ++ codes "b: dyndep") ≡ Some (BadEscape 7)
 n10_return = refl
 
-n8_end : lexical_fault (text_of (codes "build a: dyndep" ++ 13 ∷ 13 ∷ 10 ∷ [])) ≡ Some (LoneCr 15)
+n8_end : lexical_fault (text_of_line (codes "build a: dyndep" ++ 13 ∷ 13 ∷ 10 ∷ [])) ≡ Some (LoneCr 15)
 n8_end = refl
 
-n10_end : lexical_fault (text_of (codes "a$" ++ 13 ∷ 13 ∷ 10 ∷ [])) ≡ Some (BadEscape 1)
+n10_end : lexical_fault (text_of_line (codes "a$" ++ 13 ∷ 13 ∷ 10 ∷ [])) ≡ Some (BadEscape 1)
 n10_end = refl
 
 n10_nul : lexical_fault (codes "a$" ++ 0 ∷ []) ≡ Some (BadEscape 1)
 n10_nul = refl
 
-no_fault : lexical_fault (text_of joined_cr) ≡ None
+no_fault : lexical_fault (text_of_line joined_cr) ≡ None
 no_fault = refl
 
 -- comments
 comment_line : option_map (λ e. e.line_len) (line_end (codes "  # $" ++ 10 ∷ codes "x" ++ 10 ∷ [])) ≡ Some 6
 comment_line = refl
 
-comment_return : text_of (codes "#" ++ 0 ∷ [] ++ codes "$x$" ++ 13 ∷ 10 ∷ []) ≡ codes "#" ++ 0 ∷ [] ++ codes "$x$"
+comment_return : text_of_line (codes "#" ++ 0 ∷ [] ++ codes "$x$" ++ 13 ∷ 10 ∷ []) ≡ codes "#" ++ 0 ∷ [] ++ codes "$x$"
 comment_return = refl
 
 no_comment : is_comment (36 ∷ 10 ∷ codes " #x") ≡ false

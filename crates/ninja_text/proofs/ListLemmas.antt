@@ -8,7 +8,7 @@ use Rattle.ninja_text.specs.declared.unit.LineUnit.TheVariants.{Continuation, Es
 use Rattle.ninja_text.specs.declared.token.TokenKind.{TokenKind}
 use Rattle.ninja_text.specs.declared.token.TokenKind.TheVariants.{Word, Bar, DoubleBar, BarAt, Colon}
 use Rattle.ninja_text.specs.Tokens.{TokenAt, is_blank, is_piece, goes_on, with_first_start, with_unit, tokens_from, tokens}
-use Rattle.ninja_text.specs.TokenLists.{total_len, may_follow, is_word, begins_with, IsToken, AreBlank, Leads, LexesAs, AreTokens}
+use Rattle.ninja_text.specs.TokenLists.{total_len, may_follow, is_word, begins_with, IsToken, AreBlank, BeginsWithToken, LexesAs, AreTokens}
 use Rattle.ninja_text.proofs.TokenLemmas.{tokens_with, tokens_blank, tokens_piece, piece_else, goes_on_piece, continuation_blank, byte_is, byte_len}
 
 -- blank units add no token
@@ -173,7 +173,7 @@ piece_joins index u us (t ∷ ts) p g h =
     )
 
 -- a unit that is a token by itself
-alone : (index : ℕ) (u : LineUnit) (us : List LineUnit) (kind : TokenKind) (end : ℕ) → end ≡ index + unit_len u → IsToken kind (u ∷ []) us → Leads index (u ∷ us) (record { kind = kind; start = index; end = end }) us
+alone : (index : ℕ) (u : LineUnit) (us : List LineUnit) (kind : TokenKind) (end : ℕ) → end ≡ index + unit_len u → IsToken kind (u ∷ []) us → BeginsWithToken index (u ∷ us) (record { kind = kind; start = index; end = end }) us
 alone index u us kind end e token = record { gap = []; own = u ∷ []; whole = refl; blank = tt; start = omega arith; end = omega arith; token = token }
 
 -- a blank unit in front
@@ -217,7 +217,7 @@ with_unit_lexes index u us rest longest h = elim (cases_Bool (is_piece u)) [
 ]
 
 -- two units that are a token
-pair_leads : (index : ℕ) (u v : LineUnit) (us : List LineUnit) (kind : TokenKind) → unit_len u ≡ 1 → unit_len v ≡ 1 → IsToken kind (u ∷ v ∷ []) us → Leads index (u ∷ v ∷ us) (record { kind = kind; start = index; end = index + 2 }) us
+pair_leads : (index : ℕ) (u v : LineUnit) (us : List LineUnit) (kind : TokenKind) → unit_len u ≡ 1 → unit_len v ≡ 1 → IsToken kind (u ∷ v ∷ []) us → BeginsWithToken index (u ∷ v ∷ us) (record { kind = kind; start = index; end = index + 2 }) us
 pair_leads index u v us kind one other token = record { gap = []; own = u ∷ v ∷ []; whole = refl; blank = tt; start = omega arith; end = omega arith; token = token }
 
 two_units : {u v a b : LineUnit} → u ≡ a → v ≡ b → ◌≡◌ {A = List LineUnit} (u ∷ v ∷ []) (a ∷ b ∷ [])

@@ -5,7 +5,7 @@ use Rattle.std.proofs.Math.Seq.{take-append_seam, drop-append_seam}
 use Rattle.std.specs.List.{AllByRecursion}
 use Rattle.ninja_text.proofs.ReducedList.{IsFixed, reduced-fixed, reduced-each, behind-pair, behind-none, behind-stays, parent-not-name}
 use Rattle.ninja_text.proofs.KnownBytes.{rest-is}
-use Rattle.ninja_text.specs.Reduction.{is_current, is_parent, is_name, reduced}
+use Rattle.ninja_text.specs.Reduction.{is_current, is_parent, is_named_component, reduced}
 use Rattle.ninja_text.specs.inner.ComponentLists.{list_text, appended, LacksSlash, EachLacksSlash}
 
 -- the last component, or none
@@ -176,8 +176,8 @@ put-behind before c list new each e not_current no_pair made =
       | inr w ↦
           let fixed : IsFixed (w.0 ++ w.1 ∷ []) = subst IsFixed w.2 (reduced-fixed before) in
           let lacks : LacksSlash w.1 = each-last LacksSlash w.0 w.1 (subst EachLacksSlash w.2 (reduced-each LacksSlash before each)) in
-          let stays : (is_name w.1 && is_parent c) ≡ false = elim no_pair [
-            | inl k ↦ none-parent (is_name w.1) (is_parent c) k
+          let stays : (is_named_component w.1 && is_parent c) ≡ false = elim no_pair [
+            | inl k ↦ none-parent (is_named_component w.1) (is_parent c) k
             | inr k ↦ ap (λ b. b && is_parent c) (parent-not-name (is_current w.1) (is_parent w.1) (k w.0 w.1 lacks (fixed-last w.0 w.1 fixed) (e ∙ ap list_text w.2)))
           ] in
           made ∙ ap (λ l. appended l c) (e ∙ ap list_text w.2) ∙ sym (list_text-fixed w.0 w.1 c fixed)

@@ -2,7 +2,7 @@
 use Rattle.std.proofs.Common.{inl, inr, ◌≡◌, ℕ, ◌≤◌, Bool, true, false, List, [], ◌∷◌, ◌++◌, length, refl, sym, ap, ◌∙◌, subst, append_assoc, Ok, Err, arith}
 use Rattle.std.specs.List.{flat_map, AllByRecursion}
 use Rattle.std.proofs.lemmas.List.{append-nil}
-use Rattle.ninja_text.specs.Lines.{line_limit, IsLine, LogicalLine, text_of, is_comment}
+use Rattle.ninja_text.specs.Lines.{line_limit, IsLine, LogicalLine, text_of_line, is_comment}
 use Rattle.ninja_text.specs.Cutting.{CutterState, Cuts, feed_outcome, Feeds, waiting_line, Finishes}
 use Rattle.ninja_text.specs.LineReading.{LeadTo, HasLent, BeginsWith, IsNextFault, HasFailureBehind, ReadsLine, EndsLines}
 use Rattle.ninja_text.specs.inner.PieceReading.{failure_of}
@@ -96,7 +96,7 @@ module _ {S F : Type 0} (passes : S → LogicalLine → S → Type 0) (refuses :
       → Cuts taken lent new → new.waits ≡ true → line ≡ waiting_line new → refuses state line f → IsNextFault refuses of_cutter all lent state f
   fault_of_line taken rest all lent new state line f split cuts waits is refused = go new.number new.bytes new.waits new.failed waits cuts is where
     go : (n : ℕ) (bytes : List ℕ) (w d : Bool) → w ≡ true → Cuts taken lent (record { number = n; bytes = bytes; waits = w; failed = d })
-        → line ≡ record { text = text_of bytes; number = n; comment = is_comment bytes } → IsNextFault refuses of_cutter all lent state f
+        → line ≡ record { text = text_of_line bytes; number = n; comment = is_comment bytes } → IsNextFault refuses of_cutter all lent state f
     go n bytes false d w cuts l = absurd (let x : false ≡ true = w in cc)
     go n bytes true d w cuts l =
         let shorts = halved cuts.lines bytes cuts.short in

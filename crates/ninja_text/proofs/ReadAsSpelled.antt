@@ -11,7 +11,7 @@ use Rattle.ninja_text.specs.declared.unit.LineUnit.{LineUnit}
 use Rattle.ninja_text.specs.declared.unit.LineUnit.TheVariants.{Continuation, Escape, Byte}
 use Rattle.ninja_text.specs.declared.token.TokenKind.{TokenKind}
 use Rattle.ninja_text.specs.declared.token.TokenKind.TheVariants.{Word}
-use Rattle.ninja_text.specs.Lines.{text_of}
+use Rattle.ninja_text.specs.Lines.{text_of_line}
 use Rattle.ninja_text.specs.Tokens.{TokenAt, is_blank, is_piece, unit_value, value_of, with_raw, tokens, seen_tokens}
 use Rattle.ninja_text.specs.TokenLists.{total_len, begins_with, may_follow, is_word, IsToken, LexesAs}
 use Rattle.ninja_text.specs.Escapes.{is_escaped, is_unwritable, IsPiece, IsContinuation, IsGap, Spells}
@@ -142,9 +142,9 @@ tokens_read text (t ∷ ts) index us r h =
     )
 
 -- of each word of a line without fault
-pub words_read : (line : List ℕ) → IsFaultless line → All IsReadAsSpelled (seen_tokens (text_of line))
+pub words_read : (line : List ℕ) → IsFaultless line → All IsReadAsSpelled (seen_tokens (text_of_line line))
 words_read line r =
-    let text = text_of line in
+    let text = text_of_line line in
     All-from_recursion IsReadAsSpelled (seen_tokens text) (tokens_read text (tokens text) 0 (units text) (remains_all text (faultless_units line r)) (tokens_are text))
 
 -- ---- values
@@ -210,9 +210,9 @@ value_is : (text : List ℕ) (p : AssignmentIndexes) (a : SeenAssignment) → Sp
 value_is text p a h e = let same : with_bytes text p ≡ a = cc in subst IsValueAsSpelled same h
 
 -- of the value of a line without fault that is an assignment
-pub values_read : (line : List ℕ) → IsFaultless line → ForSome (assignment_of (text_of line)) IsValueAsSpelled
+pub values_read : (line : List ℕ) → IsFaultless line → ForSome (assignment_of (text_of_line line)) IsValueAsSpelled
 values_read line r a h =
-    let text = text_of line in
+    let text = text_of_line line in
     let name = after_run is_blank 0 (units text) in
     let past_name = after_run is_name_unit name.place name.units in
     let sign = after_run is_blank past_name.place past_name.units in

@@ -2,7 +2,7 @@
 use Rattle.std.proofs.Common.{◌≡◌, ℕ, zero, suc, Bool, true, false, not, ◌||◌, ◌&&◌, ◌==◌, cond, IsTrue, List, [], ◌∷◌, ◌++◌, refl, sym, ◌∙◌, ap, subst, append_assoc, rules, ◌⊎◌, inl, inr}
 use Rattle.std.specs.List.{AllByRecursion, list_any}
 use Rattle.std.proofs.lemmas.Bool.{or_parts}
-use Rattle.ninja_text.specs.Reduction.{is_current, is_parent, is_name, IsDeletable, Step, Steps, IsReduced, ReducesTo, in_front, reduced}
+use Rattle.ninja_text.specs.Reduction.{is_current, is_parent, is_named_component, IsDeletable, ReductionStep, Steps, IsReduced, ReducesTo, in_front, reduced}
 
 -- a test is true or false
 pub either_way : (b : Bool) → (b ≡ true) ⊎ (b ≡ false)
@@ -21,7 +21,7 @@ is_true b h = search rules
 abbrev pub IsFixed : List (List ℕ) → Type 0
 IsFixed [] = Unit {0}
 IsFixed (c ∷ []) = is_current c ≡ false
-IsFixed (c ∷ d ∷ ds) = (is_current c ≡ false) × ((is_name c && is_parent d) ≡ false) × IsFixed (d ∷ ds)
+IsFixed (c ∷ d ∷ ds) = (is_current c ≡ false) × ((is_named_component c && is_parent d) ≡ false) × IsFixed (d ∷ ds)
 
 -- no step applies to the rest of a list to which none applies
 pub fixed-tail : (c : List ℕ) (cs : List (List ℕ)) → IsFixed (c ∷ cs) → IsFixed cs
@@ -33,15 +33,15 @@ fixed-tail c (d ∷ ds) h = h.2
 -- an empty component or `.` goes
 pub in_front-current : (c : List ℕ) (r : List (List ℕ)) → is_current c ≡ true → in_front c r ≡ r
 in_front-current c [] h = ap (λ b. cond b [] (c ∷ [])) h
-in_front-current c (d ∷ ds) h = ap (λ b. cond b (d ∷ ds) (cond (is_name c && is_parent d) ds (c ∷ d ∷ ds))) h
+in_front-current c (d ∷ ds) h = ap (λ b. cond b (d ∷ ds) (cond (is_named_component c && is_parent d) ds (c ∷ d ∷ ds))) h
 
 -- a name and the `..` behind it go
-pub in_front-pair : (c d : List ℕ) (ds : List (List ℕ)) → is_current c ≡ false → (is_name c && is_parent d) ≡ true → in_front c (d ∷ ds) ≡ ds
-in_front-pair c d ds h k = ap (λ b. cond b (d ∷ ds) (cond (is_name c && is_parent d) ds (c ∷ d ∷ ds))) h ∙ ap (λ b. cond b ds (c ∷ d ∷ ds)) k
+pub in_front-pair : (c d : List ℕ) (ds : List (List ℕ)) → is_current c ≡ false → (is_named_component c && is_parent d) ≡ true → in_front c (d ∷ ds) ≡ ds
+in_front-pair c d ds h k = ap (λ b. cond b (d ∷ ds) (cond (is_named_component c && is_parent d) ds (c ∷ d ∷ ds))) h ∙ ap (λ b. cond b ds (c ∷ d ∷ ds)) k
 
 -- any other component stays in front of the list
-pub in_front-stays : (c d : List ℕ) (ds : List (List ℕ)) → is_current c ≡ false → (is_name c && is_parent d) ≡ false → in_front c (d ∷ ds) ≡ c ∷ d ∷ ds
-in_front-stays c d ds h k = ap (λ b. cond b (d ∷ ds) (cond (is_name c && is_parent d) ds (c ∷ d ∷ ds))) h ∙ ap (λ b. cond b ds (c ∷ d ∷ ds)) k
+pub in_front-stays : (c d : List ℕ) (ds : List (List ℕ)) → is_current c ≡ false → (is_named_component c && is_parent d) ≡ false → in_front c (d ∷ ds) ≡ c ∷ d ∷ ds
+in_front-stays c d ds h k = ap (λ b. cond b (d ∷ ds) (cond (is_named_component c && is_parent d) ds (c ∷ d ∷ ds))) h ∙ ap (λ b. cond b ds (c ∷ d ∷ ds)) k
 
 -- and alone
 pub in_front-alone : (c : List ℕ) → is_current c ≡ false → in_front c [] ≡ c ∷ []
@@ -53,7 +53,7 @@ in_front-fixed c [] f = elim (either_way (is_current c)) [ inl h ↦ subst IsFix
 in_front-fixed c (d ∷ ds) f =
     elim (either_way (is_current c)) [
       | inl h ↦ subst IsFixed (sym (in_front-current c (d ∷ ds) h)) f
-      | inr h ↦ elim (either_way (is_name c && is_parent d)) [
+      | inr h ↦ elim (either_way (is_named_component c && is_parent d)) [
         | inl k ↦ subst IsFixed (sym (in_front-pair c d ds h k)) (fixed-tail d ds f)
         | inr k ↦ subst IsFixed (sym (in_front-stays c d ds h k)) (h, k, f)
       ]
@@ -78,7 +78,7 @@ names-fixed (c ∷ d ∷ ds) none =
     let p = or_parts (is_current c || is_parent c) (list_any (λ c. is_current c || is_parent c) (d ∷ ds)) none in
     let q = or_parts (is_current d || is_parent d) (list_any (λ c. is_current c || is_parent c) ds) p.1 in (
       (or_parts (is_current c) (is_parent c) p.0).0,
-      and-none (is_name c) (is_parent d) (or_parts (is_current d) (is_parent d) q.0).1,
+      and-none (is_named_component c) (is_parent d) (or_parts (is_current d) (is_parent d) q.0).1,
       names-fixed (d ∷ ds) p.1,
     )
   where
@@ -120,7 +120,7 @@ in_front-parent d [] h = in_front-alone d (parent-not-current d h)
 in_front-parent d (e ∷ es) h = in_front-stays d e es (parent-not-current d h) (ap (λ b. b && is_parent e) (parent-not-name (is_current d) (is_parent d) h))
 
 -- a name and `..` in front of a list go
-pub in_front-name_parent : (c d : List ℕ) (r : List (List ℕ)) → is_name c ≡ true → is_parent d ≡ true → in_front c (in_front d r) ≡ r
+pub in_front-name_parent : (c d : List ℕ) (r : List (List ℕ)) → is_named_component c ≡ true → is_parent d ≡ true → in_front c (in_front d r) ≡ r
 in_front-name_parent c d r h k =
     ap (in_front c) (in_front-parent d r k)
     ∙ in_front-pair c d r (current-not-name (is_current c) (is_parent c) h) (ap (λ b. b && is_parent d) h ∙ k)
@@ -138,7 +138,7 @@ reduced-gone (c ∷ d ∷ []) back h = in_front-name_parent c d (reduced back) (
 reduced-gone (c ∷ d ∷ e ∷ more) back h = absurd h
 
 -- a step leaves what the list comes to
-pub step-reduced : (old new : List (List ℕ)) → Step old new → reduced old ≡ reduced new
+pub step-reduced : (old new : List (List ℕ)) → ReductionStep old new → reduced old ≡ reduced new
 step-reduced old new s =
     ap reduced s.before ∙ reduced-context s.front (s.gone ++ s.back) s.back (reduced-gone s.gone s.back s.deletable) ∙ sym (ap reduced s.after)
 
@@ -150,11 +150,11 @@ steps-reduced (suc n) old new h = step-reduced old h.0 h.1 ∙ steps-reduced n h
 -- ---- no step applies exactly where the list is fixed
 
 -- a step behind one more component
-pub step-behind : (c : List ℕ) (old new : List (List ℕ)) → Step old new → Step (c ∷ old) (c ∷ new)
+pub step-behind : (c : List ℕ) (old new : List (List ℕ)) → ReductionStep old new → ReductionStep (c ∷ old) (c ∷ new)
 step-behind c old new s = record { front = c ∷ s.front; gone = s.gone; back = s.back; deletable = s.deletable; before = ap (λ l. c ∷ l) s.before; after = ap (λ l. c ∷ l) s.after }
 
 -- the step that deletes an empty component or `.` in front
-step-current : (c : List ℕ) (cs : List (List ℕ)) → is_current c ≡ true → Step (c ∷ cs) cs
+step-current : (c : List ℕ) (cs : List (List ℕ)) → is_current c ≡ true → ReductionStep (c ∷ cs) cs
 step-current c cs h = record { front = []; gone = c ∷ []; back = cs; deletable = is_true _ h; before = refl; after = refl }
 
 -- the first of two tests that hold
@@ -168,8 +168,8 @@ and-right true b h = h
 and-right false b h = cc
 
 -- the step that deletes a name and the `..` behind it in front
-step-pair : (c d : List ℕ) (ds : List (List ℕ)) → (is_name c && is_parent d) ≡ true → Step (c ∷ d ∷ ds) ds
-step-pair c d ds h = record { front = []; gone = c ∷ d ∷ []; back = ds; deletable = (is_true _ (and-left (is_name c) (is_parent d) h), is_true _ (and-right (is_name c) (is_parent d) h)); before = refl; after = refl }
+step-pair : (c d : List ℕ) (ds : List (List ℕ)) → (is_named_component c && is_parent d) ≡ true → ReductionStep (c ∷ d ∷ ds) ds
+step-pair c d ds h = record { front = []; gone = c ∷ d ∷ []; back = ds; deletable = (is_true _ (and-left (is_named_component c) (is_parent d) h), is_true _ (and-right (is_named_component c) (is_parent d) h)); before = refl; after = refl }
 
 -- no step applies to the rest of a list to which none applies
 reduced-tail : (c : List ℕ) (cs : List (List ℕ)) → IsReduced (c ∷ cs) → IsReduced cs
@@ -186,7 +186,7 @@ final-fixed [] h = tt
 final-fixed (c ∷ []) h = or-absurd (is_current c) (λ k. h [] (step-current c [] k))
 final-fixed (c ∷ d ∷ ds) h = (
   or-absurd (is_current c) (λ k. h (d ∷ ds) (step-current c (d ∷ ds) k)),
-  or-absurd (is_name c && is_parent d) (λ k. h ds (step-pair c d ds k)),
+  or-absurd (is_named_component c && is_parent d) (λ k. h ds (step-pair c d ds k)),
   final-fixed (d ∷ ds) (reduced-tail c (d ∷ ds) h),
 )
 
@@ -200,7 +200,7 @@ fixed-gone : (gone back : List (List ℕ)) → IsDeletable gone → IsFixed (gon
 fixed-gone [] back h f = h
 fixed-gone (c ∷ []) [] h f = let e = true_is (is_current c) h in cc
 fixed-gone (c ∷ []) (d ∷ ds) h f = let e = true_is (is_current c) h in let g = f.0 in cc
-fixed-gone (c ∷ d ∷ []) back h f = let e = true_is (is_name c) h.0 in let k = true_is (is_parent d) h.1 in let g = f.1 in let j : (is_name c && is_parent d) ≡ true = ap (λ b. b && is_parent d) e ∙ k in cc
+fixed-gone (c ∷ d ∷ []) back h f = let e = true_is (is_named_component c) h.0 in let k = true_is (is_parent d) h.1 in let g = f.1 in let j : (is_named_component c && is_parent d) ≡ true = ap (λ b. b && is_parent d) e ∙ k in cc
 fixed-gone (c ∷ d ∷ e ∷ more) back h f = h
 
 -- to a fixed list no step applies
@@ -219,8 +219,8 @@ leads-behind c zero old new h = ap (λ l. c ∷ l) h
 leads-behind c (suc n) old new h = (c ∷ h.0, step-behind c old h.0 h.1, leads-behind c n h.0 new h.2)
 
 -- steps, and then one more
-leads-on : (n : ℕ) (old mid new : List (List ℕ)) → Steps n old mid → Step mid new → LeadsTo old new
-leads-on zero old mid new h s = (1, (new, subst (λ l. Step l new) (sym h) s, refl))
+leads-on : (n : ℕ) (old mid new : List (List ℕ)) → Steps n old mid → ReductionStep mid new → LeadsTo old new
+leads-on zero old mid new h s = (1, (new, subst (λ l. ReductionStep l new) (sym h) s, refl))
 leads-on (suc n) old mid new h s = let rest = leads-on n h.0 mid new h.2 s in (suc rest.0, (h.0, h.1, rest.1))
 
 -- the step that one more component in front makes possible
@@ -233,7 +233,7 @@ leads-front c [] old n s =
 leads-front c (d ∷ ds) old n s =
     elim (either_way (is_current c)) [
       | inl h ↦ subst (LeadsTo old) (sym (in_front-current c (d ∷ ds) h)) (leads-on n old (c ∷ d ∷ ds) (d ∷ ds) s (step-current c (d ∷ ds) h))
-      | inr h ↦ elim (either_way (is_name c && is_parent d)) [
+      | inr h ↦ elim (either_way (is_named_component c && is_parent d)) [
         | inl k ↦ subst (LeadsTo old) (sym (in_front-pair c d ds h k)) (leads-on n old (c ∷ d ∷ ds) ds s (step-pair c d ds k))
         | inr k ↦ subst (LeadsTo old) (sym (in_front-stays c d ds h k)) (n, s)
       ]
@@ -255,7 +255,7 @@ reaches-only xs ys r = sym (fixed-reduced ys (final-fixed ys r.final)) ∙ sym (
 -- ---- a component behind a list
 
 -- a step in front of other components
-step-ahead : (old new ys : List (List ℕ)) → Step old new → Step (old ++ ys) (new ++ ys)
+step-ahead : (old new ys : List (List ℕ)) → ReductionStep old new → ReductionStep (old ++ ys) (new ++ ys)
 step-ahead old new ys s = record {
   front = s.front;
   gone = s.gone;
@@ -284,7 +284,7 @@ pub behind-current : (xs : List (List ℕ)) (c : List ℕ) → is_current c ≡ 
 behind-current xs c h = reduced-context xs (c ∷ []) [] (in_front-current c [] h) ∙ ap reduced (append-nil xs)
 
 -- `..` behind a list that ends in a name goes with it
-pub behind-pair : (xs init : List (List ℕ)) (last c : List ℕ) → reduced xs ≡ init ++ last ∷ [] → is_name last ≡ true → is_parent c ≡ true → reduced (xs ++ c ∷ []) ≡ init
+pub behind-pair : (xs init : List (List ℕ)) (last c : List ℕ) → reduced xs ≡ init ++ last ∷ [] → is_named_component last ≡ true → is_parent c ≡ true → reduced (xs ++ c ∷ []) ≡ init
 behind-pair xs init last c e h k =
     reduced-ahead xs (c ∷ [])
     ∙ ap (λ l. reduced (l ++ c ∷ [])) e
@@ -300,13 +300,13 @@ behind-pair xs init last c e h k =
     fixed-front (a ∷ b ∷ init) rest f = (f.0, f.1, fixed-front (b ∷ init) rest f.2)
 
 -- no step applies to a list with one more component behind it, where that one stays
-fixed-snoc : (init : List (List ℕ)) (last c : List ℕ) → IsFixed (init ++ last ∷ []) → is_current c ≡ false → (is_name last && is_parent c) ≡ false → IsFixed (init ++ last ∷ c ∷ [])
+fixed-snoc : (init : List (List ℕ)) (last c : List ℕ) → IsFixed (init ++ last ∷ []) → is_current c ≡ false → (is_named_component last && is_parent c) ≡ false → IsFixed (init ++ last ∷ c ∷ [])
 fixed-snoc [] last c f h k = (f, k, h)
 fixed-snoc (a ∷ []) last c f h k = (f.0, f.1, (f.2, k, h))
 fixed-snoc (a ∷ b ∷ init) last c f h k = (f.0, f.1, fixed-snoc (b ∷ init) last c f.2 h k)
 
 -- any other component stays behind a list
-pub behind-stays : (xs init : List (List ℕ)) (last c : List ℕ) → reduced xs ≡ init ++ last ∷ [] → is_current c ≡ false → (is_name last && is_parent c) ≡ false → reduced (xs ++ c ∷ []) ≡ init ++ last ∷ c ∷ []
+pub behind-stays : (xs init : List (List ℕ)) (last c : List ℕ) → reduced xs ≡ init ++ last ∷ [] → is_current c ≡ false → (is_named_component last && is_parent c) ≡ false → reduced (xs ++ c ∷ []) ≡ init ++ last ∷ c ∷ []
 behind-stays xs init last c e h k =
     reduced-ahead xs (c ∷ [])
     ∙ ap (λ l. reduced (l ++ c ∷ [])) e
@@ -325,7 +325,7 @@ in_front-each P c [] p a = elim (either_way (is_current c)) [ inl h ↦ subst (A
 in_front-each P c (d ∷ ds) p a =
     elim (either_way (is_current c)) [
       | inl h ↦ subst (AllByRecursion P) (sym (in_front-current c (d ∷ ds) h)) a
-      | inr h ↦ elim (either_way (is_name c && is_parent d)) [
+      | inr h ↦ elim (either_way (is_named_component c && is_parent d)) [
         | inl k ↦ subst (AllByRecursion P) (sym (in_front-pair c d ds h k)) a.1
         | inr k ↦ subst (AllByRecursion P) (sym (in_front-stays c d ds h k)) (p, a)
       ]

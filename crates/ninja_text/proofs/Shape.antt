@@ -8,7 +8,7 @@ use Rattle.std.proofs.lemmas.Str.{IsUtf8-append, IsUtf8-take, IsUtf8-drop, IsUtf
 use Rattle.std.proofs.Math.Seq.{take-append_seam, drop-append-add}
 use Rattle.ninja_text.specs.declared.fault.PathFault.TheVariants.{Empty}
 use Rattle.ninja_text.specs.Escapes.{is_unwritable, IsWritable}
-use Rattle.ninja_text.specs.Reduction.{is_current, is_parent, is_name, reduced, ReducesTo, components}
+use Rattle.ninja_text.specs.Reduction.{is_current, is_parent, is_named_component, reduced, ReducesTo, components}
 use Rattle.ninja_text.specs.Paths.{path_text, below, relative_or, seen_from, is_empty, is_rooted, canonical_of, path_of, IsPath}
 use Rattle.ninja_text.specs.PathShape.{parts, names, IsShaped}
 use Rattle.ninja_text.specs.inner.ComponentLists.{list_text}
@@ -27,11 +27,11 @@ and-other : (n u : Bool) → n ≡ true → (n && u) ≡ false → u ≡ false
 and-other n u h k = sym (ap (λ b. b && u) h) ∙ k
 
 -- behind a name there are only names
-all-names : (c : List ℕ) (cs : List (List ℕ)) → IsFixed (c ∷ cs) → is_parent c ≡ false → AllByRecursion (λ n. is_name n ≡ true) (c ∷ cs)
+all-names : (c : List ℕ) (cs : List (List ℕ)) → IsFixed (c ∷ cs) → is_parent c ≡ false → AllByRecursion (λ n. is_named_component n ≡ true) (c ∷ cs)
 all-names c [] f h = (name-of (is_current c) (is_parent c) f h, tt)
 all-names c (d ∷ ds) f h =
     let n = name-of (is_current c) (is_parent c) f.0 h in
-    (n, all-names d ds f.2 (and-other (is_name c) (is_parent d) n f.1))
+    (n, all-names d ds f.2 (and-other (is_named_component c) (is_parent d) n f.1))
 
 -- no step applies to the rest of a list to which none applies
 fixed-rest : (c : List ℕ) (cs : List (List ℕ)) → IsFixed (c ∷ cs) → IsFixed cs
@@ -39,15 +39,15 @@ fixed-rest c [] f = tt
 fixed-rest c (d ∷ ds) f = f.2
 
 -- behind the `..` in front there are only names
-behind-parents : (l : List (List ℕ)) → IsFixed l → AllByRecursion (λ n. is_name n ≡ true) (drop (prefix_len is_parent l) l)
+behind-parents : (l : List (List ℕ)) → IsFixed l → AllByRecursion (λ n. is_named_component n ≡ true) (drop (prefix_len is_parent l) l)
 behind-parents [] f = tt
 behind-parents (c ∷ cs) f = elim (either_way (is_parent c)) [
   | inl h ↦
       let e : prefix_len is_parent (c ∷ cs) ≡ suc (prefix_len is_parent cs) = ap (λ b. cond b (1 + prefix_len is_parent cs) 0) h ∙ omega arith in
-      subst (λ n. AllByRecursion (λ n. is_name n ≡ true) (drop n (c ∷ cs))) (sym e) (behind-parents cs (fixed-rest c cs f))
+      subst (λ n. AllByRecursion (λ n. is_named_component n ≡ true) (drop n (c ∷ cs))) (sym e) (behind-parents cs (fixed-rest c cs f))
   | inr h ↦
       let e : prefix_len is_parent (c ∷ cs) ≡ 0 = ap (λ b. cond b (1 + prefix_len is_parent cs) 0) h in
-      subst (λ n. AllByRecursion (λ n. is_name n ≡ true) (drop n (c ∷ cs))) (sym e) (all-names c cs f h)
+      subst (λ n. AllByRecursion (λ n. is_named_component n ≡ true) (drop n (c ∷ cs))) (sym e) (all-names c cs f h)
 ]
 
 -- no `..` is in front where there is none
@@ -95,7 +95,7 @@ shape path h =
     record {
       text = sym f.made;
       some = empty-not (parts path) f.some;
-      named = All-from_recursion (λ n. is_name n ≡ true) (names path) (behind-parents (parts path) (reduced-fixed (components path)));
+      named = All-from_recursion (λ n. is_named_component n ≡ true) (names path) (behind-parents (parts path) (reduced-fixed (components path)));
       below_root = λ r. no-parents (parts path) (and-other (is_rooted path) (list_any is_parent (parts path)) r f.inside);
       writable = writable path h;
       short = at-most 4096 (length path) f.short;

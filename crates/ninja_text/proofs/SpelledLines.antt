@@ -5,7 +5,7 @@ use Rattle.std.proofs.lemmas.List.{append-nil, take_at}
 use Rattle.ninja_text.specs.Units.{units}
 use Rattle.ninja_text.specs.declared.unit.LineUnit.{LineUnit}
 use Rattle.ninja_text.specs.declared.unit.LineUnit.TheVariants.{Byte}
-use Rattle.ninja_text.specs.Lines.{is_comment, end_from, line_end, IsLine, text_before, text_of}
+use Rattle.ninja_text.specs.Lines.{is_comment, end_from, line_end, IsLine, text_before, text_of_line}
 use Rattle.ninja_text.specs.Lexical.{first_fault, lexical_fault}
 use Rattle.ninja_text.proofs.SpelledUnits.{is_sound, text_of_units, units_read, end_past, no_fault_in}
 
@@ -28,5 +28,5 @@ module _ (us : List LineUnit) (sound : list_all is_sound us ≡ true) (said : is
   pub is_line : IsLine (line_of_units us)
   is_line = (length (text_of_units us), ends ∙ ap (λ n. Some (record { text_len = length (text_of_units us); line_len = n })) (sym (length-append (text_of_units us) (10 ∷ []))))
 
-  pub text_is : text_of (line_of_units us) ≡ text_of_units us
+  pub text_is : text_of_line (line_of_units us) ≡ text_of_units us
   text_is = ap (text_before (line_of_units us)) ends ∙ take_at (text_of_units us) (10 ∷ []) (length (text_of_units us)) refl

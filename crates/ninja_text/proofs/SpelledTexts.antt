@@ -9,7 +9,7 @@ use Rattle.ninja_text.specs.declared.unit.LineUnit.{LineUnit}
 use Rattle.ninja_text.specs.declared.unit.LineUnit.TheVariants.{Continuation, Escape, Byte}
 use Rattle.ninja_text.specs.declared.token.TokenKind.{TokenKind}
 use Rattle.ninja_text.specs.declared.token.TokenKind.TheVariants.{Word, Bar, Colon}
-use Rattle.ninja_text.specs.Lines.{is_comment, IsLine, text_of}
+use Rattle.ninja_text.specs.Lines.{is_comment, IsLine, text_of_line}
 use Rattle.ninja_text.specs.Lexical.{lexical_fault}
 use Rattle.ninja_text.specs.Tokens.{TokenAt, is_piece, goes_on, with_first_start, tokens_from, tokens, raw}
 use Rattle.ninja_text.specs.Escapes.{IsWritable, escaped}
@@ -106,8 +106,8 @@ module _ {X : Type 0} (view : TokenKind → List ℕ → X) where
     pub written_line : is_comment (text ++ 10 ∷ []) ≡ false → IsLine (text ++ 10 ∷ [])
     written_line said = subst (λ t. IsLine (t ++ 10 ∷ [])) w.text_is (is_line w.units w.sound (ap (λ t. is_comment (t ++ 10 ∷ [])) w.text_is ∙ said))
 
-    pub written_text : is_comment (text ++ 10 ∷ []) ≡ false → text_of (text ++ 10 ∷ []) ≡ text
-    written_text said = ap (λ t. text_of (t ++ 10 ∷ [])) (sym w.text_is) ∙ text_is w.units w.sound (ap (λ t. is_comment (t ++ 10 ∷ [])) w.text_is ∙ said) ∙ w.text_is
+    pub written_text : is_comment (text ++ 10 ∷ []) ≡ false → text_of_line (text ++ 10 ∷ []) ≡ text
+    written_text said = ap (λ t. text_of_line (t ++ 10 ∷ [])) (sym w.text_is) ∙ text_is w.units w.sound (ap (λ t. is_comment (t ++ 10 ∷ [])) w.text_is ∙ said) ∙ w.text_is
 
 -- a first token, and where it stands
 pub record First (index : ℕ) (ts : List TokenAt) : Type 0 where

@@ -1,21 +1,21 @@
 -- An assignment: a name, `=`, and a value that goes to the end of the text.
 use Rattle.std.specs.Prelude.{◌≡◌, ℕ, ◌+◌, ◌<◌, Bool, false, ◌==◌, ◌&&◌, ◌||◌, nat_lt, if◌then◌else◌, List, [], ◌∷◌, ◌++◌, length, take, drop, slice_range, Option, Some, None}
 use Rattle.std.specs.Option.{option_map}
-use Rattle.ninja_text.specs.Bytes.{dot}
-use Rattle.ninja_text.specs.Units.{unit_len, is_byte, units, is_digit, is_letter, equals_sign, underscore, hyphen}
+use Rattle.ninja_text.specs.Bytes.{Text, Name, dot, hyphen, equals_sign, underscore}
+use Rattle.ninja_text.specs.Units.{unit_len, is_byte, units, is_digit, is_letter}
 use Rattle.ninja_text.specs.declared.unit.LineUnit.{LineUnit}
 use Rattle.ninja_text.specs.declared.unit.LineUnit.TheVariants.{Continuation, Escape, Byte}
 use Rattle.ninja_text.specs.Tokens.{is_blank}
 use Rattle.ninja_text.specs.declared.assigning.AssignmentIndexes.{AssignmentIndexes}
 
 -- letters, digits, `_`, `.`, `-`
-abbrev pub is_name_byte : ℕ → Bool
-is_name_byte b = is_letter b || is_digit b || (b == underscore) || (b == dot) || (b == hyphen)
+abbrev pub is_identifier_byte : ℕ → Bool
+is_identifier_byte b = is_letter b || is_digit b || (b == underscore) || (b == dot) || (b == hyphen)
 
 abbrev pub is_name_unit : LineUnit → Bool
 is_name_unit (Continuation len) = false
 is_name_unit (Escape b) = false
-is_name_unit (Byte b) = is_name_byte b
+is_name_unit (Byte b) = is_identifier_byte b
 
 -- units, and the index where they begin
 pub record Rest : Type 0 where
@@ -40,7 +40,7 @@ tail_units (u ∷ us) = us
 -- The indexes of the name and the value, where the text is: a blank run, a name, a blank run, `=`,
 -- a blank run, a value. Each run is the longest at its index, the name has at least one byte, and
 -- the value is all that is left.
-abbrev pub assignment_indexes : List ℕ → Option AssignmentIndexes
+abbrev pub assignment_indexes : Text → Option AssignmentIndexes
 assignment_indexes text =
     let name = after_run is_blank 0 (units text) in
     let past_name = after_run is_name_unit name.place name.units in
@@ -50,29 +50,29 @@ assignment_indexes text =
     Some (record { name_start = name.place; name_end = past_name.place; value_start = value.place })
     else None
 
-abbrev pub name_of : List ℕ → AssignmentIndexes → List ℕ
+abbrev pub name_of : Text → AssignmentIndexes → Name
 name_of text a = slice_range text a.name_start a.name_end
 
-abbrev pub raw_value_of : List ℕ → AssignmentIndexes → List ℕ
+abbrev pub raw_value_of : Text → AssignmentIndexes → Text
 raw_value_of text a = drop a.value_start text
 
 -- an assignment as its readers see it, with its bytes
 pub record SeenAssignment : Type 0 where
   pub name_start : ℕ
-  pub name : List ℕ
-  pub raw_value : List ℕ
+  pub name : Name
+  pub raw_value : Text
 
-abbrev pub with_bytes : List ℕ → AssignmentIndexes → SeenAssignment
+abbrev pub with_bytes : Text → AssignmentIndexes → SeenAssignment
 with_bytes text a =
     record { name_start = a.name_start; name = name_of text a; raw_value = raw_value_of text a }
 
 -- the assignment that a text is, if it is one
-abbrev pub assignment_of : List ℕ → Option SeenAssignment
+abbrev pub assignment_of : Text → Option SeenAssignment
 assignment_of text = option_map (with_bytes text) (assignment_indexes text)
 
 -- The name has at least one byte and is at its index in the text, and the value is what the
 -- text ends with, after the name.
-pub record LiesIn (text : List ℕ) (a : SeenAssignment) : Type 0 where
+pub record LiesIn (text : Text) (a : SeenAssignment) : Type 0 where
   pub some : 0 < length a.name
-  pub between : List ℕ
+  pub between : Text
   pub whole : text ≡ take a.name_start text ++ (a.name ++ (between ++ a.raw_value))

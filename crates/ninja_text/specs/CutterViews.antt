@@ -1,12 +1,13 @@
 -- The view of a cutter's fields, and what they keep to.
-use Rattle.std.specs.Prelude.{◌≤◌, ℕ, List, length}
+use Rattle.std.specs.Prelude.{◌≤◌, ℕ, length}
+use Rattle.ninja_text.specs.Bytes.{Bytes}
 use Rattle.ninja_text.specs.Lines.{line_limit}
 use Rattle.ninja_text.specs.Phases.{bytes_in, waits_in, failed_in, PhaseFits}
 use Rattle.ninja_text.specs.Cutting.{CutterState}
 use Rattle.ninja_text.specs.declared.cutter.LineCutter.TheInside.{Inside}
 use Rattle.ninja_text.specs.declared.cutter.Phase.{Phase}
 
-abbrev pub state_in : Phase → List ℕ → ℕ → CutterState
+abbrev pub state_in : Phase → Bytes → ℕ → CutterState
 state_in phase bytes number = record {
   number = number;
   bytes = bytes_in phase bytes;

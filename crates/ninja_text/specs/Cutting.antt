@@ -2,7 +2,8 @@
 -- all lines lent.
 use Rattle.std.specs.Prelude.{◌≡◌, ℕ, ◌+◌, ◌-◌, ◌≤◌, Bool, true, false, nat_le, if◌then◌else◌, min, List, [], ◌∷◌, ◌++◌, length, take, Option, Some, None, Result, Ok, Err}
 use Rattle.std.specs.List.{flat_map, AllByRecursion}
-use Rattle.ninja_text.specs.Lines.{line_limit, LineEnd, line_end, text_of, is_comment, Divides, LogicalLine, logical_lines, number_after, line_feeds_in}
+use Rattle.ninja_text.specs.Bytes.{Bytes, Text}
+use Rattle.ninja_text.specs.Lines.{line_limit, LineEnd, line_end, text_of_line, is_comment, Divides, LogicalLine, logical_lines, number_after, line_feeds_in}
 use Rattle.ninja_text.specs.declared.failure.Failure.{Failure}
 use Rattle.ninja_text.specs.declared.failure.Failure.TheVariants.{Memory, Fault}
 use Rattle.ninja_text.specs.declared.fault.CutFault.{CutFault}
@@ -12,7 +13,7 @@ use Rattle.ninja_text.specs.declared.fault.CutFault.TheVariants.{LineTooLong, Tr
 -- that has failed stays so.
 pub record CutterState : Type 0 where
   pub number : ℕ
-  pub bytes : List ℕ
+  pub bytes : Bytes
   pub waits : Bool
   pub failed : Bool
 
@@ -21,11 +22,12 @@ new_cutter = record { number = 1; bytes = []; waits = false; failed = false }
 
 -- the line that waits
 abbrev pub waiting_line : CutterState → LogicalLine
-waiting_line h = record { text = text_of h.bytes; number = h.number; comment = is_comment h.bytes }
+waiting_line h =
+    record { text = text_of_line h.bytes; number = h.number; comment = is_comment h.bytes }
 
 -- what `feed` answers and leaves where no line waits, by the first end in what there is of the line
 -- within the limit
-abbrev pub feed_outcome_at : CutterState → List ℕ → Option LineEnd → Result ℕ CutFault × CutterState
+abbrev pub feed_outcome_at : CutterState → Bytes → Option LineEnd → Result ℕ CutFault × CutterState
 feed_outcome_at h piece (Some end) = (
   Ok (end.line_len - length h.bytes),
   record h { bytes = take end.line_len (h.bytes ++ piece); waits = true },
@@ -36,7 +38,7 @@ feed_outcome_at h piece None =
     else (Ok (length piece), record h { bytes = h.bytes ++ piece })
 
 -- what `feed` answers and leaves, where memory is there
-abbrev pub feed_outcome : CutterState → List ℕ → Result ℕ CutFault × CutterState
+abbrev pub feed_outcome : CutterState → Bytes → Result ℕ CutFault × CutterState
 feed_outcome h piece =
     if h.failed then (Err (LineTooLong h.number), h)
     else if h.waits then (Ok 0, h)
@@ -44,7 +46,7 @@ feed_outcome h piece =
 
 -- `feed` answers and leaves just that, unless memory was refused: then it took nothing. It asks for
 -- memory only where it may take bytes, that is where the cutter has not failed and no line waits.
-abbrev pub Feeds : CutterState → List ℕ → Result ℕ (Failure CutFault) → CutterState → Type 0
+abbrev pub Feeds : CutterState → Bytes → Result ℕ (Failure CutFault) → CutterState → Type 0
 Feeds old piece (Ok n) new = feed_outcome old piece ≡ (Ok n, new)
 Feeds old piece (Err Memory) new = (old.failed ≡ false) × (old.waits ≡ false) × (new ≡ old)
 Feeds old piece (Err (Fault fault)) new = feed_outcome old piece ≡ (Err fault, new)
@@ -73,16 +75,16 @@ Finishes h r =
     else Err (Truncated h.number))
 
 -- the line that waits, as a list, and what there is of the next
-abbrev pub waiting_bytes : CutterState → List (List ℕ)
+abbrev pub waiting_bytes : CutterState → List Bytes
 waiting_bytes h = if h.waits then h.bytes ∷ [] else []
 
-abbrev pub rest_bytes : CutterState → List ℕ
+abbrev pub rest_bytes : CutterState → Bytes
 rest_bytes h = if h.waits then [] else h.bytes
 
 -- The bytes taken are divided into the lines lent, the line that waits, and what there is of the
 -- next; none is too long.
-pub record Cuts (taken : List ℕ) (lent : List LogicalLine) (h : CutterState) : Type 0 where
-  pub lines : List (List ℕ)
+pub record Cuts (taken : Bytes) (lent : List LogicalLine) (h : CutterState) : Type 0 where
+  pub lines : List Text
   pub divided : Divides taken (lines ++ waiting_bytes h) (rest_bytes h)
   pub short : AllByRecursion (λ line. length line ≤ line_limit) (lines ++ waiting_bytes h)
   pub lent_are : lent ≡ logical_lines [] lines
@@ -90,7 +92,7 @@ pub record Cuts (taken : List ℕ) (lent : List LogicalLine) (h : CutterState) :
 
 -- A cutter that had taken these bytes has taken what the call answers beside; where it refused,
 -- nothing.
-abbrev pub FeedsAll : List ℕ → List LogicalLine → List ℕ → Result ℕ (Failure CutFault)
+abbrev pub FeedsAll : Bytes → List LogicalLine → Bytes → Result ℕ (Failure CutFault)
     → CutterState → Type 0
 FeedsAll taken lent piece (Ok n) new = Cuts (taken ++ take n piece) lent new
 FeedsAll taken lent piece (Err failure) new = Cuts taken lent new

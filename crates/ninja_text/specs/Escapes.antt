@@ -2,19 +2,19 @@
 -- "Lexical syntax").
 use Rattle.std.specs.Prelude.{◌≡◌, ◌≢◌, ℕ, Bool, false, not, ◌||◌, ◌==◌, if◌then◌else◌, IsTrue, ◌⊎◌, List, [], ◌∷◌, ◌++◌, replicate, All}
 use Rattle.std.specs.List.{flat_map, concat, list_any, AllByRecursion}
-use Rattle.ninja_text.specs.Bytes.{nul, line_feed, carriage_return, space, dollar, colon, vertical_bar}
+use Rattle.ninja_text.specs.Bytes.{Byte, Text, PathText, nul, line_feed, carriage_return, space, dollar, colon, vertical_bar}
 
 -- what no spelling in a Ninja file stands for: `|`, NUL, CR and LF
 abbrev pub is_unwritable : ℕ → Bool
 is_unwritable b = b == vertical_bar || (b == nul || (b == carriage_return || b == line_feed))
 
 -- whether a path can be spelled in a Ninja file: it has a byte, and none that has no spelling
-abbrev pub is_writable : List ℕ → Bool
+abbrev pub is_writable : PathText → Bool
 is_writable [] = false
 is_writable (b ∷ bs) = not (list_any is_unwritable (b ∷ bs))
 
 -- A path that can be spelled in a Ninja file.
-pub record IsWritable (path : List ℕ) : Type 0 where
+pub record IsWritable (path : PathText) : Type 0 where
   pub some : path ≢ []
   pub each : All (λ b. is_unwritable b ≡ false) path
 
@@ -23,35 +23,35 @@ abbrev pub is_escaped : ℕ → Bool
 is_escaped b = b == dollar || (b == space || b == colon)
 
 -- how a byte is spelled
-abbrev pub escaped_byte : ℕ → List ℕ
+abbrev pub escaped_byte : Byte → Text
 escaped_byte b = if is_escaped b then dollar ∷ b ∷ [] else b ∷ []
 
 -- how a path is spelled: byte by byte
-abbrev pub escaped : List ℕ → List ℕ
+abbrev pub escaped : PathText → Text
 escaped path = flat_map escaped_byte path
 
 -- one piece of a word, and the byte that it stands for: an ordinary byte, or `$` and a byte that is
 -- escaped
-abbrev pub IsPiece : List ℕ → ℕ → Type 0
+abbrev pub IsPiece : Text → Byte → Type 0
 IsPiece [] value = ⊥
 IsPiece (b ∷ []) value = (b ≡ value) × IsTrue (not (is_escaped b || is_unwritable b))
 IsPiece (d ∷ b ∷ []) value = (d ≡ dollar) × (b ≡ value) × IsTrue (is_escaped b)
 IsPiece (d ∷ b ∷ c ∷ more) value = ⊥
 
 -- a continuation: `$`, the end of the line, and the spaces that the next line begins with
-abbrev pub IsContinuation : List ℕ → Type 0
+abbrev pub IsContinuation : Text → Type 0
 IsContinuation bytes =
     (spaces : ℕ) × ((bytes ≡ dollar ∷ line_feed ∷ replicate spaces space)
     ⊎ (bytes ≡ dollar ∷ carriage_return ∷ line_feed ∷ replicate spaces space))
 
 -- continuations, one after another, or none
-abbrev pub IsGap : List ℕ → Type 0
-IsGap bytes = (parts : List (List ℕ)) × AllByRecursion IsContinuation parts × (bytes ≡ concat parts)
+abbrev pub IsGap : Text → Type 0
+IsGap bytes = (parts : List Text) × AllByRecursion IsContinuation parts × (bytes ≡ concat parts)
 
 -- The raw text of a word stands for this value: it is a piece for each byte of the value, and
 -- between two pieces a gap.
-abbrev pub Spells : List ℕ → List ℕ → Type 0
+abbrev pub Spells : Text → PathText → Type 0
 Spells raw [] = ⊥
 Spells raw (b ∷ []) = IsPiece raw b
-Spells raw (b ∷ c ∷ cs) = (piece : List ℕ) × (gap : List ℕ) × (rest : List ℕ)
+Spells raw (b ∷ c ∷ cs) = (piece : Text) × (gap : Text) × (rest : Text)
     × IsPiece piece b × IsGap gap × Spells rest (c ∷ cs) × (raw ≡ piece ++ (gap ++ rest))

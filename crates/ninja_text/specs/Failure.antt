@@ -1,5 +1,6 @@
 -- What a call that may want memory answers.
-use Rattle.std.specs.Prelude.{◌≡◌, ℕ, List, Option, Some, Result, Ok, Err, ⊤, codes}
+use Rattle.std.specs.Prelude.{◌≡◌, Option, Some, Result, Ok, Err, ⊤, codes}
+use Rattle.ninja_text.specs.Bytes.{Text}
 use Rattle.ninja_text.specs.declared.failure.Failure.{Failure}
 use Rattle.ninja_text.specs.declared.failure.Failure.TheVariants.{Memory, Fault}
 
@@ -21,6 +22,6 @@ ForFault P Memory = ⊤
 ForFault P (Fault fault) = P fault
 
 -- how a failure is printed, where it is known how the fault is
-abbrev pub failure_text : {F : Type 0} → (F → Option (List ℕ)) → Failure F → Option (List ℕ)
+abbrev pub failure_text : {F : Type 0} → (F → Option Text) → Failure F → Option Text
 failure_text text Memory = Some (codes "out of memory")
 failure_text text (Fault fault) = text fault

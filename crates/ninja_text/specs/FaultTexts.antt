@@ -1,6 +1,7 @@
 -- How faults are printed: a code and a name, and for a fault within a line its place in the text.
-use Rattle.std.specs.Prelude.{ℕ, List, ◌++◌, codes}
+use Rattle.std.specs.Prelude.{◌++◌, codes}
 use Rattle.std.specs.Fmt.{decimal}
+use Rattle.ninja_text.specs.Bytes.{Text}
 use Rattle.ninja_text.specs.declared.fault.PathFault.{PathFault}
 use Rattle.ninja_text.specs.declared.fault.PathFault.TheVariants.{Empty, AboveRoot, Unwritable, TooLong}
 use Rattle.ninja_text.specs.declared.fault.CutFault.{CutFault}
@@ -9,19 +10,19 @@ use Rattle.ninja_text.specs.declared.fault.LexFault.{LexFault}
 use Rattle.ninja_text.specs.declared.fault.LexFault.TheVariants.{Nul, LoneCr, Variable, BadEscape}
 
 -- why a text is no path
-abbrev pub path_fault_text : PathFault → List ℕ
+abbrev pub path_fault_text : PathFault → Text
 path_fault_text Empty = codes "N1 Empty"
 path_fault_text AboveRoot = codes "N2 AboveRoot"
 path_fault_text (Unwritable place) = codes "N3 Unwritable"
 path_fault_text TooLong = codes "N4 TooLong"
 
 -- why a cutter gives no further line
-abbrev pub cut_fault_text : CutFault → List ℕ
+abbrev pub cut_fault_text : CutFault → Text
 cut_fault_text (LineTooLong line) = codes "N5 LineTooLong"
 cut_fault_text (Truncated line) = codes "N6 Truncated"
 
 -- what no token and no value can hold
-abbrev pub lex_fault_text : LexFault → List ℕ
+abbrev pub lex_fault_text : LexFault → Text
 lex_fault_text (Nul place) = codes "N7 Nul at " ++ decimal place
 lex_fault_text (LoneCr place) = codes "N8 LoneCr at " ++ decimal place
 lex_fault_text (Variable place) = codes "N9 Variable at " ++ decimal place

@@ -1,6 +1,7 @@
 -- What a reader of a format's lines has read, and what it answers, by all bytes that it was fed,
 -- however they were cut into pieces.
-use Rattle.std.specs.Prelude.{◌≡◌, ℕ, List, Some, Result, Ok, Err}
+use Rattle.std.specs.Prelude.{◌≡◌, List, Some, Result, Ok, Err}
+use Rattle.ninja_text.specs.Bytes.{Bytes}
 use Rattle.ninja_text.specs.Lines.{LogicalLine}
 use Rattle.ninja_text.specs.LineReading.{LinesRead, HasLentAll}
 use Rattle.ninja_text.specs.LineFormats.{LineFormat, AreTextsOfClasses}
@@ -16,7 +17,7 @@ pub record AreReadTo {Class Value State : Type 0} (format : LineFormat Class Val
 
 -- The reader was fed these bytes in all, and has refused none.
 pub record HasRead {Class Value State Refusal : Type 0} (format : LineFormat Class Value)
-    (leads : List Class → State → Type 0) (bytes : List ℕ) (r : LinesRead State Refusal)
+    (leads : List Class → State → Type 0) (bytes : Bytes) (r : LinesRead State Refusal)
     : Type 0 where
   pub lent : List LogicalLine
   pub has : HasLentAll bytes lent r
@@ -24,9 +25,9 @@ pub record HasRead {Class Value State Refusal : Type 0} (format : LineFormat Cla
 
 -- What `feed` answers, and what the reader is then, by all bytes fed, this call's with them, to a
 -- reader that had refused none: it has read them, or the fault is in them, or memory was refused.
-abbrev pub Reads : {State Refusal : Type 0} → (List ℕ → LinesRead State Refusal → Type 0)
-    → (List ℕ → Refusal → Type 0)
-    → List ℕ → Result Unit (Failure Refusal) → LinesRead State Refusal → Type 0
+abbrev pub Reads : {State Refusal : Type 0} → (Bytes → LinesRead State Refusal → Type 0)
+    → (Bytes → Refusal → Type 0)
+    → Bytes → Result Unit (Failure Refusal) → LinesRead State Refusal → Type 0
 Reads has_read is_fault_in bytes (Ok u) new = has_read bytes new
 Reads has_read is_fault_in bytes (Err failure) new =
     (new.failed ≡ Some failure) × ForFault (is_fault_in bytes) failure

@@ -1,7 +1,8 @@
 -- What a cutter is once its line is no longer borrowed.
-use Rattle.std.specs.Prelude.{◌≡◌, ℕ, false, List, ◌++◌}
+use Rattle.std.specs.Prelude.{◌≡◌, false, List, ◌++◌}
 use Rattle.std.specs.Borrow.{Fml, MutBor}
 use Rattle.std.specs.Io.BufRead.{Rests}
+use Rattle.ninja_text.specs.Bytes.{Bytes}
 use Rattle.ninja_text.specs.Lines.{LogicalLine}
 use Rattle.ninja_text.specs.Cutting.{CutterState, after_lending, lent_next, Cuts}
 use Rattle.ninja_text.specs.contracts.cutter.LineCutter.{the_row}
@@ -10,7 +11,7 @@ use Rattle.ninja_text.specs.contracts.cutter.LineCutter.{the_row}
 pub record AfterLending (old new : CutterState) : Type 0 where
   pub value : new ≡ after_lending old
   pub none_waits : new.waits ≡ false
-  pub all : (taken : List ℕ) (lent : List LogicalLine) → Cuts taken lent old →
+  pub all : (taken : Bytes) (lent : List LogicalLine) → Cuts taken lent old →
       Cuts taken (lent ++ lent_next old) new
 
 -- Where the loan ends, the cutter is as after lending.

@@ -1,8 +1,8 @@
 -- The lexical faults of a line's text: what the manual's lexical syntax gives no meaning here,
 -- since there are no variables.
 use Rattle.std.specs.Prelude.{ℕ, ◌+◌, Bool, ◌==◌, ◌||◌, if◌then◌else◌, List, [], ◌∷◌, Option, Some, None}
-use Rattle.ninja_text.specs.Bytes.{nul, carriage_return, space, dollar, colon}
-use Rattle.ninja_text.specs.Units.{unit_len, units, is_digit, is_letter, hyphen, underscore, opening_brace}
+use Rattle.ninja_text.specs.Bytes.{Text, nul, carriage_return, space, dollar, colon, hyphen, underscore, opening_brace}
+use Rattle.ninja_text.specs.Units.{unit_len, units, is_digit, is_letter}
 use Rattle.ninja_text.specs.declared.unit.LineUnit.{LineUnit}
 use Rattle.ninja_text.specs.declared.unit.LineUnit.TheVariants.{Continuation, Escape, Byte}
 use Rattle.ninja_text.specs.declared.fault.LexFault.{LexFault}
@@ -40,5 +40,5 @@ first_fault index [] = None
 first_fault index (u ∷ us) = earlier (unit_fault index u) (first_fault (index + unit_len u) us)
 
 -- the first fault of a text
-abbrev pub lexical_fault : List ℕ → Option LexFault
+abbrev pub lexical_fault : Text → Option LexFault
 lexical_fault text = first_fault 0 (units text)

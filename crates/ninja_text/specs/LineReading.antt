@@ -2,6 +2,7 @@
 -- read, and where the fault is.
 use Rattle.std.specs.Prelude.{◌≡◌, ℕ, ◌<◌, ◌≤◌, false, List, [], ◌∷◌, ◌++◌, length, take, Option, Some, None, Result, Ok, Err, ◌⊎◌}
 use Rattle.std.specs.List.{flat_map, AllByRecursion}
+use Rattle.ninja_text.specs.Bytes.{Bytes, Text}
 use Rattle.ninja_text.specs.Lines.{line_limit, line_end, IsLine, LogicalLine, logical_line, logical_lines, number_after}
 use Rattle.ninja_text.specs.Cutting.{CutterState, Cuts}
 use Rattle.ninja_text.specs.declared.failure.Failure.{Failure}
@@ -14,12 +15,12 @@ abbrev pub Passes : Type 0 → Type 1
 Passes S = S → LogicalLine → S → Type 0
 
 -- a line is refused in a state, with a fault
-abbrev pub Refuses : Type 0 → Type 0 → Type 1
-Refuses S F = S → LogicalLine → F → Type 0
+abbrev pub RefusesWith : Type 0 → Type 0 → Type 1
+RefusesWith S F = S → LogicalLine → F → Type 0
 
 -- What reading a line answers: it passes and leaves this state, or it is refused with this fault,
 -- or memory was refused.
-abbrev pub ReadsLine : {S F : Type 0} → Passes S → Refuses S F → S → LogicalLine
+abbrev pub ReadsLine : {S F : Type 0} → Passes S → RefusesWith S F → S → LogicalLine
     → Result Unit (Failure F) → S → Type 0
 ReadsLine passes refuses old line (Ok u) new = passes old line new
 ReadsLine passes refuses old line (Err (Fault fault)) new = refuses old line fault
@@ -32,7 +33,7 @@ LeadTo {S} passes old (line ∷ lines) new =
     (mid : S) × passes old line mid × LeadTo passes mid lines new
 
 -- The cutter took these bytes, has lent all their whole lines, and holds a rest below the limit.
-pub record HasLent (bytes : List ℕ) (lent : List LogicalLine) (cutter : CutterState) : Type 0 where
+pub record HasLent (bytes : Bytes) (lent : List LogicalLine) (cutter : CutterState) : Type 0 where
   pub cuts : Cuts bytes lent cutter
   pub waits_not : cutter.waits ≡ false
   pub works : cutter.failed ≡ false
@@ -40,9 +41,9 @@ pub record HasLent (bytes : List ℕ) (lent : List LogicalLine) (cutter : Cutter
 
 -- The bytes begin with whole lines, none too long, that are lent as these; this rest follows, and
 -- its first line has this number.
-pub record BeginsWith (bytes : List ℕ) (lent : List LogicalLine) (number : ℕ) (rest : List ℕ)
+pub record BeginsWith (bytes : Bytes) (lent : List LogicalLine) (number : ℕ) (rest : Bytes)
     : Type 0 where
-  pub lines : List (List ℕ)
+  pub lines : List Text
   pub whole : bytes ≡ flat_map (λ line. line) lines ++ rest
   pub each : AllByRecursion IsLine lines
   pub short : AllByRecursion (λ line. length line ≤ line_limit) lines
@@ -50,35 +51,35 @@ pub record BeginsWith (bytes : List ℕ) (lent : List LogicalLine) (number : ℕ
   pub number_is : number ≡ number_after (flat_map (λ line. line) lines)
 
 -- What follows reaches the limit of a line, and no line ends within it.
-abbrev pub IsTooLong : List ℕ → Type 0
+abbrev pub IsTooLong : Bytes → Type 0
 IsTooLong rest = (line_limit ≤ length rest) × (line_end (take line_limit rest) ≡ None)
 
 -- What follows begins with a line of this number that keeps the limit, and this fault is its own.
-abbrev pub BeginsRefused : {F : Type 0} → (LogicalLine → F → Type 0) → ℕ → List ℕ → F → Type 0
+abbrev pub BeginsRefused : {F : Type 0} → (LogicalLine → F → Type 0) → ℕ → Bytes → F → Type 0
 BeginsRefused refuses number rest fault =
-    (line after : List ℕ) × (rest ≡ line ++ after) × IsLine line × (length line ≤ line_limit)
+    (line after : Bytes) × (rest ≡ line ++ after) × IsLine line × (length line ≤ line_limit)
     × (seen : LogicalLine) × (seen ≡ record (logical_line [] line) { number = number })
     × refuses seen fault
 
 -- After these lines comes one that is too long, or that this state refuses, with this fault. Any
 -- bytes may come after the line.
-abbrev pub IsNextFault : {S F : Type 0} → Refuses S F → (CutFault → F)
-    → List ℕ → List LogicalLine → S → F → Type 0
+abbrev pub IsNextFault : {S F : Type 0} → RefusesWith S F → (CutFault → F)
+    → Bytes → List LogicalLine → S → F → Type 0
 IsNextFault refuses of_cutter bytes lent state fault =
-    (number : ℕ) × (rest : List ℕ) × BeginsWith bytes lent number rest
+    (number : ℕ) × (rest : Bytes) × BeginsWith bytes lent number rest
     × ((IsTooLong rest × (fault ≡ of_cutter (LineTooLong number)))
     ⊎ BeginsRefused (refuses state) number rest fault)
 
 -- The lines lent before were these; more lines passed, and the next one has this fault.
-abbrev pub HasFaultBehind : {S F : Type 0} → Passes S → Refuses S F → (CutFault → F)
-    → List ℕ → List LogicalLine → S → F → Type 0
+abbrev pub HasFaultBehind : {S F : Type 0} → Passes S → RefusesWith S F → (CutFault → F)
+    → Bytes → List LogicalLine → S → F → Type 0
 HasFaultBehind {S} passes refuses of_cutter bytes lent old fault =
     (more : List LogicalLine) × (mid : S) × LeadTo passes old more mid
     × IsNextFault refuses of_cutter bytes (lent ++ more) mid fault
 
 -- Memory was refused, or there is such a fault.
-abbrev pub HasFailureBehind : {S F : Type 0} → Passes S → Refuses S F → (CutFault → F)
-    → List ℕ → List LogicalLine → S → Failure F → Type 0
+abbrev pub HasFailureBehind : {S F : Type 0} → Passes S → RefusesWith S F → (CutFault → F)
+    → Bytes → List LogicalLine → S → Failure F → Type 0
 HasFailureBehind passes refuses of_cutter bytes lent old (Fault fault) =
     HasFaultBehind passes refuses of_cutter bytes lent old fault
 HasFailureBehind passes refuses of_cutter bytes lent old Memory = Unit {0}
@@ -92,7 +93,7 @@ pub record LinesRead (S F : Type 0) : Type 0 where
 
 -- The reader was fed these bytes in all, their whole lines were lent as these, and it has refused
 -- none.
-pub record HasLentAll {S F : Type 0} (bytes : List ℕ) (lent : List LogicalLine)
+pub record HasLentAll {S F : Type 0} (bytes : Bytes) (lent : List LogicalLine)
     (r : LinesRead S F) : Type 0 where
   pub has : HasLent bytes lent r.cutter
   pub works : r.failed ≡ None
@@ -106,8 +107,8 @@ StaysRefused {S} {F} old result new =
 -- What `feed` answers and leaves: more lines were lent, and all passed; or the next one after
 -- those that passed has this fault, or memory was refused. By all bytes fed, this call's with them,
 -- and by the lines lent before.
-abbrev pub FeedsLines : {S F : Type 0} → Passes S → Refuses S F → (CutFault → F)
-    → List ℕ → List LogicalLine → S → Result Unit (Failure F) → LinesRead S F → Type 0
+abbrev pub FeedsLines : {S F : Type 0} → Passes S → RefusesWith S F → (CutFault → F)
+    → Bytes → List LogicalLine → S → Result Unit (Failure F) → LinesRead S F → Type 0
 FeedsLines passes refuses of_cutter bytes lent old (Ok u) new =
     (more : List LogicalLine) × HasLentAll bytes (lent ++ more) new
     × LeadTo passes old more new.state
@@ -115,15 +116,15 @@ FeedsLines passes refuses of_cutter bytes lent old (Err failure) new =
     (new.failed ≡ Some failure) × HasFailureBehind passes refuses of_cutter bytes lent old failure
 
 -- What follows is some bytes without an end, below the limit.
-abbrev pub IsTruncated : List ℕ → Type 0
+abbrev pub IsTruncated : Bytes → Type 0
 IsTruncated rest = (0 < length rest) × (length rest < line_limit) × (line_end rest ≡ None)
 
 -- What `finish` answers: where the bytes are whole lines, the state that they led to, and the
 -- number of the line that would come next; else that the last line has no end.
-abbrev pub EndsLines : {S F : Type 0} → (CutFault → F) → List ℕ → List LogicalLine → S
+abbrev pub EndsLines : {S F : Type 0} → (CutFault → F) → Bytes → List LogicalLine → S
     → Result (S × ℕ) (Failure F) → Type 0
 EndsLines of_cutter bytes lent state (Ok end) = (end.0 ≡ state) × BeginsWith bytes lent end.1 []
 EndsLines of_cutter bytes lent state (Err (Fault fault)) =
-    (number : ℕ) × (rest : List ℕ) × BeginsWith bytes lent number rest × IsTruncated rest
+    (number : ℕ) × (rest : Bytes) × BeginsWith bytes lent number rest × IsTruncated rest
     × (fault ≡ of_cutter (Truncated number))
 EndsLines of_cutter bytes lent state (Err Memory) = ⊥

@@ -2,8 +2,8 @@
 -- end, and a rest that has none.
 use Rattle.std.specs.Prelude.{◌≡◌, ℕ, ◌+◌, Bool, false, ◌==◌, ◌&&◌, if◌then◌else◌, List, [], ◌∷◌, ◌++◌, length, take, map, count_by, min, Option, Some, None}
 use Rattle.std.specs.List.{flat_map, AllByRecursion}
-use Rattle.ninja_text.specs.Bytes.{line_feed, carriage_return, space}
-use Rattle.ninja_text.specs.Units.{unit_len, is_byte, units, hash}
+use Rattle.ninja_text.specs.Bytes.{Bytes, Text, line_feed, carriage_return, space, hash}
+use Rattle.ninja_text.specs.Units.{unit_len, is_byte, units}
 use Rattle.ninja_text.specs.declared.unit.LineUnit.{LineUnit}
 use Rattle.ninja_text.specs.declared.unit.LineUnit.TheVariants.{Byte}
 
@@ -12,12 +12,12 @@ abbrev pub line_limit : ℕ
 line_limit = 1048576
 
 -- whether the first byte other than space is `#`
-abbrev pub is_comment : List ℕ → Bool
+abbrev pub is_comment : Bytes → Bool
 is_comment [] = false
 is_comment (b ∷ bytes) = if b == space then is_comment bytes else b == hash
 
 -- The units of the line that begins here: in a comment nothing is escaped, and each byte is one.
-abbrev pub line_units : List ℕ → List LineUnit
+abbrev pub line_units : Bytes → List LineUnit
 line_units bytes = if is_comment bytes then map Byte bytes else units bytes
 
 -- where a line ends: the length of what is before the end, and that of the line
@@ -40,51 +40,51 @@ end_from index (u ∷ us) =
     else end_from (index + unit_len u) us
 
 -- the end of the line at the front, if there is one
-abbrev pub line_end : List ℕ → Option LineEnd
+abbrev pub line_end : Bytes → Option LineEnd
 line_end bytes = end_from 0 (line_units bytes)
 
 -- The bytes are one line, its end included.
-abbrev pub IsLine : List ℕ → Type 0
+abbrev pub IsLine : Bytes → Type 0
 IsLine bytes =
     (text_len : ℕ)
     × (line_end bytes ≡ Some (record { text_len = text_len; line_len = length bytes }))
 
 -- The bytes are these lines, one after another, and a rest without an end.
-pub record Divides (bytes : List ℕ) (lines : List (List ℕ)) (rest : List ℕ) : Type 0 where
+pub record Divides (bytes : Bytes) (lines : List Text) (rest : Bytes) : Type 0 where
   pub whole : bytes ≡ flat_map (λ line. line) lines ++ rest
   pub each : AllByRecursion IsLine lines
   pub partial : line_end rest ≡ None
 
 -- a line up to its end
-abbrev pub text_before : List ℕ → Option LineEnd → List ℕ
+abbrev pub text_before : Text → Option LineEnd → Text
 text_before line (Some end) = take end.text_len line
 text_before line None = line
 
 -- a line without its end
-abbrev pub text_of : List ℕ → List ℕ
-text_of line = text_before line (line_end line)
+abbrev pub text_of_line : Text → Text
+text_of_line line = text_before line (line_end line)
 
-abbrev pub line_feeds_in : List ℕ → ℕ
+abbrev pub line_feeds_in : Bytes → ℕ
 line_feeds_in bytes = count_by (λ b. b == line_feed) bytes
 
 -- the number of the line that begins after these bytes: one more than their LF bytes, at most 2 ^
 -- 64 - 1
-abbrev pub number_after : List ℕ → ℕ
+abbrev pub number_after : Bytes → ℕ
 number_after bytes = min 18446744073709551615 (1 + line_feeds_in bytes)
 
 -- a line as its readers see it
 pub record LogicalLine : Type 0 where
-  pub text : List ℕ
+  pub text : Text
   pub number : ℕ
   pub comment : Bool
 
 -- a line after these bytes
-abbrev pub logical_line : List ℕ → List ℕ → LogicalLine
+abbrev pub logical_line : Bytes → Text → LogicalLine
 logical_line before line =
-    record { text = text_of line; number = number_after before; comment = is_comment line }
+    record { text = text_of_line line; number = number_after before; comment = is_comment line }
 
 -- lines one after another, after these bytes
-abbrev pub logical_lines : List ℕ → List (List ℕ) → List LogicalLine
+abbrev pub logical_lines : Bytes → List Text → List LogicalLine
 logical_lines before [] = []
 logical_lines before (line ∷ lines) =
     logical_line before line ∷ logical_lines (before ++ line) lines

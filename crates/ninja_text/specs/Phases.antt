@@ -1,5 +1,6 @@
 -- The line at hand, by the cutter's buffer and its phase.
-use Rattle.std.specs.Prelude.{◌≡◌, ℕ, ◌<◌, Bool, true, false, List, [], length}
+use Rattle.std.specs.Prelude.{◌≡◌, ◌<◌, Bool, true, false, [], length}
+use Rattle.ninja_text.specs.Bytes.{Bytes}
 use Rattle.ninja_text.specs.Lines.{line_limit}
 use Rattle.ninja_text.specs.Scanning.{scan_from}
 use Rattle.ninja_text.specs.declared.cutter.Phase.{Phase}
@@ -8,7 +9,7 @@ use Rattle.ninja_text.specs.declared.scan.ScanState.TheVariants.{Start}
 use Rattle.ninja_text.specs.declared.scan.Scanned.TheVariants.{End, Open}
 
 -- the bytes of the line at hand: those of a line that was lent count no more
-abbrev pub bytes_in : Phase → List ℕ → List ℕ
+abbrev pub bytes_in : Phase → Bytes → Bytes
 bytes_in (Gathering state) bytes = bytes
 bytes_in (Waiting text_len) bytes = bytes
 bytes_in Lent bytes = []
@@ -27,7 +28,7 @@ failed_in Lent = false
 failed_in Failed = true
 
 -- what a phase says of the buffer: the state of its scan, or where the line's end was found
-abbrev pub PhaseFits : Phase → List ℕ → Type 0
+abbrev pub PhaseFits : Phase → Bytes → Type 0
 PhaseFits (Gathering state) bytes =
     (length bytes < line_limit) × (scan_from 0 Start bytes ≡ Open state)
 PhaseFits (Waiting text_len) bytes = scan_from 0 Start bytes ≡ End text_len (length bytes)

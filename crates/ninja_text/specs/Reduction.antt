@@ -1,63 +1,63 @@
 -- The components of a text, and the list that is left when it is made canonical step by step.
 use Rattle.std.specs.Prelude.{◌≡◌, ℕ, zero, suc, Bool, not, ◌||◌, ◌&&◌, ◌==◌, if◌then◌else◌, bytes_eq, IsTrue, List, [], ◌∷◌, ◌++◌}
 use Rattle.std.specs.List.{slice_split}
-use Rattle.ninja_text.specs.Bytes.{dot, slash}
+use Rattle.ninja_text.specs.Bytes.{PathText, Component, dot, slash}
 
 -- the pieces between the slashes
-abbrev pub components : List ℕ → List (List ℕ)
+abbrev pub components : PathText → List Component
 components text = slice_split (λ b. b == slash) text
 
 -- a component that leads nowhere else: an empty one, or `.`
-abbrev pub is_current : List ℕ → Bool
+abbrev pub is_current : Component → Bool
 is_current c = bytes_eq c [] || bytes_eq c (dot ∷ [])
 
 -- `..`
-abbrev pub is_parent : List ℕ → Bool
+abbrev pub is_parent : Component → Bool
 is_parent c = bytes_eq c (dot ∷ dot ∷ [])
 
 -- any other component
-abbrev pub is_name : List ℕ → Bool
-is_name c = not (is_current c || is_parent c)
+abbrev pub is_named_component : Component → Bool
+is_named_component c = not (is_current c || is_parent c)
 
 -- what one step deletes: an empty component or `.`, or a name and the `..` after it
-abbrev pub IsDeletable : List (List ℕ) → Type 0
+abbrev pub IsDeletable : List Component → Type 0
 IsDeletable [] = ⊥
 IsDeletable (c ∷ []) = IsTrue (is_current c)
-IsDeletable (c ∷ d ∷ []) = IsTrue (is_name c) × IsTrue (is_parent d)
+IsDeletable (c ∷ d ∷ []) = IsTrue (is_named_component c) × IsTrue (is_parent d)
 IsDeletable (c ∷ d ∷ e ∷ more) = ⊥
 
 -- One step, anywhere in the list.
-pub record Step (old new : List (List ℕ)) : Type 0 where
-  pub front : List (List ℕ)
-  pub gone : List (List ℕ)
-  pub back : List (List ℕ)
+pub record ReductionStep (old new : List Component) : Type 0 where
+  pub front : List Component
+  pub gone : List Component
+  pub back : List Component
   pub deletable : IsDeletable gone
   pub before : old ≡ front ++ (gone ++ back)
   pub after : new ≡ front ++ back
 
 -- so many steps, one after another, each of them any that applies
-abbrev pub Steps : ℕ → List (List ℕ) → List (List ℕ) → Type 0
+abbrev pub Steps : ℕ → List Component → List Component → Type 0
 Steps zero old new = old ≡ new
-Steps (suc n) old new = (mid : List (List ℕ)) × Step old mid × Steps n mid new
+Steps (suc n) old new = (mid : List Component) × ReductionStep old mid × Steps n mid new
 
 -- no step applies
-abbrev pub IsReduced : List (List ℕ) → Type 0
-IsReduced list = (next : List (List ℕ)) → Step list next → ⊥
+abbrev pub IsReduced : List Component → Type 0
+IsReduced list = (next : List Component) → ReductionStep list next → ⊥
 
 -- Some steps lead from the old list to the new one, to which no step applies.
-pub record ReducesTo (old new : List (List ℕ)) : Type 0 where
+pub record ReducesTo (old new : List Component) : Type 0 where
   pub count : ℕ
   pub steps : Steps count old new
   pub final : IsReduced new
 
 -- a component in front of a list to which no step applies: one step applies then, or none
-abbrev pub in_front : List ℕ → List (List ℕ) → List (List ℕ)
+abbrev pub in_front : Component → List Component → List Component
 in_front c [] = if is_current c then [] else c ∷ []
 in_front c (d ∷ ds) =
     if is_current c then d ∷ ds
-    else (if is_name c && is_parent d then ds else c ∷ d ∷ ds)
+    else (if is_named_component c && is_parent d then ds else c ∷ d ∷ ds)
 
 -- the list that is left when no step applies any more
-abbrev pub reduced : List (List ℕ) → List (List ℕ)
+abbrev pub reduced : List Component → List Component
 reduced [] = []
 reduced (c ∷ cs) = in_front c (reduced cs)

@@ -1,8 +1,7 @@
 -- How a line's end is found byte by byte. The line's units say where it is; this says what is
 -- remembered on the way.
-use Rattle.std.specs.Prelude.{ℕ, ◌+◌, ◌-◌, ◌==◌, if◌then◌else◌, List, [], ◌∷◌, Option, Some, None}
-use Rattle.ninja_text.specs.Bytes.{line_feed, carriage_return, dollar, space}
-use Rattle.ninja_text.specs.Units.{hash}
+use Rattle.std.specs.Prelude.{ℕ, ◌+◌, ◌-◌, ◌==◌, if◌then◌else◌, [], ◌∷◌, Option, Some, None}
+use Rattle.ninja_text.specs.Bytes.{Bytes, line_feed, carriage_return, dollar, space, hash}
 use Rattle.ninja_text.specs.declared.scan.ScanState.{ScanState}
 use Rattle.ninja_text.specs.declared.scan.ScanState.TheVariants.{Start, Comment, CommentReturn, Plain, Return, Dollar, DollarReturn}
 use Rattle.ninja_text.specs.declared.scan.Scanned.{Scanned}
@@ -52,7 +51,7 @@ goes_on_from ended later None = ended
 goes_on_from ended later (Some next) = later next
 
 -- where a scan comes to whose bytes begin at an index of the line
-abbrev pub scan_from : ℕ → ScanState → List ℕ → Scanned
+abbrev pub scan_from : ℕ → ScanState → Bytes → Scanned
 scan_from index state [] = Open state
 scan_from index state (b ∷ bytes) =
     goes_on_from (scan_end index state) (λ next. scan_from (index + 1) next bytes) (step_of state b)

@@ -2,8 +2,8 @@
 -- spaces and continuations between them.
 use Rattle.std.specs.Prelude.{◌≡◌, ℕ, ◌+◌, Bool, true, false, ◌&&◌, if◌then◌else◌, List, [], ◌∷◌, ◌++◌}
 use Rattle.std.specs.List.{AllByRecursion}
-use Rattle.ninja_text.specs.Bytes.{colon, vertical_bar}
-use Rattle.ninja_text.specs.Units.{unit_len, is_byte, is_continuation, at_sign, units}
+use Rattle.ninja_text.specs.Bytes.{Text, colon, vertical_bar, at_sign}
+use Rattle.ninja_text.specs.Units.{unit_len, is_byte, is_continuation, units}
 use Rattle.ninja_text.specs.Tokens.{TokenAt, is_blank, is_piece, goes_on}
 use Rattle.ninja_text.specs.declared.unit.LineUnit.{LineUnit}
 use Rattle.ninja_text.specs.declared.unit.LineUnit.TheVariants.{Byte}
@@ -45,7 +45,7 @@ abbrev pub AreBlank : List LineUnit → Type 0
 AreBlank us = AllByRecursion (λ u. is_blank u ≡ true) us
 
 -- Units that begin at an index are blank ones, then this token, then these units.
-pub record Leads (index : ℕ) (us : List LineUnit) (t : TokenAt) (after : List LineUnit)
+pub record BeginsWithToken (index : ℕ) (us : List LineUnit) (t : TokenAt) (after : List LineUnit)
     : Type 0 where
   pub gap : List LineUnit
   pub own : List LineUnit
@@ -60,9 +60,9 @@ pub record Leads (index : ℕ) (us : List LineUnit) (t : TokenAt) (after : List 
 abbrev pub LexesAs : ℕ → List LineUnit → List TokenAt → Type 0
 LexesAs index us [] = AreBlank us
 LexesAs index us (t ∷ ts) =
-    (after : List LineUnit) × Leads index us t after × LexesAs t.end after ts
+    (after : List LineUnit) × BeginsWithToken index us t after × LexesAs t.end after ts
 
 -- The text is these tokens, and nothing but spaces and continuations before, between and after
 -- them.
-abbrev pub AreTokens : List ℕ → List TokenAt → Type 0
+abbrev pub AreTokens : Text → List TokenAt → Type 0
 AreTokens text ts = LexesAs 0 (units text) ts

@@ -1,8 +1,8 @@
 -- The tokens of a text that has no lexical fault: words, `|`, `||`, `|@` and `:`.
 use Rattle.std.specs.Prelude.{◌≡◌, ℕ, ◌+◌, ◌<◌, ◌≤◌, Bool, true, false, ◌==◌, ◌||◌, not, if◌then◌else◌, List, [], ◌∷◌, length, map, drop, slice_range}
 use Rattle.std.specs.List.{flat_map}
-use Rattle.ninja_text.specs.Bytes.{space, colon, vertical_bar}
-use Rattle.ninja_text.specs.Units.{unit_len, is_byte, units, at_sign}
+use Rattle.ninja_text.specs.Bytes.{Text, space, colon, vertical_bar, at_sign}
+use Rattle.ninja_text.specs.Units.{unit_len, is_byte, units}
 use Rattle.ninja_text.specs.declared.unit.LineUnit.{LineUnit}
 use Rattle.ninja_text.specs.declared.unit.LineUnit.TheVariants.{Continuation, Escape, Byte}
 use Rattle.ninja_text.specs.declared.token.TokenKind.{TokenKind}
@@ -66,25 +66,25 @@ tokens_from index (u ∷ v ∷ us) =
     else with_unit index u (v ∷ us) (tokens_from (index + unit_len u) (v ∷ us))
 
 -- all tokens of a text
-abbrev pub tokens : List ℕ → List TokenAt
+abbrev pub tokens : Text → List TokenAt
 tokens text = tokens_from 0 (units text)
 
 -- the bytes of a token
-abbrev pub raw : List ℕ → TokenAt → List ℕ
+abbrev pub raw : Text → TokenAt → Text
 raw text t = slice_range text t.start t.end
 
 -- what a unit stands for: an escape for its second byte, a continuation for nothing
-abbrev pub unit_value : LineUnit → List ℕ
+abbrev pub unit_value : LineUnit → Text
 unit_value (Continuation len) = []
 unit_value (Escape b) = b ∷ []
 unit_value (Byte b) = b ∷ []
 
 -- what the bytes of a word or a value stand for
-abbrev pub value_of : List ℕ → List ℕ
+abbrev pub value_of : Text → Text
 value_of bytes = flat_map unit_value (units bytes)
 
 -- the tokens that begin at an index of the text or after it, where a unit begins at that index
-abbrev pub tokens_at : List ℕ → ℕ → List TokenAt
+abbrev pub tokens_at : Text → ℕ → List TokenAt
 tokens_at text index = tokens_from index (units (drop index text))
 
 -- a token as its readers see it, with its bytes
@@ -92,18 +92,18 @@ pub record SeenToken : Type 0 where
   pub kind : TokenKind
   pub start : ℕ
   pub end : ℕ
-  pub raw : List ℕ
+  pub raw : Text
 
-abbrev pub with_raw : List ℕ → TokenAt → SeenToken
+abbrev pub with_raw : Text → TokenAt → SeenToken
 with_raw text t = record { kind = t.kind; start = t.start; end = t.end; raw = raw text t }
 
 -- all tokens of a text, with their bytes
-abbrev pub seen_tokens : List ℕ → List SeenToken
+abbrev pub seen_tokens : Text → List SeenToken
 seen_tokens text = map (with_raw text) (tokens text)
 
 -- The token has at least one byte, it ends within the text, and its raw bytes are those of the text
 -- from its start to its end.
-pub record IsSlice (text : List ℕ) (t : SeenToken) : Type 0 where
+pub record IsSlice (text : Text) (t : SeenToken) : Type 0 where
   pub some : t.start < t.end
   pub within : t.end ≤ length text
   pub raw : t.raw ≡ slice_range text t.start t.end

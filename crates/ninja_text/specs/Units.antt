@@ -1,33 +1,16 @@
 -- The units that a line is made of (Ninja 1.11 manual, "Lexical syntax"): line continuations,
 -- escapes, and single bytes.
 use Rattle.std.specs.Prelude.{ℕ, ◌+◌, Bool, true, false, ◌==◌, ◌&&◌, ◌||◌, if◌then◌else◌, nat_le, List, [], ◌∷◌}
-use Rattle.ninja_text.specs.Bytes.{line_feed, carriage_return, space, dollar}
+use Rattle.ninja_text.specs.Bytes.{Bytes, line_feed, carriage_return, space, dollar, digit_zero, digit_nine, capital_a, capital_z, small_a, small_z}
 use Rattle.ninja_text.specs.declared.unit.LineUnit.{LineUnit}
 use Rattle.ninja_text.specs.declared.unit.LineUnit.TheVariants.{Continuation, Escape, Byte}
 
-abbrev pub hash : ℕ
-hash = 35
-
-abbrev pub hyphen : ℕ
-hyphen = 45
-
-abbrev pub equals_sign : ℕ
-equals_sign = 61
-
-abbrev pub at_sign : ℕ
-at_sign = 64
-
-abbrev pub underscore : ℕ
-underscore = 95
-
-abbrev pub opening_brace : ℕ
-opening_brace = 123
-
 abbrev pub is_digit : ℕ → Bool
-is_digit b = nat_le 48 b && nat_le b 57
+is_digit b = nat_le digit_zero b && nat_le b digit_nine
 
 abbrev pub is_letter : ℕ → Bool
-is_letter b = (nat_le 65 b && nat_le b 90) || (nat_le 97 b && nat_le b 122)
+is_letter b =
+    (nat_le capital_a b && nat_le b capital_z) || (nat_le small_a b && nat_le b small_z)
 
 -- how many bytes a unit is
 abbrev pub unit_len : LineUnit → ℕ
@@ -57,7 +40,7 @@ with_continuation len (Continuation more ∷ us) = Continuation len ∷ Continua
 -- The units of a text, from its first byte on: `$` LF and `$` CR LF continue the line, with all
 -- spaces after them; `$` and any other byte are an escape; each other byte is a unit by itself, and
 -- so is a `$` at the very end.
-abbrev pub units : List ℕ → List LineUnit
+abbrev pub units : Bytes → List LineUnit
 units [] = []
 units (a ∷ []) = Byte a ∷ []
 units (a ∷ b ∷ []) =

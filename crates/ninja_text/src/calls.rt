@@ -3,6 +3,7 @@ ghost use Rattle.std.specs.Prelude.{ℕ, List, Option, Result, ⊤};
 ghost use Rattle.std.specs.Io.{ReadsAtMost, WritesAtMost};
 ghost use Rattle.std.specs.Io.KnownBytes.{ReadConsumes, WriteAppends};
 ghost use Rattle.std.specs.declared.io.Error.{Error};
+ghost use Rattle.ninja_text.specs.Bytes.{Bytes};
 
 use std::io;
 use std::io::{Read, Write};
@@ -14,9 +15,9 @@ use std::io::{Read, Write};
 /// after it, the call's answer, and what is then in the buffer.
 pub trait ReadCall {
     // the bytes that calls will give from here on, where they are known
-    ghost remaining: { Self → Option (List ℕ) };
+    ghost remaining: { Self → Option Bytes };
 
-    ghost reads: { Self → Self → Result ℕ Error → List ℕ → Type 0 };
+    ghost reads: { Self → Self → Result ℕ Error → Bytes → Type 0 };
 
     /// One `read`.
     fn read_call(&mut self, buf: &mut [u8]) -> io::Result<usize>
@@ -42,9 +43,9 @@ impl<R: Read> ReadCall for R {
 /// it, the call's answer, and the piece.
 pub trait WriteCall {
     // the bytes that calls wrote, where they are known
-    ghost contents: { Self → Option (List ℕ) };
+    ghost contents: { Self → Option Bytes };
 
-    ghost writes: { Self → Self → Result ℕ Error → List ℕ → Type 0 };
+    ghost writes: { Self → Self → Result ℕ Error → Bytes → Type 0 };
 
     /// One `write`.
     fn write_call(&mut self, piece: &[u8]) -> io::Result<usize>

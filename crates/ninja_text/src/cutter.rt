@@ -49,6 +49,7 @@ impl Model for LineCutter {
 }
 
 impl LineCutter {
+    ghost use Rattle.ninja_text.specs.Bytes.{Bytes};
     ghost use Rattle.std.specs.Borrow.{sem};
     ghost use Rattle.ninja_text.specs.Lines.{LogicalLine};
     ghost use Rattle.ninja_text.specs.Cutting.{new_cutter, Feeds, Cuts, FeedsAll, Finishes};
@@ -79,7 +80,7 @@ impl LineCutter {
         ensures within { IfOk result (λ n. n ≤ length piece.now) }
         ensures some { self.old.waits ≡ false → 0 < length piece.now → IfOk result (λ n. 0 < n) }
         // Whatever was taken and lent before, this call takes what it answers.
-        ensures all { (taken : List ℕ) (lent : List LogicalLine) → Cuts taken lent self.old
+        ensures all { (taken : Bytes) (lent : List LogicalLine) → Cuts taken lent self.old
             → FeedsAll taken lent piece.now result self.new }
     {
         self.take_from(piece)

@@ -1,6 +1,7 @@
 //! Spellings of paths in Ninja files.
 ghost use Rattle.std.specs.Prelude.{◌≡◌, ◌↔◌, ◌++◌, ℕ, List, IsTrue, OnOk, OnErr};
 ghost use Rattle.std.specs.List.{list_any};
+ghost use Rattle.ninja_text.specs.Bytes.{Text, PathText};
 ghost use Rattle.ninja_text.specs.Escapes.{is_unwritable, is_writable, IsWritable, is_escaped, escaped, escaped_byte, Spells};
 
 use crate::reduction::is_unwritable;
@@ -45,7 +46,7 @@ pub fn escape_into(path: &[u8], out: &mut Vec<u8>) -> Result<(), AllocError>
     ensures ok { OnOk result (out.new.items ≡ out.old.items ++ escaped path.now) }
     ensures err { OnErr result (out.new.items ≡ out.old.items) }
     // The spelling stands for the path, and for nothing else.
-    ensures meaning { (value : List ℕ) → Spells (escaped path.now) value ↔ (value ≡ path.now) }
+    ensures meaning { (value : PathText) → Spells (escaped path.now) value ↔ (value ≡ path.now) }
 {
     if !has_escaped(path) {
         return out.extend_from_slice(path);

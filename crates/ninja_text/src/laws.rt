@@ -2,12 +2,13 @@
 //! that does nothing.
 ghost use Rattle.std.specs.Prelude.{◌≡◌, ◌↔◌, ℕ, List, [], Ok, Err, All};
 ghost use Rattle.std.specs.Option.{ForSome};
+ghost use Rattle.ninja_text.specs.Bytes.{Bytes, Text, PathText, Component};
 ghost use Rattle.ninja_text.specs.Escapes.{Spells};
 ghost use Rattle.ninja_text.specs.Reduction.{ReducesTo, components, reduced};
 ghost use Rattle.ninja_text.specs.Paths.{path_of, IsPath, is_rooted};
 ghost use Rattle.ninja_text.specs.PathShape.{parts, IsShaped};
 ghost use Rattle.ninja_text.specs.declared.fault.PathFault.TheVariants.{Empty};
-ghost use Rattle.ninja_text.specs.Lines.{Divides, text_of};
+ghost use Rattle.ninja_text.specs.Lines.{Divides, text_of_line};
 ghost use Rattle.ninja_text.specs.Tokens.{TokenAt, tokens, seen_tokens};
 ghost use Rattle.ninja_text.specs.TokenLists.{AreTokens};
 ghost use Rattle.ninja_text.specs.Assignments.{assignment_of};
@@ -15,9 +16,9 @@ ghost use Rattle.ninja_text.specs.Meanings.{IsFaultless, IsReadAsSpelled, Spells
 
 /// A text is divided into lines and a rest, and in one way only.
 pub fn one_division()
-    ensures some { (bytes : List ℕ)
-        → (lines : List (List ℕ)) × (rest : List ℕ) × Divides bytes lines rest }
-    ensures one { (bytes : List ℕ) (lines others : List (List ℕ)) (rest left : List ℕ)
+    ensures some { (bytes : Bytes)
+        → (lines : List Text) × (rest : Bytes) × Divides bytes lines rest }
+    ensures one { (bytes : Bytes) (lines others : List Text) (rest left : Bytes)
         → Divides bytes lines rest → Divides bytes others left
         → (lines ≡ others) × (rest ≡ left) }
 {}
@@ -25,8 +26,8 @@ pub fn one_division()
 /// The tokens that [`words`](crate::words) gives divide the text, with nothing but spaces and
 /// continuations between them, and no other list of tokens does.
 pub fn one_list_of_tokens()
-    ensures some { (text : List ℕ) → AreTokens text (tokens text) }
-    ensures one { (text : List ℕ) (ts : List TokenAt) → AreTokens text ts → ts ≡ tokens text }
+    ensures some { (text : Text) → AreTokens text (tokens text) }
+    ensures one { (text : Text) (ts : List TokenAt) → AreTokens text ts → ts ≡ tokens text }
 {}
 
 /// What is read of a word is what its bytes spell, so that a reader and a writer mean the same by
@@ -34,30 +35,30 @@ pub fn one_list_of_tokens()
 /// can lend, that is no comment and has no lexical fault. The bytes of a value spell one value
 /// only; of a word [`one_meaning`](crate::one_meaning) says that.
 pub fn read_as_spelled()
-    ensures words { (line : List ℕ) → IsFaultless line
-        → All IsReadAsSpelled (seen_tokens (text_of line)) }
-    ensures values { (line : List ℕ) → IsFaultless line
-        → ForSome (assignment_of (text_of line)) IsValueAsSpelled }
-    ensures one_value { (raw a b : List ℕ) → SpellsValue raw a → SpellsValue raw b → a ≡ b }
+    ensures words { (line : Text) → IsFaultless line
+        → All IsReadAsSpelled (seen_tokens (text_of_line line)) }
+    ensures values { (line : Text) → IsFaultless line
+        → ForSome (assignment_of (text_of_line line)) IsValueAsSpelled }
+    ensures one_value { (raw a b : Text) → SpellsValue raw a → SpellsValue raw b → a ≡ b }
 {}
 
 /// A spelling stands for one value at most.
 pub fn one_meaning()
-    ensures { (raw a b : List ℕ) → Spells raw a → Spells raw b → a ≡ b }
+    ensures { (raw a b : Text) → Spells raw a → Spells raw b → a ≡ b }
 {}
 
 /// Whatever the choice of steps, a list of components is made canonical in one way.
 pub fn one_canonical_list()
-    ensures reached { (list : List (List ℕ)) → ReducesTo list (reduced list) }
-    ensures only { (list other : List (List ℕ)) → ReducesTo list other → other ≡ reduced list }
+    ensures reached { (list : List Component) → ReducesTo list (reduced list) }
+    ensures only { (list other : List Component) → ReducesTo list other → other ≡ reduced list }
 {}
 
 /// The path of a text has the components that are left of the text's components, whatever the
 /// choice of steps, and is absolute where the text is; a text of whose components none are left has
 /// no path; and each path has the shape that its name promises.
 pub fn path_meaning()
-    ensures path { (text path : List ℕ) → path_of text ≡ Ok path
+    ensures path { (text path : PathText) → path_of text ≡ Ok path
         → (is_rooted path ≡ is_rooted text) × ReducesTo (components text) (parts path) }
-    ensures empty { (text : List ℕ) → path_of text ≡ Err Empty ↔ ReducesTo (components text) [] }
-    ensures shape { (path : List ℕ) → IsPath path → IsShaped path }
+    ensures empty { (text : PathText) → path_of text ≡ Err Empty ↔ ReducesTo (components text) [] }
+    ensures shape { (path : PathText) → IsPath path → IsShaped path }
 {}

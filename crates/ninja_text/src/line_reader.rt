@@ -1,5 +1,6 @@
 //! Lines read one by one into a state, of a text that comes in pieces.
 ghost use Rattle.std.specs.Prelude.{◌≡◌, ℕ, List, ◌++◌, false};
+ghost use Rattle.ninja_text.specs.Bytes.{Bytes};
 ghost use Rattle.ninja_text.specs.Lines.{LogicalLine};
 ghost use Rattle.ninja_text.specs.LineViews.{seen_line};
 ghost use Rattle.ninja_text.specs.LineReading.{ReadsLine, HasLent};
@@ -62,6 +63,7 @@ impl<S, F> Model for LineReader<S, F> {
 }
 
 impl<F: Copy, S: LineState<Fault = F> + Drop> LineReader<S, F> {
+    ghost use Rattle.ninja_text.specs.Bytes.{Bytes};
     ghost use Rattle.std.specs.Prelude.{[], None, Some, Err};
     ghost use Rattle.ninja_text.specs.LineReading.{HasLentAll, StaysRefused, FeedsLines, EndsLines};
     ghost use Rattle.ninja_text.specs.declared.failure.Failure.{Failure};
@@ -87,7 +89,7 @@ impl<F: Copy, S: LineState<Fault = F> + Drop> LineReader<S, F> {
     pub fn feed(&mut self, piece: &[u8]) -> Result<(), Failure<F>>
         ensures failed { StaysRefused self.old result self.new }
         // Whatever bytes it was fed before this piece, and whatever lines they were.
-        ensures all { (bytes : List ℕ) (lent : List LogicalLine) → HasLentAll bytes lent self.old
+        ensures all { (bytes : Bytes) (lent : List LogicalLine) → HasLentAll bytes lent self.old
             → FeedsLines S.passes S.refuses S.of_cutter (bytes ++ piece.now) lent
             self.old.state result self.new }
     {
@@ -110,7 +112,7 @@ impl<F: Copy, S: LineState<Fault = F> + Drop> LineReader<S, F> {
     /// more.
     pub fn finish(self) -> Result<(S, u64), Failure<F>>
         ensures failed { (failure : Failure F) → self.failed ≡ Some failure → result ≡ Err failure }
-        ensures all { (bytes : List ℕ) (lent : List LogicalLine) → HasLentAll bytes lent self
+        ensures all { (bytes : Bytes) (lent : List LogicalLine) → HasLentAll bytes lent self
             → EndsLines S.of_cutter bytes lent self.state result }
     {
         let LineReader {
@@ -138,7 +140,7 @@ fn read_piece<S: LineState>(
 ) -> Result<(), Failure<S::Fault>>
     requires { cutter.old.waits ≡ false }
     ensures waits_not { cutter.new.waits ≡ false }
-    ensures all { (bytes : List ℕ) (lent : List LogicalLine) → HasLent bytes lent cutter.old
+    ensures all { (bytes : Bytes) (lent : List LogicalLine) → HasLent bytes lent cutter.old
         → ReadsPiece S.passes S.refuses S.of_cutter (bytes ++ piece.now) lent
         state.old result cutter.new state.new }
 {

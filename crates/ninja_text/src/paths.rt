@@ -1,6 +1,7 @@
 //! Canonical paths.
 ghost use Rattle.std.specs.Prelude.{◌≡◌, ◌∷◌, ◌++◌, ℕ, List, [], Ok, IfOk, IsUtf8, true, option_map, option_copied};
 ghost use Rattle.std.specs.Option.{ForSome};
+ghost use Rattle.ninja_text.specs.Bytes.{Text};
 ghost use Rattle.ninja_text.specs.Failure.{Gives};
 ghost use Rattle.ninja_text.specs.Escapes.{IsWritable};
 ghost use Rattle.ninja_text.specs.Paths.{path_of, is_rooted, below, seen_from, canonical_of, placed};
@@ -30,10 +31,11 @@ pub struct Path {
 }
 
 impl Model for Path {
+    ghost use Rattle.ninja_text.specs.Bytes.{PathText};
     ghost use Rattle.std.specs.Prelude.{ℕ, List};
     ghost use Rattle.ninja_text.specs.Paths.{IsPath};
 
-    ghost Value = { List ℕ };
+    ghost Value = { PathText };
 
     ghost view = { λ p. p.text.items };
 
@@ -152,7 +154,7 @@ fn seen(
     list: Vec<u8>,
 ) -> Result<Vec<u8>, AllocError>
     requires { ForSome (option_copied build) (λ b. is_rooted b ≡ true) }
-    ensures { IfOk result (λ seen. (text : List ℕ) → list.items ≡ reduced_text text
+    ensures { IfOk result (λ seen. (text : Text) → list.items ≡ reduced_text text
         → seen.items ≡ seen_from (option_copied build.entry) rooted (parts text)) }
 {
     if !rooted {
@@ -171,7 +173,7 @@ fn seen(
 /// beginning of it.
 fn below<'t>(build: &Path, list: &'t [u8]) -> Option<&'t [u8]>
     requires { is_rooted build.now ≡ true }
-    ensures { (text : List ℕ) → list.now ≡ reduced_text text
+    ensures { (text : Text) → list.now ≡ reduced_text text
         → option_map list_text (below (parts build.now) (parts text))
         ≡ option_map (λ rest. rest.now) result }
 {

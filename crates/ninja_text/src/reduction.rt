@@ -6,6 +6,7 @@
 //! one pass.
 ghost use Rattle.std.specs.Prelude.{◌≡◌, ◌≢◌, ℕ, ◌+◌, ◌-◌, ◌<◌, ◌≤◌, ◌&&◌, ◌||◌, List, [], ◌∷◌, ◌++◌, length, slice_index, take, MatchOption, IfOk, OnOk, true, false, position};
 ghost use Rattle.std.specs.List.{list_any};
+ghost use Rattle.ninja_text.specs.Bytes.{Bytes, Text, PathText, Component};
 ghost use Rattle.ninja_text.specs.Escapes.{is_unwritable};
 ghost use Rattle.ninja_text.specs.Reduction.{components, is_current, is_parent, reduced};
 ghost use Rattle.ninja_text.specs.PathShape.{parts};
@@ -45,7 +46,7 @@ fn is_no_name(component: &[u8]) -> bool
 
 /// Whether a text's canonical list is empty.
 pub(crate) fn is_nothing(list: &[u8]) -> bool
-    ensures { (text : List ℕ) → list.now ≡ reduced_text text → result ≡ is_empty (parts text) }
+    ensures { (text : PathText) → list.now ≡ reduced_text text → result ≡ is_empty (parts text) }
 {
     list.is_empty()
 }
@@ -84,7 +85,7 @@ pub(crate) fn is_rooted(text: &[u8]) -> bool
 
 /// Puts a component after a canonical list, and takes the step that applies then, if there is one.
 fn put(list: &mut Vec<u8>, component: &[u8]) -> Result<(), AllocError>
-    ensures { OnOk result ((before : List (List ℕ)) → EachLacksSlash before
+    ensures { OnOk result ((before : List Component) → EachLacksSlash before
         → list.old.items ≡ list_text (reduced before)
         → list.new.items ≡ list_text (reduced (before ++ component.now ∷ []))) }
 {
@@ -116,7 +117,7 @@ fn append(list: &mut Vec<u8>, component: &[u8]) -> Result<(), AllocError>
 /// The length of a list without its last component, where that is a name.
 fn len_without_name(list: &[u8]) -> Option<usize>
     ensures empty { list.now ≡ [] → result ≡ None }
-    ensures last { (init : List (List ℕ)) (last : List ℕ)
+    ensures last { (init : List Component) (last : Component)
         → LacksSlash last → is_current last ≡ false → list.now ≡ list_text (init ++ last ∷ [])
         → MatchOption result (is_parent last ≡ true)
         (λ n. (is_parent last ≡ false) × (take n list.now ≡ list_text init)) }
@@ -140,7 +141,7 @@ fn last_start(list: &[u8]) -> usize
 
 /// Whether a component of a canonical list is `..`.
 fn has_parent(list: &[u8]) -> bool
-    ensures { (text : List ℕ) → list.now ≡ reduced_text text
+    ensures { (text : PathText) → list.now ≡ reduced_text text
         → result ≡ list_any is_parent (parts text) }
 {
     list.split(|b| *b == b'/').any(is_parent)

@@ -8,7 +8,7 @@ use Rattle.scan_docs.specs.Scan.{SettingValue, RuleValue, AreRules}
 use Rattle.scan_docs.specs.ScanChecks.{scan_checks}
 use Rattle.scan_docs.specs.Info.{InfoValue, IsInfo}
 use Rattle.scan_docs.specs.InfoChecks.{info_checks}
-use Rattle.scan_docs.specs.Target.{TargetValue, IsTarget}
+use Rattle.scan_docs.specs.Target.{TargetDocumentValue, IsTarget}
 use Rattle.scan_docs.specs.TargetChecks.{target_checks}
 use Rattle.scan_docs.specs.Project.{ProjectValue, IsProject}
 use Rattle.scan_docs.specs.ProjectChecks.{project_checks}
@@ -60,7 +60,7 @@ module _ (bytes : List ℕ) where
   pub info_one_answer : HasOneAnswer info_checks IsInfo bytes
   info_one_answer = one_answer info_checks IsInfo info_in info_is bytes
 
-  pub target_value : (spec : TargetValue) → IsAccepted target_checks IsTarget bytes spec → spec ≡ spec_of bytes
+  pub target_value : (spec : TargetDocumentValue) → IsAccepted target_checks IsTarget bytes spec → spec ≡ spec_of bytes
   unfolding spec_of
   target_value spec h = value_is target_checks IsTarget target_in target_is bytes spec h
 

@@ -15,7 +15,7 @@ use Rattle.scan_docs.specs.Member.{key}
 use Rattle.scan_docs.specs.Shape.{text, entries_of}
 use Rattle.scan_docs.specs.Name.{is_name, is_target_name}
 use Rattle.scan_docs.specs.Check.{first_refusal}
-use Rattle.scan_docs.specs.Scan.{SettingValue, object_of, file_of}
+use Rattle.scan_docs.specs.Scan.{SettingValue, object_of, module_file_of}
 use Rattle.scan_docs.specs.ScanChecks.{scan_checks, head_checks, all_rule_checks, rule_checks, rule_shape_checks, object_checks, count_checks, all_provided_checks, provided_checks, all_required_checks, required_checks}
 use Rattle.scan_docs.specs.TargetChecks as target_document
 use Rattle.scan_docs.specs.TargetChecks.{name_checks}
@@ -48,7 +48,7 @@ abbrev objects : SettingValue → List ℕ → Option (List (Result (List ℕ) P
 objects s bytes = option_map (λ d. map (object_of s) (entries_of m.Rules d)) (read bytes)
 
 abbrev files : SettingValue → List ℕ → Option (List (List (Result (List ℕ) PathFault)))
-files s bytes = option_map (λ d. map (λ r. map (file_of s (text m.WorkDirectory r)) (entries_of m.Provides r)) (entries_of m.Rules d)) (read bytes)
+files s bytes = option_map (λ d. map (λ r. map (module_file_of s (text m.WorkDirectory r)) (entries_of m.Provides r)) (entries_of m.Rules d)) (read bytes)
 
 -- scan documents
 scan_documents : map (scan_refusal)

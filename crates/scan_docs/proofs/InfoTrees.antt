@@ -16,7 +16,7 @@ use Rattle.scan_docs.specs.Info.{ModuleValue, InfoValue, visibility_meaning, IsR
 use Rattle.scan_docs.specs.TargetChecks.{name_checks}
 use Rattle.scan_docs.specs.InfoChecks.{head_checks, modules_check, entry_shape_checks, requires_check, visibility_check, named_file_checks, requirement_checks, all_requirement_checks, module_checks, all_module_checks, info_checks}
 use Rattle.scan_docs.specs.InfoText.{requirement_tree, requirements_tree, visibility_text, module_tree, info_tree, ReadsBack}
-use Rattle.scan_docs.specs.Sound.{IsSound, IsSoundModule, IsSoundInfo}
+use Rattle.scan_docs.specs.Sound.{IsSoundPair, IsSoundModule, IsSoundInfo}
 use Rattle.scan_docs.proofs.Each.{refusal_after}
 use Rattle.scan_docs.proofs.Elements.{elements_items_of}
 
@@ -40,19 +40,19 @@ info_read info =
 
 -- ---- all checks hold, and the meaning is the info
 
-requirement_passes : (p : List ℕ × List ℕ) (at : Place) → IsSound p.0 p.1 → first_refusal (requirement_checks at (requirement_tree p)) ≡ None
+requirement_passes : (p : List ℕ × List ℕ) (at : Place) → IsSoundPair p.0 p.1 → first_refusal (requirement_checks at (requirement_tree p)) ≡ None
 unfolding requirement_checks entry_shape_checks named_file_checks requirement_tree key
 requirement_passes p at h = rw (h.named.accepted, h.canonical) refl
 
-requirement_means : (p : List ℕ × List ℕ) → IsSound p.0 p.1 → IsRequirement (requirement_tree p) p
+requirement_means : (p : List ℕ × List ℕ) → IsSoundPair p.0 p.1 → IsRequirement (requirement_tree p) p
 unfolding requirement_tree key
 requirement_means p h = record { name = refl; file = h.canonical; is_text = h.is_text }
 
-requirements_pass : (ps : List (List ℕ × List ℕ)) (j k : ℕ) → AllByRecursion (λ p. IsSound p.0 p.1) ps → first_refusal (each_from (λ k d. requirement_checks (place.ModuleRequires j k) d) k (map requirement_tree ps)) ≡ None
+requirements_pass : (ps : List (List ℕ × List ℕ)) (j k : ℕ) → AllByRecursion (λ p. IsSoundPair p.0 p.1) ps → first_refusal (each_from (λ k d. requirement_checks (place.ModuleRequires j k) d) k (map requirement_tree ps)) ≡ None
 requirements_pass [] j k h = refl
 requirements_pass (p ∷ ps) j k h = refusal_after (requirement_checks (place.ModuleRequires j k) (requirement_tree p)) (each_from (λ k d. requirement_checks (place.ModuleRequires j k) d) (k + 1) (map requirement_tree ps)) (requirement_passes p (place.ModuleRequires j k) h.0) ∙ requirements_pass ps j (k + 1) h.1
 
-requirements_mean : (ps : List (List ℕ × List ℕ)) → AllByRecursion (λ p. IsSound p.0 p.1) ps → AllZip IsRequirement (map requirement_tree ps) ps
+requirements_mean : (ps : List (List ℕ × List ℕ)) → AllByRecursion (λ p. IsSoundPair p.0 p.1) ps → AllZip IsRequirement (map requirement_tree ps) ps
 requirements_mean [] h = tt
 requirements_mean (p ∷ ps) h = (requirement_means p h.0, requirements_mean ps h.1)
 
@@ -64,7 +64,7 @@ module_passes : (v : ModuleValue) (j : ℕ) → IsSoundModule v → first_refusa
 unfolding module_checks entry_shape_checks requires_check visibility_check named_file_checks all_requirement_checks module_tree requirements_tree key
 module_passes v j h =
     rw (visibility_reads v.is_private, h.named.named.accepted, h.named.canonical, elements_items_of (map requirement_tree v.required))
-    (requirements_pass v.required j 0 (recursion_from_All (λ p. IsSound p.0 p.1) v.required h.required))
+    (requirements_pass v.required j 0 (recursion_from_All (λ p. IsSoundPair p.0 p.1) v.required h.required))
 
 module_means : (v : ModuleValue) → IsSoundModule v → IsModule true (module_tree v) v
 unfolding module_tree requirements_tree key
@@ -72,7 +72,7 @@ module_means v h = record {
   name = refl;
   file = h.named.canonical;
   is_text = h.named.is_text;
-  required = rw (elements_items_of (map requirement_tree v.required)) (requirements_mean v.required (recursion_from_All (λ p. IsSound p.0 p.1) v.required h.required));
+  required = rw (elements_items_of (map requirement_tree v.required)) (requirements_mean v.required (recursion_from_All (λ p. IsSoundPair p.0 p.1) v.required h.required));
   visibility = visibility_reads v.is_private;
 }
 

@@ -13,7 +13,7 @@ use Rattle.serde_json.specs.Written.{compact_text, comma_if, items_text}
 use Rattle.serde_json.proofs.OnLiterals.{serde_json_on_literals}
 use Rattle.scan_docs.specs.Info.{ModuleValue, InfoValue}
 use Rattle.scan_docs.specs.InfoText.{requirement_tree, visibility_text, module_tree, info_text}
-use Rattle.scan_docs.specs.Sound.{IsSound, IsSoundModule, IsSoundInfo}
+use Rattle.scan_docs.specs.Sound.{IsSoundPair, IsSoundModule, IsSoundInfo}
 use Rattle.scan_docs.proofs.JsonReader.{escaped}
 use Rattle.scan_docs.proofs.JsonStrings.{as_it_is}
 use Rattle.scan_docs.proofs.InfoTokens.{member_text, requirement_text, module_text, info_text_is}
@@ -77,7 +77,7 @@ module _ {X : Type 0} (tree : X → Data) (Good : X → Type 0) (one : (x : X) (
       let rest = one x _ h.0 (list_utf8 true xs r h.1 u) in
       subst IsUtf8 (sym (append_assoc (comma_if later) _ r)) (comma_before later _ (subst IsUtf8 (sym (append_assoc (compact_text (tree x)) (items_text true (items_of (map tree xs))) r)) rest))
 
-requirement_utf8 : (p : List ℕ × List ℕ) (r : List ℕ) → IsSound p.0 p.1 → IsUtf8 r → IsUtf8 (compact_text (requirement_tree p) ++ r)
+requirement_utf8 : (p : List ℕ × List ℕ) (r : List ℕ) → IsSoundPair p.0 p.1 → IsUtf8 r → IsUtf8 (compact_text (requirement_tree p) ++ r)
 requirement_utf8 p r h u =
     rw (requirement_text p r)
     (ascii_before (123 ∷ []) _ refl (member_utf8 (codes "bmi") p.1 _ refl h.is_text.utf8 (ascii_before (44 ∷ []) _ refl (member_utf8 (codes "name") p.0 _ refl h.named.utf8 (ascii_before (125 ∷ []) r refl u)))))
@@ -88,7 +88,7 @@ visibility_utf8 false = ascii_before (codes "public") [] refl IsUtf8-nil
 
 module_utf8 : (v : ModuleValue) (r : List ℕ) → IsSoundModule v → IsUtf8 r → IsUtf8 (compact_text (module_tree v) ++ r)
 module_utf8 v r h u =
-    let required = list_utf8 requirement_tree (λ p. IsSound p.0 p.1) requirement_utf8 false v.required _ (recursion_from_All (λ p. IsSound p.0 p.1) v.required h.required)
+    let required = list_utf8 requirement_tree (λ p. IsSoundPair p.0 p.1) requirement_utf8 false v.required _ (recursion_from_All (λ p. IsSoundPair p.0 p.1) v.required h.required)
     (ascii_before (44 ∷ []) _ refl (member_utf8 (codes "visibility") (visibility_text v.is_private) _ refl (visibility_utf8 v.is_private) (ascii_before (125 ∷ []) r refl u))) in
     rw (module_text v r)
     (ascii_before (123 ∷ []) _ refl (member_utf8 (codes "bmi") v.file _ refl h.named.is_text.utf8 (ascii_before (44 ∷ []) _ refl (member_utf8 (codes "name") v.name _ refl h.named.named.utf8

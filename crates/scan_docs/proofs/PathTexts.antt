@@ -6,7 +6,7 @@ use Rattle.serde_json.specs.Data.{Data}
 use Rattle.scan_docs.specs.declared.member.Member.TheVariants as m
 use Rattle.scan_docs.specs.Shape.{text, entries_of}
 use Rattle.scan_docs.specs.Name.{IsName}
-use Rattle.scan_docs.specs.Scan.{SettingValue, RuleValue, IsText, IsProvided, IsRequired, IsRule, AreRules, IsRuleText}
+use Rattle.scan_docs.specs.Scan.{SettingValue, RuleValue, IsText, IsProvidedModule, IsRequired, IsRule, AreRules, IsRuleText}
 use Rattle.scan_docs.specs.Info.{ModuleValue, InfoValue, IsRequirement, IsModule, IsInfo, has_visibility}
 use Rattle.scan_docs.specs.InfoText.{IsModuleText, IsInfoText}
 
@@ -23,8 +23,8 @@ module _ (s : SettingValue) where
   rule_text : (d : Data) (rule : RuleValue) → IsRule s d rule → IsRuleText rule
   rule_text d rule h = record {
     object = h.is_text;
-    names = second (IsProvided s (text m.WorkDirectory d)) (λ pair. IsName pair.0) (λ entry pair k. k.is_name) (entries_of m.Provides d) rule.provided h.provided;
-    provided = second (IsProvided s (text m.WorkDirectory d)) (λ pair. IsText pair.1) (λ entry pair k. k.is_text) (entries_of m.Provides d) rule.provided h.provided;
+    names = second (IsProvidedModule s (text m.WorkDirectory d)) (λ pair. IsName pair.0) (λ entry pair k. k.is_name) (entries_of m.Provides d) rule.provided h.provided;
+    provided = second (IsProvidedModule s (text m.WorkDirectory d)) (λ pair. IsText pair.1) (λ entry pair k. k.is_text) (entries_of m.Provides d) rule.provided h.provided;
     required = second IsRequired IsName (λ entry name k. k.is_name) (entries_of m.Requires d) rule.required h.required;
   }
 

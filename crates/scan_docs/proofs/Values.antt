@@ -8,16 +8,16 @@ use Rattle.scan_docs.specs.declared.member.Member.TheVariants as m
 use Rattle.scan_docs.specs.declared.map_form.MapForm.{MapForm}
 use Rattle.scan_docs.specs.Shape.{text, text_of, texts, entries_of}
 use Rattle.scan_docs.specs.Document.{IsTree}
-use Rattle.scan_docs.specs.Scan.{SettingValue, RuleValue, object_of, file_of, IsProvided, IsRequired, IsRule, AreRules}
+use Rattle.scan_docs.specs.Scan.{SettingValue, RuleValue, object_of, module_file_of, IsProvidedModule, IsRequired, IsRule, AreRules}
 use Rattle.scan_docs.specs.Info.{ModuleValue, InfoValue, has_visibility, privacy, IsRequirement, IsModule, IsInfo}
-use Rattle.scan_docs.specs.Target.{TargetValue, IsTarget}
+use Rattle.scan_docs.specs.Target.{TargetDocumentValue, IsTarget}
 use Rattle.scan_docs.specs.Project.{ProjectValue, IsProject}
-use Rattle.scan_docs.specs.Values.{tree_of, path_in, provided_in, rule_in, rules_in, requirement_in, module_in, info_in, target_in, project_in}
+use Rattle.scan_docs.specs.Values.{tree_of, accepted_path, provided_in, rule_in, rules_in, requirement_in, module_in, info_in, target_in, project_in}
 
 pub tree_is : (bytes : List ℕ) (d : Data) → IsTree bytes d → d ≡ tree_of bytes
 tree_is bytes d h = sym (ap (λ (o : Option Data). unwrap_or o null) h.1)
 
-path_is : (r : Result (List ℕ) PathFault) (p : List ℕ) → r ≡ Ok p → p ≡ path_in r
+path_is : (r : Result (List ℕ) PathFault) (p : List ℕ) → r ≡ Ok p → p ≡ accepted_path r
 path_is r p e = rw e refl
 
 some_is : {A : Type 0} (o : Option A) (x other : A) → o ≡ Some x → x ≡ unwrap_or o other
@@ -32,8 +32,8 @@ all_are R f is (x ∷ xs) (y ∷ ys) h = ap₂ (λ a b. a ∷ b) (is x y h.0) (a
 -- ---- scan documents
 
 module _ (s : SettingValue) where
-  provided_is : (work : Option (List ℕ)) (d : Data) (pair : List ℕ × List ℕ) → IsProvided s work d pair → pair ≡ provided_in s work d
-  provided_is work d pair h = ap₂ (λ a b. (a, b)) (some_is (text m.LogicalName d) pair.0 [] h.name) (path_is (file_of s work d) pair.1 h.file)
+  provided_is : (work : Option (List ℕ)) (d : Data) (pair : List ℕ × List ℕ) → IsProvidedModule s work d pair → pair ≡ provided_in s work d
+  provided_is work d pair h = ap₂ (λ a b. (a, b)) (some_is (text m.LogicalName d) pair.0 [] h.name) (path_is (module_file_of s work d) pair.1 h.file)
 
   required_is : (d : Data) (name : List ℕ) → IsRequired d name → name ≡ text_of m.LogicalName d
   required_is d name h = some_is (text m.LogicalName d) name [] h.name
@@ -41,7 +41,7 @@ module _ (s : SettingValue) where
   rule_is : (d : Data) (rule : RuleValue) → IsRule s d rule → rule ≡ rule_in s d
   rule_is d rule h =
       let object = path_is (object_of s d) rule.object h.object in
-      let provided = all_are (IsProvided s (text m.WorkDirectory d)) (provided_in s (text m.WorkDirectory d)) (provided_is (text m.WorkDirectory d)) (entries_of m.Provides d) rule.provided h.provided in
+      let provided = all_are (IsProvidedModule s (text m.WorkDirectory d)) (provided_in s (text m.WorkDirectory d)) (provided_is (text m.WorkDirectory d)) (entries_of m.Provides d) rule.provided h.provided in
       let required = all_are IsRequired (text_of m.LogicalName) required_is (entries_of m.Requires d) rule.required h.required in
       ap₂ (λ a (r : List (List ℕ × List ℕ) × List (List ℕ)). record { object = a; provided = r.0; required = r.1 }) object (ap₂ (λ b c. (b, c)) provided required)
 
@@ -68,14 +68,14 @@ info_is d info h =
 
 -- ---- target documents
 
-together : (f : List ℕ → List ℕ → List ℕ → Option (List ℕ) → List (List ℕ) → List (List ℕ) → List (List ℕ) → List ℕ → List ℕ → Option MapForm → Option (List ℕ) → TargetValue) (x y : TargetValue)
+together : (f : List ℕ → List ℕ → List ℕ → Option (List ℕ) → List (List ℕ) → List (List ℕ) → List (List ℕ) → List ℕ → List ℕ → Option MapForm → Option (List ℕ) → TargetDocumentValue) (x y : TargetDocumentValue)
     → x.target ≡ y.target → x.module_dir ≡ y.module_dir → x.module_ext ≡ y.module_ext → x.build_dir ≡ y.build_dir → x.scans ≡ y.scans → x.linked ≡ y.linked
     → x.kept ≡ y.kept → x.dyndep ≡ y.dyndep → x.info ≡ y.info → x.map_form ≡ y.map_form → x.edges ≡ y.edges
     → f x.target x.module_dir x.module_ext x.build_dir x.scans x.linked x.kept x.dyndep x.info x.map_form x.edges
     ≡ f y.target y.module_dir y.module_ext y.build_dir y.scans y.linked y.kept y.dyndep y.info y.map_form y.edges
 together f x y target module_dir module_ext build_dir scans linked kept dyndep info map_form edges = cc
 
-pub target_is : (d : Data) (t : TargetValue) → IsTarget d t → t ≡ target_in d
+pub target_is : (d : Data) (t : TargetDocumentValue) → IsTarget d t → t ≡ target_in d
 target_is d t h =
     together (λ a b c d e f g h i j k. record { target = a; module_dir = b; module_ext = c; build_dir = d; scans = e; linked = f; kept = g; dyndep = h; info = i; map_form = j; edges = k }) t (target_in d)
     (some_is (text m.Target d) t.target [] h.target)

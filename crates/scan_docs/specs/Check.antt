@@ -1,6 +1,7 @@
 -- The checks of a document: a list in their order, and the refusal that it leads to.
 use Rattle.std.specs.Prelude.{ℕ, List, [], ◌∷◌, Bool, false, if◌then◌else◌, Option, Some, None, Result, Ok, Err}
 use Rattle.std.specs.List.{flat_map, enumerate_from}
+use Rattle.ninja_text.specs.Bytes.{PathText}
 use Rattle.serde_json.specs.Data.{Data}
 use Rattle.ninja_text.specs.declared.fault.PathFault.{PathFault}
 use Rattle.scan_docs.specs.declared.fault.DocFault.{DocFault}
@@ -27,7 +28,7 @@ abbrev pub shape_check : Place → Member → Bool → Check
 shape_check place member holds = holds otherwise BadShape place member
 
 -- the check of a path: none is left where it is accepted, and one that is false where it is refused
-abbrev pub path_checks : Place → Result (List ℕ) PathFault → List Check
+abbrev pub path_checks : Place → Result PathText PathFault → List Check
 path_checks place (Ok path) = []
 path_checks place (Err fault) = (false otherwise BadPath place fault) ∷ []
 

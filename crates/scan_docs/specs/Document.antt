@@ -1,5 +1,6 @@
 -- The bytes of a document, the tree that they are read as, and what becomes of them.
 use Rattle.std.specs.Prelude.{◌≡◌, ℕ, ◌≤◌, ◌<◌, List, length, Some, None, IsUtf8}
+use Rattle.ninja_text.specs.Bytes.{Bytes}
 use Rattle.serde_json.specs.Data.{Data}
 use Rattle.serde_json.specs.Read.{read}
 use Rattle.scan_docs.specs.declared.document.TheConstants.{DOCUMENT_LIMIT}
@@ -13,13 +14,13 @@ abbrev pub document_limit : ℕ
 document_limit = DOCUMENT_LIMIT
 
 -- the tree that the bytes are read as, by RFC 8259 as `serde_json` reads it
-abbrev pub IsTree : List ℕ → Data → Type 0
+abbrev pub IsTree : Bytes → Data → Type 0
 IsTree bytes d = IsUtf8 bytes × (read bytes ≡ Some d)
 
 -- The bytes are not too many, they have a tree, all checks of the tree hold, and this value is what
 -- it means.
 pub record IsAccepted {V : Type 0} (checks : Data → List Check) (means : Data → V → Type 0)
-    (bytes : List ℕ) (value : V) : Type 0 where
+    (bytes : Bytes) (value : V) : Type 0 where
   pub small : length bytes ≤ document_limit
   pub tree : Data
   pub reads : IsTree bytes tree
@@ -28,7 +29,7 @@ pub record IsAccepted {V : Type 0} (checks : Data → List Check) (means : Data 
 
 -- The bytes are too many, or else have no tree, or else this is the refusal of the first check that
 -- is false.
-pub data IsRefused (checks : Data → List Check) (bytes : List ℕ) (fault : DocFault) : Type 0 where
+pub data IsRefused (checks : Data → List Check) (bytes : Bytes) (fault : DocFault) : Type 0 where
   large : document_limit < length bytes → fault ≡ TooLarge place.Document →
       IsRefused checks bytes fault
   no_tree : length bytes ≤ document_limit → ((d : Data) → IsTree bytes d → ⊥) → fault ≡ NotJson →
@@ -38,7 +39,7 @@ pub data IsRefused (checks : Data → List Check) (bytes : List ℕ) (fault : Do
 
 -- The bytes have one answer at most: they are accepted with one value, or refused for one fault.
 pub record HasOneAnswer {V : Type 0} (checks : Data → List Check) (means : Data → V → Type 0)
-    (bytes : List ℕ) : Type 0 where
+    (bytes : Bytes) : Type 0 where
   pub one_value : (v w : V) → IsAccepted checks means bytes v → IsAccepted checks means bytes w →
       v ≡ w
   pub one_fault : (f g : DocFault) → IsRefused checks bytes f → IsRefused checks bytes g → f ≡ g

@@ -1,5 +1,6 @@
 -- How the faults of documents are printed: a code, a name and a place, and what else is known.
-use Rattle.std.specs.Prelude.{ℕ, List, ◌++◌, codes}
+use Rattle.std.specs.Prelude.{◌++◌, codes}
+use Rattle.ninja_text.specs.Bytes.{Text}
 use Rattle.ninja_text.specs.FaultTexts.{path_fault_text}
 use Rattle.scan_docs.specs.declared.fault.DocFault.{DocFault}
 use Rattle.scan_docs.specs.declared.fault.DocFault.TheVariants.{NotJson, BadVersion, BadShape, NoPrimaryOutput, HeaderUnit, BadName, BadPath, TooLarge}
@@ -7,7 +8,7 @@ use Rattle.scan_docs.specs.Member.{key}
 use Rattle.scan_docs.specs.Place.{place_text}
 
 -- why a document is refused
-abbrev pub doc_fault_text : DocFault → List ℕ
+abbrev pub doc_fault_text : DocFault → Text
 doc_fault_text NotJson = codes "S1 NotJson document"
 doc_fault_text BadVersion = codes "S2 BadVersion document"
 doc_fault_text (BadShape place member) =

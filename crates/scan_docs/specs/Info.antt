@@ -1,7 +1,8 @@
 -- What an info document means.
-use Rattle.std.specs.Prelude.{◌≡◌, ℕ, List, Bool, true, false, ◌==◌, if◌then◌else◌, Option, Some, None, option_and_then, Ok, codes, bytes_eq}
+use Rattle.std.specs.Prelude.{◌≡◌, List, Bool, true, false, ◌==◌, if◌then◌else◌, Option, Some, None, option_and_then, Ok, codes, bytes_eq}
 use Rattle.std.specs.List.{AllZip}
 use Rattle.std.specs.Option.{option_map_or}
+use Rattle.ninja_text.specs.Bytes.{Text, PathText, Name}
 use Rattle.ninja_text.specs.Paths.{path_of}
 use Rattle.serde_json.specs.Data.{Data}
 use Rattle.scan_docs.specs.declared.member.Member.TheVariants as m
@@ -11,14 +12,14 @@ use Rattle.scan_docs.specs.Scan.{IsText}
 -- a module, its file, the modules that it requires, each with the file that it was found in, and
 -- whether it is private
 pub record ModuleValue : Type 0 where
-  pub name : List ℕ
-  pub file : List ℕ
-  pub required : List (List ℕ × List ℕ)
+  pub name : Name
+  pub file : PathText
+  pub required : List (Name × PathText)
   pub is_private : Bool
 
 -- a target, and its modules in order
 pub record InfoValue : Type 0 where
-  pub target : List ℕ
+  pub target : Name
   pub modules : List ModuleValue
 
 -- ---- what the members stand for
@@ -28,7 +29,7 @@ abbrev pub has_visibility : Data → Bool
 has_visibility d = option_map_or (λ version. version == 2) (whole_number m.Version d) false
 
 -- whether this text means private
-abbrev pub visibility_meaning : List ℕ → Option Bool
+abbrev pub visibility_meaning : Text → Option Bool
 visibility_meaning text =
     if bytes_eq text (codes "private") then Some true
     else (if bytes_eq text (codes "public") then Some false else None)
@@ -41,7 +42,7 @@ privacy with_visibility d =
 -- ---- the meaning
 
 -- a module that a module requires: its name, and its file
-pub record IsRequirement (d : Data) (pair : List ℕ × List ℕ) : Type 0 where
+pub record IsRequirement (d : Data) (pair : Name × PathText) : Type 0 where
   pub name : text m.Name d ≡ Some pair.0
   pub file : path_of (text_of m.Bmi d) ≡ Ok pair.1
   pub is_text : IsText pair.1

@@ -1,5 +1,6 @@
 -- What is checked of an info document, from the first check to the last.
 use Rattle.std.specs.Prelude.{ℕ, List, [], ◌∷◌, ◌++◌, Bool, false, ◌||◌, ◌==◌, Option, Some, None, is_some}
+use Rattle.ninja_text.specs.Bytes.{Text}
 use Rattle.ninja_text.specs.Paths.{path_of}
 use Rattle.serde_json.specs.Data.{Data}
 use Rattle.scan_docs.specs.declared.fault.DocFault.TheVariants.{BadVersion, BadName}
@@ -50,7 +51,7 @@ visibility_check with_visibility place d =
     shape_check place m.Visibility (is_some (privacy with_visibility d)) ∷ []
 
 -- a name and a file
-unfoldable pub named_file_checks : Place → List ℕ → List ℕ → List Check
+unfoldable pub named_file_checks : Place → Text → Text → List Check
 named_file_checks place name path =
     (is_name name otherwise BadName place)
     ∷ path_checks place (path_of path)

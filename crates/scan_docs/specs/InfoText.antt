@@ -1,6 +1,7 @@
 -- The one text of an info: version 2, compact, keys in byte order.
-use Rattle.std.specs.Prelude.{ℕ, ◌≤◌, ◌<◌, List, length, map, Bool, true, false, codes}
+use Rattle.std.specs.Prelude.{◌≤◌, ◌<◌, List, length, map, Bool, true, false, codes}
 use Rattle.std.specs.List.{All}
+use Rattle.ninja_text.specs.Bytes.{Text, PathText, Name}
 use Rattle.serde_json.specs.Data.{Data, string, number, unsigned, array, object, member, no_members}
 use Rattle.serde_json.specs.View.{items_of}
 use Rattle.serde_json.specs.Written.{compact_text}
@@ -12,18 +13,18 @@ use Rattle.scan_docs.specs.Info.{ModuleValue, InfoValue, IsInfo}
 use Rattle.scan_docs.specs.InfoChecks.{info_checks}
 
 -- a required module, with its file
-unfoldable pub requirement_tree : List ℕ × List ℕ → Data
+unfoldable pub requirement_tree : Name × PathText → Data
 requirement_tree pair =
     object (member (codes "bmi") (string pair.1)
     (member (codes "name") (string pair.0)
     no_members))
 
 -- the required modules, in order
-unfoldable pub requirements_tree : List (List ℕ × List ℕ) → Data
+unfoldable pub requirements_tree : List (Name × PathText) → Data
 requirements_tree pairs = array (items_of (map requirement_tree pairs))
 
 -- the text for a private module, and for a public one
-abbrev pub visibility_text : Bool → List ℕ
+abbrev pub visibility_text : Bool → Text
 visibility_text true = codes "private"
 visibility_text false = codes "public"
 
@@ -45,7 +46,7 @@ info_tree info =
     no_members)))
 
 -- the document's bytes
-unfoldable pub info_text : InfoValue → List ℕ
+unfoldable pub info_text : InfoValue → Text
 info_text info = compact_text (info_tree info)
 
 -- the module's paths are text, as those of all documents are
@@ -58,7 +59,7 @@ abbrev pub IsInfoText : InfoValue → Type 0
 IsInfoText info = All IsModuleText info.modules
 
 -- The text is read as this info, and is refused exactly where it is longer than a document may be.
-pub record ReadsBack (info : InfoValue) (text : List ℕ) : Type 0 where
+pub record ReadsBack (info : InfoValue) (text : Text) : Type 0 where
   pub same : length text ≤ document_limit → IsAccepted info_checks IsInfo text info
   pub too_large : document_limit < length text →
       IsRefused info_checks text (TooLarge place.Document)

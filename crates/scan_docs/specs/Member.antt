@@ -1,11 +1,12 @@
 -- The members of the documents.
-use Rattle.std.specs.Prelude.{ℕ, List, codes}
+use Rattle.std.specs.Prelude.{codes}
+use Rattle.ninja_text.specs.Bytes.{Text}
 use Rattle.scan_docs.specs.declared.member.Member.{Member}
 use Rattle.scan_docs.specs.declared.member.Member.TheVariants as m
 
 -- The key of a member, and a name for a value that is no member: the document, a rule, an entry of
 -- a list.
-unfoldable pub key : Member → List ℕ
+unfoldable pub key : Member → Text
 key m.Document = codes "document"
 key m.Rule = codes "rule"
 key m.Entry = codes "entry"

@@ -1,11 +1,12 @@
 -- How places in documents are printed.
-use Rattle.std.specs.Prelude.{ℕ, List, ◌++◌, codes}
+use Rattle.std.specs.Prelude.{◌++◌, codes}
 use Rattle.std.specs.Fmt.{decimal}
+use Rattle.ninja_text.specs.Bytes.{Text}
 use Rattle.scan_docs.specs.declared.fault.Place.{Place}
 use Rattle.scan_docs.specs.declared.fault.Place.TheVariants as place
 
 -- a place in words, with its indices
-abbrev pub place_text : Place → List ℕ
+abbrev pub place_text : Place → Text
 place_text place.Document = codes "document"
 place_text (place.Rule rule) = codes "rule " ++ decimal rule
 place_text (place.Provides rule entry) =

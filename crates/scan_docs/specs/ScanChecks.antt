@@ -1,5 +1,6 @@
 -- What is checked of a scan document, from the first check to the last.
 use Rattle.std.specs.Prelude.{ℕ, List, [], ◌∷◌, ◌++◌, length, Bool, false, not, ◌&&◌, ◌||◌, nat_le, Option, Some, None, is_some, is_none}
+use Rattle.ninja_text.specs.Bytes.{PathText}
 use Rattle.serde_json.specs.Data.{Data}
 use Rattle.scan_docs.specs.declared.fault.DocFault.TheVariants.{BadVersion, NoPrimaryOutput, HeaderUnit, BadName, TooLarge}
 use Rattle.scan_docs.specs.declared.fault.Place.{Place}
@@ -9,7 +10,7 @@ use Rattle.scan_docs.specs.declared.scan_document.TheConstants.{COUNT_LIMIT}
 use Rattle.scan_docs.specs.Check.{Check, ◌otherwise◌, shape_check, path_checks, each_from}
 use Rattle.scan_docs.specs.Shape.{is_object, given, text, text_of, flag, entries, entries_of, whole_number, fits}
 use Rattle.scan_docs.specs.Name.{is_name}
-use Rattle.scan_docs.specs.Scan.{SettingValue, object_of, file_of, is_unique_on_source, names_header, is_method}
+use Rattle.scan_docs.specs.Scan.{SettingValue, object_of, module_file_of, is_unique_on_source, names_header, is_method}
 
 -- the most rules of a document, and entries of one of a rule's lists
 abbrev pub count_limit : ℕ
@@ -59,7 +60,7 @@ count_checks place provided required =
     (is_short provided && is_short required otherwise TooLarge place) ∷ []
 
 -- an entry of `provides`
-unfoldable pub provided_checks : SettingValue → Option (List ℕ) → Place → Data → List Check
+unfoldable pub provided_checks : SettingValue → Option PathText → Place → Data → List Check
 provided_checks s work place d =
     shape_check place m.Entry (is_object d)
     ∷ shape_check place m.LogicalName (is_some (text m.LogicalName d))
@@ -68,10 +69,10 @@ provided_checks s work place d =
     ∷ shape_check place m.IsInterface (fits flag m.IsInterface d)
     ∷ (not (is_unique_on_source d) otherwise HeaderUnit place)
     ∷ (is_name (text_of m.LogicalName d) otherwise BadName place)
-    ∷ path_checks place (file_of s work d)
+    ∷ path_checks place (module_file_of s work d)
 
 -- the entries of `provides`, in order
-unfoldable pub all_provided_checks : SettingValue → Option (List ℕ) → ℕ → List Data → List Check
+unfoldable pub all_provided_checks : SettingValue → Option PathText → ℕ → List Data → List Check
 all_provided_checks s work rule ds =
     each_from (λ entry d. provided_checks s work (place.Provides rule entry) d) 0 ds
 

@@ -1,5 +1,6 @@
 -- A member of an object of the tree that `serde_json` reads, by the shape that it should have.
 use Rattle.std.specs.Prelude.{ℕ, List, [], ◌∷◌, Bool, ◌||◌, if◌then◌else◌, Option, Some, None, is_some, is_none, unwrap_or, option_map, option_and_then}
+use Rattle.ninja_text.specs.Bytes.{Text}
 use Rattle.serde_json.specs.Data.{Data, Items, no_items, item}
 use Rattle.serde_json.specs.Find.{get, as_null, as_str, as_bool, as_array, as_object, as_number, as_u64}
 use Rattle.scan_docs.specs.declared.member.Member.{Member}
@@ -18,7 +19,7 @@ abbrev pub given : Member → Data → Option Data
 given member d = option_and_then unless_null (get (key member) d)
 
 -- the member's text, where it is one
-abbrev pub text : Member → Data → Option (List ℕ)
+abbrev pub text : Member → Data → Option Text
 text member d = option_and_then as_str (given member d)
 
 -- the member's truth value, where it is one
@@ -35,12 +36,12 @@ abbrev pub entries : Member → Data → Option (List Data)
 entries member d = option_map elements (option_and_then as_array (given member d))
 
 -- the values as texts, where all of them are
-abbrev pub all_texts : List Data → Option (List (List ℕ))
+abbrev pub all_texts : List Data → Option (List Text)
 all_texts [] = Some []
 all_texts (d ∷ ds) = option_and_then (λ t. option_map (λ ts. t ∷ ts) (all_texts ds)) (as_str d)
 
 -- the member's texts, where it is an array of them
-abbrev pub texts : Member → Data → Option (List (List ℕ))
+abbrev pub texts : Member → Data → Option (List Text)
 texts member d = option_and_then all_texts (entries member d)
 
 -- the member's value, where it is a whole number
@@ -52,7 +53,7 @@ abbrev pub fits : {A : Type 0} → (Member → Data → Option A) → Member →
 fits shape member d = is_none (given member d) || is_some (shape member d)
 
 -- the text, or an empty one
-abbrev pub text_of : Member → Data → List ℕ
+abbrev pub text_of : Member → Data → Text
 text_of member d = unwrap_or (text member d) []
 
 -- the entries, or none
@@ -60,5 +61,5 @@ abbrev pub entries_of : Member → Data → List Data
 entries_of member d = unwrap_or (entries member d) []
 
 -- the texts, or none
-abbrev pub texts_of : Member → Data → List (List ℕ)
+abbrev pub texts_of : Member → Data → List Text
 texts_of member d = unwrap_or (texts member d) []

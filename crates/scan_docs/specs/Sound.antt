@@ -1,21 +1,21 @@
 -- The infos that can be written and read again.
-use Rattle.std.specs.Prelude.{ℕ, List}
 use Rattle.std.specs.List.{All}
+use Rattle.ninja_text.specs.Bytes.{PathText, Name}
 use Rattle.ninja_text.specs.Paths.{IsPath}
 use Rattle.scan_docs.specs.Name.{IsName, IsTargetName}
 use Rattle.scan_docs.specs.Scan.{IsText}
 use Rattle.scan_docs.specs.Info.{ModuleValue, InfoValue}
 
 -- a name that is accepted, and a canonical path that is text
-pub record IsSound (name : List ℕ) (path : List ℕ) : Type 0 where
+pub record IsSoundPair (name : Name) (path : PathText) : Type 0 where
   pub named : IsName name
   pub canonical : IsPath path
   pub is_text : IsText path
 
 -- so are those of a module
 pub record IsSoundModule (entry : ModuleValue) : Type 0 where
-  pub named : IsSound entry.name entry.file
-  pub required : All (λ pair. IsSound pair.0 pair.1) entry.required
+  pub named : IsSoundPair entry.name entry.file
+  pub required : All (λ pair. IsSoundPair pair.0 pair.1) entry.required
 
 -- so are those of an info, and the target's name is accepted
 pub record IsSoundInfo (info : InfoValue) : Type 0 where

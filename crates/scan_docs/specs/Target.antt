@@ -1,6 +1,7 @@
 -- What a target document means.
-use Rattle.std.specs.Prelude.{◌≡◌, ℕ, List, if◌then◌else◌, Option, Some, None, option_and_then, codes, bytes_eq}
+use Rattle.std.specs.Prelude.{◌≡◌, List, if◌then◌else◌, Option, Some, None, option_and_then, codes, bytes_eq}
 use Rattle.std.specs.Result.{result_ok}
+use Rattle.ninja_text.specs.Bytes.{Text, PathText, Name}
 use Rattle.ninja_text.specs.Paths.{path_of, is_rooted}
 use Rattle.serde_json.specs.Data.{Data}
 use Rattle.scan_docs.specs.declared.member.Member.TheVariants as m
@@ -9,35 +10,35 @@ use Rattle.scan_docs.specs.declared.map_form.MapForm.TheVariants.{Gcc, Clang}
 use Rattle.scan_docs.specs.Shape.{text, texts_of}
 
 -- the members of a target document, texts as they stand
-pub record TargetValue : Type 0 where
-  pub target : List ℕ
-  pub module_dir : List ℕ
-  pub module_ext : List ℕ
-  pub build_dir : Option (List ℕ)
-  pub scans : List (List ℕ)
-  pub linked : List (List ℕ)
-  pub kept : List (List ℕ)
-  pub dyndep : List ℕ
-  pub info : List ℕ
+pub record TargetDocumentValue : Type 0 where
+  pub target : Name
+  pub module_dir : PathText
+  pub module_ext : Text
+  pub build_dir : Option PathText
+  pub scans : List PathText
+  pub linked : List PathText
+  pub kept : List Name
+  pub dyndep : PathText
+  pub info : PathText
   pub map_form : Option MapForm
-  pub edges : Option (List ℕ)
+  pub edges : Option PathText
 
 -- ---- what the members stand for
 
 -- the path, where it is absolute
-abbrev only_rooted : List ℕ → Option (List ℕ)
+abbrev only_rooted : PathText → Option PathText
 only_rooted path = if is_rooted path then Some path else None
 
 -- the path of a text, where it has one that is absolute
-abbrev pub absolute_path : List ℕ → Option (List ℕ)
+abbrev pub absolute_path : Text → Option PathText
 absolute_path text = option_and_then only_rooted (result_ok (path_of text))
 
 -- the directory that Ninja runs in
-abbrev pub build_dir : Data → Option (List ℕ)
+abbrev pub build_dir : Data → Option PathText
 build_dir d = option_and_then absolute_path (text m.BuildDir d)
 
 -- the form of this name
-abbrev pub map_form_of : List ℕ → Option MapForm
+abbrev pub map_form_of : Text → Option MapForm
 map_form_of text =
     if bytes_eq text (codes "gcc") then Some Gcc
     else (if bytes_eq text (codes "clang") then Some Clang else None)
@@ -49,7 +50,7 @@ map_form d = option_and_then map_form_of (text m.Map d)
 -- ---- the meaning
 
 -- the members as they stand in the document
-pub record IsTarget (d : Data) (t : TargetValue) : Type 0 where
+pub record IsTarget (d : Data) (t : TargetDocumentValue) : Type 0 where
   pub target : text m.Target d ≡ Some t.target
   pub module_dir : text m.ModuleDir d ≡ Some t.module_dir
   pub module_ext : text m.ModuleExt d ≡ Some t.module_ext

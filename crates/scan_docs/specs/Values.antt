@@ -1,36 +1,37 @@
 -- What accepted documents mean, as functions of their bytes. Of bytes that are refused they say
 -- nothing.
-use Rattle.std.specs.Prelude.{ℕ, List, [], map, Bool, false, Option, unwrap_or, Result}
+use Rattle.std.specs.Prelude.{List, [], map, Bool, false, Option, unwrap_or, Result}
 use Rattle.std.specs.Result.{result_ok}
+use Rattle.ninja_text.specs.Bytes.{Bytes, PathText, Name}
 use Rattle.serde_json.specs.Data.{Data, null}
 use Rattle.serde_json.specs.Read.{read}
 use Rattle.ninja_text.specs.Paths.{path_of}
 use Rattle.ninja_text.specs.declared.fault.PathFault.{PathFault}
 use Rattle.scan_docs.specs.declared.member.Member.TheVariants as m
 use Rattle.scan_docs.specs.Shape.{text, text_of, texts_of, entries_of}
-use Rattle.scan_docs.specs.Scan.{SettingValue, RuleValue, object_of, file_of}
+use Rattle.scan_docs.specs.Scan.{SettingValue, RuleValue, object_of, module_file_of}
 use Rattle.scan_docs.specs.Info.{ModuleValue, InfoValue, has_visibility, privacy}
-use Rattle.scan_docs.specs.Target.{TargetValue, build_dir, map_form}
+use Rattle.scan_docs.specs.Target.{TargetDocumentValue, build_dir, map_form}
 use Rattle.scan_docs.specs.Project.{ProjectValue}
 
 -- the tree of the bytes; where they have none that of `null`, which has no members
-abbrev pub tree_of : List ℕ → Data
+abbrev pub tree_of : Bytes → Data
 tree_of bytes = unwrap_or (read bytes) null
 
 -- the path, where it is accepted
-abbrev pub path_in : Result (List ℕ) PathFault → List ℕ
-path_in path = unwrap_or (result_ok path) []
+abbrev pub accepted_path : Result PathText PathFault → PathText
+accepted_path path = unwrap_or (result_ok path) []
 
 -- ---- scan documents
 
 -- a provided module: its name, and its file
-abbrev pub provided_in : SettingValue → Option (List ℕ) → Data → List ℕ × List ℕ
-provided_in s work d = (text_of m.LogicalName d, path_in (file_of s work d))
+abbrev pub provided_in : SettingValue → Option PathText → Data → Name × PathText
+provided_in s work d = (text_of m.LogicalName d, accepted_path (module_file_of s work d))
 
 -- a rule, placed and named as the setting says
 abbrev pub rule_in : SettingValue → Data → RuleValue
 rule_in s d = record {
-  object = path_in (object_of s d);
+  object = accepted_path (object_of s d);
   provided = map (provided_in s (text m.WorkDirectory d)) (entries_of m.Provides d);
   required = map (text_of m.LogicalName) (entries_of m.Requires d);
 }
@@ -40,20 +41,20 @@ abbrev pub rules_in : SettingValue → Data → List RuleValue
 rules_in s d = map (rule_in s) (entries_of m.Rules d)
 
 -- the rules of a scan document
-unfoldable pub rules_of : SettingValue → List ℕ → List RuleValue
+unfoldable pub rules_of : SettingValue → Bytes → List RuleValue
 rules_of s bytes = rules_in s (tree_of bytes)
 
 -- ---- info documents
 
 -- a module that a module requires: its name, and its file
-abbrev pub requirement_in : Data → List ℕ × List ℕ
-requirement_in d = (text_of m.Name d, path_in (path_of (text_of m.Bmi d)))
+abbrev pub requirement_in : Data → Name × PathText
+requirement_in d = (text_of m.Name d, accepted_path (path_of (text_of m.Bmi d)))
 
 -- a module
 abbrev pub module_in : Bool → Data → ModuleValue
 module_in with_visibility d = record {
   name = text_of m.Name d;
-  file = path_in (path_of (text_of m.Bmi d));
+  file = accepted_path (path_of (text_of m.Bmi d));
   required = map requirement_in (entries_of m.Requires d);
   is_private = unwrap_or (privacy with_visibility d) false;
 }
@@ -66,13 +67,13 @@ info_in d = record {
 }
 
 -- the info of an info document
-unfoldable pub info_of : List ℕ → InfoValue
+unfoldable pub info_of : Bytes → InfoValue
 info_of bytes = info_in (tree_of bytes)
 
 -- ---- target documents
 
 -- the members of a target
-abbrev pub target_in : Data → TargetValue
+abbrev pub target_in : Data → TargetDocumentValue
 target_in d = record {
   target = text_of m.Target d;
   module_dir = text_of m.ModuleDir d;
@@ -88,7 +89,7 @@ target_in d = record {
 }
 
 -- the members of a target document
-unfoldable pub spec_of : List ℕ → TargetValue
+unfoldable pub spec_of : Bytes → TargetDocumentValue
 spec_of bytes = target_in (tree_of bytes)
 
 -- ---- project documents
@@ -98,5 +99,5 @@ abbrev pub project_in : Data → ProjectValue
 project_in d = record { targets = texts_of m.Targets d }
 
 -- the target documents of a project document
-unfoldable pub project_of : List ℕ → ProjectValue
+unfoldable pub project_of : Bytes → ProjectValue
 project_of bytes = project_in (tree_of bytes)

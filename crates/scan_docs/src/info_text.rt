@@ -8,7 +8,7 @@ ghost use Rattle.serde_json.specs.Events.{SendsValue};
 ghost use Rattle.serde_json.specs.View.{items_of};
 ghost use Rattle.scan_docs.specs.Scan.{IsText};
 ghost use Rattle.scan_docs.specs.InfoText.{requirement_tree, requirements_tree, visibility_text, module_tree, info_tree, info_text, IsModuleText, IsInfoText, ReadsBack};
-ghost use Rattle.scan_docs.specs.Sound.{IsSound, IsSoundModule, IsSoundInfo};
+ghost use Rattle.scan_docs.specs.Sound.{IsSoundPair, IsSoundModule, IsSoundInfo};
 ghost use Rattle.scan_docs.specs.inner.Writing.{SendsText, SendsNamedFile};
 
 use crate::info::Info;
@@ -170,7 +170,7 @@ fn send_requirements<S: Serializer>(out: &mut S, pairs: &[(Name, Path)]) -> Resu
     requires { All (λ pair. IsText pair.1) pairs.now }
     ensures sent { OnOk result
         (SendsValue (requirements_tree pairs.now) (S.written out.old) (S.written out.new)) }
-    ensures sound { OnOk result (All (λ pair. IsSound pair.0 pair.1) pairs.now) }
+    ensures sound { OnOk result (All (λ pair. IsSoundPair pair.0 pair.1) pairs.now) }
 {
     out.begin_seq(Some(pairs.len()))?;
     for pair in pairs {
@@ -183,7 +183,7 @@ fn send_requirement<S: Serializer>(out: &mut S, pair: &(Name, Path)) -> Result<(
     requires { IsText pair.now.1 }
     ensures sent { OnOk result
         (SendsValue (requirement_tree pair.now) (S.written out.old) (S.written out.new)) }
-    ensures sound { OnOk result (IsSound pair.now.0 pair.now.1) }
+    ensures sound { OnOk result (IsSoundPair pair.now.0 pair.now.1) }
 {
     out.begin_map(Some(2))?;
     send_named_file(out, &pair.0, &pair.1)?;
@@ -195,7 +195,7 @@ fn send_named_file<S: Serializer>(out: &mut S, name: &Name, file: &Path) -> Resu
     requires { IsText file.now }
     ensures sent { OnOk result
         (SendsNamedFile name.now file.now (S.written out.old) (S.written out.new)) }
-    ensures sound { OnOk result (IsSound name.now file.now) }
+    ensures sound { OnOk result (IsSoundPair name.now file.now) }
 {
     send_text(out, "bmi", text_of(file))?;
     send_text(out, "name", name.text())

@@ -1,5 +1,6 @@
 //! Laws of documents, for callers' proofs: each is the contract of a call that does nothing.
 ghost use Rattle.std.specs.Prelude.{◌≡◌, ℕ, List};
+ghost use Rattle.ninja_text.specs.Bytes.{Bytes};
 ghost use Rattle.scan_docs.specs.Document.{IsAccepted, HasOneAnswer};
 ghost use Rattle.scan_docs.specs.Scan.{SettingValue, RuleValue, AreRules};
 ghost use Rattle.scan_docs.specs.ScanChecks.{scan_checks};
@@ -7,7 +8,7 @@ ghost use Rattle.scan_docs.specs.Info.{InfoValue, IsInfo};
 ghost use Rattle.scan_docs.specs.InfoText.{info_text, ReadsBack};
 ghost use Rattle.scan_docs.specs.Sound.{IsSoundInfo};
 ghost use Rattle.scan_docs.specs.InfoChecks.{info_checks};
-ghost use Rattle.scan_docs.specs.Target.{TargetValue, IsTarget};
+ghost use Rattle.scan_docs.specs.Target.{TargetDocumentValue, IsTarget};
 ghost use Rattle.scan_docs.specs.TargetChecks.{target_checks};
 ghost use Rattle.scan_docs.specs.Project.{ProjectValue, IsProject};
 ghost use Rattle.scan_docs.specs.ProjectChecks.{project_checks};
@@ -16,25 +17,25 @@ ghost use Rattle.scan_docs.specs.Values.{rules_of, info_of, spec_of, project_of}
 /// Whatever the bytes are, as a document of each kind they have one answer at most: one value, or
 /// one fault, and never both.
 pub fn one_answer()
-    ensures scan { (setting : SettingValue) (bytes : List ℕ)
+    ensures scan { (setting : SettingValue) (bytes : Bytes)
         → HasOneAnswer (scan_checks setting) (AreRules setting) bytes }
-    ensures info { (bytes : List ℕ) → HasOneAnswer info_checks IsInfo bytes }
-    ensures target { (bytes : List ℕ) → HasOneAnswer target_checks IsTarget bytes }
-    ensures project { (bytes : List ℕ) → HasOneAnswer project_checks IsProject bytes }
+    ensures info { (bytes : Bytes) → HasOneAnswer info_checks IsInfo bytes }
+    ensures target { (bytes : Bytes) → HasOneAnswer target_checks IsTarget bytes }
+    ensures project { (bytes : Bytes) → HasOneAnswer project_checks IsProject bytes }
 {}
 
 /// The value of a document that is accepted is that of the function of its bytes.
 pub fn value_of_bytes()
-    ensures scan { (setting : SettingValue) (bytes : List ℕ) (rules : List RuleValue)
+    ensures scan { (setting : SettingValue) (bytes : Bytes) (rules : List RuleValue)
         → IsAccepted (scan_checks setting) (AreRules setting) bytes rules
         → rules ≡ rules_of setting bytes }
-    ensures info { (bytes : List ℕ) (info : InfoValue)
+    ensures info { (bytes : Bytes) (info : InfoValue)
         → IsAccepted info_checks IsInfo bytes info
         → info ≡ info_of bytes }
-    ensures target { (bytes : List ℕ) (spec : TargetValue)
+    ensures target { (bytes : Bytes) (spec : TargetDocumentValue)
         → IsAccepted target_checks IsTarget bytes spec
         → spec ≡ spec_of bytes }
-    ensures project { (bytes : List ℕ) (project : ProjectValue)
+    ensures project { (bytes : Bytes) (project : ProjectValue)
         → IsAccepted project_checks IsProject bytes project
         → project ≡ project_of bytes }
 {}

@@ -36,10 +36,11 @@ impl Drop for Name {
 }
 
 impl Model for Name {
+    ghost use Rattle.ninja_text.specs.Bytes.{Bytes};
     ghost use Rattle.std.specs.Prelude.{ℕ, List, IsTrue, IsUtf8};
     ghost use Rattle.scan_docs.specs.Name.{is_name};
 
-    ghost Value = { List ℕ };
+    ghost Value = { Bytes };
 
     ghost view = { λ n. n.bytes.items };
 

@@ -9,7 +9,7 @@ ghost use Rattle.scan_docs.specs.Check.{◌otherwise◌};
 ghost use Rattle.scan_docs.specs.inner.Reading.{Answers, Tests, AnswersPath};
 ghost use Rattle.scan_docs.specs.Shape.{text, entries_of, given};
 ghost use Rattle.scan_docs.specs.Name.{is_name, IsName};
-ghost use Rattle.scan_docs.specs.Scan.{object_of, file_from, names_header, made_file, joined_file, dashed, IsText, IsProvided, IsRequired, IsRule};
+ghost use Rattle.scan_docs.specs.Scan.{object_of, file_from, names_header, made_file, joined_file, dashed, IsText, IsProvidedModule, IsRequired, IsRule};
 ghost use Rattle.scan_docs.specs.ScanChecks.{rule_shape_checks, provided_checks, all_provided_checks, required_checks, all_required_checks, object_checks, count_checks, rule_checks, lookup_check};
 ghost use Rattle.scan_docs.specs.declared.member.Member.TheVariants as m;
 
@@ -144,7 +144,7 @@ fn read_all_provided(
 ) -> Result<Vec<(Name, Path)>, Failure<DocFault>>
     ensures { Answers
         (all_provided_checks setting.now (option_copied work.entry) rule (map view entries.now))
-        (λ found. AllZip (IsProvided setting.now (option_copied work.entry))
+        (λ found. AllZip (IsProvidedModule setting.now (option_copied work.entry))
         (map view entries.now) found.items) result }
 {
     let mut found = Vec::with_capacity(alloc, entries.len())?;
@@ -166,7 +166,7 @@ fn read_provided(
 ) -> Result<(Name, Path), Failure<DocFault>>
     ensures { Answers
         (provided_checks setting.now (option_copied work.entry) place (view entry.now))
-        (IsProvided setting.now (option_copied work.entry) (view entry.now)) result }
+        (IsProvidedModule setting.now (option_copied work.entry) (view entry.now)) result }
 {
     shape::check_object(entry, Member::Entry, place)?;
     let name = shape::required_text(entry, Member::LogicalName, place)?;

@@ -60,9 +60,9 @@ impl Model for TargetSpec {
     ghost use Rattle.std.specs.Prelude.{◌≡◌, true, map, option_map, string_bytes};
     ghost use Rattle.std.specs.Option.{ForSome};
     ghost use Rattle.ninja_text.specs.Paths.{is_rooted};
-    ghost use Rattle.scan_docs.specs.Target.{TargetValue};
+    ghost use Rattle.scan_docs.specs.Target.{TargetDocumentValue};
 
-    ghost Value = { TargetValue };
+    ghost Value = { TargetDocumentValue };
 
     ghost view = { λ t. record {
       target = t.target;

@@ -19,10 +19,11 @@ pub struct TargetName {
 }
 
 impl Model for TargetName {
+    ghost use Rattle.ninja_text.specs.Bytes.{Bytes};
     ghost use Rattle.std.specs.Prelude.{ℕ, List, IsTrue, string_bytes};
     ghost use Rattle.scan_docs.specs.Name.{is_target_name};
 
-    ghost Value = { List ℕ };
+    ghost Value = { Bytes };
 
     ghost view = { λ n. string_bytes n.text };
 

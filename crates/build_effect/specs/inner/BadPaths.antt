@@ -4,7 +4,7 @@ use Rattle.ninja_text.specs.Paths.{path_of}
 use Rattle.ninja_text.specs.declared.fault.PathFault.{PathFault}
 use Rattle.dyndep_file.specs.StatementValue.{StatementValue}
 use Rattle.ninja_text.specs.Firsts.{IsFirst}
-use Rattle.build_effect.specs.Faults.{path_texts, IsRefused, HasRefused}
+use Rattle.build_effect.specs.Faults.{path_texts, IsNoPath, HasRefused}
 use Rattle.build_effect.specs.declared.fault.EffectFault.{EffectFault}
 use Rattle.build_effect.specs.declared.fault.EffectFault.TheVariants.{BadPath}
 
@@ -18,7 +18,7 @@ IsBadText text k j fault =
 -- `from` in its statement
 abbrev pub IsBadTextFrom : List (List ℕ) → ℕ → ℕ → EffectFault → Type 0
 IsBadTextFrom texts k from fault =
-    (j : ℕ) × (text : List ℕ) × IsFirst IsRefused texts j text
+    (j : ℕ) × (text : List ℕ) × IsFirst IsNoPath texts j text
     × IsBadText text k (from + j) fault
 
 -- the fault reports the first of the statement's texts that is no path

@@ -6,7 +6,7 @@ use Rattle.ninja_text.specs.declared.failure.Failure.TheVariants.{Memory, Fault}
 use Rattle.ninja_text.specs.declared.token.TokenKind.{TokenKind}
 use Rattle.dyndep_file.specs.Classes.{Symbol, WordSymbol}
 use Rattle.build_effect.specs.ListingLines as lines
-use Rattle.build_effect.specs.ListingLines.{EdgeTexts, Class}
+use Rattle.build_effect.specs.ListingLines.{EdgeTexts, ListingClass}
 use Rattle.build_effect.specs.inner.ListingWalk.{row_of, class_of_row, past_sign, front_words, past_words, part_words, past_part, step, row_cause, text_cause}
 use Rattle.ninja_text.specs.declared.fault.PathFault.{PathFault}
 use Rattle.build_effect.specs.ListingGrammar.{bound}
@@ -62,7 +62,7 @@ RulePassed (Some symbols) None new = (front_words symbols ≡ []) × (past_words
 abbrev pub TakesRow : ListingValue → lines.Row → Result Unit (Failure LineCause)
     → ListingValue → Type 0
 TakesRow old row (Ok u) new =
-    (c : Class) × (class_of_row row ≡ Ok c) × (step old.binding old.edges c ≡ Some new)
+    (c : ListingClass) × (class_of_row row ≡ Ok c) × (step old.binding old.edges c ≡ Some new)
 TakesRow old row (Err (Fault cause)) new = row_cause old.binding (Ok row) ≡ Some cause
 TakesRow old row (Err Memory) new = Unit {0}
 

@@ -3,18 +3,18 @@
 -- `specs/ListingFaults.antt` and `specs/ListingGrammar.antt` say.
 use Rattle.std.specs.Prelude.{◌≡◌, ℕ, Bool, true, false, ◌&&◌, not, nat_lt, if◌then◌else◌, List, [], ◌∷◌, ◌++◌, length, codes, Option, Some, None, Result, Ok, Err}
 use Rattle.std.specs.Option.{option_and_then}
-use Rattle.ninja_text.specs.Lines.{line_limit, text_of, is_comment}
+use Rattle.ninja_text.specs.Lines.{line_limit, text_of_line, is_comment}
 use Rattle.ninja_text.specs.Lexical.{lexical_fault}
 use Rattle.ninja_text.specs.Tokens.{tokens, value_of}
 use Rattle.ninja_text.specs.Assignments.{SeenAssignment, assignment_of}
-use Rattle.ninja_text.specs.Paths.{path_of}
+use Rattle.ninja_text.specs.Paths.{path_of, is_empty}
 use Rattle.ninja_text.specs.declared.fault.PathFault.{PathFault}
 use Rattle.ninja_text.specs.declared.fault.LexFault.{LexFault}
 use Rattle.ninja_text.specs.declared.token.TokenKind.{TokenKind}
 use Rattle.ninja_text.specs.declared.token.TokenKind.TheVariants.{Bar, DoubleBar, Colon}
 use Rattle.dyndep_file.specs.Classes.{Symbol, WordSymbol, SignSymbol, symbols, begins_at_start, begins_with_space}
-use Rattle.dyndep_file.specs.Faults.{same_bytes, is_empty, after_build}
-use Rattle.build_effect.specs.ListingLines.{EdgeTexts, is_rule_name, Row, CommentRow, BlankRow, BuildRow, DyndepRow, RestatRow, Class, Comment, Blank, Build, Dyndep, Restat}
+use Rattle.dyndep_file.specs.Faults.{same_bytes, after_build}
+use Rattle.build_effect.specs.ListingLines.{EdgeTexts, is_rule_name, Row, CommentRow, BlankRow, BuildRow, DyndepRow, RestatRow, ListingClass, Comment, Blank, Build, Dyndep, Restat}
 use Rattle.build_effect.specs.EdgeValue.{EdgeValue}
 use Rattle.build_effect.specs.ListingGrammar.{bound}
 use Rattle.build_effect.specs.ListingSteps.{ListingValue}
@@ -160,16 +160,16 @@ edge_paths t =
       order_only = order_only;
     }))))))
 
-abbrev pub build_class : Result EdgeTexts PathFault → Result Class PathFault
+abbrev pub build_class : Result EdgeTexts PathFault → Result ListingClass PathFault
 build_class (Ok paths) = Ok (Build paths)
 build_class (Err fault) = Err fault
 
-abbrev pub dyndep_class : Result (List ℕ) PathFault → Result Class PathFault
+abbrev pub dyndep_class : Result (List ℕ) PathFault → Result ListingClass PathFault
 dyndep_class (Ok path) = Ok (Dyndep path)
 dyndep_class (Err fault) = Err fault
 
 -- the class of a row, or the fault of its first text that is no path
-abbrev pub class_of_row : Row → Result Class PathFault
+abbrev pub class_of_row : Row → Result ListingClass PathFault
 class_of_row CommentRow = Ok Comment
 class_of_row BlankRow = Ok Blank
 class_of_row (BuildRow texts) = build_class (edge_paths texts)
@@ -177,7 +177,7 @@ class_of_row (DyndepRow text) = dyndep_class (path_of text)
 class_of_row (RestatRow flag) = Ok (Restat flag)
 
 -- the row and the class that are found of a line
-abbrev pub FindsClass : List ℕ → Bool → Class → Type 0
+abbrev pub FindsClass : List ℕ → Bool → ListingClass → Type 0
 FindsClass text comment c =
     (row : Row) × (row_of text comment ≡ Ok row) × (class_of_row row ≡ Ok c)
 
@@ -197,7 +197,7 @@ may_stand (Open dyndep restat) (RestatRow flag) = not restat
 -- ---- its cause
 
 -- the cause of a line whose paths were looked at
-abbrev pub path_cause : Result Class PathFault → Option LineCause
+abbrev pub path_cause : Result ListingClass PathFault → Option LineCause
 path_cause (Ok c) = None
 path_cause (Err fault) = Some (BadPath fault)
 
@@ -215,7 +215,7 @@ text_cause binding text comment = row_cause binding (row_of text comment)
 abbrev pub line_cause : Binding → List ℕ → Option LineCause
 line_cause binding line =
     if nat_lt line_limit (length line) then Some LineTooLong
-    else text_cause binding (text_of line) (is_comment line)
+    else text_cause binding (text_of_line line) (is_comment line)
 
 -- ---- what one more line does to the edges so far
 
@@ -236,7 +236,7 @@ with_last_restat flag es = with_last (λ e. record e { restat = flag }) es
 -- What a line of this class does, where it may come. A comment changes nothing. A blank line
 -- closes the open edge. A build line opens an edge. A binding sets what it names in the open edge,
 -- once.
-abbrev pub step : Binding → List EdgeValue → Class → Option ListingValue
+abbrev pub step : Binding → List EdgeValue → ListingClass → Option ListingValue
 step binding es Comment = Some (record { edges = es; binding = binding })
 step binding es Blank = Some (record { edges = es; binding = Closed })
 step binding es (Build paths) =
@@ -251,7 +251,7 @@ step (Open dyndep restat) es (Restat flag) =
     else Some (record { edges = with_last_restat flag es; binding = Open dyndep true })
 
 -- what lines of these classes do, one after another
-abbrev pub run : Binding → List EdgeValue → List Class → Option ListingValue
+abbrev pub run : Binding → List EdgeValue → List ListingClass → Option ListingValue
 run binding es [] = Some (record { edges = es; binding = binding })
 run binding es (c ∷ classes) =
     option_and_then (λ s. run s.binding s.edges classes) (step binding es c)

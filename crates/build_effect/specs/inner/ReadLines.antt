@@ -3,7 +3,7 @@ use Rattle.std.specs.Prelude.{◌≡◌, Some}
 use Rattle.ninja_text.specs.Lines.{LogicalLine}
 use Rattle.ninja_text.specs.declared.fault.CutFault.{CutFault}
 use Rattle.ninja_text.specs.declared.fault.CutFault.TheVariants as cut
-use Rattle.build_effect.specs.ListingLines.{Class}
+use Rattle.build_effect.specs.ListingLines.{ListingClass}
 use Rattle.build_effect.specs.ListingSteps.{ListingValue}
 use Rattle.build_effect.specs.inner.ListingWalk.{step, FindsClass, text_cause}
 use Rattle.build_effect.specs.declared.fault.LineCause.TheVariants.{LineTooLong, Truncated}
@@ -12,7 +12,7 @@ use Rattle.build_effect.specs.declared.fault.LineFault.{LineFault}
 -- A line passes, and these are the edges after it.
 abbrev pub PassesLine : ListingValue → LogicalLine → ListingValue → Type 0
 PassesLine old line new =
-    (c : Class) × FindsClass line.text line.comment c
+    (c : ListingClass) × FindsClass line.text line.comment c
     × (step old.binding old.edges c ≡ Some new)
 
 -- A line has this fault.

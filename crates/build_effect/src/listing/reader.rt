@@ -26,21 +26,22 @@ pub struct ListingReader {
 }
 
 impl Model for ListingReader {
-    ghost use Rattle.build_effect.specs.ListingReaders.{Reader};
+    ghost use Rattle.build_effect.specs.ListingReaders.{ListingReaderState};
 
-    ghost Value = { Reader };
+    ghost Value = { ListingReaderState };
 
     ghost view = { λ r. r.lines };
 }
 
 impl ListingReader {
-    ghost use Rattle.build_effect.specs.ListingReaders.{HasRead, Reads, Ends};
+    ghost use Rattle.ninja_text.specs.Bytes.{Bytes};
+    ghost use Rattle.build_effect.specs.ListingReaders.{HasReadListing, FeedsListing, EndsListing};
     ghost use Rattle.build_effect.specs.declared.fault.LineFault.{LineFault};
     ghost use Rattle.ninja_text.specs.declared.failure.Failure.{Failure};
 
     /// A reader that was fed nothing. It takes no memory yet.
     pub fn new(alloc: Global) -> ListingReader
-        ensures { HasRead [] result }
+        ensures { HasReadListing [] result }
     {
         let state = ListingState {
             edges: Vec::new(alloc),
@@ -61,8 +62,8 @@ impl ListingReader {
         ensures failed { (failure : Failure LineFault) → self.old.failed ≡ Some failure →
             (result ≡ Err failure) × (self.new ≡ self.old) }
         // Whatever bytes it was fed before this piece.
-        ensures all { (bytes : List ℕ) → HasRead bytes self.old →
-            Reads (bytes ++ piece.now) result self.new }
+        ensures all { (bytes : Bytes) → HasReadListing bytes self.old →
+            FeedsListing (bytes ++ piece.now) result self.new }
     {
         self.lines.feed(piece)
     }
@@ -78,7 +79,7 @@ impl ListingReader {
     pub fn finish(self) -> Result<Graph, Failure<ListingFault>>
         ensures failed { (failure : Failure LineFault) → self.failed ≡ Some failure →
             result ≡ Err (line_failure failure) }
-        ensures all { (bytes : List ℕ) → HasRead bytes self → Ends bytes result }
+        ensures all { (bytes : Bytes) → HasReadListing bytes self → EndsListing bytes result }
     {
         self.finish_with_hasher(BuildHasherDefault::<FoldHasher>::new())
     }
@@ -91,7 +92,7 @@ impl ListingReader {
     ) -> Result<Graph, Failure<ListingFault>>
         ensures failed { (failure : Failure LineFault) → self.failed ≡ Some failure →
             result ≡ Err (line_failure failure) }
-        ensures all { (bytes : List ℕ) → HasRead bytes self → Ends bytes result }
+        ensures all { (bytes : Bytes) → HasReadListing bytes self → EndsListing bytes result }
     {
         let ListingReader { alloc, lines } = self;
         match lines.finish() {

@@ -8,11 +8,12 @@ ghost use Rattle.ninja_text.specs.Tokens.{value_of};
 ghost use Rattle.ninja_text.specs.TokenViews.{seen_token};
 ghost use Rattle.ninja_text.specs.AssignmentViews.{seen_assignment};
 ghost use Rattle.dyndep_file.specs.Classes.{begins_with_space, WordSymbol};
-ghost use Rattle.dyndep_file.specs.Faults.{same_bytes, is_empty};
-ghost use Rattle.dyndep_file.specs.BuildTokens.{symbol_of, symbols_left, is_word};
+ghost use Rattle.dyndep_file.specs.Faults.{same_bytes};
+ghost use Rattle.ninja_text.specs.Paths.{is_empty};
+ghost use Rattle.dyndep_file.specs.BuildTokens.{symbol_of, symbols_left, is_this_word};
 ghost use Rattle.build_effect.specs.ListingLines.{is_rule_name};
 ghost use Rattle.build_effect.specs.inner.ListingWalk.{binding_row, edge_texts, front_words, past_words, past_sign, right_texts, is_sign};
-ghost use Rattle.ninja_text.specs.Assignments.{is_name_byte};
+ghost use Rattle.ninja_text.specs.Assignments.{is_identifier_byte};
 ghost use Rattle.ninja_text.specs.declared.token.TokenKind.TheVariants.{Colon};
 ghost use Rattle.dep_order.specs.Rows.{rows};
 ghost use Rattle.build_effect.specs.inner.ListingRows.{row_value, line_row, words_of_part, symbols_past_part, SignPassed, WordPassed, RulePassed};
@@ -302,14 +303,14 @@ fn is_rule_name(name: &[u8]) -> bool
 
 /// Whether all bytes may be in the name of a rule.
 fn are_name_bytes(bytes: &[u8]) -> bool
-    ensures { result ≡ list_all is_name_byte bytes.now }
+    ensures { result ≡ list_all is_identifier_byte bytes.now }
 {
-    bytes.iter().all(|b| is_name_byte(*b))
+    bytes.iter().all(|b| is_identifier_byte(*b))
 }
 
 /// Whether a byte may be in the name of a rule.
-fn is_name_byte(byte: u8) -> bool
-    ensures { result ≡ is_name_byte byte }
+fn is_identifier_byte(byte: u8) -> bool
+    ensures { result ≡ is_identifier_byte byte }
 {
     byte.is_ascii_alphanumeric() || matches!(byte, b'_' | b'.' | b'-')
 }
@@ -317,7 +318,7 @@ fn is_name_byte(byte: u8) -> bool
 /// Whether a line whose first token this is is a build line.
 fn begins_build_line(first: Token<'_>) -> bool
     ensures { result ≡ ((seen_token first.entry).start == 0)
-        && is_word (codes "build") (symbol_of (seen_token first.entry)) }
+        && is_this_word (codes "build") (symbol_of (seen_token first.entry)) }
 {
     first.start() == 0 && first.kind() == TokenKind::Word && is_same(first.raw(), b"build")
 }

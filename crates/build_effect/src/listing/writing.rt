@@ -4,7 +4,7 @@ ghost use Rattle.std.specs.List.{flat_map};
 ghost use Rattle.ninja_text.specs.Counting.{held, IsWritten};
 ghost use Rattle.ninja_text.specs.Failure.{Gives};
 ghost use Rattle.dyndep_file.specs.Writing.{spaced};
-ghost use Rattle.build_effect.specs.ListingWriting.{part_text, left_text, right_text, edge_line, dyndep_line, restat_line, listing_text, first_too_long, LeavesWriter, WritesInTurn, AnswersFault, text_or_fault};
+ghost use Rattle.build_effect.specs.ListingWriting.{marked_text, left_text, right_text, edge_line, dyndep_line, restat_line, listing_text, first_too_long, LeavesListingWriter, WritesListingInTurn, AnswersTooLong, listing_text_or_fault};
 
 use crate::edge::Edge;
 use crate::fault::ListingWriteFault;
@@ -24,10 +24,11 @@ pub fn listing_write<W: WriteCall>(
 ) -> Result<(), Failure<ListingWriteFault>>
     ensures text { MatchResult result
         (λ _. IsWritten W.contents out.old out.new (listing_text graph.now))
-        (λ failure. LeavesWriter W.contents out.old out.new (listing_text graph.now) failure) }
-    ensures calls { WritesInTurn W.writes (held out.old) (held out.new)
+        (λ failure. LeavesListingWriter W.contents out.old out.new (listing_text graph.now)
+            failure) }
+    ensures calls { WritesListingInTurn W.writes (held out.old) (held out.new)
         (listing_text graph.now) result }
-    ensures fault { AnswersFault (first_too_long graph.now) result }
+    ensures fault { AnswersTooLong (first_too_long graph.now) result }
 {
     let text = text_of(alloc, graph.edges())?;
     match out.write_text(text.as_slice()) {
@@ -40,7 +41,7 @@ pub fn listing_write<W: WriteCall>(
 
 /// The text of the edges, or the first of them whose build line is too long.
 fn text_of(alloc: Global, edges: &[Edge]) -> Result<Vec<u8>, Failure<ListingWriteFault>>
-    ensures { Gives (λ text. text.items) result (text_or_fault edges.now) }
+    ensures { Gives (λ text. text.items) result (listing_text_or_fault edges.now) }
 {
     let mut text = Vec::new(alloc);
     for (edge_index, edge) in edges.iter().enumerate() {
@@ -111,7 +112,7 @@ fn push_restat(text: &mut Vec<u8>, restat: bool) -> Result<(), AllocError>
 
 /// Appends the mark and each path after a space, where there are any.
 fn push_part(text: &mut Vec<u8>, mark: &[u8], paths: &[Path]) -> Result<(), AllocError>
-    ensures { OnOk result (text.new.items ≡ text.old.items ++ part_text mark.now paths.now) }
+    ensures { OnOk result (text.new.items ≡ text.old.items ++ marked_text mark.now paths.now) }
 {
     if paths.is_empty() {
         return Ok(());

@@ -4,5 +4,5 @@ use Rattle.ninja_text.specs.Paths.{placed}
 use Rattle.scan_docs.specs.Target as document
 
 -- the dyndep file is a path as Ninja sees it
-abbrev pub IsPlaced : document.TargetValue → Type 0
+abbrev pub IsPlaced : document.TargetDocumentValue → Type 0
 IsPlaced spec = (path : List ℕ) × (placed None spec.build_dir spec.dyndep ≡ Ok path)

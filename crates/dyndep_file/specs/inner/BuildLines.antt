@@ -4,7 +4,7 @@ use Rattle.ninja_text.specs.Tokens.{value_of}
 use Rattle.ninja_text.specs.declared.failure.Failure.{Failure}
 use Rattle.ninja_text.specs.declared.failure.Failure.TheVariants.{Memory, Fault}
 use Rattle.ninja_text.specs.declared.token.TokenKind.TheVariants.{Colon}
-use Rattle.dyndep_file.specs.StatementValue.{StatementValue, statement_of}
+use Rattle.dyndep_file.specs.StatementValue.{StatementValue, statement_with}
 use Rattle.dyndep_file.specs.Classes.{Symbol, WordSymbol, SignSymbol, IsPart}
 use Rattle.dyndep_file.specs.declared.fault.LineFault.{LineFault}
 
@@ -23,7 +23,7 @@ pub record Names (symbols : List Symbol) (output : List ℕ) (outputs inputs : L
 abbrev pub IsNamed : List Symbol → StatementValue → Type 0
 IsNamed symbols s =
     (output : List ℕ) × (outputs inputs : List (List ℕ)) × Names symbols output outputs inputs
-    × (s ≡ statement_of (value_of output) (map value_of outputs) (map value_of inputs) false)
+    × (s ≡ statement_with (value_of output) (map value_of outputs) (map value_of inputs) false)
 
 -- The failure is this fault, or memory was refused.
 abbrev pub IsFailureOf : Option LineFault → Failure LineFault → Type 0

@@ -5,7 +5,7 @@ use Rattle.ninja_text.specs.Tokens.{value_of}
 use Rattle.ninja_text.specs.Assignments.{SeenAssignment}
 use Rattle.ninja_text.specs.declared.failure.Failure.{Failure}
 use Rattle.ninja_text.specs.declared.failure.Failure.TheVariants.{Memory, Fault}
-use Rattle.dyndep_file.specs.Classes.{Class, Version, Build, Binding, Symbol, TextIsOfClass, is_version_one}
+use Rattle.dyndep_file.specs.Classes.{DyndepClass, Version, Build, Binding, Symbol, IsDyndepLine, is_version_one}
 use Rattle.dyndep_file.specs.Steps.{ProgressValue, step}
 use Rattle.dyndep_file.specs.Faults.{same_bytes, text_line_fault}
 use Rattle.dyndep_file.specs.inner.BuildLines.{Names}
@@ -15,15 +15,15 @@ use Rattle.dyndep_file.specs.declared.fault.ReadFault.TheVariants.{AtLine, Io}
 
 -- Either the line is of a class that may come here, and the statements are those after it, or it
 -- has this fault, or memory was refused.
-abbrev pub PassesOr : Option LineFault → (Class → Type 0) → ProgressValue
+abbrev pub PassesOr : Option LineFault → (DyndepClass → Type 0) → ProgressValue
     → Result Unit (Failure LineFault) → ProgressValue → Type 0
 PassesOr fault is old (Ok u) new =
-    (c : Class) × is c × (step old.stage old.statements c ≡ Some new)
+    (c : DyndepClass) × is c × (step old.stage old.statements c ≡ Some new)
 PassesOr fault is old (Err (Fault found)) new = fault ≡ Some found
 PassesOr fault is old (Err Memory) new = Unit {0}
 
 -- The tokens after the keyword of a build line are of this class.
-abbrev pub IsBuildOf : List Symbol → Class → Type 0
+abbrev pub IsBuildOf : List Symbol → DyndepClass → Type 0
 IsBuildOf symbols c =
     (output : List ℕ) × (outputs inputs : List (List ℕ)) × Names symbols output outputs inputs
     × (c ≡ Build (value_of output) (map value_of outputs) (map value_of inputs))
@@ -34,17 +34,17 @@ with_name name None = None
 with_name name (Some a) = if same_bytes a.name name then Some a else None
 
 -- The assignment sets `restat`, and the flag is on where the value is not empty.
-abbrev pub IsBindingOf : Option SeenAssignment → Class → Type 0
+abbrev pub IsBindingOf : Option SeenAssignment → DyndepClass → Type 0
 IsBindingOf found c =
     (a : SeenAssignment) × (found ≡ Some a) × (a.name ≡ codes "restat")
     × (c ≡ Binding (nat_lt 0 (length (value_of a.raw_value))))
 
 -- The value is a version that is read.
-abbrev pub IsVersionOf : List ℕ → Class → Type 0
+abbrev pub IsVersionOf : List ℕ → DyndepClass → Type 0
 IsVersionOf value c = (c ≡ Version) × IsTrue (is_version_one value)
 
 -- The assignment at the first byte sets the version to one that is read.
-abbrev pub IsVersionLineOf : Option SeenAssignment → Class → Type 0
+abbrev pub IsVersionLineOf : Option SeenAssignment → DyndepClass → Type 0
 IsVersionLineOf found c =
     (a : SeenAssignment) × (found ≡ Some a) × (a.name_start ≡ 0)
     × (a.name ≡ codes "ninja_dyndep_version") × IsVersionOf (value_of a.raw_value) c
@@ -53,7 +53,7 @@ IsVersionLineOf found c =
 abbrev pub ReadsLine : ProgressValue → LogicalLine → Result Unit (Failure ReadFault)
     → ProgressValue → Type 0
 ReadsLine old line (Ok u) new =
-    (c : Class) × TextIsOfClass line.text line.comment c
+    (c : DyndepClass) × IsDyndepLine line.text line.comment c
     × (step old.stage old.statements c ≡ Some new)
 ReadsLine old line (Err (Fault (AtLine number fault))) new =
     (number ≡ line.number) × (text_line_fault old.stage line.text line.comment ≡ Some fault)

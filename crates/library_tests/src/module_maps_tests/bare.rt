@@ -2,7 +2,7 @@
 ghost use Rattle.std.specs.Prelude.{◌≡◌, ◌++◌, map, IfOk, OnOk};
 ghost use Rattle.std.specs.List.{flat_map};
 ghost use Rattle.module_maps.specs.Maps.{pairs_of};
-ghost use Rattle.module_maps.specs.MapLines.{ended, nameless};
+ghost use Rattle.module_maps.specs.MapLines.{ended_line, nameless};
 
 use module_maps::map_lines::{LineForm, first_unfit, path_in, push_nameless, read_lines};
 use module_maps::{MapEntry, MapFault, MapStyle, ModuleMap};
@@ -77,7 +77,7 @@ impl LineForm for Bare {
 
 fn text_of(alloc: Global, map: &ModuleMap) -> Result<Vec<u8>, AllocError>
     ensures { IfOk result
-        (λ text. text.items ≡ flat_map (λ pair. ended pair.1) (pairs_of map.now)) }
+        (λ text. text.items ≡ flat_map (λ pair. ended_line pair.1) (pairs_of map.now)) }
 {
     let mut text = Vec::new(alloc);
     push_paths(&mut text, map.provided())?;
@@ -87,7 +87,7 @@ fn text_of(alloc: Global, map: &ModuleMap) -> Result<Vec<u8>, AllocError>
 
 fn push_paths(text: &mut Vec<u8>, pairs: &[(Name, Path)]) -> Result<(), AllocError>
     ensures { OnOk result
-        (text.new.items ≡ text.old.items ++ flat_map (λ pair. ended pair.1) pairs.now) }
+        (text.new.items ≡ text.old.items ++ flat_map (λ pair. ended_line pair.1) pairs.now) }
 {
     for pair in pairs {
         text.extend_from_slice(pair.1.bytes())?;

@@ -15,12 +15,12 @@ use Rattle.std.proofs.lemmas.List.Elements.{All-append, All-nil}
 use Rattle.std.proofs.lemmas.List.{take-append-drop}
 use Rattle.std.proofs.lemmas.Option.{slice_get_read}
 use Rattle.std.proofs.lemmas.Slice.Eq.{bytes_eq-Decides}
-use Rattle.module_maps.specs.Maps.{Precedes}
+use Rattle.ninja_text.specs.Bytes.{Precedes}
 use Rattle.module_maps.specs.Values.{ModuleMapValue}
-use Rattle.module_maps.specs.Maps.{IsModule, IsModuleMap, IsWrittenText, IsRising, AreEntriesOf, pairs_of}
+use Rattle.module_maps.specs.Maps.{IsModulePair, IsModuleMap, IsWrittenText, IsRising, AreEntriesOf, pairs_of}
 use Rattle.module_maps.specs.MapLines.{behind, pair_in, is_fit, first_unfit, named, nameless, is_line_end, lines_of, read_lines}
 use Rattle.module_maps.specs.ClangMaps.{module_flag, output_flag, file_flag, output_line, file_line, clang_text, clang_result, clang_written, clang_kept, rises_behind, file_entry, file_pair, output_path, clang_form, read_behind, read_provided, clang_read, clang_entries}
-use Rattle.module_maps.specs.map_laws.LineLemmas.{Pairs, AreModules, AreFit, Lacks, text_of, ReadsEach, EachBehind, IsLineOf, lines-only, each-all, none-unfit, some-module, path-is, lines-back, each-fit, all-each, pair-back, path-back, pair-lacks, lacks, fit-lacks, named-pairs, some-line, pair-is}
+use Rattle.module_maps.specs.map_laws.LineLemmas.{Pairs, AreModules, AreFit, Lacks, lines_text, ReadsEach, EachBehind, IsLineOf, lines-only, each-all, none-unfit, some-module, path-is, lines-back, each-fit, all-each, pair-back, path-back, pair-lacks, lacks, fit-lacks, named-pairs, some-line, pair-is}
 use Rattle.module_maps.specs.declared.module_map.MapEntry.{MapEntry}
 use Rattle.module_maps.specs.declared.fault.MapFault.{MapFault}
 use Rattle.module_maps.specs.declared.fault.MapFault.TheVariants.{TwoProvided}
@@ -68,7 +68,7 @@ no-line-end-behind front text others lacking =
     All-append (λ b. (b == 10) ≡ false) front text (no-line-end front others) lacking
 
 -- the line of a needed module is read as it, where its name rises
-file-back : (entries : List MapEntry) (x : List ℕ × List ℕ) → IsModule x → is_fit x.1 ≡ true →
+file-back : (entries : List MapEntry) (x : List ℕ × List ℕ) → IsModulePair x → is_fit x.1 ≡ true →
     RisesBehind entries x.0 → clang_form entries (file_line x) ≡ Some (named x)
 file-back entries x is fit rises =
     ap (file_entry entries) (pair-back 61 x refl is fit)
@@ -118,13 +118,13 @@ provided-line line text path is =
 
 -- the lines of needed modules, with no provided one
 files-back : (xs : Pairs) → AreModules xs → AreFit xs → IsRising xs →
-    clang_entries (text_of file_line xs) ≡ Ok (map named xs)
+    clang_entries (lines_text file_line xs) ≡ Ok (map named xs)
 files-back [] modules fits rising = refl
 files-back (x ∷ xs) modules fits rising =
-    let rest : List ℕ = text_of file_line xs in
+    let rest : List ℕ = lines_text file_line xs in
     let each : ReadsEach clang_form file_line named [] (x ∷ xs) =
     files-each [] (x ∷ xs) modules fits rising refl in
-    let parts : lines_of (text_of file_line (x ∷ xs)) ≡ file_line x ∷ lines_of rest =
+    let parts : lines_of (lines_text file_line (x ∷ xs)) ≡ file_line x ∷ lines_of rest =
     ap lines_of (append_assoc (file_line x) (10 ∷ []) rest)
     ∙ slice_split_at is_line_end (file_line x) 10 rest each.1 refl in
     ap clang_read parts ∙ not-provided (file_line x) rest refl
@@ -136,12 +136,12 @@ one-text : (path files : List ℕ) → ((path ++ 10 ∷ []) ++ []) ++ files ≡ 
 one-text path files =
     ap (λ t. t ++ files) (append-nil (path ++ 10 ∷ [])) ∙ append_assoc path (10 ∷ []) files
 
-one-back : (x : List ℕ × List ℕ) (xs : Pairs) → IsModule x → is_fit x.1 ≡ true →
+one-back : (x : List ℕ × List ℕ) (xs : Pairs) → IsModulePair x → is_fit x.1 ≡ true →
     AreModules xs → AreFit xs → IsRising xs →
     clang_entries (clang_text (record { provided = x ∷ []; needed = xs })) ≡
     Ok (nameless x ∷ map named xs)
 one-back x xs is fit modules fits rising =
-    let files : List ℕ = text_of file_line xs in
+    let files : List ℕ = lines_text file_line xs in
     let output : List ℕ = output_line x ++ 10 ∷ files in
     let lacking : Lacks 10 (output_line x) =
     no-line-end-behind output_flag x.1 refl (fit-lacks 10 x.1 refl fit) in
@@ -168,7 +168,7 @@ text-back : (provided needed : Pairs) (text : List ℕ) → AreModules (provided
     clang_result (map_with provided needed) None ≡ Ok text →
     clang_entries text ≡ Ok (clang_kept (map_with provided needed))
 text-back [] needed text modules fits rising e =
-    let same : text_of file_line needed ≡ text = cc in
+    let same : lines_text file_line needed ≡ text = cc in
     ap clang_entries (sym same) ∙ files-back needed modules fits rising
 text-back (x ∷ []) needed text modules fits rising e =
     let same : clang_text (map_with (x ∷ []) needed) ≡ text = cc in
@@ -186,8 +186,8 @@ pub clang-back : (m : ModuleMapValue) (text : List ℕ) → IsModuleMap m →
 clang-back m text is e = by (first_unfit (pairs_of m)) refl e
   where
     modules : AreModules (pairs_of m)
-    modules = all-each IsModule (pairs_of m)
-        (All-append IsModule m.provided m.needed is.provided is.needed)
+    modules = all-each IsModulePair (pairs_of m)
+        (All-append IsModulePair m.provided m.needed is.provided is.needed)
 
     by : (unfit : Option (List ℕ)) → first_unfit (pairs_of m) ≡ unfit →
         clang_result m unfit ≡ Ok text → clang_entries text ≡ Ok (clang_kept m)
@@ -235,7 +235,7 @@ behind-is prefix text rest e = by (bytes_eq (take (length prefix) text) prefix) 
 
 -- a line that is read is that of a module which fits, and whose name rises
 abbrev IsFile : List MapEntry → List ℕ × List ℕ → Type 0
-IsFile entries x = IsModule x × (is_fit x.1 ≡ true) × RisesBehind entries x.0
+IsFile entries x = IsModulePair x × (is_fit x.1 ≡ true) × RisesBehind entries x.0
 
 -- the text is the line of such a module
 abbrev IsFileLine : List MapEntry → List ℕ → MapEntry → Type 0
@@ -335,8 +335,8 @@ files-only lines found e =
     record {
       value = m;
       is_map = record {
-        provided = All-nil IsModule;
-        needed = each-all IsModule w.xs both.0;
+        provided = All-nil IsModulePair;
+        needed = each-all IsModulePair w.xs both.0;
         rising = rising-only [] w.xs w.each;
       };
       is_written = ap (clang_result m) (none-unfit w.xs both.1) ∙ ap (λ t. Ok t) (sym w.text);
@@ -359,13 +359,13 @@ provided-only path lines found is fit e =
     let m : ModuleMapValue = map_with (x ∷ []) w.xs in
     let fits : first_unfit (x ∷ w.xs) ≡ None = none-unfit (x ∷ w.xs) (fit, both.1) in
     let same : clang_text m ≡ provided_text path (join_with_byte 10 lines) =
-    ap (λ t. module_flag ++ 10 ∷ (output_flag ++ t)) (one-text path (text_of file_line w.xs))
+    ap (λ t. module_flag ++ 10 ∷ (output_flag ++ t)) (one-text path (lines_text file_line w.xs))
     ∙ ap (provided_text path) (sym w.text) in
     record {
       value = m;
       is_map = record {
-        provided = each-all IsModule (x ∷ []) (some-module path is, tt);
-        needed = each-all IsModule w.xs both.0;
+        provided = each-all IsModulePair (x ∷ []) (some-module path is, tt);
+        needed = each-all IsModulePair w.xs both.0;
         rising = rising-only earlier w.xs w.each;
       };
       is_written = ap (clang_result m) fits ∙ ap (λ t. Ok t) same;

@@ -4,10 +4,10 @@ use Rattle.std.specs.Prelude.{option_map}
 use Rattle.std.proofs.lemmas.List.Elements.{All-append, All-nil}
 use Rattle.std.proofs.lemmas.List.Splits.{join_with_byte-slice_split}
 use Rattle.module_maps.specs.Values.{ModuleMapValue}
-use Rattle.module_maps.specs.Maps.{IsModule, IsModuleMap, IsWrittenText, AreEntriesOf, pairs_of}
+use Rattle.module_maps.specs.Maps.{IsModulePair, IsModuleMap, IsWrittenText, AreEntriesOf, pairs_of}
 use Rattle.module_maps.specs.MapLines.{pair_in, is_fit, first_unfit, named, lines_of}
 use Rattle.module_maps.specs.GccMaps.{gcc_line, gcc_text, gcc_form, gcc_written, gcc_kept, gcc_entries}
-use Rattle.module_maps.specs.map_laws.LineLemmas.{Pairs, AreModules, AreFit, text_of, ReadsEach, lines-back, each-fit, all-each, pair-back, pair-lacks, named-pairs, pair-is, EachBehind, IsLineOf, lines-only, each-all, none-unfit}
+use Rattle.module_maps.specs.map_laws.LineLemmas.{Pairs, AreModules, AreFit, lines_text, ReadsEach, lines-back, each-fit, all-each, pair-back, pair-lacks, named-pairs, pair-is, EachBehind, IsLineOf, lines-only, each-all, none-unfit}
 use Rattle.module_maps.specs.declared.module_map.MapEntry.{MapEntry}
 
 -- each line is read as the module that it was written for
@@ -26,15 +26,15 @@ text-back : (pairs : Pairs) (text : List ℕ) (unfit : Option (List ℕ)) →
     gcc_entries text ≡ Ok (map named pairs)
 text-back pairs text (Some path) is modules e = absurd cc
 text-back pairs text None is modules e =
-    let same : text_of gcc_line pairs ≡ text = cc in
+    let same : lines_text gcc_line pairs ≡ text = cc in
     ap gcc_entries (sym same)
     ∙ lines-back gcc_form gcc_line named [] 1 pairs (gcc-each [] pairs modules (each-fit pairs is))
 
 pub gcc-back : (m : ModuleMapValue) (text : List ℕ) → IsModuleMap m → gcc_written m ≡ Ok text →
     gcc_entries text ≡ Ok (gcc_kept m)
 gcc-back m text is e =
-    let modules : AreModules (pairs_of m) = all-each IsModule (pairs_of m)
-    (All-append IsModule m.provided m.needed is.provided is.needed) in
+    let modules : AreModules (pairs_of m) = all-each IsModulePair (pairs_of m)
+    (All-append IsModulePair m.provided m.needed is.provided is.needed) in
     text-back (pairs_of m) text (first_unfit (pairs_of m)) refl modules e
 
 pub gcc-pairs : (m : ModuleMapValue) → AreEntriesOf (pairs_of m) (gcc_kept m)
@@ -42,7 +42,7 @@ gcc-pairs m = named-pairs (pairs_of m)
 
 -- a line that is read is that of a module which fits
 abbrev IsGccModule : List MapEntry → List ℕ × List ℕ → Type 0
-IsGccModule entries pair = IsModule pair × (is_fit pair.1 ≡ true)
+IsGccModule entries pair = IsModulePair pair × (is_fit pair.1 ≡ true)
 
 line-only : (entries : List MapEntry) (text : List ℕ) (e : MapEntry) →
     gcc_form entries text ≡ Some e → IsLineOf gcc_line named IsGccModule entries text e
@@ -71,12 +71,12 @@ gcc-only text found e =
     let m : ModuleMapValue = record { provided = w.xs; needed = [] } in
     let both = modules-of [] w.xs w.each in
     let pairs : w.xs ++ [] ≡ w.xs = append-nil w.xs in
-    let same : text_of gcc_line w.xs ≡ text = sym w.text ∙ join_with_byte-slice_split 10 text in
+    let same : lines_text gcc_line w.xs ≡ text = sym w.text ∙ join_with_byte-slice_split 10 text in
     record {
       value = m;
       is_map = record {
-        provided = each-all IsModule w.xs both.0;
-        needed = All-nil IsModule;
+        provided = each-all IsModulePair w.xs both.0;
+        needed = All-nil IsModulePair;
         rising = λ i j d less within. absurd (omega (arith, less, within));
       };
       is_written = ap (λ ps. gcc_text ps (first_unfit ps)) pairs

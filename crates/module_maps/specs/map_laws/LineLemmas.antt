@@ -18,8 +18,8 @@ use Rattle.std.proofs.lemmas.Str.{IsUtf8-from_ascii, IsUtf8-from_is_utf8, is_utf
 use Rattle.ninja_text.specs.Paths.{path_of, is_empty, IsPath}
 use Rattle.ninja_text.specs.declared.fault.PathFault.{PathFault}
 use Rattle.scan_docs.specs.Name.{is_name, is_name_byte, is_not_empty, is_separator, name_limit}
-use Rattle.module_maps.specs.Maps.{IsModule, AreEntriesOf}
-use Rattle.module_maps.specs.MapLines.{is_map_byte, canonical_in, named, ended, is_fit, first_unfit, is_line_end, lines_of, name_in, path_in, cut, both, pair_of, pair_in, LineForm, read_lines}
+use Rattle.module_maps.specs.Maps.{IsModulePair, AreEntriesOf}
+use Rattle.module_maps.specs.MapLines.{is_map_byte, canonical_in, named, ended_line, is_fit, first_unfit, is_line_end, lines_of, name_in, path_in, cut, both, read_pair, pair_in, LineForm, read_lines}
 use Rattle.module_maps.specs.declared.module_map.MapEntry.{MapEntry}
 use Rattle.module_maps.specs.declared.fault.MapFault.{MapFault}
 use Rattle.module_maps.specs.declared.fault.MapFault.TheVariants.{BadMapLine}
@@ -30,7 +30,7 @@ Pairs = List (List ℕ × List ℕ)
 
 -- each pair is a module
 abbrev pub AreModules : Pairs → Type 0
-AreModules pairs = AllByRecursion IsModule pairs
+AreModules pairs = AllByRecursion IsModulePair pairs
 
 -- the path of each pair can be in a map
 abbrev pub AreFit : Pairs → Type 0
@@ -96,9 +96,9 @@ lines-whole text e = by-index text (position is_line_end text) refl None e
 -- ---- the module in a text
 
 pub pair-of : (mark : ℕ) (text : List ℕ) (texts : Option (List ℕ × List ℕ)) →
-    cut mark text ≡ texts → pair_in mark text ≡ pair_of texts
+    cut mark text ≡ texts → pair_in mark text ≡ read_pair texts
 unfolding pair_in
-pair-of mark text texts e = ap pair_of e
+pair-of mark text texts e = ap read_pair e
 
 pub name-text : (text : List ℕ) (name : Option (List ℕ)) →
     SomeIff name (IsTrue (is_name text)) text → IsUtf8 text → name ≡ name_in text
@@ -256,7 +256,7 @@ fit-lacks mark path outside fit = lacks is_map_byte mark outside path fit
 
 -- the bytes of the two are none that neither may have
 pub pair-lacks : (mark between : ℕ) (pair : List ℕ × List ℕ) → is_name_byte mark ≡ false →
-    is_map_byte mark ≡ false → (between == mark) ≡ false → IsModule pair →
+    is_map_byte mark ≡ false → (between == mark) ≡ false → IsModulePair pair →
     is_fit pair.1 ≡ true → Lacks mark (pair.0 ++ between ∷ pair.1)
 pair-lacks mark between pair no_name no_path other is fit =
     let IsOther : ℕ → Type 0 = λ b. (b == mark) ≡ false in
@@ -271,7 +271,7 @@ path-back text is fit =
 
 -- a name that is text and a path that fits are read again
 pub pair-back : (mark : ℕ) (pair : List ℕ × List ℕ) → is_name_byte mark ≡ false →
-    IsModule pair → is_fit pair.1 ≡ true →
+    IsModulePair pair → is_fit pair.1 ≡ true →
     pair_in mark (pair.0 ++ mark ∷ pair.1) ≡ Some pair
 pair-back mark pair outside is fit =
     pair-of mark (pair.0 ++ mark ∷ pair.1) (Some pair)
@@ -285,8 +285,8 @@ all-each P (x ∷ xs) all =
     (all 0 x (omega arith), all-each P xs (λ k d less. all (suc k) d (omega (arith, less))))
 
 -- the lines of things, each with its end
-abbrev pub text_of : {X : Type 0} → (X → List ℕ) → List X → List ℕ
-text_of line xs = flat_map (λ x. ended (line x)) xs
+abbrev pub lines_text : {X : Type 0} → (X → List ℕ) → List X → List ℕ
+lines_text line xs = flat_map (λ x. ended_line (line x)) xs
 
 -- each line is read as its entry, after those before it
 abbrev pub ReadsEach : {X : Type 0} → LineForm → (X → List ℕ) → (X → MapEntry) →
@@ -298,10 +298,10 @@ ReadsEach form line entry entries (x ∷ xs) =
 
 pub lines-back : {X : Type 0} (form : LineForm) (line : X → List ℕ) (entry : X → MapEntry)
     (entries : List MapEntry) (n : ℕ) (xs : List X) → ReadsEach form line entry entries xs →
-    read_lines form entries n (lines_of (text_of line xs)) ≡ Ok (entries ++ map entry xs)
+    read_lines form entries n (lines_of (lines_text line xs)) ≡ Ok (entries ++ map entry xs)
 lines-back form line entry entries n [] reads = ap Ok (sym (append-nil entries))
 lines-back form line entry entries n (x ∷ xs) reads =
-    let rest : List ℕ = text_of line xs in
+    let rest : List ℕ = lines_text line xs in
     ap (λ t. read_lines form entries n (lines_of t)) (append_assoc (line x) (10 ∷ []) rest)
     ∙ ap (read_lines form entries n)
     (slice_split_at is_line_end (line x) 10 rest reads.1 refl)
@@ -404,7 +404,7 @@ path-is text path e = by (is_fit text) (path_of text) refl refl e
     by true (Ok p) fit is found = at fit p is (bytes_eq p text) refl found
 
 -- a path that was read without a name is that of a module
-pub some-module : (path : List ℕ) → IsPath path → IsModule (codes "A", path)
+pub some-module : (path : List ℕ) → IsPath path → IsModulePair (codes "A", path)
 unfolding is_name
 some-module path is =
     record { name = refl; text = IsUtf8-from_ascii (codes "A") ascii; path = is }
@@ -415,7 +415,7 @@ some-module path is =
 -- the text is what is written of the pair, which is a module that can be in a map
 abbrev pub IsPairOf : ℕ → List ℕ → List ℕ × List ℕ → Type 0
 IsPairOf mark text pair =
-    (text ≡ pair.0 ++ mark ∷ pair.1) × IsModule pair × (is_fit pair.1 ≡ true)
+    (text ≡ pair.0 ++ mark ∷ pair.1) × IsModulePair pair × (is_fit pair.1 ≡ true)
 
 pub pair-is : (mark : ℕ) (text : List ℕ) (pair : List ℕ × List ℕ) →
     pair_in mark text ≡ Some pair → IsPairOf mark text pair
@@ -432,7 +432,7 @@ pair-is mark text pair e = by (cut mark text) refl
         let same : (n, p) ≡ pair = cc in
         let pairs : (name, file) ≡ pair =
         ap₂ (λ (x y : List ℕ). (x, y)) (sym of_name.0) (sym of_path.0) ∙ same in
-        let is_module : IsModule (name, file) =
+        let is_module : IsModulePair (name, file) =
         record { name = of_name.1; text = of_name.2; path = of_path.1 } in
         subst (λ (z : List ℕ × List ℕ). IsPairOf mark text z) pairs
         (cut-whole mark text name file is, is_module, of_path.2)
@@ -455,7 +455,7 @@ pub record AreWritten {X : Type 0} (line : X → List ℕ) (entry : X → MapEnt
     (Q : List MapEntry → X → Type 0) (entries : List MapEntry) (lines : List (List ℕ))
     (found : List MapEntry) : Type 0 where
   pub xs : List X
-  pub text : join_with_byte 10 lines ≡ text_of line xs
+  pub text : join_with_byte 10 lines ≡ lines_text line xs
   pub all : found ≡ entries ++ map entry xs
   pub each : EachBehind entry Q entries xs
 
@@ -512,7 +512,7 @@ lines-only {X} form line entry Q back entries n (first ∷ next ∷ lines) found
         record {
           xs = one.0 ∷ rest.xs;
           text = ap₂ (λ (a b : List ℕ). a ++ 10 ∷ b) one.1 rest.text
-              ∙ sym (append_assoc (line one.0) (10 ∷ []) (text_of line rest.xs));
+              ∙ sym (append_assoc (line one.0) (10 ∷ []) (lines_text line rest.xs));
           all = rest.all ∙ append_assoc entries (z ∷ []) (map entry rest.xs)
               ∙ ap (λ y. entries ++ y ∷ map entry rest.xs) one.2;
           each = (

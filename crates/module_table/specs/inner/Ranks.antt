@@ -2,7 +2,8 @@
 use Rattle.std.specs.Prelude.{◌≡◌, ℕ, ◌<◌, List, length, slice_get, slice_index, Some, AllPairs}
 use Rattle.std.specs.Borrow.{Bor}
 use Rattle.module_table.specs.Modules.{Provision}
-use Rattle.module_table.specs.Needed.{Precedes, lent}
+use Rattle.module_table.specs.Needed.{lent}
+use Rattle.ninja_text.specs.Bytes.{Precedes}
 use Rattle.module_table.specs.inner.Indexed.{pair_at}
 
 -- the name and the file of a module, and its number

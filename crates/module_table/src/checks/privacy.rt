@@ -1,6 +1,7 @@
 //! M9 and M10: who requires a module that is private to an info's target, and which modules of the
 //! target are to be private.
 ghost use Rattle.std.specs.Prelude.{◌≡◌, ◌<◌, ℕ, List, length, map, slice_get, Some, position, not, IfOk, IfErr, OnOk};
+ghost use Rattle.ninja_text.specs.Bytes.{Name};
 ghost use Rattle.ninja_text.specs.Failure.{ForFault};
 ghost use Rattle.dep_order.specs.Rows.{rows};
 ghost use Rattle.module_table.specs.Modules.{provisions, info_requirements};
@@ -31,7 +32,7 @@ pub(crate) fn check_objects_allowed<S: BuildHasher>(
     ensures ok { OnOk result
         (AcceptsAll (RequiresPublic (provisions modules.now)) modules.now.objects) }
     ensures fault { IfErr result (ForFault
-        (λ fault. (kept : List (List ℕ)) → Reports 9 modules.now kept fault)) }
+        (λ fault. (kept : List Name) → Reports 9 modules.now kept fault)) }
 {
     let provided = modules.provided();
     for (object, row) in required.iter().enumerate() {
@@ -58,7 +59,7 @@ pub(crate) fn check_infos_allowed<S: BuildHasher>(
     ensures ok { OnOk result
         (AcceptsAll (IsAllowed (provisions modules.now)) (info_requirements modules.now)) }
     ensures fault { IfErr result (ForFault
-        (λ fault. (kept : List (List ℕ)) → Reports 9 modules.now kept fault)) }
+        (λ fault. (kept : List Name) → Reports 9 modules.now kept fault)) }
 {
     match first_not_allowed(all) {
         None => Ok(()),

@@ -1,6 +1,7 @@
 //! M1 to M4: what is twice among the paths of objects, the targets of infos, the names of
 //! modules and the files.
 ghost use Rattle.std.specs.Prelude.{◌≡◌, ◌<◌, ◌+◌, ◌++◌, ℕ, List, map, length, slice_get, Some, IfOk, IfErr, OnOk};
+ghost use Rattle.ninja_text.specs.Bytes.{Name};
 ghost use Rattle.indexmap.specs.IndexSet.{IsEmpty};
 ghost use Rattle.ninja_text.specs.Failure.{ForFault};
 ghost use Rattle.module_table.specs.TableValue.{TableValue, table_with};
@@ -28,7 +29,7 @@ pub(crate) fn check_objects<'t, S: BuildHasher>(
     ensures paths { OnOk result
         (map (λ path. path.now) paths.new.keys ≡ map (λ rule. rule.object) objects.now) }
     ensures differ { OnOk result (AllDiffer (map (λ rule. rule.object) objects.now)) }
-    ensures fault { IfErr result (ForFault (λ fault. (t : TableValue) (kept : List (List ℕ)) →
+    ensures fault { IfErr result (ForFault (λ fault. (t : TableValue) (kept : List Name) →
         objects.now ≡ t.objects → Reports 1 t kept fault)) }
 {
     paths.reserve(objects.len())?;
@@ -53,7 +54,7 @@ pub(crate) fn check_infos<S: BuildHasher + Copy>(
     hash_builder: S,
 ) -> Result<(), Failure<TableFault>>
     ensures ok { OnOk result (AllDiffer (map (λ info. info.target) infos.now)) }
-    ensures fault { IfErr result (ForFault (λ fault. (t : TableValue) (kept : List (List ℕ)) →
+    ensures fault { IfErr result (ForFault (λ fault. (t : TableValue) (kept : List Name) →
         infos.now ≡ t.infos → Reports 2 t kept fault)) }
 {
     let mut targets = IndexSet::with_hasher(alloc, hash_builder);
@@ -68,7 +69,7 @@ fn add_targets<'t, S: BuildHasher>(
 ) -> Result<(), Failure<TableFault>>
     requires { IsEmpty targets.old }
     ensures ok { OnOk result (AllDiffer (map (λ info. info.target) infos.now)) }
-    ensures fault { IfErr result (ForFault (λ fault. (t : TableValue) (kept : List (List ℕ)) →
+    ensures fault { IfErr result (ForFault (λ fault. (t : TableValue) (kept : List Name) →
         infos.now ≡ t.infos → Reports 2 t kept fault)) }
 {
     targets.reserve(infos.len())?;
@@ -92,7 +93,7 @@ pub(crate) fn check_names<'t, S: BuildHasher + Copy>(
     ensures modules { IfOk result
         (λ modules. modules ≡ table_with objects.now infos.now) }
     ensures differ { IfOk result (λ modules. AllDiffer (names_of (provisions modules))) }
-    ensures fault { IfErr result (ForFault (λ fault. (kept : List (List ℕ)) →
+    ensures fault { IfErr result (ForFault (λ fault. (kept : List Name) →
         Reports 3 (table_with objects.now infos.now) kept fault)) }
 {
     let provided = provided_modules(alloc, objects, infos)?;
@@ -110,7 +111,7 @@ fn add_names<S: BuildHasher>(
     requires { IsEmpty names.old }
     ensures names { OnOk result (names.new.keys ≡ names_of (map provision_of provided.now)) }
     ensures differ { OnOk result (AllDiffer names.new.keys) }
-    ensures fault { IfErr result (ForFault (λ fault. (t : TableValue) (kept : List (List ℕ)) →
+    ensures fault { IfErr result (ForFault (λ fault. (t : TableValue) (kept : List Name) →
         map provision_of provided.now ≡ provisions t → Reports 3 t kept fault)) }
 {
     names.reserve(provided.len())?;
@@ -159,7 +160,7 @@ pub(crate) fn check_files<'t, S: BuildHasher>(
     ensures ok { OnOk result (AllDiffer
         (map (λ rule. rule.object) modules.now.objects ++ files_of (provisions modules.now))) }
     ensures fault { IfErr result (ForFault
-        (λ fault. (kept : List (List ℕ)) → Reports 4 modules.now kept fault)) }
+        (λ fault. (kept : List Name) → Reports 4 modules.now kept fault)) }
 {
     let objects = modules.objects();
     let provided = modules.provided();

@@ -1,9 +1,10 @@
 //! M5 to M7: what is required is provided. M5 speaks of objects, M6 and M7 of the modules of infos.
 ghost use Rattle.std.specs.Prelude.{◌≡◌, ℕ, List, map, slice_get, Some, position, not, IfOk, IfErr, OnOk};
+ghost use Rattle.ninja_text.specs.Bytes.{Name};
 ghost use Rattle.ninja_text.specs.Failure.{ForFault};
 ghost use Rattle.dep_order.specs.Rows.{rows};
 ghost use Rattle.module_table.specs.Modules.{provisions, info_requirements};
-ghost use Rattle.module_table.specs.Firsts.{IsFirst};
+ghost use Rattle.ninja_text.specs.Firsts.{IsFirst};
 ghost use Rattle.module_table.specs.inner.Views.{names_of, IsAbsent};
 ghost use Rattle.module_table.specs.inner.Finds.{is_by_info, agrees, IsByInfo, Agrees, AcceptsAll};
 ghost use Rattle.module_table.specs.inner.Found.{looked_up, AreLookedUp};
@@ -27,7 +28,7 @@ pub(crate) fn check_objects_known<S: BuildHasher>(
 ) -> Result<Vec<Vec<usize>>, Failure<TableFault>>
     ensures ok { IfOk result (λ required. AreIndexes modules.now (rows required.items)) }
     ensures fault { IfErr result (ForFault
-        (λ fault. (kept : List (List ℕ)) → Reports 5 modules.now kept fault)) }
+        (λ fault. (kept : List Name) → Reports 5 modules.now kept fault)) }
 {
     let names = modules.names();
     let objects = modules.objects();
@@ -47,7 +48,7 @@ fn indexes_of<S: BuildHasher>(
 ) -> Result<Vec<usize>, Failure<TableFault>>
     ensures ok { IfOk result (λ row.
         map (slice_get names.now.keys) row.items ≡ map (λ name. Some name) rule.now.required) }
-    ensures fault { IfErr result (ForFault (λ fault. (index : ℕ) × (name : List ℕ)
+    ensures fault { IfErr result (ForFault (λ fault. (index : ℕ) × (name : Name)
         × IsFirst (IsAbsent names.now.keys) rule.now.required index name
         × (fault ≡ ModuleUnknown name object))) }
 {
@@ -74,7 +75,7 @@ pub(crate) fn check_infos_known<S: BuildHasher>(
     ensures ok { OnOk result
         (AcceptsAll (IsByInfo (provisions modules.now)) (info_requirements modules.now)) }
     ensures fault { IfErr result (ForFault
-        (λ fault. (kept : List (List ℕ)) → Reports 6 modules.now kept fault)) }
+        (λ fault. (kept : List Name) → Reports 6 modules.now kept fault)) }
 {
     match first_not_by_info(all) {
         None => Ok(()),
@@ -101,7 +102,7 @@ pub(crate) fn check_infos_agree<S: BuildHasher>(
     ensures ok { OnOk result
         (AcceptsAll (Agrees (provisions modules.now)) (info_requirements modules.now)) }
     ensures fault { IfErr result (ForFault
-        (λ fault. (kept : List (List ℕ)) → Reports 7 modules.now kept fault)) }
+        (λ fault. (kept : List Name) → Reports 7 modules.now kept fault)) }
 {
     match first_differing(all) {
         None => Ok(()),

@@ -1,6 +1,7 @@
 //! M8: whether objects need each other's modules in a ring.
 ghost use Rattle.std.specs.Prelude.{◌≡◌, ◌<◌, ℕ, List, map, length, IfOk, IfErr, OnOk};
 ghost use Rattle.std.specs.List.{filter_map};
+ghost use Rattle.ninja_text.specs.Bytes.{Name};
 ghost use Rattle.ninja_text.specs.Failure.{ForFault};
 ghost use Rattle.dep_order.specs.Needs.{IsOrderable};
 ghost use Rattle.dep_order.specs.Rows.{rows};
@@ -26,7 +27,7 @@ pub(crate) fn check_rings<S: BuildHasher>(
     requires { AreIndexes modules.now (rows required.now) }
     ensures ok { OnOk result (IsOrderable (length modules.now.objects) (DependsOn modules.now)) }
     ensures fault { IfErr result (ForFault
-        (λ fault. (kept : List (List ℕ)) → Reports 8 modules.now kept fault)) }
+        (λ fault. (kept : List Name) → Reports 8 modules.now kept fault)) }
 {
     let needs = all_needs(alloc, modules.provided(), required)?;
     let graph = Digraph::new(needs);

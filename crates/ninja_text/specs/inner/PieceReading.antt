@@ -2,13 +2,13 @@
 use Rattle.std.specs.Prelude.{ℕ, List, ◌++◌, Result, Ok, Err}
 use Rattle.ninja_text.specs.Lines.{LogicalLine}
 use Rattle.ninja_text.specs.Cutting.{CutterState}
-use Rattle.ninja_text.specs.LineReading.{Passes, Refuses, LeadTo, HasLent, HasFailureBehind}
+use Rattle.ninja_text.specs.LineReading.{Passes, RefusesWith, LeadTo, HasLent, HasFailureBehind}
 use Rattle.ninja_text.specs.declared.failure.Failure.{Failure}
 use Rattle.ninja_text.specs.declared.failure.Failure.TheVariants.{Memory, Fault}
 use Rattle.ninja_text.specs.declared.fault.CutFault.{CutFault}
 
 -- What reading a piece answers, and which cutter and state it leaves.
-abbrev pub ReadsPiece : {S F : Type 0} → Passes S → Refuses S F → (CutFault → F)
+abbrev pub ReadsPiece : {S F : Type 0} → Passes S → RefusesWith S F → (CutFault → F)
     → List ℕ → List LogicalLine → S → Result Unit (Failure F) → CutterState → S → Type 0
 ReadsPiece passes refuses of_cutter bytes lent old (Ok u) cutter new =
     (more : List LogicalLine) × HasLent bytes (lent ++ more) cutter × LeadTo passes old more new

@@ -1,7 +1,7 @@
 use Rattle.std.proofs.Common.{◌≡◌, refl, ap, sym, subst, ◌∙◌, arith, inl, inr, slice_get}
 use Rattle.std.proofs.lemmas.Option.{slice_get_read, slice_get_within}
 use Rattle.build_effect.specs.EdgeValue.{EdgeValue}
-use Rattle.build_effect.specs.Graphs.{Names, Reads}
+use Rattle.build_effect.specs.Graphs.{Names, HasInput}
 use Rattle.build_effect.proofs.Lists.{three_ways}
 use Rattle.ninja_text.proofs.ForCallers.{same_some}
 use Rattle.build_effect.proofs.graph_checks.check_dyndeps.Goals as goal
@@ -26,7 +26,7 @@ loop-edge_index-preserved c = λ k d file lt at_k names.
       | inr rest ↦ elim rest [
         | inl same ↦
             let edge : d ≡ e = same_some _ _ (sym at_k ∙ ap (slice_get c.args.edges.now) same ∙ at) in
-            subst (λ (x : EdgeValue). Reads x file) (sym edge) (c.if-not-reads_dyndep.ensures file (subst (λ (x : EdgeValue). Names file x) edge names))
+            subst (λ (x : EdgeValue). HasInput x file) (sym edge) (c.if-not-reads_dyndep.ensures file (subst (λ (x : EdgeValue). Names file x) edge names))
         | inr more ↦ absurd (omega arith)
       ]
     ]

@@ -6,7 +6,7 @@ use Rattle.dep_order.specs.declared.Sorting.TheVariants.{Order, Cycle}
 use Rattle.dyndep_file.specs.Reading.{StandsFor}
 use Rattle.build_effect.specs.EdgeValue.{EdgeValue}
 use Rattle.build_effect.specs.Graphs.{EdgeNeeds}
-use Rattle.build_effect.specs.Effect.{Effect, Gives}
+use Rattle.build_effect.specs.Effect.{Effect, Extends}
 use Rattle.collate_core.specs.Rehearsal.{IsOrder}
 use Rattle.collate_core.specs.ProjectOrders.{dyndep_file}
 use Rattle.collate_core.proofs.HeadlineLemmas.{are_canonical}
@@ -29,7 +29,7 @@ returns-clause-ordered g c = λ statements text meets level.
     let here : StandsFor c.args.collated.now.dyndep found.0 = found.1.stands in
     let same : found.0 ≡ statements = text.dyndep.only found.0 here in
     let effect : Effect old c.args.name.now statements new = subst (λ xs. Effect old c.args.name.now xs new) same found.2.effect in
-    let gives : Gives old c.args.name.now statements new = c.one_effect.ensures.gives old new c.args.name.now statements statements (are_canonical statements text.canonical) effect in
+    let gives : Extends old c.args.name.now statements new = c.one_effect.ensures.gives old new c.args.name.now statements statements (are_canonical statements text.canonical) effect in
     let orderable : IsOrderable (length new) (EdgeNeeds new) =
     c.level_orders.ensures (dyndep_file c.args.name.now statements) old level.outputs new level.ranks meets gives level.has_outputs level.level text.orderable in
     ordered (length new) (EdgeNeeds new) orderable c.in_ok-sorting.sorting c.in_ok-sorting.ensures

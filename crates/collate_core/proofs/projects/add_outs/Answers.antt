@@ -5,7 +5,7 @@ use Rattle.std.proofs.lemmas.List.{take_all}
 use Rattle.std.proofs.lemmas.Option.{slice_get_read}
 use Rattle.module_maps.specs.Maps.{Written}
 use Rattle.collate_core.specs.Values.{CollatedValue, ProjectTargetValue}
-use Rattle.collate_core.specs.Projects.{IsProject}
+use Rattle.collate_core.specs.Projects.{CollatesProject}
 use Rattle.collate_core.specs.inner.Parts.{CollatesLinked}
 use Rattle.collate_core.proofs.Lists.{take_next}
 use Rattle.collate_core.proofs.LoopLemmas.{project_push, failed_here}
@@ -13,7 +13,7 @@ use Rattle.collate_core.proofs.projects.add_outs.Goals as goal
 
 pub loop-index-init : goal.loop-index-init
 loop-index-init g c =
-    subst (IsProject (option_map g.M.MapStyle.written (option_copied c.args.style)) []) (sym c.requires)
+    subst (CollatesProject (option_map g.M.MapStyle.written (option_copied c.args.style)) []) (sym c.requires)
     (record { count = refl; earlier = λ n p at. absurd (cc); each = λ n p out at also. absurd (cc) })
 
 pub returns-in-Err-clause-refused : goal.returns-in-Err-clause-refused
@@ -38,4 +38,4 @@ loop-index-preserved g c =
     rw (next, c.in_ok-push-in-Ok.ensures.items) (project_push style (take n targets) c.loop-index.outs.items c.loop-index.invariant p c.in-Ok.out found.0 found.1)
 
 pub returns-clause-collated : goal.returns-clause-collated
-returns-clause-collated g c = subst (λ (ts : List ProjectTargetValue). IsProject (option_map g.M.MapStyle.written (option_copied c.args.style)) ts c.loop-index.outs.items) (take_all c.loop-index.index c.args.targets.now c.loop-index-test.false) c.loop-index.invariant
+returns-clause-collated g c = subst (λ (ts : List ProjectTargetValue). CollatesProject (option_map g.M.MapStyle.written (option_copied c.args.style)) ts c.loop-index.outs.items) (take_all c.loop-index.index c.args.targets.now c.loop-index-test.false) c.loop-index.invariant

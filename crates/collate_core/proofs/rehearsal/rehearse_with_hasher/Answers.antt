@@ -10,7 +10,7 @@ use Rattle.dyndep_file.specs.declared.fault.ReadFault.{ReadFault}
 use Rattle.dyndep_file.specs.declared.fault.ReadFault.TheVariants.{AtLine, Io}
 use Rattle.build_effect.specs.EdgeValue.{EdgeValue}
 use Rattle.build_effect.specs.Effect.{OnlyEffect}
-use Rattle.collate_core.specs.Rehearsal.{HasEffect, IsWithoutEffect, IsReported, IsRehearseFault}
+use Rattle.collate_core.specs.Rehearsal.{HasEffect, IsWithoutEffect, IsReadFaultOf, IsRehearseFault}
 use Rattle.collate_core.specs.inner.Parts.{ForEffect}
 use Rattle.collate_core.specs.declared.fault.RehearseFault.{RehearseFault}
 use Rattle.collate_core.specs.declared.fault.RehearseFault.TheVariants.{Read, Effect}
@@ -19,7 +19,7 @@ use Rattle.collate_core.proofs.rehearsal.rehearse_with_hasher.Goals as goal
 only : OneList → (text : List ℕ) (statements : List StatementValue) → StandsFor text statements → StandsForOnly text statements
 only one text statements h = record { stands = h; only = λ others k. one text others statements k h }
 
-none : NotBoth → (text : List ℕ) (fault : ReadFault) → IsReported text fault → (statements : List StatementValue) → StandsFor text statements → ⊥
+none : NotBoth → (text : List ℕ) (fault : ReadFault) → IsReadFaultOf text fault → (statements : List StatementValue) → StandsFor text statements → ⊥
 none not_both text (AtLine line fault) reported statements h = not_both text statements (record { line = line; fault = fault }) h reported
 none not_both text Io reported statements h = reported
 
@@ -47,5 +47,5 @@ returns-in-Ok-clause-fault g c =
 
 pub returns-in-Err-Fault-clause-fault : goal.returns-in-Err-Fault-clause-fault
 returns-in-Err-Fault-clause-fault g c =
-    let reported = subst (ForFault (IsReported c.args.text.now)) c.in-Err-Fault.field-0-is c.in-Err-Fault.ensures.refused in
-    (subst (IsReported c.args.text.now) (sym c.in-Err-Fault.fault-is) reported, none c.list_or_fault.ensures.not_both c.args.text.now c.in-Err-Fault.fault reported)
+    let reported = subst (ForFault (IsReadFaultOf c.args.text.now)) c.in-Err-Fault.field-0-is c.in-Err-Fault.ensures.refused in
+    (subst (IsReadFaultOf c.args.text.now) (sym c.in-Err-Fault.fault-is) reported, none c.list_or_fault.ensures.not_both c.args.text.now c.in-Err-Fault.fault reported)

@@ -3,7 +3,7 @@ use Rattle.std.specs.Borrow.{Bor}
 use Rattle.std.proofs.lemmas.List.{map-append, take_all}
 use Rattle.std.proofs.lemmas.List.Elements.{All-push}
 use Rattle.std.proofs.lemmas.Option.{slice_get_read}
-use Rattle.collate_core.specs.Statements.{files_of}
+use Rattle.collate_core.specs.Statements.{module_files}
 use Rattle.collate_core.specs.inner.Parts.{lent_files, IsSpelled}
 use Rattle.collate_core.proofs.Lists.{take_next}
 use Rattle.collate_core.proofs.LoopLemmas.{map_push}
@@ -21,7 +21,7 @@ loop-module-preserved c =
     record {
       files =
           pushed ∙ map_push (λ (m : List ℕ × List ℕ). m.1) (take i modules) pair _ file c.loop-module.invariant.files c.bytes.ensures.text
-          ∙ sym (ap files_of (take_next modules i pair at));
+          ∙ sym (ap module_files (take_next modules i pair at));
       spelled = subst (All IsSpelled) (sym pushed) (All-push IsSpelled (lent_files c.loop-module.files.items) file c.loop-module.invariant.spelled (record {
         canonical = c.bytes.ensures.canonical ∙ ap Ok (sym c.bytes.ensures.text);
         writable = c.bytes.ensures.writable;
@@ -29,7 +29,7 @@ loop-module-preserved c =
     }
 
 pub returns-clause-files : goal.returns-clause-files
-returns-clause-files c = c.loop-module.invariant.files ∙ ap files_of (take_all c.loop-module.module-index c.args.modules.now c.loop-module-test.false)
+returns-clause-files c = c.loop-module.invariant.files ∙ ap module_files (take_all c.loop-module.module-index c.args.modules.now c.loop-module-test.false)
 
 pub returns-clause-spelled : goal.returns-clause-spelled
 returns-clause-spelled c = c.loop-module.invariant.spelled

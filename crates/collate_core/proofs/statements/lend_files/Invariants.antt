@@ -1,5 +1,5 @@
 use Rattle.std.proofs.Common.{◌≡◌, take, All}
-use Rattle.collate_core.specs.Statements.{files_of}
+use Rattle.collate_core.specs.Statements.{module_files}
 use Rattle.collate_core.specs.inner.Parts.{lent_files, IsSpelled}
 use Rattle.collate_core.proofs.statements.lend_files.Given as goal
 
@@ -7,6 +7,6 @@ use Rattle.collate_core.proofs.statements.lend_files.Given as goal
 abbrev pub invariant-loop-module : goal.invariant-loop-module
 invariant-loop-module l =
     record {
-      files : lent_files l.files.items ≡ files_of (take l.module-index l.modules);
+      files : lent_files l.files.items ≡ module_files (take l.module-index l.modules);
       spelled : All IsSpelled (lent_files l.files.items);
     }

@@ -18,7 +18,7 @@ returns-in-Ok g c =
     let step = ended c.document_answer.result in
     held _ _ (λ calls. AnswersSpec c.in-Ok.document calls step) (λ calls. AnswersCollate c.args.document.now calls step) c.document_answer.ensures
     (λ calls own. record {
-      accepted = λ spec has. subst (λ (s : document.TargetValue). AnswersSpec s calls step) (c.read.ensures.one_answer.one_value c.in-Ok.document spec c.in-Ok.ensures.accepted has) own;
+      accepted = λ spec has. subst (λ (s : document.TargetDocumentValue). AnswersSpec s calls step) (c.read.ensures.one_answer.one_value c.in-Ok.document spec c.in-Ok.ensures.accepted has) own;
       refused = λ fault is. absurd (c.read.ensures.one_answer.not_both c.in-Ok.document fault c.in-Ok.ensures.accepted is);
     })
 

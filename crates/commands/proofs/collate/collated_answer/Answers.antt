@@ -15,7 +15,7 @@ pub returns-in-Ok : goal.returns-in-Ok
 returns-in-Ok c =
     at_path c.path.ensures (passes c.in-Ok.ensures.passes
     (subst (λ (files : List FileValue). Writes files c.writes.result)
-    (c.in_ok-files-in-Ok.ensures ∙ ap (λ (s : document.TargetValue). files_of s c.args.collated) c.spec.ensures) c.writes.ensures))
+    (c.in_ok-files-in-Ok.ensures ∙ ap (λ (s : document.TargetDocumentValue). files_of s c.args.collated) c.spec.ensures) c.writes.ensures))
 
 -- the edges are faulty
 pub returns : goal.returns

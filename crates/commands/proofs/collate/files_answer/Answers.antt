@@ -12,18 +12,18 @@ use Rattle.commands.specs.declared.answer.Answer.{Answer}
 use Rattle.commands.proofs.collate.files_answer.Goals as goal
 
 -- what a run answers to the target with these parts
-abbrev AnswersParts : document.TargetValue → Option (List ℕ) → document.TargetValue → SettingValue → List (List ℕ) → List (List ℕ) → List (List ℕ) → Answer → Type 0
+abbrev AnswersParts : document.TargetDocumentValue → Option (List ℕ) → document.TargetDocumentValue → SettingValue → List (List ℕ) → List (List ℕ) → List (List ℕ) → Answer → Type 0
 AnswersParts spec listing view setting scans infos kept answer =
     AnswersTarget (WritesCollated spec listing)
     (record { name = view.target; setting = setting; scans = scans; infos = infos; kept = kept })
     (style_of spec.map_form) answer
 
 -- what is answered to the target that was made is what is answered to the document's
-of_document : (spec : document.TargetValue) (files : TargetFilesValue) (answer : Answer) (listing : Option (List ℕ)) (view : document.TargetValue) (setting : SettingValue) (scans infos kept : List (List ℕ)) →
+of_document : (spec : document.TargetDocumentValue) (files : TargetFilesValue) (answer : Answer) (listing : Option (List ℕ)) (view : document.TargetDocumentValue) (setting : SettingValue) (scans infos kept : List (List ℕ)) →
     listing ≡ files.listing → view ≡ spec → setting ≡ setting_in spec → scans ≡ files.scans → infos ≡ files.infos → kept ≡ view.kept →
     AnswersParts spec listing view setting scans infos kept answer → AnswersTargetOf spec files answer
 of_document spec files answer listing view setting scans infos kept l v s d i k h =
-    subst (λ (v : document.TargetValue). AnswersParts spec files.listing v (setting_in spec) files.scans files.infos v.kept answer) v
+    subst (λ (v : document.TargetDocumentValue). AnswersParts spec files.listing v (setting_in spec) files.scans files.infos v.kept answer) v
     (subst (λ (k : List (List ℕ)). AnswersParts spec files.listing view (setting_in spec) files.scans files.infos k answer) k
     (subst (λ (i : List (List ℕ)). AnswersParts spec files.listing view (setting_in spec) files.scans i kept answer) i
     (subst (λ (d : List (List ℕ)). AnswersParts spec files.listing view (setting_in spec) d infos kept answer) d

@@ -21,7 +21,7 @@ returns-in-Ok c =
     let spec = c.args.document.now in
     let listing = option_copied c.args.listing in
     let form : c.behind-document.inside.map ≡ spec.map_form =
-    ap (λ (s : document.TargetValue). s.map_form) (c.behind-document.view_is ∙ c.spec.ensures) in
+    ap (λ (s : document.TargetDocumentValue). s.map_form) (c.behind-document.view_is ∙ c.spec.ensures) in
     let own : Collates c.args.target.now (style_of spec.map_form) c.in-Ok.collated =
     subst (λ f. Collates c.args.target.now (style_of f) c.in-Ok.collated) form c.in-Ok.ensures.collated in
     IfOk-weaker c.collated_answer.result _ (AnswersTarget (WritesCollated spec listing) c.args.target.now (style_of spec.map_form))
@@ -38,7 +38,7 @@ returns-in-Err c =
     let spec = c.args.document.now in
     let listing = option_copied c.args.listing in
     let form : c.behind-document.inside.map ≡ spec.map_form =
-    ap (λ (s : document.TargetValue). s.map_form) (c.behind-document.view_is ∙ c.spec.ensures) in
+    ap (λ (s : document.TargetDocumentValue). s.map_form) (c.behind-document.view_is ∙ c.spec.ensures) in
     let own : ForFault (IsRefusal c.args.target.now (style_of spec.map_form)) c.in-Err.failure =
     subst (λ f. ForFault (IsRefusal c.args.target.now (style_of f)) c.in-Err.failure) form c.in-Err.ensures.refused in
     IfOk-weaker c.failed_run.result (AnswersFailure c.args.target.now c.in-Err.failure)

@@ -5,14 +5,14 @@ use Rattle.ninja_text.specs.declared.failure.Failure.TheVariants.{Memory, Fault}
 use Rattle.ninja_text.specs.Failure.{ForFault}
 use Rattle.dyndep_file.specs.StatementValue.{StatementValue}
 use Rattle.dyndep_file.specs.Reading.{StandsFor}
-use Rattle.dyndep_file.specs.Reader.{IsFailureIn, Ends}
+use Rattle.dyndep_file.specs.Reader.{IsReadFailureIn, EndsDyndepFile}
 use Rattle.dyndep_file.specs.declared.fault.ReadFault.{ReadFault}
 use Rattle.dyndep_file.specs.declared.fault.ReadFault.TheVariants.{AtLine, Io}
-use Rattle.commands.specs.Dyndeps.{IsReported}
+use Rattle.collate_core.specs.Rehearsal.{IsReadFaultOf}
 use Rattle.commands.proofs.dyndep_text.dyndep_read.Goals as goal
 
 -- a fault that the reader reported of the text so far is one of the text
-reported : (text : List ℕ) (failure : Failure ReadFault) → IsFailureIn text failure → ForFault (IsReported text) failure
+reported : (text : List ℕ) (failure : Failure ReadFault) → IsReadFailureIn text failure → ForFault (IsReadFaultOf text) failure
 reported text Memory h = tt
 reported text (Fault (AtLine line fault)) h = elim h [ inl at_line ↦ inl at_line | inr at_end ↦ inr at_end.0 ]
 reported text (Fault Io) h = absurd h
@@ -21,13 +21,13 @@ pub returns-in-Err-clause-refused : goal.returns-in-Err-clause-refused
 returns-in-Err-clause-refused c = reported c.args.text.now c.in-Err.failure (c.in-Err.ensures.all [] c.new-reader.ensures).1
 
 -- and so is one that it reports at the end
-at_end : (text : List ℕ) (answer : Result (List StatementValue) (Failure ReadFault)) → Ends text answer → IfErr answer (ForFault (IsReported text))
+at_end : (text : List ℕ) (answer : Result (List StatementValue) (Failure ReadFault)) → EndsDyndepFile text answer → IfErr answer (ForFault (IsReadFaultOf text))
 at_end text (Ok statements) h = tt
 at_end text (Err Memory) h = tt
 at_end text (Err (Fault (AtLine line fault))) h = inr h
 at_end text (Err (Fault Io)) h = absurd h
 
-stands : (text : List ℕ) (answer : Result (List StatementValue) (Failure ReadFault)) → Ends text answer → IfOk answer (StandsFor text)
+stands : (text : List ℕ) (answer : Result (List StatementValue) (Failure ReadFault)) → EndsDyndepFile text answer → IfOk answer (StandsFor text)
 stands text (Ok statements) h = h
 stands text (Err failure) h = tt
 

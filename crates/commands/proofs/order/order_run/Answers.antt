@@ -3,7 +3,7 @@ use Rattle.std.specs.Prelude.{IfOk}
 use Rattle.std.proofs.lemmas.Result.{IfOk-weaker}
 use Rattle.ninja_text.specs.Failure.{ForFault}
 use Rattle.commands.specs.Answers.{Refuses}
-use Rattle.commands.specs.EdgeFaults.{listing_fault_text}
+use Rattle.commands.specs.EdgeFaults.{edges_fault_text}
 use Rattle.commands.specs.Listings.{AnswersListing, IsListingFault}
 use Rattle.commands.specs.Order.{AnswersOrder}
 use Rattle.commands.proofs.Listings.{answered, reported}
@@ -17,6 +17,6 @@ returns-in-Ok c =
 
 pub returns-in-Err-Fault : goal.returns-in-Err-Fault
 returns-in-Err-Fault c =
-    IfOk-weaker c.listing_refused.result (Refuses (listing_fault_text c.in-Err-Fault.fault)) (AnswersListing AnswersOrder c.args.edges.now)
+    IfOk-weaker c.listing_refused.result (Refuses (edges_fault_text c.in-Err-Fault.fault)) (AnswersListing AnswersOrder c.args.edges.now)
     (λ answer h. reported AnswersOrder c.args.edges.now c.in-Err-Fault.fault answer c.one_listing.ensures.one c.one_listing.ensures.faultless (subst (ForFault (IsListingFault c.args.edges.now)) c.in-Err-Fault.field-0-is c.in-Err-Fault.ensures.refused) h)
-    (subst (λ f. IfOk c.listing_refused.result (Refuses (listing_fault_text f))) c.in-Err-Fault.fault-is c.listing_refused.ensures)
+    (subst (λ f. IfOk c.listing_refused.result (Refuses (edges_fault_text f))) c.in-Err-Fault.fault-is c.listing_refused.ensures)

@@ -33,7 +33,7 @@ loop-target-preserved c =
     rw (length_push c.loop-target.yielded (c.in-Some.target, c.in-Some.collated))
     (c.in_ok-append_files.ensures
     ∙ files_next (zip targets outs) n (c.in-Some.target.now, c.in-Some.collated) _ _ here c.loop-target.invariant
-    (ap (λ (s : document.TargetValue). files_of s c.in-Some.collated) (c.spec.ensures ∙ ap (λ (t : ReadTargetValue). t.spec) c.target.view_is)))
+    (ap (λ (s : document.TargetDocumentValue). files_of s c.in-Some.collated) (c.spec.ensures ∙ ap (λ (t : ReadTargetValue). t.spec) c.target.view_is)))
 
 pub returns : goal.returns
 returns c =

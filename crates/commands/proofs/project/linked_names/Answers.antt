@@ -19,6 +19,6 @@ loop-index-preserved c =
     let within : k < length targets = c.requires i 0 c.loop-index-test.true in
     let here : slice_get targets k ≡ Some t = at_index targets k t within c.index-targets-index.is in
     let named : c.spec.inside.target ≡ t.spec.target =
-    ap (λ (s : document.TargetValue). s.target) (c.spec.view_is ∙ c.spec-spec.ensures) ∙ ap (λ (t : ReadTargetValue). t.spec.target) c.target.view_is in
+    ap (λ (s : document.TargetDocumentValue). s.target) (c.spec.view_is ∙ c.spec-spec.ensures) ∙ ap (λ (t : ReadTargetValue). t.spec.target) c.target.view_is in
     rw (c.in_ok-push.ensures.items, map_push (λ (n : Bor (List ℕ)). n.now))
     (names_next targets linked i t _ c.spec.inside.target c.loop-index-test.true here c.loop-index.invariant named)

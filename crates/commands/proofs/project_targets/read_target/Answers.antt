@@ -47,7 +47,7 @@ returns-in-Ok g c =
           (λ calls. ReadsFile name (Next earlier) calls step) c.in_ok-bytes.ensures c.target_of.ensures.read
           (λ calls more own rest.
           let next : Next earlier c.deref.result.now more step = record {
-            accepted = λ spec has. subst (λ (s : document.TargetValue). AnswersAfter earlier s (GoesOn (λ (t : ReadTargetValue). t)) more step)
+            accepted = λ spec has. subst (λ (s : document.TargetDocumentValue). AnswersAfter earlier s (GoesOn (λ (t : ReadTargetValue). t)) more step)
                 (c.read.ensures.one_answer.one_value c.in-Ok.document spec c.in-Ok.ensures.accepted has) rest;
             refused = λ fault is. absurd (c.read.ensures.one_answer.not_both c.in-Ok.document fault c.in-Ok.ensures.accepted is);
           } in

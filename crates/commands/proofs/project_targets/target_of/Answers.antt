@@ -11,7 +11,7 @@ use Rattle.commands.proofs.Parts.{ended_with, failure_no_value, no_more, no_valu
 use Rattle.commands.proofs.ProjectTargets.{links_within}
 use Rattle.commands.proofs.project_targets.target_of.Goals as goal
 
-abbrev Gives : List ReadTargetValue → document.TargetValue → Part ReadTargetValue
+abbrev Gives : List ReadTargetValue → document.TargetDocumentValue → Part ReadTargetValue
 Gives earlier spec = AnswersAfter earlier spec (GoesOn (λ (t : ReadTargetValue). t))
 
 abbrev LinksWithin : List ReadTargetValue → ReadTargetValue → Type 0
@@ -32,7 +32,7 @@ returns-in_default g c =
     let is : c.spec-spec.result.now ≡ c.args.document = c.spec-spec.ensures in
     let form : HasFormOf earlier c.spec-spec.result.now = search rules in
     let named : map string_bytes c.deref.result.now ≡ c.args.document.linked =
-    ap (map string_bytes) c.deref.ensures.value ∙ ap (λ (s : document.TargetValue). s.linked) (c.spec.view_is ∙ is) in
+    ap (map string_bytes) c.deref.ensures.value ∙ ap (λ (s : document.TargetDocumentValue). s.linked) (c.spec.view_is ∙ is) in
     let later : LinksLater earlier (map string_bytes c.deref.result.now) = search rules in
     let line : IfOk c.target_failed.result (Refuses (target_text (length earlier) (codes "K3 LinkedLater"))) =
     subst (λ (n : ℕ). IfOk c.target_failed.result (Refuses (target_text n (codes "K3 LinkedLater")))) c.len-in_default.ensures c.target_failed.ensures in record {
@@ -52,7 +52,7 @@ returns-in_err-files g c =
     let is : c.spec-spec.result.now ≡ spec = c.spec-spec.ensures in
     let form : HasFormOf earlier c.spec-spec.result.now = search rules in
     let named : map string_bytes c.deref.result.now ≡ spec.linked =
-    ap (map string_bytes) c.deref.ensures.value ∙ ap (λ (s : document.TargetValue). s.linked) (c.spec.view_is ∙ is) in
+    ap (map string_bytes) c.deref.ensures.value ∙ ap (λ (s : document.TargetDocumentValue). s.linked) (c.spec.view_is ∙ is) in
     let links : LinksTo earlier (map string_bytes c.deref.result.now) linked = search rules in
     let ends : c.from_residual-in_err-files.result ≡ Err failure = search rules in record {
       read = held _ _ (λ calls. ReadsTarget c.spec-spec.result.now [] (GoesOn (λ (f : TargetFilesValue). f)) calls (Err failure))
@@ -63,7 +63,7 @@ returns-in_err-files g c =
           (no_more (ReadsTarget spec [] (λ f. GoesOn (λ (t : ReadTargetValue). t) (read_target spec linked f))) calls (Err failure)
           (target_goes spec [] (λ (f : TargetFilesValue). f) (λ f. GoesOn (λ (t : ReadTargetValue). t) (read_target spec linked f)) calls (Err failure) [] (Err failure)
           (off failure refl refl refl (λ f. (refl, tt)))
-          (subst (λ (s : document.TargetValue). ReadsTarget s [] (GoesOn (λ (f : TargetFilesValue). f)) calls (Err failure)) is own)))));
+          (subst (λ (s : document.TargetDocumentValue). ReadsTarget s [] (GoesOn (λ (f : TargetFilesValue). f)) calls (Err failure)) is own)))));
       links = failure_no_value (LinksWithin earlier) failure c.from_residual-in_err-files.result ends;
     }
 
@@ -76,7 +76,7 @@ returns g c =
     let is : c.spec-spec.result.now ≡ spec = c.spec-spec.ensures in
     let form : HasFormOf earlier c.spec-spec.result.now = search rules in
     let named : map string_bytes c.deref.result.now ≡ spec.linked =
-    ap (map string_bytes) c.deref.ensures.value ∙ ap (λ (s : document.TargetValue). s.linked) (c.spec.view_is ∙ is) in
+    ap (map string_bytes) c.deref.ensures.value ∙ ap (λ (s : document.TargetDocumentValue). s.linked) (c.spec.view_is ∙ is) in
     let links : LinksTo earlier (map string_bytes c.deref.result.now) linked = search rules in
     let own_links : LinksTo earlier spec.linked linked = subst (λ (infos : List (List ℕ)). LinksTo earlier infos linked) named links in record {
       read = held _ _ (λ calls. ReadsTarget c.spec-spec.result.now [] (GoesOn (λ (f : TargetFilesValue). f)) calls (Ok files))
@@ -86,6 +86,6 @@ returns g c =
           (no_more (ReadsTarget spec [] (λ f. GoesOn (λ (t : ReadTargetValue). t) (read_target spec linked f))) calls (Ok (read_target spec linked files))
           (target_goes spec [] (λ (f : TargetFilesValue). f) (λ f. GoesOn (λ (t : ReadTargetValue). t) (read_target spec linked f)) calls (Ok files) [] (Ok (read_target spec linked files))
           (on files refl (refl, refl))
-          (subst (λ (s : document.TargetValue). ReadsTarget s [] (GoesOn (λ (f : TargetFilesValue). f)) calls (Ok files)) is own))));
+          (subst (λ (s : document.TargetDocumentValue). ReadsTarget s [] (GoesOn (λ (f : TargetFilesValue). f)) calls (Ok files)) is own))));
       links = links_within earlier spec.linked linked own_links;
     }

@@ -1,7 +1,7 @@
 use Rattle.std.proofs.Common.{ℕ, List, refl, subst, sym}
 use Rattle.std.specs.Prelude.{Ok, Err, Vec}
 use Rattle.std.specs.Global.{Global}
-use Rattle.command_line.specs.Tasks.{task_value, file_of}
+use Rattle.command_line.specs.Tasks.{task_value, first_file_of}
 use Rattle.commands.specs.Files.{ReadsFile, ended}
 use Rattle.commands.specs.Runs.{AnswersBytes, AnswersTask}
 use Rattle.commands.specs.inner.Parts.{GoesOn}
@@ -17,7 +17,7 @@ returns-in-Ok g c =
     (λ calls. AnswersBytes task c.deref.result.now calls (ended c.bytes_run.result)) (λ calls. AnswersTask task calls (ended c.bytes_run.result))
     c.in-Ok.ensures c.bytes_run.ensures
     (λ calls more own rest.
-    file_goes (file_of task) (λ (b : Vec ℕ Global). b.items) (AnswersBytes task) calls (Ok bytes) more (ended c.bytes_run.result)
+    file_goes (first_file_of task) (λ (b : Vec ℕ Global). b.items) (AnswersBytes task) calls (Ok bytes) more (ended c.bytes_run.result)
     (on bytes refl (subst (λ (b : List ℕ). AnswersBytes task b more (ended c.bytes_run.result)) c.deref.ensures.value rest))
     (subst (λ (n : List ℕ). ReadsFile n (GoesOn (λ (b : Vec ℕ Global). b.items)) calls (Ok bytes)) c.file.ensures own))
 
@@ -29,5 +29,5 @@ returns-in-Err g c =
     c.in-Err.ensures
     (λ calls own.
     subst (AnswersTask task calls) (sym c.answered.ensures)
-    (file_unread (file_of task) (λ (b : Vec ℕ Global). b.items) (AnswersBytes task) calls failure (bytes_stop task)
+    (file_unread (first_file_of task) (λ (b : Vec ℕ Global). b.items) (AnswersBytes task) calls failure (bytes_stop task)
     (subst (λ (n : List ℕ). ReadsFile n (GoesOn (λ (b : Vec ℕ Global). b.items)) calls (Err failure)) c.file.ensures own)))

@@ -1,5 +1,5 @@
 use Rattle.std.proofs.Common.{◌≡◌, ◌<◌, ℕ, List, [], ◌∷◌, ◌++◌, length, arith, ap, ◌∙◌}
-use Rattle.module_maps.specs.MapLines.{ended}
+use Rattle.module_maps.specs.MapLines.{ended_line}
 use Rattle.module_maps.specs.ClangMaps.{file_flag, file_line}
 use Rattle.module_maps.proofs.Pushes.{one-more, five-parts}
 use Rattle.module_maps.proofs.clang.push_files.Goals as goal
@@ -8,7 +8,7 @@ pub loop-pair-preserved : goal.loop-pair-preserved
 loop-pair-preserved c =
     let within : c.loop-pair.pair-index < length c.args.pairs.now = omega arith in
     let old : List ℕ = c.loop-pair.text.items in
-    let written : c.push-in-loop-pair.new.self.items ≡ old ++ ended (file_line c.pair-item.result) =
+    let written : c.push-in-loop-pair.new.self.items ≡ old ++ ended_line (file_line c.pair-item.result) =
     five-parts old c.extend_from_slice.new.self.items c.extend_from_slice-in-loop-pair.new.self.items c.push.new.self.items c.extend_from_slice-in-loop-pair-2.new.self.items c.push-in-loop-pair.new.self.items
     file_flag c.pair-item.result.0 (61 ∷ []) c.pair-item.result.1 (10 ∷ [])
     c.in_ok-extend_from_slice.ensures.items
@@ -16,4 +16,4 @@ loop-pair-preserved c =
     c.in_ok-push.ensures.items
     (c.in_ok-extend_from_slice-3.ensures.items ∙ ap (λ t. c.push.new.self.items ++ t) c.bytes.ensures.text)
     c.in_ok-push-2.ensures.items in
-    one-more (λ pair. ended (file_line pair)) c.args.text.now.items old c.push-in-loop-pair.new.self.items c.args.pairs.now c.loop-pair.pair-index c.pair-item.result within c.pair-item.is c.loop-pair.invariant written
+    one-more (λ pair. ended_line (file_line pair)) c.args.text.now.items old c.push-in-loop-pair.new.self.items c.args.pairs.now c.loop-pair.pair-index c.pair-item.result within c.pair-item.is c.loop-pair.invariant written

@@ -1,9 +1,9 @@
 use Rattle.std.proofs.Common.{◌≡◌, ◌++◌, take}
 use Rattle.std.specs.List.{flat_map}
-use Rattle.module_maps.specs.MapLines.{ended}
+use Rattle.module_maps.specs.MapLines.{ended_line}
 use Rattle.module_maps.specs.ClangMaps.{file_line}
 use Rattle.module_maps.proofs.clang.push_files.Given as goal
 
 -- the lines so far
 abbrev pub invariant-loop-pair : goal.invariant-loop-pair
-invariant-loop-pair l = l.text.items ≡ l.initial.text.items ++ flat_map (λ pair. ended (file_line pair)) (take l.pair-index l.pairs)
+invariant-loop-pair l = l.text.items ≡ l.initial.text.items ++ flat_map (λ pair. ended_line (file_line pair)) (take l.pair-index l.pairs)

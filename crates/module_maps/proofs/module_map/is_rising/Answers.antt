@@ -1,7 +1,7 @@
 use Rattle.std.proofs.Common.{◌≡◌, ℕ, zero, suc, ◌+◌, ◌-◌, ◌<◌, ◌≤◌, ◌⊎◌, List, length, Some, arith, ap, subst, sym, ◌∙◌, get_or, true, false, refl, slice_get, inl, inr}
 use Rattle.std.proofs.lemmas.Cmp.{nat_list_cmp_total}
 use Rattle.std.proofs.lemmas.Option.{slice_get_read, get_or_from_slice_get}
-use Rattle.module_maps.specs.Maps.{Precedes}
+use Rattle.ninja_text.specs.Bytes.{Precedes}
 use Rattle.module_maps.proofs.module_map.is_rising.Goals as goal
 
 -- a number up to another is below it, or is it

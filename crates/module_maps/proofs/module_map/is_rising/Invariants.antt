@@ -1,5 +1,5 @@
 use Rattle.std.proofs.Common.{ℕ, ◌<◌, List, get_or}
-use Rattle.module_maps.specs.Maps.{Precedes}
+use Rattle.ninja_text.specs.Bytes.{Precedes}
 use Rattle.module_maps.proofs.module_map.is_rising.Given as goal
 
 -- the names before index n rise

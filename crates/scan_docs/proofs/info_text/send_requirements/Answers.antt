@@ -2,7 +2,7 @@ use Rattle.std.proofs.Common.{ℕ, List, subst, sym}
 use Rattle.std.proofs.lemmas.Result.{on_ok_weaker}
 use Rattle.scan_docs.specs.Scan.{IsText}
 use Rattle.scan_docs.specs.InfoText.{requirement_tree, requirements_tree}
-use Rattle.scan_docs.specs.Sound.{IsSound}
+use Rattle.scan_docs.specs.Sound.{IsSoundPair}
 use Rattle.scan_docs.proofs.Elements.{All-grow, All-end}
 use Rattle.scan_docs.proofs.Sending.{entry_sent, array_sent}
 use Rattle.scan_docs.proofs.info_text.send_requirements.Goals as goal
@@ -16,7 +16,7 @@ pub loop-pair-preserved : goal.loop-pair-preserved
 loop-pair-preserved g c =
     let l = c.loop-pair in record {
       sent = λ end rest. l.invariant.sent end (entry_sent requirement_tree c.args.pairs.now l.pair-index c.pair-item.result _ _ end c.loop-pair-test.true c.pair-item.is c.in_ok-send_requirement.ensures.sent rest);
-      sound = All-grow (λ p. IsSound p.0 p.1) c.args.pairs.now l.pair-index c.pair-item.result c.loop-pair-test.true c.pair-item.is c.in_ok-send_requirement.ensures.sound l.invariant.sound;
+      sound = All-grow (λ p. IsSoundPair p.0 p.1) c.args.pairs.now l.pair-index c.pair-item.result c.loop-pair-test.true c.pair-item.is c.in_ok-send_requirement.ensures.sound l.invariant.sound;
     }
 
 pub returns-clause-sent : goal.returns-clause-sent
@@ -27,4 +27,4 @@ returns-clause-sent g c =
 
 pub returns-clause-sound : goal.returns-clause-sound
 returns-clause-sound g c =
-    on_ok_weaker c.end_seq.result (λ end. All-end (λ p. IsSound p.0 p.1) c.args.pairs.now c.loop-pair.pair-index c.loop-pair-test.false c.loop-pair.invariant.sound) c.end_seq.ensures
+    on_ok_weaker c.end_seq.result (λ end. All-end (λ p. IsSoundPair p.0 p.1) c.args.pairs.now c.loop-pair.pair-index c.loop-pair-test.false c.loop-pair.invariant.sound) c.end_seq.ensures

@@ -3,7 +3,7 @@ use Rattle.dep_order.specs.Rows.{rows}
 use Rattle.dyndep_file.specs.BuildTokens.{symbols_left}
 use Rattle.ninja_text.specs.TokenViews.{seen_token}
 use Rattle.build_effect.specs.ListingLines.{is_rule_name}
-use Rattle.dyndep_file.specs.Faults.{is_empty}
+use Rattle.ninja_text.specs.Paths.{is_empty}
 use Rattle.build_effect.proofs.ListingLineLemmas.{right_are, whole_is, has_output}
 use Rattle.build_effect.proofs.listing.rows.right_texts.Goals as goal
 

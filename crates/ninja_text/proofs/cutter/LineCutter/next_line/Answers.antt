@@ -1,5 +1,5 @@
 use Rattle.std.proofs.Common.{◌≡◌, ◌+◌, min, length, take, arith, length-take, subst, refl, sym, ap, ◌∙◌, ◌++◌, [], true, false}
-use Rattle.ninja_text.specs.Lines.{text_of, is_comment, LogicalLine, line_feeds_in}
+use Rattle.ninja_text.specs.Lines.{text_of_line, is_comment, LogicalLine, line_feeds_in}
 use Rattle.ninja_text.specs.Cutting.{CutterState, after_lending, Cuts, lent_next, waiting_line}
 use Rattle.ninja_text.specs.Scanning.{scan_from}
 use Rattle.ninja_text.specs.Phases.{PhaseFits}
@@ -26,7 +26,7 @@ returns-in-Waiting c =
     sym c.self.view_is ∙ ap (λ phase. state_in phase items c.self.inside.number) c.in-Waiting.is in
     let later : c.saturating_add-self-inside.result ≡ min 18446744073709551615 (c.self.inside.number + line_feeds_in items) = let feeds = c.line_feeds.ensures ∙ ap line_feeds_in c.as_slice-in-Waiting.ensures.value in omega (arith, feeds, c.saturating_add-self-inside.ensures) in
     let value : ◌≡◌ {A = CutterState} (record { number = c.saturating_add-self-inside.result; bytes = []; waits = false; failed = false }) (after_lending c.args.self.now) = rw (held, later) refl in
-    let text : take c.in-Waiting.text_len c.as_slice-in-Waiting-2.result.now ≡ text_of items =
+    let text : take c.in-Waiting.text_len c.as_slice-in-Waiting-2.result.now ≡ text_of_line items =
     ap (take c.in-Waiting.text_len) c.as_slice-in-Waiting-2.ensures.value ∙ sym (text_scanned items c.in-Waiting.text_len (scanned c)) in
     let comment : c.begins_comment-is_comment.result ≡ is_comment items = c.begins_comment-is_comment.ensures ∙ ap is_comment c.as_slice.ensures.value in
     let line : ◌≡◌ {A = LogicalLine} (record { text = take c.in-Waiting.text_len c.as_slice-in-Waiting-2.result.now; number = c.self.inside.number; comment = c.begins_comment-is_comment.result }) (waiting_line c.args.self.now) =

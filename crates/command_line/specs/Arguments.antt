@@ -1,0 +1,9 @@
+-- The word for what a caller hands to the program.
+use Rattle.std.specs.Prelude.{ℕ, List}
+
+-- an argument, by its bytes
+abbrev pub Argument : Type 0
+Argument = List ℕ
+
+abbrev pub dash : ℕ
+dash = 45
