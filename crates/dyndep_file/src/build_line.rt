@@ -1,8 +1,6 @@
 //! A build line's tokens after its keyword, from the left to the right: the statement that they
 //! name, or the fault of the first that may not be where it is.
-ghost use Rattle.std.specs.Prelude.{◌≡◌, ◌==◌, [], ◌∷◌, codes, IfOk};
-ghost use Rattle.std.specs.List.{list_any};
-ghost use Rattle.ninja_text.specs.Bytes.{dollar};
+ghost use Rattle.std.specs.Prelude.{◌≡◌, [], ◌∷◌, codes, IfOk};
 ghost use Rattle.ninja_text.specs.Tokens.{value_of};
 ghost use Rattle.ninja_text.specs.TokenViews.{seen_token};
 ghost use Rattle.dyndep_file.specs.Classes.{WordSymbol, SignSymbol};
@@ -169,17 +167,10 @@ fn value(alloc: Global, token: Token<'_>) -> Result<Vec<u8>, AllocError>
 {
     let raw = token.raw();
     let mut bytes = Vec::with_capacity(alloc, raw.len())?;
-    if has_dollar(raw) {
+    if raw.contains(&b'$') {
         token.value_into(&mut bytes)?;
     } else {
         bytes.extend_from_slice(raw)?;
     }
     Ok(bytes)
-}
-
-/// Whether a byte is a `$`.
-fn has_dollar(bytes: &[u8]) -> bool
-    ensures { result ≡ list_any (λ b. b == dollar) bytes.now }
-{
-    bytes.iter().any(|b| *b == b'$')
 }

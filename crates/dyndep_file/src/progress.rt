@@ -5,7 +5,7 @@ ghost use Rattle.ninja_text.specs.Tokens.{value_of};
 ghost use Rattle.ninja_text.specs.AssignmentViews.{seen_assignment};
 ghost use Rattle.dyndep_file.specs.Classes.{Blank, is_version_one, ends_number};
 ghost use Rattle.dyndep_file.specs.Faults.{value_assigned, indented_fault, version_fault, build_fault, other_fault, unindented_fault};
-ghost use Rattle.dyndep_file.specs.Steps.{step, with_last_restat};
+ghost use Rattle.dyndep_file.specs.Steps.{step};
 ghost use Rattle.dyndep_file.specs.BuildTokens.{symbols_left};
 ghost use Rattle.dyndep_file.specs.inner.LineReading.{PassesOr, IsBuildOf, IsBindingOf, IsVersionOf, IsVersionLineOf, with_name};
 
@@ -73,7 +73,9 @@ pub(crate) fn indented_line(
         return Err(Failure::Fault(LineFault::BadBinding));
     };
     let value = value(alloc, binding)?;
-    set_last_restat(&mut progress.statements, !value.is_empty());
+    if let Some(statement) = progress.statements.last_mut() {
+        statement.restat = !value.is_empty();
+    }
     progress.stage = Stage::NoneOpen;
     Ok(())
 }
@@ -169,15 +171,6 @@ fn value(alloc: Global, assignment: Assignment<'_>) -> Result<Vec<u8>, AllocErro
     let mut value = Vec::with_capacity(alloc, assignment.raw_value().len())?;
     assignment.value_into(&mut value)?;
     Ok(value)
-}
-
-/// Sets the flag `restat` of the last statement.
-fn set_last_restat(statements: &mut Vec<Statement>, flag: bool)
-    ensures { statements.new.items ≡ with_last_restat flag statements.old.items }
-{
-    if let Some(statement) = statements.last_mut() {
-        statement.restat = flag;
-    }
 }
 
 /// Whether a version is `1` or `1.0`, and then no more of a number.

@@ -1,7 +1,6 @@
 //! The reader of dyndep files that come in pieces: lines are read one by one into the statements so
 //! far.
-ghost use Rattle.std.specs.Prelude.{◌≡◌, ℕ, ◌++◌, List, [], Some};
-ghost use Rattle.dyndep_file.specs.inner.LineStates.{answer_at_end};
+ghost use Rattle.std.specs.Prelude.{◌≡◌, ◌++◌, [], Some};
 
 use crate::fault::{LineFault, ReadFault};
 use crate::line::read_line;
@@ -72,22 +71,14 @@ impl DyndepReader {
         ensures all { (bytes : Bytes) → HasReadDyndep bytes self → EndsDyndepFile bytes result }
     {
         let (progress, next_line) = self.lines.finish()?;
-        answer_at_end(progress, next_line)
-    }
-}
-
-/// The statements of a text whose lines were all read, if a version line was among them; else the
-/// fault, at the next line.
-fn answer_at_end(progress: Progress, next_line: u64) -> Result<Dyndep, Failure<ReadFault>>
-    ensures { result ≡ answer_at_end progress.stage progress.statements next_line }
-{
-    let Progress { stage, statements } = progress;
-    match stage {
-        Stage::BeforeVersion => Err(Failure::Fault(ReadFault::AtLine {
-            line: next_line,
-            fault: LineFault::NoVersion,
-        })),
-        Stage::NoneOpen | Stage::Open => Ok(Dyndep { statements }),
+        let Progress { stage, statements } = progress;
+        match stage {
+            Stage::BeforeVersion => Err(Failure::Fault(ReadFault::AtLine {
+                line: next_line,
+                fault: LineFault::NoVersion,
+            })),
+            Stage::NoneOpen | Stage::Open => Ok(Dyndep { statements }),
+        }
     }
 }
 

@@ -1,8 +1,7 @@
 //! The text of a dyndep file, made statement by statement.
-ghost use Rattle.std.specs.Prelude.{◌≡◌, ◌++◌, ◌≤◌, List, [], ◌∷◌, length, map, nat_lt, not, position, All, IfOk, OnOk, IfErr, None, Some};
+ghost use Rattle.std.specs.Prelude.{◌≡◌, ◌++◌, List, [], ◌∷◌, not, position, All, IfOk, OnOk, IfErr, None, Some};
 ghost use Rattle.ninja_text.specs.Failure.{Gives, ForFault};
 ghost use Rattle.ninja_text.specs.Escapes.{is_writable, IsWritable};
-ghost use Rattle.ninja_text.specs.Lines.{line_limit};
 ghost use Rattle.dyndep_file.specs.StatementValue.{StatementValue};
 ghost use Rattle.dyndep_file.specs.Reading.{StandsForOnly};
 ghost use Rattle.dyndep_file.specs.Writing.{part_text, build_line, binding_line};
@@ -11,7 +10,7 @@ ghost use Rattle.dyndep_file.specs.Texts.{IsTextOf, IsFinished};
 ghost use Rattle.dyndep_file.specs.inner.Paths.{texts, lent_texts};
 
 use crate::fault::WriteFault;
-use crate::statement::{Dyndep, LentStatement, Statement};
+use crate::statement::{Dyndep, LentStatement};
 use ninja_text::{Failure, LINE_LIMIT, escape_into, is_writable};
 use std::alloc::{AllocError, Global};
 use std::marker::Model;
@@ -67,7 +66,7 @@ impl DyndepText {
         }
         let start = self.text.len();
         push_build_line(statement, &mut self.text)?;
-        if is_over(self.text.len() - start) {
+        if self.text.len() - start > LINE_LIMIT {
             return Err(Failure::Fault(WriteFault::StatementTooLong {
                 statement: self.count,
             }));
@@ -100,44 +99,16 @@ impl Dyndep {
         let mut outputs = Vec::new(alloc);
         let mut inputs = Vec::new(alloc);
         for statement in &self.statements {
-            add(&mut text, statement, &mut outputs, &mut inputs)?;
+            lend(&statement.implicit_outputs, &mut outputs)?;
+            lend(&statement.implicit_inputs, &mut inputs)?;
+            text.add(&LentStatement {
+                output: &statement.output,
+                implicit_outputs: &outputs,
+                implicit_inputs: &inputs,
+                restat: statement.restat,
+            })?;
         }
         Ok(text.finish())
-    }
-}
-
-/// Adds the lines of a statement whose paths are lent in these lists.
-fn add<'s>(
-    text: &mut DyndepText,
-    statement: &'s Statement,
-    outputs: &mut Vec<&'s [u8]>,
-    inputs: &mut Vec<&'s [u8]>,
-) -> Result<(), Failure<WriteFault>>
-    ensures added { OnOk result ((statements : List StatementValue) →
-        IsTextOf statements text.old → IsTextOf (statements ++ statement.now ∷ []) text.new) }
-    ensures fault { IfErr result (ForFault (λ fault.
-        statement_fault text.old.count statement.now ≡ Some fault)) }
-{
-    lend(&statement.implicit_outputs, outputs)?;
-    lend(&statement.implicit_inputs, inputs)?;
-    text.add(&lent(statement, outputs, inputs))
-}
-
-/// The statement, with its implicit outputs and inputs as these lists lend them.
-fn lent<'l>(
-    statement: &'l Statement,
-    outputs: &'l [&'l [u8]],
-    inputs: &'l [&'l [u8]],
-) -> LentStatement<'l>
-    requires outputs { lent_texts outputs.now ≡ statement.now.implicit_outputs }
-    requires inputs { lent_texts inputs.now ≡ statement.now.implicit_inputs }
-    ensures { result ≡ statement.now }
-{
-    LentStatement {
-        output: &statement.output,
-        implicit_outputs: outputs,
-        implicit_inputs: inputs,
-        restat: statement.restat,
     }
 }
 
@@ -176,13 +147,6 @@ fn first_unwritable(paths: &[&[u8]]) -> Option<usize>
         }
     }
     None
-}
-
-/// Whether a build line of this length is too long.
-fn is_over(len: usize) -> bool
-    ensures { result ≡ nat_lt line_limit len }
-{
-    len > LINE_LIMIT
 }
 
 /// Appends the build line of a statement.

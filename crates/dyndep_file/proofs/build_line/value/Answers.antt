@@ -4,15 +4,15 @@ use Rattle.ninja_text.specs.Bytes.{dollar}
 use Rattle.ninja_text.specs.Tokens.{value_of}
 use Rattle.dyndep_file.proofs.Values.{plain_value}
 use Rattle.dyndep_file.proofs.build_line.value.Goals as goal
-use Rattle.dyndep_file.proofs.build_line.value.Goals.{then-has_dollar+in_ok-value_into, else-has_dollar+in_ok-extend_from_slice}
+use Rattle.dyndep_file.proofs.build_line.value.Goals.{then-contains+in_ok-value_into, else-contains+in_ok-extend_from_slice}
 
 pub returns : goal.returns
-returns c = elim c.if-has_dollar.branch [
-  | then-has_dollar+in_ok-value_into w ↦
+returns c = elim c.if-contains.branch [
+  | then-contains+in_ok-value_into w ↦
       ap (λ v. v.items) w.bytes-is ∙ w.in_ok-value_into.ensures.ok ∙ ap (λ front. front ++ value_of c.args.token.raw.now) c.in_ok-bytes.ensures.items
-  | else-has_dollar+in_ok-extend_from_slice w ↦
+  | else-contains+in_ok-extend_from_slice w ↦
       ap (λ v. v.items) w.bytes-is ∙ w.in_ok-extend_from_slice.ensures.items
       ∙ ap (λ front. front ++ c.raw-raw.result.now) c.in_ok-bytes.ensures.items
       ∙ c.raw-raw.ensures
-      ∙ sym (plain_value c.args.token.raw.now (ap (list_any (λ b. b == dollar)) (sym c.raw-raw.ensures) ∙ sym c.has_dollar.ensures ∙ w.if-has_dollar.false))
+      ∙ sym (plain_value c.args.token.raw.now (ap (list_any (λ b. b == dollar)) (sym c.raw-raw.ensures) ∙ sym c.contains.ensures.value ∙ w.if-contains.false))
 ]

@@ -1,5 +1,4 @@
-use Rattle.std.proofs.Common.{◌≡◌, ◌+◌, ◌-◌, ◌≤◌, false, ◌++◌, length, sym, ap, ◌∙◌, arith, length-append}
-use Rattle.std.specs.Prelude.{nat_lt}
+use Rattle.std.proofs.Common.{◌≡◌, ◌+◌, ◌≤◌, ◌++◌, length, sym, ap, ◌∙◌, arith, length-append}
 use Rattle.ninja_text.specs.Lines.{line_limit}
 use Rattle.dyndep_file.specs.StatementValue.{StatementValue}
 use Rattle.dyndep_file.specs.Writing.{build_line, binding_line}
@@ -17,8 +16,7 @@ returns-clause-added c = λ statements is.
     let v = c.self.view_is in
     let line : c.push_build_line.new.text.items ≡ c.self.inside.text.items ++ build_line s = c.in_ok-push_build_line.ensures in
     let both : length c.push_build_line.new.text.items ≡ length c.self.inside.text.items + length (build_line s) = ap length line ∙ length-append c.self.inside.text.items (build_line s) in
-    let over : nat_lt line_limit (c.len.result - c.len-start.result) ≡ false = sym c.is_over.ensures ∙ c.if-is_over.false in
-    let short : length (build_line s) ≤ line_limit = grind (arith, both, c.len.ensures, c.len-start.ensures, over) in
+    let short : length (build_line s) ≤ line_limit = omega (arith, both, c.len.ensures, c.len-start.ensures, c.if-len-start-gt-LINE_LIMIT.false) in
     let bytes : c.push_binding.new.text.items ≡ (c.args.self.now.bytes ++ build_line s) ++ binding_line s =
     c.in_ok-push_binding.ensures ∙ ap (λ t. t ++ binding_line s) (line ∙ ap (λ t. t.bytes ++ build_line s) v) in
     let within : length statements + 2 ≤ length c.args.self.now.bytes = counted statements c.args.self.now.bytes is.bytes in
