@@ -36,7 +36,7 @@ inputs_are (SignSymbol BarAt ∷ more) h = faulty h
 inputs_are (SignSymbol other ∷ more) h = faulty h
 
 -- what comes after the rule without fault is a part of implicit inputs
-inputs_part : (symbols : List Symbol) → after_rule_fault symbols ≡ None → IsPart symbols (words_before_colon symbols)
+inputs_part : (symbols : List Symbol) → after_rule_fault symbols ≡ None → IsPart Bar symbols (words_before_colon symbols)
 inputs_part [] h = inl (refl, refl)
 inputs_part (WordSymbol word ∷ more) h = faulty h
 inputs_part (SignSymbol Bar ∷ more) h = inr (ap (λ s. SignSymbol Bar ∷ s) (inputs_are more h))
@@ -48,7 +48,7 @@ inputs_part (SignSymbol other ∷ more) h = faulty h
 record Ruled (symbols : List Symbol) : Type 0 where
   pub after : List Symbol
   pub are : symbols ≡ WordSymbol (codes "dyndep") ∷ after
-  pub is_after : IsPart after (words_before_colon after)
+  pub is_after : IsPart Bar after (words_before_colon after)
 
 -- what comes after `:` without fault is the rule and a part of implicit inputs
 ruled : (symbols : List Symbol) → rule_fault symbols ≡ None → Ruled symbols
@@ -63,7 +63,7 @@ ruled (SignSymbol other ∷ more) h = faulty h
 record Divided (symbols : List Symbol) : Type 0 where
   pub before : List Symbol
   pub are : symbols ≡ before ++ SignSymbol Colon ∷ after_colon symbols
-  pub is_before : IsPart before (words_before_colon symbols)
+  pub is_before : IsPart Bar before (words_before_colon symbols)
   pub rule : rule_fault (after_colon symbols) ≡ None
 
 -- implicit outputs without fault are words, and behind them `:` and the rest

@@ -17,7 +17,7 @@ use Rattle.dyndep_file.specs.Steps.{ProgressValue, step}
 use Rattle.dyndep_file.specs.declared.fault.LineFault.{LineFault}
 use Rattle.dyndep_file.specs.declared.progress.Stage.{Stage}
 use Rattle.dyndep_file.specs.declared.progress.Stage.TheVariants.{BeforeVersion, NoneOpen, Open}
-use Rattle.ninja_text.specs.declared.token.TokenKind.TheVariants.{Colon}
+use Rattle.ninja_text.specs.declared.token.TokenKind.TheVariants.{Bar, Colon}
 use Rattle.dyndep_file.proofs.TableLemmas.{same_bytes-true, symbol_is_word, no_indent_at_token, no_indent_at_name, names_apart}
 use Rattle.dyndep_file.proofs.BuildLemmas.{words_before_colon, after_colon, parts}
 
@@ -117,17 +117,17 @@ words_in_all [] = refl
 words_in_all (w ∷ words) = ap (λ l. w ∷ l) (words_in_all words)
 
 -- the words of a part before a `:`
-part_before : (part : List Symbol) (words : List (List ℕ)) (more : List Symbol) → IsPart part words → words_before_colon (part ++ SignSymbol Colon ∷ more) ≡ words
+part_before : (part : List Symbol) (words : List (List ℕ)) (more : List Symbol) → IsPart Bar part words → words_before_colon (part ++ SignSymbol Colon ∷ more) ≡ words
 part_before part words more (inl h) = ap (λ p. words_before_colon (p ++ SignSymbol Colon ∷ more)) h.0 ∙ sym h.1
 part_before part words more (inr h) = ap (λ p. words_before_colon (p ++ SignSymbol Colon ∷ more)) h ∙ words_before words more
 
 -- what comes behind the `:` after a part
-part_after : (part : List Symbol) (words : List (List ℕ)) (more : List Symbol) → IsPart part words → after_colon (part ++ SignSymbol Colon ∷ more) ≡ more
+part_after : (part : List Symbol) (words : List (List ℕ)) (more : List Symbol) → IsPart Bar part words → after_colon (part ++ SignSymbol Colon ∷ more) ≡ more
 part_after part words more (inl h) = ap (λ p. after_colon (p ++ SignSymbol Colon ∷ more)) h.0
 part_after part words more (inr h) = ap (λ p. after_colon (p ++ SignSymbol Colon ∷ more)) h ∙ rest_after words more
 
 -- the words of a part at the end
-part_all : (part : List Symbol) (words : List (List ℕ)) → IsPart part words → words_before_colon part ≡ words
+part_all : (part : List Symbol) (words : List (List ℕ)) → IsPart Bar part words → words_before_colon part ≡ words
 part_all part words (inl h) = ap words_before_colon h.0 ∙ sym h.1
 part_all part words (inr h) = ap words_before_colon h ∙ words_in_all words
 

@@ -43,7 +43,7 @@ inputs_pass [] more = refl
 inputs_pass (w ∷ words) more = inputs_pass words more
 
 -- nor has what comes after the rule, where it is a part of implicit inputs
-after_rule_passes : (after : List Symbol) (words : List (List ℕ)) → IsPart after words → after_rule_fault after ≡ None
+after_rule_passes : (after : List Symbol) (words : List (List ℕ)) → IsPart Bar after words → after_rule_fault after ≡ None
 after_rule_passes after words (inl h) = ap after_rule_fault h.0
 after_rule_passes after words (inr h) = ap after_rule_fault (h ∙ ap (λ s. SignSymbol Bar ∷ s) (sym (append-nil (map WordSymbol words)))) ∙ inputs_pass words []
 
@@ -53,12 +53,12 @@ outputs_pass [] more = refl
 outputs_pass (w ∷ words) more = outputs_pass words more
 
 -- nor has what comes after the output, where it is a part of implicit outputs
-pub after_output_passes : (before : List Symbol) (words : List (List ℕ)) (more : List Symbol) → IsPart before words → after_output_fault (before ++ SignSymbol Colon ∷ more) ≡ rule_fault more
+pub after_output_passes : (before : List Symbol) (words : List (List ℕ)) (more : List Symbol) → IsPart Bar before words → after_output_fault (before ++ SignSymbol Colon ∷ more) ≡ rule_fault more
 after_output_passes before words more (inl h) = ap (λ b. after_output_fault (b ++ SignSymbol Colon ∷ more)) h.0
 after_output_passes before words more (inr h) = ap (λ b. after_output_fault (b ++ SignSymbol Colon ∷ more)) h ∙ outputs_pass words (SignSymbol Colon ∷ more)
 
 -- the tokens of a build line that keeps the grammar have no fault
-build_passes : (before after : List Symbol) (o : List ℕ) (os is : List (List ℕ)) → IsPart before os → IsPart after is
+build_passes : (before after : List Symbol) (o : List ℕ) (os is : List (List ℕ)) → IsPart Bar before os → IsPart Bar after is
     → output_fault (WordSymbol o ∷ before ++ SignSymbol Colon ∷ WordSymbol (codes "dyndep") ∷ after) ≡ None
 build_passes before after o os is b a = after_output_passes before os (WordSymbol (codes "dyndep") ∷ after) b ∙ after_rule_passes after is a
 

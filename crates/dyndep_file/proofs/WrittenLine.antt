@@ -25,7 +25,7 @@ abbrev part_symbols : List (List ℕ) → List Symbol
 part_symbols [] = []
 part_symbols (word ∷ words) = SignSymbol Bar ∷ map WordSymbol (word ∷ words)
 
-part_is : (words : List (List ℕ)) → IsPart (part_symbols words) words
+part_is : (words : List (List ℕ)) → IsPart Bar (part_symbols words) words
 part_is [] = inl (refl, refl)
 part_is (word ∷ words) = inr refl
 

@@ -42,17 +42,17 @@ abbrev pub begins_at_start : List TokenAt → Bool
 begins_at_start [] = false
 begins_at_start (t ∷ ts) = t.start == 0
 
--- Implicit outputs or implicit inputs: nothing at all, or `|` and these words, of which there may
--- be none.
-abbrev pub IsPart : List Symbol → List Text → Type 0
-IsPart part words =
-    ((part ≡ []) × (words ≡ [])) ⊎ (part ≡ SignSymbol Bar ∷ map WordSymbol words)
+-- A part of a build line: nothing at all, or this sign and these words, of which there may be none.
+-- Implicit outputs and implicit inputs have the sign `|`.
+abbrev pub IsPart : TokenKind → List Symbol → List Text → Type 0
+IsPart sign part words =
+    ((part ≡ []) × (words ≡ [])) ⊎ (part ≡ SignSymbol sign ∷ map WordSymbol words)
 
 -- The line is `build output | outputs : dyndep | inputs`, and begins at its first byte; the words
 -- are given as they are spelled.
 abbrev pub IsBuild : Text → PathText → List PathText → List PathText → Type 0
 IsBuild text output outputs inputs =
-    (before after : List Symbol) × IsPart before outputs × IsPart after inputs
+    (before after : List Symbol) × IsPart Bar before outputs × IsPart Bar after inputs
     × IsTrue (begins_at_start (tokens text))
     × (symbols text ≡ WordSymbol (codes "build") ∷ WordSymbol output ∷ before
     ++ SignSymbol Colon ∷ WordSymbol (codes "dyndep") ∷ after)

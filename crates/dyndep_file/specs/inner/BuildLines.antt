@@ -3,7 +3,7 @@ use Rattle.std.specs.Prelude.{◌≡◌, ℕ, false, List, ◌∷◌, ◌++◌, 
 use Rattle.ninja_text.specs.Tokens.{value_of}
 use Rattle.ninja_text.specs.declared.failure.Failure.{Failure}
 use Rattle.ninja_text.specs.declared.failure.Failure.TheVariants.{Memory, Fault}
-use Rattle.ninja_text.specs.declared.token.TokenKind.TheVariants.{Colon}
+use Rattle.ninja_text.specs.declared.token.TokenKind.TheVariants.{Bar, Colon}
 use Rattle.dyndep_file.specs.StatementValue.{StatementValue, statement_with}
 use Rattle.dyndep_file.specs.Classes.{Symbol, WordSymbol, SignSymbol, IsPart}
 use Rattle.dyndep_file.specs.declared.fault.LineFault.{LineFault}
@@ -14,8 +14,8 @@ pub record Names (symbols : List Symbol) (output : List ℕ) (outputs inputs : L
     : Type 0 where
   pub before : List Symbol
   pub after : List Symbol
-  pub is_before : IsPart before outputs
-  pub is_after : IsPart after inputs
+  pub is_before : IsPart Bar before outputs
+  pub is_after : IsPart Bar after inputs
   pub are : symbols ≡
       WordSymbol output ∷ before ++ SignSymbol Colon ∷ WordSymbol (codes "dyndep") ∷ after
 
@@ -54,12 +54,12 @@ pub record TakesOutputs (old : List Symbol) (values : List (List ℕ)) (new : Li
     : Type 0 where
   pub part : List Symbol
   pub words : List (List ℕ)
-  pub is_part : IsPart part words
+  pub is_part : IsPart Bar part words
   pub are : old ≡ part ++ SignSymbol Colon ∷ new
   pub is : values ≡ map value_of words
 
 -- The symbols are a part of implicit inputs with these values.
 pub record TakesInputs (symbols : List Symbol) (values : List (List ℕ)) : Type 0 where
   pub words : List (List ℕ)
-  pub is_part : IsPart symbols words
+  pub is_part : IsPart Bar symbols words
   pub is : values ≡ map value_of words
