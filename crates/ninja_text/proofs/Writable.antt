@@ -1,7 +1,8 @@
 -- The test of what can be spelled means what the record says.
-use Rattle.std.proofs.Common.{◌≡◌, ℕ, Bool, true, false, not, ◌||◌, ◌==◌, IsTrue, ◌↔◌, List, [], ◌∷◌, length, refl, ap}
-use Rattle.std.specs.Prelude.{All}
-use Rattle.std.specs.List.{list_any}
+use Rattle.std.proofs.Common.{◌≡◌, ℕ, Bool, true, false, not, ◌||◌, ◌==◌, ◌+◌, cond, Some, IsTrue, ◌↔◌, List, [], ◌∷◌, length, refl, sym, ap, ◌∙◌}
+use Rattle.std.specs.Prelude.{All, position, is_some}
+use Rattle.std.specs.List.{list_any, position_from}
+use Rattle.std.proofs.lemmas.Iterator.Adapters.{position_from-zero}
 use Rattle.std.proofs.lemmas.List.Elements.{All-nil, All-cons}
 use Rattle.std.proofs.lemmas.List.Folds.{list_any_none}
 use Rattle.ninja_text.specs.Escapes.{is_unwritable, is_writable, IsWritable}
@@ -38,6 +39,25 @@ pub writable : (path : List ℕ) → IsTrue (is_writable path) ↔ IsWritable pa
 writable path = (writable_record path, writable_test path)
 
 -- the answer of the test at a path that has a byte
-pub some_byte : (path : List ℕ) (found : Bool) → (length path == 0) ≡ false → found ≡ list_any is_unwritable path → not found ≡ is_writable path
+some_byte : (path : List ℕ) (found : Bool) → (length path == 0) ≡ false → found ≡ list_any is_unwritable path → not found ≡ is_writable path
 some_byte [] found h e = cc
 some_byte (b ∷ bs) found h e = ap not e
+
+-- a first element that passes is found where one passes
+found_from : (p : ℕ → Bool) (i : ℕ) (bs : List ℕ) → is_some (position_from p i bs) ≡ list_any p bs
+found_from p i [] = refl
+found_from p i (b ∷ bs) =
+    elim (p b) as (λ t. is_some (cond t (Some i) (position_from p (i + 1) bs)) ≡ (t || list_any p bs)) [
+      | true ↦ refl
+      | false ↦ found_from p (i + 1) bs
+    ]
+
+other_way : (a b : Bool) → a ≡ not b → b ≡ not a
+other_way a true h = rw h refl
+other_way a false h = rw h refl
+
+-- the answer at such a path, by its first byte without a spelling
+pub none_found : (path : List ℕ) (none : Bool) → (length path == 0) ≡ false → is_some (position is_unwritable path) ≡ not none → none ≡ is_writable path
+none_found path none some h =
+    other_way (list_any is_unwritable path) none (sym (ap is_some (position_from-zero is_unwritable path) ∙ found_from is_unwritable 0 path) ∙ h)
+    ∙ some_byte path (list_any is_unwritable path) some refl

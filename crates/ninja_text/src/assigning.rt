@@ -1,14 +1,14 @@
 //! The assignment that a line is: a name, `=` and a value.
-ghost use Rattle.std.specs.Prelude.{◌≡◌, ◌<◌, ◌≤◌, length, drop, false, IfOk, IfSome};
+ghost use Rattle.std.specs.Prelude.{◌≡◌, ◌<◌, ◌≤◌, length, false, IfOk, IfSome};
 ghost use Rattle.ninja_text.specs.LineViews.{seen_line};
 ghost use Rattle.ninja_text.specs.AssignmentViews.{IsAssignment, seen_assignment};
-ghost use Rattle.ninja_text.specs.Tokens.{is_blank};
 ghost use Rattle.ninja_text.specs.Assignments.{LiesIn, assignment_indexes, is_name_unit};
 ghost use Rattle.ninja_text.specs.inner.Runs.{Run};
 
 use crate::assignments::Assignment;
 use crate::checking::fault_in;
 use crate::fault::LexFault;
+use crate::lexing::blank_end;
 use crate::line::Line;
 use crate::unit::unit_at;
 
@@ -70,23 +70,6 @@ fn indexes_in(text: &[u8]) -> Option<AssignmentIndexes>
         name_end,
         value_start,
     })
-}
-
-/// Where the blank run ends that begins at an index.
-fn blank_end(text: &[u8], from: usize) -> usize
-    requires { from ≤ length text.now }
-    ensures within { (from ≤ result) × (result ≤ length text.now) }
-    ensures run { Run is_blank text.now from result }
-{
-    let mut index = from;
-    while index < text.len() {
-        let unit = unit_at(text, index);
-        if !unit.is_blank() {
-            return index;
-        }
-        index += unit.len();
-    }
-    index
 }
 
 /// Where the name ends that begins at an index.

@@ -1,8 +1,6 @@
 //! The lexical faults of a line's text.
 ghost use Rattle.std.specs.Prelude.{◌≡◌};
-ghost use Rattle.std.specs.List.{list_any};
 ghost use Rattle.ninja_text.specs.Lexical.{unit_fault, lexical_fault};
-ghost use Rattle.ninja_text.specs.inner.PlainTexts.{is_suspect};
 
 use crate::fault::LexFault;
 use crate::unit::{LineUnit, unit_at};
@@ -11,7 +9,8 @@ use crate::unit::{LineUnit, unit_at};
 pub(crate) fn fault_in(text: &[u8]) -> Option<LexFault>
     ensures { result ≡ lexical_fault text.now }
 {
-    if !has_suspect(text) {
+    // Nearly no text has a byte that a fault begins with, or the `$` of a unit of several bytes.
+    if !text.iter().any(|b| matches!(*b, b'$' | 0 | b'\r')) {
         return None;
     }
     let mut index = 0;
@@ -24,14 +23,6 @@ pub(crate) fn fault_in(text: &[u8]) -> Option<LexFault>
         index += unit.len();
     }
     None
-}
-
-/// Whether a text has a byte that a fault begins with, or the `$` of a unit of several bytes.
-/// Nearly no text has.
-fn has_suspect(text: &[u8]) -> bool
-    ensures { result ≡ list_any is_suspect text.now }
-{
-    text.iter().any(|b| matches!(*b, b'$' | 0 | b'\r'))
 }
 
 /// The fault of a unit at an index.

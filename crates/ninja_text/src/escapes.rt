@@ -1,10 +1,9 @@
 //! Spellings of paths in Ninja files.
-ghost use Rattle.std.specs.Prelude.{◌≡◌, ◌↔◌, ◌++◌, ℕ, List, IsTrue, OnOk, OnErr};
-ghost use Rattle.std.specs.List.{list_any};
-ghost use Rattle.ninja_text.specs.Bytes.{Text, PathText};
-ghost use Rattle.ninja_text.specs.Escapes.{is_unwritable, is_writable, IsWritable, is_escaped, escaped, escaped_byte, Spells};
+ghost use Rattle.std.specs.Prelude.{◌≡◌, ◌↔◌, ◌++◌, IsTrue, OnOk, OnErr};
+ghost use Rattle.ninja_text.specs.Bytes.{PathText};
+ghost use Rattle.ninja_text.specs.Escapes.{is_writable, IsWritable, escaped, escaped_byte, Spells};
 
-use crate::reduction::is_unwritable;
+use crate::reduction::first_unwritable;
 use std::alloc::AllocError;
 
 /// Appends a byte with a `$` before it where it needs one.
@@ -23,21 +22,7 @@ pub fn is_writable(path: &[u8]) -> bool
     ensures value { result ≡ is_writable path.now }
     ensures meaning { IsTrue result ↔ IsWritable path.now }
 {
-    !path.is_empty() && !has_unwritable(path)
-}
-
-/// Whether a byte of a path has no spelling.
-fn has_unwritable(path: &[u8]) -> bool
-    ensures { result ≡ list_any is_unwritable path.now }
-{
-    path.iter().any(|b| is_unwritable(*b))
-}
-
-/// Whether a byte of a path needs a `$` before it.
-fn has_escaped(path: &[u8]) -> bool
-    ensures { result ≡ list_any is_escaped path.now }
-{
-    path.iter().any(|b| matches!(*b, b'$' | b' ' | b':'))
+    !path.is_empty() && first_unwritable(path).is_none()
 }
 
 /// Appends a path as it is spelled in a Ninja file. An `Err` leaves the vector as it was.
@@ -48,7 +33,8 @@ pub fn escape_into(path: &[u8], out: &mut Vec<u8>) -> Result<(), AllocError>
     // The spelling stands for the path, and for nothing else.
     ensures meaning { (value : PathText) → Spells (escaped path.now) value ↔ (value ≡ path.now) }
 {
-    if !has_escaped(path) {
+    // Nearly no path has such a byte.
+    if !path.iter().any(|b| matches!(*b, b'$' | b' ' | b':')) {
         return out.extend_from_slice(path);
     }
     let start = out.len();

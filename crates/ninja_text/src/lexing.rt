@@ -1,10 +1,11 @@
 //! The tokens of a line: where each begins, what it is, and where it ends.
-ghost use Rattle.std.specs.Prelude.{◌≡◌, ◌≢◌, ℕ, ◌+◌, ◌<◌, ◌≤◌, length, false, IfOk};
+ghost use Rattle.std.specs.Prelude.{◌≡◌, ◌+◌, ◌<◌, ◌≤◌, length, false, IfOk};
 ghost use Rattle.ninja_text.specs.LineViews.{seen_line};
 ghost use Rattle.ninja_text.specs.TokenViews.{IsWords, tokens_left};
 ghost use Rattle.std.specs.List.{AllByRecursion};
-ghost use Rattle.ninja_text.specs.Tokens.{IsSlice, RiseFrom, tokens_at};
-ghost use Rattle.ninja_text.specs.inner.TokenStarts.{BeginsToken, BeginsPiece, BeginsBar, IsFirstToken};
+ghost use Rattle.ninja_text.specs.inner.Runs.{Run};
+ghost use Rattle.ninja_text.specs.Tokens.{is_blank, IsSlice, RiseFrom, tokens_at};
+ghost use Rattle.ninja_text.specs.inner.TokenStarts.{BeginsToken, BeginsPiece, IsFirstToken};
 ghost use Rattle.ninja_text.specs.inner.PlainTexts.{is_plain_piece};
 
 use crate::checking::fault_in;
@@ -32,10 +33,11 @@ pub fn words(line: Line<'_>) -> Result<Words<'_>, LexFault>
     }
 }
 
-/// Where the next token begins, or the end.
-pub(crate) fn token_start(text: &[u8], from: usize) -> usize
+/// Where the blank run ends that begins at an index: where the next token begins, or the end.
+pub(crate) fn blank_end(text: &[u8], from: usize) -> usize
     requires { from ≤ length text.now }
-    ensures within { result ≤ length text.now }
+    ensures within { (from ≤ result) × (result ≤ length text.now) }
+    ensures run { Run is_blank text.now from result }
     ensures same { tokens_at text.now result ≡ tokens_at text.now from }
     ensures begins { BeginsToken text.now result }
 {
@@ -61,19 +63,10 @@ pub(crate) fn token_at(text: &[u8], start: usize) -> (TokenKind, usize)
     if unit.is_byte(b':') {
         return (TokenKind::Colon, start + 1);
     }
-    if unit.is_byte(b'|') {
-        return bar_at(text, start);
+    if !unit.is_byte(b'|') {
+        return (TokenKind::Word, word_end(text, start));
     }
-    (TokenKind::Word, word_end(text, start))
-}
-
-/// The token that a `|` begins: the longest of `||`, `|@` and `|`.
-fn bar_at(text: &[u8], start: usize) -> (TokenKind, usize)
-    requires in_text { start < length text.now }
-    requires is_bar { BeginsBar text.now start }
-    ensures within { (start < result.1) × (result.1 ≤ length text.now) }
-    ensures first { IsFirstToken text.now start result.0 result.1 }
-{
+    // The longest of `||`, `|@` and `|`.
     if start + 1 == text.len() {
         return (TokenKind::Bar, start + 1);
     }

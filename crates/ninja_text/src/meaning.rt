@@ -2,7 +2,7 @@
 ghost use Rattle.std.specs.Prelude.{◌≡◌, ◌++◌, OnOk, OnErr};
 ghost use Rattle.ninja_text.specs.Tokens.{unit_value, value_of};
 
-use crate::unit::{LineUnit, has_dollar, unit_at};
+use crate::unit::{LineUnit, unit_at};
 use std::alloc::AllocError;
 
 /// Appends what the bytes of a word or a value stand for. Where the vector cannot grow, it is left
@@ -11,7 +11,8 @@ pub(crate) fn append_meaning(raw: &[u8], out: &mut Vec<u8>) -> Result<(), AllocE
     ensures ok { OnOk result (out.new.items ≡ out.old.items ++ value_of raw.now) }
     ensures err { OnErr result (out.new.items ≡ out.old.items) }
 {
-    if !has_dollar(raw) {
+    // Where it has no `$`, each byte stands for itself.
+    if !raw.contains(&b'$') {
         return out.extend_from_slice(raw);
     }
     let before = out.len();

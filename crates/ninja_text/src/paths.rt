@@ -1,5 +1,5 @@
 //! Canonical paths.
-ghost use Rattle.std.specs.Prelude.{◌≡◌, ◌∷◌, ◌++◌, ℕ, List, [], Ok, IfOk, IsUtf8, true, option_map, option_copied};
+ghost use Rattle.std.specs.Prelude.{◌≡◌, ◌∷◌, ◌++◌, [], Ok, IfOk, IsUtf8, true, option_map, option_copied};
 ghost use Rattle.std.specs.Option.{ForSome};
 ghost use Rattle.ninja_text.specs.Bytes.{Text};
 ghost use Rattle.ninja_text.specs.Failure.{Gives};
@@ -32,7 +32,6 @@ pub struct Path {
 
 impl Model for Path {
     ghost use Rattle.ninja_text.specs.Bytes.{PathText};
-    ghost use Rattle.std.specs.Prelude.{ℕ, List};
     ghost use Rattle.ninja_text.specs.Paths.{IsPath};
 
     ghost Value = { PathText };
@@ -105,21 +104,13 @@ pub fn place(
     }
     match work {
         Some(work) if !work.is_empty() && !reduction::is_rooted(path) => {
-            let text = joined(alloc, work, path)?;
+            let mut text = Vec::from_slice(alloc, work)?;
+            text.push(b'/')?;
+            text.extend_from_slice(path)?;
             canonical(alloc, build, &text)
         }
         _ => canonical(alloc, build, path),
     }
-}
-
-/// A relative text after its work directory.
-fn joined(alloc: Global, work: &[u8], path: &[u8]) -> Result<Vec<u8>, AllocError>
-    ensures { IfOk result (λ text. text.items ≡ work.now ++ 47 ∷ path.now) }
-{
-    let mut text = Vec::from_slice(alloc, work)?;
-    text.push(b'/')?;
-    text.extend_from_slice(path)?;
-    Ok(text)
 }
 
 /// The canonical path of a text, as seen from a build directory.
@@ -130,7 +121,7 @@ fn canonical(alloc: Global, build: Option<&Path>, text: &[u8]) -> Result<Path, F
     ensures text { IsUtf8 text.now → IfOk result IsUtf8 }
 {
     let list = reduction::reduce(alloc, text)?;
-    if reduction::is_nothing(&list) {
+    if list.is_empty() {
         return Err(Failure::Fault(PathFault::Empty));
     }
     if reduction::is_above_root(text, &list) {

@@ -6,7 +6,7 @@
 //! one pass.
 ghost use Rattle.std.specs.Prelude.{◌≡◌, ◌≢◌, ℕ, ◌+◌, ◌-◌, ◌<◌, ◌≤◌, ◌&&◌, ◌||◌, List, [], ◌∷◌, ◌++◌, length, slice_index, take, MatchOption, IfOk, OnOk, true, false, position};
 ghost use Rattle.std.specs.List.{list_any};
-ghost use Rattle.ninja_text.specs.Bytes.{Bytes, Text, PathText, Component};
+ghost use Rattle.ninja_text.specs.Bytes.{Component};
 ghost use Rattle.ninja_text.specs.Escapes.{is_unwritable};
 ghost use Rattle.ninja_text.specs.Reduction.{components, is_current, is_parent, reduced};
 ghost use Rattle.ninja_text.specs.PathShape.{parts};
@@ -44,19 +44,12 @@ fn is_no_name(component: &[u8]) -> bool
     is_current(component) || is_parent(component)
 }
 
-/// Whether a text's canonical list is empty.
-pub(crate) fn is_nothing(list: &[u8]) -> bool
-    ensures { (text : PathText) → list.now ≡ reduced_text text → result ≡ is_empty (parts text) }
-{
-    list.is_empty()
-}
-
 /// Whether a text is absolute and its canonical list leads above the root.
 pub(crate) fn is_above_root(text: &[u8], list: &[u8]) -> bool
     requires { list.now ≡ reduced_text text.now }
     ensures { result ≡ (is_rooted text.now && list_any is_parent (parts text.now)) }
 {
-    is_rooted(text) && has_parent(list)
+    is_rooted(text) && list.split(|b| *b == b'/').any(is_parent)
 }
 
 /// The index of the first byte of a text that has no spelling in a Ninja file.
@@ -137,14 +130,6 @@ fn last_start(list: &[u8]) -> usize
     ensures rest { (k : ℕ) → result ≤ k → k < length list.now → slice_index list.now k ≢ 47 }
 {
     list.iter().rposition(|b| *b == b'/').map_or(0, |i| i + 1)
-}
-
-/// Whether a component of a canonical list is `..`.
-fn has_parent(list: &[u8]) -> bool
-    ensures { (text : PathText) → list.now ≡ reduced_text text
-        → result ≡ list_any is_parent (parts text) }
-{
-    list.split(|b| *b == b'/').any(is_parent)
 }
 
 /// Whether a component is empty or `.`.

@@ -1,7 +1,7 @@
 //! Tokens, and the iterator that finds them one by one.
 ghost use Rattle.std.specs.Prelude.{◌≡◌, ◌≤◌, length};
 
-use crate::lexing::{token_at, token_start};
+use crate::lexing::{blank_end, token_at};
 use crate::meaning::append_meaning;
 use std::alloc::AllocError;
 
@@ -91,7 +91,7 @@ impl<'a> Iterator for Words<'a> {
 
     fn next(&mut self) -> Option<Token<'a>> {
         let text = self.text;
-        let start = token_start(text, self.index);
+        let start = blank_end(text, self.index);
         self.index = start;
         if start == text.len() {
             return None;

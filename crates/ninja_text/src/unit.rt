@@ -1,9 +1,7 @@
 //! The units that a line is made of, and what each may be.
 ghost use Rattle.std.specs.Prelude.{◌≡◌, ◌∷◌, ◌+◌, ◌<◌, ◌≤◌, length, drop};
-ghost use Rattle.std.specs.List.{list_any};
 ghost use Rattle.ninja_text.specs.Units.{units, unit_len};
 ghost use Rattle.ninja_text.specs.inner.Runs.{spaces_at};
-ghost use Rattle.ninja_text.specs.inner.PlainTexts.{is_dollar};
 
 /// A unit of a line that is no comment.
 #[derive(Clone, Copy)]
@@ -73,13 +71,6 @@ impl LineUnit {
     }
 }
 
-/// Whether a text has a `$`. Where it has none, each byte is a unit by itself.
-pub(crate) fn has_dollar(text: &[u8]) -> bool
-    ensures { result ≡ list_any is_dollar text.now }
-{
-    text.iter().any(|b| *b == b'$')
-}
-
 /// The unit that begins at an index.
 pub(crate) fn unit_at(text: &[u8], index: usize) -> LineUnit
     requires { index < length text.now }
@@ -88,16 +79,7 @@ pub(crate) fn unit_at(text: &[u8], index: usize) -> LineUnit
     ensures first { units (drop index text.now)
         ≡ result ∷ units (drop (index + unit_len result) text.now) }
 {
-    first_unit(&text[index..])
-}
-
-/// The unit at the front.
-fn first_unit(bytes: &[u8]) -> LineUnit
-    requires { 0 < length bytes.now }
-    ensures within { unit_len result ≤ length bytes.now }
-    ensures some { 0 < unit_len result }
-    ensures first { units bytes.now ≡ result ∷ units (drop (unit_len result) bytes.now) }
-{
+    let bytes = &text[index..];
     let first = bytes[0];
     // Two tests, since nearly every byte ends at the first one.
     if first != b'$' {

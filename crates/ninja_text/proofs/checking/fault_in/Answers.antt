@@ -1,12 +1,18 @@
-use Rattle.std.proofs.Common.{arith, ◌≡◌, true, false, Some, None, refl, sym, ap, ◌∙◌}
+use Rattle.std.proofs.Common.{arith, rules, tests, ◌≡◌, true, false, Some, None, refl, sym, ap, ◌∙◌}
 use Rattle.std.specs.Prelude.{Option, is_some}
+use Rattle.std.specs.List.{list_any}
+use Rattle.std.proofs.lemmas.Iterator.{YieldsList-from_slice}
+use Rattle.std.proofs.lemmas.Iterator.Search.{any_from_yields_List}
+use Rattle.ninja_text.specs.inner.PlainTexts.{is_suspect}
 use Rattle.ninja_text.specs.declared.fault.LexFault.{LexFault}
 use Rattle.ninja_text.specs.Lexical.{unit_fault, earlier, first_fault}
 use Rattle.ninja_text.proofs.UnitLemmas.{no_suspect}
 use Rattle.ninja_text.proofs.checking.fault_in.Goals as goal
 
-pub returns-then-not-has_suspect : goal.returns-then-not-has_suspect
-returns-then-not-has_suspect c = sym (no_suspect c.args.text.now (sym c.has_suspect.ensures ∙ c.if-not-has_suspect.true))
+pub returns-then-not-any : goal.returns-then-not-any
+returns-then-not-any c =
+    let found : c.any.result ≡ list_any is_suspect c.args.text.now = any_from_yields_List is_suspect _ _ c.any.result c.any.ensures.ran (YieldsList-from_slice c.args.text.now cc) (λ x b q k. search (rules, tests)) in
+    sym (no_suspect c.args.text.now (sym found ∙ c.if-not-any.true))
 
 none_earlier : (r later : Option LexFault) → is_some r ≡ false → earlier r later ≡ later
 none_earlier None later h = refl

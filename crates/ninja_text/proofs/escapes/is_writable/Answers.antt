@@ -1,13 +1,11 @@
-use Rattle.std.proofs.Common.{IsTrue, ◌↔◌, subst, sym, ◌∙◌}
-use Rattle.ninja_text.specs.Escapes.{IsWritable}
-use Rattle.ninja_text.proofs.Writable.{writable, some_byte}
+use Rattle.std.proofs.Common.{◌≡◌, IsTrue, ◌↔◌, ap, subst, sym, ◌∙◌}
+use Rattle.std.specs.Prelude.{is_some}
+use Rattle.ninja_text.specs.Escapes.{is_writable, IsWritable}
+use Rattle.ninja_text.proofs.Writable.{writable, none_found}
 use Rattle.ninja_text.proofs.escapes.is_writable.Goals as goal
 
-pub returns-then-not-is_empty-clause-value : goal.returns-then-not-is_empty-clause-value
-returns-then-not-is_empty-clause-value c = some_byte c.args.path.now c.has_unwritable.result (sym c.is_empty.ensures ∙ c.if-not-is_empty.true) c.has_unwritable.ensures
-
-pub returns-then-not-is_empty-clause-meaning : goal.returns-then-not-is_empty-clause-meaning
-returns-then-not-is_empty-clause-meaning c =
-    subst (λ b. IsTrue b ↔ IsWritable c.args.path.now)
-    (sym (some_byte c.args.path.now c.has_unwritable.result (sym c.is_empty.ensures ∙ c.if-not-is_empty.true) c.has_unwritable.ensures))
-    (writable c.args.path.now)
+pub returns-then-not-is_empty : goal.returns-then-not-is_empty
+returns-then-not-is_empty c =
+    let path = c.args.path.now in
+    let value : c.is_none.result ≡ is_writable path = none_found path c.is_none.result (sym c.is_empty.ensures ∙ c.if-not-is_empty.true) (ap is_some (sym c.first_unwritable.ensures) ∙ c.is_none.ensures) in
+    record { value = value; meaning = subst (λ b. IsTrue b ↔ IsWritable path) (sym value) (writable path) }

@@ -8,10 +8,10 @@ use Rattle.ninja_text.specs.declared.unit.LineUnit.{LineUnit}
 use Rattle.ninja_text.proofs.UnitLemmas.{plain_value}
 use Rattle.ninja_text.proofs.meaning.append_meaning.Goals as goal
 
-pub returns-then-not-has_dollar-clause-ok : goal.returns-then-not-has_dollar-clause-ok
-returns-then-not-has_dollar-clause-ok c =
+pub returns-then-not-contains-clause-ok : goal.returns-then-not-contains-clause-ok
+returns-then-not-contains-clause-ok c =
     subst (λ value. OnOk c.extend_from_slice.result (c.extend_from_slice.new.self.items ≡ c.args.out.now.items ++ value))
-    (sym (plain_value c.args.raw.now (sym c.has_dollar.ensures ∙ c.if-not-has_dollar.true))) (search rules)
+    (sym (plain_value c.args.raw.now (sym c.contains.ensures.value ∙ c.if-not-contains.true))) (search rules)
 
 -- one more unit is appended
 module _ (raw first out new : List ℕ) (before index len : ℕ) (u : LineUnit) (is : new ≡ out ++ unit_value u) where

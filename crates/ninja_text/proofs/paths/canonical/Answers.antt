@@ -1,22 +1,30 @@
-use Rattle.std.proofs.Common.{rules, ap, sym, ◌∙◌, option_copied}
+use Rattle.std.proofs.Common.{rules, ◌≡◌, ℕ, ◌==◌, Bool, List, length, Vec, Global, ap, sym, ◌∙◌, option_copied}
+use Rattle.std.specs.Vec.{vec_len}
 use Rattle.ninja_text.specs.Reduction.{components, reduced}
-use Rattle.ninja_text.specs.Paths.{seen_from}
-use Rattle.ninja_text.proofs.Canonical.{is-empty, is-above, is-unwritable, is-long, is-path, canonical-path}
+use Rattle.ninja_text.specs.Paths.{is_empty, seen_from}
+use Rattle.ninja_text.specs.inner.ComponentLists.{reduced_text}
+use Rattle.ninja_text.proofs.ReducedList.{reduced-fixed}
+use Rattle.ninja_text.proofs.Canonical.{nothing-is, is-empty, is-above, is-unwritable, is-long, is-path, canonical-path}
 use Rattle.ninja_text.proofs.Shape.{canonical-text}
 use Rattle.ninja_text.proofs.paths.canonical.Goals as goal
 
-pub returns-then-is_nothing-clause-meaning : goal.returns-then-is_nothing-clause-meaning
-returns-then-is_nothing-clause-meaning c = is-empty _ c.args.text.now (sym (c.is_nothing.ensures c.args.text.now (c.deref.ensures.value ∙ c.in_ok-list.ensures)) ∙ c.if-is_nothing.true)
+-- the list is empty where its text is
+nothing : (text : List ℕ) (list : Vec ℕ Global) (empty : Bool) → list.items ≡ reduced_text text → empty ≡ (vec_len list == 0) → is_empty (reduced (components text)) ≡ empty
+nothing text list empty same e =
+    sym (e ∙ ap (λ n. n == 0) list.ok.0 ∙ ap (λ items. length items == 0) same ∙ nothing-is (reduced (components text)) (reduced-fixed (components text)))
+
+pub returns-then-is_empty-clause-meaning : goal.returns-then-is_empty-clause-meaning
+returns-then-is_empty-clause-meaning c = is-empty _ c.args.text.now (nothing c.args.text.now c.in_ok-list.list c.is_empty.result c.in_ok-list.ensures c.is_empty.ensures ∙ c.if-is_empty.true)
 
 pub returns-then-is_above_root-clause-meaning : goal.returns-then-is_above_root-clause-meaning
-returns-then-is_above_root-clause-meaning c = is-above _ c.args.text.now (sym (c.is_nothing.ensures c.args.text.now (c.deref.ensures.value ∙ c.in_ok-list.ensures)) ∙ c.if-is_nothing.false) (sym c.is_above_root.ensures ∙ c.if-is_above_root.true)
+returns-then-is_above_root-clause-meaning c = is-above _ c.args.text.now (nothing c.args.text.now c.in_ok-list.list c.is_empty.result c.in_ok-list.ensures c.is_empty.ensures ∙ c.if-is_empty.false) (sym c.is_above_root.ensures ∙ c.if-is_above_root.true)
 
 pub returns-in-Some-clause-meaning : goal.returns-in-Some-clause-meaning
-returns-in-Some-clause-meaning c = is-unwritable _ c.args.text.now c.in-Some.place (sym (c.is_nothing.ensures c.args.text.now (c.deref.ensures.value ∙ c.in_ok-list.ensures)) ∙ c.if-is_nothing.false) (sym c.is_above_root.ensures ∙ c.if-is_above_root.false) (sym c.first_unwritable.ensures ∙ c.in-Some.is)
+returns-in-Some-clause-meaning c = is-unwritable _ c.args.text.now c.in-Some.place (nothing c.args.text.now c.in_ok-list.list c.is_empty.result c.in_ok-list.ensures c.is_empty.ensures ∙ c.if-is_empty.false) (sym c.is_above_root.ensures ∙ c.if-is_above_root.false) (sym c.first_unwritable.ensures ∙ c.in-Some.is)
 
 pub returns-then-len-gt-PATH_LIMIT-clause-meaning : goal.returns-then-len-gt-PATH_LIMIT-clause-meaning
 returns-then-len-gt-PATH_LIMIT-clause-meaning c = is-long _ c.args.text.now c.in_ok-text.text.items
-    (sym (c.is_nothing.ensures c.args.text.now (c.deref.ensures.value ∙ c.in_ok-list.ensures)) ∙ c.if-is_nothing.false)
+    (nothing c.args.text.now c.in_ok-list.list c.is_empty.result c.in_ok-list.ensures c.is_empty.ensures ∙ c.if-is_empty.false)
     (sym c.is_above_root.ensures ∙ c.if-is_above_root.false)
     (sym c.first_unwritable.ensures ∙ c.in_default.is)
     (c.in_ok-text.ensures c.args.text.now c.in_ok-list.ensures ∙ ap (λ b. seen_from (option_copied c.args.build) b (reduced (components c.args.text.now))) c.is_rooted.ensures)
@@ -24,7 +32,7 @@ returns-then-len-gt-PATH_LIMIT-clause-meaning c = is-long _ c.args.text.now c.in
 
 pub returns-clause-meaning : goal.returns-clause-meaning
 returns-clause-meaning c = is-path _ c.args.text.now c.in_ok-text.text.items
-    (sym (c.is_nothing.ensures c.args.text.now (c.deref.ensures.value ∙ c.in_ok-list.ensures)) ∙ c.if-is_nothing.false)
+    (nothing c.args.text.now c.in_ok-list.list c.is_empty.result c.in_ok-list.ensures c.is_empty.ensures ∙ c.if-is_empty.false)
     (sym c.is_above_root.ensures ∙ c.if-is_above_root.false)
     (sym c.first_unwritable.ensures ∙ c.in_default.is)
     (c.in_ok-text.ensures c.args.text.now c.in_ok-list.ensures ∙ ap (λ b. seen_from (option_copied c.args.build) b (reduced (components c.args.text.now))) c.is_rooted.ensures)
@@ -32,7 +40,7 @@ returns-clause-meaning c = is-path _ c.args.text.now c.in_ok-text.text.items
 
 pub invariant_of-result : goal.invariant_of-result
 invariant_of-result c = canonical-path (option_copied c.args.build) c.args.text.now c.in_ok-text.text.items (is-path _ c.args.text.now c.in_ok-text.text.items
-    (sym (c.is_nothing.ensures c.args.text.now (c.deref.ensures.value ∙ c.in_ok-list.ensures)) ∙ c.if-is_nothing.false)
+    (nothing c.args.text.now c.in_ok-list.list c.is_empty.result c.in_ok-list.ensures c.is_empty.ensures ∙ c.if-is_empty.false)
     (sym c.is_above_root.ensures ∙ c.if-is_above_root.false)
     (sym c.first_unwritable.ensures ∙ c.in_default.is)
     (c.in_ok-text.ensures c.args.text.now c.in_ok-list.ensures ∙ ap (λ b. seen_from (option_copied c.args.build) b (reduced (components c.args.text.now))) c.is_rooted.ensures)
@@ -40,7 +48,7 @@ invariant_of-result c = canonical-path (option_copied c.args.build) c.args.text.
 
 pub returns-clause-text : goal.returns-clause-text
 returns-clause-text c u = canonical-text (option_copied c.args.build) c.args.text.now c.in_ok-text.text.items (is-path _ c.args.text.now c.in_ok-text.text.items
-    (sym (c.is_nothing.ensures c.args.text.now (c.deref.ensures.value ∙ c.in_ok-list.ensures)) ∙ c.if-is_nothing.false)
+    (nothing c.args.text.now c.in_ok-list.list c.is_empty.result c.in_ok-list.ensures c.is_empty.ensures ∙ c.if-is_empty.false)
     (sym c.is_above_root.ensures ∙ c.if-is_above_root.false)
     (sym c.first_unwritable.ensures ∙ c.in_default.is)
     (c.in_ok-text.ensures c.args.text.now c.in_ok-list.ensures ∙ ap (λ b. seen_from (option_copied c.args.build) b (reduced (components c.args.text.now))) c.is_rooted.ensures)
