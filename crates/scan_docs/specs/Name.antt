@@ -14,12 +14,12 @@ is_separator b = (b == dot) || (b == colon)
 
 -- `/`, `\`, `"`, `'`, `=`, `|` and `$`
 abbrev pub reserved_bytes : Bytes
-reserved_bytes = 
+reserved_bytes =
     slash ∷ backslash ∷ double_quote ∷ single_quote ∷ equals_sign ∷ vertical_bar ∷ dollar ∷ []
 
 -- no control byte, no space, no 127 and none that is reserved; bytes from 128 on are accepted
 abbrev pub is_name_byte : ℕ → Bool
-is_name_byte b = 
+is_name_byte b =
     nat_lt space b && not (b == delete) && not (list_any (λ r. b == r) reserved_bytes)
 
 -- a part has a byte

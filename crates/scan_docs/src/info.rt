@@ -5,12 +5,12 @@ ghost use Rattle.std.specs.List.{AllZip};
 ghost use Rattle.ninja_text.specs.Failure.{ForFault};
 ghost use Rattle.ninja_text.specs.Paths.{path_of};
 ghost use Rattle.serde_json.specs.View.{view};
-ghost use Rattle.scan_docs.specs.inner.Reading.{Answers, Tests, AnswersPath};
+ghost use Rattle.scan_docs.specs.inner.Reading.{Answers};
 ghost use Rattle.scan_docs.specs.Document.{IsAccepted, IsRefused, HasOneAnswer};
 ghost use Rattle.scan_docs.specs.Shape.{text};
 ghost use Rattle.scan_docs.specs.Scan.{IsText};
 ghost use Rattle.scan_docs.specs.Info.{has_visibility, privacy, IsRequirement, IsModule, IsInfo};
-ghost use Rattle.scan_docs.specs.InfoChecks.{head_checks, entry_shape_checks, visibility_check, named_file_checks, requirement_checks, all_requirement_checks, module_checks, all_module_checks, info_checks, version_check};
+ghost use Rattle.scan_docs.specs.InfoChecks.{head_checks, entry_shape_checks, visibility_check, named_file_checks, requirement_checks, all_requirement_checks, module_checks, all_module_checks, info_checks};
 ghost use Rattle.scan_docs.specs.InfoText.{IsInfoText};
 ghost use Rattle.scan_docs.specs.Values.{info_of};
 ghost use Rattle.scan_docs.specs.declared.member.Member.TheVariants as m;
@@ -98,13 +98,6 @@ fn read_head(tree: &Value) -> Result<bool, Failure<DocFault>>
         (λ with_visibility. with_visibility ≡ has_visibility (view tree.now)) result }
 {
     shape::check_object(tree, Member::Document, Place::Document)?;
-    read_version(tree)
-}
-
-fn read_version(tree: &Value) -> Result<bool, Failure<DocFault>>
-    ensures { Tests (version_check (view tree.now))
-        (λ with_visibility. with_visibility ≡ has_visibility (view tree.now)) result }
-{
     match tree.get(Member::Version.key()).and_then(Value::as_u64) {
         Some(1) => Ok(false),
         Some(2) => Ok(true),
@@ -199,14 +192,8 @@ fn read_named_file(
         (λ found. (found.0 ≡ name.now) × (path_of path.now ≡ Ok found.1) × IsText found.1) result }
 {
     let name = read_name(alloc, name, place)?;
-    let file = read_path(alloc, place, path)?;
+    let file = Path::of(alloc, path.as_bytes()).map_err(|failure| bad_path(place, failure))?;
     Ok((name, file))
-}
-
-fn read_path(alloc: Global, place: Place, path: &str) -> Result<Path, Failure<DocFault>>
-    ensures { AnswersPath place (path_of path.now) result }
-{
-    Path::of(alloc, path.as_bytes()).map_err(|failure| bad_path(place, failure))
 }
 
 #[tactic(auto, unfolding(crate::specs::InfoChecks::all_requirement_checks))]

@@ -2,12 +2,11 @@
 
 ghost use Rattle.std.specs.Prelude.{◌≡◌, map, IfOk, OnOk, Ok};
 ghost use Rattle.std.specs.List.{All};
-ghost use Rattle.ninja_text.specs.Paths.{path_of};
 ghost use Rattle.serde_json.specs.Data.{array};
 ghost use Rattle.serde_json.specs.Events.{SendsValue};
 ghost use Rattle.serde_json.specs.View.{items_of};
 ghost use Rattle.scan_docs.specs.Scan.{IsText};
-ghost use Rattle.scan_docs.specs.InfoText.{requirement_tree, requirements_tree, visibility_text, module_tree, info_tree, info_text, IsModuleText, IsInfoText, ReadsBack};
+ghost use Rattle.scan_docs.specs.InfoText.{requirement_tree, requirements_tree, module_tree, info_tree, info_text, IsModuleText, IsInfoText, ReadsBack};
 ghost use Rattle.scan_docs.specs.Sound.{IsSoundPair, IsSoundModule, IsSoundInfo};
 ghost use Rattle.scan_docs.specs.inner.Writing.{SendsText, SendsNamedFile};
 
@@ -156,14 +155,13 @@ fn send_module<S: Serializer>(out: &mut S, entry: &LentModule<'_>) -> Result<(),
     send_named_file(out, entry.name, entry.file)?;
     out.key("requires")?;
     send_requirements(out, entry.required)?;
-    send_text(out, "visibility", visibility_text(entry.is_private))?;
+    let visibility = if entry.is_private {
+        "private"
+    } else {
+        "public"
+    };
+    send_text(out, "visibility", visibility)?;
     out.end_map()
-}
-
-fn visibility_text(is_private: bool) -> &'static str
-    ensures { result.now ≡ visibility_text is_private }
-{
-    if is_private { "private" } else { "public" }
 }
 
 fn send_requirements<S: Serializer>(out: &mut S, pairs: &[(Name, Path)]) -> Result<(), S::Error>
@@ -197,7 +195,11 @@ fn send_named_file<S: Serializer>(out: &mut S, name: &Name, file: &Path) -> Resu
         (SendsNamedFile name.now file.now (S.written out.old) (S.written out.new)) }
     ensures sound { OnOk result (IsSoundPair name.now file.now) }
 {
-    send_text(out, "bmi", text_of(file))?;
+    let path = match str::from_utf8(file.bytes()) {
+        Ok(path) => path,
+        Err(_) => unreachable!(),
+    };
+    send_text(out, "bmi", path)?;
     send_text(out, "name", name.text())
 }
 
@@ -207,16 +209,4 @@ fn send_text<S: Serializer>(out: &mut S, key: &str, text: &str) -> Result<(), S:
 {
     out.key(key)?;
     out.str(text)
-}
-
-/// The text of a path.
-fn text_of(path: &Path) -> &str
-    requires { IsText path.now }
-    ensures text { result.now ≡ path.now }
-    ensures canonical { path_of path.now ≡ Ok path.now }
-{
-    match str::from_utf8(path.bytes()) {
-        Ok(text) => text,
-        Err(_) => unreachable!(),
-    }
 }

@@ -1,5 +1,5 @@
 //! Laws of documents, for callers' proofs: each is the contract of a call that does nothing.
-ghost use Rattle.std.specs.Prelude.{◌≡◌, ℕ, List};
+ghost use Rattle.std.specs.Prelude.{◌≡◌, List};
 ghost use Rattle.ninja_text.specs.Bytes.{Bytes};
 ghost use Rattle.scan_docs.specs.Document.{IsAccepted, HasOneAnswer};
 ghost use Rattle.scan_docs.specs.Scan.{SettingValue, RuleValue, AreRules};

@@ -103,7 +103,7 @@ fn has_full_parts(text: &[u8]) -> bool
 {
     let mut is_empty = true;
     for byte in text {
-        if !is_separator(*byte) {
+        if *byte != b'.' && *byte != b':' {
             is_empty = false;
         } else if is_empty {
             return false;
@@ -118,12 +118,6 @@ fn has_name_bytes(text: &[u8]) -> bool
     ensures { result ≡ list_all is_name_byte text.now }
 {
     text.iter().all(|b| is_name_byte(*b))
-}
-
-fn is_separator(byte: u8) -> bool
-    ensures { result ≡ is_separator byte }
-{
-    byte == b'.' || byte == b':'
 }
 
 fn is_name_byte(byte: u8) -> bool

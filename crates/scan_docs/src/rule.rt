@@ -9,7 +9,7 @@ ghost use Rattle.scan_docs.specs.Check.{◌otherwise◌};
 ghost use Rattle.scan_docs.specs.inner.Reading.{Answers, Tests, AnswersPath};
 ghost use Rattle.scan_docs.specs.Shape.{text, entries_of, given};
 ghost use Rattle.scan_docs.specs.Name.{is_name, IsName};
-ghost use Rattle.scan_docs.specs.Scan.{object_of, file_from, names_header, made_file, joined_file, dashed, IsText, IsProvidedModule, IsRequired, IsRule};
+ghost use Rattle.scan_docs.specs.Scan.{object_of, file_from, names_header, made_file, dashed, IsText, IsProvidedModule, IsRequired, IsRule};
 ghost use Rattle.scan_docs.specs.ScanChecks.{rule_shape_checks, provided_checks, all_provided_checks, required_checks, all_required_checks, object_checks, count_checks, rule_checks, lookup_check};
 ghost use Rattle.scan_docs.specs.declared.member.Member.TheVariants as m;
 
@@ -281,20 +281,7 @@ fn made_file(alloc: Global, setting: &Setting, name: &Name) -> Result<Vec<u8>, A
 {
     let module_dir = setting.module_dir.as_str();
     let module_ext = setting.module_ext.as_str();
-    let text = name.text();
-    let path = joined_file(alloc, module_dir, text, module_ext)?;
-    Ok(path)
-}
-
-fn joined_file(
-    alloc: Global,
-    module_dir: &str,
-    name: &str,
-    module_ext: &str,
-) -> Result<Vec<u8>, AllocError>
-    ensures { IfOk result
-        (λ path. path.items ≡ joined_file module_dir.now name.now module_ext.now) }
-{
+    let name = name.text();
     let room = module_dir
         .len()
         .saturating_add(name.len())

@@ -4,11 +4,11 @@ ghost use Rattle.std.specs.Prelude.{◌≡◌, map, IfOk, IfErr};
 ghost use Rattle.std.specs.List.{AllZip, All};
 ghost use Rattle.ninja_text.specs.Failure.{ForFault};
 ghost use Rattle.serde_json.specs.View.{view};
-ghost use Rattle.scan_docs.specs.inner.Reading.{Answers, Tests};
+ghost use Rattle.scan_docs.specs.inner.Reading.{Answers};
 ghost use Rattle.scan_docs.specs.Document.{IsAccepted, IsRefused, HasOneAnswer};
 ghost use Rattle.scan_docs.specs.Shape.{entries_of};
 ghost use Rattle.scan_docs.specs.Scan.{IsRule, AreRules, IsRuleText};
-ghost use Rattle.scan_docs.specs.ScanChecks.{head_checks, all_rule_checks, scan_checks, version_check};
+ghost use Rattle.scan_docs.specs.ScanChecks.{head_checks, all_rule_checks, scan_checks};
 ghost use Rattle.scan_docs.specs.Values.{rules_of};
 ghost use Rattle.scan_docs.specs.declared.member.Member.TheVariants as m;
 
@@ -65,21 +65,15 @@ fn read_head<'v>(tree: &'v Value) -> Result<&'v [Value], Failure<DocFault>>
 {
     let place = Place::Document;
     shape::check_object(tree, Member::Document, place)?;
-    check_version(tree)?;
+    match tree.get(Member::Version.key()).and_then(Value::as_u64) {
+        Some(0 | 1) => {}
+        _ => return Err(Failure::Fault(DocFault::BadVersion)),
+    }
     let rules = shape::required_entries(tree, Member::Rules, place)?;
     if rules.len() > COUNT_LIMIT {
         return Err(Failure::Fault(DocFault::TooLarge { place }));
     }
     Ok(rules)
-}
-
-fn check_version(tree: &Value) -> Result<(), Failure<DocFault>>
-    ensures { Tests (version_check (view tree.now)) (λ _. Unit {0}) result }
-{
-    match tree.get(Member::Version.key()).and_then(Value::as_u64) {
-        Some(0 | 1) => Ok(()),
-        _ => Err(Failure::Fault(DocFault::BadVersion)),
-    }
 }
 
 #[tactic(auto, unfolding(crate::specs::ScanChecks::all_rule_checks))]

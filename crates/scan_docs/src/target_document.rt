@@ -4,15 +4,15 @@ ghost use Rattle.std.specs.Prelude.{◌≡◌, ◌++◌, Some, Ok, true, IfOk, I
 ghost use Rattle.std.specs.List.{list_all};
 ghost use Rattle.std.specs.Option.{ForSome};
 ghost use Rattle.ninja_text.specs.Failure.{ForFault};
-ghost use Rattle.ninja_text.specs.Paths.{placed, is_rooted};
+ghost use Rattle.ninja_text.specs.Paths.{is_rooted};
 ghost use Rattle.serde_json.specs.View.{view};
-ghost use Rattle.scan_docs.specs.Check.{◌otherwise◌, shape_check, path_checks};
+ghost use Rattle.scan_docs.specs.Check.{◌otherwise◌, shape_check};
 ghost use Rattle.scan_docs.specs.inner.Reading.{Answers, Tests};
 ghost use Rattle.scan_docs.specs.Document.{IsAccepted, IsRefused, HasOneAnswer};
 ghost use Rattle.scan_docs.specs.Shape.{text, texts_of, given};
 ghost use Rattle.scan_docs.specs.Name.{is_name};
 ghost use Rattle.scan_docs.specs.Target.{IsTarget, build_dir, map_form};
-ghost use Rattle.scan_docs.specs.TargetChecks.{head_checks, name_checks, directory_checks, list_checks, kept_checks, dyndep_checks, file_checks, target_checks, version_check, info_check, map_check};
+ghost use Rattle.scan_docs.specs.TargetChecks.{head_checks, name_checks, directory_checks, list_checks, kept_checks, dyndep_checks, file_checks, target_checks, info_check, map_check};
 ghost use Rattle.scan_docs.specs.Values.{spec_of};
 ghost use Rattle.scan_docs.specs.declared.member.Member.TheVariants as m;
 
@@ -26,7 +26,7 @@ use crate::shape;
 use crate::target_name::TargetName;
 use ninja_text::{Failure, Path, place};
 use serde_json::Value;
-use std::alloc::{AllocError, Global};
+use std::alloc::Global;
 use std::marker::Model;
 
 /// The members of a target document. Texts are as in the document; only the build
@@ -122,12 +122,6 @@ pub(crate) fn read_head(tree: &Value) -> Result<(), Failure<DocFault>>
     ensures { Answers (head_checks (view tree.now)) (λ _. Unit {0}) result }
 {
     shape::check_object(tree, Member::Document, Place::Document)?;
-    check_version(tree)
-}
-
-fn check_version(tree: &Value) -> Result<(), Failure<DocFault>>
-    ensures { Tests (version_check (view tree.now)) (λ _. Unit {0}) result }
-{
     match tree.get(Member::Version.key()).and_then(Value::as_u64) {
         Some(1) => Ok(()),
         _ => Err(Failure::Fault(DocFault::BadVersion)),
@@ -277,21 +271,11 @@ fn read_dyndep(
         (λ t. text m.Dyndep (view tree.now) ≡ Some (string_bytes t)) result }
 {
     let text = shape::required_text(tree, Member::Dyndep, Place::Document)?;
-    check_placed(alloc, build, text)?;
+    place(alloc, None, build, text.as_bytes()).map_err(|failure| bad_path(
+        Place::Document,
+        failure,
+    ))?;
     Ok(String::from_str(alloc, text)?)
-}
-
-/// Whether a text is a path as Ninja sees it.
-fn check_placed(alloc: Global, build: Option<&Path>, text: &str) -> Result<(), Failure<DocFault>>
-    requires { ForSome (option_copied build) (λ path. is_rooted path ≡ true) }
-    ensures { Answers
-        (path_checks Place.Document (placed None (option_copied build.entry) text.now))
-        (λ _. Unit {0}) result }
-{
-    match place(alloc, None, build, text.as_bytes()) {
-        Ok(_) => Ok(()),
-        Err(failure) => Err(bad_path(Place::Document, failure)),
-    }
 }
 
 #[tactic(auto, unfolding(crate::specs::TargetChecks::file_checks))]
@@ -308,17 +292,11 @@ fn read_files(
     let map = read_map_form(tree)?;
     let edges = shape::text(tree, Member::Edges, Place::Document)?;
     let info = String::from_str(alloc, info)?;
-    let edges = copy_text(alloc, edges)?;
+    let edges = match edges {
+        Some(edges) => Some(String::from_str(alloc, edges)?),
+        None => None,
+    };
     Ok((info, map, edges))
-}
-
-fn copy_text(alloc: Global, text: Option<&str>) -> Result<Option<String>, AllocError>
-    ensures { IfOk result (λ copy. option_map string_bytes copy ≡ option_copied text.entry) }
-{
-    match text {
-        Some(text) => Ok(Some(String::from_str(alloc, text)?)),
-        None => Ok(None),
-    }
 }
 
 fn read_info_file(tree: &Value) -> Result<&str, Failure<DocFault>>
