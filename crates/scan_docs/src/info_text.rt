@@ -6,7 +6,7 @@ ghost use Rattle.serde_json.specs.Data.{array};
 ghost use Rattle.serde_json.specs.Events.{SendsValue};
 ghost use Rattle.serde_json.specs.View.{items_of};
 ghost use Rattle.scan_docs.specs.Scan.{IsText};
-ghost use Rattle.scan_docs.specs.InfoText.{requirement_tree, requirements_tree, module_tree, info_tree, info_text, IsModuleText, IsInfoText, ReadsBack};
+ghost use Rattle.scan_docs.specs.InfoText.{requirements_tree, module_tree, info_tree, info_text, IsModuleText, IsInfoText, ReadsBack};
 ghost use Rattle.scan_docs.specs.Sound.{IsSoundPair, IsSoundModule, IsSoundInfo};
 ghost use Rattle.scan_docs.specs.inner.Writing.{SendsText, SendsNamedFile};
 
@@ -172,20 +172,11 @@ fn send_requirements<S: Serializer>(out: &mut S, pairs: &[(Name, Path)]) -> Resu
 {
     out.begin_seq(Some(pairs.len()))?;
     for pair in pairs {
-        send_requirement(out, pair)?;
+        out.begin_map(Some(2))?;
+        send_named_file(out, &pair.0, &pair.1)?;
+        out.end_map()?;
     }
     out.end_seq()
-}
-
-fn send_requirement<S: Serializer>(out: &mut S, pair: &(Name, Path)) -> Result<(), S::Error>
-    requires { IsText pair.now.1 }
-    ensures sent { OnOk result
-        (SendsValue (requirement_tree pair.now) (S.written out.old) (S.written out.new)) }
-    ensures sound { OnOk result (IsSoundPair pair.now.0 pair.now.1) }
-{
-    out.begin_map(Some(2))?;
-    send_named_file(out, &pair.0, &pair.1)?;
-    out.end_map()
 }
 
 /// The members that a module and its requirements have in common.

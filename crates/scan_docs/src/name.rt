@@ -117,13 +117,8 @@ fn has_full_parts(text: &[u8]) -> bool
 fn has_name_bytes(text: &[u8]) -> bool
     ensures { result ≡ list_all is_name_byte text.now }
 {
-    text.iter().all(|b| is_name_byte(*b))
-}
-
-fn is_name_byte(byte: u8) -> bool
-    ensures { result ≡ is_name_byte byte }
-{
-    byte >= 33 && byte != 127 && !b"/\\\"'=|$".contains(&byte)
+    text.iter()
+        .all(|b| *b >= 33 && *b != 127 && !b"/\\\"'=|$".contains(b))
 }
 
 /// Two names are equal where their texts are.
