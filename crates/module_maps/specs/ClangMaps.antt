@@ -22,7 +22,6 @@ output_flag = codes "-fmodule-output="
 abbrev pub file_flag : Text
 file_flag = codes "-fmodule-file="
 
--- the byte between a name and a path: `=`
 -- the lines of the provided module and of a needed one, without their ends
 abbrev pub output_line : Name × PathText → Text
 output_line pair = output_flag ++ pair.1

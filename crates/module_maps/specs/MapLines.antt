@@ -12,7 +12,7 @@ use Rattle.module_maps.specs.declared.fault.MapFault.TheVariants.{BadMapLine}
 
 -- no control byte, no space, no 127, and none of `'`, `"` and `\`
 abbrev pub is_map_byte : ℕ → Bool
-is_map_byte b = 
+is_map_byte b =
     nat_lt space b && not (b == delete) && not (b == single_quote) && not (b == double_quote)
     && not (b == backslash)
 

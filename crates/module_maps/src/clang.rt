@@ -3,7 +3,7 @@ ghost use Rattle.std.specs.Prelude.{◌≡◌, ◌++◌, ◌-◌, map, length, s
 ghost use Rattle.std.specs.List.{flat_map};
 ghost use Rattle.ninja_text.specs.Failure.{Gives};
 ghost use Rattle.module_maps.specs.MapLines.{ended_line, behind, lines_of};
-ghost use Rattle.module_maps.specs.ClangMaps.{file_flag, file_line, file_pair, output_flag, output_path, output_text, clang_text, rises_behind, read_provided};
+ghost use Rattle.module_maps.specs.ClangMaps.{file_line, output_flag, output_path, output_text, clang_text, rises_behind, read_provided};
 
 use crate::fault::MapFault;
 use crate::map_lines::{
@@ -90,7 +90,10 @@ impl LineForm for Clang {
         entries: &[MapEntry],
         line: &[u8],
     ) -> Result<Option<MapEntry>, AllocError> {
-        match file_pair(alloc, line)? {
+        let Some(rest) = line.strip_prefix(b"-fmodule-file=") else {
+            return Ok(None);
+        };
+        match pair_in(alloc, b'=', rest)? {
             Some((name, path)) => {
                 if rises_behind(entries, &name) {
                     Ok(Some(MapEntry {
@@ -129,16 +132,6 @@ fn output_path(alloc: Global, line: &[u8]) -> Result<Option<Path>, AllocError>
 {
     match line.strip_prefix(b"-fmodule-output=") {
         Some(rest) => path_in(alloc, rest),
-        None => Ok(None),
-    }
-}
-
-/// The module of a needed module's line.
-fn file_pair(alloc: Global, line: &[u8]) -> Result<Option<(Name, Path)>, AllocError>
-    ensures { IfOk result (λ pair. pair ≡ file_pair (behind file_flag line.now)) }
-{
-    match line.strip_prefix(b"-fmodule-file=") {
-        Some(rest) => pair_in(alloc, b'=', rest),
         None => Ok(None),
     }
 }

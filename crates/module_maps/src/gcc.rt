@@ -1,5 +1,5 @@
 //! The maps of GCC.
-ghost use Rattle.std.specs.Prelude.{◌≡◌, ◌++◌, ℕ, List, Ok, IfOk, OnOk};
+ghost use Rattle.std.specs.Prelude.{◌≡◌, ◌++◌, Ok, IfOk, OnOk};
 ghost use Rattle.std.specs.List.{flat_map};
 ghost use Rattle.module_maps.specs.Maps.{pairs_of};
 ghost use Rattle.module_maps.specs.MapLines.{ended_line};

@@ -1,10 +1,10 @@
 //! What the styles of module maps share, and what helps to write another: the paths that can be in
 //! a map, and how its lines are read.
-ghost use Rattle.std.specs.Prelude.{◌≡◌, ◌<◌, ◌≤◌, ◌==◌, ◌++◌, List, ℕ, [], ◌∷◌, length, map, Some, None, IfOk, OnOk, IfSome, MatchOption, option_copied, position};
+ghost use Rattle.std.specs.Prelude.{◌≡◌, ◌<◌, ◌≤◌, ◌==◌, ◌++◌, [], ◌∷◌, length, map, Some, None, IfOk, OnOk, IfSome, MatchOption, option_copied, position};
 ghost use Rattle.ninja_text.specs.Failure.{Gives};
 ghost use Rattle.std.specs.List.{sum_by};
 ghost use Rattle.module_maps.specs.Maps.{pairs_of};
-ghost use Rattle.module_maps.specs.MapLines.{LineForm, is_map_byte, is_fit, first_unfit, named, nameless, lines_of, cut, path_in, name_in, pair_in, read_lines};
+ghost use Rattle.module_maps.specs.MapLines.{LineForm, is_fit, first_unfit, named, nameless, lines_of, cut, path_in, name_in, pair_in, read_lines};
 ghost use Rattle.module_maps.specs.inner.Lengths.{line_len, capped};
 
 use crate::fault::MapFault;
@@ -143,13 +143,7 @@ pub fn path_in(alloc: Global, text: &[u8]) -> Result<Option<Path>, AllocError>
 fn is_fit(path: &[u8]) -> bool
     ensures { result ≡ is_fit path.now }
 {
-    path.iter().all(|b| is_map_byte(*b))
-}
-
-fn is_map_byte(byte: u8) -> bool
-    ensures { result ≡ is_map_byte byte }
-{
-    byte >= 33 && byte != 127 && byte != b'\'' && byte != b'"' && byte != b'\\'
+    path.iter().all(|b| *b >= 33 && *b != 127 && *b != b'\'' && *b != b'"' && *b != b'\\')
 }
 
 /// The first path of a map that cannot be in it, since a byte of it needs quotes.

@@ -1,5 +1,5 @@
 //! Styles of module maps.
-ghost use Rattle.std.specs.Prelude.{◌≡◌, ◌↔◌, List, ℕ, Result, Ok, IsOk, IsTrue, IfOk};
+ghost use Rattle.std.specs.Prelude.{◌≡◌, ◌↔◌, List, Result, IsOk, IsTrue, IfOk};
 ghost use Rattle.ninja_text.specs.Bytes.{Text};
 ghost use Rattle.ninja_text.specs.Failure.{Gives};
 ghost use Rattle.module_maps.specs.Values.{ModuleMapValue};

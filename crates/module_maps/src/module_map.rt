@@ -2,7 +2,6 @@
 ghost use Rattle.std.specs.Prelude.{◌≡◌, ◌↔◌, IsSome, IfSome, IsTrue};
 ghost use Rattle.std.specs.List.{All};
 ghost use Rattle.module_maps.specs.Maps.{IsModuleMap, IsModulePair, IsRising};
-ghost use Rattle.ninja_text.specs.Bytes.{Precedes};
 
 use ninja_text::Path;
 use scan_docs::Name;
@@ -81,19 +80,12 @@ fn learn_modules(pairs: &[(Name, Path)])
     }
 }
 
-/// Whether the first name comes before the second in byte order.
-fn precedes(a: &Name, b: &Name) -> bool
-    ensures { IsTrue result ↔ Precedes a.now b.now }
-{
-    a < b
-}
-
 /// Whether the names rise strictly in byte order.
 fn is_rising(pairs: &[(Name, Path)]) -> bool
     ensures { IsTrue result ↔ IsRising pairs.now }
 {
     for i in 1..pairs.len() {
-        if !precedes(&pairs[i - 1].0, &pairs[i].0) {
+        if pairs[i - 1].0 >= pairs[i].0 {
             return false;
         }
     }

@@ -1,8 +1,19 @@
-use Rattle.std.proofs.Common.{◌≡◌, ℕ, zero, suc, ◌+◌, ◌-◌, ◌<◌, ◌≤◌, ◌⊎◌, List, length, Some, arith, ap, subst, sym, ◌∙◌, get_or, true, false, refl, slice_get, inl, inr}
+use Rattle.std.specs.Ordering.{is_ge}
+use Rattle.std.proofs.Common.{Ordering, Less, Equal, Greater, ◌≡◌, ℕ, zero, suc, ◌+◌, ◌-◌, ◌<◌, ◌≤◌, ◌⊎◌, List, length, Some, arith, ap, subst, sym, ◌∙◌, get_or, true, false, refl, slice_get, inl, inr}
 use Rattle.std.proofs.lemmas.Cmp.{nat_list_cmp_total}
 use Rattle.std.proofs.lemmas.Option.{slice_get_read, get_or_from_slice_get}
 use Rattle.ninja_text.specs.Bytes.{Precedes}
 use Rattle.module_maps.proofs.module_map.is_rising.Goals as goal
+
+less_from : (o : Ordering) → is_ge o ≡ false → o ≡ Less
+less_from Less h = refl
+less_from Equal h = absurd (cc)
+less_from Greater h = absurd (cc)
+
+not_less : (o : Ordering) → is_ge o ≡ true → o ≡ Less → ⊥
+not_less Less h e = cc
+not_less Equal h e = cc
+not_less Greater h e = cc
 
 -- a number up to another is below it, or is it
 up_to : (a n : ℕ) → a < n + 1 → (a < n) ⊎ (a ≡ n)
@@ -36,8 +47,8 @@ rise_more xs i x y some at here next rise a b d less within =
       | inr same ↦ subst (λ n. Precedes (get_or xs a d).0 (get_or xs n d).0) (sym same) (to_last xs i d some both rise a (omega (arith, less, same)))
     ]
 
-pub returns-then-not-precedes : goal.returns-then-not-precedes
-returns-then-not-precedes c =
+pub returns-then-ge : goal.returns-then-ge
+returns-then-ge c =
     let pairs : Pairs = c.args.pairs.now in
     let i : ℕ = c.loop-i.i in
     let x : List ℕ × List ℕ = c.index-pairs-i.result in
@@ -47,7 +58,7 @@ returns-then-not-precedes c =
       λ h. absurd (let e : false ≡ true = h in cc),
       λ all.
           let p : Precedes (get_or pairs (i - 1) x).0 (get_or pairs i x).0 = all (i - 1) i x (omega arith) within in
-          c.if-not-precedes.ensures.1 (subst (λ (z : List ℕ × List ℕ). Precedes (get_or pairs (i - 1) x).0 z.0) (get_or_from_slice_get pairs i y x here ∙ c.index-pairs-i-in-loop-i.is) p),
+          absurd (not_less _ (sym c.if-ge.ensures) (subst (λ (z : List ℕ × List ℕ). Precedes (get_or pairs (i - 1) x).0 z.0) (get_or_from_slice_get pairs i y x here ∙ c.index-pairs-i-in-loop-i.is) p)),
     )
 
 pub loop-i-preserved : goal.loop-i-preserved
@@ -61,5 +72,5 @@ loop-i-preserved c =
     let before : i - 1 < length pairs = omega arith in
     let at : slice_get pairs (i - 1) ≡ Some x = slice_get_read _ _ _ _ refl before c.index-pairs-i.is in
     let here : slice_get pairs i ≡ Some y = slice_get_read _ _ _ _ refl within c.index-pairs-i-in-loop-i.is in
-    let next : Precedes x.0 y.0 = rw (c.index-pairs-i.is, c.index-pairs-i-in-loop-i.is) (c.if-not-precedes.ensures.0 refl) in
+    let next : Precedes x.0 y.0 = rw (c.index-pairs-i.is, c.index-pairs-i-in-loop-i.is) (less_from _ (sym c.if-ge.ensures)) in
     rise_more pairs i x y some at here next c.loop-i.invariant
