@@ -3,14 +3,13 @@
 ghost use Rattle.std.specs.Prelude.{◌≡◌, ◌++◌, map, Some, Ok, IfOk, OnOk, IsUtf8, option_copied, ◌||◌};
 ghost use Rattle.std.specs.List.{AllZip};
 ghost use Rattle.ninja_text.specs.Paths.{placed};
-ghost use Rattle.serde_json.specs.Data.{Data};
 ghost use Rattle.serde_json.specs.View.{view};
 ghost use Rattle.scan_docs.specs.Check.{◌otherwise◌};
 ghost use Rattle.scan_docs.specs.inner.Reading.{Answers, Tests, AnswersPath};
 ghost use Rattle.scan_docs.specs.Shape.{text, entries_of, given};
 ghost use Rattle.scan_docs.specs.Name.{is_name, IsName};
-ghost use Rattle.scan_docs.specs.Scan.{object_of, file_from, names_header, made_file, dashed, IsText, IsProvidedModule, IsRequired, IsRule};
-ghost use Rattle.scan_docs.specs.ScanChecks.{rule_shape_checks, provided_checks, all_provided_checks, required_checks, all_required_checks, object_checks, count_checks, rule_checks, lookup_check};
+ghost use Rattle.scan_docs.specs.Scan.{file_from, names_header, made_file, dashed, IsProvidedModule, IsRequired, IsRule};
+ghost use Rattle.scan_docs.specs.ScanChecks.{rule_shape_checks, provided_checks, all_provided_checks, required_checks, all_required_checks, rule_checks, lookup_check};
 ghost use Rattle.scan_docs.specs.declared.member.Member.TheVariants as m;
 
 use crate::fault::{DocFault, Place, bad_path, bad_shape};
@@ -54,7 +53,7 @@ struct RuleMembers<'v> {
     required: &'v [Value],
 }
 
-#[tactic(auto, unfolding(crate::specs::ScanChecks::rule_checks), using(crate::proofs::Each::failure_of_both))]
+#[tactic(auto, unfolding(crate::specs::ScanChecks::rule_checks, crate::specs::ScanChecks::object_checks), using(crate::proofs::Each::failure_of_both))]
 pub(crate) fn read_rule(
     alloc: Global,
     setting: &Setting,
@@ -67,8 +66,13 @@ pub(crate) fn read_rule(
     let place = Place::Rule { rule };
     let members = read_members(place, value)?;
     let work = members.work_directory;
-    let object = read_object(alloc, setting, place, members.primary_output, work)?;
-    check_counts(place, members.provided, members.required)?;
+    let Some(output) = members.primary_output else {
+        return Err(Failure::Fault(DocFault::NoPrimaryOutput { place }));
+    };
+    let object = read_path(alloc, setting, work, output.as_bytes(), place)?;
+    if members.provided.len() > COUNT_LIMIT || members.required.len() > COUNT_LIMIT {
+        return Err(Failure::Fault(DocFault::TooLarge { place }));
+    }
     let provided = read_all_provided(alloc, setting, work, rule, members.provided)?;
     let required = read_all_required(alloc, rule, members.required)?;
     Ok(Rule {
@@ -97,41 +101,6 @@ fn read_members<'v>(place: Place, rule: &'v Value) -> Result<RuleMembers<'v>, Fa
         provided,
         required,
     })
-}
-
-/// Where the rule's object file lies.
-#[tactic(auto, unfolding(crate::specs::ScanChecks::object_checks))]
-fn read_object(
-    alloc: Global,
-    setting: &Setting,
-    place: Place,
-    output: Option<&str>,
-    work: Option<&str>,
-) -> Result<Path, Failure<DocFault>>
-    ensures { (d : Data) → option_copied output.entry ≡ text m.PrimaryOutput d
-        → option_copied work.entry ≡ text m.WorkDirectory d
-        → Answers (object_checks setting.now place d)
-        (λ object. (object_of setting.now d ≡ Ok object) × IsText object) result }
-{
-    match output {
-        Some(output) => read_path(alloc, setting, work, output.as_bytes(), place),
-        None => Err(Failure::Fault(DocFault::NoPrimaryOutput { place })),
-    }
-}
-
-#[tactic(auto, unfolding(crate::specs::ScanChecks::count_checks))]
-fn check_counts(
-    place: Place,
-    provided: &[Value],
-    required: &[Value],
-) -> Result<(), Failure<DocFault>>
-    ensures { Answers (count_checks place (map view provided.now) (map view required.now))
-        (λ _. Unit {0}) result }
-{
-    if provided.len() > COUNT_LIMIT || required.len() > COUNT_LIMIT {
-        return Err(Failure::Fault(DocFault::TooLarge { place }));
-    }
-    Ok(())
 }
 
 #[tactic(auto, unfolding(crate::specs::ScanChecks::all_provided_checks))]
