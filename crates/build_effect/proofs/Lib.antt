@@ -28,3 +28,4 @@ mod WrittenSymbols
 mod WrittenLines
 mod WrittenListings
 pub mod ListingWrites
+mod ListingLengths

@@ -1,13 +1,11 @@
 -- What a call that writes a listing answers, by the text that was made or not.
-use Rattle.std.proofs.Common.{◌≡◌, ℕ, ◌+◌, ◌<◌, ◌≤◌, suc, List, [], ◌∷◌, ◌++◌, length, drop, get_or, add-one, drop-cons, append_assoc, refl, sym, ap, ◌∙◌, Option, Some, None, Ok, Err}
+use Rattle.std.proofs.Common.{◌≡◌, ℕ, ◌+◌, ◌<◌, suc, List, [], ◌∷◌, ◌++◌, length, drop, get_or, add-one, drop-cons, append_assoc, refl, sym, ap, ◌∙◌, Option, Some, None, Ok, Err}
 use Rattle.std.specs.Prelude.{Result, Vec}
 use Rattle.std.specs.List.{flat_map}
 use Rattle.std.specs.declared.alloc.Global.{Global}
-use Rattle.std.proofs.lemmas.Bool.{le-ltb, lt-ltb}
-use Rattle.std.proofs.lemmas.List.{append-nil, at_drop_more, drop_all}
+use Rattle.std.proofs.lemmas.List.{at_drop_more}
 use Rattle.ninja_text.specs.Bytes.{space}
 use Rattle.ninja_text.specs.Escapes.{escaped}
-use Rattle.ninja_text.specs.Lines.{line_limit}
 use Rattle.ninja_text.specs.Failure.{Gives}
 use Rattle.ninja_text.specs.Counting.{Call}
 use Rattle.ninja_text.specs.declared.counting.Counted.{Counted}
@@ -15,7 +13,7 @@ use Rattle.ninja_text.specs.declared.failure.Failure.{Failure}
 use Rattle.ninja_text.specs.declared.failure.Failure.TheVariants.{Memory, Fault}
 use Rattle.dyndep_file.specs.Writing.{spaced}
 use Rattle.build_effect.specs.EdgeValue.{EdgeValue}
-use Rattle.build_effect.specs.ListingWriting.{edge_line, dyndep_line, restat_line, too_long_from, listing_text, first_too_long, LeavesListingWriter, WritesListingInTurn, AnswersTooLong, listing_text_unless, listing_text_or_fault}
+use Rattle.build_effect.specs.ListingWriting.{edge_line, dyndep_line, restat_line, listing_text, first_too_long, LeavesListingWriter, WritesListingInTurn, AnswersTooLong, listing_text_unless, listing_text_or_fault}
 use Rattle.build_effect.specs.declared.fault.ListingWriteFault.{ListingWriteFault}
 use Rattle.build_effect.specs.declared.fault.ListingWriteFault.TheVariants.{ListingTooLong, Io}
 
@@ -68,18 +66,6 @@ text_goes_on edges i e text new within is n so_far =
     let is_new : new ≡ text ++ ((edge_line e ++ d) ++ r) = n ∙ ap (λ y. y ++ r) (append_assoc text (edge_line e) d) ∙ append_assoc text (edge_line e ++ d) r in
     ap (λ x. x ++ rest) is_new ∙ append_assoc text ((edge_line e ++ d) ++ r) rest ∙ ap (λ xs. text ++ listing_text xs) (sym (drop_item edges i e within is)) ∙ so_far
 
--- no build line so far is too long, nor is one more that keeps the limit
-pub none_goes_on : (edges : List EdgeValue) (i : ℕ) (e : EdgeValue) → i < length edges → e ≡ get_or edges i e → length (edge_line e) ≤ line_limit
-    → too_long_from 0 edges ≡ too_long_from i (drop i edges) → too_long_from 0 edges ≡ too_long_from (i + 1) (drop (i + 1) edges)
-none_goes_on edges i e within is short so_far = so_far ∙ ap (too_long_from i) (drop_item edges i e within is) ∙ rw (le-ltb line_limit (length (edge_line e)) short) refl
-
--- the edge at hand is the first whose build line is too long
-pub too_long_here : (edges : List EdgeValue) (i : ℕ) (e : EdgeValue) → i < length edges → e ≡ get_or edges i e → line_limit < length (edge_line e)
-    → too_long_from 0 edges ≡ too_long_from i (drop i edges) → listing_text_or_fault edges ≡ Err (ListingTooLong i)
-too_long_here edges i e within is long none =
-    let here : too_long_from i (e ∷ drop (i + 1) edges) ≡ Some i = rw (lt-ltb line_limit (length (edge_line e)) long) refl in
-    ap (λ o. listing_text_unless o edges) (none ∙ ap (too_long_from i) (drop_item edges i e within is) ∙ here)
-
 -- one more path after a space
 pub spaced_goes_on : (paths : List (List ℕ)) (i : ℕ) (path start text new : List ℕ) → i < length paths → path ≡ get_or paths i path → new ≡ (text ++ space ∷ []) ++ escaped path
     → text ++ flat_map spaced (drop i paths) ≡ start → new ++ flat_map spaced (drop (i + 1) paths) ≡ start
@@ -87,11 +73,3 @@ spaced_goes_on paths i path start text new within is n so_far =
     let rest = flat_map spaced (drop (i + 1) paths) in
     ap (λ x. x ++ rest) (n ∙ append_assoc text (space ∷ []) (escaped path)) ∙ append_assoc text (spaced path) rest
     ∙ ap (λ x. text ++ x) (sym (at_drop_more (flat_map spaced) paths i path within ∙ ap (λ p. spaced p ++ rest) (sym is))) ∙ so_far
-
--- no edge is left, so the text is whole
-pub all_written : (edges : List EdgeValue) (i : ℕ) (text : List ℕ) → length edges ≤ i → text ++ listing_text (drop i edges) ≡ listing_text edges
-    → too_long_from 0 edges ≡ too_long_from i (drop i edges) → listing_text_or_fault edges ≡ Ok text
-all_written edges i text over so_far none =
-    let none_left : drop i edges ≡ [] = drop_all i edges over in
-    let whole : text ≡ listing_text edges = sym (append-nil text) ∙ ap (λ xs. text ++ listing_text xs) (sym none_left) ∙ so_far in
-    ap (λ o. listing_text_unless o edges) (none ∙ ap (too_long_from i) none_left) ∙ ap (λ t. Ok t) (sym whole)

@@ -9,7 +9,8 @@ ghost use Rattle.build_effect.specs.ListingWriting.{marked_text, left_text, righ
 use crate::edge::Edge;
 use crate::fault::ListingWriteFault;
 use crate::graph::Graph;
-use ninja_text::{Counted, Failure, LINE_LIMIT, Path, WriteCall, escape_into};
+use crate::listing::lengths::text_len;
+use ninja_text::{Counted, Failure, Path, WriteCall, escape_into};
 use std::alloc::{AllocError, Global};
 
 /// Writes the edges of a graph as Ninja spells them (Ninja 1.11 manual, "Build statements"): for
@@ -17,6 +18,9 @@ use std::alloc::{AllocError, Global};
 ///
 /// Too long a build line is reported before the first byte, as is `Memory`: the writer is as it
 /// was then. After an `Io` exactly that many bytes went out, and they are a beginning of the text.
+///
+/// The length of the text is counted first, and the text is made in one buffer of that length. Too
+/// long a build line is reported before this memory is asked for.
 pub fn listing_write<W: WriteCall>(
     alloc: Global,
     graph: &Graph,
@@ -25,7 +29,7 @@ pub fn listing_write<W: WriteCall>(
     ensures text { MatchResult result
         (λ _. IsWritten W.contents out.old out.new (listing_text graph.now))
         (λ failure. LeavesListingWriter W.contents out.old out.new (listing_text graph.now)
-            failure) }
+        failure) }
     ensures calls { WritesListingInTurn W.writes (held out.old) (held out.new)
         (listing_text graph.now) result }
     ensures fault { AnswersTooLong (first_too_long graph.now) result }
@@ -43,13 +47,15 @@ pub fn listing_write<W: WriteCall>(
 fn text_of(alloc: Global, edges: &[Edge]) -> Result<Vec<u8>, Failure<ListingWriteFault>>
     ensures { Gives (λ text. text.items) result (listing_text_or_fault edges.now) }
 {
-    let mut text = Vec::new(alloc);
-    for (edge_index, edge) in edges.iter().enumerate() {
-        let start = text.len();
+    let len = match text_len(edges) {
+        Ok(len) => len,
+        Err(fault) => return Err(Failure::Fault(fault)),
+    };
+    // The only memory that is asked for: what is appended has just this length, so the vector never
+    // grows, and no growth of it can be refused.
+    let mut text = Vec::with_capacity(alloc, len)?;
+    for edge in edges {
         push_line(&mut text, edge)?;
-        if text.len() - start > LINE_LIMIT {
-            return Err(Failure::Fault(ListingWriteFault::ListingTooLong { edge: edge_index }));
-        }
         push_dyndep(&mut text, &edge.dyndep)?;
         push_restat(&mut text, edge.restat)?;
     }

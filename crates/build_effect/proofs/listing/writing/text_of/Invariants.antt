@@ -1,10 +1,7 @@
 use Rattle.std.proofs.Common.{◌≡◌, ◌++◌, drop}
-use Rattle.build_effect.specs.ListingWriting.{listing_text, too_long_from}
+use Rattle.build_effect.specs.ListingWriting.{listing_text}
 use Rattle.build_effect.proofs.listing.writing.text_of.Given as goal
 
--- the text so far and that of the edges to come are all, and the first build line that is too long is to come
-abbrev pub invariant-loop-edge_index : goal.invariant-loop-edge_index
-invariant-loop-edge_index l = record {
-  text : l.text.items ++ listing_text (drop l.edge_index l.edges) ≡ listing_text l.edges;
-  none : too_long_from 0 l.edges ≡ too_long_from l.edge_index (drop l.edge_index l.edges);
-}
+-- the text so far and that of the edges to come are all
+abbrev pub invariant-loop-edge : goal.invariant-loop-edge
+invariant-loop-edge l = l.text.items ++ listing_text (drop l.edge-index l.edges) ≡ listing_text l.edges
