@@ -15,7 +15,7 @@
 mod system_files;
 
 use crate::system_files::SystemFiles;
-use command_line::{Task, task_of};
+use command_line::task_of;
 use commands::{Answer, print, task_run, write_files};
 use ninja_text::Counted;
 use std::alloc::AllocError;
@@ -33,7 +33,7 @@ fn main(rt: HostRuntime) -> ExitCode {
     ExitCode::from(print(&answer, &mut out, &mut err))
 }
 
-/// What the program answers to its arguments.
+/// What the program answers to its arguments, once it has written the files of the answer.
 fn answer_of<R: Env + Files + RandomSource + AllocGlobal>(rt: &R) -> Result<Answer, AllocError> {
     let alloc = rt.alloc();
     let arguments: Vec<String> = match env::args(rt) {
@@ -43,21 +43,13 @@ fn answer_of<R: Env + Files + RandomSource + AllocGlobal>(rt: &R) -> Result<Answ
     };
     match task_of(alloc, arguments.as_slice())? {
         Some(task) => match RandomState::new(rt) {
-            Ok(keys) => task_answer(rt, keys, &task),
+            Ok(keys) => {
+                let mut folder = SystemFiles { rt };
+                let answer = task_run(alloc, keys, &task, &mut folder)?;
+                write_files(alloc, answer, &mut folder)
+            }
             Err(_) => Answer::unread(alloc, "random bytes"),
         },
         None => Answer::usage(alloc),
     }
-}
-
-/// What the program answers to its task, once it has written the files of the answer.
-fn task_answer<R: Files + RandomSource + AllocGlobal>(
-    rt: &R,
-    keys: RandomState,
-    task: &Task,
-) -> Result<Answer, AllocError> {
-    let alloc = rt.alloc();
-    let mut folder = SystemFiles { rt };
-    let answer = task_run(alloc, keys, task, &mut folder)?;
-    write_files(alloc, answer, &mut folder)
 }

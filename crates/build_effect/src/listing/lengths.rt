@@ -12,7 +12,7 @@ use crate::fault::ListingWriteFault;
 use ninja_text::{LINE_LIMIT, Path};
 
 /// The length of the text of the edges, or the first of them whose build line is too long. Where a
-/// length is greater than any `usize`, the greatest is answered: no buffer has so many bytes.
+/// length is greater than any `usize`, the greatest is answered: no buffer is that long.
 pub(crate) fn text_len(edges: &[Edge]) -> Result<usize, ListingWriteFault>
     ensures { CountsListing edges.now result }
 {
