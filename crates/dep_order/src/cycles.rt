@@ -1,6 +1,6 @@
 //! The least cycle: its first node by a search or by components, its length by levels, and its
 //! nodes one by one.
-ghost use Rattle.std.specs.Prelude.{◌<◌, ◌≤◌, ℕ, All, IfOk, length, List, Some};
+ghost use Rattle.std.specs.Prelude.{◌<◌, ◌≤◌, All, IfOk, length, Some};
 ghost use Rattle.dep_order.specs.Numbers.{Numbers};
 ghost use Rattle.dep_order.specs.Needs.{NodeNeeds, NeedsAreNodes, needs_of};
 ghost use Rattle.dep_order.specs.Cycles.{IsCycle, IsLeastCycle, first_of};
@@ -28,10 +28,20 @@ pub fn least_cycle(
     // where many nodes lie on cycles the first suspect mostly does, and one search saves the
     // components
     let suspect = first_suspect(needs, users);
-    match cycle_through(alloc, needs, users, suspect)? {
-        Some(cycle) => Ok(cycle),
-        None => cycle_by_components(alloc, needs, users),
+    if let Some(cycle) = cycle_through(alloc, needs, users, suspect)? {
+        return Ok(cycle);
     }
+    // else it is from the first node that needs one of its component
+    let components = components_of(alloc, needs, users)?;
+    for first in 0..needs.len() {
+        if shares_component(row_of(needs, first), components.as_slice(), first) {
+            return match cycle_through(alloc, needs, users, first)? {
+                Some(cycle) => Ok(cycle),
+                None => unreachable!(),
+            };
+        }
+    }
+    unreachable!()
 }
 
 /// The first node that needs a node and that a node needs: no cycle has a lower one.
@@ -47,29 +57,6 @@ fn first_suspect(needs: &[&[usize]], users: &[&[usize]]) -> usize
     for node in 0..needs.len() {
         if !row_of(needs, node).is_empty() && !row_of(users, node).is_empty() {
             return node;
-        }
-    }
-    unreachable!()
-}
-
-/// The least cycle of a digraph that has one, from the first node that needs one of its component.
-fn cycle_by_components(
-    alloc: Global,
-    needs: &[&[usize]],
-    users: &[&[usize]],
-) -> Result<Vec<usize>, AllocError>
-    requires nodes { NeedsAreNodes (lists needs.now) }
-    requires users { AreUsers (lists needs.now) (lists users.now) }
-    requires cycle { HasCycle (NodeNeeds (lists needs.now)) }
-    ensures { IfOk result (λ cycle. IsLeastCycle (NodeNeeds (lists needs.now)) cycle.items) }
-{
-    let components = components_of(alloc, needs, users)?;
-    for first in 0..needs.len() {
-        if shares_component(row_of(needs, first), components.as_slice(), first) {
-            return match cycle_through(alloc, needs, users, first)? {
-                Some(cycle) => Ok(cycle),
-                None => unreachable!(),
-            };
         }
     }
     unreachable!()

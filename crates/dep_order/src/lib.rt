@@ -67,7 +67,7 @@ mod users;
 
 ghost use Rattle.std.specs.Prelude.{◌≡◌, ◌<◌, All, length, IfOk};
 ghost use Rattle.dep_order.specs.Needs.{needs_of, NodeNeeds, NeedsAreNodes, IsReach};
-ghost use Rattle.dep_order.specs.Rows.{rows, lists};
+ghost use Rattle.dep_order.specs.Rows.{rows};
 ghost use Rattle.dep_order.specs.Sortings.{IsSortingOf};
 
 use cycles::least_cycle;
@@ -142,8 +142,16 @@ pub enum Sorting {
 pub fn order(alloc: Global, graph: &Digraph) -> Result<Sorting, AllocError>
     ensures { IfOk result (IsSortingOf (length graph.now) (NodeNeeds graph.now)) }
 {
-    let needs = lend_rows(alloc, graph.needs.as_slice())?;
-    sort_nodes(alloc, needs.as_slice())
+    let rows = lend_rows(alloc, graph.needs.as_slice())?;
+    let needs = rows.as_slice();
+    let user_parts = users_of(alloc, needs)?;
+    let users = lend_parts(alloc, &user_parts)?;
+    let ordered = order_ready(alloc, needs, users.as_slice())?;
+    if ordered.len() == needs.len() {
+        return Ok(Sorting::Order(ordered));
+    }
+    let cycle = least_cycle(alloc, needs, users.as_slice())?;
+    Ok(Sorting::Cycle(cycle))
 }
 
 /// The node itself and all that chains of needs lead to from it, in rising order. The only error is
@@ -156,20 +164,4 @@ pub fn reach(alloc: Global, graph: &Digraph, from: usize) -> Result<Vec<usize>, 
     let mut reached = reaching.from(alloc, from)?;
     reached.sort_unstable();
     Ok(reached)
-}
-
-/// The order by smallest numbers, or the least cycle; each node needs those of its list.
-fn sort_nodes(alloc: Global, needs: &[&[usize]]) -> Result<Sorting, AllocError>
-    requires { NeedsAreNodes (lists needs.now) }
-    ensures { IfOk result (IsSortingOf (length (lists needs.now)) (NodeNeeds (lists needs.now))) }
-{
-    let user_parts = users_of(alloc, needs)?;
-    let users = lend_parts(alloc, &user_parts)?;
-    let ordered = order_ready(alloc, needs, users.as_slice())?;
-    if ordered.len() == needs.len() {
-        Ok(Sorting::Order(ordered))
-    } else {
-        let cycle = least_cycle(alloc, needs, users.as_slice())?;
-        Ok(Sorting::Cycle(cycle))
-    }
 }

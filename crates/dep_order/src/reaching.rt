@@ -1,5 +1,5 @@
 //! What nodes reach, one after the other.
-ghost use Rattle.std.specs.Prelude.{◌≡◌, ◌<◌, ◌↔◌, All, Contains, IfOk, IsTrue, OnOk, length};
+ghost use Rattle.std.specs.Prelude.{◌≡◌, ◌<◌, All, IfOk, OnOk, length};
 ghost use Rattle.dep_order.specs.Needs.{NodeNeeds, AreReached};
 ghost use Rattle.dep_order.specs.inner.Found.{AreFound, IsRowFound};
 
@@ -48,31 +48,19 @@ impl<'g> Reaching<'g> {
         ensures reached { IfOk result
             (λ reached. AreReached (NodeNeeds self.old) node reached.items) }
     {
-        let graph = self.graph;
-        search(alloc, graph, node, &mut self.indexes)
+        let mut found = vec![in alloc; node]?;
+        self.indexes[node] = 0;
+        let mut next = 0;
+        'search: while next < found.len() {
+            find_row(
+                self.graph.needs_of(found[next]),
+                &mut self.indexes,
+                &mut found,
+            )?;
+            next += 1;
+        }
+        Ok(found)
     }
-}
-
-/// What the node reaches, each once.
-fn search(
-    alloc: Global,
-    graph: &Digraph,
-    from: usize,
-    indexes: &mut Vec<usize>,
-) -> Result<Vec<usize>, AllocError>
-    requires from { from < length graph.now }
-    requires as_many { length indexes.old.items ≡ length graph.now }
-    ensures as_many { length indexes.new.items ≡ length graph.now }
-    ensures reached { IfOk result (λ reached. AreReached (NodeNeeds graph.now) from reached.items) }
-{
-    let mut found = vec![in alloc; from]?;
-    indexes[from] = 0;
-    let mut next = 0;
-    'search: while next < found.len() {
-        find_row(graph.needs_of(found[next]), indexes, &mut found)?;
-        next += 1;
-    }
-    Ok(found)
 }
 
 /// Puts the nodes of the row that aren't found yet after those that are.
@@ -88,20 +76,12 @@ fn find_row(
         (IsRowFound row.now indexes.old.items found.old.items indexes.new.items found.new.items) }
 {
     for node in row {
-        if !is_found(indexes, found, *node) {
+        let index = indexes[*node];
+        let is_found = index < found.len() && found[index] == *node;
+        if !is_found {
             indexes[*node] = found.len();
             found.push(*node)?;
         }
     }
     Ok(())
-}
-
-/// Whether the node is found.
-fn is_found(indexes: &[usize], found: &[usize], node: usize) -> bool
-    requires node { node < length indexes.now }
-    requires found { AreFound indexes.now found.now }
-    ensures { IsTrue result ↔ Contains found.now node }
-{
-    let index = indexes[node];
-    index < found.len() && found[index] == node
 }

@@ -2,7 +2,7 @@ use Rattle.std.proofs.Common.{List, ℕ, ◌≤◌}
 use Rattle.dep_order.specs.Rows.{lists}
 use Rattle.dep_order.specs.Needs.{NodeNeeds}
 use Rattle.dep_order.specs.Cycles.{IsCycle, first_of}
-use Rattle.dep_order.proofs.cycles.cycle_by_components.Given as goal
+use Rattle.dep_order.proofs.cycles.least_cycle.Given as goal
 
 -- no cycle begins with a node before
 abbrev pub invariant-loop-first : goal.invariant-loop-first
