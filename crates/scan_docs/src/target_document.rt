@@ -236,6 +236,7 @@ struct Outputs {
     edges: Option<String>,
 }
 
+#[tactic(auto, unfolding(crate::specs::TargetChecks::dyndep_checks, crate::specs::TargetChecks::file_checks))]
 fn read_outputs(
     alloc: Global,
     tree: &Value,
@@ -249,54 +250,26 @@ fn read_outputs(
         × (map_form (view tree.now) ≡ found.map)
         × (text m.Edges (view tree.now) ≡ option_map string_bytes found.edges)) result }
 {
-    let dyndep = read_dyndep(alloc, tree, build)?;
-    let (info, map, edges) = read_files(alloc, tree)?;
+    let dyndep = shape::required_text(tree, Member::Dyndep, Place::Document)?;
+    match place(alloc, None, build, dyndep.as_bytes()) {
+        Ok(_) => {}
+        Err(failure) => return Err(bad_path(Place::Document, failure)),
+    }
+    let info = read_info_file(tree)?;
+    let map = read_map_form(tree)?;
+    let edges = shape::text(tree, Member::Edges, Place::Document)?;
+    let dyndep = String::from_str(alloc, dyndep)?;
+    let info = String::from_str(alloc, info)?;
+    let edges = match edges {
+        Some(edges) => Some(String::from_str(alloc, edges)?),
+        None => None,
+    };
     Ok(Outputs {
         dyndep,
         info,
         map,
         edges,
     })
-}
-
-#[tactic(auto, unfolding(crate::specs::TargetChecks::dyndep_checks))]
-fn read_dyndep(
-    alloc: Global,
-    tree: &Value,
-    build: Option<&Path>,
-) -> Result<String, Failure<DocFault>>
-    requires { ForSome (option_copied build) (λ path. is_rooted path ≡ true) }
-    ensures { build_dir (view tree.now) ≡ option_copied build.entry
-        → Answers (dyndep_checks (view tree.now))
-        (λ t. text m.Dyndep (view tree.now) ≡ Some (string_bytes t)) result }
-{
-    let text = shape::required_text(tree, Member::Dyndep, Place::Document)?;
-    place(alloc, None, build, text.as_bytes()).map_err(|failure| bad_path(
-        Place::Document,
-        failure,
-    ))?;
-    Ok(String::from_str(alloc, text)?)
-}
-
-#[tactic(auto, unfolding(crate::specs::TargetChecks::file_checks))]
-fn read_files(
-    alloc: Global,
-    tree: &Value,
-) -> Result<(String, Option<MapForm>, Option<String>), Failure<DocFault>>
-    ensures { Answers (file_checks (view tree.now))
-        (λ found. (text m.Info (view tree.now) ≡ Some (string_bytes found.0))
-        × (map_form (view tree.now) ≡ found.1)
-        × (text m.Edges (view tree.now) ≡ option_map string_bytes found.2)) result }
-{
-    let info = read_info_file(tree)?;
-    let map = read_map_form(tree)?;
-    let edges = shape::text(tree, Member::Edges, Place::Document)?;
-    let info = String::from_str(alloc, info)?;
-    let edges = match edges {
-        Some(edges) => Some(String::from_str(alloc, edges)?),
-        None => None,
-    };
-    Ok((info, map, edges))
 }
 
 fn read_info_file(tree: &Value) -> Result<&str, Failure<DocFault>>
