@@ -1,8 +1,7 @@
 //! Edges with what statements add.
 ghost use Rattle.std.specs.Prelude.{◌≡◌, ◌++◌, ◌<◌, ℕ, length, Some, IfOk, OnOk};
-ghost use Rattle.std.specs.Option.{ForSome};
 ghost use Rattle.build_effect.specs.Effect.{extended};
-ghost use Rattle.build_effect.specs.inner.Extended.{AreExtended, IsEdgeAfter};
+ghost use Rattle.build_effect.specs.inner.Extended.{AreExtended};
 ghost use Rattle.build_effect.specs.inner.StatementEdges.{statement_on};
 
 use crate::addition::Addition;
@@ -24,28 +23,13 @@ pub(crate) fn extended_edges(
 {
     let mut new = Vec::with_capacity(alloc, edges.len())?;
     for (edge_index, edge) in edges.iter().enumerate() {
-        let after = edge_after(alloc, edge, additions, statement_of[edge_index])?;
+        let mut after = copied_edge(alloc, edge)?;
+        if let Some(statement_index) = statement_of[edge_index] {
+            extend(alloc, &additions[statement_index], &mut after)?;
+        }
         new.push(after)?;
     }
     Ok(new)
-}
-
-/// The edge with what the statement of that index adds, or as it is where there is none.
-fn edge_after(
-    alloc: Global,
-    edge: &Edge,
-    additions: &[Addition],
-    statement: Option<usize>,
-) -> Result<Edge, AllocError>
-    requires { ForSome statement (λ k. k < length additions.now) }
-    ensures { IfOk result (IsEdgeAfter edge.now additions.now statement) }
-{
-    let mut after = copied_edge(alloc, edge)?;
-    match statement {
-        Some(statement_index) => extend(alloc, &additions[statement_index], &mut after)?,
-        None => {}
-    }
-    Ok(after)
 }
 
 /// Adds to an edge what the statement on it adds.
@@ -71,7 +55,10 @@ fn copied_edge(alloc: Global, edge: &Edge) -> Result<Edge, AllocError>
     let inputs = copied(alloc, &edge.inputs)?;
     let implicit_inputs = copied(alloc, &edge.implicit_inputs)?;
     let order_only = copied(alloc, &edge.order_only)?;
-    let dyndep = copied_name(alloc, &edge.dyndep)?;
+    let dyndep = match &edge.dyndep {
+        Some(path) => Some(path.copy(alloc)?),
+        None => None,
+    };
     Ok(Edge {
         rule,
         outputs,
@@ -82,18 +69,6 @@ fn copied_edge(alloc: Global, edge: &Edge) -> Result<Edge, AllocError>
         dyndep,
         restat: edge.restat,
     })
-}
-
-fn copied_name(alloc: Global, name: &Option<Path>) -> Result<Option<Path>, AllocError>
-    ensures { IfOk result (λ copy. copy ≡ name.now) }
-{
-    match name {
-        Some(path) => {
-            let copy = path.copy(alloc)?;
-            Ok(Some(copy))
-        }
-        None => Ok(None),
-    }
 }
 
 fn copied(alloc: Global, paths: &[Path]) -> Result<Vec<Path>, AllocError>

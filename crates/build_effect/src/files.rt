@@ -1,6 +1,5 @@
 //! Files of edges in one list, lent, and the first that is there twice.
 ghost use Rattle.std.specs.Prelude.{◌≡◌, ◌++◌, IfOk, OnOk};
-ghost use Rattle.build_effect.specs.Graphs.{made_by};
 ghost use Rattle.build_effect.specs.Faults.{made_files};
 ghost use Rattle.dep_order.specs.Rows.{lists};
 ghost use Rattle.ninja_text.specs.Firsts.{FindsRepetition};
@@ -17,17 +16,10 @@ pub(crate) fn made_files<'t>(alloc: Global, edges: &'t [Edge]) -> Result<Vec<&'t
 {
     let mut files = Vec::new(alloc);
     for edge in edges {
-        add_made(edge, &mut files)?;
+        add_paths(&edge.outputs, &mut files)?;
+        add_paths(&edge.implicit_outputs, &mut files)?;
     }
     Ok(files)
-}
-
-fn add_made<'t>(edge: &'t Edge, files: &mut Vec<&'t Path>) -> Result<(), AllocError>
-    ensures { OnOk result (lists files.new.items ≡ lists files.old.items ++ made_by edge.now) }
-{
-    add_paths(&edge.outputs, files)?;
-    add_paths(&edge.implicit_outputs, files)?;
-    Ok(())
 }
 
 /// Lends the paths, after those that are there.

@@ -1,7 +1,7 @@
 //! What makes a list of edges a graph.
 ghost use Rattle.std.specs.Prelude.{◌≡◌, ◌≢◌, [], slice_get, Some, IfOk, IfErr, OnOk, MatchBool, All};
 ghost use Rattle.ninja_text.specs.Failure.{ForFault};
-ghost use Rattle.build_effect.specs.Graphs.{MadeOnce, HasInput, DyndepsAreInputs};
+ghost use Rattle.build_effect.specs.Graphs.{MadeOnce, DyndepsAreInputs};
 ghost use Rattle.build_effect.specs.Faults.{IsGraphFault, NamesUnread};
 ghost use Rattle.build_effect.specs.inner.Inputs.{Has, NamesInput};
 
@@ -50,20 +50,13 @@ pub(crate) fn check_dyndeps(alloc: Global, edges: &[Edge]) -> Result<(), Failure
     Ok(())
 }
 
-/// Whether the edge names no dyndep file, or one that is among its inputs.
+/// Whether the edge names no dyndep file, or one that is among its inputs of any kind.
 fn reads_dyndep(edge: &Edge) -> bool
     ensures { MatchBool result (NamesInput edge.now) (NamesUnread edge.now) }
 {
-    match &edge.dyndep {
-        None => true,
-        Some(file) => reads(edge, file),
-    }
-}
-
-/// Whether the file is among the edge's inputs of any kind.
-fn reads(edge: &Edge, file: &Path) -> bool
-    ensures { MatchBool result (HasInput edge.now file.now) (HasInput edge.now file.now → ⊥) }
-{
+    let Some(file) = &edge.dyndep else {
+        return true;
+    };
     if has(&edge.inputs, file) {
         return true;
     }

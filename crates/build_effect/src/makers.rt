@@ -1,6 +1,5 @@
 //! Which edge makes which file.
 ghost use Rattle.std.specs.Prelude.{◌≡◌, IfOk, OnOk};
-ghost use Rattle.build_effect.specs.Graphs.{made_by};
 ghost use Rattle.build_effect.specs.inner.Makers.{maker_in, AreMakers, AreAdded};
 
 use crate::edge::Edge;
@@ -22,7 +21,8 @@ impl<'t, S: BuildHasher + Copy> Makers<'t, S> {
     {
         let mut table = IndexMap::with_hasher(alloc, hash_builder);
         for (edge_index, edge) in edges.iter().enumerate() {
-            add_edge(edge, edge_index, &mut table)?;
+            add_files(&edge.outputs, edge_index, &mut table)?;
+            add_files(&edge.implicit_outputs, edge_index, &mut table)?;
         }
         Ok(Makers { table })
     }
@@ -40,20 +40,6 @@ impl<S: BuildHasher> Makers<'_, S> {
     {
         self.table.get(&file).copied()
     }
-}
-
-/// Puts the edge into the table for each file that it makes.
-fn add_edge<'t, S: BuildHasher>(
-    edge: &'t Edge,
-    edge_index: usize,
-    makers: &mut IndexMap<&'t Path, usize, S>,
-) -> Result<(), AllocError>
-    ensures { OnOk result (AreAdded (made_by edge.now) edge_index (maker_in makers.old)
-        (maker_in makers.new)) }
-{
-    add_files(&edge.outputs, edge_index, makers)?;
-    add_files(&edge.implicit_outputs, edge_index, makers)?;
-    Ok(())
 }
 
 /// Puts the edge into the table for these files.

@@ -1,10 +1,10 @@
 //! Which edges need which, and the order of edges.
-ghost use Rattle.std.specs.Prelude.{◌≡◌, ◌++◌, map, length, IfOk, OnOk};
+ghost use Rattle.std.specs.Prelude.{◌≡◌, ◌++◌, length, IfOk, OnOk};
 ghost use Rattle.std.specs.List.{filter_map};
 ghost use Rattle.dep_order.specs.Rows.{rows};
 ghost use Rattle.dep_order.specs.Sortings.{IsSortingOf};
 ghost use Rattle.build_effect.specs.Graphs.{EdgeNeeds};
-ghost use Rattle.build_effect.specs.inner.Makers.{maker_in, makers_row, AreNeeds};
+ghost use Rattle.build_effect.specs.inner.Makers.{maker_in, AreNeeds};
 
 use crate::edge::Edge;
 use crate::graph::Graph;
@@ -52,25 +52,13 @@ fn needs_of<S: BuildHasher + Copy>(
     let makers = Makers::of(alloc, edges, hash_builder)?;
     let mut needs = Vec::with_capacity(alloc, edges.len())?;
     for edge in edges {
-        let row = edge_needs(alloc, edge, &makers)?;
+        let mut row = Vec::new(alloc);
+        add_makers(&edge.inputs, &makers, &mut row)?;
+        add_makers(&edge.implicit_inputs, &makers, &mut row)?;
+        add_makers(&edge.order_only, &makers, &mut row)?;
         needs.push(row)?;
     }
     Ok(needs)
-}
-
-/// The makers of the edge's inputs.
-fn edge_needs<S: BuildHasher>(
-    alloc: Global,
-    edge: &Edge,
-    makers: &Makers<'_, S>,
-) -> Result<Vec<usize>, AllocError>
-    ensures { IfOk result (λ row. row.items ≡ makers_row (maker_in makers.now.table) edge.now) }
-{
-    let mut row = Vec::new(alloc);
-    add_makers(&edge.inputs, makers, &mut row)?;
-    add_makers(&edge.implicit_inputs, makers, &mut row)?;
-    add_makers(&edge.order_only, makers, &mut row)?;
-    Ok(row)
 }
 
 /// Appends the makers of those files that an edge makes.

@@ -1,5 +1,5 @@
 //! Which statement is on which edge.
-ghost use Rattle.std.specs.Prelude.{◌≡◌, ◌≢◌, ◌<◌, ℕ, [], Some, None, length, IfOk, IfErr, OnOk, All, MatchBool, MatchOption};
+ghost use Rattle.std.specs.Prelude.{◌≡◌, ◌≢◌, ◌<◌, [], Some, None, length, IfOk, IfErr, OnOk, All, MatchBool, MatchOption};
 ghost use Rattle.ninja_text.specs.Failure.{ForFault};
 ghost use Rattle.build_effect.specs.Graphs.{MadeOnce, Names};
 ghost use Rattle.build_effect.specs.inner.Makers.{maker_in, AreMakers};
@@ -117,21 +117,10 @@ pub(crate) fn check_mentioned(
         (IsFirstUnmentioned edges.now name.now statement_of.now)) }
 {
     for (edge_index, edge) in edges.iter().enumerate() {
-        if is_unmentioned(edge, name, statement_of[edge_index]) {
+        if statement_of[edge_index].is_none() && names(edge, name) {
             let output = first_output(alloc, edge)?;
             return Err(Failure::Fault(EffectFault::NotMentioned { output }));
         }
     }
     Ok(())
-}
-
-/// Whether the edge names the file, and has no statement.
-fn is_unmentioned(edge: &Edge, name: &Path, statement: Option<usize>) -> bool
-    ensures { MatchBool result (Names name.now edge.now × (statement ≡ None))
-        (Names name.now edge.now → (k : ℕ) × (statement ≡ Some k)) }
-{
-    match statement {
-        Some(_) => false,
-        None => names(edge, name),
-    }
 }

@@ -1,6 +1,6 @@
 //! The reader of edge listings that come in pieces: lines are read one by one into the edges so
 //! far.
-ghost use Rattle.std.specs.Prelude.{◌≡◌, ℕ, ◌++◌, List, [], Some, Err};
+ghost use Rattle.std.specs.Prelude.{◌≡◌, ◌++◌, [], Some, Err};
 ghost use Rattle.ninja_text.specs.LineViews.{seen_line};
 ghost use Rattle.build_effect.specs.inner.ListingRows.{ReadsText, GivesGraph, graph_failure};
 ghost use Rattle.build_effect.specs.ListingReaders.{line_failure};

@@ -1,20 +1,25 @@
-use Rattle.std.proofs.Common.{refl, arith}
+use Rattle.std.proofs.Common.{◌≡◌, ◌∙◌, ℕ, Bool, true, false, Option, Some, None, refl, ap, arith}
+use Rattle.std.specs.Prelude.{not}
+use Rattle.std.specs.Option.{is_some}
 use Rattle.std.proofs.lemmas.Option.{slice_get_read, slice_get_within}
-use Rattle.build_effect.proofs.Bindings.{first_unmentioned, more_have}
+use Rattle.build_effect.proofs.Bindings.{more_have}
 use Rattle.build_effect.proofs.statement_edges.check_mentioned.Goals as goal
+use Rattle.build_effect.proofs.statement_edges.check_mentioned.Goals.{else-is_none-via-then-is_none+else-names, else-is_none-via-else-is_none}
 
-pub returns-then-is_unmentioned-clause-fault : goal.returns-then-is_unmentioned-clause-fault
-returns-then-is_unmentioned-clause-fault c =
-    let i = c.loop-edge_index.edge_index in
-    let e = c.index-edges-edge_index.result in
-    first_unmentioned c.args.edges.now c.args.name.now c.args.statement_of.now i e c.in_ok-output.output (slice_get_read c.args.edges.now _ i e refl c.loop-edge_index-test.true c.index-edges-edge_index.is) c.loop-edge_index.invariant
-    c.if-is_unmentioned.ensures.0 c.if-is_unmentioned.ensures.1 c.in_ok-output.ensures
+-- where there is not none, there is a statement
+has_statement : (statement : Option ℕ) (none : Bool) → is_some statement ≡ not none → none ≡ false → (k : ℕ) × (statement ≡ Some k)
+has_statement None none test is = absurd (let x : false ≡ true = test ∙ ap not is in cc)
+has_statement (Some k) none test is = (k, refl)
 
 pub loop-edge_index-preserved : goal.loop-edge_index-preserved
 loop-edge_index-preserved c =
     let i = c.loop-edge_index.edge_index in
     let e = c.index-edges-edge_index.result in
-    more_have c.args.edges.now c.args.name.now c.args.statement_of.now i e (slice_get_read c.args.edges.now _ i e refl c.loop-edge_index-test.true c.index-edges-edge_index.is) c.loop-edge_index.invariant c.if-is_unmentioned.ensures
+    more_have c.args.edges.now c.args.name.now c.args.statement_of.now i e (slice_get_read c.args.edges.now _ i e refl c.loop-edge_index-test.true c.index-edges-edge_index.is) c.loop-edge_index.invariant (λ names.
+    elim c.else-is_none.branch [
+      | else-is_none-via-then-is_none+else-names w ↦ absurd (w.if-names.ensures names)
+      | else-is_none-via-else-is_none w ↦ has_statement _ c.is_none.result c.is_none.ensures w.if-is_none.false
+    ])
 
 pub returns-clause-ok : goal.returns-clause-ok
 returns-clause-ok c = λ i e at names.
