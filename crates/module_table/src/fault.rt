@@ -1,7 +1,7 @@
 //! Why a table cannot be built.
 
 use ninja_text::Path;
-use scan_docs::{Name, TargetName};
+use scan_docs::{Info, Name, Rule, TargetName};
 use std::fmt;
 use thiserror::Error;
 
@@ -77,6 +77,16 @@ pub enum TableFault {
     PrivateUnknown {
         name: Name,
     },
+}
+
+/// A table that cannot be built: why, and what it was to be built of, given back.
+#[derive(Drop)]
+pub struct RefusedTable {
+    pub fault: TableFault,
+    /// The target's objects, by index.
+    pub objects: Vec<Rule>,
+    /// The infos of the targets that it links, by index.
+    pub infos: Vec<Info>,
 }
 
 impl TableFault {

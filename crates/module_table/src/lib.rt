@@ -10,7 +10,8 @@
 //! Names, paths, targets and files are looked up by their hashes. `build` hashes with a fixed seed,
 //! so that many of them can be chosen to collide, and the work then grows with their square. Where
 //! strangers write the scan documents or the infos, [`Table::build_with_hasher`] does the same with
-//! the keys of a `RandomState`.
+//! the keys of a `RandomState`. [`Table::build_or_refused`] also gives the objects and infos back
+//! with a fault, which has only their indexes ([`RefusedTable`]).
 //!
 //! [`Table::lookup`] answers who provides a name, [`Table::provided`] and [`Table::required`] what
 //! an object provides and requires, and [`Table::needed`] the modules at the ends of chains of
@@ -66,7 +67,7 @@ mod requirements;
 mod resolved;
 mod table;
 
-pub use fault::{Maker, TableFault};
+pub use fault::{Maker, RefusedTable, TableFault};
 pub use laws::{added_files, one_fault, sound_tables};
 pub use needed::Needs;
 pub use resolved::Resolved;

@@ -61,6 +61,19 @@ impl Resolved {
         self.objects.as_slice()
     }
 
+    /// Gives up the objects and the infos, both by index.
+    pub fn into_parts(self) -> (Vec<Rule>, Vec<Info>)
+        ensures objects { result.0.items ≡ self.objects }
+        ensures infos { result.1.items ≡ self.infos }
+    {
+        let Resolved {
+            objects,
+            infos,
+            required: _,
+        } = self;
+        (objects, infos)
+    }
+
     /// The infos, by index.
     pub(crate) fn infos(&self) -> &[Info]
         ensures { result.now ≡ self.now.infos }

@@ -11,7 +11,7 @@ ghost use Rattle.module_table.specs.Added.{required_of};
 ghost use Rattle.module_table.specs.declared.fault.TableFault.{TableFault};
 
 use crate::checks::check_all;
-use crate::fault::{Maker, TableFault};
+use crate::fault::{Maker, RefusedTable, TableFault};
 use crate::modules::index_of;
 use crate::needed::{Needs, copy_pairs, named_at};
 use crate::resolved::Resolved;
@@ -95,7 +95,32 @@ impl<S: BuildHasher + Copy> Table<S> {
         ensures fault { IfErr result
             (ForFault (IsReported (table_with objects.items infos.items) kept.now)) }
     {
-        let index = {
+        Table::build_or_refused(alloc, objects, infos, kept, hash_builder).map_err(
+            |failure| failure.map(|refused| refused.fault),
+        )
+    }
+
+    /// The same, and with a fault the objects and the infos are given back: the fault names them by
+    /// their indexes.
+    pub fn build_or_refused(
+        alloc: Global,
+        objects: Vec<Rule>,
+        infos: Vec<Info>,
+        kept: &[Name],
+        hash_builder: S,
+    ) -> Result<Table<S>, Failure<RefusedTable>>
+        ensures table { IfOk result (λ table. table ≡ table_with objects.items infos.items) }
+        ensures sound { IfOk result IsSound }
+        ensures kept { IfOk result (λ table. PrivateAreProvided table kept.now) }
+        ensures no_fault { IfOk result
+            (λ table. (fault : TableFault) → IsFault table kept.now fault → ⊥) }
+        ensures fault { IfErr result (ForFault (λ refused.
+            IsReported (table_with objects.items infos.items) kept.now refused.fault)) }
+        ensures given { IfErr result (ForFault (λ refused.
+            table_with refused.objects.items refused.infos.items
+            ≡ table_with objects.items infos.items)) }
+    {
+        let checked = {
             let mut paths = IndexSet::with_hasher(alloc, hash_builder);
             check_all(
                 alloc,
@@ -104,14 +129,22 @@ impl<S: BuildHasher + Copy> Table<S> {
                 kept,
                 &mut paths,
                 hash_builder,
-            )?
+            )
         };
-        Ok(Table {
-            resolved: Resolved::new(objects, infos, index.required),
-            names: index.names,
-            origins: index.origins,
-            graph: index.graph,
-        })
+        match checked {
+            Ok(index) => Ok(Table {
+                resolved: Resolved::new(objects, infos, index.required),
+                names: index.names,
+                origins: index.origins,
+                graph: index.graph,
+            }),
+            Err(Failure::Memory) => Err(Failure::Memory),
+            Err(Failure::Fault(fault)) => Err(Failure::Fault(RefusedTable {
+                fault,
+                objects,
+                infos,
+            })),
+        }
     }
 
     /// The objects with what each requires. What is kept for look-ups is freed.

@@ -1,0 +1,42 @@
+use Rattle.std.proofs.Common.{◌≡◌, ◌∙◌, sym, subst, map, arith}
+use Rattle.module_table.specs.TableValue.{TableValue}
+use Rattle.module_table.specs.Added.{required_of}
+use Rattle.module_table.specs.Outcomes.{HasNoFault}
+use Rattle.module_table.specs.inner.LookUps.{AreLookUps}
+use Rattle.module_table.proofs.IndexRows.{same_table}
+use Rattle.module_table.proofs.Faultless.{faultless_is_sound}
+use Rattle.module_table.proofs.table.Table.build_or_refused.Goals as goal
+
+pub new-requires-clause-sound : goal.new-requires-clause-sound
+new-requires-clause-sound g c =
+    let t : TableValue = record { objects = c.args.objects.items; infos = c.args.infos.items } in
+    let same = same_table _ _ _ _ c.as_slice.ensures.value c.as_slice-2.ensures.value in
+    (faultless_is_sound t c.args.kept.now (omega (arith, c.args.objects.ok.0, c.args.objects.ok.1, c.args.objects.small)) (subst (λ u. HasNoFault u c.args.kept.now) same c.in-Ok.ensures.no_fault)).0
+
+pub new-requires-clause-required : goal.new-requires-clause-required
+new-requires-clause-required g c =
+    subst (λ (u : TableValue). map (λ row. row.items) c.in-Ok.index.required.items ≡ map (required_of u) u.objects)
+    (same_table _ _ _ _ c.as_slice.ensures.value c.as_slice-2.ensures.value) c.in-Ok.ensures.index.all_required
+
+pub invariant_of-result : goal.invariant_of-result
+invariant_of-result g c =
+    let same = same_table _ _ _ _ c.as_slice.ensures.value c.as_slice-2.ensures.value ∙ sym c.new.ensures in
+    let index = c.in-Ok.index in
+    let h = subst (λ u. AreLookUps u index.names.keys index.origins.items index.graph (map (λ row. row.items) index.required.items)) same c.in-Ok.ensures.index in
+    (h.all_names, h.all_origins, h.is_graph)
+
+pub returns-in-Ok-clause-sound : goal.returns-in-Ok-clause-sound
+returns-in-Ok-clause-sound g c =
+    let t : TableValue = record { objects = c.args.objects.items; infos = c.args.infos.items } in
+    let same = same_table _ _ _ _ c.as_slice.ensures.value c.as_slice-2.ensures.value in
+    rw c.new.ensures ((faultless_is_sound t c.args.kept.now (omega (arith, c.args.objects.ok.0, c.args.objects.ok.1, c.args.objects.small)) (subst (λ u. HasNoFault u c.args.kept.now) same c.in-Ok.ensures.no_fault)).0)
+
+pub returns-in-Ok-clause-kept : goal.returns-in-Ok-clause-kept
+returns-in-Ok-clause-kept g c =
+    let t : TableValue = record { objects = c.args.objects.items; infos = c.args.infos.items } in
+    let same = same_table _ _ _ _ c.as_slice.ensures.value c.as_slice-2.ensures.value in
+    rw c.new.ensures ((faultless_is_sound t c.args.kept.now (omega (arith, c.args.objects.ok.0, c.args.objects.ok.1, c.args.objects.small)) (subst (λ u. HasNoFault u c.args.kept.now) same c.in-Ok.ensures.no_fault)).1)
+
+pub returns-in-Ok-clause-no_fault : goal.returns-in-Ok-clause-no_fault
+returns-in-Ok-clause-no_fault g c =
+    rw c.new.ensures (subst (λ u. HasNoFault u c.args.kept.now) (same_table _ _ _ _ c.as_slice.ensures.value c.as_slice-2.ensures.value) c.in-Ok.ensures.no_fault)
