@@ -90,15 +90,9 @@ pub map_push : {A B : Type 0} (f : A → B) (xs : List A) (x : A) (ys : List B) 
 map_push f xs x ys y e h = rw (map-append, e, h) refl
 
 -- the refusal of a target whose predecessors all collate is that of the project
-refused_here : (style : Option Written) (targets : List ProjectTargetValue) (n : ℕ) (outs : List CollatedValue) (p : ProjectTargetValue) → CollatesProject style (take n targets) outs → slice_get targets n ≡ Some p →
+pub refused_here : (style : Option Written) (targets : List ProjectTargetValue) (n : ℕ) (outs : List CollatedValue) (p : ProjectTargetValue) → CollatesProject style (take n targets) outs → slice_get targets n ≡ Some p →
     (refusal : Refusal) → IsLinkedRefusal style outs (length outs) p refusal → IsProjectRefusal style targets n refusal
 refused_here style targets n outs p project at refusal h =
     let within : n < length targets = slice_get_within _ _ _ at in
     let count : length (take n targets) ≡ n = length-take-le n targets (omega (arith, within)) in
     (outs, p, project, at, subst (λ m. IsLinkedRefusal style outs m p refusal) (project.count ∙ count) h)
-
--- the failure of the target of this index, with the index
-pub failed_here : (style : Option Written) (targets : List ProjectTargetValue) (n : ℕ) (outs : List CollatedValue) (p : ProjectTargetValue) → CollatesProject style (take n targets) outs → slice_get targets n ≡ Some p →
-    (failure : Failure Refusal) (result : Failure (ℕ × Refusal)) → Turns (λ refusal refused. refused ≡ (n, refusal)) failure result → ForFault (IsLinkedRefusal style outs (length outs) p) failure → ForFault (λ refused. IsProjectRefusal style targets refused.0 refused.1) result
-failed_here style targets n outs p project at Memory result turned h = rw turned tt
-failed_here style targets n outs p project at (Fault refusal) result turned h = rw (turned.2, turned.1) (refused_here style targets n outs p project at refusal h)

@@ -22,9 +22,10 @@ use Rattle.collate_core.specs.Documents.{table_of, AreAccepted, IsResolved}
 use Rattle.collate_core.specs.Statements.{statements_of}
 use Rattle.collate_core.specs.Infos.{info_of_table}
 use Rattle.collate_core.specs.Collation.{IsMapText, AreMaps, Collates}
-use Rattle.collate_core.specs.Refusals.{IsRefusal}
-use Rattle.collate_core.specs.inner.Parts.{IsWriteRefusal, IsMapsRefusal, IsTextsRefusal, HasSpelled}
+use Rattle.collate_core.specs.Refusals.{IsRefusal, WasRead}
+use Rattle.collate_core.specs.inner.Parts.{IsDocumentRefusal, IsWriteRefusal, IsMapsRefusal, IsTextsRefusal, HasSpelled}
 use Rattle.collate_core.specs.declared.fault.Refusal.{Refusal}
+use Rattle.collate_core.specs.declared.fault.RefusedTarget.{RefusedTarget}
 use Rattle.collate_core.specs.declared.fault.Refusal.TheVariants.{Scan, Info, Table, StatementTooLong, Map, LinkedLater}
 use Rattle.collate_core.proofs.Writing.{has_paths}
 
@@ -57,6 +58,54 @@ collates target style t ss c table same h =
 
 pub resolved : (target : TargetValue) (t : TableValue) → t ≡ table_of target → AreAccepted target → ((fault : TableFault) → IsFault t target.kept fault → ⊥) → IsSound t → PrivateAreProvided t target.kept → IsResolved target
 resolved target t table documents no_fault sound kept = record { documents = documents; no_fault = subst (λ u. (fault : TableFault) → IsFault u target.kept fault → ⊥) table no_fault; sound = subst IsSound table sound; kept = subst (λ u. PrivateAreProvided u target.kept) table kept }
+
+-- a refusal of a document is one whatever the style, and needs nothing of what was read
+pub document_refused : (target : TargetValue) (refusal : Refusal) → IsDocumentRefusal target refusal → (style : Option Written) → IsRefusal target style refusal
+document_refused target (Scan i fault) h style = h
+document_refused target (Info i fault) h style = h
+document_refused target (Table fault) h style = absurd h
+document_refused target (StatementTooLong k) h style = absurd h
+document_refused target (Map o fault) h style = absurd h
+document_refused target LinkedLater h style = absurd h
+
+pub document_read : (target : TargetValue) (refusal : Refusal) → IsDocumentRefusal target refusal → (read : TableValue) → WasRead target refusal read
+document_read target (Scan i fault) h read = tt
+document_read target (Info i fault) h read = tt
+document_read target (Table fault) h read = absurd h
+document_read target (StatementTooLong k) h read = absurd h
+document_read target (Map o fault) h read = absurd h
+document_read target LinkedLater h read = absurd h
+
+pub any_style : (target : TargetValue) (style : Option Written) (failure : Failure RefusedTarget) →
+    ForFault (λ (refused : RefusedTarget). (s : Option Written) → IsRefusal target s refused.refusal) failure → ForFault (λ (refused : RefusedTarget). IsRefusal target style refused.refusal) failure
+any_style target style Memory h = tt
+any_style target style (Fault refused) h = h style
+
+-- what holds of a failure's fault
+pub at_fault : {F : Type 0} (P : F → Type 0) (failure : Failure F) (fault : F) → failure ≡ Fault fault → ForFault P failure → P fault
+at_fault P failure fault is h = subst (ForFault P) is h
+
+-- the same of the fault as a match picks it
+pub picked : {F : Type 0} (P : F → Type 0) (failure : Failure F) (fault pick : F) → failure ≡ Fault fault → pick ≡ fault → ForFault P failure → P pick
+picked P failure fault pick is same h = subst P (sym same) (at_fault P failure fault is h)
+
+-- the table of the target's documents is what was read, whatever the refusal
+pub table_read : (target : TargetValue) (refusal : Refusal) (read : TableValue) → read ≡ table_of target → WasRead target refusal read
+table_read target (Scan i fault) read h = tt
+table_read target (Info i fault) read h = tt
+table_read target (Table fault) read h = h
+table_read target (StatementTooLong k) read h = tt
+table_read target (Map o fault) read h = h
+table_read target LinkedLater read h = tt
+
+-- a refusal of the statements' build lines needs nothing of what was read
+pub write_read : (target : TargetValue) (ss : List StatementValue) (refusal : Refusal) → IsWriteRefusal ss refusal → (read : TableValue) → WasRead target refusal read
+write_read target ss (Scan i fault) h read = absurd h
+write_read target ss (Info i fault) h read = absurd h
+write_read target ss (Table fault) h read = absurd h
+write_read target ss (StatementTooLong k) h read = tt
+write_read target ss (Map o fault) h read = absurd h
+write_read target ss LinkedLater h read = absurd h
 
 write_refusal : (target : TargetValue) (style : Option Written) → IsResolved target → (refusal : Refusal) → IsWriteRefusal (statements_of (table_of target)) refusal → IsRefusal target style refusal
 write_refusal target style resolved (StatementTooLong k) h = (resolved, h)

@@ -8,7 +8,7 @@ use Rattle.module_maps.specs.Maps.{Written}
 use Rattle.collate_core.specs.Values.{TargetValue, CollatedValue, ProjectTargetValue}
 use Rattle.collate_core.specs.Documents.{table_of}
 use Rattle.collate_core.specs.Collation.{Collates}
-use Rattle.collate_core.specs.Refusals.{IsRefusal}
+use Rattle.collate_core.specs.Refusals.{IsRefusal, WasRead}
 use Rattle.collate_core.specs.declared.fault.Refusal.{Refusal}
 use Rattle.collate_core.specs.declared.fault.Refusal.TheVariants.{LinkedLater}
 
@@ -61,3 +61,10 @@ IsProjectRefusal style targets n refusal =
     (outs : List CollatedValue) × (p : ProjectTargetValue)
     × CollatesProject style (take n targets) outs
     × (slice_get targets n ≡ Some p) × IsLinkedRefusal style outs n p refusal
+
+-- what was read of the target of this index, which has this refusal, once those before it collated
+abbrev pub WasReadAt : Option Written → List ProjectTargetValue → ℕ → Refusal → TableValue → Type 0
+WasReadAt style targets n refusal read =
+    (outs : List CollatedValue) × (p : ProjectTargetValue)
+    × CollatesProject style (take n targets) outs
+    × (slice_get targets n ≡ Some p) × WasRead (target_of outs p) refusal read

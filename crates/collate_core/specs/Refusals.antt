@@ -90,3 +90,10 @@ IsRefusal target (Some written) (Map o fault) =
     IsResolved target × AllFit target × IsMapRefusal (table_of target) written o fault
 -- of a target by itself there is no other
 IsRefusal target style LinkedLater = ⊥
+
+-- what was read of a target with this refusal: where it is of the table or of a map, the table of
+-- the target's documents
+abbrev pub WasRead : TargetValue → Refusal → TableValue → Type 0
+WasRead target (Table fault) read = read ≡ table_of target
+WasRead target (Map o fault) read = read ≡ table_of target
+WasRead target other read = Unit {0}

@@ -2,14 +2,15 @@
 ghost use Rattle.std.specs.Prelude.{◌≡◌, map, None, IfOk, IfErr};
 ghost use Rattle.std.specs.Option.{option_copied, option_map};
 ghost use Rattle.ninja_text.specs.Failure.{ForFault};
+ghost use Rattle.module_table.specs.TableValue.{table_with};
 ghost use Rattle.collate_core.specs.Documents.{IsResolved, table_of};
 ghost use Rattle.collate_core.specs.Collation.{Collates};
 ghost use Rattle.collate_core.specs.Headline.{IsHeadline, IsDyndepOf};
-ghost use Rattle.collate_core.specs.Refusals.{IsRefusal};
+ghost use Rattle.collate_core.specs.Refusals.{IsRefusal, WasRead};
 ghost use Rattle.collate_core.specs.inner.Parts.{IsTableText};
 
 use crate::collated::Collated;
-use crate::fault::Refusal;
+use crate::fault::{Refusal, RefusedTarget, refusal_alone, without_table};
 use crate::info::info_text_of;
 use crate::laws::headline;
 use crate::object_maps::maps_of;
@@ -17,7 +18,7 @@ use crate::statements::text_of;
 use crate::table::table_of;
 use crate::target::Target;
 use module_maps::MapStyle;
-use module_table::{Table, added_files};
+use module_table::{Resolved, Table, added_files};
 use ninja_text::{Failure, Path};
 use scan_docs::laws::info_again;
 use std::alloc::{AllocError, Global};
@@ -60,8 +61,46 @@ pub fn collate_with_hasher<M: MapStyle, S: BuildHasher + Copy>(
     ensures refused { IfErr result (ForFault (IsRefusal target.now
         (option_map M.written (option_copied style.entry)))) }
 {
+    collate_or_refused(alloc, target, style, hash_builder).map_err(refusal_alone)
+}
+
+/// The same, and with a refusal what was read of the target is answered: a caller who names the
+/// objects and infos of the refusal reads no document twice.
+pub fn collate_or_refused<M: MapStyle, S: BuildHasher + Copy>(
+    alloc: Global,
+    target: &Target<'_>,
+    style: Option<&M>,
+    hash_builder: S,
+) -> Result<Collated, Failure<RefusedTarget>>
+    ensures collated { IfOk result
+        (Collates target.now (option_map M.written (option_copied style.entry))) }
+    ensures headline { IfOk result (IsHeadline target.now) }
+    ensures refused { IfErr result (ForFault (λ refused. IsRefusal target.now
+        (option_map M.written (option_copied style.entry)) refused.refusal)) }
+    ensures read { IfErr result (ForFault (λ refused. WasRead target.now refused.refusal
+        (table_with refused.objects.items refused.infos.items))) }
+{
     let table = table_of(alloc, target, hash_builder)?;
-    collated_of(alloc, target, &table, style, hash_builder)
+    match collated_of(alloc, target, &table, style, hash_builder) {
+        Ok(collated) => Ok(collated),
+        Err(Failure::Memory) => Err(Failure::Memory),
+        Err(Failure::Fault(refusal)) => {
+            Err(Failure::Fault(with_table(refusal, table.into_resolved())))
+        }
+    }
+}
+
+/// The target of a refusal whose documents have this table.
+fn with_table(refusal: Refusal, table: Resolved) -> RefusedTarget
+    ensures refusal { result.refusal ≡ refusal }
+    ensures read { table_with result.objects.items result.infos.items ≡ table }
+{
+    let (objects, infos) = table.into_parts();
+    RefusedTarget {
+        refusal,
+        objects,
+        infos,
+    }
 }
 
 /// What a target collates to whose documents have this table.
@@ -111,6 +150,22 @@ pub fn collate_dyndep_with_hasher<S: BuildHasher + Copy>(
     ensures dyndep { IfOk result (λ text. IsDyndepOf target.now text.items) }
     ensures refused { IfErr result (ForFault (IsRefusal target.now None)) }
 {
+    collate_dyndep_or_refused(alloc, target, hash_builder).map_err(refusal_alone)
+}
+
+/// The same, and with a refusal what was read of the target is answered, as
+/// [`collate_or_refused`] does.
+pub fn collate_dyndep_or_refused<S: BuildHasher + Copy>(
+    alloc: Global,
+    target: &Target<'_>,
+    hash_builder: S,
+) -> Result<Vec<u8>, Failure<RefusedTarget>>
+    ensures dyndep { IfOk result (λ text. IsDyndepOf target.now text.items) }
+    ensures refused { IfErr result
+        (ForFault (λ refused. IsRefusal target.now None refused.refusal)) }
+    ensures read { IfErr result (ForFault (λ refused. WasRead target.now refused.refusal
+        (table_with refused.objects.items refused.infos.items))) }
+{
     headline();
     added_files();
     info_again();
@@ -118,8 +173,11 @@ pub fn collate_dyndep_with_hasher<S: BuildHasher + Copy>(
     let _ = target.name.text();
     let table = table_of(alloc, target, hash_builder)?;
     let resolved = table.into_resolved();
-    let dyndep = text_of(alloc, &resolved)?;
-    Ok(dyndep)
+    match text_of(alloc, &resolved) {
+        Ok(dyndep) => Ok(dyndep),
+        Err(Failure::Memory) => Err(Failure::Memory),
+        Err(Failure::Fault(refusal)) => Err(Failure::Fault(without_table(alloc, refusal))),
+    }
 }
 
 /// The objects of a table.

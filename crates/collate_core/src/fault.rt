@@ -1,9 +1,14 @@
 //! Why a target does not collate, and why a rehearsal has no graph.
+ghost use Rattle.std.specs.Prelude.{◌≡◌};
+ghost use Rattle.ninja_text.specs.Failure.{Turns};
+
 use build_effect::EffectFault;
 use dyndep_file::ReadFault;
 use module_maps::MapFault;
 use module_table::TableFault;
-use scan_docs::DocFault;
+use ninja_text::Failure;
+use scan_docs::{DocFault, Info, Rule};
+use std::alloc::Global;
 use thiserror::Error;
 
 /// Why a target does not collate. Of several faults the first in this order is reported, and of one
@@ -29,6 +34,35 @@ pub enum Refusal {
     /// A target of a project links one that is not earlier (K3).
     #[error("K3 LinkedLater")]
     LinkedLater,
+}
+
+/// A target that does not collate: why, and what was read of it. A refusal has objects and infos by
+/// their indexes in what was read.
+#[derive(Drop)]
+pub struct RefusedTarget {
+    pub refusal: Refusal,
+    /// The rules of all scan documents, where the refusal is of the table or of a map.
+    pub objects: Vec<Rule>,
+    /// The infos of the targets that it links, where the refusal is of the table or of a map.
+    pub infos: Vec<Info>,
+}
+
+/// The target of a refusal that is neither of the table nor of a map.
+pub(crate) fn without_table(alloc: Global, refusal: Refusal) -> RefusedTarget
+    ensures { result.refusal ≡ refusal }
+{
+    RefusedTarget {
+        refusal,
+        objects: Vec::new(alloc),
+        infos: Vec::new(alloc),
+    }
+}
+
+/// The failure without what was read.
+pub(crate) fn refusal_alone(failure: Failure<RefusedTarget>) -> Failure<Refusal>
+    ensures { Turns (λ refused refusal. refusal ≡ refused.refusal) failure result }
+{
+    failure.map(|refused| refused.refusal)
 }
 
 /// Why a rehearsal has no graph.

@@ -7,6 +7,8 @@
 //!   (`specs/Refusals.antt`, `IsRefusal`). The law [`one_outcome`] says that there is never both,
 //!   nor two refusals.
 //!   [`collate_dyndep`] answers the dyndep text alone (`specs/Headline.antt`, `IsDyndepOf`).
+//!   A refusal has objects and infos by their indexes: [`collate_or_refused`] and the like answer
+//!   with it what was read of the target (`specs/Refusals.antt`, `WasRead`).
 //! - What it answers has the headline (`specs/Headline.antt`, `IsHeadline`): the dyndep text stands
 //!   for one statement per object and for nothing else, and on every build that names the file on
 //!   exactly the objects it has exactly one effect, which adds to each object's edge exactly what
@@ -63,11 +65,14 @@ mod target;
 
 pub use check::{check_edges, check_edges_with_hasher};
 pub use collated::{Collated, CollatedParts};
-pub use collating::{collate, collate_dyndep, collate_dyndep_with_hasher, collate_with_hasher};
-pub use fault::{Refusal, RehearseFault};
+pub use collating::{
+    collate, collate_dyndep, collate_dyndep_or_refused, collate_dyndep_with_hasher,
+    collate_or_refused, collate_with_hasher,
+};
+pub use fault::{Refusal, RefusedTarget, RehearseFault};
 pub use laws::{headline, no_false_wait, no_race, one_outcome, project_maps, project_orders};
 pub use module_maps::{Clang, Gcc, MapEntry, MapFault, MapStyle, ModuleMap};
-pub use projects::{ProjectOut, ProjectTarget, project, project_with_hasher};
+pub use projects::{ProjectOut, ProjectTarget, project, project_or_refused, project_with_hasher};
 pub use rehearsal::{rehearse, rehearse_with_hasher};
 pub use table::RULE_LIMIT;
 pub use target::Target;

@@ -1,15 +1,17 @@
 //! Projects: targets that link earlier ones.
 ghost use Rattle.std.specs.Prelude.{◌≡◌, ◌↔◌, ◌<◌, List, [], IfOk, OnOk, IfErr, IfSome, IsTrue, All, map, length};
 ghost use Rattle.std.specs.Option.{option_copied, option_map};
-ghost use Rattle.ninja_text.specs.Failure.{Turns, ForFault};
-ghost use Rattle.collate_core.specs.Projects.{CollatesProject, IsProjectRefusal, IsLinkedRefusal, linked_infos, project_tables};
+ghost use Rattle.ninja_text.specs.Failure.{ForFault};
+ghost use Rattle.module_table.specs.TableValue.{table_with};
+ghost use Rattle.collate_core.specs.Refusals.{WasRead};
+ghost use Rattle.collate_core.specs.Projects.{CollatesProject, IsProjectRefusal, IsLinkedRefusal, WasReadAt, target_of, linked_infos, project_tables};
 ghost use Rattle.collate_core.specs.ProjectOrders.{AllOrders, IsProjectOrdered, EndIsOrderable};
 ghost use Rattle.collate_core.specs.ProjectNeeds.{MapsReadBack};
 ghost use Rattle.collate_core.specs.inner.Parts.{CollatesLinked};
 
 use crate::collated::Collated;
-use crate::collating::collate_with_hasher;
-use crate::fault::Refusal;
+use crate::collating::collate_or_refused;
+use crate::fault::{Refusal, RefusedTarget, without_table};
 use crate::laws::{project_maps, project_orders};
 use crate::target::Target;
 use module_maps::MapStyle;
@@ -115,6 +117,44 @@ pub fn project_with_hasher<M: MapStyle, S: BuildHasher + Copy>(
         IsProjectRefusal (option_map M.written (option_copied style.entry))
         targets.now refused.0 refused.1)) }
 {
+    match project_or_refused(alloc, targets, style, hash_builder) {
+        Ok(out) => Ok(out),
+        Err(Failure::Memory) => Err(Failure::Memory),
+        Err(Failure::Fault((index, target))) => Err(Failure::Fault((index, target.refusal))),
+    }
+}
+
+/// The same, and with a refusal what was read of its target is answered, as
+/// [`collate_or_refused`](crate::collate_or_refused) does.
+pub fn project_or_refused<M: MapStyle, S: BuildHasher + Copy>(
+    alloc: Global,
+    targets: &[ProjectTarget<'_>],
+    style: Option<&M>,
+    hash_builder: S,
+) -> Result<ProjectOut, Failure<(usize, RefusedTarget)>>
+    ensures collated { IfOk result (λ out.
+        CollatesProject (option_map M.written (option_copied style.entry))
+        targets.now out.targets.items) }
+    // the dyndep files may be applied in any order, and all orders end alike
+    ensures orders { IfOk result (λ out. AllOrders (project_tables targets.now out.targets.items)) }
+    // one numbering of all objects puts the maker of each required file below its user
+    ensures numbered { IfOk result (λ out.
+        IsProjectOrdered targets.now (project_tables targets.now out.targets.items)) }
+    // the style reads in each object's map what the object provides and needs in the project
+    ensures maps { IfOk result (λ out. IfSome (option_copied style.entry) (λ s.
+        MapsReadBack (M.entries s) targets.now
+        (project_tables targets.now out.targets.items) out.targets.items)) }
+    // the graph after all dyndep files can be ordered
+    ensures orderable { IfOk result
+        (λ out. EndIsOrderable (project_tables targets.now out.targets.items)) }
+    ensures refused { IfErr result (ForFault (λ refused.
+        IsProjectRefusal (option_map M.written (option_copied style.entry))
+        targets.now refused.0 refused.1.refusal)) }
+    ensures read { IfErr result (ForFault (λ refused.
+        WasReadAt (option_map M.written (option_copied style.entry))
+        targets.now refused.0 refused.1.refusal
+        (table_with refused.1.objects.items refused.1.infos.items))) }
+{
     project_orders();
     project_maps();
     let mut outs = Vec::with_capacity(alloc, targets.len())?;
@@ -129,29 +169,27 @@ fn add_outs<M: MapStyle, S: BuildHasher + Copy>(
     style: Option<&M>,
     hash_builder: S,
     outs: &mut Vec<Collated>,
-) -> Result<(), Failure<(usize, Refusal)>>
+) -> Result<(), Failure<(usize, RefusedTarget)>>
     requires { outs.old.items ≡ [] }
     ensures collated { OnOk result
         (CollatesProject (option_map M.written (option_copied style.entry))
         targets.now outs.new.items) }
     ensures refused { IfErr result (ForFault (λ refused.
         IsProjectRefusal (option_map M.written (option_copied style.entry))
-        targets.now refused.0 refused.1)) }
+        targets.now refused.0 refused.1.refusal)) }
+    ensures read { IfErr result (ForFault (λ refused.
+        WasReadAt (option_map M.written (option_copied style.entry))
+        targets.now refused.0 refused.1.refusal
+        (table_with refused.1.objects.items refused.1.infos.items))) }
 {
     for (index, target) in targets.iter().enumerate() {
         match collate_linked(alloc, target, outs.as_slice(), style, hash_builder) {
             Ok(out) => outs.push(out)?,
-            Err(failure) => return Err(failed_at(index, failure)),
+            Err(Failure::Memory) => return Err(Failure::Memory),
+            Err(Failure::Fault(refused)) => return Err(Failure::Fault((index, refused))),
         }
     }
     Ok(())
-}
-
-/// The failure of the target of this index.
-fn failed_at(index: usize, failure: Failure<Refusal>) -> Failure<(usize, Refusal)>
-    ensures { Turns (λ refusal refused. refused ≡ (index, refusal)) failure result }
-{
-    failure.map(|refusal| (index, refusal))
 }
 
 /// Whether all indexes are below this one.
@@ -191,15 +229,18 @@ fn collate_linked<M: MapStyle, S: BuildHasher + Copy>(
     outs: &[Collated],
     style: Option<&M>,
     hash_builder: S,
-) -> Result<Collated, Failure<Refusal>>
+) -> Result<Collated, Failure<RefusedTarget>>
     ensures collated { IfOk result (CollatesLinked
         (option_map M.written (option_copied style.entry)) outs.now target.now) }
-    ensures refused { IfErr result (ForFault (IsLinkedRefusal
+    ensures refused { IfErr result (ForFault (λ refused. IsLinkedRefusal
         (option_map M.written (option_copied style.entry))
-        outs.now (length outs.now) target.now)) }
+        outs.now (length outs.now) target.now refused.refusal)) }
+    ensures read { IfErr result (ForFault (λ refused.
+        WasRead (target_of outs.now target.now) refused.refusal
+        (table_with refused.objects.items refused.infos.items))) }
 {
     if !are_below(target.linked, outs.len()) {
-        return Err(Failure::Fault(Refusal::LinkedLater));
+        return Err(Failure::Fault(without_table(alloc, Refusal::LinkedLater)));
     }
     let infos = infos_of(alloc, target.linked, outs)?;
     let with_infos = Target {
@@ -209,5 +250,5 @@ fn collate_linked<M: MapStyle, S: BuildHasher + Copy>(
         infos: &infos,
         kept: target.kept,
     };
-    collate_with_hasher(alloc, &with_infos, style, hash_builder)
+    collate_or_refused(alloc, &with_infos, style, hash_builder)
 }

@@ -4,14 +4,15 @@ ghost use Rattle.ninja_text.specs.Failure.{ForFault};
 ghost use Rattle.scan_docs.specs.Scan.{IsRuleText};
 ghost use Rattle.scan_docs.specs.InfoText.{IsInfoText};
 ghost use Rattle.scan_docs.specs.Values.{info_of};
+ghost use Rattle.module_table.specs.TableValue.{table_with};
 ghost use Rattle.module_maps.specs.Maps.{Written};
-ghost use Rattle.collate_core.specs.Documents.{all_rules, table_of, IsInfoAccepted, AreScansAccepted, IsResolved};
-ghost use Rattle.collate_core.specs.Refusals.{IsRefusal, IsScanRefusal, IsInfoRefusal};
-ghost use Rattle.collate_core.specs.inner.Parts.{IsTableText, ForScan, ForInfo};
+ghost use Rattle.collate_core.specs.Documents.{all_rules, table_of, IsInfoAccepted, AreScansAccepted, AreAccepted, IsResolved};
+ghost use Rattle.collate_core.specs.Refusals.{IsRefusal, IsScanRefusal, IsInfoRefusal, WasRead};
+ghost use Rattle.collate_core.specs.inner.Parts.{IsTableText, ForScan, ForInfo, IsDocumentRefusal};
 
-use crate::fault::Refusal;
+use crate::fault::{Refusal, RefusedTarget, without_table};
 use crate::target::Target;
-use module_table::Table;
+use module_table::{RefusedTable, Table};
 use ninja_text::Failure;
 use scan_docs::{DocFault, Info, Place, Rule, Setting, info_read, scan};
 use std::alloc::Global;
@@ -25,21 +26,62 @@ pub(crate) fn table_of<S: BuildHasher + Copy>(
     alloc: Global,
     target: &Target<'_>,
     hash_builder: S,
-) -> Result<Table<S>, Failure<Refusal>>
+) -> Result<Table<S>, Failure<RefusedTarget>>
     ensures table { IfOk result (λ table. table ≡ table_of target.now) }
     ensures resolved { OnOk result (IsResolved target.now) }
     ensures text { IfOk result IsTableText }
     // whatever the style, since maps come later
-    ensures refused { IfErr result (ForFault (λ refusal.
-        (style : Option Written) → IsRefusal target.now style refusal)) }
+    ensures refused { IfErr result (ForFault (λ refused.
+        (style : Option Written) → IsRefusal target.now style refused.refusal)) }
+    ensures read { IfErr result (ForFault (λ refused. WasRead target.now refused.refusal
+        (table_with refused.objects.items refused.infos.items))) }
+{
+    let (objects, infos) = match documents_of(alloc, target) {
+        Ok(read) => read,
+        Err(Failure::Memory) => return Err(Failure::Memory),
+        Err(Failure::Fault(refusal)) => {
+            return Err(Failure::Fault(without_table(alloc, refusal)));
+        }
+    };
+    match Table::build_or_refused(alloc, objects, infos, target.kept, hash_builder) {
+        Ok(table) => Ok(table),
+        Err(Failure::Memory) => Err(Failure::Memory),
+        Err(Failure::Fault(refused)) => Err(Failure::Fault(of_table(refused))),
+    }
+}
+
+/// The target of a table that is refused.
+fn of_table(refused: RefusedTable) -> RefusedTarget
+    ensures refusal { result.refusal ≡ Refusal.Table refused.fault }
+    ensures read { table_with result.objects.items result.infos.items
+        ≡ table_with refused.objects.items refused.infos.items }
+{
+    let RefusedTable {
+        fault,
+        objects,
+        infos,
+    } = refused;
+    RefusedTarget {
+        refusal: Refusal::Table { fault },
+        objects,
+        infos,
+    }
+}
+
+/// The rules and the infos of the target's documents, or the fault of the first that is faulty.
+fn documents_of(
+    alloc: Global,
+    target: &Target<'_>,
+) -> Result<(Vec<Rule>, Vec<Info>), Failure<Refusal>>
+    ensures table { IfOk result
+        (λ read. table_with read.0.items read.1.items ≡ table_of target.now) }
+    ensures accepted { OnOk result (AreAccepted target.now) }
+    ensures text { IfOk result (λ read. IsTableText (table_with read.0.items read.1.items)) }
+    ensures refused { IfErr result (ForFault (IsDocumentRefusal target.now)) }
 {
     let objects = rules_of_all(alloc, target.setting, target.scans)?;
     let infos = infos_of_all(alloc, target.infos)?;
-    match Table::build_with_hasher(alloc, objects, infos, target.kept, hash_builder) {
-        Ok(table) => Ok(table),
-        Err(Failure::Memory) => Err(Failure::Memory),
-        Err(Failure::Fault(fault)) => Err(Failure::Fault(Refusal::Table { fault })),
-    }
+    Ok((objects, infos))
 }
 
 /// The rules of all scan documents, one document after another.

@@ -13,9 +13,9 @@ use Rattle.module_table.specs.TableValue.{TableValue}
 use Rattle.module_maps.specs.Maps.{Written}
 use Rattle.build_effect.specs.declared.fault.EffectFault.{EffectFault}
 use Rattle.collate_core.specs.Values.{TargetValue, CollatedValue, ProjectTargetValue}
-use Rattle.collate_core.specs.Documents.{table_of, IsResolved}
+use Rattle.collate_core.specs.Documents.{table_of, AreScansAccepted, IsResolved}
 use Rattle.collate_core.specs.Collation.{Collates}
-use Rattle.collate_core.specs.Refusals.{IsMapRefusal, IsRefusal}
+use Rattle.collate_core.specs.Refusals.{IsScanRefusal, IsInfoRefusal, IsMapRefusal, IsRefusal}
 use Rattle.collate_core.specs.Projects.{target_of, LinksEarlier}
 use Rattle.collate_core.specs.declared.fault.Refusal.{Refusal}
 use Rattle.collate_core.specs.declared.fault.Refusal.TheVariants.{Scan, Info, StatementTooLong, Map}
@@ -49,6 +49,14 @@ ForScan P other = ⊥
 abbrev pub ForInfo : (ℕ → DocFault → Type 0) → Refusal → Type 0
 ForInfo P (Info index fault) = P index fault
 ForInfo P other = ⊥
+
+-- the refusal is of a document of the target, and so the same whatever the style
+abbrev pub IsDocumentRefusal : TargetValue → Refusal → Type 0
+IsDocumentRefusal target (Scan index fault) =
+    IsScanRefusal target.setting target.scans index fault
+IsDocumentRefusal target (Info index fault) =
+    AreScansAccepted target.setting target.scans × IsInfoRefusal target.infos index fault
+IsDocumentRefusal target other = ⊥
 
 -- the fault is of the effect, and this holds of it
 abbrev pub ForEffect : (EffectFault → Type 0) → RehearseFault → Type 0

@@ -1,40 +1,58 @@
-use Rattle.std.proofs.Common.{◌≡◌, List, [], map, None, refl, ap, subst, IsUtf8, All}
+use Rattle.std.proofs.Common.{◌≡◌, List, [], map, None, refl, ap, subst, sym, IsUtf8, All}
 use Rattle.std.proofs.lemmas.Result.{err_from_is_err_and}
 use Rattle.dyndep_file.specs.StatementValue.{StatementValue}
 use Rattle.scan_docs.specs.Name.{IsTargetName}
 use Rattle.scan_docs.specs.Info.{InfoValue}
 use Rattle.scan_docs.specs.InfoText.{info_text}
-use Rattle.module_table.specs.TableValue.{TableValue}
+use Rattle.module_table.specs.TableValue.{TableValue, table_with}
 use Rattle.collate_core.specs.Values.{TargetValue, CollatedValue}
 use Rattle.collate_core.specs.Statements.{statements_of}
 use Rattle.collate_core.specs.Infos.{info_of_table}
 use Rattle.collate_core.specs.Collation.{HasPaths, Collates}
-use Rattle.collate_core.proofs.Parts.{collates, texts_refused, write_refused}
+use Rattle.collate_core.specs.Refusals.{IsRefusal, WasRead}
+use Rattle.collate_core.specs.inner.Parts.{IsWriteRefusal}
+use Rattle.collate_core.proofs.Parts.{collates, texts_refused, write_refused, any_style, at_fault, write_read}
 use Rattle.collate_core.proofs.Texts.{info_is_sound}
 use Rattle.collate_core.proofs.Writing.{has_paths}
 use Rattle.collate_core.proofs.collating.collate_dyndep_or_refused.Goals as goal
 
-pub returns-in_err-dyndep-clause-refused : goal.returns-in_err-dyndep-clause-refused
-returns-in_err-dyndep-clause-refused g c =
-    let p = err_from_is_err_and c.from_residual-in_err-dyndep.result c.from_residual-in_err-dyndep.ensures.1 in
+pub returns-in_err-table-clause-refused : goal.returns-in_err-table-clause-refused
+returns-in_err-table-clause-refused g c =
+    let p = err_from_is_err_and c.from_residual.result c.from_residual.ensures.1 in
+    rw (p.1, p.2) (any_style c.args.target.now None _ c.in_err-table.ensures.refused)
+
+pub returns-clause-refused : goal.returns-clause-refused
+returns-clause-refused g c =
+    let target : TargetValue = c.args.target.now in
     let table = c.in_ok-table.ensures in
-    rw (p.1, p.2) (texts_refused c.args.target.now None c.in_ok-table.table table.table table.resolved _
-    (write_refused None c.in_ok-table.table (statements_of c.into_resolved-resolved.result) (ap statements_of c.into_resolved-resolved.ensures) _ c.in_err-dyndep.ensures.refused))
+    let refused = texts_refused target None c.in_ok-table.table table.table table.resolved _
+    (write_refused None c.in_ok-table.table (statements_of c.into_resolved-resolved.result) (ap statements_of c.into_resolved-resolved.ensures) _ c.in-Err-Fault.ensures.refused) in
+    subst (IsRefusal target None) (sym c.without_table.ensures)
+    (at_fault (IsRefusal target None) c.in-Err-Fault.field-0 c.in-Err-Fault.refusal c.in-Err-Fault.field-0-is refused)
+
+pub returns-clause-read : goal.returns-clause-read
+returns-clause-read g c =
+    let target : TargetValue = c.args.target.now in
+    let statements : List StatementValue = statements_of c.into_resolved-resolved.result in
+    let read : TableValue = table_with c.without_table.result.objects.items c.without_table.result.infos.items in
+    subst (λ refusal. WasRead target refusal read) (sym c.without_table.ensures)
+    (write_read target statements c.in-Err-Fault.refusal
+    (at_fault (IsWriteRefusal statements) c.in-Err-Fault.field-0 c.in-Err-Fault.refusal c.in-Err-Fault.field-0-is c.in-Err-Fault.ensures.refused) read)
 
 -- what the target collates to has the text, and the info that is not written
-pub returns-clause-dyndep : goal.returns-clause-dyndep
-returns-clause-dyndep g c =
+pub returns-in-Ok-clause-dyndep : goal.returns-in-Ok-clause-dyndep
+returns-in-Ok-clause-dyndep g c =
     let target : TargetValue = c.args.target.now in
     let t : TableValue = c.in_ok-table.table in
     let table = c.in_ok-table.ensures in
-    let text = c.in_ok-dyndep.ensures in
+    let text = c.in-Ok.ensures in
     let statements : List StatementValue = statements_of c.into_resolved-resolved.result in
     let are : statements ≡ statements_of t = ap statements_of c.into_resolved-resolved.ensures in
     let info : InfoValue = info_of_table target.name target.kept t in
     let named : IsTargetName target.name =
     subst IsTargetName (ap (λ (t : TargetValue). t.name) c.target.view_is) (record { accepted = c.text.ensures.accepted; utf8 = subst IsUtf8 c.text.ensures.text c.text.utf8 }) in
     let sound = info_is_sound t table.text c.added_files.ensures.required target.name target.kept named (subst (All HasPaths) are (has_paths statements text.spelled)) in
-    let collated : CollatedValue = record { dyndep = c.in_ok-dyndep.dyndep.items; info = info_text info; objects = map (λ rule. rule.object) t.objects; maps = [] } in
+    let collated : CollatedValue = record { dyndep = c.in-Ok.dyndep.items; info = info_text info; objects = map (λ rule. rule.object) t.objects; maps = [] } in
     let is : Collates target None collated =
     collates target None t statements collated table.table are (record {
       resolved = table.resolved;

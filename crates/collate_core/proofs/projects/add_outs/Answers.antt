@@ -1,14 +1,19 @@
-use Rattle.std.proofs.Common.{◌≡◌, ℕ, ◌+◌, List, [], ◌∷◌, ◌++◌, take, Option, Some, refl, subst, sym}
+use Rattle.std.proofs.Common.{◌≡◌, ℕ, ◌+◌, List, [], ◌∷◌, ◌++◌, take, length, Option, Some, refl, subst, sym}
 use Rattle.std.specs.Prelude.{slice_get}
 use Rattle.std.specs.Option.{option_copied, option_map}
 use Rattle.std.proofs.lemmas.List.{take_all}
 use Rattle.std.proofs.lemmas.Option.{slice_get_read}
 use Rattle.module_maps.specs.Maps.{Written}
 use Rattle.collate_core.specs.Values.{CollatedValue, ProjectTargetValue}
-use Rattle.collate_core.specs.Projects.{CollatesProject}
+use Rattle.ninja_text.specs.Failure.{ForFault}
+use Rattle.module_table.specs.TableValue.{table_with}
+use Rattle.collate_core.specs.Refusals.{WasRead}
+use Rattle.collate_core.specs.Projects.{CollatesProject, IsLinkedRefusal, target_of}
+use Rattle.collate_core.specs.declared.fault.RefusedTarget.{RefusedTarget}
 use Rattle.collate_core.specs.inner.Parts.{CollatesLinked}
 use Rattle.collate_core.proofs.Lists.{take_next}
-use Rattle.collate_core.proofs.LoopLemmas.{project_push, failed_here}
+use Rattle.collate_core.proofs.LoopLemmas.{project_push, refused_here}
+use Rattle.collate_core.proofs.Parts.{picked}
 use Rattle.collate_core.proofs.projects.add_outs.Goals as goal
 
 pub loop-index-init : goal.loop-index-init
@@ -16,15 +21,31 @@ loop-index-init g c =
     subst (CollatesProject (option_map g.M.MapStyle.written (option_copied c.args.style)) []) (sym c.requires)
     (record { count = refl; earlier = λ n p at. absurd (cc); each = λ n p out at also. absurd (cc) })
 
-pub returns-in-Err-clause-refused : goal.returns-in-Err-clause-refused
-returns-in-Err-clause-refused g c =
+pub returns-in-Err-Fault-clause-refused : goal.returns-in-Err-Fault-clause-refused
+returns-in-Err-Fault-clause-refused g c =
     let style : Option Written = option_map g.M.MapStyle.written (option_copied c.args.style) in
     let targets : List ProjectTargetValue = c.args.targets.now in
     let outs : List CollatedValue = c.loop-index.outs.items in
     let n : ℕ = c.loop-index.index in
     let p : ProjectTargetValue = c.index-targets-index.result in
     let here : slice_get targets n ≡ Some p = slice_get_read targets _ n _ refl c.loop-index-test.true c.index-targets-index.is in
-    failed_here style targets n outs p c.loop-index.invariant here c.in-Err.failure c.failed_at.result c.failed_at.ensures (rw (← c.as_slice.ensures.value) c.in-Err.ensures.refused)
+    let refused = subst (λ os. ForFault (λ (r : RefusedTarget). IsLinkedRefusal style os (length os) p r.refusal) c.in-Err-Fault.field-0) c.as_slice.ensures.value c.in-Err-Fault.ensures.refused in
+    refused_here style targets n outs p c.loop-index.invariant here _
+    (picked (λ (r : RefusedTarget). IsLinkedRefusal style outs (length outs) p r.refusal) c.in-Err-Fault.field-0 c.in-Err-Fault.refused _ c.in-Err-Fault.field-0-is c.in-Err-Fault.refused-is refused)
+
+pub returns-in-Err-Fault-clause-read : goal.returns-in-Err-Fault-clause-read
+returns-in-Err-Fault-clause-read g c =
+    let targets : List ProjectTargetValue = c.args.targets.now in
+    let outs : List CollatedValue = c.loop-index.outs.items in
+    let p : ProjectTargetValue = c.index-targets-index.result in
+    let here : slice_get targets c.loop-index.index ≡ Some p = slice_get_read targets _ c.loop-index.index _ refl c.loop-index-test.true c.index-targets-index.is in
+    let read = subst (λ os. ForFault (λ (r : RefusedTarget). WasRead (target_of os p) r.refusal (table_with r.objects.items r.infos.items)) c.in-Err-Fault.field-0) c.as_slice.ensures.value c.in-Err-Fault.ensures.read in (
+      outs,
+      p,
+      c.loop-index.invariant,
+      here,
+      picked (λ (r : RefusedTarget). WasRead (target_of outs p) r.refusal (table_with r.objects.items r.infos.items)) c.in-Err-Fault.field-0 c.in-Err-Fault.refused _ c.in-Err-Fault.field-0-is c.in-Err-Fault.refused-is read,
+    )
 
 pub loop-index-preserved : goal.loop-index-preserved
 loop-index-preserved g c =
