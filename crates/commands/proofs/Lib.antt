@@ -1,5 +1,5 @@
 pub mod Commands
-pub mod Documents
+pub mod Loops
 pub mod Dyndeps
 pub mod EdgeChecks
 pub mod Examples

@@ -1,5 +1,5 @@
 -- What a run of `project` answers to targets that are read.
-use Rattle.std.proofs.Common.{◌≡◌, ℕ, zero, suc, ◌+◌, ◌<◌, ◌≤◌, inl, inr, List, [], ◌∷◌, ◌++◌, length, take, get_or, map, zip, Option, Some, None, refl, ap, ap₂, sym, subst, ◌∙◌, arith}
+use Rattle.std.proofs.Common.{◌≡◌, ℕ, zero, suc, ◌+◌, ◌<◌, ◌≤◌, List, [], ◌∷◌, ◌++◌, length, take, get_or, map, zip, Option, Some, refl, ap, ap₂, sym, subst, ◌∙◌, arith}
 use Rattle.std.specs.Prelude.{slice_get, option_map, All}
 use Rattle.std.specs.Option.{option_map_or}
 use Rattle.std.proofs.lemmas.List.{take_more, take_all, length-map, map_push}
@@ -7,18 +7,20 @@ use Rattle.std.proofs.lemmas.List.Elements.{All-same, All-push, All-nil, All-con
 use Rattle.std.proofs.lemmas.Grind.{flat_map-append}
 use Rattle.std.proofs.lemmas.Option.{slice_get_within, get_or_from_slice_get, slice_get-get_or, slice_get-map}
 use Rattle.module_maps.specs.Maps.{Written}
-use Rattle.collate_core.specs.Values.{TargetValue, CollatedValue, ProjectTargetValue}
-use Rattle.collate_core.specs.Projects.{target_of, CollatesProject, IsLinkedRefusal, IsProjectRefusal}
-use Rattle.collate_core.specs.Refusals.{IsRefusal}
+use Rattle.module_table.specs.TableValue.{TableValue}
+use Rattle.collate_core.specs.Values.{CollatedValue, ProjectTargetValue}
+use Rattle.collate_core.specs.Projects.{target_of, CollatesProject, IsProjectRefusal, WasReadAt}
+use Rattle.collate_core.specs.Refusals.{WasRead}
 use Rattle.collate_core.specs.declared.fault.Refusal.{Refusal}
-use Rattle.collate_core.specs.declared.fault.Refusal.TheVariants.{Scan, Info, Table, StatementTooLong, Map, LinkedLater}
-use Rattle.commands.specs.CollateCommand.{dyndep_path, files_of}
+use Rattle.commands.specs.CollateCommand.{dyndep_path, files_of, setting_in}
+use Rattle.commands.specs.RefusalTexts.{refusal_by_names}
 use Rattle.commands.specs.Files.{FileValue}
 use Rattle.commands.specs.EdgeChecks.{PassesEdges, FailsEdges}
 use Rattle.commands.specs.ProjectCommand.{ReadTargetValue, project_target, PassesOwn, FailsOwn, names_at, all_files}
 use Rattle.commands.specs.declared.edges.EdgesFault.{EdgesFault}
 use Rattle.commands.specs.inner.ProjectTargets.{LinkEarlier, IsReportable, AreOuts}
-use Rattle.commands.specs.inner.Refusals.{HasObjects}
+use Rattle.commands.specs.inner.Refusals.{refusal_line}
+use Rattle.commands.proofs.Targets.{names_line}
 use Rattle.commands.proofs.Commands.{objects_text}
 
 some_same : {X : Type 0} {x y : X} → Some x ≡ Some y → x ≡ y
@@ -31,28 +33,22 @@ in_map f [] n y e = cc
 in_map f (x ∷ xs) zero y e = (x, refl, some_same e)
 in_map f (x ∷ xs) (suc n) y e = in_map f xs n y e
 
-of_refusal : (style : Option Written) (target : TargetValue) (refusal : Refusal) → IsRefusal target style refusal → HasObjects target.setting target.scans refusal
-of_refusal style target (Scan i f) h = tt
-of_refusal style target (Info i f) h = tt
-of_refusal style target (Table f) h = h.0.scans
-of_refusal style target (StatementTooLong k) h = tt
-of_refusal None target (Map o f) h = absurd h
-of_refusal (Some written) target (Map o f) h = h.0.documents.scans
-of_refusal style target LinkedLater h = tt
-
-objects : (style : Option Written) (outs : List CollatedValue) (n : ℕ) (p : ProjectTargetValue) (refusal : Refusal) → IsLinkedRefusal style outs n p refusal → HasObjects p.setting p.scans refusal
-objects style outs n p refusal (inl h) = subst (HasObjects p.setting p.scans) (sym h.1) tt
-objects style outs n p refusal (inr h) = of_refusal style (target_of outs p) refusal h.1
-
 -- what is needed to report a refusal
-pub reported : (style : Option Written) (targets : List ReadTargetValue) (n : ℕ) (refusal : Refusal) → LinkEarlier targets → IsProjectRefusal style (map project_target targets) n refusal → IsReportable targets n refusal
+pub reported : (style : Option Written) (targets : List ReadTargetValue) (n : ℕ) (refusal : Refusal) → LinkEarlier targets → IsProjectRefusal style (map project_target targets) n refusal → IsReportable targets n
 reported style targets n refusal links h =
     let found = in_map project_target targets n h.1 h.3 in
     let t = found.0 in
-    let own : HasObjects (project_target t).setting (project_target t).scans refusal =
-    subst (λ (p : ProjectTargetValue). HasObjects p.setting p.scans refusal) (sym found.2) (objects style h.0 n h.1 refusal h.4) in
     let within : n < length targets = slice_get_within targets n t found.1 in
-    (t, found.1, (λ k d lt. let below : get_or t.linked k d < n = links n t found.1 k d lt in omega (arith, below, within)), own)
+    (t, found.1, λ k d lt. let below : get_or t.linked k d < n = links n t found.1 k d lt in omega (arith, below, within))
+
+-- the line of the refusal of this target, by what was read of it
+pub line_is : (style : Option Written) (targets : List ReadTargetValue) (n : ℕ) (refusal : Refusal) (read : TableValue) (t : ReadTargetValue) (names : List (List ℕ)) → slice_get targets n ≡ Some t →
+    WasReadAt style (map project_target targets) n refusal read → refusal_line read.objects names refusal ≡ refusal_by_names (setting_in t.spec) t.scans names refusal
+line_is style targets n refusal read t names at h =
+    let found = in_map project_target targets n h.1 h.3 in
+    let is_t : found.0 ≡ t = some_same (sym found.1 ∙ at) in
+    let is_p : h.1 ≡ project_target t = sym found.2 ∙ ap project_target is_t in
+    names_line (target_of h.0 (project_target t)) refusal read names (subst (λ (p : ProjectTargetValue). WasRead (target_of h.0 p) refusal read) is_p h.4)
 
 -- the names of the targets so far, and of one more
 pub names_next : (targets : List ReadTargetValue) (linked : List ℕ) (i : ℕ) (t : ReadTargetValue) (so_far : List (List ℕ)) (name : List ℕ) → i < length linked → slice_get targets (get_or linked i 0) ≡ Some t →

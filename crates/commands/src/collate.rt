@@ -2,8 +2,9 @@
 
 ghost use Rattle.std.specs.Prelude.{◌≡◌, Some, None, [], ◌∷◌, ◌++◌, map, zip, string_bytes, option_copied, IsUtf8, All, IfOk, IfErr, OnOk};
 ghost use Rattle.ninja_text.specs.Failure.{ForFault};
+ghost use Rattle.module_table.specs.TableValue.{table_with};
 ghost use Rattle.collate_core.specs.Collation.{Collates};
-ghost use Rattle.collate_core.specs.Refusals.{IsRefusal};
+ghost use Rattle.collate_core.specs.Refusals.{IsRefusal, WasRead};
 ghost use Rattle.commands.specs.Answers.{file_value, Refuses};
 ghost use Rattle.commands.specs.CollateCommand.{style_of, map_name, files_of, WritesCollated, AnswersTargetOf, AnswersSpec, AnswersCollate, spec_text};
 ghost use Rattle.commands.specs.EdgeChecks.{PassesEdges, FailsEdges};
@@ -17,7 +18,9 @@ use crate::folder::Folder;
 use crate::reading::{TargetFiles, slices};
 use crate::refusal::failed_run;
 use crate::target_document::TargetDocument;
-use collate_core::{Collated, CollatedParts, Refusal, Target, collate_with_hasher, one_outcome};
+use collate_core::{
+    Collated, CollatedParts, RefusedTarget, Target, collate_or_refused, one_outcome,
+};
 use module_maps::{Clang, Gcc};
 use ninja_text::{Failure, Path};
 use scan_docs::{DocFault, MapForm, TargetSpec};
@@ -107,7 +110,7 @@ fn target_answer(
     one_outcome();
     match collate_in(alloc, keys, target, document.spec().map) {
         Ok(collated) => collated_answer(alloc, keys, collated, document, listing),
-        Err(failure) => failed_run(alloc, target, failure),
+        Err(failure) => failed_run(alloc, failure),
     }
 }
 
@@ -160,14 +163,17 @@ fn collate_in(
     keys: RandomState,
     target: &Target<'_>,
     form: Option<MapForm>,
-) -> Result<Collated, Failure<Refusal>>
+) -> Result<Collated, Failure<RefusedTarget>>
     ensures collated { IfOk result (Collates target.now (style_of form)) }
-    ensures refused { IfErr result (ForFault (IsRefusal target.now (style_of form))) }
+    ensures refused { IfErr result
+        (ForFault (λ refused. IsRefusal target.now (style_of form) refused.refusal)) }
+    ensures read { IfErr result (ForFault (λ refused. WasRead target.now refused.refusal
+        (table_with refused.objects.items refused.infos.items))) }
 {
     match form {
-        None => collate_with_hasher(alloc, target, None::<&Gcc>, keys),
-        Some(MapForm::Gcc) => collate_with_hasher(alloc, target, Some(&Gcc), keys),
-        Some(MapForm::Clang) => collate_with_hasher(alloc, target, Some(&Clang), keys),
+        None => collate_or_refused(alloc, target, None::<&Gcc>, keys),
+        Some(MapForm::Gcc) => collate_or_refused(alloc, target, Some(&Gcc), keys),
+        Some(MapForm::Clang) => collate_or_refused(alloc, target, Some(&Clang), keys),
     }
 }
 

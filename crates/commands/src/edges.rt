@@ -7,7 +7,7 @@ ghost use Rattle.commands.specs.EdgeChecks.{AreOrderedAfter, ListsOrdered, IsEdg
 ghost use Rattle.commands.specs.inner.EdgeChecks.{AreFaultyAfter};
 
 use crate::answer::Answer;
-use crate::edge_fault::{cycle_text, effect_text, edges_fault_text};
+use crate::edge_fault::{cycle_text, edges_fault_text, effect_text};
 use crate::listing::listing_read;
 use build_effect::{EffectFault, Graph, ListingFault};
 use collate_core::{Collated, check_edges_with_hasher};

@@ -6,7 +6,7 @@ ghost use Rattle.commands.specs.Targets.{AnswersTarget};
 
 use crate::answer::Answer;
 use crate::refusal::failed_run;
-use collate_core::{Target, collate_dyndep_with_hasher, one_outcome};
+use collate_core::{Target, collate_dyndep_or_refused, one_outcome};
 use scan_docs::{Setting, TargetName};
 use std::alloc::{AllocError, Global};
 use std::hash::RandomState;
@@ -61,8 +61,8 @@ fn target_run(alloc: Global, keys: RandomState, target: &Target<'_>) -> Result<A
     ensures { IfOk result (AnswersTarget PrintsDyndep target.now None) }
 {
     one_outcome();
-    match collate_dyndep_with_hasher(alloc, target, keys) {
+    match collate_dyndep_or_refused(alloc, target, keys) {
         Ok(text) => Ok(Answer::done(alloc, text)),
-        Err(failure) => failed_run(alloc, target, failure),
+        Err(failure) => failed_run(alloc, failure),
     }
 }

@@ -2,14 +2,16 @@
 
 ghost use Rattle.std.specs.Prelude.{◌≡◌, ◌<◌, ◌++◌, [], Some, All, IsUtf8, List, ℕ, length, map, zip, slice_get, string_bytes, IfOk, IfErr, OnOk};
 ghost use Rattle.ninja_text.specs.Failure.{ForFault};
-ghost use Rattle.collate_core.specs.Projects.{CollatesProject, IsProjectRefusal};
+ghost use Rattle.module_table.specs.TableValue.{table_with};
+ghost use Rattle.collate_core.specs.Projects.{CollatesProject, IsProjectRefusal, WasReadAt};
 ghost use Rattle.commands.specs.Answers.{file_value, Refuses};
 ghost use Rattle.commands.specs.CollateCommand.{style_of, files_of};
 ghost use Rattle.commands.specs.EdgeChecks.{edges_text};
 ghost use Rattle.commands.specs.Files.{ended};
 ghost use Rattle.commands.specs.Folder.{MakesCalls};
-ghost use Rattle.commands.specs.ProjectCommand.{ReadTargetValue, target_text, project_target, form_of, names_at, refused_text, PassesOwn, FailsFirst, all_files, AnswersCollatedTargets, AnswersReadTargets, AnswersNames, AnswersProject, project_text};
+ghost use Rattle.commands.specs.ProjectCommand.{ReadTargetValue, target_text, project_target, form_of, names_at, PassesOwn, FailsFirst, all_files, AnswersCollatedTargets, AnswersReadTargets, AnswersNames, AnswersProject, project_text};
 ghost use Rattle.commands.specs.inner.ProjectTargets.{LinkEarlier, IsReportable, AreOuts};
+ghost use Rattle.commands.specs.inner.Refusals.{refusal_line};
 
 use crate::answer::{Answer, answered};
 use crate::collate::{edges_pass, files_of};
@@ -17,8 +19,8 @@ use crate::edges::{EdgesFault, edges_text};
 use crate::folder::Folder;
 use crate::project_targets::{ReadTarget, Targets, read_target, target_failed};
 use crate::reading::slices;
-use crate::refusal::refusal_by_names;
-use collate_core::{Collated, ProjectOut, ProjectTarget, Refusal, project_with_hasher};
+use crate::refusal::refusal_line;
+use collate_core::{Collated, ProjectOut, ProjectTarget, RefusedTarget, project_or_refused};
 use module_maps::{Clang, Gcc};
 use ninja_text::Failure;
 use scan_docs::{DocFault, MapForm, TargetName, TargetSpec, project_read};
@@ -102,12 +104,15 @@ fn collate_all(
     alloc: Global,
     keys: RandomState,
     targets: &[ReadTarget],
-) -> Result<ProjectOut, Failure<(usize, Refusal)>>
+) -> Result<ProjectOut, Failure<(usize, RefusedTarget)>>
     ensures collated { IfOk result (λ out. CollatesProject (style_of (form_of targets.now))
         (map project_target targets.now) out.targets.items) }
     ensures refused { IfErr result (ForFault (λ refused.
         IsProjectRefusal (style_of (form_of targets.now))
-        (map project_target targets.now) refused.0 refused.1)) }
+        (map project_target targets.now) refused.0 refused.1.refusal)) }
+    ensures read { IfErr result (ForFault (λ refused. WasReadAt (style_of (form_of targets.now))
+        (map project_target targets.now) refused.0 refused.1.refusal
+        (table_with refused.1.objects.items refused.1.infos.items))) }
 {
     let scans = scans_of(alloc, targets)?;
     let parts = in_project(alloc, targets, &scans)?;
@@ -132,16 +137,19 @@ fn project_in(
     keys: RandomState,
     parts: &[ProjectTarget<'_>],
     form: Option<MapForm>,
-) -> Result<ProjectOut, Failure<(usize, Refusal)>>
+) -> Result<ProjectOut, Failure<(usize, RefusedTarget)>>
     ensures collated { IfOk result (λ out.
         CollatesProject (style_of form) parts.now out.targets.items) }
     ensures refused { IfErr result (ForFault (λ refused.
-        IsProjectRefusal (style_of form) parts.now refused.0 refused.1)) }
+        IsProjectRefusal (style_of form) parts.now refused.0 refused.1.refusal)) }
+    ensures read { IfErr result (ForFault (λ refused.
+        WasReadAt (style_of form) parts.now refused.0 refused.1.refusal
+        (table_with refused.1.objects.items refused.1.infos.items))) }
 {
     match form {
-        None => project_with_hasher(alloc, parts, None::<&Gcc>, keys),
-        Some(MapForm::Gcc) => project_with_hasher(alloc, parts, Some(&Gcc), keys),
-        Some(MapForm::Clang) => project_with_hasher(alloc, parts, Some(&Clang), keys),
+        None => project_or_refused(alloc, parts, None::<&Gcc>, keys),
+        Some(MapForm::Gcc) => project_or_refused(alloc, parts, Some(&Gcc), keys),
+        Some(MapForm::Clang) => project_or_refused(alloc, parts, Some(&Clang), keys),
     }
 }
 
@@ -176,19 +184,18 @@ fn form_of(targets: &[ReadTarget]) -> Option<MapForm>
 fn refused_answer(
     alloc: Global,
     targets: &[ReadTarget],
-    refused: &(usize, Refusal),
+    refused: &(usize, RefusedTarget),
 ) -> Result<Answer, AllocError>
-    requires { IsReportable targets.now refused.now.0 refused.now.1 }
+    requires { IsReportable targets.now refused.now.0 }
     ensures { IfOk result (λ answer. (target : ReadTargetValue)
         → slice_get targets.now refused.now.0 ≡ Some target
-        → Refuses (refused_text targets.now refused.now.0 target refused.now.1) answer) }
+        → Refuses (target_text refused.now.0 (refusal_line refused.now.1.objects.items
+        (names_at targets.now target.linked) refused.now.1.refusal)) answer) }
 {
     let index = refused.0;
     let target = &targets[index];
     let names = linked_names(alloc, targets, &target.linked)?;
-    let scans = slices(alloc, &target.files.scans)?;
-    let setting = target.document.setting();
-    let text = refusal_by_names(alloc, setting, &scans, &names, &refused.1)?;
+    let text = refusal_line(alloc, &refused.1.refusal, &refused.1.objects, &names)?;
     target_failed(alloc, index, &text)
 }
 

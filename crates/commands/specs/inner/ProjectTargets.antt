@@ -2,10 +2,7 @@
 use Rattle.std.specs.Prelude.{◌≡◌, ℕ, ◌<◌, List, length, slice_get, All, IsUtf8, Option, Some, String}
 use Rattle.std.specs.HashMap.{HashMap, get_by_text}
 use Rattle.collate_core.specs.Values.{CollatedValue}
-use Rattle.collate_core.specs.declared.fault.Refusal.{Refusal}
-use Rattle.commands.specs.CollateCommand.{setting_in}
 use Rattle.commands.specs.ProjectCommand.{ReadTargetValue}
-use Rattle.commands.specs.inner.Refusals.{HasObjects}
 
 -- the index that a table has for an info
 abbrev pub writer_of : {Y S : Type 0} → HashMap (String Y) ℕ S → List ℕ → Option ℕ
@@ -16,12 +13,11 @@ abbrev pub LinkEarlier : List ReadTargetValue → Type 0
 LinkEarlier targets = (index : ℕ) (t : ReadTargetValue) → slice_get targets index ≡ Some t →
     All (λ k. k < index) t.linked
 
--- there is a target of this index, which links some that are there, and whose objects have paths
--- where its refusal speaks of them
-abbrev pub IsReportable : List ReadTargetValue → ℕ → Refusal → Type 0
-IsReportable targets index refusal =
+-- there is a target of this index, which links some that are there
+abbrev pub IsReportable : List ReadTargetValue → ℕ → Type 0
+IsReportable targets index =
     (t : ReadTargetValue) × (slice_get targets index ≡ Some t)
-    × All (λ k. k < length targets) t.linked × HasObjects (setting_in t.spec) t.scans refusal
+    × All (λ k. k < length targets) t.linked
 
 -- these are as many collated targets, and their objects are text
 abbrev pub AreOuts : List ReadTargetValue → List CollatedValue → Type 0

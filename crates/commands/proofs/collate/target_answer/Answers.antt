@@ -5,11 +5,12 @@ use Rattle.ninja_text.specs.Failure.{ForFault}
 use Rattle.scan_docs.specs.Target as document
 use Rattle.collate_core.specs.Collation.{Collates}
 use Rattle.collate_core.specs.Refusals.{IsRefusal}
+use Rattle.collate_core.specs.declared.fault.RefusedTarget.{RefusedTarget}
 use Rattle.commands.specs.CollateCommand.{style_of, WritesCollated}
 use Rattle.commands.specs.Targets.{AnswersTarget}
 use Rattle.commands.specs.inner.Refusals.{AnswersFailure}
 use Rattle.commands.proofs.Commands.{objects_text}
-use Rattle.commands.proofs.Targets.{collated, failed, reported}
+use Rattle.commands.proofs.Targets.{collated, failed}
 use Rattle.commands.proofs.collate.target_answer.Goals as goal
 
 pub collated_answer-requires : goal.collated_answer-requires
@@ -29,9 +30,6 @@ returns-in-Ok c =
     c.args.target.now (style_of spec.map_form) answer c.in-Ok.collated own h)
     c.collated_answer.ensures
 
-pub failed_run-requires : goal.failed_run-requires
-failed_run-requires c = reported c.args.target.now _ c.in-Err.failure c.in-Err.ensures.refused
-
 -- the answer to its failure
 pub returns-in-Err : goal.returns-in-Err
 returns-in-Err c =
@@ -39,10 +37,10 @@ returns-in-Err c =
     let listing = option_copied c.args.listing in
     let form : c.behind-document.inside.map ≡ spec.map_form =
     ap (λ (s : document.TargetDocumentValue). s.map_form) (c.behind-document.view_is ∙ c.spec.ensures) in
-    let own : ForFault (IsRefusal c.args.target.now (style_of spec.map_form)) c.in-Err.failure =
-    subst (λ f. ForFault (IsRefusal c.args.target.now (style_of f)) c.in-Err.failure) form c.in-Err.ensures.refused in
-    IfOk-weaker c.failed_run.result (AnswersFailure c.args.target.now c.in-Err.failure)
+    let own : ForFault (λ (r : RefusedTarget). IsRefusal c.args.target.now (style_of spec.map_form) r.refusal) c.in-Err.failure =
+    subst (λ f. ForFault (λ (r : RefusedTarget). IsRefusal c.args.target.now (style_of f) r.refusal) c.in-Err.failure) form c.in-Err.ensures.refused in
+    IfOk-weaker c.failed_run.result (AnswersFailure c.in-Err.failure)
     (AnswersTarget (WritesCollated spec listing) c.args.target.now (style_of spec.map_form))
     (λ answer h. failed c.one_outcome.ensures.one (WritesCollated spec listing)
-    c.args.target.now (style_of spec.map_form) answer c.in-Err.failure own h)
+    c.args.target.now (style_of spec.map_form) answer c.in-Err.failure own c.in-Err.ensures.read h)
     c.failed_run.ensures

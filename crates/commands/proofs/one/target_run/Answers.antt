@@ -3,7 +3,7 @@ use Rattle.std.proofs.lemmas.Result.{IfOk-weaker}
 use Rattle.commands.specs.One.{PrintsDyndep}
 use Rattle.commands.specs.Targets.{AnswersTarget}
 use Rattle.commands.specs.inner.Refusals.{AnswersFailure}
-use Rattle.commands.proofs.Targets.{collated, failed, reported}
+use Rattle.commands.proofs.Targets.{collated, failed}
 use Rattle.commands.proofs.one.target_run.Goals as goal
 
 -- the text of what the target collates to
@@ -18,13 +18,10 @@ returns-in-Ok c =
       files = c.done.ensures.files;
     })
 
-pub failed_run-requires : goal.failed_run-requires
-failed_run-requires c = reported c.args.target.now None c.in-Err.failure c.in-Err.ensures.refused
-
 -- the answer to its failure
 pub returns-in-Err : goal.returns-in-Err
 returns-in-Err c =
-    IfOk-weaker c.failed_run.result (AnswersFailure c.args.target.now c.in-Err.failure)
+    IfOk-weaker c.failed_run.result (AnswersFailure c.in-Err.failure)
     (AnswersTarget PrintsDyndep c.args.target.now None)
-    (λ answer h. failed c.one_outcome.ensures.one PrintsDyndep c.args.target.now None answer c.in-Err.failure c.in-Err.ensures.refused h)
+    (λ answer h. failed c.one_outcome.ensures.one PrintsDyndep c.args.target.now None answer c.in-Err.failure c.in-Err.ensures.refused c.in-Err.ensures.read h)
     c.failed_run.ensures

@@ -1,5 +1,5 @@
 use Rattle.commands.specs.Order.{order_text}
-use Rattle.commands.proofs.Documents.{of_all}
+use Rattle.commands.proofs.Loops.{of_all}
 use Rattle.commands.proofs.order.order_text.Goals as goal
 
 -- the edges so far are all

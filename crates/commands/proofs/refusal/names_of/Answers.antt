@@ -2,7 +2,7 @@ use Rattle.std.proofs.Common.{map, ap, ◌∙◌, ◌++◌, ◌∷◌, [], ℕ, 
 use Rattle.std.specs.Borrow.{Bor}
 use Rattle.std.proofs.lemmas.List.{map-append}
 use Rattle.scan_docs.specs.Info.{InfoValue}
-use Rattle.commands.proofs.Documents.{made_more, of_all}
+use Rattle.commands.proofs.Loops.{made_more, of_all}
 use Rattle.commands.proofs.refusal.names_of.Goals as goal
 
 abbrev now_of : List (Bor (List ℕ)) → List (List ℕ)

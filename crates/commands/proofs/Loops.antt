@@ -1,0 +1,13 @@
+-- Lists that a loop makes, element by element.
+use Rattle.std.proofs.Common.{◌≡◌, ℕ, ◌+◌, ◌<◌, ◌≤◌, List, [], ◌∷◌, ◌++◌, length, map, take, get_or, ap, sym, ◌∙◌}
+use Rattle.std.proofs.lemmas.List.{map-append, take_all, take_more}
+
+-- a loop that makes something of each element
+pub made_more : {X Y : Type 0} (f : X → Y) (xs : List X) (i : ℕ) (x : X) (now new : List Y) → i < length xs → x ≡ get_or xs i x → new ≡ now ++ f x ∷ [] → now ≡ map f (take i xs) → new ≡ map f (take (i + 1) xs)
+made_more f xs i x now new within at more before =
+    more ∙ ap (λ ys. ys ++ f x ∷ []) before ∙ ap (λ y. map f (take i xs) ++ f y ∷ []) at
+    ∙ sym (ap (map f) (take_more xs i x within) ∙ map-append f (take i xs) (get_or xs i x ∷ []))
+
+-- and what is made of the elements so far is that of all
+pub of_all : {X Y : Type 0} (f : List X → Y) (xs : List X) (i : ℕ) (now : Y) → length xs ≤ i → now ≡ f (take i xs) → now ≡ f xs
+of_all f xs i now past so_far = so_far ∙ ap f (take_all i xs past)
