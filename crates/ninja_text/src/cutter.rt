@@ -1,6 +1,6 @@
 //! Bytes that come in pieces, cut into logical lines.
-ghost use Rattle.std.specs.Prelude.{◌≡◌, ℕ, ◌+◌, ◌^◌, ◌<◌, ◌≤◌, List, [], ◌++◌, length, take, false, IfOk};
-ghost use Rattle.ninja_text.specs.Lines.{is_comment, line_feeds_in};
+ghost use Rattle.std.specs.Prelude.{◌≡◌, ◌+◌, ◌<◌, ◌≤◌, List, [], length, false, IfOk};
+ghost use Rattle.ninja_text.specs.Lines.{is_comment};
 ghost use Rattle.ninja_text.specs.inner.Reaching.{IsGoing, Reaches};
 ghost use Rattle.ninja_text.specs.Phases.{PhaseFits, bytes_in};
 
@@ -98,7 +98,8 @@ impl LineCutter {
             Phase::Waiting { text_len } => {
                 let number = self.number;
                 let is_comment = begins_comment(self.buffer.as_slice());
-                self.number = number.saturating_add(line_feeds(self.buffer.as_slice()));
+                let line_feeds = self.buffer.iter().filter(|b| **b == b'\n').count();
+                self.number = number.saturating_add(line_feeds as u64);
                 self.phase = Phase::Lent;
                 let text = &self.buffer.as_slice()[..text_len];
                 Ok(Some(Line {
@@ -218,13 +219,6 @@ fn reach_of(buffer: &[u8], state: ScanState, piece: &[u8]) -> Reach
             }
         }
     }
-}
-
-/// How many LF bytes there are.
-fn line_feeds(bytes: &[u8]) -> u64
-    ensures { result ≡ line_feeds_in bytes.now }
-{
-    bytes.iter().filter(|b| **b == b'\n').count() as u64
 }
 
 /// Whether the first byte other than space is `#`.

@@ -34,14 +34,9 @@ pub(crate) fn reduce(alloc: Global, text: &[u8]) -> Result<Vec<u8>, AllocError>
 fn is_reduced(text: &[u8]) -> bool
     ensures { result ≡ true → parts text.now ≡ components text.now }
 {
-    !text.split(|b| *b == b'/').any(is_no_name)
-}
-
-/// Whether a component is empty, `.` or `..`.
-fn is_no_name(component: &[u8]) -> bool
-    ensures { result ≡ (is_current component.now || is_parent component.now) }
-{
-    is_current(component) || is_parent(component)
+    !text
+        .split(|b| *b == b'/')
+        .any(|part| is_current(part) || is_parent(part))
 }
 
 /// Whether a text is absolute and its canonical list leads above the root.
