@@ -1,9 +1,7 @@
 //! One line of a dyndep file: which row of the table of lines it is in.
-ghost use Rattle.std.specs.Prelude.{◌≡◌, ◌==◌, ◌&&◌, false, codes, None};
+ghost use Rattle.std.specs.Prelude.{◌≡◌, ◌==◌, ◌&&◌, codes};
 ghost use Rattle.ninja_text.specs.LineViews.{seen_line};
-ghost use Rattle.ninja_text.specs.Lexical.{lexical_fault};
-ghost use Rattle.ninja_text.specs.Tokens.{seen_tokens};
-ghost use Rattle.ninja_text.specs.TokenViews.{seen_token, tokens_left};
+ghost use Rattle.ninja_text.specs.TokenViews.{seen_token};
 ghost use Rattle.dyndep_file.specs.Classes.{IsDyndepLine, begins_with_space};
 ghost use Rattle.dyndep_file.specs.Faults.{text_line_fault};
 ghost use Rattle.dyndep_file.specs.BuildTokens.{symbol_of, is_this_word};
@@ -12,7 +10,7 @@ ghost use Rattle.dyndep_file.specs.inner.LineReading.{PassesOr, ReadsLine};
 use crate::build_line::is_keyword;
 use crate::fault::{LineFault, ReadFault};
 use crate::progress::{Progress, blank_line, build_line, indented_line, version_or_other_line};
-use ninja_text::{Failure, Line, Token, Words, assignment, words};
+use ninja_text::{Failure, Line, Token, assignment, words};
 use std::alloc::Global;
 
 /// Reads a line. What a refused line leaves of the progress is of no use.
@@ -31,7 +29,7 @@ pub(crate) fn read_line(
     }))
 }
 
-/// Reads a line's text.
+/// Reads a line's text, by its tokens where it is no comment.
 fn read_text(
     alloc: Global,
     progress: &mut Progress,
@@ -45,27 +43,10 @@ fn read_text(
     if line.is_comment() {
         return Ok(());
     }
-    match words(line) {
-        Ok(tokens) => read_tokens(alloc, progress, line, tokens),
-        Err(fault) => Err(Failure::Fault(LineFault::Lexical(fault))),
-    }
-}
-
-/// Reads a line that is no comment, by its tokens.
-fn read_tokens(
-    alloc: Global,
-    progress: &mut Progress,
-    line: Line<'_>,
-    tokens: Words<'_>,
-) -> Result<(), Failure<LineFault>>
-    requires comment { (seen_line line).comment ≡ false }
-    requires sound { lexical_fault (seen_line line).text ≡ None }
-    requires all { tokens_left tokens ≡ seen_tokens (seen_line line).text }
-    ensures { PassesOr (text_line_fault progress.old.stage (seen_line line.entry).text false)
-        (IsDyndepLine (seen_line line.entry).text false)
-        progress.old result progress.new }
-{
-    let mut tokens = tokens;
+    let mut tokens = match words(line) {
+        Ok(tokens) => tokens,
+        Err(fault) => return Err(Failure::Fault(LineFault::Lexical(fault))),
+    };
     let Some(first) = tokens.next() else {
         blank_line(progress);
         return Ok(());
@@ -75,13 +56,8 @@ fn read_tokens(
     }
     match assignment(line) {
         Err(fault) => Err(Failure::Fault(LineFault::Lexical(fault))),
-        Ok(found) => {
-            if begins_with_space(line.text()) {
-                indented_line(alloc, progress, found)
-            } else {
-                version_or_other_line(alloc, progress, found)
-            }
-        }
+        Ok(found) if begins_with_space(line.text()) => indented_line(alloc, progress, found),
+        Ok(found) => version_or_other_line(alloc, progress, found),
     }
 }
 
