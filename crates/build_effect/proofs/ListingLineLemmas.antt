@@ -1,6 +1,7 @@
 -- The row of a line, by its tokens or its assignment, and what a build line says, by its parts.
-use Rattle.std.proofs.Common.{◌≡◌, ◌≢◌, ℕ, ◌==◌, ◌&&◌, Bool, true, false, List, [], ◌∷◌, ◌++◌, append_assoc, map, Vec, Global, Ok, Err, refl, sym, ap, ◌∙◌, Option, Some, None}
+use Rattle.std.proofs.Common.{◌≡◌, ◌≢◌, ℕ, arith, length, ◌==◌, ◌&&◌, Bool, true, false, List, [], ◌∷◌, ◌++◌, append_assoc, map, Vec, Global, Ok, Err, refl, sym, ap, ◌∙◌, Option, Some, None}
 use Rattle.std.specs.Prelude.{codes, not, if◌then◌else◌}
+use Rattle.std.proofs.lemmas.Bool.Decides.{nat_tests}
 use Rattle.std.proofs.lemmas.List.{map-append}
 use Rattle.dep_order.specs.Rows.{rows}
 use Rattle.ninja_text.specs.Lexical.{lexical_fault}
@@ -12,10 +13,14 @@ use Rattle.ninja_text.specs.declared.token.TokenKind.TheVariants.{Word, Bar, Dou
 use Rattle.dyndep_file.specs.Classes.{Symbol, WordSymbol, SignSymbol, symbol, symbols, begins_at_start, begins_with_space}
 use Rattle.dyndep_file.specs.Faults.{after_build}
 use Rattle.ninja_text.specs.Paths.{is_empty}
-use Rattle.dyndep_file.specs.BuildTokens.{symbol_of, is_this_word}
+use Rattle.dyndep_file.specs.BuildTokens.{symbol_of, symbols_left, is_this_word}
+use Rattle.std.specs.Option.{is_some}
+use Rattle.std.specs.Iterator.{YieldsFirstBy}
+use Rattle.ninja_text.specs.TokenViews.{seen_token, tokens_left}
+use Rattle.ninja_text.specs.declared.token.Words.{Words}
+use Rattle.ninja_text.specs.declared.token.Token.{Token}
 use Rattle.build_effect.specs.ListingLines.{CommentRow, BlankRow, is_rule_name}
 use Rattle.build_effect.specs.inner.ListingWalk.{row_of, binding_row, unindented_row, edge_texts, right_texts, front_words, past_words, past_sign, part_words, past_part}
-use Rattle.build_effect.specs.inner.ListingRows.{RulePassed}
 use Rattle.build_effect.specs.declared.fault.LineCause.TheVariants.{Lexical}
 
 -- where there is a first token, the line is not blank
@@ -88,11 +93,10 @@ pub left_texts : (symbols s1 s2 : List Symbol) (outputs implicit_outputs : List 
 left_texts symbols s1 s2 outputs implicit_outputs o a i b = rw (o, i, b, a) refl
 
 -- without a rule it says nothing
-pub no_rule : (outputs implicit_outputs : List (List ℕ)) (past : Option (List Symbol)) (new : List Symbol) → RulePassed past None new → right_texts outputs implicit_outputs past ≡ None
-no_rule outputs implicit_outputs None new h = refl
-no_rule outputs implicit_outputs (Some []) new h = refl
-no_rule outputs implicit_outputs (Some (SignSymbol sign ∷ more)) new h = refl
-no_rule outputs implicit_outputs (Some (WordSymbol word ∷ more)) new h = absurd (let x : _ ∷ _ ≡ [] = h.0 in cc)
+pub no_rule : (outputs implicit_outputs : List (List ℕ)) (symbols : List Symbol) → front_words symbols ≡ [] → right_texts outputs implicit_outputs (Some symbols) ≡ None
+no_rule outputs implicit_outputs [] h = refl
+no_rule outputs implicit_outputs (SignSymbol sign ∷ more) h = refl
+no_rule outputs implicit_outputs (WordSymbol word ∷ more) h = absurd (let x : _ ∷ _ ≡ [] = h in cc)
 
 -- one more word in a loop
 pub words_go_on : (values new : List (Vec ℕ Global)) (value : Vec ℕ Global) (word : List ℕ) (all : List (List ℕ)) (symbols more : List Symbol) → symbols ≡ WordSymbol word ∷ more
@@ -116,12 +120,33 @@ pub right_are : (outputs implicit_outputs inputs implicit_inputs order_only : Li
     }) else None)
 right_are outputs implicit_outputs inputs implicit_inputs order_only rule name s0 s1 s2 s3 e n a m b l d whole is = rw (is, e, n, m, l, d, b, a) refl
 
--- the test of a whole build line, of the same texts
-pub whole_is : (result whole : Bool) (o outputs : List (List ℕ)) (n rule : List ℕ) (s : List Symbol) → result ≡ not (is_empty o) && is_rule_name n && is_empty s → o ≡ outputs → n ≡ rule
-    → result ≡ whole → whole ≡ not (is_empty outputs) && is_rule_name rule && is_empty s
-whole_is result whole o outputs n rule s is os ns same = sym same ∙ is ∙ rw (os, ns) refl
+-- whether there are outputs, by how many there are
+pub outputs_are : (outputs : List (Vec ℕ Global)) (len : ℕ) (none : Bool) → len ≡ length outputs → (len == 0) ≡ none → is_empty (rows outputs) ≡ none
+outputs_are [] len none count test = (let x : (0 == 0) ≡ none = rw count at test in x)
+outputs_are (o ∷ os) len none count test = let some : (len == 0) ≡ false = grind (arith, nat_tests) in sym some ∙ test
 
--- a whole build line has an output
-pub has_output : (outputs : List (List ℕ)) (a b : Bool) → true ≡ not (is_empty outputs) && a && b → outputs ≢ []
-has_output [] a b h = absurd (let x : true ≡ false = h in cc)
-has_output (o ∷ os) a b h = λ e. (let x : o ∷ os ≡ [] = e in cc)
+-- whether a token is left over, by the next one
+pub left_over : (words after : Words) (token : Option Token) (is : Bool) → YieldsFirstBy seen_token tokens_left words token after → is_some token ≡ is → is_empty (symbols_left words) ≡ not is
+left_over words after None is yields some = rw yields.0 (ap not some)
+left_over words after (Some token) is yields some = rw yields (ap not some)
+
+-- what keeps a build line from being whole
+pub without_output : (none : Bool) (rule over : Bool) → none ≡ true → false ≡ not none && rule && over
+without_output none rule over is = rw is refl
+
+pub without_name : (none : Bool) (rule over : Bool) → rule ≡ false → false ≡ not none && rule && over
+without_name true rule over is = refl
+without_name false rule over is = rw is refl
+
+pub without_end : (none : Bool) (rule over : Bool) → over ≡ false → false ≡ not none && rule && over
+without_end true rule over is = refl
+without_end false true over is = sym is
+without_end false false over is = refl
+
+pub is_whole : (none : Bool) (rule over : Bool) → none ≡ false → rule ≡ true → over ≡ true → true ≡ not none && rule && over
+is_whole none rule over n r o = rw (n, r, o) refl
+
+-- a list with an element is not the empty one
+pub has_output : (outputs : List (List ℕ)) → is_empty outputs ≡ false → outputs ≢ []
+has_output [] some = absurd (let x : true ≡ false = some in cc)
+has_output (o ∷ os) some = λ e. (let x : o ∷ os ≡ [] = e in cc)

@@ -51,12 +51,6 @@ abbrev pub WordPassed : List Symbol → Option SeenToken → List Symbol → Typ
 WordPassed old (Some token) new = old ≡ WordSymbol token.raw ∷ new
 WordPassed old None new = (front_words old ≡ []) × (past_words old ≡ old) × (new ≡ old)
 
--- after the colon, if there is one, a word is at the front and is passed over
-abbrev pub RulePassed : Option (List Symbol) → Option SeenToken → List Symbol → Type 0
-RulePassed past (Some token) new = past ≡ Some (WordSymbol token.raw ∷ new)
-RulePassed None None new = Unit {0}
-RulePassed (Some symbols) None new = (front_words symbols ≡ []) × (past_words symbols ≡ symbols)
-
 -- what a row does: it is of a class that passes, or its form or a path of it is the cause why not,
 -- or memory was refused
 abbrev pub TakesRow : ListingValue → lines.Row → Result Unit (Failure LineCause)

@@ -2,10 +2,10 @@
 //! far.
 ghost use Rattle.std.specs.Prelude.{◌≡◌, ◌++◌, [], Some, Err};
 ghost use Rattle.ninja_text.specs.LineViews.{seen_line};
-ghost use Rattle.build_effect.specs.inner.ListingRows.{ReadsText, GivesGraph, graph_failure};
+ghost use Rattle.build_effect.specs.inner.ListingRows.{ReadsText};
 ghost use Rattle.build_effect.specs.ListingReaders.{line_failure};
 
-use crate::fault::{GraphFault, LineCause, LineFault, ListingFault};
+use crate::fault::{LineCause, LineFault, ListingFault};
 use crate::graph::Graph;
 use crate::listing::rows::row_of;
 use crate::listing::state::{Binding, ListingState, take_row};
@@ -95,40 +95,16 @@ impl ListingReader {
         ensures all { (bytes : Bytes) → HasReadListing bytes self → EndsListing bytes result }
     {
         let ListingReader { alloc, lines } = self;
-        match lines.finish() {
-            Ok(end) => graph_of(alloc, end.0, hash_builder),
-            Err(failure) => Err(line_failure(failure)),
+        let state = match lines.finish() {
+            Ok(end) => end.0,
+            Err(failure) => return Err(failure.map(ListingFault::AtLine)),
+        };
+        let ListingState { edges, binding: _ } = state;
+        match Graph::new_with_hasher(alloc, edges, hash_builder) {
+            Ok(graph) => Ok(graph),
+            Err(failure) => Err(failure.map(ListingFault::NoGraph)),
         }
     }
-}
-
-/// The graph of the edges listed, or why they are none.
-fn graph_of<S: BuildHasher + Copy>(
-    alloc: Global,
-    state: ListingState,
-    hash_builder: S,
-) -> Result<Graph, Failure<ListingFault>>
-    ensures { GivesGraph state.edges result }
-{
-    let ListingState { edges, binding: _ } = state;
-    match Graph::new_with_hasher(alloc, edges, hash_builder) {
-        Ok(graph) => Ok(graph),
-        Err(failure) => Err(graph_failure(failure)),
-    }
-}
-
-/// A failure of the reader of lines, as one of the listing.
-fn line_failure(failure: Failure<LineFault>) -> Failure<ListingFault>
-    ensures { result ≡ line_failure failure }
-{
-    failure.map(ListingFault::AtLine)
-}
-
-/// Why edges are no graph, as a failure of the listing.
-fn graph_failure(failure: Failure<GraphFault>) -> Failure<ListingFault>
-    ensures { result ≡ graph_failure failure }
-{
-    failure.map(ListingFault::NoGraph)
 }
 
 impl LineState for ListingState {

@@ -1,5 +1,5 @@
 //! One line of an edge listing: which row of the listing's form it is in, and its texts.
-ghost use Rattle.std.specs.Prelude.{◌≡◌, ◌==◌, ◌&&◌, ◌∷◌, not, Some, None, IfOk, OnOk, codes};
+ghost use Rattle.std.specs.Prelude.{◌≡◌, ◌==◌, ◌&&◌, IfOk, OnOk, codes};
 ghost use Rattle.std.specs.Option.{option_map};
 ghost use Rattle.std.specs.List.{list_all};
 ghost use Rattle.ninja_text.specs.Failure.{Gives};
@@ -7,16 +7,14 @@ ghost use Rattle.ninja_text.specs.LineViews.{seen_line};
 ghost use Rattle.ninja_text.specs.Tokens.{value_of};
 ghost use Rattle.ninja_text.specs.TokenViews.{seen_token};
 ghost use Rattle.ninja_text.specs.AssignmentViews.{seen_assignment};
-ghost use Rattle.dyndep_file.specs.Classes.{begins_with_space, WordSymbol};
+ghost use Rattle.dyndep_file.specs.Classes.{begins_with_space};
 ghost use Rattle.dyndep_file.specs.Faults.{same_bytes};
-ghost use Rattle.ninja_text.specs.Paths.{is_empty};
 ghost use Rattle.dyndep_file.specs.BuildTokens.{symbol_of, symbols_left, is_this_word};
 ghost use Rattle.build_effect.specs.ListingLines.{is_rule_name};
-ghost use Rattle.build_effect.specs.inner.ListingWalk.{binding_row, edge_texts, front_words, past_words, past_sign, right_texts, is_sign};
+ghost use Rattle.build_effect.specs.inner.ListingWalk.{binding_row, edge_texts, front_words, past_words, is_sign};
 ghost use Rattle.ninja_text.specs.Assignments.{is_identifier_byte};
-ghost use Rattle.ninja_text.specs.declared.token.TokenKind.TheVariants.{Colon};
 ghost use Rattle.dep_order.specs.Rows.{rows};
-ghost use Rattle.build_effect.specs.inner.ListingRows.{row_value, line_row, words_of_part, symbols_past_part, SignPassed, WordPassed, RulePassed};
+ghost use Rattle.build_effect.specs.inner.ListingRows.{row_value, line_row, words_of_part, symbols_past_part, SignPassed, WordPassed};
 
 use crate::fault::LineCause;
 use ninja_text::{Assignment, Failure, Line, Token, TokenKind, Words, assignment, words};
@@ -116,70 +114,26 @@ fn edge_texts(alloc: Global, words: Words<'_>) -> Result<Option<EdgeTexts>, Allo
     let mut tokens = words;
     let outputs = front_words(alloc, &mut tokens)?;
     let implicit_outputs = part(alloc, &mut tokens, TokenKind::Bar)?;
-    match rule_after_colon(&mut tokens) {
-        Some(rule) => right_texts(alloc, outputs, implicit_outputs, rule, tokens),
-        None => Ok(None),
+    if !pass_sign(&mut tokens, TokenKind::Colon) {
+        return Ok(None);
     }
-}
-
-/// What a build line says that has these outputs, this rule, and these tokens after it.
-fn right_texts(
-    alloc: Global,
-    outputs: Vec<Vec<u8>>,
-    implicit_outputs: Vec<Vec<u8>>,
-    rule: Token<'_>,
-    words: Words<'_>,
-) -> Result<Option<EdgeTexts>, AllocError>
-    ensures { IfOk result (λ texts.
-        texts ≡ right_texts (rows outputs.items) (rows implicit_outputs.items)
-        (Some (WordSymbol (seen_token rule.entry).raw ∷ symbols_left words.entry))) }
-{
-    let mut tokens = words;
+    let Some(rule) = next_word(&mut tokens) else {
+        return Ok(None);
+    };
     let inputs = front_words(alloc, &mut tokens)?;
     let implicit_inputs = part(alloc, &mut tokens, TokenKind::Bar)?;
     let order_only = part(alloc, &mut tokens, TokenKind::DoubleBar)?;
-    let name = spelling(alloc, rule)?;
-    let fits = is_whole(&outputs, &name, tokens);
-    if !fits {
+    if outputs.is_empty() || !is_rule_name(rule.raw()) || tokens.next().is_some() {
         return Ok(None);
     }
     Ok(Some(EdgeTexts {
-        rule: name,
+        rule: Vec::from_slice(alloc, rule.raw())?,
         outputs,
         implicit_outputs,
         inputs,
         implicit_inputs,
         order_only,
     }))
-}
-
-/// Whether there is an output, the rule may be called so, and no token is left over.
-fn is_whole(outputs: &[Vec<u8>], rule: &[u8], tokens: Words<'_>) -> bool
-    ensures { result ≡ not (is_empty (rows outputs.now)) && is_rule_name rule.now
-        && is_empty (symbols_left tokens.entry) }
-{
-    has_some(outputs) && is_rule_name(rule) && is_over(tokens)
-}
-
-/// Whether there is a text.
-fn has_some(texts: &[Vec<u8>]) -> bool
-    ensures { result ≡ not (is_empty (rows texts.now)) }
-{
-    match texts {
-        [] => false,
-        [_, ..] => true,
-    }
-}
-
-/// Whether no token is left.
-fn is_over(words: Words<'_>) -> bool
-    ensures { result ≡ is_empty (symbols_left words.entry) }
-{
-    let mut tokens = words;
-    match tokens.next() {
-        None => true,
-        Some(_) => false,
-    }
 }
 
 /// The values of the words at the front, which are passed over.
@@ -190,7 +144,9 @@ fn front_words(alloc: Global, tokens: &mut Words<'_>) -> Result<Vec<Vec<u8>>, Al
 {
     let mut values = Vec::new(alloc);
     while let Some(token) = next_word(tokens) {
-        values.push(value(alloc, token)?)?;
+        let mut value = Vec::with_capacity(alloc, token.raw().len())?;
+        token.value_into(&mut value)?;
+        values.push(value)?;
     }
     Ok(values)
 }
@@ -251,34 +207,6 @@ fn next_word<'a>(tokens: &mut Words<'a>) -> Option<Token<'a>>
         }
         TokenKind::Bar | TokenKind::Colon | TokenKind::DoubleBar | TokenKind::BarAt => None,
     }
-}
-
-/// The word after a colon at the front; both are passed over.
-fn rule_after_colon<'a>(tokens: &mut Words<'a>) -> Option<Token<'a>>
-    ensures { RulePassed (past_sign Colon (symbols_left tokens.old))
-        (option_map seen_token result) (symbols_left tokens.new) }
-{
-    if pass_sign(tokens, TokenKind::Colon) {
-        next_word(tokens)
-    } else {
-        None
-    }
-}
-
-/// The bytes of a word, as they are spelled.
-fn spelling(alloc: Global, token: Token<'_>) -> Result<Vec<u8>, AllocError>
-    ensures { IfOk result (λ bytes. bytes.items ≡ (seen_token token.entry).raw) }
-{
-    Vec::from_slice(alloc, token.raw())
-}
-
-/// What a word stands for.
-fn value(alloc: Global, token: Token<'_>) -> Result<Vec<u8>, AllocError>
-    ensures { IfOk result (λ bytes. bytes.items ≡ value_of (seen_token token.entry).raw) }
-{
-    let mut bytes = Vec::with_capacity(alloc, token.raw().len())?;
-    token.value_into(&mut bytes)?;
-    Ok(bytes)
 }
 
 /// What is assigned.
