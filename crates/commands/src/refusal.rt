@@ -32,7 +32,7 @@ pub(crate) fn failed_run(
     }
 }
 
-/// The answer to a target that is refused: infos are named by the names that stand in them.
+/// The answer to a target that is refused: infos are named by the names in them.
 fn target_refused(alloc: Global, refused: &RefusedTarget) -> Result<Answer, AllocError>
     ensures { IfOk result (Refuses (refusal_line refused.now.objects.items
         (map (λ info. info.target) refused.now.infos.items) refused.now.refusal)) }

@@ -7,6 +7,7 @@ use module_table::{Maker, Table};
 use ninja_text::Path;
 use scan_docs::{Name, info_read, scan};
 use std::alloc::{AllocError, Global};
+use std::hash::RandomState;
 use std::test::Fail;
 
 /// `main.o` requires `A` of `a.o`, which requires `K`.
@@ -18,16 +19,22 @@ const K_INFO: &[u8] =
     br#"{"modules":[{"bmi":"k/K.bmi","name":"K","requires":[{"bmi":"k/J.bmi","name":"J"}],"visibility":"public"},{"bmi":"k/J.bmi","name":"J","requires":[],"visibility":"private"}],"target":"k","version":2}"#;
 
 /// The table of both objects and the info.
-fn table(alloc: Global) -> Result<Table, Fail> {
+fn table(alloc: Global, keys: RandomState) -> Result<Table<RandomState>, Fail> {
     let objects = scan(alloc, OBJECTS, &setting(alloc)?)?;
     let infos = vec![in alloc; info_read(alloc, K_INFO)?]?;
-    Ok(Table::build(alloc, objects, infos, &[])?)
+    Ok(Table::build_with_hasher(
+        alloc,
+        objects,
+        infos,
+        &[],
+        keys,
+    )?)
 }
 
 /// Whether the name is found with this file and this maker.
 fn is_found(
     alloc: Global,
-    table: &Table,
+    table: &Table<RandomState>,
     text: &str,
     wanted: (&str, Maker),
 ) -> Result<bool, AllocError> {
@@ -41,7 +48,7 @@ fn is_found(
 }
 
 /// Whether a module of an object, one of an info and no other is found.
-fn finds_both(alloc: Global, table: &Table) -> Result<bool, AllocError> {
+fn finds_both(alloc: Global, table: &Table<RandomState>) -> Result<bool, AllocError> {
     Ok(
         is_found(alloc, table, "A", ("mod/A.bmi", Maker::Object(1)))?
             && is_found(alloc, table, "J", ("k/J.bmi", Maker::Info(0)))?
@@ -60,7 +67,7 @@ fn are_pairs(pairs: &[(Name, Path)], wanted: &[(&str, &str)]) -> bool {
 }
 
 /// Whether the first object needs three modules, in byte order.
-fn needs_three(alloc: Global, table: &Table) -> Result<bool, AllocError> {
+fn needs_three(alloc: Global, table: &Table<RandomState>) -> Result<bool, AllocError> {
     if table.objects().is_empty() {
         return Ok(false);
     }
@@ -70,12 +77,12 @@ fn needs_three(alloc: Global, table: &Table) -> Result<bool, AllocError> {
 }
 
 /// Whether the table of both objects and the info answers as it has to.
-fn answers(alloc: Global, table: &Table) -> Result<bool, AllocError> {
+fn answers(alloc: Global, table: &Table<RandomState>) -> Result<bool, AllocError> {
     Ok(finds_both(alloc, table)? && needs_three(alloc, table)?)
 }
 
 /// Whether the table answers who provides a module, and what is needed.
-pub(crate) fn is_answered(alloc: Global) -> Result<bool, Fail> {
-    let table = table(alloc)?;
+pub(crate) fn is_answered(alloc: Global, keys: RandomState) -> Result<bool, Fail> {
+    let table = table(alloc, keys)?;
     Ok(answers(alloc, &table)?)
 }

@@ -10,16 +10,18 @@ use std::test::Fail;
 
 #[test]
 fn a_style_of_the_callers_own_is_collated_as_the_others(rt: HostRuntime) -> Result<(), Fail> {
-    let found = texts_in_own_style(rt.alloc())?;
     let wanted =
         "ninja_dyndep_version = 1\nbuild main.o: dyndep | lib/B.bmi\n{\"modules\":[],\"target\":\"t\",\"version\":2}\nmain.o\nlib/B.bmi\n";
+    let found = texts_in_own_style(rt.alloc(), None)?;
+    assert!(rt; found.as_slice() == wanted.as_bytes());
+    let found = texts_in_own_style(rt.alloc(), Some(RandomState::new(&rt)?))?;
     assert!(rt; found.as_slice() == wanted.as_bytes());
     Ok(())
 }
 
 #[test]
 fn the_dyndep_text_alone_has_the_files_of_linked_targets(rt: HostRuntime) -> Result<(), Fail> {
-    let found = dyndep_alone(rt.alloc())?;
+    let found = dyndep_alone(rt.alloc(), RandomState::new(&rt)?)?;
     let wanted = "ninja_dyndep_version = 1\nbuild main.o: dyndep | lib/B.bmi\n";
     assert!(rt; found.as_slice() == wanted.as_bytes());
     Ok(())
@@ -27,9 +29,11 @@ fn the_dyndep_text_alone_has_the_files_of_linked_targets(rt: HostRuntime) -> Res
 
 #[test]
 fn each_target_sees_the_infos_of_those_that_it_links(rt: HostRuntime) -> Result<(), Fail> {
-    let found = project_texts(rt.alloc())?;
     let wanted =
         "ninja_dyndep_version = 1\nbuild b.o | mod/B.bmi: dyndep\n  restat = 1\n{\"modules\":[{\"bmi\":\"mod/B.bmi\",\"name\":\"B\",\"requires\":[],\"visibility\":\"public\"}],\"target\":\"t0\",\"version\":2}\nb.o\nB mod/B.bmi\nninja_dyndep_version = 1\nbuild main.o: dyndep | mod/B.bmi\n{\"modules\":[],\"target\":\"t1\",\"version\":2}\nmain.o\nB mod/B.bmi\n";
+    let found = project_texts(rt.alloc(), None)?;
+    assert!(rt; found.as_slice() == wanted.as_bytes());
+    let found = project_texts(rt.alloc(), Some(RandomState::new(&rt)?))?;
     assert!(rt; found.as_slice() == wanted.as_bytes());
     Ok(())
 }

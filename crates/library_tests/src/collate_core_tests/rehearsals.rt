@@ -113,6 +113,6 @@ fn statements_without_an_effect_are_refused(rt: HostRuntime) -> Result<(), Fail>
 /// least cycle.
 pub(crate) fn checked_order(alloc: Global) -> Result<Sorting, Fail> {
     let graph = graph_of(alloc, LIBRARY)?;
-    let target = collated::<Gcc>(alloc, TWO_OBJECTS, &[], None)?;
+    let target = collated::<Gcc>(alloc, None, TWO_OBJECTS, &[], None)?;
     value(check_edges(alloc, &target, &path(alloc, "t.dd")?, &graph))
 }

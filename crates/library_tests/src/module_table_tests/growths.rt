@@ -3,10 +3,11 @@
 //! else; every other answer has to be the example's.
 
 use super::is_answered;
+use std::hash::RandomState;
 use std::test::Fail;
 
 #[test]
 fn who_provides_a_module_and_what_is_needed(rt: HostRuntime) -> Result<(), Fail> {
-    assert!(rt; is_answered(rt.alloc())?);
+    assert!(rt; is_answered(rt.alloc(), RandomState::new(&rt)?)?);
     Ok(())
 }
