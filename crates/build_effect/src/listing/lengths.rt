@@ -4,7 +4,7 @@ ghost use Rattle.std.specs.Prelude.{◌≡◌, ◌++◌, length, count_by};
 ghost use Rattle.std.specs.List.{flat_map};
 ghost use Rattle.ninja_text.specs.Escapes.{escaped, is_escaped};
 ghost use Rattle.dyndep_file.specs.Writing.{spaced};
-ghost use Rattle.build_effect.specs.ListingWriting.{marked_text, left_text, right_text, edge_line, dyndep_line, restat_line};
+ghost use Rattle.build_effect.specs.ListingWriting.{marked_text, edge_line, dyndep_line, restat_line};
 ghost use Rattle.build_effect.specs.inner.ListingLengths.{saturated, CountsListing};
 
 use crate::edge::Edge;
@@ -31,27 +31,11 @@ pub(crate) fn text_len(edges: &[Edge]) -> Result<usize, ListingWriteFault>
 fn line_len(edge: &Edge) -> usize
     ensures { result ≡ saturated (length (edge_line edge.now)) }
 {
-    left_len(edge)
-        .saturating_add(b": \n".len())
-        .saturating_add(right_len(edge))
-}
-
-/// The length of what is on the left of a build line's colon.
-fn left_len(edge: &Edge) -> usize
-    ensures { result ≡ saturated (length (left_text edge.now)) }
-{
-    b"build"
+    b"build: \n"
         .len()
         .saturating_add(spaced_len(&edge.outputs))
         .saturating_add(part_len(b" |", &edge.implicit_outputs))
-}
-
-/// The length of what is on the right of a build line's colon.
-fn right_len(edge: &Edge) -> usize
-    ensures { result ≡ saturated (length (right_text edge.now)) }
-{
-    edge.rule
-        .len()
+        .saturating_add(edge.rule.len())
         .saturating_add(spaced_len(&edge.inputs))
         .saturating_add(part_len(b" |", &edge.implicit_inputs))
         .saturating_add(part_len(b" ||", &edge.order_only))

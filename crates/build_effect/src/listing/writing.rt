@@ -4,7 +4,7 @@ ghost use Rattle.std.specs.List.{flat_map};
 ghost use Rattle.ninja_text.specs.Counting.{held, IsWritten};
 ghost use Rattle.ninja_text.specs.Failure.{Gives};
 ghost use Rattle.dyndep_file.specs.Writing.{spaced};
-ghost use Rattle.build_effect.specs.ListingWriting.{marked_text, left_text, right_text, edge_line, dyndep_line, restat_line, listing_text, first_too_long, LeavesListingWriter, WritesListingInTurn, AnswersTooLong, listing_text_or_fault};
+ghost use Rattle.build_effect.specs.ListingWriting.{marked_text, edge_line, dyndep_line, restat_line, listing_text, first_too_long, LeavesListingWriter, WritesListingInTurn, AnswersTooLong, listing_text_or_fault};
 
 use crate::edge::Edge;
 use crate::fault::ListingWriteFault;
@@ -66,29 +66,15 @@ fn text_of(alloc: Global, edges: &[Edge]) -> Result<Vec<u8>, Failure<ListingWrit
 fn push_line(text: &mut Vec<u8>, edge: &Edge) -> Result<(), AllocError>
     ensures { OnOk result (text.new.items ≡ text.old.items ++ edge_line edge.now) }
 {
-    push_left(text, edge)?;
+    text.extend_from_slice(b"build")?;
+    push_spaced(text, &edge.outputs)?;
+    push_part(text, b" |", &edge.implicit_outputs)?;
     text.extend_from_slice(b": ")?;
-    push_right(text, edge)?;
+    text.extend_from_slice(&edge.rule)?;
+    push_spaced(text, &edge.inputs)?;
+    push_part(text, b" |", &edge.implicit_inputs)?;
+    push_part(text, b" ||", &edge.order_only)?;
     text.extend_from_slice(b"\n")
-}
-
-/// Appends what is on the left of a build line's colon.
-fn push_left(line: &mut Vec<u8>, edge: &Edge) -> Result<(), AllocError>
-    ensures { OnOk result (line.new.items ≡ line.old.items ++ left_text edge.now) }
-{
-    line.extend_from_slice(b"build")?;
-    push_spaced(line, &edge.outputs)?;
-    push_part(line, b" |", &edge.implicit_outputs)
-}
-
-/// Appends what is on the right of a build line's colon.
-fn push_right(line: &mut Vec<u8>, edge: &Edge) -> Result<(), AllocError>
-    ensures { OnOk result (line.new.items ≡ line.old.items ++ right_text edge.now) }
-{
-    line.extend_from_slice(&edge.rule)?;
-    push_spaced(line, &edge.inputs)?;
-    push_part(line, b" |", &edge.implicit_inputs)?;
-    push_part(line, b" ||", &edge.order_only)
 }
 
 /// Appends the line of the binding `dyndep`, where there is one.
