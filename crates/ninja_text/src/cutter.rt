@@ -83,7 +83,11 @@ impl LineCutter {
         ensures all { (taken : Bytes) (lent : List LogicalLine) → Cuts taken lent self.old
             → FeedsAll taken lent piece.now result self.new }
     {
-        self.take_from(piece)
+        match self.phase {
+            Phase::Failed => Err(Failure::Fault(CutFault::LineTooLong { line: self.number })),
+            Phase::Waiting { .. } => Ok(0),
+            Phase::Lent | Phase::Gathering(_) => self.gather(piece),
+        }
     }
 
     /// Lends the line that waits, once; `None` only where none waits. After a line that is too
@@ -130,18 +134,6 @@ impl LineCutter {
                 line: self.number,
             }),
             _ => Ok(()),
-        }
-    }
-
-    fn take_from(&mut self, piece: &[u8]) -> Result<usize, Failure<CutFault>>
-        ensures exact { Feeds self.old piece.now result self.new }
-        ensures within { IfOk result (λ n. n ≤ length piece.now) }
-        ensures some { self.old.waits ≡ false → 0 < length piece.now → IfOk result (λ n. 0 < n) }
-    {
-        match self.phase {
-            Phase::Failed => Err(Failure::Fault(CutFault::LineTooLong { line: self.number })),
-            Phase::Waiting { .. } => Ok(0),
-            Phase::Lent | Phase::Gathering(_) => self.gather(piece),
         }
     }
 
