@@ -1,9 +1,9 @@
 //! The arguments that the program is called with.
 
 ghost use Rattle.std.specs.Prelude.{◌≡◌, false, map, option_map, string_bytes, IfOk};
-ghost use Rattle.clap.specs.Words.{app_of, first_value, found_of, subcommand_rows_of};
+ghost use Rattle.clap.specs.Words.{app_of, first_value, found_of};
 ghost use Rattle.command_line.specs.Tasks.{AreCallOf, task_value};
-ghost use Rattle.command_line.specs.inner.Parses.{has_globals, one_app, three_app, program, task_by, task_found};
+ghost use Rattle.command_line.specs.inner.Parses.{has_globals, one_app, three_app, program, task_by};
 
 use clap::error::ErrorKind;
 use clap::{Arg, ArgMatches, Command};
@@ -72,7 +72,10 @@ pub fn task_of<'a>(alloc: Global, arguments: &'a [String]) -> Result<Option<Task
 {
     let command = program(alloc)?;
     match command.try_get_matches_from(arguments) {
-        Ok(matches) => Ok(task_from(&matches)),
+        Ok(matches) => match matches.subcommand() {
+            Some((command, given)) => Ok(task_by(command, given)),
+            None => Ok(None),
+        },
         Err(error) => match error.kind() {
             ErrorKind::OutOfMemory => Err(AllocError),
             _ => Ok(None),
@@ -119,14 +122,6 @@ fn with_three<'a>(
     with_one(alloc, name, first)?
         .arg(Arg::new(alloc, second).required(true))?
         .arg(Arg::new(alloc, third).required(true))
-}
-
-/// The task that a parse found.
-fn task_from<'a>(matches: &ArgMatches<'a>) -> Option<Task<'a>>
-    ensures { option_map task_value result ≡ task_found (subcommand_rows_of matches.now) }
-{
-    let (command, given) = matches.subcommand()?;
-    task_by(command, given)
 }
 
 /// The task of a command by its operands, if they were found.
