@@ -23,16 +23,9 @@ const INLINE_BYTES: usize = 24;
 /// It has 1 to 1,024 bytes and one `:` at most, no part between the separators `.` and `:` is
 /// empty, and no byte is a control byte, a space, 127 or one of `/ \ " ' = | $`. A contract sees a
 /// name as its text.
+#[derive(Drop)]
 pub struct Name {
     bytes: SmallVec<u8, INLINE_BYTES>,
-}
-
-// Not derived: the proof of each function that lets a name go would go through a derived drop
-// field by field.
-impl Drop for Name {
-    fn drop(self) {
-        let Name { bytes: _ } = self;
-    }
 }
 
 impl Model for Name {
