@@ -22,7 +22,6 @@ use Rattle.build_effect.specs.declared.fault.LineCause.TheVariants as causes
 use Rattle.build_effect.specs.declared.fault.LineFault.{LineFault}
 use Rattle.build_effect.specs.declared.fault.ListingFault.{ListingFault}
 use Rattle.build_effect.specs.declared.fault.ListingFault.TheVariants.{AtLine, NoGraph}
-use Rattle.build_effect.specs.inner.ListingRows.{GivesGraph, graph_failure}
 use Rattle.build_effect.specs.Faults.{IsGraphFault}
 use Rattle.ninja_text.specs.Failure.{ForFault}
 use Rattle.build_effect.specs.declared.fault.GraphFault.{GraphFault}
@@ -95,6 +94,18 @@ ended bytes r (Fault f) has ends =
     subst (HasFaultyEnd bytes) (sym e.4)
     (faulty_rest listing_format listing_faults bytes has.lent e.0 e.1 has.read.classes e.2 has.read.texts (runs_begin has.read.classes r.state (ran has.read.classes r.state has.read.led)) causes.Truncated e.3.2 (e.3.0, e.3.1))
 ended bytes r Memory has ends = absurd (ends has.lent has.has)
+
+-- what becomes of edges: they are a graph, or not for this reason, or memory was refused
+abbrev pub GivesGraph : List EdgeValue → Result (List EdgeValue) (Failure ListingFault) → Type 0
+GivesGraph edges (Ok graph) = graph ≡ edges
+GivesGraph edges (Err (Fault (NoGraph fault))) = IsGraphFault edges fault
+GivesGraph edges (Err (Fault (AtLine fault))) = ⊥
+GivesGraph edges (Err Memory) = Unit {0}
+
+-- why edges are no graph, as a failure of the listing
+abbrev pub graph_failure : Failure GraphFault → Failure ListingFault
+graph_failure Memory = Memory
+graph_failure (Fault fault) = Fault (NoGraph fault)
 
 -- what becomes of the edges listed
 pub graph_ends : (bytes : List ℕ) (edges : List EdgeValue) (result : Result (List EdgeValue) (Failure ListingFault)) → Lists bytes edges → GivesGraph edges result → EndsListing bytes result

@@ -13,11 +13,7 @@ use Rattle.build_effect.specs.ListingGrammar.{bound}
 use Rattle.build_effect.specs.ListingSteps.{ListingValue}
 use Rattle.ninja_text.specs.Lines.{LogicalLine}
 use Rattle.build_effect.specs.EdgeValue.{EdgeValue}
-use Rattle.build_effect.specs.Faults.{IsGraphFault}
 use Rattle.build_effect.specs.inner.ReadLines.{PassesLine}
-use Rattle.build_effect.specs.declared.fault.GraphFault.{GraphFault}
-use Rattle.build_effect.specs.declared.fault.ListingFault.{ListingFault}
-use Rattle.build_effect.specs.declared.fault.ListingFault.TheVariants.{AtLine, NoGraph}
 use Rattle.build_effect.specs.declared.fault.LineCause.{LineCause}
 use Rattle.build_effect.specs.declared.listing.rows.Row.{Row}
 use Rattle.build_effect.specs.declared.listing.rows.Row.TheVariants.{Comment, Blank, Build, Dyndep, Restat}
@@ -69,20 +65,8 @@ ReadsText old line (Err (Fault cause)) new =
     text_cause old.binding line.text line.comment ≡ Some cause
 ReadsText old line (Err Memory) new = Unit {0}
 
--- what becomes of edges: they are a graph, or not for this reason, or memory was refused
-abbrev pub GivesGraph : List EdgeValue → Result (List EdgeValue) (Failure ListingFault) → Type 0
-GivesGraph edges (Ok graph) = graph ≡ edges
-GivesGraph edges (Err (Fault (NoGraph fault))) = IsGraphFault edges fault
-GivesGraph edges (Err (Fault (AtLine fault))) = ⊥
-GivesGraph edges (Err Memory) = Unit {0}
-
 -- the edge that these paths are, without bindings, or the fault of a text, or memory was refused
 abbrev pub GivesEdge : Result EdgeValue (Failure PathFault) → Result EdgeTexts PathFault → Type 0
 GivesEdge (Ok edge) paths = (t : EdgeTexts) × (paths ≡ Ok t) × (edge ≡ bound t None None)
 GivesEdge (Err (Fault fault)) paths = paths ≡ Err fault
 GivesEdge (Err Memory) paths = Unit {0}
-
--- why edges are no graph, as a failure of the listing
-abbrev pub graph_failure : Failure GraphFault → Failure ListingFault
-graph_failure Memory = Memory
-graph_failure (Fault fault) = Fault (NoGraph fault)

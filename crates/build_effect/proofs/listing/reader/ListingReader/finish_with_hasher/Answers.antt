@@ -1,8 +1,7 @@
 use Rattle.std.proofs.Common.{◌≡◌, ◌∙◌, ap, sym, subst, arith, rules, Ok, Err}
 use Rattle.std.proofs.lemmas.Grind.{common_steps}
 use Rattle.build_effect.specs.ListingReaders.{HasReadListing, EndsListing, line_failure}
-use Rattle.build_effect.specs.inner.ListingRows.{GivesGraph, graph_failure}
-use Rattle.build_effect.proofs.ListingLemmas.{listed, ended, graph_ends, no_graph}
+use Rattle.build_effect.proofs.ListingLemmas.{GivesGraph, graph_failure, listed, ended, graph_ends, no_graph}
 use Rattle.build_effect.proofs.listing.reader.ListingReader.finish_with_hasher.Goals as goal
 
 pub returns-in-Ok-new_with_hasher-clause-all : goal.returns-in-Ok-new_with_hasher-clause-all
