@@ -18,7 +18,7 @@ use crate::statements::text_of;
 use crate::table::table_of;
 use crate::target::Target;
 use module_maps::MapStyle;
-use module_table::{Resolved, Table, added_files};
+use module_table::{Table, added_files};
 use ninja_text::{Failure, Path};
 use scan_docs::laws::info_again;
 use std::alloc::{AllocError, Global};
@@ -85,21 +85,13 @@ pub fn collate_or_refused<M: MapStyle, S: BuildHasher + Copy>(
         Ok(collated) => Ok(collated),
         Err(Failure::Memory) => Err(Failure::Memory),
         Err(Failure::Fault(refusal)) => {
-            Err(Failure::Fault(with_table(refusal, table.into_resolved())))
+            let (objects, infos) = table.into_resolved().into_parts();
+            Err(Failure::Fault(RefusedTarget {
+                refusal,
+                objects,
+                infos,
+            }))
         }
-    }
-}
-
-/// The target of a refusal whose documents have this table.
-fn with_table(refusal: Refusal, table: Resolved) -> RefusedTarget
-    ensures refusal { result.refusal ≡ refusal }
-    ensures read { table_with result.objects.items result.infos.items ≡ table }
-{
-    let (objects, infos) = table.into_parts();
-    RefusedTarget {
-        refusal,
-        objects,
-        infos,
     }
 }
 

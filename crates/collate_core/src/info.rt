@@ -1,7 +1,6 @@
 //! The info of a target: its modules, for the targets that link it.
 ghost use Rattle.std.specs.Prelude.{◌≡◌, ◌++◌, ℕ, List, IfOk, OnOk};
 ghost use Rattle.ninja_text.specs.Bytes.{Name};
-ghost use Rattle.indexmap.specs.IndexSet.{IsEmpty};
 ghost use Rattle.scan_docs.specs.InfoText.{info_text, ReadsBack};
 ghost use Rattle.collate_core.specs.Infos.{is_private_name, modules_of, info_of_table};
 ghost use Rattle.collate_core.specs.inner.Parts.{IsTableText};
@@ -43,24 +42,10 @@ fn set_of<S: BuildHasher + Copy>(
         (λ set. (name : Name) → is_private_name set.keys name ≡ is_private_name names.now name) }
 {
     let mut set = IndexSet::with_hasher(alloc, hash_builder);
-    add_names(alloc, names, &mut set)?;
-    Ok(set)
-}
-
-/// Puts the names into the empty set.
-fn add_names<S: BuildHasher>(
-    alloc: Global,
-    names: &[Name],
-    set: &mut IndexSet<Name, S>,
-) -> Result<(), AllocError>
-    requires { IsEmpty set.old }
-    ensures { OnOk result ((name : Name) →
-        is_private_name set.new.keys name ≡ is_private_name names.now name) }
-{
     for name in names {
         set.insert(name.copy(alloc)?)?;
     }
-    Ok(())
+    Ok(set)
 }
 
 /// The info of a target of this name, which keeps these modules to itself.

@@ -46,25 +46,18 @@ pub(crate) fn table_of<S: BuildHasher + Copy>(
     match Table::build_or_refused(alloc, objects, infos, target.kept, hash_builder) {
         Ok(table) => Ok(table),
         Err(Failure::Memory) => Err(Failure::Memory),
-        Err(Failure::Fault(refused)) => Err(Failure::Fault(of_table(refused))),
-    }
-}
-
-/// The target of a table that is refused.
-fn of_table(refused: RefusedTable) -> RefusedTarget
-    ensures refusal { result.refusal ≡ Refusal.Table refused.fault }
-    ensures read { table_with result.objects.items result.infos.items
-        ≡ table_with refused.objects.items refused.infos.items }
-{
-    let RefusedTable {
-        fault,
-        objects,
-        infos,
-    } = refused;
-    RefusedTarget {
-        refusal: Refusal::Table { fault },
-        objects,
-        infos,
+        Err(Failure::Fault(refused)) => {
+            let RefusedTable {
+                fault,
+                objects,
+                infos,
+            } = refused;
+            Err(Failure::Fault(RefusedTarget {
+                refusal: Refusal::Table { fault },
+                objects,
+                infos,
+            }))
+        }
     }
 }
 
