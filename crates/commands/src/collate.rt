@@ -228,7 +228,7 @@ fn map_files(
         return Ok(Vec::new(alloc));
     }
     let names = map_names(alloc, objects)?;
-    paired(alloc, names, maps)
+    names.into_iter().zip(maps).collect(alloc)
 }
 
 /// The names of the map files of these objects.
@@ -241,17 +241,6 @@ fn map_names(alloc: Global, objects: &[Path]) -> Result<Vec<String>, AllocError>
         names.push(map_name(alloc, object)?)?;
     }
     Ok(names)
-}
-
-/// Each name with its text.
-fn paired(
-    alloc: Global,
-    names: Vec<String>,
-    texts: Vec<Vec<u8>>,
-) -> Result<Vec<(String, Vec<u8>)>, AllocError>
-    ensures { IfOk result (λ pairs. pairs.items ≡ zip names.items texts.items) }
-{
-    names.into_iter().zip(texts).collect(alloc)
 }
 
 /// The name of an object's map file.

@@ -6,7 +6,6 @@ ghost use Rattle.module_table.specs.TableValue.{table_with};
 ghost use Rattle.collate_core.specs.Projects.{CollatesProject, IsProjectRefusal, WasReadAt};
 ghost use Rattle.commands.specs.Answers.{file_value, Refuses};
 ghost use Rattle.commands.specs.CollateCommand.{style_of, files_of};
-ghost use Rattle.commands.specs.EdgeChecks.{edges_text};
 ghost use Rattle.commands.specs.Files.{ended};
 ghost use Rattle.commands.specs.Folder.{MakesCalls};
 ghost use Rattle.commands.specs.ProjectCommand.{ReadTargetValue, target_text, project_target, form_of, names_at, PassesOwn, FailsFirst, all_files, AnswersCollatedTargets, AnswersReadTargets, AnswersNames, AnswersProject, project_text};
@@ -235,16 +234,11 @@ fn collated_answer(
             Ok(Answer::writes(alloc, files))
         }
         Err(Failure::Memory) => Err(AllocError),
-        Err(Failure::Fault((index, fault))) => edges_failed(alloc, index, &fault),
+        Err(Failure::Fault((index, fault))) => {
+            let text = edges_text(alloc, &fault)?;
+            target_failed(alloc, index, &text)
+        }
     }
-}
-
-/// The answer to a target of this index whose edges are faulty.
-fn edges_failed(alloc: Global, index: usize, fault: &EdgesFault) -> Result<Answer, AllocError>
-    ensures { IfOk result (Refuses (target_text index (edges_text fault.now))) }
-{
-    let text = edges_text(alloc, fault)?;
-    target_failed(alloc, index, &text)
 }
 
 /// Whether the edges that each target names can be put in order after its own dyndep file, or what

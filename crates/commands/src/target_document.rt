@@ -60,7 +60,8 @@ impl TargetDocument {
         requires { IsPlaced spec }
         ensures { IfOk result (λ document. document ≡ spec) }
     {
-        let (setting, path) = places_in(alloc, &spec)?;
+        let setting = setting_in(alloc, &spec)?;
+        let path = dyndep_path(alloc, &spec)?;
         Ok(TargetDocument {
             spec,
             setting,
@@ -88,17 +89,6 @@ impl TargetDocument {
     {
         &self.path
     }
-}
-
-/// The setting and the dyndep file of a target document.
-fn places_in(alloc: Global, spec: &TargetSpec) -> Result<(Setting, Path), AllocError>
-    requires { IsPlaced spec.now }
-    ensures setting { IfOk result (λ places. places.0 ≡ setting_in spec.now) }
-    ensures path { IfOk result (λ places. places.1 ≡ dyndep_path spec.now) }
-{
-    let setting = setting_in(alloc, spec)?;
-    let path = dyndep_path(alloc, spec)?;
-    Ok((setting, path))
 }
 
 /// Where the target's modules are compiled to, and where Ninja runs.

@@ -1,4 +1,4 @@
-use Rattle.std.proofs.Common.{List, zip, subst}
+use Rattle.std.proofs.Common.{List, zip, ap, subst, ◌∙◌}
 use Rattle.std.specs.Prelude.{All, IfOk}
 use Rattle.std.proofs.lemmas.Result.{IfOk-weaker}
 use Rattle.ninja_text.specs.Failure.{ForFault}
@@ -21,7 +21,9 @@ pub returns : goal.returns
 returns c =
     let first : FailsFirst (zip c.args.targets.now c.deref.result.now) c.in-Err-Fault.index c.in-Err-Fault.fault =
     subst (ForFault (λ failed. FailsFirst (zip c.args.targets.now c.deref.result.now) failed.0 failed.1)) c.in-Err-Fault.field-0-is c.in-Err-Fault.ensures.fail in
-    IfOk-weaker c.edges_failed.result (Refuses (target_text c.in-Err-Fault.index (edges_text c.in-Err-Fault.fault))) _
+    let text = c.deref-in-Err-Fault.ensures.value ∙ c.in_ok-text-in-Err-Fault.ensures ∙ ap edges_text c.in-Err-Fault.fault-is in
+    IfOk-weaker c.target_failed.result (Refuses (target_text c.in-Err-Fault.index c.deref-in-Err-Fault.result.now)) _
     (λ answer h. one_fails c.in-Err-Fault.index c.in-Err-Fault.fault
-    (subst (λ (outs : List CollatedValue). FailsFirst (zip c.args.targets.now outs) c.in-Err-Fault.index c.in-Err-Fault.fault) c.deref.ensures.value first) h)
-    (subst (λ f. IfOk c.edges_failed.result (Refuses (target_text c.in-Err-Fault.index (edges_text f)))) c.in-Err-Fault.fault-is c.edges_failed.ensures)
+    (subst (λ (outs : List CollatedValue). FailsFirst (zip c.args.targets.now outs) c.in-Err-Fault.index c.in-Err-Fault.fault) c.deref.ensures.value first)
+    (subst (λ t. Refuses (target_text c.in-Err-Fault.index t) answer) text h))
+    c.target_failed.ensures
