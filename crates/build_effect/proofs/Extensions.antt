@@ -8,11 +8,17 @@ use Rattle.build_effect.specs.Effect.{IsOn, Extends, OnlyEffect, extended}
 use Rattle.build_effect.specs.Checks.{ChecksSuffice}
 use Rattle.build_effect.specs.inner.StatementEdges.{statement_on}
 use Rattle.build_effect.specs.inner.Checked.{AreChecked}
-use Rattle.build_effect.specs.inner.Extended.{AreExtended, IsEdgeAfter}
+use Rattle.build_effect.specs.inner.Extended.{AreExtended}
 use Rattle.build_effect.proofs.Lists.{same_lists, element_at}
 use Rattle.ninja_text.proofs.ForCallers.{same_some, in_append, in_first}
 use Rattle.build_effect.proofs.InputSearch.{has_first, has_second}
 use Rattle.ninja_text.proofs.ForCallers.{from_push, from_take, in_take, take_next}
+
+-- the edge as it is, or with what the statement of this index adds
+abbrev pub IsEdgeAfter : EdgeValue → List StatementValue → Option ℕ → EdgeValue → Type 0
+IsEdgeAfter e additions None new = new ≡ e
+IsEdgeAfter e additions (Some k) new =
+    (a : StatementValue) → slice_get additions k ≡ Some a → new ≡ extended e a
 
 plain_of : (additions : List StatementValue) (statement : Option ℕ) (e x : EdgeValue) → statement ≡ None → IsEdgeAfter e additions statement x → x ≡ e
 plain_of additions None e x is h = h

@@ -3,10 +3,10 @@ use Rattle.std.proofs.lemmas.Option.{slice_get_read, slice_get_within}
 use Rattle.dyndep_file.specs.StatementValue.{StatementValue}
 use Rattle.build_effect.specs.EdgeValue.{EdgeValue}
 use Rattle.build_effect.specs.Effect.{extended}
-use Rattle.build_effect.specs.inner.Extended.{AreExtended, IsEdgeAfter}
+use Rattle.build_effect.specs.inner.Extended.{AreExtended}
 use Rattle.build_effect.specs.inner.StatementEdges.{statement_on}
 use Rattle.ninja_text.proofs.ForCallers.{same_some}
-use Rattle.build_effect.proofs.Extensions.{more_extended}
+use Rattle.build_effect.proofs.Extensions.{IsEdgeAfter, more_extended}
 use Rattle.build_effect.proofs.extending.extended_edges.Goals as goal
 use Rattle.build_effect.proofs.extending.extended_edges.Goals.{in-Some+in_ok-extend, in_default}
 
