@@ -23,12 +23,12 @@ use Rattle.ninja_text.specs.Bytes.{Precedes}
 use Rattle.module_table.specs.inner.Indexed.{pair_at}
 use Rattle.module_table.specs.Sound.{IsSound}
 use Rattle.module_table.specs.inner.Ranks.{Numbered, AreListed, AreByName, AreNumbers, AreRanks, AreRanked}
-use Rattle.module_table.proofs.Places.{same_some, neither_less, to_map}
-use Rattle.module_table.proofs.Required.{contained, from_map, from_option_map}
-use Rattle.module_table.proofs.Repetitions.{from_push}
+use Rattle.module_table.proofs.Places.{neither_less}
+use Rattle.module_table.proofs.Required.{contained, from_option_map}
 use Rattle.module_table.proofs.ReportLemmas.{element}
 use Rattle.module_table.proofs.Numbering.{placed}
 use Rattle.module_table.proofs.PairLists.{precedes_one_way}
+use Rattle.ninja_text.proofs.ForCallers.{from_push, same_some, to_map, from_map}
 
 abbrev Pair : Type 0
 Pair = List ℕ × List ℕ

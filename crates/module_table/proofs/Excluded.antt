@@ -9,7 +9,8 @@ use Rattle.module_table.specs.Outcomes.{SoundHasNoFault}
 use Rattle.module_table.specs.declared.fault.Maker.TheVariants.{Object, Info}
 use Rattle.module_table.specs.declared.fault.TableFault.TheVariants.{ObjectTwice, InfoTwice, ProvidedTwice, BmiTwice, ModuleUnknown, InfoUnknown, InfoDisagrees, ImportCycle, ModulePrivate, PrivateUnknown}
 use Rattle.module_table.proofs.Places.{one_file}
-use Rattle.module_table.proofs.Required.{from_map, from_flat_map, from_numbered, contained}
+use Rattle.module_table.proofs.Required.{from_flat_map, from_numbered, contained}
+use Rattle.ninja_text.proofs.ForCallers.{from_map}
 
 -- a requirement among those of all infos is one of a module of its info
 requires_at : (t : TableValue) (k : ℕ) (r : InfoRequirement) → slice_get (info_requirements t) k ≡ Some r → (j : ℕ) × (m : ModuleValue) × InfoRequires t r.info j m r.name r.file

@@ -13,11 +13,10 @@ use Rattle.dep_order.specs.Cycles.{IsCycle, IsLeastCycle}
 use Rattle.dep_order.proofs.ForCallers.{AreWithin, orderable_same, cycle_same, orderable_or_cycle, least_is_short, no_cycle_without_least}
 use Rattle.module_table.specs.TableValue.{TableValue}
 use Rattle.module_table.specs.Modules.{Provides, Requires, InfoRequires, IsProvided, IsInfoProvided, DependsOn, Provision, provisions, InfoRequirement, info_requirements}
-use Rattle.ninja_text.specs.Firsts.{IsFirstRepetition, IsFirst}
+use Rattle.ninja_text.specs.Firsts.{IsFirst, IsFirstRepetition, AllDiffer}
 use Rattle.module_table.specs.Faults.{IsFault, Claim, claims, Collides, IsUnknown, IsInfoUnknown, Disagrees, HasPrivate, IsPrivateName, IsPrivateElsewhere, Requiring, IsFirstRequired, IsUnprovided}
 use Rattle.module_table.specs.Sound.{IsSound, PrivateAreProvided}
 use Rattle.module_table.specs.Outcomes.{HasNoFault, FaultlessIsSound}
-use Rattle.module_table.specs.inner.Repetition.{AllDiffer}
 use Rattle.module_table.specs.inner.Views.{names_of, IsAbsent}
 use Rattle.module_table.specs.inner.Finds.{IsNamed, IsNotByInfo}
 use Rattle.module_table.specs.inner.Graph.{index_in}
@@ -25,14 +24,15 @@ use Rattle.module_table.specs.inner.Numbered.{IsNumbered, maker_at}
 use Rattle.module_table.specs.declared.fault.Maker.{Maker}
 use Rattle.module_table.specs.declared.fault.Maker.TheVariants.{Object, Info}
 use Rattle.module_table.specs.declared.fault.TableFault.TheVariants.{ObjectTwice, InfoTwice, ProvidedTwice, BmiTwice, ModuleUnknown, InfoUnknown, InfoDisagrees, ImportCycle, ModulePrivate, PrivateUnknown}
-use Rattle.module_table.proofs.Places.{to_map, neither_less}
-use Rattle.module_table.proofs.Required.{from_map, contained}
+use Rattle.module_table.proofs.Places.{neither_less}
+use Rattle.module_table.proofs.Required.{contained}
 use Rattle.module_table.proofs.Numbering.{placed, number_known}
 use Rattle.module_table.proofs.ReportLemmas.{absent_unknown, provided_numbered}
 use Rattle.module_table.proofs.Found.{nothing_named, object_not_info, info_not_object}
 use Rattle.module_table.proofs.InfoFaults.{from_info, unknown_by, unprovided_by, provided_by}
 use Rattle.module_table.proofs.Rings.{as_many, to_depends, from_depends, are_nodes}
 use Rattle.module_table.proofs.InfoRequirements.{requirement_of, requirement, agreed}
+use Rattle.ninja_text.proofs.ForCallers.{to_map, from_map}
 
 -- ---- where nothing is the first there is nothing
 

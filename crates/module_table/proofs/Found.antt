@@ -3,15 +3,16 @@ use Rattle.std.proofs.Common.{◌≡◌, ℕ, zero, suc, Bool, true, false, not,
 use Rattle.std.specs.Cmp.Lexicographic.{bytes_decides}
 use Rattle.std.proofs.lemmas.Bool.{eq-eqb, eqb-true}
 use Rattle.module_table.specs.Modules.{Provision, InfoRequirement}
-use Rattle.module_table.specs.inner.Repetition.{AllDiffer}
+use Rattle.ninja_text.specs.Firsts.{AllDiffer}
 use Rattle.module_table.specs.inner.Views.{names_of, IsAbsent}
 use Rattle.module_table.specs.inner.Finds.{found, is_info, is_object, is_info_at, some_and, none_or, is_by_info, agrees, is_allowed, is_public_at, is_by_object, IsNamed, IsByInfo, IsNotByInfo, Agrees, Differs, IsAllowed, IsNotAllowed, IsPublic, IsPrivate, IsByObject, IsNotByObject, RefusesAt, AcceptsAll}
 use Rattle.module_table.specs.inner.Found.{with_module}
 use Rattle.module_table.specs.declared.fault.Maker.{Maker}
 use Rattle.module_table.specs.declared.fault.Maker.TheVariants.{Object, Info}
-use Rattle.module_table.proofs.Places.{same_some, neither_less, to_map}
-use Rattle.module_table.proofs.Required.{from_find, from_map}
+use Rattle.module_table.proofs.Places.{neither_less}
+use Rattle.module_table.proofs.Required.{from_find}
 use Rattle.module_table.proofs.ReportLemmas.{in_row}
+use Rattle.ninja_text.proofs.ForCallers.{same_some, to_map, from_map}
 
 same_bytes : (a b : List ℕ) → bytes_eq a b ≡ true → a ≡ b
 same_bytes a b e = (bytes_decides a b).0 e

@@ -13,12 +13,12 @@ use Rattle.module_table.specs.inner.Indexed.{IsOriginAmong, IsNamedAt}
 use Rattle.module_table.specs.inner.Graph.{IsModuleGraph, IsModuleRow, AreGraphParts}
 use Rattle.module_table.specs.declared.fault.Maker.{Maker}
 use Rattle.module_table.specs.declared.fault.Maker.TheVariants.{Object, Info}
-use Rattle.module_table.proofs.Places.{to_map}
-use Rattle.module_table.proofs.Required.{Has, from_append, from_map}
+use Rattle.module_table.proofs.Required.{Has, from_append}
 use Rattle.module_table.proofs.Rings.{length_mapped}
 use Rattle.module_table.proofs.Zips.{zip_back, zip_length}
 use Rattle.module_table.proofs.ModulePlaces.{IsPlaceOf, module_places}
 use Rattle.module_table.proofs.Numbering.{only_one, from_numbers}
+use Rattle.ninja_text.proofs.ForCallers.{to_map, from_map}
 
 -- what holds of what is at each place holds of all
 pub all_from : {X : Type 0} (P : X → Type 0) (xs : List X) → ((x : X) → Has xs x → P x) → All P xs

@@ -6,12 +6,11 @@ use Rattle.scan_docs.specs.Info.{InfoValue}
 use Rattle.dep_order.specs.Rows.{rows}
 use Rattle.module_table.specs.TableValue.{TableValue}
 use Rattle.module_table.specs.Modules.{provisions}
-use Rattle.module_table.specs.inner.Repetition.{AllDiffer}
+use Rattle.ninja_text.specs.Firsts.{AllDiffer}
 use Rattle.module_table.specs.inner.Views.{names_of}
 use Rattle.module_table.specs.inner.Numbered.{AreIndexes, IsNumbered}
-use Rattle.module_table.proofs.Places.{to_map}
 use Rattle.module_table.proofs.Rings.{length_mapped}
-use Rattle.module_table.proofs.Required.{from_map}
+use Rattle.ninja_text.proofs.ForCallers.{to_map, from_map}
 
 indexes_in : (keys : List (List ℕ)) (vectors : List (Vec ℕ Global)) → map (λ row. map (slice_get keys) row) (rows vectors) ≡ map (λ row. map (slice_get keys) row.items) vectors
 indexes_in keys [] = refl

@@ -3,17 +3,18 @@ use Rattle.std.proofs.Common.{◌≡◌, ℕ, List, Some, refl, ap, subst, sym, 
 use Rattle.module_table.specs.TableValue.{TableValue}
 use Rattle.module_table.specs.Modules.{Provides, IsProvidedBy, IsInfoProvided, Provision, provisions, InfoRequirement, info_requirements}
 use Rattle.module_table.specs.Faults.{IsInfoUnknown, Disagrees, IsUnprovided}
-use Rattle.module_table.specs.inner.Repetition.{AllDiffer}
+use Rattle.ninja_text.specs.Firsts.{AllDiffer}
 use Rattle.module_table.specs.inner.Views.{names_of}
 use Rattle.module_table.specs.inner.Finds.{IsNamed, IsByInfo, IsNotByInfo, Agrees, Differs, IsByObject, IsNotByObject, RefusesAt, AcceptsAll}
 use Rattle.module_table.specs.inner.Reported.{Reports}
 use Rattle.module_table.specs.declared.fault.Maker.TheVariants.{Object, Info}
 use Rattle.module_table.specs.declared.fault.TableFault.{TableFault}
 use Rattle.module_table.specs.declared.fault.TableFault.TheVariants.{InfoUnknown, InfoDisagrees, PrivateUnknown}
-use Rattle.module_table.proofs.Places.{same_some, object_provision, info_provision}
+use Rattle.module_table.proofs.Places.{object_provision, info_provision}
 use Rattle.module_table.proofs.Required.{from_provisions}
 use Rattle.module_table.proofs.ReportLemmas.{reports_same}
 use Rattle.module_table.proofs.Found.{one_module}
+use Rattle.ninja_text.proofs.ForCallers.{same_some}
 
 module _ (t : TableValue) where
   -- where the module is that an info provides

@@ -12,8 +12,8 @@ use Rattle.module_table.specs.inner.Views.{requirement_of as requirement_seen}
 use Rattle.module_table.specs.inner.Finds.{LookedUp}
 use Rattle.module_table.specs.inner.Found.{looked_up, with_module, lookups_of, AreLookedUp}
 use Rattle.module_table.specs.declared.requirements.InfoRequired.{InfoRequired}
-use Rattle.module_table.proofs.Places.{to_map, info_row_of, in_flat_map}
-use Rattle.module_table.proofs.Required.{from_map}
+use Rattle.module_table.proofs.Places.{info_row_of, in_flat_map}
+use Rattle.ninja_text.proofs.ForCallers.{to_map, from_map}
 
 -- what a module of the info of that target requires
 abbrev pub requirement_of : ℕ → List ℕ → ModuleValue → List ℕ → List ℕ → InfoRequirement

@@ -8,14 +8,14 @@ use Rattle.std.proofs.lemmas.List.{get_or-set_same, get_or-set_other, length-set
 use Rattle.std.proofs.lemmas.Option.{slice_get-get_or, get_or_from_slice_get}
 use Rattle.module_table.specs.Modules.{Provision}
 use Rattle.module_table.specs.Added.{first_mentions, pair_of}
-use Rattle.module_table.specs.inner.Repetition.{AllDiffer}
+use Rattle.ninja_text.specs.Firsts.{AllDiffer}
 use Rattle.module_table.specs.inner.Views.{names_of}
 use Rattle.module_table.specs.inner.Indexed.{pair_at}
 use Rattle.module_table.specs.inner.Mentioned.{name_in, AreMarked}
-use Rattle.module_table.proofs.Places.{same_some, neither_less, to_map, in_first, in_second}
-use Rattle.module_table.proofs.Repetitions.{from_push, map_take}
+use Rattle.module_table.proofs.Places.{neither_less}
 use Rattle.module_table.proofs.Mentions.{map_push, mention_new, mention_old}
 use Rattle.module_table.proofs.Found.{named_found}
+use Rattle.ninja_text.proofs.ForCallers.{from_push, map_take, same_some, to_map, in_first, in_second}
 
 or_true : (b : Bool) → b || true ≡ true
 or_true true = refl

@@ -3,7 +3,7 @@ use Rattle.std.proofs.Common.{◌≡◌, ℕ, ◌+◌, Bool, true, false, cond, 
 use Rattle.std.specs.List.{list_any}
 use Rattle.std.specs.Cmp.Lexicographic.{bytes_decides}
 use Rattle.module_table.specs.Added.{first_mentions}
-use Rattle.module_table.proofs.Repetitions.{take_next, new_if, found_if}
+use Rattle.ninja_text.proofs.ForCallers.{take_next, found_if, new_if}
 
 abbrev other_than : List ℕ → List ℕ → Bool
 other_than y o = not (bytes_eq y o)

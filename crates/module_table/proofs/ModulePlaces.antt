@@ -12,9 +12,9 @@ use Rattle.module_table.specs.inner.Views.{names_of}
 use Rattle.module_table.specs.inner.Indexed.{IsInfosModule, IsNamedAt, pair_at}
 use Rattle.module_table.specs.declared.fault.Maker.{Maker}
 use Rattle.module_table.specs.declared.fault.Maker.TheVariants.{Object, Info}
-use Rattle.module_table.proofs.Places.{same_some}
-use Rattle.module_table.proofs.Required.{from_map, from_numbered}
+use Rattle.module_table.proofs.Required.{from_numbered}
 use Rattle.module_table.proofs.Zips.{zip_append, zip_flat_map, zip_numbered, zip_back, zip_length}
+use Rattle.ninja_text.proofs.ForCallers.{same_some, from_map}
 
 -- what is at one place of a list is one
 pub one_at : {X : Type 0} (xs : List X) (k : ℕ) (x y : X) → slice_get xs k ≡ Some x → slice_get xs k ≡ Some y → x ≡ y

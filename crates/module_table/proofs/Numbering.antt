@@ -6,12 +6,13 @@ use Rattle.std.proofs.lemmas.Bool.{cond-true}
 use Rattle.std.proofs.lemmas.Bool.Decides.{nat_tests}
 use Rattle.std.proofs.lemmas.Option.{slice_get_within, slice_get-get_or, get_or_from_slice_get}
 use Rattle.std.proofs.lemmas.List.Sums.{position_or_len_is}
-use Rattle.module_table.specs.inner.Repetition.{AllDiffer}
+use Rattle.ninja_text.specs.Firsts.{AllDiffer}
 use Rattle.module_table.specs.inner.Graph.{index_in, indexes_in}
-use Rattle.module_table.proofs.Places.{same_some, neither_less}
+use Rattle.module_table.proofs.Places.{neither_less}
 use Rattle.module_table.proofs.Required.{Has, contained, from_filter_map}
 use Rattle.module_table.proofs.Repetitions.{finds}
 use Rattle.module_table.proofs.Rings.{in_filter_map}
+use Rattle.ninja_text.proofs.ForCallers.{same_some}
 
 -- what is contained is at some place
 pub placed : {X : Type 0} (xs : List X) (x : X) → Contains xs x → Has xs x

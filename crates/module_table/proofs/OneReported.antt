@@ -4,19 +4,19 @@ use Rattle.scan_docs.specs.Scan.{RuleValue}
 use Rattle.dep_order.proofs.ForCallers.{one_cycle}
 use Rattle.module_table.specs.TableValue.{TableValue}
 use Rattle.module_table.specs.Modules.{DependsOn, provisions, Provision, InfoRequirement}
-use Rattle.ninja_text.specs.Firsts.{IsFirstRepetition, IsFirst}
+use Rattle.ninja_text.specs.Firsts.{IsFirst, IsFirstRepetition, AllDiffer}
 use Rattle.module_table.specs.Faults.{IsReported, IsFirstRequired, HasPrivate, Claim, code_number}
 use Rattle.module_table.specs.Outcomes.{IsSameFault, same, same_ring, OneTableFault}
-use Rattle.module_table.specs.inner.Repetition.{AllDiffer}
 use Rattle.module_table.specs.inner.Views.{names_of}
 use Rattle.module_table.specs.declared.fault.Maker.TheVariants.{Object, Info}
 use Rattle.module_table.specs.declared.fault.TableFault.{TableFault}
 use Rattle.module_table.specs.declared.fault.TableFault.TheVariants.{ObjectTwice, InfoTwice, ProvidedTwice, BmiTwice, ModuleUnknown, InfoUnknown, InfoDisagrees, ImportCycle, ModulePrivate, PrivateUnknown}
-use Rattle.module_table.proofs.Places.{same_some, neither_less}
+use Rattle.module_table.proofs.Places.{neither_less}
 use Rattle.module_table.proofs.Required.{contained}
 use Rattle.module_table.proofs.Found.{one_module}
 use Rattle.module_table.proofs.Privacy.{has_private}
 use Rattle.module_table.proofs.Faultless.{names_differ}
+use Rattle.ninja_text.proofs.ForCallers.{same_some}
 
 -- ---- there is one first
 

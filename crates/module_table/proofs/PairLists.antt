@@ -7,9 +7,9 @@ use Rattle.std.proofs.lemmas.Cmp.{nat_list_cmp_total}
 use Rattle.std.proofs.lemmas.Option.{slice_get_within, get_or_from_slice_get}
 use Rattle.module_table.specs.Needed.{ArePairs}
 use Rattle.ninja_text.specs.Bytes.{Precedes}
-use Rattle.module_table.proofs.Places.{same_some}
 use Rattle.module_table.proofs.Required.{Has, contained}
 use Rattle.module_table.proofs.Numbering.{placed}
+use Rattle.ninja_text.proofs.ForCallers.{same_some}
 
 -- each element comes before all that are after it
 abbrev Rises : {X : Type 0} → (X → X → Type 0) → List X → Type 0

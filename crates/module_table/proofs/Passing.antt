@@ -13,7 +13,7 @@ use Rattle.module_table.specs.TableValue.{TableValue}
 use Rattle.module_table.specs.Modules.{Requires, IsProvided, DependsOn, Provision, provisions, info_requirements}
 use Rattle.module_table.specs.Faults.{IsReported, Claim, claims, code_number}
 use Rattle.module_table.specs.Outcomes.{HasNoFault}
-use Rattle.module_table.specs.inner.Repetition.{AllDiffer}
+use Rattle.ninja_text.specs.Firsts.{AllDiffer}
 use Rattle.module_table.specs.inner.Views.{names_of, files_of}
 use Rattle.module_table.specs.inner.Numbered.{AreIndexes}
 use Rattle.module_table.specs.inner.Finds.{IsByInfo, Agrees, IsAllowed, IsByObject, RequiresPublic, AcceptsAll}
@@ -22,11 +22,11 @@ use Rattle.module_table.specs.inner.Passed.{Lacks, Passed}
 use Rattle.module_table.specs.declared.fault.Maker.TheVariants.{Object, Info}
 use Rattle.module_table.specs.declared.fault.TableFault.{TableFault}
 use Rattle.module_table.specs.declared.fault.TableFault.TheVariants.{ObjectTwice, InfoTwice, ProvidedTwice, BmiTwice, ModuleUnknown, InfoUnknown, InfoDisagrees, ImportCycle, ModulePrivate, PrivateUnknown}
-use Rattle.module_table.proofs.Places.{to_map}
-use Rattle.module_table.proofs.Required.{contained, from_map}
+use Rattle.module_table.proofs.Required.{contained}
 use Rattle.module_table.proofs.ReportLemmas.{claimed_files, in_row, provided_numbered}
 use Rattle.module_table.proofs.InfoFaults.{known_by, agrees_not, provided_by}
 use Rattle.module_table.proofs.Privacy.{public_rows, allowed_not_private}
+use Rattle.ninja_text.proofs.ForCallers.{to_map, from_map}
 
 -- no code is below the first or above the last
 code_within : (fault : TableFault) → (1 ≤ code_number fault) × (code_number fault ≤ 10)

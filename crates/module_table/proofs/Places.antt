@@ -12,23 +12,7 @@ use Rattle.module_table.specs.Sound.{IsSound}
 use Rattle.module_table.specs.Added.{AddedNeeds, AddedOrderable, FilesOnce, FilesApart, OneFile}
 use Rattle.module_table.specs.declared.fault.Maker.{Maker}
 use Rattle.module_table.specs.declared.fault.Maker.TheVariants.{Object, Info}
-
-pub same_some : {X : Type 0} (x y : X) → Some x ≡ Some y → x ≡ y
-same_some x y e = cc
-
-pub to_map : {A B : Type 0} (f : A → B) (xs : List A) (k : ℕ) (x : A) → slice_get xs k ≡ Some x → slice_get (map f xs) k ≡ Some (f x)
-to_map f [] k x e = cc
-to_map f (y ∷ xs) zero x e = ap (λ z. Some (f z)) (same_some _ _ e)
-to_map f (y ∷ xs) (suc k) x e = to_map f xs k x e
-
-pub in_first : {X : Type 0} (xs ys : List X) (k : ℕ) (x : X) → slice_get xs k ≡ Some x → slice_get (xs ++ ys) k ≡ Some x
-in_first [] ys k x e = cc
-in_first (y ∷ xs) ys zero x e = e
-in_first (y ∷ xs) ys (suc k) x e = in_first xs ys k x e
-
-pub in_second : {X : Type 0} (xs ys : List X) (k : ℕ) (x : X) → slice_get ys k ≡ Some x → slice_get (xs ++ ys) (length xs + k) ≡ Some x
-in_second [] ys k x e = let at : 0 + k ≡ k = omega arith in rw at e
-in_second (y ∷ xs) ys k x e = let at : suc (length xs) + k ≡ suc (length xs + k) = omega arith in rw at (in_second xs ys k x e)
+use Rattle.ninja_text.proofs.ForCallers.{same_some, to_map, in_first, in_second}
 
 pub numbered : {X : Type 0} (n : ℕ) (xs : List X) (k : ℕ) (x : X) → slice_get xs k ≡ Some x → slice_get (enumerate_from n xs) k ≡ Some (n + k, x)
 numbered n [] k x e = cc

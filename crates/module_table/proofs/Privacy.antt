@@ -12,13 +12,13 @@ use Rattle.module_table.specs.inner.Reported.{Reports}
 use Rattle.module_table.specs.declared.fault.Maker.TheVariants.{Object, Info}
 use Rattle.module_table.specs.declared.fault.TableFault.{TableFault}
 use Rattle.module_table.specs.declared.fault.TableFault.TheVariants.{ModulePrivate}
-use Rattle.module_table.proofs.Places.{same_some, info_provision}
-use Rattle.module_table.proofs.Required.{from_append, from_flat_map, from_numbered, from_map}
-use Rattle.module_table.specs.inner.Repetition.{AllDiffer}
+use Rattle.module_table.proofs.Places.{info_provision}
+use Rattle.module_table.proofs.Required.{from_append, from_flat_map, from_numbered}
+use Rattle.ninja_text.specs.Firsts.{AllDiffer}
 use Rattle.module_table.specs.inner.Views.{names_of}
 use Rattle.module_table.proofs.ReportLemmas.{reports_same}
-use Rattle.module_table.proofs.Repetitions.{in_take}
 use Rattle.module_table.proofs.Found.{one_module}
+use Rattle.ninja_text.proofs.ForCallers.{in_take, same_some, from_map}
 
 module _ (t : TableValue) where
   -- a private module is one that an info keeps

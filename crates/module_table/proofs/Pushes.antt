@@ -1,7 +1,7 @@
 -- Loops that push.
 use Rattle.std.proofs.Common.{◌≡◌, ℕ, ◌+◌, List, [], ◌∷◌, ◌++◌, map, take, Some, ap, sym, ◌∙◌, append_assoc, slice_get}
 use Rattle.std.proofs.lemmas.List.{map-append}
-use Rattle.module_table.proofs.Repetitions.{take_next}
+use Rattle.ninja_text.proofs.ForCallers.{take_next}
 
 -- a loop that pushes what each element becomes
 pub pushes_next : {A B Y : Type 0} (g : A → B) (f : Y → B) (ys longer : List Y) (y : Y) (old : List B) (now new : List A) (a : A) → longer ≡ ys ++ y ∷ [] → map g now ≡ old ++ map f ys → new ≡ now ++ a ∷ [] → g a ≡ f y → map g new ≡ old ++ map f longer

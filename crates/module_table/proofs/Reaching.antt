@@ -8,19 +8,20 @@ use Rattle.module_table.specs.TableValue.{TableValue}
 use Rattle.module_table.specs.Modules.{Provides, Requires, InfoProvides, IsProvided, Provision, provisions}
 use Rattle.module_table.specs.Needed.{LeadsTo, Leads, IsNeeded}
 use Rattle.module_table.specs.Sound.{IsSound}
-use Rattle.module_table.specs.inner.Repetition.{AllDiffer}
+use Rattle.ninja_text.specs.Firsts.{AllDiffer}
 use Rattle.module_table.specs.inner.Views.{names_of}
 use Rattle.module_table.specs.inner.Origins.{origins_of}
 use Rattle.module_table.specs.inner.Graph.{IsModuleGraph, IsModuleRow, indexes_in}
 use Rattle.module_table.specs.declared.fault.Maker.{Maker}
 use Rattle.module_table.specs.declared.fault.Maker.TheVariants.{Object, Info}
-use Rattle.module_table.proofs.Places.{same_some, to_map, in_first, in_second, object_provision, info_provision}
-use Rattle.module_table.proofs.Required.{Has, contained, from_map, from_provisions}
+use Rattle.module_table.proofs.Places.{object_provision, info_provision}
+use Rattle.module_table.proofs.Required.{Has, contained, from_provisions}
 use Rattle.module_table.proofs.ReportLemmas.{in_row, numbered_provided}
 use Rattle.module_table.proofs.Zips.{zip_there, zip_length}
 use Rattle.module_table.proofs.ModulePlaces.{IsPlaceOf, module_places, one_at, one_entry}
 use Rattle.module_table.proofs.Numbering.{placed, only_one, one_number, to_numbers, from_numbers}
 use Rattle.module_table.proofs.Rings.{length_mapped}
+use Rattle.ninja_text.proofs.ForCallers.{same_some, to_map, in_first, in_second, from_map}
 
 -- one step, and then the rest
 reaches_next : (Needs : ℕ → ℕ → Type 0) (from next to : ℕ) → Needs from next → Reaches Needs next to → Reaches Needs from to

@@ -9,9 +9,7 @@ use Rattle.std.proofs.lemmas.Option.{slice_get-get_or, slice_get_within, get_or_
 use Rattle.std.proofs.lemmas.List.Quantifiers.{position-Some}
 use Rattle.std.proofs.lemmas.List.Sums.{fails_before_first}
 use Rattle.module_table.specs.inner.Finds.{AcceptsAll, FindsRefused}
-use Rattle.module_table.proofs.Places.{to_map}
-use Rattle.module_table.proofs.Repetitions.{from_push, take_next}
-use Rattle.module_table.proofs.Required.{from_map}
+use Rattle.ninja_text.proofs.ForCallers.{from_push, take_next, to_map, from_map}
 
 module _ {X : Type 0} (Accepted Refused : X → Type 0) (xs : List X) (place : ℕ) (x : X) (at : slice_get xs place ≡ Some x) (before : AcceptsAll Accepted (take place xs)) where
   pub accepts_next : Accepted x → AcceptsAll Accepted (take (place + 1) xs)

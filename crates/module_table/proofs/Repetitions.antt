@@ -7,69 +7,13 @@ use Rattle.std.proofs.lemmas.List.{take_more, take_all, map-append}
 use Rattle.std.proofs.lemmas.List.Folds.{list_any_at}
 use Rattle.std.proofs.lemmas.Option.{slice_get_within, get_or_from_slice_get, slice_get-get_or}
 use Rattle.std.proofs.lemmas.List.Quantifiers.{position-Some}
-use Rattle.module_table.specs.inner.Repetition.{AllDiffer, RepeatsFirst}
-use Rattle.ninja_text.specs.Firsts.{IsFirstRepetition}
-use Rattle.module_table.proofs.Places.{same_some, to_map}
-use Rattle.module_table.proofs.Required.{from_map}
-
--- an element of a longer list is in the list, or is the last one
-pub from_push : {X : Type 0} (xs : List X) (y : X) (k : ℕ) (x : X) → slice_get (xs ++ y ∷ []) k ≡ Some x → (slice_get xs k ≡ Some x) ⊎ ((k ≡ length xs) × (y ≡ x))
-from_push [] y zero x e = inr (refl, same_some _ _ e)
-from_push [] y (suc k) x e = cc
-from_push (z ∷ xs) y zero x e = inl e
-from_push (z ∷ xs) y (suc k) x e = ⊎_elim (λ h. inl h) (λ h. inr (ap suc h.0, h.1)) (from_push xs y k x e)
-
--- what is among the first few is in the list
-pub from_take : {X : Type 0} (n : ℕ) (xs : List X) (k : ℕ) (x : X) → slice_get (take n xs) k ≡ Some x → (k < n) × (slice_get xs k ≡ Some x)
-from_take zero xs k x e = cc
-from_take (suc n) [] k x e = cc
-from_take (suc n) (y ∷ xs) zero x e = (omega arith, e)
-from_take (suc n) (y ∷ xs) (suc k) x e = let r = from_take n xs k x e in (omega (arith, r.0), r.1)
-
-pub in_take : {X : Type 0} (n : ℕ) (xs : List X) (k : ℕ) (x : X) → k < n → slice_get xs k ≡ Some x → slice_get (take n xs) k ≡ Some x
-in_take zero xs k x lt e = absurd (omega arith)
-in_take (suc n) [] k x lt e = cc
-in_take (suc n) (y ∷ xs) zero x lt e = e
-in_take (suc n) (y ∷ xs) (suc k) x lt e = in_take n xs k x (omega arith) e
-
-pub map_take : {X Y : Type 0} (f : X → Y) (n : ℕ) (xs : List X) → map f (take n xs) ≡ take n (map f xs)
-map_take f zero xs = refl
-map_take f (suc n) [] = refl
-map_take f (suc n) (x ∷ xs) = ap (λ ys. f x ∷ ys) (map_take f n xs)
-
--- one more of the list
-pub take_next : {X : Type 0} (xs : List X) (i : ℕ) (x : X) → slice_get xs i ≡ Some x → take (i + 1) xs ≡ take i xs ++ x ∷ []
-take_next xs i x at = take_more xs i x (slice_get_within xs i x at) ∙ ap (λ y. take i xs ++ y ∷ []) (get_or_from_slice_get xs i x x at)
+use Rattle.ninja_text.specs.Firsts.{AllDiffer, RepeatsFirst, IsFirstRepetition}
+use Rattle.ninja_text.proofs.ForCallers.{from_take, in_take, take_next, differ_push, not_among, found_if, new_if, same_some, to_map, from_map}
 
 -- the first few of two lists, past the first
 pub take_behind : {X : Type 0} (xs ys : List X) (n : ℕ) → take (length xs + n) (xs ++ ys) ≡ xs ++ take n ys
 take_behind [] ys n = let e : 0 + n ≡ n = omega arith in rw e refl
 take_behind (x ∷ xs) ys n = let e : suc (length xs) + n ≡ suc (length xs + n) = omega arith in rw e (ap (λ zs. x ∷ zs) (take_behind xs ys n))
-
--- all differ in a list that is one longer by something new
-pub differ_push : {X : Type 0} (xs : List X) (y : X) → AllDiffer xs → ((k : ℕ) → slice_get xs k ≡ Some y → ⊥) → AllDiffer (xs ++ y ∷ [])
-differ_push xs y all new = record { differ = differ }
-  where
-    differ : (i j : ℕ) (x : _) → i < j → slice_get (xs ++ y ∷ []) i ≡ Some x → slice_get (xs ++ y ∷ []) j ≡ Some x → ⊥
-    differ i j x lt at_i at_j =
-        ⊎_elim
-        (λ in_j. ⊎_elim (λ in_i. all.differ i j x lt in_i in_j) (λ last_i. let within : j < length xs = slice_get_within xs j x in_j in absurd (omega (arith, within, last_i.0, lt))) (from_push xs y i x at_i))
-        (λ last_j.
-        ⊎_elim
-        (λ in_i. new i (in_i ∙ ap (λ z. Some z) (sym last_j.1)))
-        (λ last_i. absurd (omega (arith, last_i.0, last_j.0, lt)))
-        (from_push xs y i x at_i))
-        (from_push xs y j x at_j)
-
-module _ {X : Type 0} (f : X → List ℕ) where
-  -- what a search does not find is not there
-  pub not_among : (ks : List X) (x : X) → list_any (λ k. bytes_eq (f x) (f k)) ks ≡ false → (k : ℕ) → slice_get (map f ks) k ≡ Some (f x) → ⊥
-  not_among ks x none k at =
-      let from = from_map f ks k (f x) at in
-      let within : k < length ks = slice_get_within ks k from.0 from.1 in
-      let read : get_or ks k from.0 ≡ from.0 = get_or_from_slice_get ks k from.0 from.0 from.1 in
-      let same : bytes_eq (f x) (f (get_or ks k from.0)) ≡ true = (bytes_decides (f x) (f (get_or ks k from.0))).1 (sym from.2 ∙ ap f (sym read)) in
-      true≢false (sym (list_any_at (λ z. bytes_eq (f x) (f z)) ks k from.0 within same) ∙ none)
 
 pub length_before : {X : Type 0} (xs : List X) (i : ℕ) (x : X) → slice_get xs i ≡ Some x → length (take i xs) ≡ i
 length_before [] i x e = cc
@@ -99,14 +43,6 @@ gathers_next f xs i x old now new at before more =
 -- and its end
 pub gathers_all : {X A : Type 0} (f : ℕ × X → List A) (xs : List X) (i : ℕ) (old now : List A) → length xs ≤ i → now ≡ old ++ flat_map f (enumerate_from 0 (take i xs)) → now ≡ old ++ flat_map f (enumerate_from 0 xs)
 gathers_all f xs i old now past so_far = so_far ∙ ap (λ ys. old ++ flat_map f (enumerate_from 0 ys)) (take_all i xs past)
-
-pub found_if : (b : Bool) → false ≡ not b → b ≡ true
-found_if true e = refl
-found_if false e = e
-
-pub new_if : (b : Bool) → true ≡ not b → b ≡ false
-new_if true e = e
-new_if false e = refl
 
 -- a text is put into a table of the texts before it
 module _ {X : Type 0} (f : X → List ℕ) (texts : List (List ℕ)) (j : ℕ) (x : X) (keys new : List X) (at : slice_get texts j ≡ Some (f x))

@@ -9,17 +9,17 @@ use Rattle.ninja_text.specs.declared.failure.Failure.{Failure}
 use Rattle.ninja_text.specs.declared.failure.Failure.TheVariants.{Memory, Fault}
 use Rattle.module_table.specs.TableValue.{TableValue}
 use Rattle.module_table.specs.Modules.{IsProvided, IsProvidedBy, Provision, provisions}
-use Rattle.ninja_text.specs.Firsts.{IsFirst}
+use Rattle.ninja_text.specs.Firsts.{IsFirst, AllDiffer, RepeatsFirst}
 use Rattle.module_table.specs.Faults.{Claim, claims, claims_of, own_claims, module_claims, IsUnknown}
-use Rattle.module_table.specs.inner.Repetition.{AllDiffer, RepeatsFirst}
 use Rattle.module_table.specs.inner.Views.{names_of, files_of, IsProvidedTwice, IsMadeTwice, IsAbsent}
 use Rattle.module_table.specs.inner.Reported.{Reports}
 use Rattle.module_table.specs.declared.fault.Maker.TheVariants.{Object, Info}
 use Rattle.module_table.specs.declared.fault.TableFault.{TableFault}
 use Rattle.module_table.specs.declared.fault.TableFault.TheVariants.{ProvidedTwice, BmiTwice, ModuleUnknown}
-use Rattle.module_table.proofs.Places.{same_some, either, to_map, in_first, in_second, numbered, object_provision, info_provision}
-use Rattle.module_table.proofs.Required.{from_map, from_provisions}
-use Rattle.module_table.proofs.Repetitions.{repetition_of, in_take}
+use Rattle.module_table.proofs.Places.{either, numbered, object_provision, info_provision}
+use Rattle.module_table.proofs.Required.{from_provisions}
+use Rattle.module_table.proofs.Repetitions.{repetition_of}
+use Rattle.ninja_text.proofs.ForCallers.{in_take, same_some, to_map, in_first, in_second, from_map}
 
 pub for_fault : (P Q : TableFault → Type 0) (failure : Failure TableFault) → ((fault : TableFault) → P fault → Q fault) → ForFault P failure → ForFault Q failure
 for_fault P Q Memory to h = h

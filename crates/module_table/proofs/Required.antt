@@ -9,7 +9,7 @@ use Rattle.module_table.specs.TableValue.{TableValue}
 use Rattle.module_table.specs.Modules.{IsProvidedBy, Provision, provisions, object_provisions, info_provisions}
 use Rattle.module_table.specs.Added.{first_mentions, file_of, required_of, RequiredFiles}
 use Rattle.module_table.specs.declared.fault.Maker.TheVariants.{Object, Info}
-use Rattle.module_table.proofs.Places.{same_some}
+use Rattle.ninja_text.proofs.ForCallers.{same_some, from_map}
 
 -- x is at some place of the list
 abbrev pub Has : {X : Type 0} → List X → X → Type 0
@@ -22,11 +22,6 @@ pub from_append : {X : Type 0} (xs ys : List X) (k : ℕ) (x : X) → slice_get 
 from_append [] ys k x e = inr (k, e)
 from_append (y ∷ xs) ys zero x e = inl (0, e)
 from_append (y ∷ xs) ys (suc k) x e = elim (from_append xs ys k x e) [ inl h ↦ inl (has_more y xs x h) | inr h ↦ inr h ]
-
-pub from_map : {A B : Type 0} (f : A → B) (xs : List A) (k : ℕ) (y : B) → slice_get (map f xs) k ≡ Some y → (x : A) × (slice_get xs k ≡ Some x) × (f x ≡ y)
-from_map f [] k y e = cc
-from_map f (x ∷ xs) zero y e = (x, refl, same_some _ _ e)
-from_map f (x ∷ xs) (suc k) y e = from_map f xs k y e
 
 abbrev pub FromPart : {A B : Type 0} → (A → List B) → List A → B → Type 0
 FromPart {A} f xs y = (x : A) × (i : ℕ) × (j : ℕ) × (slice_get xs i ≡ Some x) × (slice_get (f x) j ≡ Some y)

@@ -4,10 +4,11 @@ use Rattle.std.specs.Option.{option_map}
 use Rattle.std.specs.Cmp.Lexicographic.{bytes_decides}
 use Rattle.module_table.specs.Modules.{Provision, provisions}
 use Rattle.module_table.specs.Added.{first_mentions, pair_of, required_of, AllRequired}
-use Rattle.module_table.proofs.Places.{same_some, provision_by}
+use Rattle.module_table.proofs.Places.{provision_by}
 use Rattle.module_table.proofs.Required.{Has, has_more, contained}
 use Rattle.module_table.proofs.Numbering.{placed}
 use Rattle.module_table.proofs.Rings.{in_filter_map}
+use Rattle.ninja_text.proofs.ForCallers.{same_some}
 
 -- ---- a filter keeps what passes its test
 

@@ -13,11 +13,11 @@ use Rattle.module_table.specs.inner.Views.{names_of}
 use Rattle.module_table.specs.inner.Numbered.{IsNumbered, object_of, maker_at}
 use Rattle.module_table.specs.declared.fault.Maker.{Maker}
 use Rattle.module_table.specs.declared.fault.Maker.TheVariants.{Object, Info}
-use Rattle.module_table.proofs.Places.{same_some, to_map, object_provision}
-use Rattle.module_table.proofs.Required.{Has, contained, from_map, from_provisions, from_filter_map}
+use Rattle.module_table.proofs.Places.{object_provision}
+use Rattle.module_table.proofs.Required.{Has, contained, from_provisions, from_filter_map}
 use Rattle.module_table.proofs.Found.{one_index}
-use Rattle.module_table.proofs.Repetitions.{take_next}
 use Rattle.module_table.proofs.ReportLemmas.{in_row}
+use Rattle.ninja_text.proofs.ForCallers.{take_next, same_some, to_map, from_map}
 
 cons_append : {Y : Type 0} (o : Option Y) (xs ys : List Y) → cons_option o (xs ++ ys) ≡ cons_option o xs ++ ys
 cons_append None xs ys = refl

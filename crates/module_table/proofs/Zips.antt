@@ -1,8 +1,7 @@
 -- Lists of which each element is beside one of the other.
 use Rattle.std.proofs.Common.{◌≡◌, ℕ, zero, suc, ◌+◌, List, [], ◌∷◌, ◌++◌, length, map, take, Some, refl, ap, subst, sym, arith, slice_get}
 use Rattle.std.specs.List.{flat_map, enumerate_from, AllZip}
-use Rattle.module_table.proofs.Places.{same_some}
-use Rattle.module_table.proofs.Repetitions.{take_next}
+use Rattle.ninja_text.proofs.ForCallers.{take_next, same_some}
 
 pub zip_append : {A B : Type 0} (R : A → B → Type 0) (xs us : List A) (ys vs : List B) → AllZip R xs ys → AllZip R us vs → AllZip R (xs ++ us) (ys ++ vs)
 zip_append R [] us [] vs h g = g

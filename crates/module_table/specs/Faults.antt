@@ -7,7 +7,7 @@ use Rattle.scan_docs.specs.Info.{ModuleValue}
 use Rattle.dep_order.specs.Cycles.{IsLeastCycle}
 use Rattle.module_table.specs.TableValue.{TableValue}
 use Rattle.module_table.specs.Modules.{Provides, Requires, InfoProvides, IsProvided, IsInfoProvided, DependsOn, Provision, provisions, InfoRequirement, info_requirements}
-use Rattle.ninja_text.specs.Firsts.{IsFirstRepetition, IsFirst}
+use Rattle.ninja_text.specs.Firsts.{IsFirst, IsFirstRepetition}
 use Rattle.module_table.specs.declared.fault.Maker.{Maker}
 use Rattle.module_table.specs.declared.fault.Maker.TheVariants.{Object, Info}
 use Rattle.module_table.specs.declared.fault.TableFault.{TableFault}

@@ -1,6 +1,5 @@
 pub mod Views
 pub mod Origins
-pub mod Repetition
 pub mod Finds
 pub mod Found
 pub mod Reported

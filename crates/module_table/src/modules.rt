@@ -5,7 +5,7 @@ ghost use Rattle.std.specs.List.{flat_map, enumerate_from};
 ghost use Rattle.std.specs.Option.{option_map};
 ghost use Rattle.module_table.specs.TableValue.{table_with};
 ghost use Rattle.module_table.specs.Modules.{provisions, object_provisions, info_provisions};
-ghost use Rattle.module_table.specs.inner.Repetition.{AllDiffer};
+ghost use Rattle.ninja_text.specs.Firsts.{AllDiffer};
 ghost use Rattle.module_table.specs.inner.Views.{provision_of, names_of, IsAbsent};
 ghost use Rattle.module_table.specs.inner.Finds.{found};
 ghost use Rattle.module_table.specs.inner.Origins.{origins_of, object_origins, info_origins, origin_of};
@@ -55,7 +55,7 @@ impl<'t, S: BuildHasher> Model for Modules<'t, S> {
     ghost use Rattle.std.specs.Prelude.{◌≡◌, map};
     ghost use Rattle.module_table.specs.TableValue.{TableValue, table_with};
     ghost use Rattle.module_table.specs.Modules.{provisions};
-    ghost use Rattle.module_table.specs.inner.Repetition.{AllDiffer};
+    ghost use Rattle.ninja_text.specs.Firsts.{AllDiffer};
     ghost use Rattle.module_table.specs.inner.Views.{provision_of, names_of};
     ghost use Rattle.module_table.specs.inner.Origins.{origins_of, origin_of};
 

@@ -6,7 +6,7 @@ ghost use Rattle.module_table.specs.Added.{required_of};
 ghost use Rattle.module_table.specs.inner.Numbered.{AreIndexes};
 ghost use Rattle.module_table.specs.inner.Indexed.{pair_at};
 ghost use Rattle.module_table.specs.inner.Mentioned.{AreFirsts};
-ghost use Rattle.module_table.specs.inner.Repetition.{AllDiffer};
+ghost use Rattle.ninja_text.specs.Firsts.{AllDiffer};
 ghost use Rattle.module_table.specs.inner.Views.{names_of};
 
 use crate::modules::{Module, Modules, module_at};

@@ -4,7 +4,7 @@ use Rattle.std.specs.Option.{option_map}
 use Rattle.scan_docs.specs.Info.{ModuleValue}
 use Rattle.module_table.specs.TableValue.{TableValue}
 use Rattle.module_table.specs.Modules.{Provision, provisions, InfoRequirement, info_requirements}
-use Rattle.module_table.specs.inner.Repetition.{AllDiffer}
+use Rattle.ninja_text.specs.Firsts.{AllDiffer}
 use Rattle.module_table.specs.inner.Views.{provision_of, requirement_of, names_of}
 use Rattle.module_table.specs.inner.Finds.{found, LookedUp}
 use Rattle.module_table.specs.declared.requirements.InfoRequired.{InfoRequired}

@@ -1,7 +1,7 @@
 -- What a list mentions, each once, and the marks that say what was mentioned.
 use Rattle.std.specs.Prelude.{◌≡◌, ℕ, ◌<◌, ◌≤◌, List, [], length, map, All, get_or, slice_get, Some}
 use Rattle.module_table.specs.Added.{first_mentions}
-use Rattle.module_table.specs.inner.Repetition.{AllDiffer}
+use Rattle.ninja_text.specs.Firsts.{AllDiffer}
 
 -- the name of this index
 abbrev pub name_in : List (List ℕ) → ℕ → List ℕ

@@ -8,7 +8,7 @@ ghost use Rattle.module_table.specs.Modules.{provisions, info_requirements};
 ghost use Rattle.module_table.specs.inner.Finds.{is_allowed, is_public_at, is_by_object, is_info_at, IsPrivate, IsAllowed, IsByObject, IsPrivateTo, RequiresPublic, AcceptsAll};
 ghost use Rattle.module_table.specs.inner.Found.{looked_up, AreLookedUp};
 ghost use Rattle.module_table.specs.inner.Numbered.{AreIndexes};
-ghost use Rattle.module_table.specs.inner.Repetition.{AllDiffer};
+ghost use Rattle.ninja_text.specs.Firsts.{AllDiffer};
 ghost use Rattle.module_table.specs.inner.Reported.{Reports};
 ghost use Rattle.module_table.specs.inner.Views.{names_of, provision_of};
 ghost use Rattle.module_table.specs.declared.fault.TableFault.TheVariants.{ModulePrivate};

@@ -5,7 +5,7 @@ use Rattle.module_table.specs.TableValue.{TableValue}
 use Rattle.module_table.specs.Modules.{provisions}
 use Rattle.module_table.specs.Faults.{IsReported}
 use Rattle.module_table.specs.inner.Passed.{Passed}
-use Rattle.module_table.specs.inner.Repetition.{AllDiffer}
+use Rattle.ninja_text.specs.Firsts.{AllDiffer}
 use Rattle.module_table.specs.inner.Views.{names_of}
 use Rattle.module_table.proofs.Passing.{for_every_kept, reported, none_passed, after_objects, after_infos, after_names, after_files}
 use Rattle.module_table.proofs.checks.check_repetitions.Goals as goal

@@ -6,9 +6,10 @@ use Rattle.module_table.specs.Modules.{Provision}
 use Rattle.module_table.specs.inner.Views.{provision_of}
 use Rattle.module_table.specs.inner.Origins.{Origin, origin_of}
 use Rattle.module_table.specs.declared.fault.Maker.TheVariants.{Info}
-use Rattle.module_table.proofs.Repetitions.{take_next, numbered_next}
+use Rattle.module_table.proofs.Repetitions.{numbered_next}
 use Rattle.module_table.proofs.Pushes.{pushes_next}
 use Rattle.module_table.proofs.modules.add_info.Goals as goal
+use Rattle.ninja_text.proofs.ForCallers.{take_next}
 
 pub loop-index-preserved : goal.loop-index-preserved
 loop-index-preserved c =

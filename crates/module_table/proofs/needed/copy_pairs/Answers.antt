@@ -2,8 +2,8 @@ use Rattle.std.proofs.Common.{◌≡◌, ◌∙◌, ◌+◌, ◌++◌, ◌∷◌
 use Rattle.std.proofs.lemmas.List.{take_all, map-append}
 use Rattle.std.proofs.lemmas.Option.{slice_get_read}
 use Rattle.module_table.specs.Needed.{lent}
-use Rattle.module_table.proofs.Repetitions.{take_next}
 use Rattle.module_table.proofs.needed.copy_pairs.Goals as goal
+use Rattle.ninja_text.proofs.ForCallers.{take_next}
 
 pub loop-pair-preserved : goal.loop-pair-preserved
 loop-pair-preserved c =

@@ -1,9 +1,9 @@
 use Rattle.std.proofs.Common.{◌+◌, [], sym, refl, get_or, take, slice_get, Some, ℕ, List}
 use Rattle.std.specs.Borrow.{Bor}
 use Rattle.std.proofs.lemmas.Option.{slice_get_read, slice_get-get_or}
-use Rattle.module_table.proofs.Repetitions.{take_next}
 use Rattle.module_table.proofs.Pushes.{pushes_next}
 use Rattle.module_table.proofs.needed.pairs_at.Goals as goal
+use Rattle.ninja_text.proofs.ForCallers.{take_next}
 
 pub loop-index-preserved : goal.loop-index-preserved
 loop-index-preserved c =

@@ -9,12 +9,11 @@ use Rattle.module_table.specs.Added.{first_mentions, pair_of, required_of}
 use Rattle.module_table.specs.inner.Views.{names_of}
 use Rattle.module_table.specs.inner.Indexed.{pair_at}
 use Rattle.module_table.specs.inner.Mentioned.{name_in}
-use Rattle.module_table.proofs.Places.{to_map}
-use Rattle.module_table.proofs.Repetitions.{take_next}
 use Rattle.module_table.proofs.Rings.{length_mapped}
 use Rattle.module_table.proofs.IndexRows.{take_all, many_rows, rule_of, name_of_index}
 use Rattle.module_table.proofs.Marks.{row_names, pairs_found}
 use Rattle.module_table.proofs.pairs.add_pairs.Goals as goal
+use Rattle.ninja_text.proofs.ForCallers.{take_next, to_map}
 
 abbrev items_of : Vec ℕ Global → List ℕ
 items_of row = row.items

@@ -6,10 +6,9 @@ use Rattle.module_table.specs.Modules.{Provision, provisions}
 use Rattle.module_table.specs.inner.Indexed.{pair_at}
 use Rattle.module_table.specs.inner.Views.{provision_of}
 use Rattle.module_table.proofs.IndexRows.{take_all}
-use Rattle.module_table.proofs.Places.{to_map}
-use Rattle.module_table.proofs.Repetitions.{take_next}
 use Rattle.module_table.proofs.Rings.{length_mapped}
 use Rattle.module_table.proofs.pairs.pairs_at.Goals as goal
+use Rattle.ninja_text.proofs.ForCallers.{take_next, to_map}
 
 abbrev pair : Provision → List ℕ × List ℕ
 pair p = (p.name, p.file)

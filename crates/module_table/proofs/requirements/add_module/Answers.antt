@@ -6,9 +6,9 @@ use Rattle.module_table.specs.Modules.{provisions, InfoRequirement}
 use Rattle.module_table.specs.inner.Views.{provision_of}
 use Rattle.module_table.specs.inner.Finds.{LookedUp}
 use Rattle.module_table.specs.inner.Found.{looked_up, with_module}
-use Rattle.module_table.proofs.Repetitions.{take_next}
 use Rattle.module_table.proofs.Pushes.{pushes_next}
 use Rattle.module_table.proofs.requirements.add_module.Goals as goal
+use Rattle.ninja_text.proofs.ForCallers.{take_next}
 
 abbrev required_by : ℕ → List ℕ → ModuleValue → List ℕ × List ℕ → InfoRequirement
 required_by info target entry pair = record { info = info; target = target; module_name = entry.name; name = pair.0; file = pair.1 }

@@ -3,12 +3,12 @@ use Rattle.module_table.specs.Modules.{provisions, info_requirements}
 use Rattle.module_table.specs.inner.Views.{requirement_of}
 use Rattle.module_table.specs.inner.Finds.{is_allowed, IsAllowed, IsNotAllowed}
 use Rattle.module_table.specs.inner.Found.{looked_up, with_module}
-use Rattle.module_table.proofs.Places.{same_some}
 use Rattle.module_table.proofs.Refusals.{first_refused}
 use Rattle.module_table.proofs.Found.{allowed}
 use Rattle.module_table.proofs.InfoRequirements.{required_there}
 use Rattle.module_table.proofs.Privacy.{reports_private_info}
 use Rattle.module_table.proofs.checks.privacy.check_infos_allowed.Goals as goal
+use Rattle.ninja_text.proofs.ForCallers.{same_some}
 
 pub private_fault-requires-clause-private : goal.private_fault-requires-clause-private
 private_fault-requires-clause-private g c =

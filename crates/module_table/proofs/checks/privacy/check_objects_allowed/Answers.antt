@@ -6,16 +6,16 @@ use Rattle.dep_order.specs.Rows.{rows}
 use Rattle.module_table.specs.TableValue.{TableValue}
 use Rattle.module_table.specs.Modules.{Provision, provisions}
 use Rattle.module_table.specs.inner.Numbered.{AreIndexes}
-use Rattle.module_table.specs.inner.Repetition.{AllDiffer}
+use Rattle.ninja_text.specs.Firsts.{AllDiffer}
 use Rattle.module_table.specs.inner.Views.{names_of}
 use Rattle.module_table.specs.inner.Finds.{is_public_at, IsPublic, IsPrivate, RequiresPublic, AcceptsAll, RefusesAt}
-use Rattle.module_table.proofs.Places.{to_map, same_some}
 use Rattle.module_table.proofs.IndexRows.{take_all, many_rows, rule_of, name_of_index}
 use Rattle.module_table.proofs.Rings.{length_mapped}
 use Rattle.module_table.proofs.Found.{IsPublicAt, IsPrivateAt, at_index, row_public, row_private}
 use Rattle.module_table.proofs.Refusals.{accepts_next, first_refused}
 use Rattle.module_table.proofs.Privacy.{reports_private_object}
 use Rattle.module_table.proofs.checks.privacy.check_objects_allowed.Goals as goal
+use Rattle.ninja_text.proofs.ForCallers.{same_some, to_map}
 
 abbrev items_of : Vec ℕ Global → List ℕ
 items_of row = row.items

@@ -4,8 +4,8 @@ use Rattle.std.proofs.lemmas.Option.{slice_get-map, slice_get_past, slice_get_re
 use Rattle.module_table.specs.Modules.{Provision}
 use Rattle.module_table.specs.inner.Finds.{none_or}
 use Rattle.module_table.specs.inner.Views.{provision_of}
-use Rattle.module_table.proofs.Places.{to_map}
 use Rattle.module_table.proofs.checks.privacy.is_public_at.Goals as goal
+use Rattle.ninja_text.proofs.ForCallers.{to_map}
 
 pub returns-in-Some : goal.returns-in-Some
 returns-in-Some c =

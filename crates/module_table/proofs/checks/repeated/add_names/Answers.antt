@@ -1,15 +1,15 @@
 use Rattle.std.proofs.Common.{◌≡◌, ◌∙◌, ◌≤◌, ap, arith, length, sym, refl, map, subst, List, ℕ, Some, slice_get}
 use Rattle.std.proofs.lemmas.Option.{slice_get_read}
-use Rattle.module_table.specs.inner.Repetition.{AllDiffer}
+use Rattle.ninja_text.specs.Firsts.{AllDiffer}
 use Rattle.module_table.specs.inner.Views.{provision_of, names_of}
 use Rattle.module_table.specs.Modules.{Provision}
 use Rattle.module_table.specs.declared.modules.Module.{Module}
-use Rattle.module_table.proofs.Places.{to_map}
 use Rattle.module_table.proofs.IndexRows.{take_all}
 use Rattle.module_table.proofs.Rings.{length_mapped}
 use Rattle.module_table.proofs.Repetitions.{repeats_if_found, keys_if_new, differ_if_new, map_same}
 use Rattle.module_table.proofs.ReportLemmas.{reports_provided_twice}
 use Rattle.module_table.proofs.checks.repeated.add_names.Goals as goal
+use Rattle.ninja_text.proofs.ForCallers.{to_map}
 
 abbrev name_of : Provision → List ℕ
 name_of p = p.name

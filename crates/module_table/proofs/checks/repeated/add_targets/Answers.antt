@@ -1,14 +1,13 @@
 use Rattle.std.proofs.Common.{◌≡◌, ap, map, refl, subst, sym, ◌∙◌, List, ℕ, Bor, Some}
 use Rattle.std.proofs.lemmas.Option.{slice_get_read}
 use Rattle.scan_docs.specs.Info.{InfoValue}
-use Rattle.ninja_text.specs.Firsts.{IsFirstRepetition}
-use Rattle.module_table.specs.inner.Repetition.{AllDiffer}
+use Rattle.ninja_text.specs.Firsts.{IsFirstRepetition, AllDiffer}
 use Rattle.module_table.specs.declared.fault.TableFault.TheVariants.{InfoTwice}
 use Rattle.module_table.proofs.IndexRows.{map_take_all}
-use Rattle.module_table.proofs.Places.{to_map}
 use Rattle.module_table.proofs.Repetitions.{repeats_if_found, keys_if_new, differ_if_new, text_repetition}
 use Rattle.module_table.proofs.ReportLemmas.{reports_same}
 use Rattle.module_table.proofs.checks.repeated.add_targets.Goals as goal
+use Rattle.ninja_text.proofs.ForCallers.{to_map}
 
 abbrev text_of : Bor (List ℕ) → List ℕ
 text_of target = target.now

@@ -1,5 +1,5 @@
 use Rattle.std.proofs.Common.{◌≡◌, map, take}
-use Rattle.module_table.specs.inner.Repetition.{AllDiffer}
+use Rattle.ninja_text.specs.Firsts.{AllDiffer}
 use Rattle.module_table.proofs.checks.repeated.add_targets.Given as goal
 
 abbrev pub invariant-loop-info : goal.invariant-loop-info

@@ -2,15 +2,15 @@ use Rattle.std.proofs.Common.{◌≡◌, ◌+◌, ap, map, refl, arith, append-n
 use Rattle.std.proofs.lemmas.Option.{slice_get_read}
 use Rattle.scan_docs.specs.Scan.{RuleValue}
 use Rattle.module_table.specs.Modules.{Provision, provisions}
-use Rattle.module_table.specs.inner.Repetition.{AllDiffer, RepeatsFirst}
+use Rattle.ninja_text.specs.Firsts.{AllDiffer, RepeatsFirst}
 use Rattle.module_table.specs.inner.Views.{provision_of, files_of, IsMadeTwice}
 use Rattle.module_table.specs.declared.modules.Module.{Module}
-use Rattle.module_table.proofs.Places.{to_map, in_second}
 use Rattle.module_table.proofs.Rings.{length_mapped}
 use Rattle.module_table.proofs.IndexRows.{take_all}
 use Rattle.module_table.proofs.Repetitions.{repeats_if_found, keys_if_new, differ_if_new, take_behind}
 use Rattle.module_table.proofs.ReportLemmas.{reported_made}
 use Rattle.module_table.proofs.checks.repeated.check_files.Goals as goal
+use Rattle.ninja_text.proofs.ForCallers.{to_map, in_second}
 
 abbrev text_of : Bor (List ℕ) → List ℕ
 text_of path = path.now

@@ -1,15 +1,14 @@
 use Rattle.std.proofs.Common.{◌≡◌, ap, map, refl, subst, sym, ◌∙◌, List, ℕ, Bor, Some}
 use Rattle.std.proofs.lemmas.Option.{slice_get_read}
 use Rattle.scan_docs.specs.Scan.{RuleValue}
-use Rattle.ninja_text.specs.Firsts.{IsFirstRepetition}
-use Rattle.module_table.specs.inner.Repetition.{AllDiffer}
+use Rattle.ninja_text.specs.Firsts.{IsFirstRepetition, AllDiffer}
 use Rattle.module_table.specs.declared.fault.Maker.TheVariants.{Object}
 use Rattle.module_table.specs.declared.fault.TableFault.TheVariants.{ObjectTwice}
 use Rattle.module_table.proofs.IndexRows.{map_take_all}
-use Rattle.module_table.proofs.Places.{to_map}
 use Rattle.module_table.proofs.Repetitions.{repeats_if_found, keys_if_new, differ_if_new, text_repetition}
 use Rattle.module_table.proofs.ReportLemmas.{reports_same}
 use Rattle.module_table.proofs.checks.repeated.check_objects.Goals as goal
+use Rattle.ninja_text.proofs.ForCallers.{to_map}
 
 abbrev text_of : Bor (List ℕ) → List ℕ
 text_of path = path.now

@@ -1,5 +1,5 @@
 use Rattle.std.proofs.Common.{◌≡◌, map, take}
-use Rattle.module_table.specs.inner.Repetition.{AllDiffer}
+use Rattle.ninja_text.specs.Firsts.{AllDiffer}
 use Rattle.module_table.proofs.checks.repeated.check_objects.Given as goal
 
 abbrev pub invariant-loop-index : goal.invariant-loop-index

@@ -2,9 +2,9 @@ use Rattle.std.proofs.Common.{map, true, ap, sym, ◌∙◌}
 use Rattle.module_table.specs.Faults.{Claim}
 use Rattle.module_table.specs.inner.Views.{provision_of}
 use Rattle.module_table.specs.declared.fault.TableFault.TheVariants.{BmiTwice}
-use Rattle.module_table.proofs.Places.{to_map}
 use Rattle.module_table.proofs.ReportLemmas.{module_claim_at}
 use Rattle.module_table.proofs.checks.repeated.made_twice.Goals as goal
+use Rattle.ninja_text.proofs.ForCallers.{to_map}
 
 pub returns : goal.returns
 returns c =

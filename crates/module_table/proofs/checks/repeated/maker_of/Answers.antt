@@ -1,9 +1,9 @@
 use Rattle.std.proofs.Common.{◌≡◌, ◌+◌, ◌-◌, length, map, refl, true, subst, arith, slice_get, Some}
 use Rattle.module_table.specs.Faults.{Claim, claims_of}
 use Rattle.module_table.specs.inner.Views.{provision_of}
-use Rattle.module_table.proofs.Places.{to_map}
 use Rattle.module_table.proofs.ReportLemmas.{element, own_claim_at, module_claim_at}
 use Rattle.module_table.proofs.checks.repeated.maker_of.Goals as goal
+use Rattle.ninja_text.proofs.ForCallers.{to_map}
 
 pub returns-then-index-objects : goal.returns-then-index-objects
 returns-then-index-objects c =

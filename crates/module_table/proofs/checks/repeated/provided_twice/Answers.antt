@@ -1,8 +1,8 @@
 use Rattle.std.proofs.Common.{ap}
 use Rattle.module_table.specs.inner.Views.{provision_of}
 use Rattle.module_table.specs.declared.fault.TableFault.TheVariants.{ProvidedTwice}
-use Rattle.module_table.proofs.Places.{to_map}
 use Rattle.module_table.proofs.checks.repeated.provided_twice.Goals as goal
+use Rattle.ninja_text.proofs.ForCallers.{to_map}
 
 pub returns : goal.returns
 returns c = (

@@ -6,9 +6,9 @@ use Rattle.scan_docs.specs.Scan.{RuleValue}
 use Rattle.module_table.specs.inner.Reported.{Reports}
 use Rattle.module_table.proofs.IndexRows.{are_indexes, take_all}
 use Rattle.module_table.proofs.Pushes.{pushes_next}
-use Rattle.module_table.proofs.Repetitions.{take_next}
 use Rattle.module_table.proofs.ReportLemmas.{for_fault, reports_unknown}
 use Rattle.module_table.proofs.checks.required.check_objects_known.Goals as goal
+use Rattle.ninja_text.proofs.ForCallers.{take_next}
 
 pub loop-object-init : goal.loop-object-init
 loop-object-init g c = ap (map (λ (row : Vec ℕ Global). map (slice_get c.names-names.result.now.keys) row.items)) c.in_ok-required.ensures.items

@@ -3,9 +3,9 @@ use Rattle.std.proofs.lemmas.Option.{slice_get_read}
 use Rattle.scan_docs.specs.Scan.{RuleValue}
 use Rattle.module_table.specs.declared.fault.TableFault.TheVariants.{ModuleUnknown}
 use Rattle.module_table.proofs.IndexRows.{take_all}
-use Rattle.module_table.proofs.Repetitions.{in_take}
 use Rattle.module_table.proofs.ReportLemmas.{in_row}
 use Rattle.module_table.proofs.checks.required.indexes_of.Goals as goal
+use Rattle.ninja_text.proofs.ForCallers.{in_take}
 
 pub loop-required-init : goal.loop-required-init
 loop-required-init g c = ap (map (slice_get c.args.names.now.keys)) c.in_ok-row.ensures.items

@@ -7,9 +7,9 @@ use Rattle.dep_order.specs.Rows.{rows}
 use Rattle.module_table.specs.inner.Numbered.{maker_at}
 use Rattle.module_table.specs.inner.Views.{provision_of}
 use Rattle.module_table.proofs.IndexRows.{map_take_all}
-use Rattle.module_table.proofs.Places.{to_map}
 use Rattle.module_table.proofs.Pushes.{maps_next}
 use Rattle.module_table.proofs.checks.rings.all_needs.Goals as goal
+use Rattle.ninja_text.proofs.ForCallers.{to_map}
 
 abbrev items_of : Vec ℕ Global → List ℕ
 items_of row = row.items

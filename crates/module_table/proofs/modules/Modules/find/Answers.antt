@@ -3,9 +3,9 @@ use Rattle.module_table.specs.TableValue.{TableValue}
 use Rattle.module_table.specs.inner.Finds.{found}
 use Rattle.module_table.specs.Modules.{Provision, provisions}
 use Rattle.module_table.specs.inner.Views.{provision_of, IsAbsent}
-use Rattle.module_table.proofs.Places.{to_map, same_some}
 use Rattle.module_table.proofs.Found.{named_found, absent_found}
 use Rattle.module_table.proofs.modules.Modules.find.Goals as goal
+use Rattle.ninja_text.proofs.ForCallers.{same_some, to_map}
 
 pub returns-in-Some : goal.returns-in-Some
 returns-in-Some g c =

@@ -1,9 +1,9 @@
 use Rattle.std.proofs.Common.{◌∙◌, ap, length, map, arith, slice_get, sym}
 use Rattle.module_table.specs.Modules.{Provision, provisions}
 use Rattle.module_table.specs.inner.Views.{provision_of, names_of}
-use Rattle.module_table.proofs.Places.{to_map}
 use Rattle.module_table.proofs.Rings.{length_mapped}
 use Rattle.module_table.proofs.modules.Modules.name_at.Goals as goal
+use Rattle.ninja_text.proofs.ForCallers.{to_map}
 
 pub module_at-requires : goal.module_at-requires
 module_at-requires g c =

@@ -1,4 +1,4 @@
-use Rattle.std.proofs.Common.{◌≡◌, ◌∙◌, sym, subst, map, arith}
+use Rattle.std.proofs.Common.{◌≡◌, ◌∙◌, refl, sym, subst, map, arith}
 use Rattle.module_table.specs.TableValue.{TableValue}
 use Rattle.module_table.specs.Added.{required_of}
 use Rattle.module_table.specs.Outcomes.{HasNoFault}
@@ -40,3 +40,7 @@ returns-in-Ok-clause-kept g c =
 pub returns-in-Ok-clause-no_fault : goal.returns-in-Ok-clause-no_fault
 returns-in-Ok-clause-no_fault g c =
     rw c.new.ensures (subst (λ u. HasNoFault u c.args.kept.now) (same_table _ _ _ _ c.as_slice.ensures.value c.as_slice-2.ensures.value) c.in-Ok.ensures.no_fault)
+
+-- said here, so that a body which does something else is refused soon
+pub returns-in-Err-Fault-clause-given : goal.returns-in-Err-Fault-clause-given
+returns-in-Err-Fault-clause-given g c = refl
