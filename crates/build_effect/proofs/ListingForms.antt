@@ -6,9 +6,9 @@ use Rattle.std.proofs.lemmas.Bool.{cases_Bool, and_from, and_parts}
 use Rattle.ninja_text.specs.Tokens.{value_of}
 use Rattle.ninja_text.specs.declared.token.TokenKind.{TokenKind}
 use Rattle.ninja_text.specs.declared.token.TokenKind.TheVariants.{Bar, DoubleBar, Colon}
-use Rattle.dyndep_file.specs.Classes.{Symbol, WordSymbol, SignSymbol}
+use Rattle.dyndep_file.specs.Classes.{Symbol, WordSymbol, SignSymbol, IsPart}
 use Rattle.ninja_text.specs.Paths.{is_empty}
-use Rattle.build_effect.specs.ListingLines.{EdgeTexts, is_rule_name, IsSignedPart, IsEdgeLine, meant}
+use Rattle.build_effect.specs.ListingLines.{EdgeTexts, is_rule_name, IsEdgeLine, meant}
 use Rattle.build_effect.specs.inner.ListingWalk.{front_words, past_words, is_sign, past_sign, part_words, past_part, right_texts, edge_texts}
 use Rattle.build_effect.proofs.ListingLineLemmas.{left_texts, right_are}
 
@@ -44,7 +44,7 @@ abbrev part_raw : Option (List Symbol) → List (List ℕ)
 part_raw None = []
 part_raw (Some more) = raw_words more
 
-is_part : (sign : TokenKind) (o : Option (List Symbol)) → IsSignedPart sign (part_symbols sign o) (part_raw o)
+is_part : (sign : TokenKind) (o : Option (List Symbol)) → IsPart sign (part_symbols sign o) (part_raw o)
 is_part sign None = inl (refl, refl)
 is_part sign (Some more) = inr refl
 
@@ -188,7 +188,7 @@ record Stops (ss : List Symbol) : Type 0 where
   none : front_words ss ≡ []
   all : past_words ss ≡ ss
 
-part_stops : (sign : TokenKind) (part : List Symbol) (words : List (List ℕ)) (rest : List Symbol) → IsSignedPart sign part words → Stops rest → Stops (part ++ rest)
+part_stops : (sign : TokenKind) (part : List Symbol) (words : List (List ℕ)) (rest : List Symbol) → IsPart sign part words → Stops rest → Stops (part ++ rest)
 part_stops sign part words rest (inl p) s = subst (λ x. Stops (x ++ rest)) (sym p.0) s
 part_stops sign part words rest (inr e) s = subst (λ x. Stops (x ++ rest)) (sym e) (record { none = refl; all = refl })
 
@@ -203,20 +203,20 @@ past_is (word ∷ words) rest s = past_is words rest s
 
 -- and so is a part, where its sign does not follow it
 module _ (sign : TokenKind) (same : is_sign sign sign ≡ true) (rest : List Symbol) (s : Stops rest) (apart : past_sign sign rest ≡ None) where
-  part_is : (part : List Symbol) (words : List (List ℕ)) → IsSignedPart sign part words → part_words (past_sign sign (part ++ rest)) ≡ map value_of words
+  part_is : (part : List Symbol) (words : List (List ℕ)) → IsPart sign part words → part_words (past_sign sign (part ++ rest)) ≡ map value_of words
   part_is part words (inl p) = ap (λ x. part_words (past_sign sign (x ++ rest))) p.0 ∙ ap part_words apart ∙ sym (ap (map value_of) p.1)
   part_is part words (inr e) =
       ap (λ x. part_words (past_sign sign (x ++ rest))) e
       ∙ ap (λ (b : Bool). part_words (if b then Some (map WordSymbol words ++ rest) else None)) same ∙ front_is words rest s
 
-  part_past : (part : List Symbol) (words : List (List ℕ)) → IsSignedPart sign part words → past_part (past_sign sign (part ++ rest)) (part ++ rest) ≡ rest
+  part_past : (part : List Symbol) (words : List (List ℕ)) → IsPart sign part words → past_part (past_sign sign (part ++ rest)) (part ++ rest) ≡ rest
   part_past part words (inl p) = ap (λ x. past_part (past_sign sign (x ++ rest)) (x ++ rest)) p.0 ∙ ap (λ o. past_part o rest) apart
   part_past part words (inr e) =
       ap (λ x. past_part (past_sign sign (x ++ rest)) (x ++ rest)) e
       ∙ ap (λ (b : Bool). past_part (if b then Some (map WordSymbol words ++ rest) else None) (SignSymbol sign ∷ map WordSymbol words ++ rest)) same ∙ past_is words rest s
 
 -- order-only inputs are no implicit ones
-no_bar : (part : List Symbol) (words : List (List ℕ)) → IsSignedPart DoubleBar part words → past_sign Bar part ≡ None
+no_bar : (part : List Symbol) (words : List (List ℕ)) → IsPart DoubleBar part words → past_sign Bar part ≡ None
 no_bar part words (inl p) = ap (past_sign Bar) p.0
 no_bar part words (inr e) = ap (past_sign Bar) e
 
@@ -227,8 +227,8 @@ some_meant : (words : List (List ℕ)) → words ≢ [] → is_empty (map value_
 some_meant [] h = absurd (h refl)
 some_meant (word ∷ words) h = refl
 
-module _ (words : EdgeTexts) (made needed waited_for : List Symbol) (m : IsSignedPart Bar made words.implicit_outputs) (n : IsSignedPart Bar needed words.implicit_inputs)
-    (w : IsSignedPart DoubleBar waited_for words.order_only) (some : words.outputs ≢ []) (named : IsTrue (is_rule_name words.rule)) where
+module _ (words : EdgeTexts) (made needed waited_for : List Symbol) (m : IsPart Bar made words.implicit_outputs) (n : IsPart Bar needed words.implicit_inputs)
+    (w : IsPart DoubleBar waited_for words.order_only) (some : words.outputs ≢ []) (named : IsTrue (is_rule_name words.rule)) where
   abbrev right_symbols : List Symbol
   right_symbols = map WordSymbol words.inputs ++ (needed ++ waited_for)
 

@@ -14,11 +14,11 @@ use Rattle.ninja_text.specs.Tokens.{is_piece, goes_on, tokens_from, value_of}
 use Rattle.ninja_text.specs.Assignments.{is_identifier_byte}
 use Rattle.ninja_text.specs.Escapes.{is_unwritable, IsWritable, escaped_byte, escaped}
 use Rattle.ninja_text.proofs.ForCallers.{is_sound, text_of_units, unit_text, units_read, path_unit, path_units, path_text, path_sound, path_pieces, has_spelling, value_of_escaped, Yields, viewed, no_units, goes_on_piece, space_yields, colon_yields, bar_yields, path_yields, units_are}
-use Rattle.dyndep_file.specs.Classes.{Symbol, WordSymbol, SignSymbol, symbol}
+use Rattle.dyndep_file.specs.Classes.{Symbol, WordSymbol, SignSymbol, symbol, IsPart}
 use Rattle.ninja_text.specs.Paths.{is_empty}
 use Rattle.dyndep_file.specs.Writing.{spaced}
 use Rattle.build_effect.specs.EdgeValue.{EdgeValue}
-use Rattle.build_effect.specs.ListingLines.{EdgeTexts, is_rule_name, IsSignedPart, IsEdgeLine, meant}
+use Rattle.build_effect.specs.ListingLines.{EdgeTexts, is_rule_name, IsEdgeLine, meant}
 use Rattle.build_effect.specs.ListingWriting.{marked_text}
 
 -- ---- a rule's name is spelled as it is
@@ -166,7 +166,7 @@ module _ (text : List ℕ) (xs : List Symbol) (later : Spelled false text xs) wh
 -- ---- what such symbols are
 
 -- a part
-part_is : (sign : TokenKind) (paths : List (List ℕ)) → IsSignedPart sign (part_symbols sign paths) (map escaped paths)
+part_is : (sign : TokenKind) (paths : List (List ℕ)) → IsPart sign (part_symbols sign paths) (map escaped paths)
 part_is sign [] = inl (refl, refl)
 part_is sign (path ∷ paths) = inr refl
 

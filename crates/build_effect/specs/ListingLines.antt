@@ -1,15 +1,14 @@
 -- The lines of an edge listing, by what they are (Ninja 1.11 manual, "Build statements", "Lexical
 -- syntax").
-use Rattle.std.specs.Prelude.{◌≡◌, ◌≢◌, ℕ, Bool, true, false, ◌&&◌, not, nat_lt, IsTrue, List, [], ◌∷◌, ◌++◌, length, map, codes, None, Ok, ◌⊎◌}
+use Rattle.std.specs.Prelude.{◌≡◌, ◌≢◌, ℕ, Bool, true, false, ◌&&◌, not, nat_lt, IsTrue, List, [], ◌∷◌, ◌++◌, length, map, codes, None, Ok}
 use Rattle.std.specs.List.{list_all}
 use Rattle.ninja_text.specs.Bytes.{Text, PathText, Name}
 use Rattle.ninja_text.specs.Lexical.{lexical_fault}
 use Rattle.ninja_text.specs.Tokens.{tokens, value_of}
 use Rattle.ninja_text.specs.Assignments.{is_identifier_byte}
 use Rattle.ninja_text.specs.Paths.{path_of, is_empty}
-use Rattle.ninja_text.specs.declared.token.TokenKind.{TokenKind}
 use Rattle.ninja_text.specs.declared.token.TokenKind.TheVariants.{Bar, DoubleBar, Colon}
-use Rattle.dyndep_file.specs.Classes.{Symbol, WordSymbol, SignSymbol, symbols, begins_at_start, begins_with_space, Assigns}
+use Rattle.dyndep_file.specs.Classes.{Symbol, WordSymbol, SignSymbol, symbols, begins_at_start, begins_with_space, Assigns, IsPart}
 use Rattle.build_effect.specs.Effect.{ArePaths}
 
 -- What a build line says: the name of a rule, and words, texts or paths in five places.
@@ -25,11 +24,6 @@ pub record EdgeTexts : Type 0 where
 abbrev pub is_rule_name : Name → Bool
 is_rule_name name = not (is_empty name) && list_all is_identifier_byte name
 
--- A part of a build line: nothing at all, or this sign and these words, of which there may be none.
-abbrev pub IsSignedPart : TokenKind → List Symbol → List Text → Type 0
-IsSignedPart sign part words =
-    ((part ≡ []) × (words ≡ [])) ⊎ (part ≡ SignSymbol sign ∷ map WordSymbol words)
-
 -- The tokens are
 --
 --     build outputs | implicit outputs : rule inputs | implicit inputs || order-only inputs
@@ -38,9 +32,9 @@ IsSignedPart sign part words =
 -- given as they are spelled.
 abbrev pub IsEdgeLine : List Symbol → EdgeTexts → Type 0
 IsEdgeLine symbols words =
-    (made needed waited_for : List Symbol) × IsSignedPart Bar made words.implicit_outputs
-    × IsSignedPart Bar needed words.implicit_inputs
-    × IsSignedPart DoubleBar waited_for words.order_only
+    (made needed waited_for : List Symbol) × IsPart Bar made words.implicit_outputs
+    × IsPart Bar needed words.implicit_inputs
+    × IsPart DoubleBar waited_for words.order_only
     × (words.outputs ≢ []) × IsTrue (is_rule_name words.rule)
     × (symbols ≡ WordSymbol (codes "build") ∷ map WordSymbol words.outputs ++ made
     ++ SignSymbol Colon ∷ WordSymbol words.rule ∷ map WordSymbol words.inputs ++ needed

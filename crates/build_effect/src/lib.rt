@@ -10,8 +10,8 @@
 //! - [`ListingReader`] reads a listing of edges that comes in pieces of any size. For every cutting
 //!   the answer is the graph of the edges that the form gives the whole text, or the first faulty
 //!   line, E3, and its cause, or E1 or E2 of those edges (`specs/ListingLines.antt`,
-//!   `TextIsOfClass`; `specs/ListingGrammar.antt`, `IsListing`; `specs/ListingFaults.antt`,
-//!   `IsLineCause`; `specs/ListingReaders.antt`, `Reads`, `Ends`).
+//!   `IsListingLine`; `specs/ListingGrammar.antt`, `IsListing`; `specs/ListingFaults.antt`,
+//!   `IsLineCause`; `specs/ListingReaders.antt`, `FeedsListing`, `EndsListing`).
 //! - [`listing_write`] writes the listing of a graph byte for byte, or reports the first build line
 //!   that is too long, E9, before the first byte. After a failed write, Y3, a beginning of the text
 //!   went out (`specs/ListingWriting.antt`, `listing_text`, `first_too_long`).
