@@ -3,7 +3,7 @@
 ghost use Rattle.command_line.specs.Tasks.{task_value};
 ghost use Rattle.commands.specs.Files.{ended};
 ghost use Rattle.commands.specs.Folder.{MakesCalls};
-ghost use Rattle.commands.specs.Runs.{AnswersBytes, AnswersTask};
+ghost use Rattle.commands.specs.Runs.{AnswersTask};
 
 use crate::answer::{Answer, answered};
 use crate::collate::collate_run;
@@ -29,31 +29,18 @@ pub fn task_run<F: Folder>(
     ensures { MakesCalls (F.calls folder.old) (F.calls folder.new) (λ calls.
         AnswersTask (task_value task.now) calls (ended result)) }
 {
-    match read_file(alloc, task.file(), folder) {
-        Ok(bytes) => bytes_run(alloc, keys, task, &bytes, folder),
-        Err(failure) => answered(failure),
-    }
-}
-
-/// What a run answers to its task, by the bytes of the task's file.
-fn bytes_run<F: Folder>(
-    alloc: Global,
-    keys: RandomState,
-    task: &Task,
-    bytes: &[u8],
-    folder: &mut F,
-) -> Result<Answer, AllocError>
-    ensures { MakesCalls (F.calls folder.old) (F.calls folder.new) (λ calls.
-        AnswersBytes (task_value task.now) bytes.now calls (ended result)) }
-{
+    let bytes = match read_file(alloc, task.file(), folder) {
+        Ok(bytes) => bytes,
+        Err(failure) => return answered(failure),
+    };
     match task {
-        Task::One { dir, ext, .. } => one_run(alloc, keys, bytes, dir, ext),
-        Task::Collate { .. } => collate_run(alloc, keys, bytes, folder),
-        Task::Show { .. } => show_run(alloc, bytes),
+        Task::One { dir, ext, .. } => one_run(alloc, keys, &bytes, dir, ext),
+        Task::Collate { .. } => collate_run(alloc, keys, &bytes, folder),
+        Task::Show { .. } => show_run(alloc, &bytes),
         Task::Effect { name, dyndep, .. } => {
-            effect_of_file(alloc, keys, name, bytes, dyndep, folder)
+            effect_of_file(alloc, keys, name, &bytes, dyndep, folder)
         }
-        Task::Order { .. } => order_run(alloc, keys, bytes),
-        Task::Project { .. } => project_run(alloc, keys, bytes, folder),
+        Task::Order { .. } => order_run(alloc, keys, &bytes),
+        Task::Project { .. } => project_run(alloc, keys, &bytes, folder),
     }
 }

@@ -1,26 +1,33 @@
-use Rattle.std.proofs.Common.{ℕ, List, refl, subst, sym}
-use Rattle.std.specs.Prelude.{Ok, Err, Vec}
+use Rattle.std.proofs.Common.{◌≡◌, ℕ, List, Option, refl, subst, sym}
+use Rattle.std.specs.Prelude.{Ok, Err, Vec, Result}
 use Rattle.std.specs.Global.{Global}
-use Rattle.command_line.specs.Tasks.{task_value, first_file_of}
+use Rattle.std.specs.declared.alloc.AllocError.{AllocError}
+use Rattle.command_line.specs.Tasks.{TaskValue, task_value, first_file_of}
 use Rattle.commands.specs.Files.{ReadsFile, ended}
+use Rattle.commands.specs.Folder.{FileCall, MakesCalls}
 use Rattle.commands.specs.Runs.{AnswersBytes, AnswersTask}
+use Rattle.commands.specs.declared.answer.Answer.{Answer}
 use Rattle.commands.specs.inner.Parts.{GoesOn}
 use Rattle.commands.proofs.FileCalls.{continued, held}
-use Rattle.commands.proofs.Parts.{bytes_stop, file_goes, file_unread, on}
+use Rattle.commands.proofs.Parts.{at_once, bytes_stop, file_goes, file_unread, on}
 use Rattle.commands.proofs.run.task_run.Goals as goal
 
-pub returns-in-Ok : goal.returns-in-Ok
-returns-in-Ok g c =
-    let task = task_value c.args.task.now in
-    let bytes = c.in-Ok.bytes in
-    continued _ _ _ (λ calls. ReadsFile c.file.result.now (GoesOn (λ (b : Vec ℕ Global). b.items)) calls (Ok bytes))
-    (λ calls. AnswersBytes task c.deref.result.now calls (ended c.bytes_run.result)) (λ calls. AnswersTask task calls (ended c.bytes_run.result))
-    c.in-Ok.ensures c.bytes_run.ensures
+-- the task's file was read, and then its bytes were answered
+answered : (old mid new : Option (List FileCall)) (task : TaskValue) (name : List ℕ) (file : Vec ℕ Global) (bytes : List ℕ) (result : Result Answer AllocError) →
+    name ≡ first_file_of task → bytes ≡ file.items →
+    MakesCalls old mid (λ calls. ReadsFile name (GoesOn (λ (b : Vec ℕ Global). b.items)) calls (Ok file)) →
+    MakesCalls mid new (λ calls. AnswersBytes task bytes calls (ended result)) →
+    MakesCalls old new (λ calls. AnswersTask task calls (ended result))
+answered old mid new task name file bytes result named is read answers =
+    continued old mid new (λ calls. ReadsFile name (GoesOn (λ (b : Vec ℕ Global). b.items)) calls (Ok file))
+    (λ calls. AnswersBytes task bytes calls (ended result)) (λ calls. AnswersTask task calls (ended result))
+    read answers
     (λ calls more own rest.
-    file_goes (first_file_of task) (λ (b : Vec ℕ Global). b.items) (AnswersBytes task) calls (Ok bytes) more (ended c.bytes_run.result)
-    (on bytes refl (subst (λ (b : List ℕ). AnswersBytes task b more (ended c.bytes_run.result)) c.deref.ensures.value rest))
-    (subst (λ (n : List ℕ). ReadsFile n (GoesOn (λ (b : Vec ℕ Global). b.items)) calls (Ok bytes)) c.file.ensures own))
+    file_goes (first_file_of task) (λ (b : Vec ℕ Global). b.items) (AnswersBytes task) calls (Ok file) more (ended result)
+    (on file refl (subst (λ (b : List ℕ). AnswersBytes task b more (ended result)) is rest))
+    (subst (λ (n : List ℕ). ReadsFile n (GoesOn (λ (b : Vec ℕ Global). b.items)) calls (Ok file)) named own))
 
+-- it could not be read
 pub returns-in-Err : goal.returns-in-Err
 returns-in-Err g c =
     let task = task_value c.args.task.now in
@@ -31,3 +38,45 @@ returns-in-Err g c =
     subst (AnswersTask task calls) (sym c.answered.ensures)
     (file_unread (first_file_of task) (λ (b : Vec ℕ Global). b.items) (AnswersBytes task) calls failure (bytes_stop task)
     (subst (λ (n : List ℕ). ReadsFile n (GoesOn (λ (b : Vec ℕ Global). b.items)) calls (Err failure)) c.file.ensures own)))
+
+pub returns-in-One : goal.returns-in-One
+returns-in-One g c =
+    let result = c.one_run.result in
+    answered _ _ _ (task_value c.args.task.now) _ c.in-Ok.bytes c.deref.result.now result c.file.ensures c.deref.ensures.value c.in-Ok.ensures
+    (subst (λ task. MakesCalls (g.F.Folder.calls c.read_file.new.folder) (g.F.Folder.calls c.read_file.new.folder) (λ calls. AnswersBytes (task_value task) c.deref.result.now calls (ended result))) (sym c.in-One.is)
+    (at_once _ _ result c.one_run.ensures))
+
+pub returns-in-Collate : goal.returns-in-Collate
+returns-in-Collate g c =
+    let result = c.collate_run.result in
+    answered _ _ _ (task_value c.args.task.now) _ c.in-Ok.bytes c.deref-in-Collate.result.now result c.file.ensures c.deref-in-Collate.ensures.value c.in-Ok.ensures
+    (subst (λ task. MakesCalls (g.F.Folder.calls c.read_file.new.folder) (g.F.Folder.calls c.collate_run.new.folder) (λ calls. AnswersBytes (task_value task) c.deref-in-Collate.result.now calls (ended result))) (sym c.in-Collate.is)
+    c.collate_run.ensures)
+
+pub returns-in-Show : goal.returns-in-Show
+returns-in-Show g c =
+    let result = c.show_run.result in
+    answered _ _ _ (task_value c.args.task.now) _ c.in-Ok.bytes c.deref-in-Show.result.now result c.file.ensures c.deref-in-Show.ensures.value c.in-Ok.ensures
+    (subst (λ task. MakesCalls (g.F.Folder.calls c.read_file.new.folder) (g.F.Folder.calls c.read_file.new.folder) (λ calls. AnswersBytes (task_value task) c.deref-in-Show.result.now calls (ended result))) (sym c.in-Show.is)
+    (at_once _ _ result c.show_run.ensures))
+
+pub returns-in-Effect : goal.returns-in-Effect
+returns-in-Effect g c =
+    let result = c.effect_of_file.result in
+    answered _ _ _ (task_value c.args.task.now) _ c.in-Ok.bytes c.deref-in-Effect.result.now result c.file.ensures c.deref-in-Effect.ensures.value c.in-Ok.ensures
+    (subst (λ task. MakesCalls (g.F.Folder.calls c.read_file.new.folder) (g.F.Folder.calls c.effect_of_file.new.folder) (λ calls. AnswersBytes (task_value task) c.deref-in-Effect.result.now calls (ended result))) (sym c.in-Effect.is)
+    c.effect_of_file.ensures)
+
+pub returns-in-Order : goal.returns-in-Order
+returns-in-Order g c =
+    let result = c.order_run.result in
+    answered _ _ _ (task_value c.args.task.now) _ c.in-Ok.bytes c.deref-in-Order.result.now result c.file.ensures c.deref-in-Order.ensures.value c.in-Ok.ensures
+    (subst (λ task. MakesCalls (g.F.Folder.calls c.read_file.new.folder) (g.F.Folder.calls c.read_file.new.folder) (λ calls. AnswersBytes (task_value task) c.deref-in-Order.result.now calls (ended result))) (sym c.in-Order.is)
+    (at_once _ _ result c.order_run.ensures))
+
+pub returns : goal.returns
+returns g c =
+    let result = c.project_run.result in
+    answered _ _ _ (task_value c.args.task.now) _ c.in-Ok.bytes c.deref-in-Project.result.now result c.file.ensures c.deref-in-Project.ensures.value c.in-Ok.ensures
+    (subst (λ task. MakesCalls (g.F.Folder.calls c.read_file.new.folder) (g.F.Folder.calls c.project_run.new.folder) (λ calls. AnswersBytes (task_value task) c.deref-in-Project.result.now calls (ended result))) (sym c.in-Project.is)
+    c.project_run.ensures)
