@@ -6,7 +6,7 @@ ghost use Rattle.module_table.specs.TableValue.{table_with};
 ghost use Rattle.collate_core.specs.Collation.{Collates};
 ghost use Rattle.collate_core.specs.Refusals.{IsRefusal, WasRead};
 ghost use Rattle.commands.specs.Answers.{file_value, Refuses};
-ghost use Rattle.commands.specs.CollateCommand.{style_of, map_name, files_of, WritesCollated, AnswersTargetOf, AnswersSpec, AnswersCollate, spec_text};
+ghost use Rattle.commands.specs.CollateCommand.{style_of, map_name, files_of, WritesCollated, AnswersTargetOf, AnswersCollate, spec_text};
 ghost use Rattle.commands.specs.EdgeChecks.{PassesEdges, FailsEdges};
 ghost use Rattle.commands.specs.Files.{ended};
 ghost use Rattle.commands.specs.Folder.{MakesCalls};
@@ -42,7 +42,13 @@ pub fn collate_run<F: Folder>(
         AnswersCollate document.now calls (ended result)) }
 {
     match TargetDocument::read(alloc, document) {
-        Ok(document) => document_answer(alloc, keys, &document, folder),
+        Ok(document) => {
+            let spec = document.spec();
+            match TargetFiles::read(alloc, spec, &spec.linked, folder) {
+                Ok(files) => files_answer(alloc, keys, &document, &files),
+                Err(failure) => answered(failure),
+            }
+        }
         Err(Failure::Memory) => Err(AllocError),
         Err(Failure::Fault(fault)) => spec_refused(alloc, &fault),
     }
@@ -54,23 +60,6 @@ fn spec_refused(alloc: Global, fault: &DocFault) -> Result<Answer, AllocError>
 {
     let message = format!(in alloc; "target: {fault}")?;
     Answer::failed(alloc, 1, message.as_bytes())
-}
-
-/// The answer to an accepted target document.
-fn document_answer<F: Folder>(
-    alloc: Global,
-    keys: RandomState,
-    document: &TargetDocument,
-    folder: &mut F,
-) -> Result<Answer, AllocError>
-    ensures { MakesCalls (F.calls folder.old) (F.calls folder.new) (λ calls.
-        AnswersSpec document.now calls (ended result)) }
-{
-    let spec = document.spec();
-    match TargetFiles::read(alloc, spec, &spec.linked, folder) {
-        Ok(files) => files_answer(alloc, keys, document, &files),
-        Err(failure) => answered(failure),
-    }
 }
 
 /// The answer to the target of a document, of these files.
