@@ -22,13 +22,7 @@ const K_INFO: &[u8] =
 fn table(alloc: Global, keys: RandomState) -> Result<Table<RandomState>, Fail> {
     let objects = scan(alloc, OBJECTS, &setting(alloc)?)?;
     let infos = vec![in alloc; info_read(alloc, K_INFO)?]?;
-    Ok(Table::build_with_hasher(
-        alloc,
-        objects,
-        infos,
-        &[],
-        keys,
-    )?)
+    Ok(Table::build_with_hasher(alloc, objects, infos, &[], keys)?)
 }
 
 /// Whether the name is found with this file and this maker.
