@@ -15,6 +15,7 @@ use std::alloc::{AllocError, Global};
 use std::cmp::Ordering;
 use std::hash::{Hash, Hasher};
 use std::marker::Model;
+use std::rc::RcSlice;
 
 /// The most bytes that a canonical path has.
 pub const PATH_LIMIT: usize = 4096;
@@ -25,20 +26,22 @@ pub const PATH_LIMIT: usize = 4096;
 /// system.
 ///
 /// A contract sees a path as its text. It has 1 to 4,096 bytes, none of them `|`, NUL, CR or LF.
+/// Copies of a path share the text.
 #[derive(Debug, Drop)]
 pub struct Path {
-    text: Vec<u8>,
+    text: RcSlice<u8>,
 }
 
 impl Model for Path {
+    ghost use Rattle.std.specs.Rc.{rc_slice_items};
     ghost use Rattle.ninja_text.specs.Bytes.{PathText};
     ghost use Rattle.ninja_text.specs.Paths.{IsPath};
 
     ghost Value = { PathText };
 
-    ghost view = { λ p. p.text.items };
+    ghost view = { λ p. rc_slice_items p.text };
 
-    ghost invariant = { λ p. IsPath p.text.items };
+    ghost invariant = { λ p. IsPath (rc_slice_items p.text) };
 }
 
 impl Path {
@@ -67,11 +70,12 @@ impl Path {
         reduction::is_rooted(self.text.as_slice())
     }
 
-    /// The same path once more.
-    pub fn copy(&self, alloc: Global) -> Result<Path, AllocError>
+    /// The same path once more. It shares the text, so no memory is asked for; the error would be
+    /// that there are more copies than can be counted.
+    pub fn copy(&self, _alloc: Global) -> Result<Path, AllocError>
         ensures { IfOk result (λ copy. copy ≡ self.now) }
     {
-        let text = Vec::from_slice(alloc, self.text.as_slice())?;
+        let text = self.text.clone()?;
         Ok(Path { text })
     }
 }
@@ -134,6 +138,7 @@ fn canonical(alloc: Global, build: Option<&Path>, text: &[u8]) -> Result<Path, F
     if text.len() > PATH_LIMIT {
         return Err(Failure::Fault(PathFault::TooLong));
     }
+    let text = RcSlice::from_vec(text)?;
     Ok(Path { text })
 }
 
