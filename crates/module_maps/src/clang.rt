@@ -178,7 +178,7 @@ fn push_files(text: &mut Vec<u8>, pairs: &[(Name, Path)]) -> Result<(), AllocErr
 {
     for pair in pairs {
         text.extend_from_slice(b"-fmodule-file=")?;
-        text.extend_from_slice(pair.0.text().as_bytes())?;
+        text.extend_from_slice(pair.0.bytes())?;
         text.push(b'=')?;
         text.extend_from_slice(pair.1.bytes())?;
         text.push(b'\n')?;

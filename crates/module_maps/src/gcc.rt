@@ -100,7 +100,7 @@ fn push_lines(text: &mut Vec<u8>, pairs: &[(Name, Path)]) -> Result<(), AllocErr
         text.old.items ++ flat_map (λ pair. ended_line (gcc_line pair)) pairs.now) }
 {
     for pair in pairs {
-        text.extend_from_slice(pair.0.text().as_bytes())?;
+        text.extend_from_slice(pair.0.bytes())?;
         text.push(b' ')?;
         text.extend_from_slice(pair.1.bytes())?;
         text.push(b'\n')?;

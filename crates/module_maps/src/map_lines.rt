@@ -174,7 +174,7 @@ pub(crate) fn lines_len(pairs: &[(Name, Path)], beside: usize) -> usize
 {
     let mut len: usize = 0;
     for pair in pairs {
-        let name = pair.0.text().as_bytes();
+        let name = pair.0.bytes();
         let path = pair.1.bytes();
         len = len
             .saturating_add(name.len())

@@ -75,7 +75,7 @@ fn learn_modules(pairs: &[(Name, Path)])
     ensures { All IsModulePair pairs.now }
 {
     for pair in pairs {
-        let _ = pair.0.text();
+        let _ = pair.0.bytes();
         let _ = pair.1.bytes();
     }
 }

@@ -1,6 +1,6 @@
 //! Names of modules.
 
-ghost use Rattle.std.specs.Prelude.{◌≡◌, ◌==◌, IfOk, IsTrue, nat_le, count_by};
+ghost use Rattle.std.specs.Prelude.{◌≡◌, ◌==◌, IfOk, IsTrue, IsUtf8, nat_le, count_by};
 ghost use Rattle.std.specs.Option.{SomeIff};
 ghost use Rattle.std.specs.List.{list_all, slice_split};
 ghost use Rattle.scan_docs.specs.Name.{is_name, is_name_byte, is_separator, is_not_empty};
@@ -57,10 +57,19 @@ impl Name {
         ensures text { result.now ≡ self.now }
         ensures accepted { IsTrue (is_name self.now) }
     {
-        match str::from_utf8(self.bytes.as_slice()) {
+        match str::from_utf8(self.bytes()) {
             Ok(text) => text,
             Err(_) => unreachable!(),
         }
+    }
+
+    /// The bytes of that text.
+    pub fn bytes(&self) -> &[u8]
+        ensures text { result.now ≡ self.now }
+        ensures accepted { IsTrue (is_name self.now) }
+        ensures utf8 { IsUtf8 result.now }
+    {
+        &self.bytes
     }
 
     /// The same name once more.

@@ -12,8 +12,8 @@ loop-pair-preserved c =
     five-parts old c.extend_from_slice.new.self.items c.extend_from_slice-in-loop-pair.new.self.items c.push.new.self.items c.extend_from_slice-in-loop-pair-2.new.self.items c.push-in-loop-pair.new.self.items
     file_flag c.pair-item.result.0 (61 ∷ []) c.pair-item.result.1 (10 ∷ [])
     c.in_ok-extend_from_slice.ensures.items
-    (c.in_ok-extend_from_slice-2.ensures.items ∙ ap (λ t. c.extend_from_slice.new.self.items ++ t) (c.as_bytes.ensures.value ∙ c.text.ensures.text))
+    (c.in_ok-extend_from_slice-2.ensures.items ∙ ap (λ t. c.extend_from_slice.new.self.items ++ t) c.bytes.ensures.text)
     c.in_ok-push.ensures.items
-    (c.in_ok-extend_from_slice-3.ensures.items ∙ ap (λ t. c.push.new.self.items ++ t) c.bytes.ensures.text)
+    (c.in_ok-extend_from_slice-3.ensures.items ∙ ap (λ t. c.push.new.self.items ++ t) c.bytes-in-loop-pair.ensures.text)
     c.in_ok-push-2.ensures.items in
     one-more (λ pair. ended_line (file_line pair)) c.args.text.now.items old c.push-in-loop-pair.new.self.items c.args.pairs.now c.loop-pair.pair-index c.pair-item.result within c.pair-item.is c.loop-pair.invariant written

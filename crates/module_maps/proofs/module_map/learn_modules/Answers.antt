@@ -12,5 +12,5 @@ loop-pair-preserved c k d less =
     let pair : List ℕ × List ℕ = c.pair-item.result in
     let within : i < length pairs = omega arith in
     let here : slice_get pairs i ≡ Some pair = slice_get_read _ _ _ _ refl within c.pair-item.is in
-    let is : IsModulePair pair = record { name = c.text.ensures.accepted; text = subst IsUtf8 c.text.ensures.text c.text.utf8; path = subst (λ t. path_of t ≡ Ok pair.1) c.bytes.ensures.text c.bytes.ensures.canonical } in
+    let is : IsModulePair pair = record { name = c.bytes.ensures.accepted; text = subst IsUtf8 c.bytes.ensures.text c.bytes.ensures.utf8; path = subst (λ t. path_of t ≡ Ok pair.1) c.bytes-in-loop-pair.ensures.text c.bytes-in-loop-pair.ensures.canonical } in
     below_more (λ k. IsModulePair (get_or pairs k d)) i (λ k before. c.loop-pair.invariant k d before) (subst IsModulePair (sym (get_or_from_slice_get pairs i pair d here)) is) k less
