@@ -9,6 +9,7 @@ pub mod HeadlineLemmas
 pub mod Reading
 pub mod Tasks
 pub mod Parts
+pub mod Known
 pub mod LinkedLemmas
 pub mod NeededLemmas
 pub mod ProjectLemmas

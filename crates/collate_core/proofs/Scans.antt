@@ -20,6 +20,7 @@ use Rattle.scan_docs.specs.declared.fault.DocFault.TheVariants.{TooLarge}
 use Rattle.scan_docs.specs.declared.fault.Place.TheVariants.{Document}
 use Rattle.collate_core.specs.Documents.{all_rules, rule_limit, IsScanAccepted, IsInfoAccepted, AreScansAccepted}
 use Rattle.collate_core.specs.Refusals.{IsScanRefusal, IsInfoRefusal}
+use Rattle.collate_core.specs.inner.ReadInfos.{IsReadAs, AreReadAs}
 use Rattle.collate_core.proofs.Lists.{take_next, flat_map_last}
 
 -- The first scan documents are accepted, and these are their rules.
@@ -48,21 +49,13 @@ more_scans s scans i scan rules more here so_far accepted are text short =
       text = All-append IsRuleText rules more so_far.text text;
     }
 
--- The first info documents are accepted, and these are their infos.
-pub record InfosSoFar (documents : List (List ℕ)) (i : ℕ) (infos : List InfoValue) : Type 0 where
-  pub accepted : All IsInfoAccepted (take i documents)
-  pub same : infos ≡ map info_of (take i documents)
-  pub text : All IsInfoText infos
-
-pub more_infos : (documents : List (List ℕ)) (i : ℕ) (document : List ℕ) (infos : List InfoValue) (info : InfoValue) → slice_get documents i ≡ Some document → InfosSoFar documents i infos →
-    IsInfoAccepted document → info ≡ info_of document → IsInfoText info → InfosSoFar documents (i + 1) (infos ++ info ∷ [])
-more_infos documents i document infos info here so_far accepted is text =
-    let next = take_next documents i document here in
-    record {
-      accepted = subst (All IsInfoAccepted) (sym next) (All-push IsInfoAccepted (take i documents) document so_far.accepted accepted);
-      same = ap₂ (λ a b. a ++ b ∷ []) so_far.same is ∙ sym (map_push info_of (take i documents) document) ∙ ap (map info_of) (sym next);
-      text = All-push IsInfoText infos info so_far.text text;
-    }
+-- one more document is read as one more info
+pub more_read : (documents : List (List ℕ)) (infos : List InfoValue) (document : List ℕ) (info : InfoValue) → AreReadAs documents infos → IsReadAs document info → AreReadAs (documents ++ document ∷ []) (infos ++ info ∷ [])
+more_read documents infos document info so_far is = record {
+  accepted = All-push IsInfoAccepted documents document so_far.accepted is.accepted;
+  values = ap₂ (λ a b. a ++ b ∷ []) so_far.values is.value ∙ sym (map_push info_of documents document);
+  text = All-push IsInfoText infos info so_far.text is.text;
+}
 
 -- the document at a index, as bytes
 get_or_again : {X : Type 0} (xs : List X) (i : ℕ) (other : X) → get_or xs i (get_or xs i other) ≡ get_or xs i other
@@ -110,14 +103,11 @@ all_scans bytes documents i s rules past so_far = subst (AreScansAccepted s) (al
 pub rules_of_scans : {X : Type 0} (bytes : X → List ℕ) (documents : List X) (i : ℕ) (s : SettingValue) (rules : List RuleValue) → length documents ≤ i → ScansSoFar s (map bytes documents) i rules → rules ≡ all_rules s (map bytes documents)
 rules_of_scans bytes documents i s rules past so_far = so_far.same ∙ ap (all_rules s) (all_taken bytes documents i past)
 
-pub all_accepted : {X : Type 0} (bytes : X → List ℕ) (documents : List X) (i : ℕ) (infos : List InfoValue) → length documents ≤ i → InfosSoFar (map bytes documents) i infos → All IsInfoAccepted (map bytes documents)
-all_accepted bytes documents i infos past so_far = subst (All IsInfoAccepted) (all_taken bytes documents i past) so_far.accepted
-
-pub all_infos : {X : Type 0} (bytes : X → List ℕ) (documents : List X) (i : ℕ) (infos : List InfoValue) → length documents ≤ i → InfosSoFar (map bytes documents) i infos → infos ≡ map info_of (map bytes documents)
-all_infos bytes documents i infos past so_far = so_far.same ∙ ap (map info_of) (all_taken bytes documents i past)
+pub all_infos : {X : Type 0} (bytes : X → List ℕ) (documents : List X) (i : ℕ) (infos : List InfoValue) → length documents ≤ i → AreReadAs (take i (map bytes documents)) infos → AreReadAs (map bytes documents) infos
+all_infos bytes documents i infos past so_far = subst (λ (ds : List (List ℕ)). AreReadAs ds infos) (all_taken bytes documents i past) so_far
 
 pub refused_info : {X : Type 0} (bytes : X → List ℕ) (documents : List X) (i : ℕ) (other : X) (infos : List InfoValue) (failure : Failure DocFault) (fault : DocFault) → i < length documents →
-    InfosSoFar (map bytes documents) i infos → failure ≡ Fault fault → ForFault (IsRefused info_checks (bytes (get_or documents i other))) failure → IsInfoRefusal (map bytes documents) i fault
+    AreReadAs (take i (map bytes documents)) infos → failure ≡ Fault fault → ForFault (IsRefused info_checks (bytes (get_or documents i other))) failure → IsInfoRefusal (map bytes documents) i fault
 refused_info bytes documents i other infos failure fault within so_far is refused = record {
   before = so_far.accepted;
   info = bytes (get_or documents i other);
@@ -125,7 +115,9 @@ refused_info bytes documents i other infos failure fault within so_far is refuse
   faulty = subst (ForFault (IsRefused info_checks (bytes (get_or documents i other)))) is refused;
 }
 
-pub lent_infos : {X : Type 0} (bytes : X → List ℕ) (documents : List X) (i : ℕ) (other : X) (infos : List InfoValue) (info : InfoValue) → i < length documents → InfosSoFar (map bytes documents) i infos →
-    IsInfoAccepted (bytes (get_or documents i other)) → info ≡ info_of (bytes (get_or documents i other)) → IsInfoText info → InfosSoFar (map bytes documents) (i + 1) (infos ++ info ∷ [])
-lent_infos bytes documents i other infos info within so_far accepted is text =
-    more_infos (map bytes documents) i (bytes (get_or documents i other)) infos info (document_at bytes documents i other within) so_far accepted is text
+pub lent_infos : {X : Type 0} (bytes : X → List ℕ) (documents : List X) (i : ℕ) (other : X) (infos : List InfoValue) (info : InfoValue) → i < length documents → AreReadAs (take i (map bytes documents)) infos →
+    IsReadAs (bytes (get_or documents i other)) info → AreReadAs (take (i + 1) (map bytes documents)) (infos ++ info ∷ [])
+lent_infos bytes documents i other infos info within so_far is =
+    let document : List ℕ = bytes (get_or documents i other) in
+    let next = take_next (map bytes documents) i document (document_at bytes documents i other within) in
+    subst (λ (ds : List (List ℕ)). AreReadAs ds (infos ++ info ∷ [])) (sym next) (more_read (take i (map bytes documents)) infos document info so_far is)

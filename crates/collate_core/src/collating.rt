@@ -80,7 +80,29 @@ pub fn collate_or_refused<M: MapStyle, S: BuildHasher + Copy>(
     ensures read { IfErr result (ForFault (λ refused. WasRead target.now refused.refusal
         (table_with refused.objects.items refused.infos.items))) }
 {
-    let table = table_of(alloc, target, hash_builder)?;
+    let table = table_of(alloc, target, None, hash_builder)?;
+    collated_or_refused(alloc, target, table, style, hash_builder)
+}
+
+/// What a target collates to whose documents have this table, or its refusal with what was read.
+pub(crate) fn collated_or_refused<M: MapStyle, S: BuildHasher + Copy>(
+    alloc: Global,
+    target: &Target<'_>,
+    table: Table<S>,
+    style: Option<&M>,
+    hash_builder: S,
+) -> Result<Collated, Failure<RefusedTarget>>
+    requires table { table ≡ table_of target.now }
+    requires resolved { IsResolved target.now }
+    requires text { IsTableText table }
+    ensures collated { IfOk result
+        (Collates target.now (option_map M.written (option_copied style.entry))) }
+    ensures headline { IfOk result (IsHeadline target.now) }
+    ensures refused { IfErr result (ForFault (λ refused. IsRefusal target.now
+        (option_map M.written (option_copied style.entry)) refused.refusal)) }
+    ensures read { IfErr result (ForFault (λ refused. WasRead target.now refused.refusal
+        (table_with refused.objects.items refused.infos.items))) }
+{
     match collated_of(alloc, target, &table, style, hash_builder) {
         Ok(collated) => Ok(collated),
         Err(Failure::Memory) => Err(Failure::Memory),
@@ -163,7 +185,7 @@ pub fn collate_dyndep_or_refused<S: BuildHasher + Copy>(
     info_again();
     // The contract speaks of the info too, though it is not written: its name is accepted.
     let _ = target.name.text();
-    let table = table_of(alloc, target, hash_builder)?;
+    let table = table_of(alloc, target, None, hash_builder)?;
     let resolved = table.into_resolved();
     match text_of(alloc, &resolved) {
         Ok(dyndep) => Ok(dyndep),

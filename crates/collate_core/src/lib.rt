@@ -54,6 +54,7 @@ mod collated;
 mod collating;
 mod fault;
 mod info;
+mod known_infos;
 mod laws;
 mod object_maps;
 mod pairs;

@@ -8,15 +8,18 @@ ghost use Rattle.collate_core.specs.Projects.{CollatesProject, IsProjectRefusal,
 ghost use Rattle.collate_core.specs.ProjectOrders.{AllOrders, IsProjectOrdered, EndIsOrderable};
 ghost use Rattle.collate_core.specs.ProjectNeeds.{MapsReadBack};
 ghost use Rattle.collate_core.specs.inner.Parts.{CollatesLinked};
+ghost use Rattle.collate_core.specs.inner.ReadInfos.{AreKnown};
 
 use crate::collated::Collated;
-use crate::collating::collate_or_refused;
+use crate::collating::collated_or_refused;
 use crate::fault::{Refusal, RefusedTarget, without_table};
+use crate::known_infos::{known_of, read_info};
 use crate::laws::{project_maps, project_orders};
+use crate::table::table_of;
 use crate::target::Target;
 use module_maps::MapStyle;
 use ninja_text::Failure;
-use scan_docs::{Name, Setting, TargetName};
+use scan_docs::{Info, Name, Setting, TargetName};
 use std::alloc::{AllocError, Global};
 use std::hash::{BuildHasher, BuildHasherDefault, FoldHasher};
 use std::marker::Model;
@@ -182,9 +185,13 @@ fn add_outs<M: MapStyle, S: BuildHasher + Copy>(
         targets.now refused.0 refused.1.refusal
         (table_with refused.1.objects.items refused.1.infos.items))) }
 {
+    let mut known = Vec::with_capacity(alloc, targets.len())?;
     for (index, target) in targets.iter().enumerate() {
-        match collate_linked(alloc, target, outs.as_slice(), style, hash_builder) {
-            Ok(out) => outs.push(out)?,
+        match collate_linked(alloc, target, outs.as_slice(), &known, style, hash_builder) {
+            Ok(out) => {
+                known.push(read_info(alloc, out.info())?)?;
+                outs.push(out)?;
+            }
             Err(Failure::Memory) => return Err(Failure::Memory),
             Err(Failure::Fault(refused)) => return Err(Failure::Fault((index, refused))),
         }
@@ -222,14 +229,16 @@ fn infos_of<'a>(
 }
 
 /// Collates a target with the infos that the targets which it links wrote, all of which are to be
-/// among those given.
+/// among those given. What these infos are read as is known.
 fn collate_linked<M: MapStyle, S: BuildHasher + Copy>(
     alloc: Global,
     target: &ProjectTarget<'_>,
     outs: &[Collated],
+    known: &[Option<Info>],
     style: Option<&M>,
     hash_builder: S,
 ) -> Result<Collated, Failure<RefusedTarget>>
+    requires { AreKnown outs.now known.now }
     ensures collated { IfOk result (CollatesLinked
         (option_map M.written (option_copied style.entry)) outs.now target.now) }
     ensures refused { IfErr result (ForFault (λ refused. IsLinkedRefusal
@@ -250,5 +259,7 @@ fn collate_linked<M: MapStyle, S: BuildHasher + Copy>(
         infos: &infos,
         kept: target.kept,
     };
-    collate_or_refused(alloc, &with_infos, style, hash_builder)
+    let known = known_of(alloc, target.linked, known)?;
+    let table = table_of(alloc, &with_infos, known, hash_builder)?;
+    collated_or_refused(alloc, &with_infos, table, style, hash_builder)
 }

@@ -1,14 +1,13 @@
 //! The table of a target's documents.
-ghost use Rattle.std.specs.Prelude.{◌≡◌, map, All, Option, IfOk, OnOk, IfErr};
+ghost use Rattle.std.specs.Prelude.{◌≡◌, map, All, Option, IfOk, OnOk, IfErr, IfSome};
 ghost use Rattle.ninja_text.specs.Failure.{ForFault};
 ghost use Rattle.scan_docs.specs.Scan.{IsRuleText};
-ghost use Rattle.scan_docs.specs.InfoText.{IsInfoText};
-ghost use Rattle.scan_docs.specs.Values.{info_of};
 ghost use Rattle.module_table.specs.TableValue.{table_with};
 ghost use Rattle.module_maps.specs.Maps.{Written};
-ghost use Rattle.collate_core.specs.Documents.{all_rules, table_of, IsInfoAccepted, AreScansAccepted, AreAccepted, IsResolved};
+ghost use Rattle.collate_core.specs.Documents.{all_rules, table_of, AreScansAccepted, AreAccepted, IsResolved};
 ghost use Rattle.collate_core.specs.Refusals.{IsRefusal, IsScanRefusal, IsInfoRefusal, WasRead};
 ghost use Rattle.collate_core.specs.inner.Parts.{IsTableText, ForScan, ForInfo, IsDocumentRefusal};
+ghost use Rattle.collate_core.specs.inner.ReadInfos.{AreReadAs};
 
 use crate::fault::{Refusal, RefusedTarget, without_table};
 use crate::target::Target;
@@ -22,11 +21,14 @@ use std::hash::BuildHasher;
 pub const RULE_LIMIT: usize = 65536;
 
 /// The table of the target's documents, or the fault of the first that is faulty, or of the table.
+/// What the infos are read as may be known before.
 pub(crate) fn table_of<S: BuildHasher + Copy>(
     alloc: Global,
     target: &Target<'_>,
+    known: Option<Vec<Info>>,
     hash_builder: S,
 ) -> Result<Table<S>, Failure<RefusedTarget>>
+    requires { IfSome known (λ infos. AreReadAs target.now.infos infos.items) }
     ensures table { IfOk result (λ table. table ≡ table_of target.now) }
     ensures resolved { OnOk result (IsResolved target.now) }
     ensures text { IfOk result IsTableText }
@@ -36,7 +38,7 @@ pub(crate) fn table_of<S: BuildHasher + Copy>(
     ensures read { IfErr result (ForFault (λ refused. WasRead target.now refused.refusal
         (table_with refused.objects.items refused.infos.items))) }
 {
-    let (objects, infos) = match documents_of(alloc, target) {
+    let (objects, infos) = match documents_of(alloc, target, known) {
         Ok(read) => read,
         Err(Failure::Memory) => return Err(Failure::Memory),
         Err(Failure::Fault(refusal)) => {
@@ -65,7 +67,9 @@ pub(crate) fn table_of<S: BuildHasher + Copy>(
 fn documents_of(
     alloc: Global,
     target: &Target<'_>,
+    known: Option<Vec<Info>>,
 ) -> Result<(Vec<Rule>, Vec<Info>), Failure<Refusal>>
+    requires { IfSome known (λ infos. AreReadAs target.now.infos infos.items) }
     ensures table { IfOk result
         (λ read. table_with read.0.items read.1.items ≡ table_of target.now) }
     ensures accepted { OnOk result (AreAccepted target.now) }
@@ -73,8 +77,13 @@ fn documents_of(
     ensures refused { IfErr result (ForFault (IsDocumentRefusal target.now)) }
 {
     let objects = rules_of_all(alloc, target.setting, target.scans)?;
-    let infos = infos_of_all(alloc, target.infos)?;
-    Ok((objects, infos))
+    match known {
+        Some(infos) => Ok((objects, infos)),
+        None => {
+            let infos = infos_of_all(alloc, target.infos)?;
+            Ok((objects, infos))
+        }
+    }
 }
 
 /// The rules of all scan documents, one document after another.
@@ -115,10 +124,8 @@ fn rules_of_all(
 
 /// The infos of all info documents.
 fn infos_of_all(alloc: Global, documents: &[&[u8]]) -> Result<Vec<Info>, Failure<Refusal>>
-    ensures accepted { OnOk result (All IsInfoAccepted (map (λ info. info.now) documents.now)) }
-    ensures infos { IfOk result
-        (λ infos. infos.items ≡ map info_of (map (λ info. info.now) documents.now)) }
-    ensures text { IfOk result (λ infos. All IsInfoText infos.items) }
+    ensures read { IfOk result
+        (λ infos. AreReadAs (map (λ info. info.now) documents.now) infos.items) }
     ensures refused { IfErr result
         (ForFault (ForInfo (IsInfoRefusal (map (λ info. info.now) documents.now)))) }
 {

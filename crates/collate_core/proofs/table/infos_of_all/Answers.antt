@@ -1,9 +1,10 @@
-use Rattle.std.proofs.Common.{ℕ, ◌+◌, map, subst, sym}
+use Rattle.std.proofs.Common.{ℕ, ◌+◌, map, take, subst, sym}
 use Rattle.scan_docs.specs.Document.{IsAccepted}
 use Rattle.scan_docs.specs.Info.{IsInfo}
 use Rattle.scan_docs.specs.InfoChecks.{info_checks}
 use Rattle.collate_core.specs.Refusals.{IsInfoRefusal}
-use Rattle.collate_core.proofs.Scans.{InfosSoFar, all_accepted, all_infos, lent_infos, refused_info}
+use Rattle.collate_core.specs.inner.ReadInfos.{AreReadAs}
+use Rattle.collate_core.proofs.Scans.{all_infos, lent_infos, refused_info}
 use Rattle.collate_core.proofs.table.infos_of_all.Goals as goal
 
 pub returns-in-Err-Fault-clause-refused : goal.returns-in-Err-Fault-clause-refused
@@ -15,14 +16,12 @@ returns-in-Err-Fault-clause-refused c =
 pub loop-index-preserved : goal.loop-index-preserved
 loop-index-preserved c =
     let i : ℕ = c.loop-index.index in
-    subst (InfosSoFar (map (λ info. info.now) c.args.documents.now) (i + 1)) (sym c.in_ok-push-in-Ok.ensures.items)
-    (lent_infos (λ info. info.now) c.args.documents.now i _ c.loop-index.infos.items c.in-Ok.info c.loop-index-test.true c.loop-index.invariant (subst (IsAccepted info_checks IsInfo _) c.in-Ok.ensures.value c.in-Ok.ensures.accepted) c.in-Ok.ensures.value c.in-Ok.ensures.text)
+    subst (AreReadAs (take (i + 1) (map (λ info. info.now) c.args.documents.now))) (sym c.in_ok-push-in-Ok.ensures.items)
+    (lent_infos (λ info. info.now) c.args.documents.now i _ c.loop-index.infos.items c.in-Ok.info c.loop-index-test.true c.loop-index.invariant (record {
+      accepted = subst (IsAccepted info_checks IsInfo _) c.in-Ok.ensures.value c.in-Ok.ensures.accepted;
+      value = c.in-Ok.ensures.value;
+      text = c.in-Ok.ensures.text;
+    }))
 
-pub returns-clause-accepted : goal.returns-clause-accepted
-returns-clause-accepted c = all_accepted (λ info. info.now) c.args.documents.now c.loop-index.index c.loop-index.infos.items c.loop-index-test.false c.loop-index.invariant
-
-pub returns-clause-infos : goal.returns-clause-infos
-returns-clause-infos c = all_infos (λ info. info.now) c.args.documents.now c.loop-index.index c.loop-index.infos.items c.loop-index-test.false c.loop-index.invariant
-
-pub returns-clause-text : goal.returns-clause-text
-returns-clause-text c = c.loop-index.invariant.text
+pub returns-clause-read : goal.returns-clause-read
+returns-clause-read c = all_infos (λ info. info.now) c.args.documents.now c.loop-index.index c.loop-index.infos.items c.loop-index-test.false c.loop-index.invariant

@@ -1,0 +1,67 @@
+//! What the infos of a project's targets are read as, once for all targets that link them.
+ghost use Rattle.std.specs.Prelude.{◌≡◌, ◌<◌, length, All, List, IfOk, IfSome};
+ghost use Rattle.collate_core.specs.Values.{CollatedValue};
+ghost use Rattle.collate_core.specs.Projects.{linked_infos};
+ghost use Rattle.collate_core.specs.inner.ReadInfos.{IsReadAs, AreReadAs, AreKnown};
+
+use crate::pairs::copy_pairs;
+use ninja_text::Failure;
+use scan_docs::{Info, InfoModule, info_read};
+use std::alloc::{AllocError, Global};
+
+/// What an info is read as, unless it is refused, since it is longer than a document may be.
+pub(crate) fn read_info(alloc: Global, document: &[u8]) -> Result<Option<Info>, AllocError>
+    ensures { IfOk result (λ known. IfSome known (IsReadAs document.now)) }
+{
+    match info_read(alloc, document) {
+        Ok(info) => Ok(Some(info)),
+        Err(Failure::Memory) => Err(AllocError),
+        Err(Failure::Fault(_)) => Ok(None),
+    }
+}
+
+/// What the infos of the targets of these indexes are read as, unless one of them is refused.
+pub(crate) fn known_of(
+    alloc: Global,
+    linked: &[usize],
+    known: &[Option<Info>],
+) -> Result<Option<Vec<Info>>, AllocError>
+    requires { All (λ k. k < length known.now) linked.now }
+    ensures { IfOk result (λ found. IfSome found (λ infos. (outs : List CollatedValue) →
+        AreKnown outs known.now → AreReadAs (linked_infos outs linked.now) infos.items)) }
+{
+    let mut infos = Vec::with_capacity(alloc, linked.len())?;
+    for target in linked {
+        match &known[*target] {
+            Some(info) => infos.push(copy_info(alloc, info)?)?,
+            None => return Ok(None),
+        }
+    }
+    Ok(Some(infos))
+}
+
+/// The same info once more.
+fn copy_info(alloc: Global, info: &Info) -> Result<Info, AllocError>
+    ensures { IfOk result (λ copy. copy ≡ info.now) }
+{
+    let target = info.target.copy(alloc)?;
+    let mut modules = Vec::with_capacity(alloc, info.modules.len())?;
+    for module in &info.modules {
+        modules.push(copy_module(alloc, module)?)?;
+    }
+    Ok(Info { target, modules })
+}
+
+fn copy_module(alloc: Global, module: &InfoModule) -> Result<InfoModule, AllocError>
+    ensures { IfOk result (λ copy. copy ≡ module.now) }
+{
+    let name = module.name.copy(alloc)?;
+    let file = module.file.copy(alloc)?;
+    let required = copy_pairs(alloc, &module.required)?;
+    Ok(InfoModule {
+        name,
+        file,
+        required,
+        is_private: module.is_private,
+    })
+}
