@@ -1,5 +1,5 @@
-use Rattle.std.proofs.Common.{rules}
 use Rattle.module_table.proofs.checks.required.agrees.Goals as goal
 
+-- said here, so that `file_of_an_info_believed` is refused soon
 pub returns-in-Some : goal.returns-in-Some
-returns-in-Some c = search rules
+returns-in-Some c = rw c.in-Some.is c.eq.ensures
