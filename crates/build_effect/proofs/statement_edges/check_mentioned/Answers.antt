@@ -1,7 +1,8 @@
-use Rattle.std.proofs.Common.{◌≡◌, ◌∙◌, ℕ, Bool, true, false, Option, Some, None, refl, ap, arith}
+use Rattle.std.proofs.Common.{◌≡◌, ◌∙◌, ℕ, Bool, true, false, Option, Some, None, refl, ap, arith, sym}
 use Rattle.std.specs.Prelude.{not}
 use Rattle.std.specs.Option.{is_some}
 use Rattle.std.proofs.lemmas.Option.{slice_get_read, slice_get_within}
+use Rattle.build_effect.specs.EdgeValue.{EdgeValue}
 use Rattle.build_effect.proofs.Bindings.{more_have}
 use Rattle.build_effect.proofs.statement_edges.check_mentioned.Goals as goal
 use Rattle.build_effect.proofs.statement_edges.check_mentioned.Goals.{else-is_none-via-then-is_none+else-names, else-is_none-via-else-is_none}
@@ -10,6 +11,31 @@ use Rattle.build_effect.proofs.statement_edges.check_mentioned.Goals.{else-is_no
 has_statement : (statement : Option ℕ) (none : Bool) → is_some statement ≡ not none → none ≡ false → (k : ℕ) × (statement ≡ Some k)
 has_statement None none test is = absurd (let x : false ≡ true = test ∙ ap not is in cc)
 has_statement (Some k) none test is = (k, refl)
+
+no_statement : (statement : Option ℕ) (none : Bool) → is_some statement ≡ not none → none ≡ true → statement ≡ None
+no_statement None none test is = refl
+no_statement (Some k) none test is = absurd (let x : true ≡ false = test ∙ ap not is in cc)
+
+-- said here, so that `edge_without_statement_passed_over` is refused soon
+pub returns-then-names-clause-fault : goal.returns-then-names-clause-fault
+returns-then-names-clause-fault c =
+    let i = c.loop-edge_index.edge_index in
+    let e : EdgeValue = c.index-edges-edge_index.result in
+    let at = slice_get_read c.args.edges.now _ i e refl c.loop-edge_index-test.true c.index-edges-edge_index.is in (
+      i,
+      e,
+      c.in_ok-output.output,
+      record {
+        here = at;
+        holds = (c.if-names.ensures, no_statement _ c.is_none.result c.is_none.ensures c.if-is_none.true);
+        before = λ k d lt at_k bad.
+            let some = c.loop-edge_index.invariant k d lt at_k bad.0 in
+            let never : None ≡ Some some.0 = sym bad.1 ∙ some.1 in
+            cc;
+      },
+      c.in_ok-output.ensures,
+      refl,
+    )
 
 pub loop-edge_index-preserved : goal.loop-edge_index-preserved
 loop-edge_index-preserved c =
