@@ -89,6 +89,15 @@ at_fault P failure fault is h = subst (ForFault P) is h
 pub picked : {F : Type 0} (P : F → Type 0) (failure : Failure F) (fault pick : F) → failure ≡ Fault fault → pick ≡ fault → ForFault P failure → P pick
 picked P failure fault pick is same h = subst P (sym same) (at_fault P failure fault is h)
 
+-- of the table of the target's documents, whatever the refusal
+pub table_read : (target : TargetValue) (refusal : Refusal) (read : TableValue) → read ≡ table_of target → WasRead target refusal read
+table_read target (Scan i fault) read h = tt
+table_read target (Info i fault) read h = tt
+table_read target (Table fault) read h = h
+table_read target (StatementTooLong k) read h = tt
+table_read target (Map o fault) read h = h
+table_read target LinkedLater read h = tt
+
 -- a refusal of the statements' build lines needs nothing of what was read
 pub write_read : (target : TargetValue) (ss : List StatementValue) (refusal : Refusal) → IsWriteRefusal ss refusal → (read : TableValue) → WasRead target refusal read
 write_read target ss (Scan i fault) h read = absurd h
