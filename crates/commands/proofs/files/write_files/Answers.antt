@@ -1,8 +1,8 @@
 use Rattle.std.proofs.Common.{rules, ◌≡◌, ℕ, ◌+◌, [], ◌∷◌, ◌++◌, codes, List, drop, map, take, string_bytes, refl, ap, sym, subst, ◌∙◌}
 use Rattle.std.specs.Prelude.{Ok, Err, IfOk}
-use Rattle.std.proofs.lemmas.List.{map-append, take-append-drop, take_more}
+use Rattle.std.proofs.lemmas.List.{map-append, take-append-drop, take_all, take_more}
 use Rattle.commands.specs.Answers.{Fails, file_value}
-use Rattle.commands.specs.Files.{FileValue, one_unwritten, writes_of}
+use Rattle.commands.specs.Files.{FileValue, all_written, one_unwritten, writes_of}
 use Rattle.commands.specs.Folder.{Adds, writing}
 use Rattle.commands.proofs.FileCalls.{done_of, error_of, left, both_made}
 use Rattle.commands.proofs.files.write_files.Goals as goal
@@ -66,3 +66,13 @@ loop-file-preserved g c =
     (both_made start before behind (writes_of files)
     (writing (string_bytes item.0) item.1.items (Ok tt) ∷ []) c.loop-file.invariant
     (subst (λ made. Adds before behind (made ∷ [])) call c.write.ensures))
+
+-- said here, so that a call after the last file is refused soon
+pub returns : goal.returns
+returns g c =
+    let i : ℕ = c.loop-file.file-index in
+    let all = c.args.answer.files.items in
+    let whole : take i all ≡ all =
+    subst (λ fs. take i fs ≡ fs) c.deref-file-items.ensures.value
+    (take_all i c.deref-file-items.result.now c.loop-file-test.false) in
+    (writes_of (map file_value (take i all)), c.loop-file.invariant, all_written (ap (λ fs. writes_of (map file_value fs)) whole) refl)
