@@ -1,7 +1,16 @@
-use Rattle.std.proofs.Common.{arith}
-use Rattle.std.proofs.lemmas.Grind.{common_steps}
+use Rattle.std.proofs.Common.{rules, ◌≡◌, ◌+◌, ◌++◌, ◌∷◌, [], ℕ, List, take, map, ap, refl, append_assoc}
+use Rattle.std.proofs.lemmas.Option.{slice_get_read}
+use Rattle.collate_core.specs.Infos.{module_of}
+use Rattle.collate_core.proofs.Lists.{take_next}
+use Rattle.collate_core.proofs.LoopLemmas.{map_push}
 use Rattle.collate_core.proofs.info.add_modules.Goals as goal
 
 -- said here, so that a body which does something else is refused soon
 pub loop-pair-preserved : goal.loop-pair-preserved
-loop-pair-preserved g c = grind (arith, common_steps)
+loop-pair-preserved g c =
+    let pairs : List (List ℕ × List ℕ) = c.deref-pair-items.result.now in
+    let i : ℕ = c.loop-pair.pair-index in
+    let pair : List ℕ × List ℕ = c.pair-item.result in
+    let next : take (i + 1) pairs ≡ take i pairs ++ pair ∷ [] = take_next pairs i pair (slice_get_read pairs _ i pair refl c.loop-pair-test.true c.pair-item.is) in
+    rw (c.in_ok-push.ensures.items, c.loop-pair.invariant, append_assoc, next)
+    (ap (λ ms. c.args.modules.now.items ++ ms) (map_push (module_of c.args.kept.now.keys c.args.required.now) (take i pairs) pair (map (module_of c.args.kept.now.keys c.args.required.now) (take i pairs)) _ refl (search rules)))
