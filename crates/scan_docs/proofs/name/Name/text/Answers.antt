@@ -1,6 +1,5 @@
-use Rattle.std.proofs.Common.{arith}
-use Rattle.std.proofs.lemmas.Grind.{common_steps}
+use Rattle.std.proofs.Common.{◌∙◌}
 use Rattle.scan_docs.proofs.name.Name.text.Goals as goal
 
 pub returns-clause-text : goal.returns-clause-text
-returns-clause-text c = grind (arith, common_steps)
+returns-clause-text c = c.in-Ok.ensures.cases.0 ∙ c.as_slice.ensures ∙ c.self.view_is

@@ -1,6 +1,5 @@
-use Rattle.std.proofs.Common.{arith}
-use Rattle.std.proofs.lemmas.Grind.{common_steps}
+use Rattle.std.proofs.Common.{◌∙◌}
 use Rattle.scan_docs.proofs.target_name.TargetName.copy.Goals as goal
 
 pub returns : goal.returns
-returns c = grind (arith, common_steps)
+returns c = c.in_ok-text.ensures.ok ∙ c.as_str.ensures.value ∙ c.self.view_is
