@@ -1,6 +1,5 @@
-use Rattle.std.proofs.Common.{arith}
-use Rattle.std.proofs.lemmas.Grind.{common_steps}
+use Rattle.std.proofs.Common.{rules}
 use Rattle.dyndep_file.proofs.fault.LineFault.name.Goals as goal
 
 pub returns : goal.returns
-returns c = grind (arith, common_steps)
+returns c = search rules
