@@ -1,6 +1,4 @@
-use Rattle.std.proofs.Common.{arith}
-use Rattle.std.proofs.lemmas.Grind.{common_steps}
 use Rattle.ninja_text.proofs.counting.Counted.count_failure.Goals as goal
 
 pub returns-clause-count : goal.returns-clause-count
-returns-clause-count g c = grind (arith, common_steps)
+returns-clause-count g c = c.saturating_add-self.ensures

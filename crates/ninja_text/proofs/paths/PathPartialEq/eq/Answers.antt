@@ -1,6 +1,4 @@
-use Rattle.std.proofs.Common.{arith}
-use Rattle.std.proofs.lemmas.Grind.{common_steps}
 use Rattle.ninja_text.proofs.paths.PathPartialEq.eq.Goals as goal
 
 pub returns : goal.returns
-returns c = grind (arith, common_steps)
+returns c = cc
