@@ -35,3 +35,6 @@ pub cycle_from-requires-clause-fewest : goal.cycle_from-requires-clause-fewest
 cycle_from-requires-clause-fewest c =
     subst (λ xs. IsFewest (needs_of (lists c.args.needs.now) c.args.first) xs (Some c.in-Some.count)) (c.as_slice.ensures.value ∙ sym c.as_slice-in-Some.ensures.value)
     (subst (λ row. IsFewest row c.as_slice.result.now (Some c.in-Some.count)) c.row_of.ensures c.in-Some.ensures)
+
+pub returns : goal.returns
+returns c = c.in_ok-cycle-in-Some.ensures
