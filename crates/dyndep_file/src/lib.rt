@@ -24,6 +24,7 @@
 //! failed calls, and `thiserror`, which derives `Error` for its faults.
 //!
 //! `must-fail/` has a wrong body of each public function but of the laws, which have none.
+//! `first_byte_out_before_a_fault_is_reported` shows that nothing is written before a fault.
 #![tactic(auto)]
 
 mod build_line;

@@ -19,7 +19,8 @@
 //! It uses `ninja_text` for paths, `scan_docs` for names and `thiserror` for its fault, and knows of
 //! no table: which modules an object needs is known to who makes its map.
 //!
-//! `must-fail/` has a wrong body of each public function.
+//! `must-fail/` has a wrong body of each public function; `needed_lent_as_provided` shows the
+//! clause of both calls that lend a map's modules.
 #![tactic(auto)]
 
 mod clang;

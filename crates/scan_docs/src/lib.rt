@@ -24,6 +24,11 @@
 //! text of an info is read as that info is proved over what `serde_json` says a text is read as:
 //! the tokens of the text, what they are parsed as, and that the text is UTF-8, each in a file of
 //! `proofs/`.
+//!
+//! `must-fail/` has a wrong body of each public function but of the laws, which have none.
+//! `name_bytes_of_another` and `name_copy_of_another` show the clauses of [`TargetName`]'s calls of
+//! these names and of [`Name::text`] too, `first_module_written_for_each` that of both calls that
+//! write an info, and `path_fault_not_printed` how a [`Place`] and a [`Member`] are printed.
 #![tactic(auto)]
 
 mod document;
