@@ -52,16 +52,16 @@ fn copy_info(alloc: Global, info: &Info) -> Result<Info, AllocError>
     Ok(Info { target, modules })
 }
 
-fn copy_module(alloc: Global, module: &InfoModule) -> Result<InfoModule, AllocError>
-    ensures { IfOk result (λ copy. copy ≡ module.now) }
+fn copy_module(alloc: Global, entry: &InfoModule) -> Result<InfoModule, AllocError>
+    ensures { IfOk result (λ copy. copy ≡ entry.now) }
 {
-    let name = module.name.copy(alloc)?;
-    let file = module.file.copy(alloc)?;
-    let required = copy_pairs(alloc, &module.required)?;
+    let name = entry.name.copy(alloc)?;
+    let file = entry.file.copy(alloc)?;
+    let required = copy_pairs(alloc, &entry.required)?;
     Ok(InfoModule {
         name,
         file,
         required,
-        is_private: module.is_private,
+        is_private: entry.is_private,
     })
 }
