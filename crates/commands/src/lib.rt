@@ -24,11 +24,9 @@
 //! It uses the other library crates of this repository, of which `command_line` says what a
 //! task is, and `indexmap` for the table of the infos that a project writes.
 //!
-//! `must-fail/` has a wrong body of each public function but of [`order_run`] and [`show_run`],
-//! which print what a library makes of their file, as [`effect_run`] does
-//! (`listing_before_the_effect`). `usage_with_status_1` shows the clause of each call that makes an
-//! [`Answer`] with a line, and `every_document_reported_as_no_json` that of the line of a refusal,
-//! whatever the command.
+//! `must-fail/` has a wrong body of each public function. `usage_with_status_1` shows the clause of
+//! each call that makes an [`Answer`] with a line, and `every_document_reported_as_no_json` that of
+//! the line of a refusal, whatever the command.
 #![tactic(auto)]
 
 mod answer;

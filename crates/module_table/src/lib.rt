@@ -51,9 +51,9 @@
 //!
 //! `must-fail/` has a wrong body of each public function but of the laws, which have none, and of
 //! those that only pass on what a [`Resolved`] has: [`Table::objects`], [`Table::required`],
-//! [`Table::resolved`], [`Table::needs`] and [`Table::into_resolved`]. `objects_left_out`,
-//! `required_by_the_first_object` and the edits of `needed.rt` and `graph.rt` are of what they pass
-//! on. The plain calls have the clauses of [`Table::build_or_refused`], whose answers they give.
+//! [`Table::resolved`] and [`Table::into_resolved`]. `objects_left_out` and
+//! `required_by_the_first_object` are of what they pass on. The plain calls have the clauses of
+//! [`Table::build_or_refused`], whose answers they give.
 #![tactic(auto)]
 
 mod checks;

@@ -26,9 +26,10 @@
 //! `proofs/`.
 //!
 //! `must-fail/` has a wrong body of each public function but of the laws, which have none.
-//! `name_bytes_of_another` and `name_copy_of_another` show the clauses of [`TargetName`]'s calls of
-//! these names and of [`Name::text`] too, `first_module_written_for_each` that of both calls that
-//! write an info, and `path_fault_not_printed` how a [`Place`] and a [`Member`] are printed.
+//! `name_bytes_of_another` has the clause of [`Name::text`] and [`TargetName::text`] too,
+//! `name_copy_of_another` that of [`TargetName::copy`], `first_module_written_for_each` that of
+//! both calls that write an info. `path_fault_not_printed` stands for the texts of [`Place`] and
+//! [`Member`], whose clauses are of its form.
 #![tactic(auto)]
 
 mod document;
