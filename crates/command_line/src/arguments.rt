@@ -1,9 +1,9 @@
 //! The arguments that the program is called with.
 
-ghost use Rattle.std.specs.Prelude.{◌≡◌, false, map, option_map, string_bytes, IfOk};
-ghost use Rattle.clap.specs.Words.{app_of, first_value, found_of};
+ghost use Rattle.std.specs.Prelude.{◌≡◌, false, map, option_map, string_bytes, IfOk, IsOkAnd};
+ghost use Rattle.clap.specs.Words.{AddsSubcommand, app_of, first_value, found_of, with_rule};
 ghost use Rattle.command_line.specs.Tasks.{AreCallOf, task_value};
-ghost use Rattle.command_line.specs.inner.Parses.{has_globals, one_app, three_app, program, task_by};
+ghost use Rattle.command_line.specs.inner.Parses.{has_globals, needed, one_app, three_app, program, task_by};
 
 use clap::error::ErrorKind;
 use clap::{Arg, ArgMatches, Command};
@@ -87,16 +87,30 @@ pub fn task_of<'a>(alloc: Global, arguments: &'a [String]) -> Result<Option<Task
 fn program<'a>(alloc: Global) -> Result<Command<'a>, AllocError>
     ensures { IfOk result (λ c. app_of c ≡ program) }
 {
-    Command::new(alloc, "dyncollate")
+    let program = Command::new(alloc, "dyncollate")
         .disable_help_flag(true)
         .disable_help_subcommand(true)
-        .subcommand_required(true)
-        .subcommand(with_three(alloc, "one", "scan", "dir", "ext")?)?
-        .subcommand(with_one(alloc, "collate", "target")?)?
-        .subcommand(with_one(alloc, "show", "dyndep")?)?
-        .subcommand(with_three(alloc, "effect", "name", "edges", "dyndep")?)?
-        .subcommand(with_one(alloc, "order", "edges")?)?
-        .subcommand(with_one(alloc, "project", "document")?)
+        .subcommand_required(true);
+    let program = add(program, with_three(alloc, "one", "scan", "dir", "ext"))?;
+    let program = add(program, with_one(alloc, "collate", "target"))?;
+    let program = add(program, with_one(alloc, "show", "dyndep"))?;
+    let program = add(
+        program,
+        with_three(alloc, "effect", "name", "edges", "dyndep"),
+    )?;
+    let program = add(program, with_one(alloc, "order", "edges"))?;
+    add(program, with_one(alloc, "project", "document"))
+}
+
+/// The program with a command more, if memory for that was given. (A function of its own, so that
+/// `program` has nothing to drop where it ends early: half a minute of the prover's.)
+fn add<'a>(
+    program: Command<'a>,
+    command: Result<Command<'a>, AllocError>,
+) -> Result<Command<'a>, AllocError>
+    ensures { IfOk result (λ c. IsOkAnd command.entry (λ sub. AddsSubcommand program.entry sub c)) }
+{
+    program.subcommand(command?)
 }
 
 /// A command that takes one operand.
@@ -104,7 +118,7 @@ fn with_one<'a>(alloc: Global, name: &'a str, operand: &'a str) -> Result<Comman
     ensures app { IfOk result (λ c. app_of c ≡ one_app name.now operand.now) }
     ensures globals { IfOk result (λ c. has_globals c ≡ false) }
 {
-    Command::new(alloc, name).arg(Arg::new(alloc, operand).required(true))
+    with_operand(alloc, Command::new(alloc, name), operand)
 }
 
 /// A command that takes three operands.
@@ -119,9 +133,23 @@ fn with_three<'a>(
         app_of c ≡ three_app name.now first.now second.now third.now) }
     ensures globals { IfOk result (λ c. has_globals c ≡ false) }
 {
-    with_one(alloc, name, first)?
-        .arg(Arg::new(alloc, second).required(true))?
-        .arg(Arg::new(alloc, third).required(true))
+    let command = with_one(alloc, name, first)?;
+    let command = with_operand(alloc, command, second)?;
+    with_operand(alloc, command, third)
+}
+
+/// The command with an operand more, which has to be there.
+fn with_operand<'a>(
+    alloc: Global,
+    command: Command<'a>,
+    operand: &'a str,
+) -> Result<Command<'a>, AllocError>
+    ensures app { IfOk result (λ c.
+        app_of c ≡ with_rule (app_of command.entry) (needed operand.now)) }
+    ensures globals { IfOk result (λ c.
+        has_globals command.entry ≡ false → has_globals c ≡ false) }
+{
+    command.arg(Arg::new(alloc, operand).required(true))
 }
 
 /// The task of a command by its operands, if they were found.
