@@ -9,7 +9,7 @@ use crate::dyndep_file_tests::TWO_STATEMENTS;
 use build_effect::{Edge, Graph, ListingReader, apply, edge_order, listing_write};
 use dep_order::Sorting;
 use dyndep_file::{Dyndep, DyndepReader};
-use ninja_text::Counted;
+use ninja_text::{Counted, Path};
 use std::alloc::Global;
 use std::test::Fail;
 
@@ -28,17 +28,23 @@ pub(crate) fn graph_of(alloc: Global, listing: &[u8]) -> Result<Graph, Fail> {
     value(reader.finish())
 }
 
+fn one_path(alloc: Global, text: &str) -> Result<Vec<Path>, Fail>
+    ensures { IfOk result (λ paths. paths.items ≢ []) }
+{
+    Ok(vec![in alloc; path(alloc, text)?]?)
+}
+
 /// Edges: one, with every part that an edge can have.
 pub(crate) fn whole_edge(alloc: Global) -> Result<Vec<Edge>, Fail>
     ensures { IfOk result (λ edges. All (λ e. e.outputs ≢ []) edges.items) }
 {
     let edge = Edge {
         rule: Vec::from_slice(alloc, b"cxx")?,
-        outputs: vec![in alloc; path(alloc, "a.o")?]?,
-        implicit_outputs: vec![in alloc; path(alloc, "a.d")?]?,
-        inputs: vec![in alloc; path(alloc, "a.cpp")?]?,
-        implicit_inputs: vec![in alloc; path(alloc, "a.h")?]?,
-        order_only: vec![in alloc; path(alloc, "t.dd")?]?,
+        outputs: one_path(alloc, "a.o")?,
+        implicit_outputs: one_path(alloc, "a.d")?,
+        inputs: one_path(alloc, "a.cpp")?,
+        implicit_inputs: one_path(alloc, "a.h")?,
+        order_only: one_path(alloc, "t.dd")?,
         dyndep: Some(path(alloc, "t.dd")?),
         restat: true,
     };
