@@ -1,10 +1,10 @@
 //! Which edges need which, and the order of edges.
-ghost use Rattle.std.specs.Prelude.{◌≡◌, ◌++◌, length, IfOk, OnOk};
+ghost use Rattle.std.specs.Prelude.{◌≡◌, ◌++◌, length, map, IfOk, OnOk};
 ghost use Rattle.std.specs.List.{filter_map};
 ghost use Rattle.dep_order.specs.Rows.{rows};
 ghost use Rattle.dep_order.specs.Sortings.{IsSortingOf};
 ghost use Rattle.build_effect.specs.Graphs.{EdgeNeeds};
-ghost use Rattle.build_effect.specs.inner.Makers.{maker_in, AreNeeds};
+ghost use Rattle.build_effect.specs.inner.Makers.{maker_in, makers_row, AreNeeds};
 
 use crate::edge::Edge;
 use crate::graph::Graph;
@@ -50,15 +50,38 @@ fn needs_of<S: BuildHasher + Copy>(
     ensures { IfOk result (λ needs. AreNeeds edges.now (rows needs.items)) }
 {
     let makers = Makers::of(alloc, edges, hash_builder)?;
+    needs_in(alloc, edges, &makers)
+}
+
+/// The makers of each edge's inputs, which the table has.
+fn needs_in<S: BuildHasher>(
+    alloc: Global,
+    edges: &[Edge],
+    makers: &Makers<'_, S>,
+) -> Result<Vec<Vec<usize>>, AllocError>
+    ensures { IfOk result
+        (λ needs. rows needs.items ≡ map (makers_row (maker_in makers.now.table)) edges.now) }
+{
     let mut needs = Vec::with_capacity(alloc, edges.len())?;
     for edge in edges {
-        let mut row = Vec::new(alloc);
-        add_makers(&edge.inputs, &makers, &mut row)?;
-        add_makers(&edge.implicit_inputs, &makers, &mut row)?;
-        add_makers(&edge.order_only, &makers, &mut row)?;
-        needs.push(row)?;
+        needs.push(edge_needs(alloc, edge, makers)?)?;
     }
     Ok(needs)
+}
+
+/// The makers of the edge's inputs of all kinds.
+fn edge_needs<S: BuildHasher>(
+    alloc: Global,
+    edge: &Edge,
+    makers: &Makers<'_, S>,
+) -> Result<Vec<usize>, AllocError>
+    ensures { IfOk result (λ row. row.items ≡ makers_row (maker_in makers.now.table) edge.now) }
+{
+    let mut row = Vec::new(alloc);
+    add_makers(&edge.inputs, makers, &mut row)?;
+    add_makers(&edge.implicit_inputs, makers, &mut row)?;
+    add_makers(&edge.order_only, makers, &mut row)?;
+    Ok(row)
 }
 
 /// Appends the makers of those files that an edge makes.
