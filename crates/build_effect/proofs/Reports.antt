@@ -4,12 +4,12 @@ use Rattle.std.proofs.lemmas.Option.{slice_get_within, slice_get-get_or}
 use Rattle.dyndep_file.specs.StatementValue.{StatementValue}
 use Rattle.build_effect.specs.EdgeValue.{EdgeValue}
 use Rattle.build_effect.specs.Graphs.{MadeOnce, Names, IsGraph}
-use Rattle.build_effect.specs.Effect.{IsOn, AreCanonical, AllBound}
+use Rattle.build_effect.specs.Effect.{IsOn, AllBound}
 use Rattle.build_effect.specs.Faults.{IsRepeated, NoneRepeated, IsMentioned, AllMentioned, IsEffectFault}
 use Rattle.build_effect.specs.inner.BadPaths.{IsBadStatement}
 use Rattle.build_effect.specs.inner.StatementEdges.{IsBoundTo, AreEdgesOf, IsFirstUnbound, statement_on, AreInverse, IsFirstRepeated, HaveStatements, IsFirstUnmentioned}
 use Rattle.build_effect.specs.inner.Added.{IsFirstMade}
-use Rattle.build_effect.specs.inner.Checked.{AreMatched}
+use Rattle.build_effect.specs.inner.Checked.{AreMatched, IsFaultOf}
 use Rattle.build_effect.specs.declared.fault.EffectFault.{EffectFault}
 use Rattle.build_effect.specs.declared.fault.EffectFault.TheVariants.{BadPath}
 use Rattle.build_effect.proofs.Lists.{element_at}
@@ -23,12 +23,6 @@ reports_bad_path g name ss fault (k, s, first, (j, text, inner, bad)) =
     let same_index : 0 + j ≡ j = omega arith in
     let is : fault ≡ BadPath k j bad.0 = bad.2 ∙ ap (λ n. BadPath k n bad.0) same_index in
     subst (IsEffectFault g name ss) (sym is) (s, text, first, inner, bad.1)
-
--- the fault that is reported of statements which, with canonical paths, are these
-abbrev IsFaultOf : List EdgeValue → List ℕ → List StatementValue → EffectFault → Type 0
-IsFaultOf g name additions fault =
-    (statements : List StatementValue) → AreCanonical statements additions →
-    IsEffectFault g name statements fault
 
 pub reports_unbound : (g : List EdgeValue) (name : List ℕ) (additions : List StatementValue) (fault : EffectFault) → IsFirstUnbound g name additions fault → IsFaultOf g name additions fault
 reports_unbound g name additions fault h ss canonical = subst (IsEffectFault g name ss) (sym h.3) (additions, h.0, h.1, canonical, h.2, refl)

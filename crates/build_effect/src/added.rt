@@ -1,5 +1,6 @@
 //! Whether added outputs are made already.
 ghost use Rattle.std.specs.Prelude.{◌≡◌, ◌<◌, length, IfSome, IfOk, IfErr, OnOk};
+ghost use Rattle.indexmap.specs.IndexSet.{IsEmpty};
 ghost use Rattle.ninja_text.specs.Failure.{ForFault};
 ghost use Rattle.build_effect.specs.Faults.{added_outputs};
 ghost use Rattle.build_effect.specs.inner.Added.{AddsFresh, AddsMade, FindsMadeIn};
@@ -57,6 +58,19 @@ fn first_made<S: BuildHasher + Copy>(
     ensures within { IfOk result (λ found. IfSome found (λ k. k < length files.now)) }
 {
     let mut seen = IndexSet::with_hasher(alloc, makers.hash_builder());
+    first_made_or_seen(makers, files, &mut seen)
+}
+
+/// What [`first_made`] answers, given an empty set for the files that were looked at.
+fn first_made_or_seen<'t, S: BuildHasher>(
+    makers: &Makers<'_, S>,
+    files: &[&'t Path],
+    seen: &mut IndexSet<&'t Path, S>,
+) -> Result<Option<usize>, AllocError>
+    requires { IsEmpty seen.old }
+    ensures made { IfOk result (FindsMadeIn (maker_in makers.now.table) (lists files.now)) }
+    ensures within { IfOk result (λ found. IfSome found (λ k. k < length files.now)) }
+{
     for (file_index, file) in files.iter().enumerate() {
         if makers.maker_of(*file).is_some() {
             return Ok(Some(file_index));

@@ -2,8 +2,9 @@
 ghost use Rattle.std.specs.Prelude.{IfOk, IfErr};
 ghost use Rattle.ninja_text.specs.Failure.{ForFault};
 ghost use Rattle.build_effect.specs.Graphs.{IsGraph};
-ghost use Rattle.build_effect.specs.Faults.{IsEffectFault};
-ghost use Rattle.build_effect.specs.inner.Checked.{AreChecked};
+ghost use Rattle.build_effect.specs.Faults.{IsEffectFault, NoneMadeBefore};
+ghost use Rattle.build_effect.specs.inner.Makers.{maker_in, AreMakers};
+ghost use Rattle.build_effect.specs.inner.Checked.{AreChecked, AreMatched, IsFaultOf};
 
 use crate::added::check_added;
 use crate::addition::{Addition, canonical_statements};
@@ -38,12 +39,31 @@ pub(crate) fn checked_statements<S: BuildHasher + Copy>(
 {
     let additions = canonical_statements(alloc, statements)?;
     let makers = Makers::of(alloc, edges, hash_builder)?;
-    let edge_of = edges_of_statements(alloc, edges, name, &makers, &additions)?;
-    let statement_of = statements_of_edges(alloc, edges.len(), &edge_of, &additions)?;
-    check_mentioned(alloc, edges, name, &statement_of)?;
-    check_added(alloc, &makers, &additions)?;
+    let statement_of = matched_statements(alloc, edges, name, &makers, &additions)?;
     Ok(Checked {
         additions,
         statement_of,
     })
+}
+
+/// E5, E4, E6, E7: the index of the statement on each edge.
+fn matched_statements<S: BuildHasher + Copy>(
+    alloc: Global,
+    edges: &[Edge],
+    name: &Path,
+    makers: &Makers<'_, S>,
+    additions: &[Addition],
+) -> Result<Vec<Option<usize>>, Failure<EffectFault>>
+    requires graph { IsGraph edges.now }
+    requires makers { AreMakers edges.now (maker_in makers.now.table) }
+    ensures matched { IfOk result (λ statement_of.
+        AreMatched edges.now name.now additions.now statement_of.items) }
+    ensures fresh { IfOk result (λ _. NoneMadeBefore edges.now additions.now) }
+    ensures fault { IfErr result (ForFault (IsFaultOf edges.now name.now additions.now)) }
+{
+    let edge_of = edges_of_statements(alloc, edges, name, makers, additions)?;
+    let statement_of = statements_of_edges(alloc, edges.len(), &edge_of, additions)?;
+    check_mentioned(alloc, edges, name, &statement_of)?;
+    check_added(alloc, makers, additions)?;
+    Ok(statement_of)
 }

@@ -1,5 +1,6 @@
 //! Files of edges in one list, lent, and the first that is there twice.
 ghost use Rattle.std.specs.Prelude.{◌≡◌, ◌++◌, IfOk, OnOk};
+ghost use Rattle.indexmap.specs.IndexSet.{IsEmpty};
 ghost use Rattle.build_effect.specs.Faults.{made_files};
 ghost use Rattle.dep_order.specs.Rows.{lists};
 ghost use Rattle.ninja_text.specs.Firsts.{FindsRepetition};
@@ -42,6 +43,17 @@ pub(crate) fn first_repetition<S: BuildHasher + Copy>(
     ensures { IfOk result (FindsRepetition (lists files.now)) }
 {
     let mut seen = IndexSet::with_hasher(alloc, hash_builder);
+    first_seen(files, &mut seen)
+}
+
+/// What [`first_repetition`] answers, given an empty set for the files that were looked at.
+fn first_seen<'t, S: BuildHasher>(
+    files: &[&'t Path],
+    seen: &mut IndexSet<&'t Path, S>,
+) -> Result<Option<(usize, usize)>, AllocError>
+    requires { IsEmpty seen.old }
+    ensures { IfOk result (FindsRepetition (lists files.now)) }
+{
     for (file_index, file) in files.iter().enumerate() {
         let (first, is_new) = seen.insert_full(*file)?;
         if !is_new {

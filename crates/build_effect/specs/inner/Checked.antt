@@ -3,8 +3,9 @@ use Rattle.std.specs.Prelude.{◌≡◌, ℕ, List, length, slice_get, Option, S
 use Rattle.dyndep_file.specs.StatementValue.{StatementValue}
 use Rattle.build_effect.specs.EdgeValue.{EdgeValue}
 use Rattle.build_effect.specs.Effect.{AreCanonical, AllBound}
-use Rattle.build_effect.specs.Faults.{NoneRepeated, AllMentioned, NoneMadeBefore}
+use Rattle.build_effect.specs.Faults.{NoneRepeated, AllMentioned, NoneMadeBefore, IsEffectFault}
 use Rattle.build_effect.specs.inner.StatementEdges.{statement_on, IsBoundTo, HaveStatements}
+use Rattle.build_effect.specs.declared.fault.EffectFault.{EffectFault}
 
 -- each statement is on one edge that names the file, each such edge has one statement, and these
 -- are the statements on the edges
@@ -24,3 +25,9 @@ pub record AreChecked (g : List EdgeValue) (name : List ℕ)
   pub canonical : AreCanonical statements additions
   pub matched : AreMatched g name additions statement_of
   pub fresh : NoneMadeBefore g additions
+
+-- the fault that is reported of statements which, with canonical paths, are these
+abbrev pub IsFaultOf : List EdgeValue → List ℕ → List StatementValue → EffectFault → Type 0
+IsFaultOf g name additions fault =
+    (statements : List StatementValue) → AreCanonical statements additions →
+    IsEffectFault g name statements fault

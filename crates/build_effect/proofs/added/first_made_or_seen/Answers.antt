@@ -8,7 +8,7 @@ use Rattle.build_effect.proofs.Bindings.{none_if, some_if}
 use Rattle.build_effect.proofs.MadeBefore.{none_before, made_here, repeated_here, more_unmade}
 use Rattle.build_effect.proofs.Repetitions.{repeats_if_there, keys_if_new, differ_if_new}
 use Rattle.ninja_text.proofs.ForCallers.{map_take}
-use Rattle.build_effect.proofs.added.first_made.Goals as goal
+use Rattle.build_effect.proofs.added.first_made_or_seen.Goals as goal
 
 abbrev text_of : Bor (List ℕ) → List ℕ
 text_of text = text.now
@@ -55,7 +55,7 @@ returns-clause-made _ c = λ g are k file at before.
 
 pub loop-file_index-init : goal.loop-file_index-init
 loop-file_index-init _ c = record {
-  same = c.with_hasher-seen.ensures.empty;
+  same = c.requires;
   differ = record { differ = λ i j x lt at again. cc };
   unmade = λ k file lt at. absurd (omega (arith, lt));
 }
