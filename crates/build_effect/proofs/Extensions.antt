@@ -1,5 +1,5 @@
 -- The edges with what statements add are the effect.
-use Rattle.std.proofs.Common.{◌≡◌, ◌≢◌, ◌⊎◌, ℕ, ◌+◌, List, [], ◌∷◌, ◌++◌, length, take, Option, Some, None, refl, ap, sym, subst, ◌∙◌, inl, inr, arith, slice_get, length-append}
+use Rattle.std.proofs.Common.{◌≡◌, ◌≢◌, ◌⊎◌, ℕ, ◌+◌, List, [], ◌∷◌, ◌++◌, length, take, Option, Some, None, IfSome, refl, ap, sym, subst, ◌∙◌, inl, inr, arith, slice_get, length-append}
 use Rattle.std.proofs.lemmas.Option.{slice_get_within}
 use Rattle.dyndep_file.specs.StatementValue.{StatementValue}
 use Rattle.build_effect.specs.EdgeValue.{EdgeValue}
@@ -8,17 +8,21 @@ use Rattle.build_effect.specs.Effect.{IsOn, Extends, OnlyEffect, extended}
 use Rattle.build_effect.specs.Checks.{ChecksSuffice}
 use Rattle.build_effect.specs.inner.StatementEdges.{statement_on}
 use Rattle.build_effect.specs.inner.Checked.{AreChecked}
-use Rattle.build_effect.specs.inner.Extended.{AreExtended}
+use Rattle.build_effect.specs.inner.Extended.{IsEdgeAfter, AreExtended}
 use Rattle.build_effect.proofs.Lists.{same_lists, element_at}
 use Rattle.ninja_text.proofs.ForCallers.{same_some, in_append, in_first}
 use Rattle.build_effect.proofs.InputSearch.{has_first, has_second}
 use Rattle.ninja_text.proofs.ForCallers.{from_push, from_take, in_take, take_next}
 
--- the edge as it is, or with what the statement of this index adds
-abbrev pub IsEdgeAfter : EdgeValue → List StatementValue → Option ℕ → EdgeValue → Type 0
-IsEdgeAfter e additions None new = new ≡ e
-IsEdgeAfter e additions (Some k) new =
-    (a : StatementValue) → slice_get additions k ≡ Some a → new ≡ extended e a
+-- an edge without statement is as it was
+pub unchanged : (e after : EdgeValue) (additions : List StatementValue) (statement : Option ℕ) → ((k : ℕ) → statement ≡ Some k → ⊥) → after ≡ e → IsEdgeAfter e additions statement after
+unchanged e after additions None none same = same
+unchanged e after additions (Some k) none same = absurd (none k refl)
+
+-- what holds of the statement on an edge holds where there is one
+pub within_if : (P : ℕ → Type 0) (o : Option ℕ) → ((k : ℕ) → o ≡ Some k → P k) → IfSome o P
+within_if P None holds = tt
+within_if P (Some k) holds = holds k refl
 
 plain_of : (additions : List StatementValue) (statement : Option ℕ) (e x : EdgeValue) → statement ≡ None → IsEdgeAfter e additions statement x → x ≡ e
 plain_of additions None e x is h = h

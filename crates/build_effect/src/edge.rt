@@ -1,6 +1,7 @@
 //! Build edges.
 
 use ninja_text::Path;
+use std::alloc::Global;
 use std::marker::Model;
 
 /// A build statement of a manifest (Ninja 1.11 manual, "Build statements"): what it makes, and what
@@ -40,4 +41,20 @@ impl Model for Edge {
       dyndep = e.dyndep;
       restat = e.restat;
     } };
+}
+
+impl Edge {
+    /// An edge whose parts are all empty, to be filled in. It takes no memory.
+    pub(crate) fn blank(alloc: Global) -> Edge {
+        Edge {
+            rule: Vec::new(alloc),
+            outputs: Vec::new(alloc),
+            implicit_outputs: Vec::new(alloc),
+            inputs: Vec::new(alloc),
+            implicit_inputs: Vec::new(alloc),
+            order_only: Vec::new(alloc),
+            dyndep: None,
+            restat: false,
+        }
+    }
 }

@@ -1,7 +1,7 @@
 //! Edges with what statements add.
-ghost use Rattle.std.specs.Prelude.{◌≡◌, ◌++◌, ◌<◌, ℕ, length, Some, IfOk, OnOk};
+ghost use Rattle.std.specs.Prelude.{◌≡◌, ◌++◌, ◌<◌, ℕ, length, Some, IfSome, IfOk, OnOk};
 ghost use Rattle.build_effect.specs.Effect.{extended};
-ghost use Rattle.build_effect.specs.inner.Extended.{AreExtended};
+ghost use Rattle.build_effect.specs.inner.Extended.{IsEdgeAfter, AreExtended};
 ghost use Rattle.build_effect.specs.inner.StatementEdges.{statement_on};
 
 use crate::addition::Addition;
@@ -23,13 +23,28 @@ pub(crate) fn extended_edges(
 {
     let mut new = Vec::with_capacity(alloc, edges.len())?;
     for (edge_index, edge) in edges.iter().enumerate() {
-        let mut after = copied_edge(alloc, edge)?;
-        if let Some(statement_index) = statement_of[edge_index] {
-            extend(alloc, &additions[statement_index], &mut after)?;
-        }
-        new.push(after)?;
+        let statement = statement_of[edge_index];
+        new.push(edge_after(alloc, edge, additions, statement)?)?;
     }
     Ok(new)
+}
+
+/// The edge with what the statement of this index adds, if there is one.
+fn edge_after(
+    alloc: Global,
+    edge: &Edge,
+    additions: &[Addition],
+    statement: Option<usize>,
+) -> Result<Edge, AllocError>
+    requires { IfSome statement (λ k. k < length additions.now) }
+    ensures { IfOk result (IsEdgeAfter edge.now additions.now statement) }
+{
+    let mut after = Edge::blank(alloc);
+    copy_edge(alloc, edge, &mut after)?;
+    if let Some(statement_index) = statement {
+        extend(alloc, &additions[statement_index], &mut after)?;
+    }
+    Ok(after)
 }
 
 /// Adds to an edge what the statement on it adds.
@@ -46,29 +61,22 @@ fn extend(alloc: Global, addition: &Addition, edge: &mut Edge) -> Result<(), All
     Ok(())
 }
 
-fn copied_edge(alloc: Global, edge: &Edge) -> Result<Edge, AllocError>
-    ensures { IfOk result (λ copy. copy ≡ edge.now) }
+/// Makes `copy` the same as the edge.
+fn copy_edge(alloc: Global, edge: &Edge, copy: &mut Edge) -> Result<(), AllocError>
+    ensures { OnOk result (copy.new ≡ edge.now) }
 {
-    let rule = Vec::from_slice(alloc, &edge.rule)?;
-    let outputs = copied(alloc, &edge.outputs)?;
-    let implicit_outputs = copied(alloc, &edge.implicit_outputs)?;
-    let inputs = copied(alloc, &edge.inputs)?;
-    let implicit_inputs = copied(alloc, &edge.implicit_inputs)?;
-    let order_only = copied(alloc, &edge.order_only)?;
-    let dyndep = match &edge.dyndep {
+    copy.rule = Vec::from_slice(alloc, &edge.rule)?;
+    copy.outputs = copied(alloc, &edge.outputs)?;
+    copy.implicit_outputs = copied(alloc, &edge.implicit_outputs)?;
+    copy.inputs = copied(alloc, &edge.inputs)?;
+    copy.implicit_inputs = copied(alloc, &edge.implicit_inputs)?;
+    copy.order_only = copied(alloc, &edge.order_only)?;
+    copy.dyndep = match &edge.dyndep {
         Some(path) => Some(path.copy(alloc)?),
         None => None,
     };
-    Ok(Edge {
-        rule,
-        outputs,
-        implicit_outputs,
-        inputs,
-        implicit_inputs,
-        order_only,
-        dyndep,
-        restat: edge.restat,
-    })
+    copy.restat = edge.restat;
+    Ok(())
 }
 
 fn copied(alloc: Global, paths: &[Path]) -> Result<Vec<Path>, AllocError>

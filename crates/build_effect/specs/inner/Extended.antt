@@ -5,6 +5,12 @@ use Rattle.build_effect.specs.EdgeValue.{EdgeValue}
 use Rattle.build_effect.specs.Effect.{extended}
 use Rattle.build_effect.specs.inner.StatementEdges.{statement_on}
 
+-- the edge as it is, or with what the statement of this index adds
+abbrev pub IsEdgeAfter : EdgeValue → List StatementValue → Option ℕ → EdgeValue → Type 0
+IsEdgeAfter e additions None new = new ≡ e
+IsEdgeAfter e additions (Some k) new =
+    (a : StatementValue) → slice_get additions k ≡ Some a → new ≡ extended e a
+
 -- each edge with what the statement on it adds, and the others as they are
 pub record AreExtended (old : List EdgeValue) (additions : List StatementValue)
     (statement_of : List (Option ℕ)) (new : List EdgeValue) : Type 0 where
