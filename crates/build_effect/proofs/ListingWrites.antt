@@ -1,6 +1,7 @@
 -- What a call that writes a listing answers, by the text that was made or not.
 use Rattle.std.proofs.Common.{◌≡◌, ℕ, ◌+◌, ◌<◌, suc, List, [], ◌∷◌, ◌++◌, length, drop, get_or, add-one, drop-cons, append_assoc, refl, sym, ap, ◌∙◌, Option, Some, None, Ok, Err}
-use Rattle.std.specs.Prelude.{Result, Vec}
+use Rattle.std.specs.Prelude.{Result, Vec, OnOk, if◌then◌else◌}
+use Rattle.std.specs.Result.{is_ok}
 use Rattle.std.specs.List.{flat_map}
 use Rattle.std.specs.declared.alloc.Global.{Global}
 use Rattle.std.proofs.lemmas.List.{at_drop_more}
@@ -16,6 +17,15 @@ use Rattle.build_effect.specs.EdgeValue.{EdgeValue}
 use Rattle.build_effect.specs.ListingWriting.{edge_line, dyndep_line, restat_line, listing_text, first_too_long, LeavesListingWriter, WritesListingInTurn, AnswersTooLong, listing_text_unless, listing_text_or_fault}
 use Rattle.build_effect.specs.declared.fault.ListingWriteFault.{ListingWriteFault}
 use Rattle.build_effect.specs.declared.fault.ListingWriteFault.TheVariants.{ListingTooLong, Io}
+
+-- one more part of a line stands behind those that stand behind what was there
+pub grows : {X : Type 0} (f : List X → List ℕ) (start parts now new : List ℕ) (xs ys : List X) → now ≡ start ++ parts → new ≡ now ++ f xs → xs ≡ ys → new ≡ start ++ (parts ++ f ys)
+grows f start parts now new xs ys before more same = more ∙ ap (λ ps. now ++ f ps) same ∙ ap (λ t. t ++ f ys) before ∙ append_assoc start parts (f ys)
+
+-- what an append that succeeds leaves
+pub appended : {T E : Type 0} (r : Result T E) (now new more : List ℕ) → new ≡ if is_ok r then now ++ more else now → OnOk r (new ≡ now ++ more)
+appended (Ok done) now new more h = h
+appended (Err refused) now new more h = tt
 
 -- the fault is that of an edge
 reported : (o : Option ℕ) (es : List EdgeValue) (f : ListingWriteFault) → listing_text_unless o es ≡ Err f → (k : ℕ) × (o ≡ Some k) × (f ≡ ListingTooLong k)

@@ -42,3 +42,13 @@ returns-in-Err-clause-failed g c = λ failure failed.
     let is = c.in-Err.ensures.failed failure (ap (λ v. v.failed) c.self.view_is ∙ failed) in
     let first : c.in-Err.failure ≡ failure = cc in
     ap (λ f. Err f) (same ∙ ap line_failure first)
+
+pub returns-in-Ok-new_with_hasher-clause-failed : goal.returns-in-Ok-new_with_hasher-clause-failed
+returns-in-Ok-new_with_hasher-clause-failed g c = λ failure failed.
+    let is = c.in-Ok.ensures.failed failure (ap (λ v. v.failed) c.self.view_is ∙ failed) in
+    cc
+
+pub returns-in-Err-new_with_hasher-clause-failed : goal.returns-in-Err-new_with_hasher-clause-failed
+returns-in-Err-new_with_hasher-clause-failed g c = λ failure failed.
+    let is = c.in-Ok.ensures.failed failure (ap (λ v. v.failed) c.self.view_is ∙ failed) in
+    cc
