@@ -62,7 +62,7 @@ pub made : (es : List EdgeValue) (text : Vec ℕ Global) → Gives {T = Vec ℕ 
 made es text h = given (first_too_long es) es text.items h
 
 -- the edge at hand is the next one
-drop_item : (edges : List EdgeValue) (i : ℕ) (e : EdgeValue) → i < length edges → e ≡ get_or edges i e → drop i edges ≡ e ∷ drop (i + 1) edges
+pub drop_item : (edges : List EdgeValue) (i : ℕ) (e : EdgeValue) → i < length edges → e ≡ get_or edges i e → drop i edges ≡ e ∷ drop (i + 1) edges
 drop_item edges i e within is = rw add-one (drop-cons edges i e within ∙ ap (λ z. z ∷ drop (suc i) edges) (sym is))
 
 -- the text so far, with one more edge's

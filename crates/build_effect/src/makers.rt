@@ -1,5 +1,5 @@
 //! Which edge makes which file.
-ghost use Rattle.std.specs.Prelude.{◌≡◌, IfOk, OnOk};
+ghost use Rattle.std.specs.Prelude.{◌≡◌, [], IfOk, OnOk};
 ghost use Rattle.build_effect.specs.inner.Makers.{maker_in, AreMakers, AreAdded};
 
 use crate::edge::Edge;
@@ -20,10 +20,7 @@ impl<'t, S: BuildHasher + Copy> Makers<'t, S> {
         ensures { IfOk result (λ makers. AreMakers edges.now (maker_in makers.table)) }
     {
         let mut table = IndexMap::with_hasher(alloc, hash_builder);
-        for (edge_index, edge) in edges.iter().enumerate() {
-            add_files(&edge.outputs, edge_index, &mut table)?;
-            add_files(&edge.implicit_outputs, edge_index, &mut table)?;
-        }
+        add_edges(edges, &mut table)?;
         Ok(Makers { table })
     }
 
@@ -40,6 +37,21 @@ impl<S: BuildHasher> Makers<'_, S> {
     {
         self.table.get(&file).copied()
     }
+}
+
+/// Puts each edge into the empty table for the files that it makes.
+fn add_edges<'t, S: BuildHasher>(
+    edges: &'t [Edge],
+    makers: &mut IndexMap<&'t Path, usize, S>,
+) -> Result<(), AllocError>
+    requires { AreMakers [] (maker_in makers.old) }
+    ensures { OnOk result (AreMakers edges.now (maker_in makers.new)) }
+{
+    for (edge_index, edge) in edges.iter().enumerate() {
+        add_files(&edge.outputs, edge_index, makers)?;
+        add_files(&edge.implicit_outputs, edge_index, makers)?;
+    }
+    Ok(())
 }
 
 /// Puts the edge into the table for these files.
