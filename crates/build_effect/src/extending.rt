@@ -57,7 +57,7 @@ fn extend(alloc: Global, addition: &Addition, edge: &mut Edge) -> Result<(), All
         &mut edge.implicit_outputs,
     )?;
     add_copies(alloc, &addition.implicit_inputs, &mut edge.implicit_inputs)?;
-    edge.restat = edge.restat || addition.restat;
+    edge.restat |= addition.restat;
     Ok(())
 }
 
