@@ -3,6 +3,7 @@ use Rattle.std.proofs.Common.{inl, inr, ◌≡◌, ℕ, ◌≤◌, List, [], ◌
 use Rattle.std.specs.Prelude.{Result}
 use Rattle.std.specs.Option.{option_and_then}
 use Rattle.ninja_text.specs.Lines.{line_limit, IsLine, LogicalLine, logical_line, text_of_line, is_comment}
+use Rattle.ninja_text.specs.Failure.{ForFault, Turns}
 use Rattle.ninja_text.specs.LineReading.{BeginsWith, IsNextFault, HasLentAll, FeedsLines, EndsLines}
 use Rattle.ninja_text.specs.FormatReading.{AreReadTo}
 use Rattle.ninja_text.specs.declared.failure.Failure.{Failure}
@@ -16,6 +17,7 @@ use Rattle.build_effect.specs.inner.ListingWalk.{text_cause, run}
 use Rattle.build_effect.specs.ListingSteps.{ListingValue}
 use Rattle.build_effect.specs.ListingReading.{listing_format, listing_faults, Lists, HasFaultyLine, HasFaultyEnd}
 use Rattle.build_effect.specs.ListingReaders.{LeadToEdges, ListingReaderState, HasReadListing, FeedsListing, EndsListing, line_failure, IsListingFaultIn}
+use Rattle.build_effect.specs.inner.ListingEnds.{GivesGraph}
 use Rattle.build_effect.specs.inner.ReadLines.{fault_of_cutter, PassesLine, RefusesLine}
 use Rattle.build_effect.specs.declared.fault.LineCause.{LineCause}
 use Rattle.build_effect.specs.declared.fault.LineCause.TheVariants as causes
@@ -23,7 +25,6 @@ use Rattle.build_effect.specs.declared.fault.LineFault.{LineFault}
 use Rattle.build_effect.specs.declared.fault.ListingFault.{ListingFault}
 use Rattle.build_effect.specs.declared.fault.ListingFault.TheVariants.{AtLine, NoGraph}
 use Rattle.build_effect.specs.Faults.{IsGraphFault}
-use Rattle.ninja_text.specs.Failure.{ForFault}
 use Rattle.build_effect.specs.declared.fault.GraphFault.{GraphFault}
 use Rattle.build_effect.specs.declared.listing.state.Binding.TheVariants.{Closed}
 use Rattle.build_effect.proofs.ListingFinds.{class_holds, cause_holds, cause_stops}
@@ -95,13 +96,6 @@ ended bytes r (Fault f) has ends =
     (faulty_rest listing_format listing_faults bytes has.lent e.0 e.1 has.read.classes e.2 has.read.texts (runs_begin has.read.classes r.state (ran has.read.classes r.state has.read.led)) causes.Truncated e.3.2 (e.3.0, e.3.1))
 ended bytes r Memory has ends = absurd (ends has.lent has.has)
 
--- what becomes of edges: they are a graph, or not for this reason, or memory was refused
-abbrev pub GivesGraph : List EdgeValue → Result (List EdgeValue) (Failure ListingFault) → Type 0
-GivesGraph edges (Ok graph) = graph ≡ edges
-GivesGraph edges (Err (Fault (NoGraph fault))) = IsGraphFault edges fault
-GivesGraph edges (Err (Fault (AtLine fault))) = ⊥
-GivesGraph edges (Err Memory) = Unit {0}
-
 -- why edges are no graph, as a failure of the listing
 abbrev pub graph_failure : Failure GraphFault → Failure ListingFault
 graph_failure Memory = Memory
@@ -118,3 +112,9 @@ graph_ends bytes edges (Err Memory) lists gives = tt
 pub no_graph : (edges : List EdgeValue) (failure : Failure GraphFault) → ForFault (IsGraphFault edges) failure → GivesGraph edges (Err (graph_failure failure))
 no_graph edges (Fault fault) is = is
 no_graph edges Memory is = tt
+
+-- the failure of a call as a fault of the listing
+pub turned_to : {F : Type 0} (turn : F → ListingFault) (all : Failure F → Failure ListingFault) → all Memory ≡ Memory → ((fault : F) → all (Fault fault) ≡ Fault (turn fault))
+    → (failure : Failure F) (result : Failure ListingFault) → Turns (λ fault turned. turned ≡ turn fault) failure result → result ≡ all failure
+turned_to turn all memory faults Memory result is = is ∙ sym memory
+turned_to turn all memory faults (Fault fault) result is = is.2 ∙ ap (λ f. Fault f) is.1 ∙ sym (faults fault)

@@ -3,6 +3,7 @@
 ghost use Rattle.std.specs.Prelude.{◌≡◌, ◌++◌, [], Some, Err};
 ghost use Rattle.ninja_text.specs.LineViews.{seen_line};
 ghost use Rattle.build_effect.specs.inner.ListingRows.{ReadsText};
+ghost use Rattle.build_effect.specs.inner.ListingEnds.{GivesGraph};
 ghost use Rattle.build_effect.specs.ListingReaders.{line_failure};
 
 use crate::fault::{LineCause, LineFault, ListingFault};
@@ -95,15 +96,25 @@ impl ListingReader {
         ensures all { (bytes : Bytes) → HasReadListing bytes self → EndsListing bytes result }
     {
         let ListingReader { alloc, lines } = self;
-        let state = match lines.finish() {
-            Ok(end) => end.0,
-            Err(failure) => return Err(failure.map(ListingFault::AtLine)),
-        };
-        let ListingState { edges, binding: _ } = state;
-        match Graph::new_with_hasher(alloc, edges, hash_builder) {
-            Ok(graph) => Ok(graph),
-            Err(failure) => Err(failure.map(ListingFault::NoGraph)),
+        match lines.finish() {
+            Ok(end) => graph_of(alloc, end.0, hash_builder),
+            Err(failure) => Err(failure.map(ListingFault::AtLine)),
         }
+    }
+}
+
+/// The graph of the edges listed, or why they are none.
+fn graph_of<S: BuildHasher + Copy>(
+    alloc: Global,
+    state: ListingState,
+    hash_builder: S,
+) -> Result<Graph, Failure<ListingFault>>
+    ensures { GivesGraph state.edges result }
+{
+    let ListingState { edges, binding: _ } = state;
+    match Graph::new_with_hasher(alloc, edges, hash_builder) {
+        Ok(graph) => Ok(graph),
+        Err(failure) => Err(failure.map(ListingFault::NoGraph)),
     }
 }
 
