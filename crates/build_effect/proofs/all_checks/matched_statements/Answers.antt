@@ -1,4 +1,4 @@
-use Rattle.std.proofs.Common.{◌<◌, ℕ, List, All, length, Option, sym, subst}
+use Rattle.std.proofs.Common.{◌<◌, ◌∙◌, ℕ, List, All, length, Option, ap, sym, subst}
 use Rattle.std.proofs.lemmas.Result.{err_from_is_err_and}
 use Rattle.dyndep_file.specs.StatementValue.{StatementValue}
 use Rattle.build_effect.specs.EdgeValue.{EdgeValue}
@@ -24,6 +24,9 @@ statements_of_edges-requires-clause-edges _ c =
     subst (All (λ edge. edge < length g)) (sym c.deref.ensures.value)
     (edges_within g c.args.name.now c.args.additions.now c.in_ok-edge_of.edge_of.items c.requires.graph.made_once c.in_ok-edge_of.ensures.edges)
 
+pub statements_of_edges-requires-clause-each : goal.statements_of_edges-requires-clause-each
+statements_of_edges-requires-clause-each _ c = ap length c.deref.ensures.value ∙ c.in_ok-edge_of.ensures.edges.count
+
 pub returns-in_err-statement_of-clause-fault : goal.returns-in_err-statement_of-clause-fault
 returns-in_err-statement_of-clause-fault _ c =
     let g : List EdgeValue = c.args.edges.now in
@@ -37,6 +40,9 @@ returns-in_err-statement_of-clause-fault _ c =
 
 pub check_mentioned-requires-clause-outputs : goal.check_mentioned-requires-clause-outputs
 check_mentioned-requires-clause-outputs _ c = have_outputs c.args.edges.now c.requires.graph
+
+pub check_mentioned-requires-clause-each : goal.check_mentioned-requires-clause-each
+check_mentioned-requires-clause-each _ c = ap length c.deref-2.ensures.value ∙ c.in_ok-statement_of.ensures.statements.as_many
 
 pub returns-in_err-check_mentioned-clause-fault : goal.returns-in_err-check_mentioned-clause-fault
 returns-in_err-check_mentioned-clause-fault _ c =

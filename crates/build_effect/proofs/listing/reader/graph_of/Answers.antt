@@ -4,6 +4,9 @@ use Rattle.build_effect.specs.inner.ListingEnds.{GivesGraph}
 use Rattle.build_effect.proofs.ListingLemmas.{graph_failure, no_graph, turned_to}
 use Rattle.build_effect.proofs.listing.reader.graph_of.Goals as goal
 
+pub new_with_hasher-requires : goal.new_with_hasher-requires
+new_with_hasher-requires g c = c.state.invariant
+
 pub returns-in-Ok : goal.returns-in-Ok
 returns-in-Ok g c = c.in-Ok.ensures.graph ∙ ap (λ v. v.edges) c.state.view_is
 
