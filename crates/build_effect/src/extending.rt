@@ -61,7 +61,8 @@ fn extend(alloc: Global, addition: &Addition, edge: &mut Edge) -> Result<(), All
     Ok(())
 }
 
-/// Makes `copy` the same as the edge.
+/// Makes `copy` the same as the edge. (Filled in, and not put together at the end: each early end
+/// would drop all parts so far, which takes the prover a third more.)
 fn copy_edge(alloc: Global, edge: &Edge, copy: &mut Edge) -> Result<(), AllocError>
     ensures { OnOk result (copy.new ≡ edge.now) }
 {
