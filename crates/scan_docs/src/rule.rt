@@ -3,13 +3,14 @@
 ghost use Rattle.std.specs.Prelude.{◌≡◌, ◌++◌, map, Some, Ok, IfOk, OnOk, IsUtf8, option_copied, ◌||◌};
 ghost use Rattle.std.specs.List.{AllZip};
 ghost use Rattle.ninja_text.specs.Paths.{placed};
+ghost use Rattle.serde_json.specs.Data.{Data};
 ghost use Rattle.serde_json.specs.View.{view};
 ghost use Rattle.scan_docs.specs.Check.{◌otherwise◌};
 ghost use Rattle.scan_docs.specs.inner.Reading.{Answers, Tests, AnswersPath};
 ghost use Rattle.scan_docs.specs.Shape.{text, entries_of, given};
 ghost use Rattle.scan_docs.specs.Name.{is_name, IsName};
-ghost use Rattle.scan_docs.specs.Scan.{file_from, names_header, made_file, dashed, IsProvidedModule, IsRequired, IsRule};
-ghost use Rattle.scan_docs.specs.ScanChecks.{rule_shape_checks, provided_checks, all_provided_checks, required_checks, all_required_checks, rule_checks, lookup_check};
+ghost use Rattle.scan_docs.specs.Scan.{IsText, object_of, file_from, names_header, made_file, dashed, IsProvidedModule, IsRequired, IsRule};
+ghost use Rattle.scan_docs.specs.ScanChecks.{rule_shape_checks, object_checks, count_checks, provided_checks, all_provided_checks, required_checks, all_required_checks, rule_checks, lookup_check};
 ghost use Rattle.scan_docs.specs.declared.member.Member.TheVariants as m;
 
 use crate::fault::{DocFault, Place, bad_path, bad_shape};
@@ -53,7 +54,7 @@ struct RuleMembers<'v> {
     required: &'v [Value],
 }
 
-#[tactic(auto, unfolding(crate::specs::ScanChecks::rule_checks, crate::specs::ScanChecks::object_checks), using(crate::proofs::Each::failure_of_both))]
+#[tactic(auto, unfolding(crate::specs::ScanChecks::rule_checks), using(crate::proofs::Each::failure_of_both))]
 pub(crate) fn read_rule(
     alloc: Global,
     setting: &Setting,
@@ -65,21 +66,60 @@ pub(crate) fn read_rule(
 {
     let place = Place::Rule { rule };
     let members = read_members(place, value)?;
-    let work = members.work_directory;
-    let Some(output) = members.primary_output else {
-        return Err(Failure::Fault(DocFault::NoPrimaryOutput { place }));
-    };
-    let object = read_path(alloc, setting, work, output.as_bytes(), place)?;
-    if members.provided.len() > COUNT_LIMIT || members.required.len() > COUNT_LIMIT {
-        return Err(Failure::Fault(DocFault::TooLarge { place }));
-    }
-    let provided = read_all_provided(alloc, setting, work, rule, members.provided)?;
-    let required = read_all_required(alloc, rule, members.required)?;
+    let object = read_object(alloc, setting, place, members)?;
+    let (provided, required) = read_modules(alloc, setting, rule, members)?;
     Ok(Rule {
         object,
         provided,
         required,
     })
+}
+
+/// Where the rule's object file lies.
+#[tactic(auto, unfolding(crate::specs::ScanChecks::object_checks))]
+fn read_object(
+    alloc: Global,
+    setting: &Setting,
+    place: Place,
+    members: RuleMembers<'_>,
+) -> Result<Path, Failure<DocFault>>
+    ensures { (d : Data) → option_copied members.entry.primary_output ≡ text m.PrimaryOutput d
+        → option_copied members.entry.work_directory ≡ text m.WorkDirectory d
+        → Answers (object_checks setting.now place d)
+        (λ path. (object_of setting.now d ≡ Ok path) × IsText path) result }
+{
+    let Some(output) = members.primary_output else {
+        return Err(Failure::Fault(DocFault::NoPrimaryOutput { place }));
+    };
+    read_path(alloc, setting, members.work_directory, output.as_bytes(), place)
+}
+
+/// The modules that the rule's source provides and requires, of which there may be too many.
+fn read_modules(
+    alloc: Global,
+    setting: &Setting,
+    rule: usize,
+    members: RuleMembers<'_>,
+) -> Result<(Vec<(Name, Path)>, Vec<Name>), Failure<DocFault>>
+    ensures { Answers (count_checks (Place.Rule rule) (map view members.entry.provided.now)
+        (map view members.entry.required.now)
+        ++ (all_provided_checks setting.now (option_copied members.entry.work_directory) rule
+        (map view members.entry.provided.now)
+        ++ all_required_checks rule (map view members.entry.required.now)))
+        (λ found. AllZip
+        (IsProvidedModule setting.now (option_copied members.entry.work_directory))
+        (map view members.entry.provided.now) found.0.items
+        × AllZip IsRequired (map view members.entry.required.now) found.1.items) result }
+{
+    if members.provided.len() > COUNT_LIMIT || members.required.len() > COUNT_LIMIT {
+        return Err(Failure::Fault(DocFault::TooLarge {
+            place: Place::Rule { rule },
+        }));
+    }
+    let work = members.work_directory;
+    let provided = read_all_provided(alloc, setting, work, rule, members.provided)?;
+    let required = read_all_required(alloc, rule, members.required)?;
+    Ok((provided, required))
 }
 
 #[tactic(auto, unfolding(crate::specs::ScanChecks::rule_shape_checks))]
