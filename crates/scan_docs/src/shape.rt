@@ -83,6 +83,20 @@ pub(crate) fn required_text<'v>(
     }
 }
 
+/// A copy of the member's text, which has to be there.
+pub(crate) fn owned_text(
+    alloc: Global,
+    object: &Value,
+    member: Member,
+    place: Place,
+) -> Result<String, Failure<DocFault>>
+    ensures { Tests (shape_check place member (is_some (text member (view object.now))))
+        (λ t. text member (view object.now) ≡ Some (string_bytes t)) result }
+{
+    let text = required_text(object, member, place)?;
+    Ok(String::from_str(alloc, text)?)
+}
+
 /// The member's truth value, or nothing where it is absent or null.
 pub(crate) fn flag(
     object: &Value,

@@ -9,7 +9,7 @@ ghost use Rattle.serde_json.specs.View.{view};
 ghost use Rattle.scan_docs.specs.Check.{◌otherwise◌, shape_check};
 ghost use Rattle.scan_docs.specs.inner.Reading.{Answers, Tests};
 ghost use Rattle.scan_docs.specs.Document.{IsAccepted, IsRefused, HasOneAnswer};
-ghost use Rattle.scan_docs.specs.Shape.{text, texts_of, given};
+ghost use Rattle.scan_docs.specs.Shape.{text, texts_of, given, fits};
 ghost use Rattle.scan_docs.specs.Name.{is_name};
 ghost use Rattle.scan_docs.specs.Target.{IsTarget, build_dir, map_form};
 ghost use Rattle.scan_docs.specs.TargetChecks.{head_checks, name_checks, directory_checks, list_checks, kept_checks, dyndep_checks, file_checks, target_checks, info_check, map_check};
@@ -22,6 +22,7 @@ use crate::map_form::MapForm;
 use crate::member::Member;
 use crate::name::Name;
 use crate::rule::read_name;
+use crate::setting::Setting;
 use crate::shape;
 use crate::target_name::TargetName;
 use ninja_text::{Failure, Path, place};
@@ -98,14 +99,14 @@ fn read_spec(alloc: Global, tree: &Value) -> Result<TargetSpec, Failure<DocFault
 {
     read_head(tree)?;
     let target = read_target_name(alloc, tree)?;
-    let (module_dir, module_ext, build_dir) = read_directories(alloc, tree)?;
+    let setting = read_setting(alloc, tree)?;
     let read = read_inputs(alloc, tree)?;
-    let written = read_outputs(alloc, tree, build_dir.as_ref())?;
+    let written = read_outputs(alloc, tree, setting.build_dir.as_ref())?;
     Ok(TargetSpec {
         target,
-        module_dir,
-        module_ext,
-        build_dir,
+        module_dir: setting.module_dir,
+        module_ext: setting.module_ext,
+        build_dir: setting.build_dir,
         scans: read.scans,
         linked: read.linked,
         kept: read.kept,
@@ -140,22 +141,20 @@ pub(crate) fn read_target_name(alloc: Global, tree: &Value) -> Result<TargetName
 }
 
 #[tactic(auto, unfolding(crate::specs::TargetChecks::directory_checks))]
-fn read_directories(
-    alloc: Global,
-    tree: &Value,
-) -> Result<(String, String, Option<Path>), Failure<DocFault>>
-    ensures read { Answers (directory_checks (view tree.now))
-        (λ found. (text m.ModuleDir (view tree.now) ≡ Some (string_bytes found.0))
-        × (text m.ModuleExt (view tree.now) ≡ Some (string_bytes found.1))
-        × (build_dir (view tree.now) ≡ found.2)) result }
-    ensures absolute { IfOk result (λ found. ForSome found.2 (λ path. is_rooted path ≡ true)) }
+fn read_setting(alloc: Global, tree: &Value) -> Result<Setting, Failure<DocFault>>
+    ensures { Answers (directory_checks (view tree.now))
+        (λ setting. (text m.ModuleDir (view tree.now) ≡ Some setting.module_dir)
+        × (text m.ModuleExt (view tree.now) ≡ Some setting.module_ext)
+        × (build_dir (view tree.now) ≡ setting.build_dir)) result }
 {
-    let module_dir = shape::required_text(tree, Member::ModuleDir, Place::Document)?;
-    let module_ext = shape::required_text(tree, Member::ModuleExt, Place::Document)?;
+    let module_dir = shape::owned_text(alloc, tree, Member::ModuleDir, Place::Document)?;
+    let module_ext = shape::owned_text(alloc, tree, Member::ModuleExt, Place::Document)?;
     let build_dir = read_build_dir(alloc, tree)?;
-    let module_dir = String::from_str(alloc, module_dir)?;
-    let module_ext = String::from_str(alloc, module_ext)?;
-    Ok((module_dir, module_ext, build_dir))
+    Ok(Setting {
+        module_dir,
+        module_ext,
+        build_dir,
+    })
 }
 
 fn read_build_dir(alloc: Global, tree: &Value) -> Result<Option<Path>, Failure<DocFault>>
@@ -236,7 +235,7 @@ struct Outputs {
     edges: Option<String>,
 }
 
-#[tactic(auto, unfolding(crate::specs::TargetChecks::dyndep_checks, crate::specs::TargetChecks::file_checks))]
+#[tactic(auto, unfolding(crate::specs::TargetChecks::file_checks))]
 fn read_outputs(
     alloc: Global,
     tree: &Value,
@@ -250,20 +249,10 @@ fn read_outputs(
         × (map_form (view tree.now) ≡ found.map)
         × (text m.Edges (view tree.now) ≡ option_map string_bytes found.edges)) result }
 {
-    let dyndep = shape::required_text(tree, Member::Dyndep, Place::Document)?;
-    match place(alloc, None, build, dyndep.as_bytes()) {
-        Ok(_) => {}
-        Err(failure) => return Err(bad_path(Place::Document, failure)),
-    }
-    let info = read_info_file(tree)?;
+    let dyndep = read_dyndep(alloc, tree, build)?;
+    let info = read_info_file(alloc, tree)?;
     let map = read_map_form(tree)?;
-    let edges = shape::text(tree, Member::Edges, Place::Document)?;
-    let dyndep = String::from_str(alloc, dyndep)?;
-    let info = String::from_str(alloc, info)?;
-    let edges = match edges {
-        Some(edges) => Some(String::from_str(alloc, edges)?),
-        None => None,
-    };
+    let edges = read_edges(alloc, tree)?;
     Ok(Outputs {
         dyndep,
         info,
@@ -272,13 +261,43 @@ fn read_outputs(
     })
 }
 
-fn read_info_file(tree: &Value) -> Result<&str, Failure<DocFault>>
+/// The dyndep file, which has to be a path as Ninja sees it.
+#[tactic(auto, unfolding(crate::specs::TargetChecks::dyndep_checks))]
+fn read_dyndep(
+    alloc: Global,
+    tree: &Value,
+    build: Option<&Path>,
+) -> Result<String, Failure<DocFault>>
+    requires { ForSome (option_copied build) (λ path. is_rooted path ≡ true) }
+    ensures { build_dir (view tree.now) ≡ option_copied build.entry
+        → Answers (dyndep_checks (view tree.now))
+        (λ t. text m.Dyndep (view tree.now) ≡ Some (string_bytes t)) result }
+{
+    let dyndep = shape::required_text(tree, Member::Dyndep, Place::Document)?;
+    match place(alloc, None, build, dyndep.as_bytes()) {
+        Ok(_) => {}
+        Err(failure) => return Err(bad_path(Place::Document, failure)),
+    }
+    Ok(String::from_str(alloc, dyndep)?)
+}
+
+fn read_info_file(alloc: Global, tree: &Value) -> Result<String, Failure<DocFault>>
     ensures { Tests (info_check (view tree.now))
-        (λ t. text m.Info (view tree.now) ≡ Some t.now) result }
+        (λ t. text m.Info (view tree.now) ≡ Some (string_bytes t)) result }
 {
     match shape::given(tree, Member::Info).and_then(Value::as_str) {
-        Some(text) if !text.is_empty() => Ok(text),
+        Some(text) if !text.is_empty() => Ok(String::from_str(alloc, text)?),
         _ => Err(bad_shape(Place::Document, Member::Info)),
+    }
+}
+
+fn read_edges(alloc: Global, tree: &Value) -> Result<Option<String>, Failure<DocFault>>
+    ensures { Tests (shape_check Place.Document m.Edges (fits text m.Edges (view tree.now)))
+        (λ t. text m.Edges (view tree.now) ≡ option_map string_bytes t) result }
+{
+    match shape::text(tree, Member::Edges, Place::Document)? {
+        Some(edges) => Ok(Some(String::from_str(alloc, edges)?)),
+        None => Ok(None),
     }
 }
 

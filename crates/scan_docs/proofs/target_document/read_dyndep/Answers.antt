@@ -1,0 +1,46 @@
+use Rattle.std.proofs.Common.{◌≡◌, ◌≢◌, List, ℕ, Option, Some, None, Result, Err, option_copied, refl, sym, ap, ◌∙◌}
+use Rattle.std.proofs.lemmas.Result.{err_from_is_err_and}
+use Rattle.ninja_text.specs.Failure.{Gives, Turns}
+use Rattle.ninja_text.specs.Paths.{placed}
+use Rattle.ninja_text.specs.declared.failure.Failure.{Failure}
+use Rattle.ninja_text.specs.declared.failure.Failure.TheVariants.{Memory, Fault}
+use Rattle.ninja_text.specs.declared.fault.PathFault.{PathFault}
+use Rattle.serde_json.specs.Data.{Data}
+use Rattle.serde_json.specs.View.{view}
+use Rattle.scan_docs.specs.declared.fault.DocFault.{DocFault}
+use Rattle.scan_docs.specs.declared.fault.DocFault.TheVariants.{BadPath}
+use Rattle.scan_docs.specs.declared.fault.Place.{Place}
+use Rattle.scan_docs.specs.declared.fault.Place.TheVariants as place
+use Rattle.scan_docs.specs.declared.member.Member.TheVariants as m
+use Rattle.scan_docs.specs.Check.{path_checks}
+use Rattle.scan_docs.specs.Shape.{text}
+use Rattle.scan_docs.specs.Target.{build_dir}
+use Rattle.scan_docs.specs.TargetChecks.{dyndep_checks}
+use Rattle.scan_docs.specs.inner.Reading.{first_failure}
+use Rattle.scan_docs.proofs.target_document.read_dyndep.Goals as goal
+
+-- a dyndep file that is given is checked as a path
+dyndep_first : (d : Data) (name bytes : List ℕ) (build : Option (List ℕ)) → text m.Dyndep d ≡ Some name → bytes ≡ name → build_dir d ≡ build → first_failure (dyndep_checks d) ≡ first_failure (path_checks place.Document (placed None build bytes))
+unfolding dyndep_checks
+dyndep_first d name bytes build has is same = rw (has, same, is) refl
+
+-- a path that is refused
+path_refused : {T : Type 0} (see : T → List ℕ) (p : Place) (outcome : Result (List ℕ) PathFault) (failure : Failure PathFault) (e : Failure DocFault) → Gives see (Err failure) outcome → Turns (λ fault other. other ≡ BadPath p fault) failure e → e ≢ Memory → first_failure (path_checks p outcome) ≡ Some e
+path_refused see p outcome Memory e given turned ne = absurd (ne turned)
+path_refused see p outcome (Fault fault) e given turned ne = rw (given, turned.2, turned.1) refl
+
+pub returns-in_err-dyndep : goal.returns-in_err-dyndep
+unfolding dyndep_checks
+returns-in_err-dyndep c = λ same.
+    let p = err_from_is_err_and c.from_residual.result c.from_residual.ensures.1 in
+    rw (p.1, p.2) (λ ne. let h = c.in_err-dyndep.ensures ne in rw (h.0) (ap Some (sym h.1)))
+
+pub returns-in-Err : goal.returns-in-Err
+returns-in-Err c = λ same ne.
+    let first = dyndep_first (view c.args.tree.now) c.in_ok-dyndep.dyndep.now c.as_bytes.result.now (option_copied c.args.build) c.in_ok-dyndep.ensures.1 c.as_bytes.ensures.value same in
+    rw (first) (path_refused (λ path. path) place.Document (placed None (option_copied c.args.build) c.as_bytes.result.now) c.in-Err.failure c.bad_path.result c.in-Err.ensures.meaning c.bad_path.ensures ne)
+
+pub returns : goal.returns
+returns c = λ same.
+    let first = dyndep_first (view c.args.tree.now) c.in_ok-dyndep.dyndep.now c.as_bytes.result.now (option_copied c.args.build) c.in_ok-dyndep.ensures.1 c.as_bytes.ensures.value same in
+    (rw (first, c.in-Ok.ensures.meaning) refl, c.in_ok-dyndep.ensures.1 ∙ ap Some (sym c.in_ok-from_str.ensures.ok))
