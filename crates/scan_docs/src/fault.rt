@@ -1,10 +1,13 @@
 //! Why a document is refused.
 
-ghost use Rattle.std.specs.Prelude.{◌≡◌};
-ghost use Rattle.ninja_text.specs.Failure.{Turns};
+ghost use Rattle.std.specs.Prelude.{◌≡◌, Result, IfOk, IsUtf8};
+ghost use Rattle.ninja_text.specs.Bytes.{PathText};
+ghost use Rattle.ninja_text.specs.Failure.{Gives};
+ghost use Rattle.ninja_text.specs.declared.fault.PathFault.{PathFault};
+ghost use Rattle.scan_docs.specs.inner.Reading.{AnswersPath};
 
 use crate::member::Member;
-use ninja_text::{Failure, PathFault};
+use ninja_text::{Failure, Path, PathFault};
 use std::fmt;
 use thiserror::Error;
 
@@ -101,9 +104,18 @@ pub(crate) fn bad_shape(place: Place, member: Member) -> Failure<DocFault>
     Failure::Fault(DocFault::BadShape { place, member })
 }
 
-/// The refusal of a path, or that memory was refused.
-pub(crate) fn bad_path(place: Place, failure: Failure<PathFault>) -> Failure<DocFault>
-    ensures { Turns (λ fault other. other ≡ DocFault.BadPath place fault) failure result }
+/// The path, or its refusal at the place.
+pub(crate) fn path_at(
+    place: Place,
+    read: Result<Path, Failure<PathFault>>,
+) -> Result<Path, Failure<DocFault>>
+    requires { IfOk read IsUtf8 }
+    ensures { (outcome : Result PathText PathFault) → Gives (λ path. path) read outcome
+        → AnswersPath place outcome result }
 {
-    failure.map(|fault| DocFault::BadPath { place, fault })
+    match read {
+        Ok(path) => Ok(path),
+        Err(Failure::Memory) => Err(Failure::Memory),
+        Err(Failure::Fault(fault)) => Err(Failure::Fault(DocFault::BadPath { place, fault })),
+    }
 }

@@ -16,7 +16,7 @@ ghost use Rattle.scan_docs.specs.Values.{info_of};
 ghost use Rattle.scan_docs.specs.declared.member.Member.TheVariants as m;
 
 use crate::document::read_tree;
-use crate::fault::{DocFault, Place, bad_path, bad_shape};
+use crate::fault::{DocFault, Place, bad_shape, path_at};
 use crate::member::Member;
 use crate::name::Name;
 use crate::rule::read_name;
@@ -192,7 +192,7 @@ fn read_named_file(
         (λ found. (found.0 ≡ name.now) × (path_of path.now ≡ Ok found.1) × IsText found.1) result }
 {
     let name = read_name(alloc, name, place)?;
-    let file = Path::of(alloc, path.as_bytes()).map_err(|failure| bad_path(place, failure))?;
+    let file = path_at(place, Path::of(alloc, path.as_bytes()))?;
     Ok((name, file))
 }
 

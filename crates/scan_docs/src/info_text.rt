@@ -6,11 +6,11 @@ ghost use Rattle.serde_json.specs.Data.{array};
 ghost use Rattle.serde_json.specs.Events.{SendsValue};
 ghost use Rattle.serde_json.specs.View.{items_of};
 ghost use Rattle.scan_docs.specs.Scan.{IsText};
-ghost use Rattle.scan_docs.specs.InfoText.{requirements_tree, module_tree, info_tree, info_text, IsModuleText, IsInfoText, ReadsBack};
+ghost use Rattle.scan_docs.specs.InfoText.{requirement_tree, requirements_tree, module_tree, info_tree, info_text, IsModuleText, IsInfoText, ReadsBack};
 ghost use Rattle.scan_docs.specs.Sound.{IsSoundPair, IsSoundModule, IsSoundInfo};
 ghost use Rattle.scan_docs.specs.inner.Writing.{SendsText, SendsNamedFile};
 
-use crate::info::Info;
+use crate::info::{Info, InfoModule};
 use crate::name::Name;
 use crate::target_name::TargetName;
 use ninja_text::Path;
@@ -75,17 +75,23 @@ fn lent_info<'i>(alloc: Global, info: &'i Info) -> Result<LentInfo<'i>, AllocErr
 {
     let mut modules = Vec::with_capacity(alloc, info.modules.len())?;
     for entry in &info.modules {
-        modules.push(LentModule {
-            name: &entry.name,
-            file: &entry.file,
-            required: &entry.required,
-            is_private: entry.is_private,
-        })?;
+        modules.push(lent_module(entry))?;
     }
     Ok(LentInfo {
         target: &info.target,
         modules,
     })
+}
+
+fn lent_module(entry: &InfoModule) -> LentModule<'_>
+    ensures { result ≡ entry.now }
+{
+    LentModule {
+        name: &entry.name,
+        file: &entry.file,
+        required: &entry.required,
+        is_private: entry.is_private,
+    }
 }
 
 /// What [`info_write`] writes, of an info whose parts are lent.
@@ -172,11 +178,20 @@ fn send_requirements<S: Serializer>(out: &mut S, pairs: &[(Name, Path)]) -> Resu
 {
     out.begin_seq(Some(pairs.len()))?;
     for pair in pairs {
-        out.begin_map(Some(2))?;
-        send_named_file(out, &pair.0, &pair.1)?;
-        out.end_map()?;
+        send_requirement(out, pair)?;
     }
     out.end_seq()
+}
+
+fn send_requirement<S: Serializer>(out: &mut S, pair: &(Name, Path)) -> Result<(), S::Error>
+    requires { IsText pair.now.1 }
+    ensures sent { OnOk result
+        (SendsValue (requirement_tree pair.now) (S.written out.old) (S.written out.new)) }
+    ensures sound { OnOk result (IsSoundPair pair.now.0 pair.now.1) }
+{
+    out.begin_map(Some(2))?;
+    send_named_file(out, &pair.0, &pair.1)?;
+    out.end_map()
 }
 
 /// The members that a module and its requirements have in common.

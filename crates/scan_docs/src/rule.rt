@@ -13,7 +13,7 @@ ghost use Rattle.scan_docs.specs.Scan.{IsText, object_of, file_from, names_heade
 ghost use Rattle.scan_docs.specs.ScanChecks.{rule_shape_checks, object_checks, count_checks, provided_checks, all_provided_checks, required_checks, all_required_checks, rule_checks, lookup_check};
 ghost use Rattle.scan_docs.specs.declared.member.Member.TheVariants as m;
 
-use crate::fault::{DocFault, Place, bad_path, bad_shape};
+use crate::fault::{DocFault, Place, bad_shape, path_at};
 use crate::member::Member;
 use crate::name::Name;
 use crate::scan_document::COUNT_LIMIT;
@@ -91,7 +91,13 @@ fn read_object(
     let Some(output) = members.primary_output else {
         return Err(Failure::Fault(DocFault::NoPrimaryOutput { place }));
     };
-    read_path(alloc, setting, members.work_directory, output.as_bytes(), place)
+    read_path(
+        alloc,
+        setting,
+        members.work_directory,
+        output.as_bytes(),
+        place,
+    )
 }
 
 /// The modules that the rule's source provides and requires, of which there may be too many.
@@ -279,8 +285,8 @@ fn read_path(
     ensures { AnswersPath at
         (placed (option_copied work.entry) setting.now.build_dir path.now) result }
 {
-    let work = work.map(|work| work.as_bytes());
-    place(alloc, work, setting.build_dir.as_ref(), path).map_err(|failure| bad_path(at, failure))
+    let work = work.map(str::as_bytes);
+    path_at(at, place(alloc, work, setting.build_dir.as_ref(), path))
 }
 
 /// The name of a module's file where the document names none.

@@ -17,7 +17,7 @@ ghost use Rattle.scan_docs.specs.Values.{spec_of};
 ghost use Rattle.scan_docs.specs.declared.member.Member.TheVariants as m;
 
 use crate::document::read_tree;
-use crate::fault::{DocFault, Place, bad_path, bad_shape};
+use crate::fault::{DocFault, Place, bad_shape, path_at};
 use crate::map_form::MapForm;
 use crate::member::Member;
 use crate::name::Name;
@@ -274,10 +274,10 @@ fn read_dyndep(
         (λ t. text m.Dyndep (view tree.now) ≡ Some (string_bytes t)) result }
 {
     let dyndep = shape::required_text(tree, Member::Dyndep, Place::Document)?;
-    match place(alloc, None, build, dyndep.as_bytes()) {
-        Ok(_) => {}
-        Err(failure) => return Err(bad_path(Place::Document, failure)),
-    }
+    path_at(
+        Place::Document,
+        place(alloc, None, build, dyndep.as_bytes()),
+    )?;
     Ok(String::from_str(alloc, dyndep)?)
 }
 

@@ -1,6 +1,5 @@
 use Rattle.std.proofs.Common.{ℕ, List, subst, sym}
 use Rattle.std.proofs.lemmas.Result.{on_ok_weaker}
-use Rattle.serde_json.specs.Events.{SendsValue}
 use Rattle.scan_docs.specs.Scan.{IsText}
 use Rattle.scan_docs.specs.InfoText.{requirement_tree, requirements_tree}
 use Rattle.scan_docs.specs.Sound.{IsSoundPair}
@@ -8,20 +7,16 @@ use Rattle.scan_docs.proofs.Elements.{All-grow, All-end}
 use Rattle.scan_docs.proofs.Sending.{entry_sent, array_sent}
 use Rattle.scan_docs.proofs.info_text.send_requirements.Goals as goal
 
-pub send_named_file-requires : goal.send_named_file-requires
-send_named_file-requires g c =
+pub send_requirement-requires : goal.send_requirement-requires
+send_requirement-requires g c =
     let P : List ℕ × List ℕ → Type 0 = λ p. IsText p.1 in
     subst P (sym c.pair-item.is) (c.requires c.loop-pair.pair-index c.pair-item.result c.loop-pair-test.true)
 
 pub loop-pair-preserved : goal.loop-pair-preserved
-unfolding requirement_tree
 loop-pair-preserved g c =
-    let l = c.loop-pair in
-    let pair = c.in_ok-send_named_file.ensures.sent in
-    let entry : SendsValue (requirement_tree c.pair-item.result) (g.S.Serializer.written l.out) (g.S.Serializer.written c.end_map.new.self) =
-    (_, c.in_ok-begin_map.ensures, (pair.1.0, _, pair.1.1, pair.1.2, (pair.2.0, _, pair.2.1, pair.2.2, c.in_ok-end_map.ensures))) in record {
-      sent = λ end rest. l.invariant.sent end (entry_sent requirement_tree c.args.pairs.now l.pair-index c.pair-item.result _ _ end c.loop-pair-test.true c.pair-item.is entry rest);
-      sound = All-grow (λ p. IsSoundPair p.0 p.1) c.args.pairs.now l.pair-index c.pair-item.result c.loop-pair-test.true c.pair-item.is c.in_ok-send_named_file.ensures.sound l.invariant.sound;
+    let l = c.loop-pair in record {
+      sent = λ end rest. l.invariant.sent end (entry_sent requirement_tree c.args.pairs.now l.pair-index c.pair-item.result _ _ end c.loop-pair-test.true c.pair-item.is c.in_ok-send_requirement.ensures.sent rest);
+      sound = All-grow (λ p. IsSoundPair p.0 p.1) c.args.pairs.now l.pair-index c.pair-item.result c.loop-pair-test.true c.pair-item.is c.in_ok-send_requirement.ensures.sound l.invariant.sound;
     }
 
 pub returns-clause-sent : goal.returns-clause-sent

@@ -24,23 +24,20 @@ dyndep_first : (d : Data) (name bytes : List ℕ) (build : Option (List ℕ)) �
 unfolding dyndep_checks
 dyndep_first d name bytes build has is same = rw (has, same, is) refl
 
--- a path that is refused
-path_refused : {T : Type 0} (see : T → List ℕ) (p : Place) (outcome : Result (List ℕ) PathFault) (failure : Failure PathFault) (e : Failure DocFault) → Gives see (Err failure) outcome → Turns (λ fault other. other ≡ BadPath p fault) failure e → e ≢ Memory → first_failure (path_checks p outcome) ≡ Some e
-path_refused see p outcome Memory e given turned ne = absurd (ne turned)
-path_refused see p outcome (Fault fault) e given turned ne = rw (given, turned.2, turned.1) refl
-
 pub returns-in_err-dyndep : goal.returns-in_err-dyndep
 unfolding dyndep_checks
 returns-in_err-dyndep c = λ same.
     let p = err_from_is_err_and c.from_residual.result c.from_residual.ensures.1 in
     rw (p.1, p.2) (λ ne. let h = c.in_err-dyndep.ensures ne in rw (h.0) (ap Some (sym h.1)))
 
-pub returns-in-Err : goal.returns-in-Err
-returns-in-Err c = λ same ne.
+pub returns-in_err-path_at : goal.returns-in_err-path_at
+returns-in_err-path_at c = λ same.
     let first = dyndep_first (view c.args.tree.now) c.in_ok-dyndep.dyndep.now c.as_bytes.result.now (option_copied c.args.build) c.in_ok-dyndep.ensures.1 c.as_bytes.ensures.value same in
-    rw (first) (path_refused (λ path. path) place.Document (placed None (option_copied c.args.build) c.as_bytes.result.now) c.in-Err.failure c.bad_path.result c.in-Err.ensures.meaning c.bad_path.ensures ne)
+    let p = err_from_is_err_and c.from_residual-in_err-path_at.result c.from_residual-in_err-path_at.ensures.1 in
+    rw (p.1, p.2) (λ ne. rw first (c.in_err-path_at.ensures (placed None (option_copied c.args.build) c.as_bytes.result.now) c.place.ensures.meaning ne))
 
 pub returns : goal.returns
 returns c = λ same.
     let first = dyndep_first (view c.args.tree.now) c.in_ok-dyndep.dyndep.now c.as_bytes.result.now (option_copied c.args.build) c.in_ok-dyndep.ensures.1 c.as_bytes.ensures.value same in
-    (rw (first, c.in-Ok.ensures.meaning) refl, c.in_ok-dyndep.ensures.1 ∙ ap Some (sym c.in_ok-from_str.ensures.ok))
+    let path = c.in_ok-path_at.ensures (placed None (option_copied c.args.build) c.as_bytes.result.now) c.place.ensures.meaning in
+    (rw first path.0, c.in_ok-dyndep.ensures.1 ∙ ap Some (sym c.in_ok-from_str.ensures.ok))

@@ -10,3 +10,18 @@ returns-in-BadVersion-clause-writes g c = grind (arith, common_steps)
 
 pub returns-in-BadPath-clause-writes : goal.returns-in-BadPath-clause-writes
 returns-in-BadPath-clause-writes g c = grind (arith, common_steps)
+
+pub returns-in-BadShape-clause-writes : goal.returns-in-BadShape-clause-writes
+returns-in-BadShape-clause-writes g c = grind (arith, common_steps)
+
+pub returns-in-NoPrimaryOutput-clause-writes : goal.returns-in-NoPrimaryOutput-clause-writes
+returns-in-NoPrimaryOutput-clause-writes g c = grind (arith, common_steps)
+
+pub returns-in-HeaderUnit-clause-writes : goal.returns-in-HeaderUnit-clause-writes
+returns-in-HeaderUnit-clause-writes g c = grind (arith, common_steps)
+
+pub returns-in-BadName-clause-writes : goal.returns-in-BadName-clause-writes
+returns-in-BadName-clause-writes g c = grind (arith, common_steps)
+
+pub returns-in-TooLarge-clause-writes : goal.returns-in-TooLarge-clause-writes
+returns-in-TooLarge-clause-writes g c = grind (arith, common_steps)
