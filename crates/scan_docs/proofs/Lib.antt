@@ -3,6 +3,7 @@ pub mod Parts
 pub mod Texts
 pub mod Dashed
 pub mod Each
+pub mod Versions
 pub mod Values
 pub mod Exact
 pub mod JsonReader

@@ -1,12 +1,16 @@
-//! Reading a document's bytes.
+//! Reading a document's bytes, and its version.
 
-ghost use Rattle.std.specs.Prelude.{◌≢◌, ◌≤◌, IfOk, IfErr, length};
+ghost use Rattle.std.specs.Prelude.{◌≡◌, ◌≢◌, ◌≤◌, Some, IfOk, IfErr, length};
 ghost use Rattle.ninja_text.specs.declared.failure.Failure.TheVariants.{Memory};
 ghost use Rattle.serde_json.specs.View.{view};
 ghost use Rattle.scan_docs.specs.Document.{IsTree, document_limit};
-ghost use Rattle.scan_docs.specs.inner.Reading.{IsNoTree};
+ghost use Rattle.scan_docs.specs.Shape.{whole_number};
+ghost use Rattle.scan_docs.specs.inner.Reading.{Answers, IsNoTree, version_checks};
+ghost use Rattle.scan_docs.specs.declared.member.Member.TheVariants as m;
 
 use crate::fault::{DocFault, Place};
+use crate::member::Member;
+use crate::shape;
 use ninja_text::Failure;
 use serde_json::Value;
 use std::alloc::Global;
@@ -29,5 +33,18 @@ pub(crate) fn read_tree(alloc: Global, bytes: &[u8]) -> Result<Value, Failure<Do
         Ok(tree) => Ok(tree),
         Err(error) if error.is_memory() => Err(Failure::Memory),
         Err(_) => Err(Failure::Fault(DocFault::NotJson)),
+    }
+}
+
+/// The version of a document, which has to be an object that has one of these versions.
+#[tactic(auto, unfolding(crate::specs::inner::Reading::version_checks))]
+pub(crate) fn read_version(tree: &Value, versions: &[u64]) -> Result<u64, Failure<DocFault>>
+    ensures { Answers (version_checks versions.now (view tree.now))
+        (λ version. whole_number m.Version (view tree.now) ≡ Some version) result }
+{
+    shape::check_object(tree, Member::Document, Place::Document)?;
+    match tree.get(Member::Version.key()).and_then(Value::as_u64) {
+        Some(version) if versions.contains(&version) => Ok(version),
+        _ => Err(Failure::Fault(DocFault::BadVersion)),
     }
 }

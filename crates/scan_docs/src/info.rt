@@ -9,13 +9,13 @@ ghost use Rattle.scan_docs.specs.inner.Reading.{Answers};
 ghost use Rattle.scan_docs.specs.Document.{IsAccepted, IsRefused, HasOneAnswer};
 ghost use Rattle.scan_docs.specs.Shape.{text};
 ghost use Rattle.scan_docs.specs.Scan.{IsText};
-ghost use Rattle.scan_docs.specs.Info.{has_visibility, privacy, IsRequirement, IsModule, IsInfo};
-ghost use Rattle.scan_docs.specs.InfoChecks.{head_checks, entry_shape_checks, visibility_check, named_file_checks, requirement_checks, all_requirement_checks, module_checks, all_module_checks, info_checks};
+ghost use Rattle.scan_docs.specs.Info.{privacy, IsRequirement, IsModule, IsInfo};
+ghost use Rattle.scan_docs.specs.InfoChecks.{entry_shape_checks, visibility_check, named_file_checks, requirement_checks, all_requirement_checks, module_checks, all_module_checks, info_checks};
 ghost use Rattle.scan_docs.specs.InfoText.{IsInfoText};
 ghost use Rattle.scan_docs.specs.Values.{info_of};
 ghost use Rattle.scan_docs.specs.declared.member.Member.TheVariants as m;
 
-use crate::document::read_tree;
+use crate::document::{read_tree, read_version};
 use crate::fault::{DocFault, Place, bad_shape, path_at};
 use crate::member::Member;
 use crate::name::Name;
@@ -84,25 +84,11 @@ pub fn info_read(alloc: Global, bytes: &[u8]) -> Result<Info, Failure<DocFault>>
 fn read_info(alloc: Global, tree: &Value) -> Result<Info, Failure<DocFault>>
     ensures { Answers (info_checks (view tree.now)) (λ info. IsInfo (view tree.now) info) result }
 {
-    let with_visibility = read_head(tree)?;
+    let version = read_version(tree, &[1, 2])?;
     let target = read_target_name(alloc, tree)?;
     let values = shape::required_entries(tree, Member::Modules, Place::Document)?;
-    let modules = read_all_modules(alloc, with_visibility, values)?;
+    let modules = read_all_modules(alloc, version == 2, values)?;
     Ok(Info { target, modules })
-}
-
-/// Whether the modules of the document tell their visibility.
-#[tactic(auto, unfolding(crate::specs::InfoChecks::head_checks))]
-fn read_head(tree: &Value) -> Result<bool, Failure<DocFault>>
-    ensures { Answers (head_checks (view tree.now))
-        (λ with_visibility. with_visibility ≡ has_visibility (view tree.now)) result }
-{
-    shape::check_object(tree, Member::Document, Place::Document)?;
-    match tree.get(Member::Version.key()).and_then(Value::as_u64) {
-        Some(1) => Ok(false),
-        Some(2) => Ok(true),
-        _ => Err(Failure::Fault(DocFault::BadVersion)),
-    }
 }
 
 #[tactic(auto, unfolding(crate::specs::InfoChecks::all_module_checks))]

@@ -9,11 +9,10 @@ ghost use Rattle.scan_docs.specs.Project.{IsProject};
 ghost use Rattle.scan_docs.specs.ProjectChecks.{project_checks};
 ghost use Rattle.scan_docs.specs.Values.{project_of};
 
-use crate::document::read_tree;
+use crate::document::{read_tree, read_version};
 use crate::fault::{DocFault, Place};
 use crate::member::Member;
 use crate::shape;
-use crate::target_document::read_head;
 use ninja_text::Failure;
 use serde_json::Value;
 use std::alloc::Global;
@@ -54,7 +53,7 @@ fn read_project(alloc: Global, tree: &Value) -> Result<ProjectSpec, Failure<DocF
     ensures { Answers (project_checks (view tree.now))
         (λ project. IsProject (view tree.now) project) result }
 {
-    read_head(tree)?;
+    read_version(tree, &[1])?;
     let targets = shape::required_texts(alloc, tree, Member::Targets, Place::Document)?;
     Ok(ProjectSpec { targets })
 }

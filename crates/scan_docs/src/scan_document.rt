@@ -6,13 +6,11 @@ ghost use Rattle.ninja_text.specs.Failure.{ForFault};
 ghost use Rattle.serde_json.specs.View.{view};
 ghost use Rattle.scan_docs.specs.inner.Reading.{Answers};
 ghost use Rattle.scan_docs.specs.Document.{IsAccepted, IsRefused, HasOneAnswer};
-ghost use Rattle.scan_docs.specs.Shape.{entries_of};
 ghost use Rattle.scan_docs.specs.Scan.{IsRule, AreRules, IsRuleText};
-ghost use Rattle.scan_docs.specs.ScanChecks.{head_checks, all_rule_checks, scan_checks};
+ghost use Rattle.scan_docs.specs.ScanChecks.{all_rule_checks, scan_checks};
 ghost use Rattle.scan_docs.specs.Values.{rules_of};
-ghost use Rattle.scan_docs.specs.declared.member.Member.TheVariants as m;
 
-use crate::document::read_tree;
+use crate::document::{read_tree, read_version};
 use crate::fault::{DocFault, Place};
 use crate::member::Member;
 use crate::rule::{Rule, read_rule};
@@ -45,7 +43,6 @@ pub fn scan(alloc: Global, bytes: &[u8], setting: &Setting) -> Result<Vec<Rule>,
     read_rules(alloc, setting, &tree)
 }
 
-#[tactic(auto, unfolding(crate::specs::ScanChecks::scan_checks), using(crate::proofs::Each::failure_of_both))]
 fn read_rules(
     alloc: Global,
     setting: &Setting,
@@ -54,26 +51,13 @@ fn read_rules(
     ensures { Answers (scan_checks setting.now (view tree.now))
         (λ rules. AreRules setting.now (view tree.now) rules.items) result }
 {
-    let rules = read_head(tree)?;
-    read_all_rules(alloc, setting, rules)
-}
-
-#[tactic(auto, unfolding(crate::specs::ScanChecks::head_checks))]
-fn read_head<'v>(tree: &'v Value) -> Result<&'v [Value], Failure<DocFault>>
-    ensures { Answers (head_checks (view tree.now))
-        (λ rules. map view rules.now ≡ entries_of m.Rules (view tree.now)) result }
-{
     let place = Place::Document;
-    shape::check_object(tree, Member::Document, place)?;
-    match tree.get(Member::Version.key()).and_then(Value::as_u64) {
-        Some(0 | 1) => {}
-        _ => return Err(Failure::Fault(DocFault::BadVersion)),
-    }
+    read_version(tree, &[0, 1])?;
     let rules = shape::required_entries(tree, Member::Rules, place)?;
     if rules.len() > COUNT_LIMIT {
         return Err(Failure::Fault(DocFault::TooLarge { place }));
     }
-    Ok(rules)
+    read_all_rules(alloc, setting, rules)
 }
 
 #[tactic(auto, unfolding(crate::specs::ScanChecks::all_rule_checks))]

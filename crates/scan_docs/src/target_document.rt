@@ -12,11 +12,11 @@ ghost use Rattle.scan_docs.specs.Document.{IsAccepted, IsRefused, HasOneAnswer};
 ghost use Rattle.scan_docs.specs.Shape.{text, texts_of, given, fits};
 ghost use Rattle.scan_docs.specs.Name.{is_name};
 ghost use Rattle.scan_docs.specs.Target.{IsTarget, build_dir, map_form};
-ghost use Rattle.scan_docs.specs.TargetChecks.{head_checks, name_checks, directory_checks, list_checks, kept_checks, dyndep_checks, file_checks, target_checks, info_check, map_check};
+ghost use Rattle.scan_docs.specs.TargetChecks.{name_checks, directory_checks, list_checks, kept_checks, dyndep_checks, file_checks, target_checks, info_check, map_check};
 ghost use Rattle.scan_docs.specs.Values.{spec_of};
 ghost use Rattle.scan_docs.specs.declared.member.Member.TheVariants as m;
 
-use crate::document::read_tree;
+use crate::document::{read_tree, read_version};
 use crate::fault::{DocFault, Place, bad_shape, path_at};
 use crate::map_form::MapForm;
 use crate::member::Member;
@@ -97,7 +97,7 @@ fn read_spec(alloc: Global, tree: &Value) -> Result<TargetSpec, Failure<DocFault
     ensures { Answers (target_checks (view tree.now))
         (λ spec. IsTarget (view tree.now) spec) result }
 {
-    read_head(tree)?;
+    read_version(tree, &[1])?;
     let target = read_target_name(alloc, tree)?;
     let setting = read_setting(alloc, tree)?;
     let read = read_inputs(alloc, tree)?;
@@ -115,18 +115,6 @@ fn read_spec(alloc: Global, tree: &Value) -> Result<TargetSpec, Failure<DocFault
         map: written.map,
         edges: written.edges,
     })
-}
-
-/// The document itself, in a target document or a project document.
-#[tactic(auto, unfolding(crate::specs::TargetChecks::head_checks))]
-pub(crate) fn read_head(tree: &Value) -> Result<(), Failure<DocFault>>
-    ensures { Answers (head_checks (view tree.now)) (λ _. Unit {0}) result }
-{
-    shape::check_object(tree, Member::Document, Place::Document)?;
-    match tree.get(Member::Version.key()).and_then(Value::as_u64) {
-        Some(1) => Ok(()),
-        _ => Err(Failure::Fault(DocFault::BadVersion)),
-    }
 }
 
 /// The target's name, in a target document or an info document.

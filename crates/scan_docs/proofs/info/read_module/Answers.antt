@@ -1,4 +1,4 @@
-use Rattle.std.proofs.Common.{Some, sym, ap, rules}
+use Rattle.std.proofs.Common.{Some, sym, ap, ◌∙◌}
 use Rattle.std.proofs.lemmas.Result.{err_from_is_err_and}
 use Rattle.scan_docs.specs.InfoChecks.{requires_check, module_checks}
 use Rattle.scan_docs.proofs.Each.{failure_of_both}
@@ -36,4 +36,13 @@ returns-in_err-required c =
 
 pub returns : goal.returns
 unfolding requires_check module_checks
-returns c = (rw (failure_of_both, c.in_ok-name.ensures.0, c.in_ok-requirements.ensures.0, failure_of_both, c.in_ok-is_private.ensures.0, failure_of_both, c.in_ok-name.ensures.1.0, c.in_ok-name.ensures.1.1, c.in_ok-name-2.ensures.0, c.in_ok-requirements.ensures.1, c.in_ok-required.ensures.0), search rules)
+returns c = (
+  rw (failure_of_both, c.in_ok-name.ensures.0, c.in_ok-requirements.ensures.0, failure_of_both, c.in_ok-is_private.ensures.0, failure_of_both, c.in_ok-name.ensures.1.0, c.in_ok-name.ensures.1.1, c.in_ok-name-2.ensures.0, c.in_ok-requirements.ensures.1, c.in_ok-required.ensures.0),
+  record {
+    name = c.in_ok-name.ensures.1.0 ∙ ap Some (sym c.in_ok-name-2.ensures.1.0);
+    file = rw c.in_ok-name.ensures.1.1 c.in_ok-name-2.ensures.1.1;
+    is_text = c.in_ok-name-2.ensures.1.2;
+    required = rw c.in_ok-requirements.ensures.1 c.in_ok-required.ensures.1;
+    visibility = c.in_ok-is_private.ensures.1;
+  },
+)
