@@ -10,7 +10,3 @@ returns-in-Some c = grind (arith, common_steps)
 pub returns-in_default : goal.returns-in_default
 unfolding version_checks
 returns-in_default c = grind (arith, common_steps)
-
-pub returns-in_default-2 : goal.returns-in_default-2
-unfolding version_checks
-returns-in_default-2 c = grind (arith, common_steps)

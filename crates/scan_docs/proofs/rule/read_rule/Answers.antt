@@ -1,4 +1,3 @@
-use Rattle.std.proofs.Common.{sym, option_copied}
 use Rattle.std.proofs.lemmas.Result.{err_from_is_err_and}
 use Rattle.serde_json.specs.View.{view}
 use Rattle.scan_docs.specs.ScanChecks.{rule_checks}

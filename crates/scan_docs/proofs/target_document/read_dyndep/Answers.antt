@@ -1,15 +1,8 @@
-use Rattle.std.proofs.Common.{◌≡◌, ◌≢◌, List, ℕ, Option, Some, None, Result, Err, option_copied, refl, sym, ap, ◌∙◌}
+use Rattle.std.proofs.Common.{◌≡◌, List, ℕ, Option, Some, None, option_copied, refl, sym, ap, ◌∙◌}
 use Rattle.std.proofs.lemmas.Result.{err_from_is_err_and}
-use Rattle.ninja_text.specs.Failure.{Gives, Turns}
 use Rattle.ninja_text.specs.Paths.{placed}
-use Rattle.ninja_text.specs.declared.failure.Failure.{Failure}
-use Rattle.ninja_text.specs.declared.failure.Failure.TheVariants.{Memory, Fault}
-use Rattle.ninja_text.specs.declared.fault.PathFault.{PathFault}
 use Rattle.serde_json.specs.Data.{Data}
 use Rattle.serde_json.specs.View.{view}
-use Rattle.scan_docs.specs.declared.fault.DocFault.{DocFault}
-use Rattle.scan_docs.specs.declared.fault.DocFault.TheVariants.{BadPath}
-use Rattle.scan_docs.specs.declared.fault.Place.{Place}
 use Rattle.scan_docs.specs.declared.fault.Place.TheVariants as place
 use Rattle.scan_docs.specs.declared.member.Member.TheVariants as m
 use Rattle.scan_docs.specs.Check.{path_checks}

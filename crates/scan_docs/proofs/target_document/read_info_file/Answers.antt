@@ -1,0 +1,12 @@
+use Rattle.std.proofs.Common.{arith}
+use Rattle.std.proofs.lemmas.Grind.{common_steps}
+use Rattle.scan_docs.proofs.target_document.read_info_file.Goals as goal
+
+pub returns-in_err-from_str-in-Some : goal.returns-in_err-from_str-in-Some
+returns-in_err-from_str-in-Some c = grind (arith, common_steps)
+
+pub returns-in_ok-from_str-in-Some : goal.returns-in_ok-from_str-in-Some
+returns-in_ok-from_str-in-Some c = grind (arith, common_steps)
+
+pub returns-in_default : goal.returns-in_default
+returns-in_default c = grind (arith, common_steps)
