@@ -7,10 +7,6 @@ pub returns : goal.returns
 unfolding required_checks
 returns c = search rules
 
-pub returns-then-eq : goal.returns-then-eq
-unfolding required_checks
-returns-then-eq c = grind (arith, common_steps)
-
 pub returns-in_err-check_object : goal.returns-in_err-check_object
 unfolding required_checks
 returns-in_err-check_object c = grind (arith, common_steps)
