@@ -9,8 +9,8 @@
 //!   `specs/ProjectChecks.antt`, the meanings in `specs/Scan.antt`, `specs/Info.antt`,
 //!   `specs/Target.antt` and `specs/Project.antt`; `specs/Document.antt` puts them together.
 //!   `specs/Values.antt` gives the meaning as a function of the bytes.
-//! - `document` makes a tree of a document's bytes by `serde_json`, and `shape` asks the tree for
-//!   members of a type. The tree is dropped once the value is made.
+//! - `document` makes a tree of a document's bytes by `serde_json` and reads its version, and
+//!   `shape` asks the tree for members of a type. The tree is dropped once the value is made.
 //! - [`laws`] proves of all bytes that they have one answer at most, and that the value of an
 //!   accepted document is that of the function.
 //! - [`info_write`] gives the one text of an info (`specs/InfoText.antt`), which is read as the
