@@ -161,10 +161,26 @@ fn check_looked_up<S: BuildHasher>(
     check_infos_known(alloc, modules, required)?;
     check_infos_agree(alloc, modules, required)?;
     check_rings(alloc, modules, indexes)?;
+    check_allowed(alloc, modules, indexes, required, kept)
+}
+
+/// M9 and M10, of what was looked up.
+fn check_allowed<S: BuildHasher>(
+    alloc: Global,
+    modules: &Modules<S>,
+    indexes: &[Vec<usize>],
+    required: &[InfoRequired],
+    kept: &[Name],
+) -> Result<(), Failure<TableFault>>
+    requires indexes { AreIndexes modules.now (rows indexes.now) }
+    requires required { AreLookedUp modules.now required.now }
+    requires passed { Passed 9 modules.now kept.now }
+    ensures passed { OnOk result (Passed 11 modules.now kept.now) }
+    ensures fault { IfErr result (ForFault (IsReported modules.now kept.now)) }
+{
     check_objects_allowed(alloc, modules, indexes)?;
     check_infos_allowed(alloc, modules, required)?;
-    check_kept(alloc, modules, kept)?;
-    Ok(())
+    check_kept(alloc, modules, kept)
 }
 
 /// Who provides each module, and at which index among its maker's.

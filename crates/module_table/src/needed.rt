@@ -95,6 +95,19 @@ impl<'t> Needs<'t> {
         ranks.sort_unstable();
         pairs_at(alloc, self.pairs.as_slice(), ranks.as_slice())
     }
+
+    /// The same, copied.
+    pub(crate) fn copies_of(
+        &mut self,
+        alloc: Global,
+        object: usize,
+    ) -> Result<Vec<(Name, Path)>, AllocError>
+        requires { object < length self.old.objects }
+        ensures { IfOk result (λ pairs. ArePairs (IsNeeded self.old object) pairs.items) }
+    {
+        let pairs = self.of(alloc, object)?;
+        copy_pairs(alloc, pairs.as_slice())
+    }
 }
 
 /// The ranks of the modules among these nodes. Nodes after all modules are objects.
@@ -129,10 +142,7 @@ fn pairs_at<'t>(
 }
 
 /// The pairs, copied.
-pub(crate) fn copy_pairs(
-    alloc: Global,
-    pairs: &[(&Name, &Path)],
-) -> Result<Vec<(Name, Path)>, AllocError>
+fn copy_pairs(alloc: Global, pairs: &[(&Name, &Path)]) -> Result<Vec<(Name, Path)>, AllocError>
     ensures { IfOk result (λ copies. copies.items ≡ map lent pairs.now) }
 {
     let mut copies = Vec::with_capacity(alloc, pairs.len())?;

@@ -2,7 +2,7 @@
 ghost use Rattle.std.specs.Prelude.{◌≡◌, ◌<◌, ◌++◌, map, length, slice_get, Some, IfOk, OnOk};
 ghost use Rattle.std.specs.List.{flat_map};
 ghost use Rattle.module_table.specs.Modules.{provisions};
-ghost use Rattle.module_table.specs.inner.Found.{looked_up, lookups_of, AreLookedUp};
+ghost use Rattle.module_table.specs.inner.Found.{looked_up, lookup_of, lookups_of, AreLookedUp};
 
 use crate::modules::{Module, Modules};
 use ninja_text::Path;
@@ -65,16 +65,30 @@ fn add_module<'m, 't, S: BuildHasher>(
         ++ lookups_of (provisions modules.now) info target.now entry.now) }
 {
     for pair in &entry.required {
-        all.push(InfoRequired {
-            info,
-            target,
-            module_name: &entry.name,
-            name: &pair.0,
-            file: &pair.1,
-            module: modules.find(&pair.0),
-        })?;
+        all.push(look_up(modules, info, target, &entry.name, pair))?;
     }
     Ok(())
+}
+
+/// The requirement of a module by this pair, with the module that is found.
+fn look_up<'m, 't, S: BuildHasher>(
+    modules: &'m Modules<'t, S>,
+    info: usize,
+    target: &'t TargetName,
+    module_name: &'t Name,
+    pair: &'t (Name, Path),
+) -> InfoRequired<'m, 't>
+    ensures { looked_up result
+        ≡ lookup_of (provisions modules.now) info target.now module_name.now pair.now }
+{
+    InfoRequired {
+        info,
+        target,
+        module_name,
+        name: &pair.0,
+        file: &pair.1,
+        module: modules.find(&pair.0),
+    }
 }
 
 pub(crate) fn required_at<'r, 'm, 't>(

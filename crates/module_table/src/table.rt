@@ -13,7 +13,7 @@ ghost use Rattle.module_table.specs.declared.fault.TableFault.{TableFault};
 use crate::checks::check_all;
 use crate::fault::{Maker, RefusedTable, TableFault};
 use crate::modules::index_of;
-use crate::needed::{Needs, copy_pairs, named_at};
+use crate::needed::{Needs, named_at};
 use crate::resolved::Resolved;
 use dep_order::Digraph;
 use indexmap::IndexSet;
@@ -219,8 +219,7 @@ impl<S: BuildHasher> Table<S> {
         ensures { IfOk result (λ pairs. ArePairs (IsNeeded self.now object) pairs.items) }
     {
         let mut needs = self.needs(alloc)?;
-        let pairs = needs.of(alloc, object)?;
-        copy_pairs(alloc, pairs.as_slice())
+        needs.copies_of(alloc, object)
     }
 
     /// The same for one object after the other: the names are sorted once, and an object takes no

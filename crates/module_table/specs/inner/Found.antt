@@ -17,12 +17,16 @@ looked_up r = (requirement_of r, option_map (λ p. provision_of p.now) r.module)
 abbrev pub with_module : List Provision → InfoRequirement → LookedUp
 with_module modules r = (r, found modules r.name)
 
+-- the requirement of a module of the info by a name and a file, with the module of that name
+abbrev pub lookup_of : List Provision → ℕ → List ℕ → List ℕ → List ℕ × List ℕ → LookedUp
+lookup_of modules info target module_name r =
+    with_module modules
+    (record { info = info; target = target; module_name = module_name; name = r.0; file = r.1 })
+
 -- the requirements of a module of the info, with the modules of those names
 abbrev pub lookups_of : List Provision → ℕ → List ℕ → ModuleValue → List LookedUp
 lookups_of modules info target entry =
-    map (λ r. with_module modules
-    (record { info = info; target = target; module_name = entry.name; name = r.0; file = r.1 }))
-    entry.required
+    map (lookup_of modules info target entry.name) entry.required
 
 -- All requirements of infos' modules, each with the module of that name, of which there is one.
 pub record AreLookedUp (t : TableValue) (all : List InfoRequired) : Type 0 where

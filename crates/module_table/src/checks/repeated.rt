@@ -1,13 +1,13 @@
 //! M1 to M4: what is twice among the paths of objects, the targets of infos, the names of
 //! modules and the files.
-ghost use Rattle.std.specs.Prelude.{◌≡◌, ◌<◌, ◌+◌, ◌++◌, ℕ, List, map, length, slice_get, Some, IfOk, IfErr, OnOk};
+ghost use Rattle.std.specs.Prelude.{◌≡◌, ◌<◌, ◌+◌, ◌++◌, ℕ, List, map, length, slice_get, Some, IfOk, IfErr, IfSome, IfNone, OnOk};
 ghost use Rattle.ninja_text.specs.Bytes.{Name};
 ghost use Rattle.indexmap.specs.IndexSet.{IsEmpty};
 ghost use Rattle.ninja_text.specs.Failure.{ForFault};
 ghost use Rattle.module_table.specs.TableValue.{TableValue, table_with};
 ghost use Rattle.module_table.specs.Modules.{provisions};
 ghost use Rattle.module_table.specs.Faults.{Claim, claims_of};
-ghost use Rattle.ninja_text.specs.Firsts.{AllDiffer};
+ghost use Rattle.ninja_text.specs.Firsts.{AllDiffer, RepeatsFirst};
 ghost use Rattle.module_table.specs.inner.Views.{provision_of, names_of, files_of, IsProvidedTwice, IsMadeTwice};
 ghost use Rattle.module_table.specs.inner.Reported.{Reports};
 
@@ -162,17 +162,37 @@ pub(crate) fn check_files<'t, S: BuildHasher>(
     ensures fault { IfErr result (ForFault
         (λ fault. (kept : List Name) → Reports 4 modules.now kept fault)) }
 {
-    let objects = modules.objects();
     let provided = modules.provided();
+    match add_files(provided, files)? {
+        None => Ok(()),
+        Some(twice) => {
+            let fault = made_twice(alloc, modules.objects(), provided, twice.0, twice.1)?;
+            Err(Failure::Fault(fault))
+        }
+    }
+}
+
+/// Puts the modules' files into the set, up to the first that is there: its index in the set, and
+/// the module's.
+fn add_files<'t, S: BuildHasher>(
+    provided: &[Module<'t>],
+    files: &mut IndexSet<&'t Path, S>,
+) -> Result<Option<(usize, usize)>, AllocError>
+    requires { AllDiffer (map (λ path. path.now) files.old.keys) }
+    ensures none { IfOk result (λ twice. IfNone twice (AllDiffer
+        (map (λ path. path.now) files.old.keys ++ files_of (map provision_of provided.now)))) }
+    ensures some { IfOk result (λ twice. IfSome twice (λ at. RepeatsFirst
+        (map (λ path. path.now) files.old.keys ++ files_of (map provision_of provided.now))
+        at.0 (length files.old.keys + at.1))) }
+{
     files.reserve(provided.len())?;
     for (index, module) in provided.iter().enumerate() {
         let (first, is_new) = files.insert_full(module.file)?;
         if !is_new {
-            let fault = made_twice(alloc, objects, provided, first, index)?;
-            return Err(Failure::Fault(fault));
+            return Ok(Some((first, index)));
         }
     }
-    Ok(())
+    Ok(None)
 }
 
 /// The fault that a module has a file that is made before it.

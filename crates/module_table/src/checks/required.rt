@@ -54,15 +54,30 @@ fn indexes_of<S: BuildHasher>(
 {
     let mut row = Vec::with_capacity(alloc, rule.required.len())?;
     for required in &rule.required {
-        match index_of(names, required) {
-            Some(index) => row.push(index)?,
-            None => {
-                let name = required.copy(alloc)?;
-                return Err(Failure::Fault(TableFault::ModuleUnknown { name, object }));
-            }
-        }
+        let index = known_index(alloc, names, object, required)?;
+        row.push(index)?;
     }
     Ok(row)
+}
+
+/// The index of a name that the object requires, if it is provided.
+fn known_index<S: BuildHasher>(
+    alloc: Global,
+    names: &IndexSet<Name, S>,
+    object: usize,
+    required: &Name,
+) -> Result<usize, Failure<TableFault>>
+    ensures ok { IfOk result (λ index. slice_get names.now.keys index ≡ Some required.now) }
+    ensures fault { IfErr result (ForFault (λ fault. IsAbsent names.now.keys required.now
+        × (fault ≡ ModuleUnknown required.now object))) }
+{
+    match index_of(names, required) {
+        Some(index) => Ok(index),
+        None => {
+            let name = required.copy(alloc)?;
+            Err(Failure::Fault(TableFault::ModuleUnknown { name, object }))
+        }
+    }
 }
 
 /// M6: what infos' modules require is provided by infos.

@@ -1,6 +1,6 @@
 use Rattle.std.proofs.lemmas.Result.{err_from_is_err_and}
 use Rattle.module_table.proofs.ReportLemmas.{for_fault}
-use Rattle.module_table.proofs.Passing.{reported, after_infos_known, after_agreement, after_rings, after_allowed, after_kept}
+use Rattle.module_table.proofs.Passing.{reported, after_infos_known, after_agreement, after_rings}
 use Rattle.module_table.proofs.checks.check_looked_up.Goals as goal
 
 pub returns-in_err-check_infos_known-clause-fault : goal.returns-in_err-check_infos_known-clause-fault
@@ -27,45 +27,10 @@ returns-in_err-check_rings-clause-fault g c =
     let p = err_from_is_err_and c.from_residual-in_err-check_rings.result c.from_residual-in_err-check_rings.ensures.1 in
     rw (p.1, p.2) (for_fault _ _ _ (λ fault is'. reported t kept 8 fault (is' kept) agree) c.in_err-check_rings.ensures.fault)
 
-pub returns-in_err-check_objects_allowed-clause-fault : goal.returns-in_err-check_objects_allowed-clause-fault
-returns-in_err-check_objects_allowed-clause-fault g c =
+pub check_allowed-requires-clause-passed : goal.check_allowed-requires-clause-passed
+check_allowed-requires-clause-passed g c =
     let t = c.args.modules.now in
     let kept = c.args.kept.now in
     let known = after_infos_known t kept c.in_ok-check_infos_known.ensures.ok c.requires.passed in
     let agree = after_agreement t kept c.in_ok-check_infos_agree.ensures.ok known in
-    let ordered = after_rings t kept c.in_ok-check_rings.ensures.ok agree in
-    let p = err_from_is_err_and c.from_residual-in_err-check_objects_allowed.result c.from_residual-in_err-check_objects_allowed.ensures.1 in
-    rw (p.1, p.2) (for_fault _ _ _ (λ fault is'. reported t kept 9 fault (is' kept) ordered) c.in_err-check_objects_allowed.ensures.fault)
-
-pub returns-in_err-check_infos_allowed-clause-fault : goal.returns-in_err-check_infos_allowed-clause-fault
-returns-in_err-check_infos_allowed-clause-fault g c =
-    let t = c.args.modules.now in
-    let kept = c.args.kept.now in
-    let known = after_infos_known t kept c.in_ok-check_infos_known.ensures.ok c.requires.passed in
-    let agree = after_agreement t kept c.in_ok-check_infos_agree.ensures.ok known in
-    let ordered = after_rings t kept c.in_ok-check_rings.ensures.ok agree in
-    let p = err_from_is_err_and c.from_residual-in_err-check_infos_allowed.result c.from_residual-in_err-check_infos_allowed.ensures.1 in
-    rw (p.1, p.2) (for_fault _ _ _ (λ fault is'. reported t kept 9 fault (is' kept) ordered) c.in_err-check_infos_allowed.ensures.fault)
-
-pub check_kept-requires : goal.check_kept-requires
-check_kept-requires g c = c.requires.required.differ
-
-pub returns-in_err-check_kept-clause-fault : goal.returns-in_err-check_kept-clause-fault
-returns-in_err-check_kept-clause-fault g c =
-    let t = c.args.modules.now in
-    let kept = c.args.kept.now in
-    let known = after_infos_known t kept c.in_ok-check_infos_known.ensures.ok c.requires.passed in
-    let agree = after_agreement t kept c.in_ok-check_infos_agree.ensures.ok known in
-    let ordered = after_rings t kept c.in_ok-check_rings.ensures.ok agree in
-    let allowed = after_allowed t kept c.in_ok-check_objects_allowed.ensures.ok c.in_ok-check_infos_allowed.ensures.ok ordered in
-    let p = err_from_is_err_and c.from_residual-in_err-check_kept.result c.from_residual-in_err-check_kept.ensures.1 in
-    rw (p.1, p.2) (for_fault _ _ _ (λ fault is'. reported t kept 10 fault is' allowed) c.in_err-check_kept.ensures.fault)
-
-pub returns-clause-passed : goal.returns-clause-passed
-returns-clause-passed g c =
-    let t = c.args.modules.now in
-    let kept = c.args.kept.now in
-    let known = after_infos_known t kept c.in_ok-check_infos_known.ensures.ok c.requires.passed in
-    let agree = after_agreement t kept c.in_ok-check_infos_agree.ensures.ok known in
-    let ordered = after_rings t kept c.in_ok-check_rings.ensures.ok agree in
-    after_kept t kept c.in_ok-check_kept.ensures.ok (after_allowed t kept c.in_ok-check_objects_allowed.ensures.ok c.in_ok-check_infos_allowed.ensures.ok ordered)
+    after_rings t kept c.in_ok-check_rings.ensures.ok agree

@@ -1,8 +1,10 @@
-use Rattle.std.proofs.Common.{◌≡◌, ◌∙◌, ◌++◌, ap, map, sym, refl, slice_get}
+use Rattle.std.proofs.Common.{◌≡◌, ◌∙◌, ◌≤◌, ◌++◌, arith, ap, length, map, sym, refl, slice_get}
+use Rattle.std.specs.List.{flat_map}
 use Rattle.std.proofs.lemmas.Option.{slice_get_read}
 use Rattle.scan_docs.specs.Info.{InfoValue}
 use Rattle.module_table.specs.Modules.{provisions}
 use Rattle.module_table.specs.inner.Found.{looked_up, lookups_of}
+use Rattle.module_table.proofs.IndexRows.{take_all}
 use Rattle.module_table.proofs.Refusals.{gathers_more}
 use Rattle.module_table.proofs.requirements.add_info.Goals as goal
 
@@ -15,3 +17,11 @@ loop-entry-preserved g c =
     let at = ap (λ xs. slice_get xs i) (sym list) ∙ slice_get_read c.deref-entry-items.result.now _ i entry refl c.loop-entry-test.true c.entry-item.is in
     gathers_more (lookups_of (provisions c.args.modules.now) c.args.info c.args.value.now.target) modules i entry _ _ _ at c.loop-entry.invariant
     (c.in_ok-add_module.ensures ∙ ap (λ (v : InfoValue). map looked_up c.loop-entry.all.items ++ lookups_of (provisions c.args.modules.now) c.args.info v.target entry) c.value.view_is)
+
+pub returns : goal.returns
+returns g c =
+    let modules = c.args.value.now.modules in
+    let list : c.deref-entry-items.result.now ≡ modules = c.deref-entry-items.ensures.value ∙ ap (λ (r : InfoValue). r.modules) c.value.view_is in
+    let all : length modules ≤ c.loop-entry.entry-index = omega (arith, c.loop-entry-test.false, ap length list) in
+    c.loop-entry.invariant
+    ∙ ap (λ entries. map looked_up c.args.all.now.items ++ flat_map (lookups_of (provisions c.args.modules.now) c.args.info c.args.value.now.target) entries) (take_all modules c.loop-entry.entry-index all)

@@ -1,11 +1,23 @@
-use Rattle.std.proofs.Common.{◌≡◌, ◌∙◌, ap, subst, sym, slice_get, map, Some, None}
+use Rattle.std.proofs.Common.{◌≡◌, ◌∙◌, ap, arith, length, subst, sym, slice_get, map, Some, None}
+use Rattle.std.proofs.lemmas.Option.{slice_get_within}
 use Rattle.module_table.specs.TableValue.{TableValue}
 use Rattle.module_table.specs.inner.Finds.{found}
 use Rattle.module_table.specs.Modules.{Provision, provisions}
 use Rattle.module_table.specs.inner.Views.{provision_of, IsAbsent}
+use Rattle.module_table.proofs.Rings.{length_mapped}
 use Rattle.module_table.proofs.Found.{named_found, absent_found}
 use Rattle.module_table.proofs.modules.Modules.find.Goals as goal
 use Rattle.ninja_text.proofs.ForCallers.{same_some, to_map}
+
+pub module_at-requires : goal.module_at-requires
+module_at-requires g c =
+    let t : TableValue = record { objects = c.self.inside.objects.now; infos = c.self.inside.infos.now } in
+    let same = ap (map provision_of) c.as_slice.ensures.value ∙ c.self.invariant.0 in
+    let inside = slice_get_within c.self.inside.names.keys c.in-Some.index c.args.name.now c.in-Some.ensures.found in
+    let named = ap length c.self.invariant.2 ∙ length_mapped (λ (p : Provision). p.name) (provisions t) in
+    let long = length_mapped provision_of c.as_slice.result.now in
+    let as_long = ap length same in
+    omega (arith, inside, named, long, as_long)
 
 pub returns-in-Some : goal.returns-in-Some
 returns-in-Some g c =

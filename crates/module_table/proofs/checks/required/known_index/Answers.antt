@@ -1,0 +1,6 @@
+use Rattle.std.proofs.Common.{ap}
+use Rattle.module_table.specs.declared.fault.TableFault.TheVariants.{ModuleUnknown}
+use Rattle.module_table.proofs.checks.required.known_index.Goals as goal
+
+pub returns-in_ok-name-in-None-clause-fault : goal.returns-in_ok-name-in-None-clause-fault
+returns-in_ok-name-in-None-clause-fault g c = (c.in-None.ensures.none, ap (λ name. ModuleUnknown name c.args.object) c.in_ok-name-in-None.ensures)
