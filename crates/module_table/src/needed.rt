@@ -11,6 +11,7 @@ ghost use Rattle.module_table.specs.inner.Graph.{IsModuleGraph};
 
 use crate::fault::Maker;
 use crate::graph::module_at;
+use crate::pairs::copy_pair;
 use crate::ranks::ranked_modules;
 use dep_order::{Digraph, Reaching};
 use ninja_text::Path;
@@ -147,9 +148,8 @@ fn copy_pairs(alloc: Global, pairs: &[(&Name, &Path)]) -> Result<Vec<(Name, Path
 {
     let mut copies = Vec::with_capacity(alloc, pairs.len())?;
     for pair in pairs {
-        let name = pair.0.copy(alloc)?;
-        let file = pair.1.copy(alloc)?;
-        copies.push((name, file))?;
+        let copy = copy_pair(alloc, pair.0, pair.1)?;
+        copies.push(copy)?;
     }
     Ok(copies)
 }

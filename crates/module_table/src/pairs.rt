@@ -9,7 +9,7 @@ ghost use Rattle.module_table.specs.inner.Mentioned.{AreFirsts};
 ghost use Rattle.ninja_text.specs.Firsts.{AllDiffer};
 ghost use Rattle.module_table.specs.inner.Views.{names_of};
 
-use crate::modules::{Module, Modules, module_at};
+use crate::modules::{Modules, module_at};
 use ninja_text::Path;
 use scan_docs::Name;
 use std::alloc::{AllocError, Global};
@@ -98,18 +98,19 @@ fn pairs_at<S: BuildHasher>(
     let provided = modules.provided();
     let mut pairs = Vec::with_capacity(alloc, indexes.len())?;
     for index in indexes {
-        let pair = copy_pair(alloc, module_at(provided, *index))?;
+        let module = module_at(provided, *index);
+        let pair = copy_pair(alloc, module.name, module.file)?;
         pairs.push(pair)?;
     }
     Ok(pairs)
 }
 
-/// The module's name and file.
-fn copy_pair(alloc: Global, provided: &Module) -> Result<(Name, Path), AllocError>
-    ensures name { IfOk result (λ pair. pair.0 ≡ provided.now.name.now) }
-    ensures file { IfOk result (λ pair. pair.1 ≡ provided.now.file.now) }
+/// The name and the file, copied.
+pub(crate) fn copy_pair(alloc: Global, name: &Name, file: &Path) -> Result<(Name, Path), AllocError>
+    ensures name { IfOk result (λ pair. pair.0 ≡ name.now) }
+    ensures file { IfOk result (λ pair. pair.1 ≡ file.now) }
 {
-    let name = provided.name.copy(alloc)?;
-    let file = provided.file.copy(alloc)?;
+    let name = name.copy(alloc)?;
+    let file = file.copy(alloc)?;
     Ok((name, file))
 }

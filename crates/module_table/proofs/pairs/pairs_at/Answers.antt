@@ -16,8 +16,8 @@ pair p = (p.name, p.file)
 pub loop-index-init : goal.loop-index-init
 loop-index-init g c = ap (map (λ p. Some p)) c.in_ok-pairs.ensures.items
 
-pub module_at-requires : goal.module_at-requires
-module_at-requires g c =
+pub module_at-module-requires : goal.module_at-module-requires
+module_at-module-requires g c =
     let inside = c.requires c.loop-index.index-index 0 c.loop-index-test.true in
     let long = length_mapped provision_of c.provided-provided.result.now in
     let same = ap length c.provided-provided.ensures.provisions in
@@ -30,8 +30,8 @@ loop-index-preserved g c =
     let i = c.loop-index.index-index in
     let v = get_or indexes i 0 in
     let at = slice_get-get_or indexes i 0 c.loop-index-test.true in
-    let found = ap (λ xs. slice_get xs v) (sym c.provided-provided.ensures.provisions) ∙ to_map provision_of c.provided-provided.result.now v _ c.module_at.ensures in
-    let found_module = c.module_at.result.now in
+    let found = ap (λ xs. slice_get xs v) (sym c.provided-provided.ensures.provisions) ∙ to_map provision_of c.provided-provided.result.now v _ c.module_at-module.ensures in
+    let found_module = c.module_at-module.result.now in
     let copied = c.in_ok-pair.pair in
     let same : Some copied ≡ pair_at ps v =
     ap (λ n. Some (n, copied.1)) c.in_ok-pair.ensures.name ∙ ap (λ x. Some (found_module.name.now, x)) c.in_ok-pair.ensures.file ∙ sym (ap (option_map pair) found) in
