@@ -7,6 +7,7 @@ use Rattle.dep_order.specs.Needs.{NodeNeeds, AreReached}
 use Rattle.module_table.specs.TableValue.{TableValue}
 use Rattle.module_table.specs.Modules.{provisions}
 use Rattle.module_table.specs.Needed.{ArePairs, IsNeeded, lent}
+use Rattle.module_table.specs.inner.Graph.{IsModuleGraph}
 use Rattle.module_table.specs.inner.Origins.{origins_of}
 use Rattle.module_table.proofs.Zips.{zip_length}
 use Rattle.module_table.proofs.ModulePlaces.{IsPlaceOf, module_places}
@@ -53,3 +54,25 @@ returns-clause-pairs c =
     (needed_lent t c.self.invariant.0 c.self.inside.reaching c.self.invariant.1 ranks c.self.inside.pairs.items c.self.invariant.2 c.args.object within nodes reach sorted permuted c.sort_unstable.ensures.sorted out.items
     (is ∙ ap (λ (xs : List (Bor (List ℕ) × Bor (List ℕ))). map (slice_get xs) c.as_slice-4.result.now) c.as_slice-3.ensures.value ∙ ap (map (slice_get c.self.inside.pairs.items)) c.as_slice-4.ensures.value)))
     c.pairs_at.ensures
+
+pub overflow_add-len : goal.overflow_add-len
+overflow_add-len c =
+    let t : TableValue = record { objects = c.self.inside.objects.now; infos = c.self.inside.infos.now } in
+    let within : c.args.object < length t.objects = subst (λ (t : TableValue). c.args.object < length t.objects) (sym c.self.view_is) c.requires in
+    omega (arith, within, c.self.invariant.3, c.self.invariant.2.as_many, c.len.ensures, c.self.inside.ranks.ok.0)
+
+-- the invariant, once the workspace has been used
+pub invariant_of-self : goal.invariant_of-self
+invariant_of-self c =
+    let t : TableValue = record { objects = c.self.inside.objects.now; infos = c.self.inside.infos.now } in
+    (c.self.invariant.0, subst (IsModuleGraph t) (sym c.from.ensures.same) c.self.invariant.1, c.self.invariant.2, c.self.invariant.3)
+
+pub invariant_of-self-in_err-ranks : goal.invariant_of-self-in_err-ranks
+invariant_of-self-in_err-ranks c =
+    let t : TableValue = record { objects = c.self.inside.objects.now; infos = c.self.inside.infos.now } in
+    (c.self.invariant.0, subst (IsModuleGraph t) (sym c.from.ensures.same) c.self.invariant.1, c.self.invariant.2, c.self.invariant.3)
+
+pub invariant_of-self-2 : goal.invariant_of-self-2
+invariant_of-self-2 c =
+    let t : TableValue = record { objects = c.self.inside.objects.now; infos = c.self.inside.infos.now } in
+    (c.self.invariant.0, subst (IsModuleGraph t) (sym c.from.ensures.same) c.self.invariant.1, c.self.invariant.2, c.self.invariant.3)
