@@ -22,8 +22,8 @@ use Rattle.collate_core.specs.Documents.{table_of, AreAccepted, IsResolved}
 use Rattle.collate_core.specs.Statements.{statements_of}
 use Rattle.collate_core.specs.Infos.{info_of_table}
 use Rattle.collate_core.specs.Collation.{IsMapText, AreMaps, Collates}
-use Rattle.collate_core.specs.Refusals.{IsRefusal, WasRead}
-use Rattle.collate_core.specs.inner.Parts.{IsDocumentRefusal, IsWriteRefusal, IsMapsRefusal, IsTextsRefusal, HasSpelled}
+use Rattle.collate_core.specs.Refusals.{IsRefusal, IsMapRefusal, WasRead}
+use Rattle.collate_core.specs.inner.Parts.{IsDocumentRefusal, IsWriteRefusal, IsMapsRefusal, IsObjectRefusal, IsTextsRefusal, HasSpelled}
 use Rattle.collate_core.specs.declared.fault.Refusal.{Refusal}
 use Rattle.collate_core.specs.declared.fault.RefusedTarget.{RefusedTarget}
 use Rattle.collate_core.specs.declared.fault.Refusal.TheVariants.{Scan, Info, Table, StatementTooLong, Map, LinkedLater}
@@ -167,3 +167,21 @@ pub map_before : (t : TableValue) (written : Written) (texts : List (Vec ℕ Glo
 map_before t written texts object count each p earlier less here =
     let x : (text : List ℕ) × (slice_get (map (λ (m : Vec ℕ Global). m.items) texts) p ≡ Some text) = element_at (map (λ (m : Vec ℕ Global). m.items) texts) p (omega (arith, less, count, length-map texts (λ (m : Vec ℕ Global). m.items))) in
     (x.0, each p earlier x.0 here x.1)
+
+-- the first map that is refused is that of this object, where those before are written
+pub object_refused : (t : TableValue) (written : Written) (texts : List (Vec ℕ Global)) (object : ℕ) → length texts ≡ object → EachMap t written (map (λ m. m.items) texts) → object < length t.objects →
+    (failure : Failure Refusal) → ForFault (IsObjectRefusal t written object) failure → ForFault (IsMapsRefusal t (Some written)) failure
+object_refused t written texts object count each within Memory h = tt
+object_refused t written texts object count each within (Fault (Map k fault)) h =
+    let at : (rule : RuleValue) × (slice_get t.objects object ≡ Some rule) = element_at t.objects object within in
+    subst (λ o. IsMapRefusal t written o fault) (sym h.0) (record {
+      before = map_before t written texts object count each;
+      rule = at.0;
+      here = at.1;
+      faulty = h.1 at.0 at.1;
+    })
+object_refused t written texts object count each within (Fault (Scan i fault)) h = absurd h
+object_refused t written texts object count each within (Fault (Info i fault)) h = absurd h
+object_refused t written texts object count each within (Fault (Table fault)) h = absurd h
+object_refused t written texts object count each within (Fault (StatementTooLong k)) h = absurd h
+object_refused t written texts object count each within (Fault LinkedLater) h = absurd h

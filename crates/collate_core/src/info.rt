@@ -1,5 +1,5 @@
 //! The info of a target: its modules, for the targets that link it.
-ghost use Rattle.std.specs.Prelude.{◌≡◌, ◌++◌, ℕ, List, IfOk, OnOk};
+ghost use Rattle.std.specs.Prelude.{◌≡◌, ◌++◌, ℕ, List, [], IfOk, OnOk};
 ghost use Rattle.ninja_text.specs.Bytes.{Name};
 ghost use Rattle.scan_docs.specs.InfoText.{info_text, ReadsBack};
 ghost use Rattle.collate_core.specs.Infos.{is_private_name, modules_of, info_of_table};
@@ -26,26 +26,43 @@ pub(crate) fn info_text_of<S: BuildHasher + Copy>(
     ensures reads_back { IfOk result
         (λ text. ReadsBack (info_of_table name.now kept.now table.now) text.items) }
 {
-    added_files();
-    let set = set_of(alloc, kept, hash_builder)?;
-    let info = info_of_table(alloc, name, &set, table)?;
-    lent_info_write(alloc, &info)
+    let mut set = IndexSet::with_hasher(alloc, hash_builder);
+    add_names(alloc, kept, &mut set)?;
+    text_with(alloc, name, &set, table)
 }
 
-/// The names as a set, which each module is looked up in.
-fn set_of<S: BuildHasher + Copy>(
+/// Copies the names into the empty set, which each module is looked up in.
+fn add_names<S: BuildHasher>(
     alloc: Global,
     names: &[Name],
-    hash_builder: S,
-) -> Result<IndexSet<Name, S>, AllocError>
-    ensures { IfOk result
-        (λ set. (name : Name) → is_private_name set.keys name ≡ is_private_name names.now name) }
+    set: &mut IndexSet<Name, S>,
+) -> Result<(), AllocError>
+    requires { set.old.keys ≡ [] }
+    ensures { OnOk result
+        ((name : Name) → is_private_name set.new.keys name ≡ is_private_name names.now name) }
 {
-    let mut set = IndexSet::with_hasher(alloc, hash_builder);
     for name in names {
         set.insert(name.copy(alloc)?)?;
     }
-    Ok(set)
+    Ok(())
+}
+
+/// The text of the info of a target of this name, which keeps the modules of the set to itself.
+fn text_with<S: BuildHasher>(
+    alloc: Global,
+    name: &TargetName,
+    kept: &IndexSet<Name, S>,
+    table: &Table<S>,
+) -> Result<Vec<u8>, AllocError>
+    requires { IsTableText table.now }
+    ensures text { IfOk result
+        (λ text. text.items ≡ info_text (info_of_table name.now kept.now.keys table.now)) }
+    ensures reads_back { IfOk result
+        (λ text. ReadsBack (info_of_table name.now kept.now.keys table.now) text.items) }
+{
+    added_files();
+    let info = info_of_table(alloc, name, kept, table)?;
+    lent_info_write(alloc, &info)
 }
 
 /// The info of a target of this name, which keeps these modules to itself.

@@ -4,7 +4,7 @@ ghost use Rattle.collate_core.specs.Values.{CollatedValue};
 ghost use Rattle.collate_core.specs.Projects.{linked_infos};
 ghost use Rattle.collate_core.specs.inner.ReadInfos.{IsReadAs, AreReadAs, AreKnown};
 
-use crate::pairs::copy_pairs;
+use crate::pairs::{copy_pair, copy_pairs};
 use ninja_text::Failure;
 use scan_docs::{Info, InfoModule, info_read};
 use std::alloc::{AllocError, Global};
@@ -45,18 +45,24 @@ fn copy_info(alloc: Global, info: &Info) -> Result<Info, AllocError>
     ensures { IfOk result (λ copy. copy ≡ info.now) }
 {
     let target = info.target.copy(alloc)?;
-    let mut modules = Vec::with_capacity(alloc, info.modules.len())?;
-    for module in &info.modules {
-        modules.push(copy_module(alloc, module)?)?;
-    }
+    let modules = copy_modules(alloc, &info.modules)?;
     Ok(Info { target, modules })
+}
+
+fn copy_modules(alloc: Global, modules: &[InfoModule]) -> Result<Vec<InfoModule>, AllocError>
+    ensures { IfOk result (λ copy. copy.items ≡ modules.now) }
+{
+    let mut copy = Vec::with_capacity(alloc, modules.len())?;
+    for module in modules {
+        copy.push(copy_module(alloc, module)?)?;
+    }
+    Ok(copy)
 }
 
 fn copy_module(alloc: Global, entry: &InfoModule) -> Result<InfoModule, AllocError>
     ensures { IfOk result (λ copy. copy ≡ entry.now) }
 {
-    let name = entry.name.copy(alloc)?;
-    let file = entry.file.copy(alloc)?;
+    let (name, file) = copy_pair(alloc, &entry.name, &entry.file)?;
     let required = copy_pairs(alloc, &entry.required)?;
     Ok(InfoModule {
         name,

@@ -1,18 +1,19 @@
 //! The maps of a table's objects.
-ghost use Rattle.std.specs.Prelude.{◌≡◌, ◌<◌, ℕ, List, [], length, map, slice_get, Some, IfOk, OnOk, IfErr};
+ghost use Rattle.std.specs.Prelude.{◌≡◌, ◌<◌, length, map, slice_get, Some, IfOk, IfErr};
 ghost use Rattle.std.specs.Option.{option_copied, option_map};
 ghost use Rattle.ninja_text.specs.Failure.{ForFault};
 ghost use Rattle.scan_docs.specs.Scan.{RuleValue};
+ghost use Rattle.module_table.specs.Needed.{ArePairs, IsNeeded};
 ghost use Rattle.collate_core.specs.Maps.{IsMapOf};
 ghost use Rattle.collate_core.specs.Collation.{AreMaps, IsMapText};
-ghost use Rattle.collate_core.specs.Refusals.{IsMapFault};
-ghost use Rattle.collate_core.specs.inner.Parts.{IsMapsRefusal};
+ghost use Rattle.collate_core.specs.inner.Parts.{IsMapsRefusal, IsObjectRefusal};
 
 use crate::fault::Refusal;
 use crate::pairs::{copy_lent, copy_pairs};
-use module_maps::{MapFault, MapStyle, ModuleMap};
+use module_maps::{MapStyle, ModuleMap};
 use module_table::{Needs, Table};
-use ninja_text::Failure;
+use ninja_text::{Failure, Path};
+use scan_docs::Name;
 use std::alloc::{AllocError, Global};
 use std::hash::BuildHasher;
 
@@ -32,38 +33,29 @@ pub(crate) fn maps_of<M: MapStyle, S: BuildHasher>(
         None => Ok(Vec::new(alloc)),
         Some(style) => {
             let mut needs = table.needs(alloc)?;
-            let mut texts = Vec::with_capacity(alloc, table.objects().len())?;
-            add_texts(alloc, table, &mut needs, style, &mut texts)?;
-            Ok(texts)
+            texts_of(alloc, table, &mut needs, style)
         }
     }
 }
 
-/// Adds the text of each object's map, up to the first that is refused.
-fn add_texts<M: MapStyle, S: BuildHasher>(
+/// The text of each object's map, or the first that is refused.
+fn texts_of<M: MapStyle, S: BuildHasher>(
     alloc: Global,
     table: &Table<S>,
     needs: &mut Needs<'_>,
     style: &M,
-    texts: &mut Vec<Vec<u8>>,
-) -> Result<(), Failure<Refusal>>
-    requires needs { needs.old ≡ table.now }
-    requires none { texts.old.items ≡ [] }
-    ensures maps { OnOk result
-        (AreMaps table.now (Some (M.written style.now)) (map (λ m. m.items) texts.new.items)) }
+) -> Result<Vec<Vec<u8>>, Failure<Refusal>>
+    requires { needs.old ≡ table.now }
+    ensures maps { IfOk result (λ texts.
+        AreMaps table.now (Some (M.written style.now)) (map (λ m. m.items) texts.items)) }
     ensures refused { IfErr result
         (ForFault (IsMapsRefusal table.now (Some (M.written style.now)))) }
 {
+    let mut texts = Vec::with_capacity(alloc, table.objects().len())?;
     for object in 0..table.objects().len() {
-        match text_of(alloc, table, needs, object, style) {
-            Ok(text) => texts.push(text)?,
-            Err(Failure::Memory) => return Err(Failure::Memory),
-            Err(Failure::Fault(fault)) => {
-                return Err(Failure::Fault(Refusal::Map { object, fault }));
-            }
-        }
+        texts.push(text_of(alloc, table, needs, object, style)?)?;
     }
-    Ok(())
+    Ok(texts)
 }
 
 /// The text of an object's map.
@@ -73,19 +65,20 @@ fn text_of<M: MapStyle, S: BuildHasher>(
     needs: &mut Needs<'_>,
     object: usize,
     style: &M,
-) -> Result<Vec<u8>, Failure<MapFault>>
+) -> Result<Vec<u8>, Failure<Refusal>>
     requires object { object < length table.now.objects }
     requires needs { needs.old ≡ table.now }
     ensures same { needs.new ≡ needs.old }
     ensures text { IfOk result
         (λ text. (rule : RuleValue) → slice_get table.now.objects object ≡ Some rule →
         IsMapText table.now (M.written style.now) object rule text.items) }
-    ensures fault { IfErr result (ForFault (λ fault.
-        (rule : RuleValue) → slice_get table.now.objects object ≡ Some rule →
-        IsMapFault table.now (M.written style.now) object rule fault)) }
+    ensures refused { IfErr result
+        (ForFault (IsObjectRefusal table.now (M.written style.now) object)) }
 {
     let map = map_of(alloc, table, needs, object)?;
-    style.write(alloc, &map)
+    style
+        .write(alloc, &map)
+        .map_err(|failure| failure.map(|fault| Refusal::Map { object, fault }))
 }
 
 /// The map of an object.
@@ -103,10 +96,24 @@ fn map_of<S: BuildHasher>(
         IsMapOf table.now object rule map) }
 {
     let provided = copy_pairs(alloc, table.provided(object))?;
-    let lent = needs.of(alloc, object)?;
-    let needed = copy_lent(alloc, &lent)?;
+    let needed = needed_of(alloc, needs, object)?;
     match ModuleMap::new(provided, needed) {
         Some(map) => Ok(map),
         None => unreachable!(),
     }
+}
+
+/// What an object needs.
+fn needed_of(
+    alloc: Global,
+    needs: &mut Needs<'_>,
+    object: usize,
+) -> Result<Vec<(Name, Path)>, AllocError>
+    requires { object < length needs.old.objects }
+    ensures same { needs.new ≡ needs.old }
+    ensures needed { IfOk result
+        (λ needed. ArePairs (IsNeeded needs.old object) needed.items) }
+{
+    let lent = needs.of(alloc, object)?;
+    copy_lent(alloc, &lent)
 }

@@ -6,6 +6,19 @@ use ninja_text::Path;
 use scan_docs::Name;
 use std::alloc::{AllocError, Global};
 
+/// A copy of the name and of the file, as a pair.
+pub(crate) fn copy_pair(
+    alloc: Global,
+    name: &Name,
+    file: &Path,
+) -> Result<(Name, Path), AllocError>
+    ensures { IfOk result (λ copy. copy ≡ (name.now, file.now)) }
+{
+    let name = name.copy(alloc)?;
+    let file = file.copy(alloc)?;
+    Ok((name, file))
+}
+
 /// The same pairs once more.
 pub(crate) fn copy_pairs(
     alloc: Global,
@@ -15,9 +28,7 @@ pub(crate) fn copy_pairs(
 {
     let mut copy = Vec::with_capacity(alloc, pairs.len())?;
     for pair in pairs {
-        let name = pair.0.copy(alloc)?;
-        let path = pair.1.copy(alloc)?;
-        copy.push((name, path))?;
+        copy.push(copy_pair(alloc, &pair.0, &pair.1)?)?;
     }
     Ok(copy)
 }
@@ -31,9 +42,7 @@ pub(crate) fn copy_lent(
 {
     let mut copy = Vec::with_capacity(alloc, pairs.len())?;
     for pair in pairs {
-        let name = pair.0.copy(alloc)?;
-        let path = pair.1.copy(alloc)?;
-        copy.push((name, path))?;
+        copy.push(copy_pair(alloc, pair.0, pair.1)?)?;
     }
     Ok(copy)
 }

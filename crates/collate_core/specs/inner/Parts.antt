@@ -1,12 +1,12 @@
 -- What the parts of collating promise one another: definitions for private clauses.
-use Rattle.std.specs.Prelude.{◌≡◌, ℕ, List, length, map, Option, Some, All}
+use Rattle.std.specs.Prelude.{◌≡◌, ℕ, List, length, map, slice_get, Option, Some, All}
 use Rattle.std.specs.Borrow.{Bor}
 use Rattle.ninja_text.specs.Paths.{IsPath}
 use Rattle.ninja_text.specs.Escapes.{IsWritable}
 use Rattle.dyndep_file.specs.StatementValue.{StatementValue}
 use Rattle.dyndep_file.specs.WriteFaults.{write_fault, statement_fault, paths_of}
 use Rattle.dyndep_file.specs.declared.fault.WriteFault.TheVariants as write
-use Rattle.scan_docs.specs.Scan.{IsRuleText}
+use Rattle.scan_docs.specs.Scan.{RuleValue, IsRuleText}
 use Rattle.scan_docs.specs.InfoText.{IsInfoText}
 use Rattle.scan_docs.specs.declared.fault.DocFault.{DocFault}
 use Rattle.module_table.specs.TableValue.{TableValue}
@@ -15,7 +15,7 @@ use Rattle.build_effect.specs.declared.fault.EffectFault.{EffectFault}
 use Rattle.collate_core.specs.Values.{TargetValue, CollatedValue, ProjectTargetValue}
 use Rattle.collate_core.specs.Documents.{table_of, AreScansAccepted, IsResolved}
 use Rattle.collate_core.specs.Collation.{Collates}
-use Rattle.collate_core.specs.Refusals.{IsScanRefusal, IsInfoRefusal, IsMapRefusal, IsRefusal}
+use Rattle.collate_core.specs.Refusals.{IsScanRefusal, IsInfoRefusal, IsMapFault, IsMapRefusal, IsRefusal}
 use Rattle.collate_core.specs.Projects.{target_of, LinksEarlier}
 use Rattle.collate_core.specs.declared.fault.Refusal.{Refusal}
 use Rattle.collate_core.specs.declared.fault.Refusal.TheVariants.{Scan, Info, StatementTooLong, Map}
@@ -79,6 +79,12 @@ IsLineRefusal index s refusal = ⊥
 abbrev pub IsMapsRefusal : TableValue → Option Written → Refusal → Type 0
 IsMapsRefusal t (Some written) (Map o fault) = IsMapRefusal t written o fault
 IsMapsRefusal t style refusal = ⊥
+
+-- the refusal is of the map of the object at this index
+abbrev pub IsObjectRefusal : TableValue → Written → ℕ → Refusal → Type 0
+IsObjectRefusal t written o (Map k fault) = (k ≡ o)
+    × ((rule : RuleValue) → slice_get t.objects o ≡ Some rule → IsMapFault t written o rule fault)
+IsObjectRefusal t written o refusal = ⊥
 
 -- the refusal is that of each target whose documents have this table
 abbrev pub IsTextsRefusal : TableValue → Option Written → Refusal → Type 0
