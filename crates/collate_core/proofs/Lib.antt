@@ -3,6 +3,7 @@ pub mod Levels
 pub mod Lists
 pub mod PrivateNames
 pub mod Scans
+pub mod Turning
 pub mod Writing
 pub mod Texts
 pub mod HeadlineLemmas

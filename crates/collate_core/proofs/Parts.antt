@@ -1,6 +1,6 @@
 -- From the parts of collating to the whole.
-use Rattle.std.proofs.Common.{◌≡◌, ℕ, zero, suc, ◌+◌, ◌<◌, List, [], ◌∷◌, ◌++◌, length, map, Option, Some, None, Ok, ap, subst, sym, ◌∙◌, inl, inr, arith}
-use Rattle.std.specs.Prelude.{slice_get, All, Vec}
+use Rattle.std.proofs.Common.{◌≡◌, ℕ, zero, suc, ◌+◌, ◌<◌, List, [], ◌∷◌, ◌++◌, length, map, Option, Some, None, Result, Ok, Err, ap, subst, sym, ◌∙◌, inl, inr, arith}
+use Rattle.std.specs.Prelude.{slice_get, All, Vec, IfOk, OnOk}
 use Rattle.std.specs.declared.alloc.Global.{Global}
 use Rattle.std.proofs.lemmas.List.{map_push, length-map}
 use Rattle.ninja_text.specs.Failure.{ForFault}
@@ -56,8 +56,13 @@ pub collates : (target : TargetValue) (style : Option Written) (t : TableValue) 
 collates target style t ss c table same h =
     of_table target style c (subst (λ u. Given target style u (statements_of u) c) table (subst (λ xs. Given target style t xs c) same h))
 
-pub resolved : (target : TargetValue) (t : TableValue) → t ≡ table_of target → AreAccepted target → ((fault : TableFault) → IsFault t target.kept fault → ⊥) → IsSound t → PrivateAreProvided t target.kept → IsResolved target
+resolved : (target : TargetValue) (t : TableValue) → t ≡ table_of target → AreAccepted target → ((fault : TableFault) → IsFault t target.kept fault → ⊥) → IsSound t → PrivateAreProvided t target.kept → IsResolved target
 resolved target t table documents no_fault sound kept = record { documents = documents; no_fault = subst (λ u. (fault : TableFault) → IsFault u target.kept fault → ⊥) table no_fault; sound = subst IsSound table sound; kept = subst (λ u. PrivateAreProvided u target.kept) table kept }
+
+pub built_resolved : {E : Type 0} (target : TargetValue) (read : TableValue) (built : Result TableValue E) → read ≡ table_of target → AreAccepted target → IfOk built (λ t. t ≡ read) →
+    IfOk built (λ t. (fault : TableFault) → IsFault t target.kept fault → ⊥) → IfOk built IsSound → IfOk built (λ t. PrivateAreProvided t target.kept) → OnOk built (IsResolved target)
+built_resolved target read (Ok t) same documents table no_fault sound kept = resolved target t (table ∙ same) documents no_fault sound kept
+built_resolved target read (Err e) same documents table no_fault sound kept = tt
 
 -- a refusal of a document is one whatever the style, and needs nothing of what was read
 pub document_refused : (target : TargetValue) (refusal : Refusal) → IsDocumentRefusal target refusal → (style : Option Written) → IsRefusal target style refusal

@@ -1,16 +1,20 @@
 //! Collating a target.
-ghost use Rattle.std.specs.Prelude.{◌≡◌, map, None, IfOk, IfErr};
+ghost use Rattle.std.specs.Prelude.{◌≡◌, map, None, Ok, All, IfOk, OnOk, IfErr, IfSome};
 ghost use Rattle.std.specs.Option.{option_copied, option_map};
-ghost use Rattle.ninja_text.specs.Failure.{ForFault};
+ghost use Rattle.ninja_text.specs.Failure.{ForFault, Turns};
+ghost use Rattle.dyndep_file.specs.WriteFaults.{text_or_fault};
+ghost use Rattle.dyndep_file.specs.Reading.{StandsForOnly};
 ghost use Rattle.module_table.specs.TableValue.{table_with};
 ghost use Rattle.collate_core.specs.Documents.{IsResolved, table_of};
-ghost use Rattle.collate_core.specs.Collation.{Collates};
+ghost use Rattle.collate_core.specs.Statements.{statements_of};
+ghost use Rattle.collate_core.specs.Collation.{Collates, AreMaps};
 ghost use Rattle.collate_core.specs.Headline.{IsHeadline, IsDyndepOf};
 ghost use Rattle.collate_core.specs.Refusals.{IsRefusal, WasRead};
-ghost use Rattle.collate_core.specs.inner.Parts.{IsTableText};
+ghost use Rattle.collate_core.specs.inner.Parts.{HasSpelled, IsReadFrom, IsTableText, IsTextsRefusal};
+ghost use Rattle.collate_core.specs.inner.ReadInfos.{AreReadAs};
 
 use crate::collated::Collated;
-use crate::fault::{Refusal, RefusedTarget, refusal_alone, without_table};
+use crate::fault::{Refusal, RefusedTarget, nothing_read, refusal_alone};
 use crate::info::info_text_of;
 use crate::laws::headline;
 use crate::object_maps::maps_of;
@@ -20,6 +24,7 @@ use crate::target::Target;
 use module_maps::MapStyle;
 use module_table::{Table, added_files};
 use ninja_text::{Failure, Path};
+use scan_docs::Info;
 use scan_docs::laws::info_again;
 use std::alloc::{AllocError, Global};
 use std::hash::{BuildHasher, BuildHasherDefault, FoldHasher};
@@ -80,21 +85,18 @@ pub fn collate_or_refused<M: MapStyle, S: BuildHasher + Copy>(
     ensures read { IfErr result (ForFault (λ refused. WasRead target.now refused.refusal
         (table_with refused.objects.items refused.infos.items))) }
 {
-    let table = table_of(alloc, target, None, hash_builder)?;
-    collated_or_refused(alloc, target, table, style, hash_builder)
+    collate_known(alloc, target, None, style, hash_builder)
 }
 
-/// What a target collates to whose documents have this table, or its refusal with what was read.
-pub(crate) fn collated_or_refused<M: MapStyle, S: BuildHasher + Copy>(
+/// The same, where it may be known before what the infos are read as.
+pub(crate) fn collate_known<M: MapStyle, S: BuildHasher + Copy>(
     alloc: Global,
     target: &Target<'_>,
-    table: Table<S>,
+    known: Option<Vec<Info>>,
     style: Option<&M>,
     hash_builder: S,
 ) -> Result<Collated, Failure<RefusedTarget>>
-    requires table { table ≡ table_of target.now }
-    requires resolved { IsResolved target.now }
-    requires text { IsTableText table }
+    requires { IfSome known (λ infos. AreReadAs target.now.infos infos.items) }
     ensures collated { IfOk result
         (Collates target.now (option_map M.written (option_copied style.entry))) }
     ensures headline { IfOk result (IsHeadline target.now) }
@@ -103,16 +105,29 @@ pub(crate) fn collated_or_refused<M: MapStyle, S: BuildHasher + Copy>(
     ensures read { IfErr result (ForFault (λ refused. WasRead target.now refused.refusal
         (table_with refused.objects.items refused.infos.items))) }
 {
+    let table = table_of(alloc, target, known, hash_builder)?;
     match collated_of(alloc, target, &table, style, hash_builder) {
         Ok(collated) => Ok(collated),
-        Err(Failure::Memory) => Err(Failure::Memory),
-        Err(Failure::Fault(refusal)) => {
+        Err(failure) => Err(with_table(failure, table)),
+    }
+}
+
+/// The failure of a target with what was read of it, which has this table.
+fn with_table<S: BuildHasher + Copy>(
+    failure: Failure<Refusal>,
+    table: Table<S>,
+) -> Failure<RefusedTarget>
+    ensures { Turns (IsReadFrom table) failure result }
+{
+    match failure {
+        Failure::Memory => Failure::Memory,
+        Failure::Fault(refusal) => {
             let (objects, infos) = table.into_resolved().into_parts();
-            Err(Failure::Fault(RefusedTarget {
+            Failure::Fault(RefusedTarget {
                 refusal,
                 objects,
                 infos,
-            }))
+            })
         }
     }
 }
@@ -136,11 +151,31 @@ fn collated_of<M: MapStyle, S: BuildHasher + Copy>(
 {
     headline();
     added_files();
-    let text = text_of(alloc, table.resolved())?;
-    let maps = maps_of(alloc, table, style)?;
+    let (text, maps) = texts_of(alloc, table, style)?;
     let info = info_text_of(alloc, target.name, target.kept, table, hash_builder)?;
     let objects = objects_of(alloc, table)?;
     Ok(Collated::new(text, info, objects, maps))
+}
+
+/// The text of the dyndep file of a table's objects and, with a style, their maps.
+fn texts_of<M: MapStyle, S: BuildHasher>(
+    alloc: Global,
+    table: &Table<S>,
+    style: Option<&M>,
+) -> Result<(Vec<u8>, Vec<Vec<u8>>), Failure<Refusal>>
+    ensures text { IfOk result
+        (λ texts. text_or_fault (statements_of table.now) ≡ Ok texts.0.items) }
+    ensures meaning { IfOk result (λ texts. StandsForOnly texts.0.items (statements_of table.now)) }
+    ensures spelled { OnOk result (All HasSpelled (statements_of table.now)) }
+    ensures maps { IfOk result (λ texts.
+        AreMaps table.now (option_map M.written (option_copied style.entry))
+        (map (λ m. m.items) texts.1.items)) }
+    ensures refused { IfErr result (ForFault (IsTextsRefusal table.now
+        (option_map M.written (option_copied style.entry)))) }
+{
+    let text = text_of(alloc, table.resolved())?;
+    let maps = maps_of(alloc, table, style)?;
+    Ok((text, maps))
 }
 
 /// Collates a target to its dyndep text alone: the text that [`collate`] without a style answers.
@@ -189,8 +224,7 @@ pub fn collate_dyndep_or_refused<S: BuildHasher + Copy>(
     let resolved = table.into_resolved();
     match text_of(alloc, &resolved) {
         Ok(dyndep) => Ok(dyndep),
-        Err(Failure::Memory) => Err(Failure::Memory),
-        Err(Failure::Fault(refusal)) => Err(Failure::Fault(without_table(alloc, refusal))),
+        Err(failure) => Err(nothing_read(alloc, failure)),
     }
 }
 

@@ -58,6 +58,13 @@ pub(crate) fn without_table(alloc: Global, refusal: Refusal) -> RefusedTarget
     }
 }
 
+/// The failure of a target whose refusal is neither of the table nor of a map.
+pub(crate) fn nothing_read(alloc: Global, failure: Failure<Refusal>) -> Failure<RefusedTarget>
+    ensures { Turns (λ refusal refused. refused.refusal ≡ refusal) failure result }
+{
+    failure.map(|refusal| without_table(alloc, refusal))
+}
+
 /// The failure without what was read.
 pub(crate) fn refusal_alone(failure: Failure<RefusedTarget>) -> Failure<Refusal>
     ensures { Turns (λ refused refusal. refusal ≡ refused.refusal) failure result }

@@ -76,9 +76,7 @@ fn text_of<M: MapStyle, S: BuildHasher>(
         (ForFault (IsObjectRefusal table.now (M.written style.now) object)) }
 {
     let map = map_of(alloc, table, needs, object)?;
-    style
-        .write(alloc, &map)
-        .map_err(|failure| failure.map(|fault| Refusal::Map { object, fault }))
+    style.write(alloc, &map).map_err(|failure| failure.map(|fault| Refusal::Map { object, fault }))
 }
 
 /// The map of an object.

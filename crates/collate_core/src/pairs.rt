@@ -7,11 +7,7 @@ use scan_docs::Name;
 use std::alloc::{AllocError, Global};
 
 /// A copy of the name and of the file, as a pair.
-pub(crate) fn copy_pair(
-    alloc: Global,
-    name: &Name,
-    file: &Path,
-) -> Result<(Name, Path), AllocError>
+pub(crate) fn copy_pair(alloc: Global, name: &Name, file: &Path) -> Result<(Name, Path), AllocError>
     ensures { IfOk result (λ copy. copy ≡ (name.now, file.now)) }
 {
     let name = name.copy(alloc)?;

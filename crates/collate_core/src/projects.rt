@@ -1,21 +1,20 @@
 //! Projects: targets that link earlier ones.
 ghost use Rattle.std.specs.Prelude.{◌≡◌, ◌↔◌, ◌<◌, List, [], IfOk, OnOk, IfErr, IfSome, IsTrue, All, map, length};
 ghost use Rattle.std.specs.Option.{option_copied, option_map};
-ghost use Rattle.ninja_text.specs.Failure.{ForFault};
+ghost use Rattle.ninja_text.specs.Failure.{ForFault, Turns};
 ghost use Rattle.module_table.specs.TableValue.{table_with};
 ghost use Rattle.collate_core.specs.Refusals.{WasRead};
 ghost use Rattle.collate_core.specs.Projects.{CollatesProject, IsProjectRefusal, IsLinkedRefusal, WasReadAt, target_of, linked_infos, project_tables};
 ghost use Rattle.collate_core.specs.ProjectOrders.{AllOrders, IsProjectOrdered, EndIsOrderable};
 ghost use Rattle.collate_core.specs.ProjectNeeds.{MapsReadBack};
-ghost use Rattle.collate_core.specs.inner.Parts.{CollatesLinked};
+ghost use Rattle.collate_core.specs.inner.Parts.{CollatesLinked, IsOneMore};
 ghost use Rattle.collate_core.specs.inner.ReadInfos.{AreKnown};
 
 use crate::collated::Collated;
-use crate::collating::collated_or_refused;
+use crate::collating::collate_known;
 use crate::fault::{Refusal, RefusedTarget, without_table};
 use crate::known_infos::{known_of, read_info};
 use crate::laws::{project_maps, project_orders};
-use crate::table::table_of;
 use crate::target::Target;
 use module_maps::MapStyle;
 use ninja_text::Failure;
@@ -187,15 +186,51 @@ fn add_outs<M: MapStyle, S: BuildHasher + Copy>(
 {
     let mut known = Vec::with_capacity(alloc, targets.len())?;
     for (index, target) in targets.iter().enumerate() {
-        match collate_linked(alloc, target, outs.as_slice(), &known, style, hash_builder) {
-            Ok(out) => {
-                known.push(read_info(alloc, out.info())?)?;
-                outs.push(out)?;
-            }
-            Err(Failure::Memory) => return Err(Failure::Memory),
-            Err(Failure::Fault(refused)) => return Err(Failure::Fault((index, refused))),
+        if let Err(failure) = add_out(alloc, target, style, hash_builder, outs, &mut known) {
+            return Err(of_target(index, failure));
         }
     }
+    Ok(())
+}
+
+/// The failure of the target of this index.
+fn of_target(index: usize, failure: Failure<RefusedTarget>) -> Failure<(usize, RefusedTarget)>
+    ensures { Turns (λ refused found. found ≡ (index, refused)) failure result }
+{
+    failure.map(|refused| (index, refused))
+}
+
+/// Adds what the next target collates to, and what its info is read as.
+fn add_out<M: MapStyle, S: BuildHasher + Copy>(
+    alloc: Global,
+    target: &ProjectTarget<'_>,
+    style: Option<&M>,
+    hash_builder: S,
+    outs: &mut Vec<Collated>,
+    known: &mut Vec<Option<Info>>,
+) -> Result<(), Failure<RefusedTarget>>
+    requires { AreKnown outs.old.items known.old.items }
+    ensures collated { OnOk result (IsOneMore
+        (option_map M.written (option_copied style.entry))
+        outs.old.items target.now outs.new.items) }
+    ensures known { OnOk result (AreKnown outs.new.items known.new.items) }
+    ensures refused { IfErr result (ForFault (λ refused. IsLinkedRefusal
+        (option_map M.written (option_copied style.entry))
+        outs.old.items (length outs.old.items) target.now refused.refusal)) }
+    ensures read { IfErr result (ForFault (λ refused.
+        WasRead (target_of outs.old.items target.now) refused.refusal
+        (table_with refused.objects.items refused.infos.items))) }
+{
+    let out = collate_linked(
+        alloc,
+        target,
+        outs.as_slice(),
+        known.as_slice(),
+        style,
+        hash_builder,
+    )?;
+    known.push(read_info(alloc, out.info())?)?;
+    outs.push(out)?;
     Ok(())
 }
 
@@ -260,6 +295,5 @@ fn collate_linked<M: MapStyle, S: BuildHasher + Copy>(
         kept: target.kept,
     };
     let known = known_of(alloc, target.linked, known)?;
-    let table = table_of(alloc, &with_infos, known, hash_builder)?;
-    collated_or_refused(alloc, &with_infos, table, style, hash_builder)
+    collate_known(alloc, &with_infos, known, style, hash_builder)
 }

@@ -1,15 +1,15 @@
 //! The table of a target's documents.
 ghost use Rattle.std.specs.Prelude.{◌≡◌, map, All, Option, IfOk, OnOk, IfErr, IfSome};
-ghost use Rattle.ninja_text.specs.Failure.{ForFault};
+ghost use Rattle.ninja_text.specs.Failure.{ForFault, Turns};
 ghost use Rattle.scan_docs.specs.Scan.{IsRuleText};
 ghost use Rattle.module_table.specs.TableValue.{table_with};
 ghost use Rattle.module_maps.specs.Maps.{Written};
 ghost use Rattle.collate_core.specs.Documents.{all_rules, table_of, AreScansAccepted, AreAccepted, IsResolved};
 ghost use Rattle.collate_core.specs.Refusals.{IsRefusal, IsScanRefusal, IsInfoRefusal, WasRead};
-ghost use Rattle.collate_core.specs.inner.Parts.{IsTableText, ForScan, ForInfo, IsDocumentRefusal};
+ghost use Rattle.collate_core.specs.inner.Parts.{IsTableText, ForScan, ForInfo, IsDocumentRefusal, IsOfTable};
 ghost use Rattle.collate_core.specs.inner.ReadInfos.{AreReadAs};
 
-use crate::fault::{Refusal, RefusedTarget, without_table};
+use crate::fault::{Refusal, RefusedTarget, nothing_read};
 use crate::target::Target;
 use module_table::{RefusedTable, Table};
 use ninja_text::Failure;
@@ -40,27 +40,22 @@ pub(crate) fn table_of<S: BuildHasher + Copy>(
 {
     let (objects, infos) = match documents_of(alloc, target, known) {
         Ok(read) => read,
-        Err(Failure::Memory) => return Err(Failure::Memory),
-        Err(Failure::Fault(refusal)) => {
-            return Err(Failure::Fault(without_table(alloc, refusal)));
-        }
+        Err(failure) => return Err(nothing_read(alloc, failure)),
     };
-    match Table::build_or_refused(alloc, objects, infos, target.kept, hash_builder) {
-        Ok(table) => Ok(table),
-        Err(Failure::Memory) => Err(Failure::Memory),
-        Err(Failure::Fault(refused)) => {
-            let RefusedTable {
-                fault,
-                objects,
-                infos,
-            } = refused;
-            Err(Failure::Fault(RefusedTarget {
-                refusal: Refusal::Table { fault },
-                objects,
-                infos,
-            }))
-        }
-    }
+    Table::build_or_refused(alloc, objects, infos, target.kept, hash_builder).map_err(of_table)
+}
+
+/// The failure of a target whose table has a fault, with what was read of it.
+fn of_table(failure: Failure<RefusedTable>) -> Failure<RefusedTarget>
+    ensures { Turns IsOfTable failure result }
+{
+    failure.map(|refused| RefusedTarget {
+        refusal: Refusal::Table {
+            fault: refused.fault,
+        },
+        objects: refused.objects,
+        infos: refused.infos,
+    })
 }
 
 /// The rules and the infos of the target's documents, or the fault of the first that is faulty.

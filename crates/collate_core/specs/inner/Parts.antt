@@ -1,5 +1,5 @@
 -- What the parts of collating promise one another: definitions for private clauses.
-use Rattle.std.specs.Prelude.{◌≡◌, ℕ, List, length, map, slice_get, Option, Some, All}
+use Rattle.std.specs.Prelude.{◌≡◌, ℕ, List, [], ◌∷◌, ◌++◌, length, map, slice_get, Option, Some, All}
 use Rattle.std.specs.Borrow.{Bor}
 use Rattle.ninja_text.specs.Paths.{IsPath}
 use Rattle.ninja_text.specs.Escapes.{IsWritable}
@@ -9,7 +9,8 @@ use Rattle.dyndep_file.specs.declared.fault.WriteFault.TheVariants as write
 use Rattle.scan_docs.specs.Scan.{RuleValue, IsRuleText}
 use Rattle.scan_docs.specs.InfoText.{IsInfoText}
 use Rattle.scan_docs.specs.declared.fault.DocFault.{DocFault}
-use Rattle.module_table.specs.TableValue.{TableValue}
+use Rattle.module_table.specs.TableValue.{TableValue, table_with}
+use Rattle.module_table.specs.declared.fault.RefusedTable.{RefusedTable}
 use Rattle.module_maps.specs.Maps.{Written}
 use Rattle.build_effect.specs.declared.fault.EffectFault.{EffectFault}
 use Rattle.collate_core.specs.Values.{TargetValue, CollatedValue, ProjectTargetValue}
@@ -18,7 +19,8 @@ use Rattle.collate_core.specs.Collation.{Collates}
 use Rattle.collate_core.specs.Refusals.{IsScanRefusal, IsInfoRefusal, IsMapFault, IsMapRefusal, IsRefusal}
 use Rattle.collate_core.specs.Projects.{target_of, LinksEarlier}
 use Rattle.collate_core.specs.declared.fault.Refusal.{Refusal}
-use Rattle.collate_core.specs.declared.fault.Refusal.TheVariants.{Scan, Info, StatementTooLong, Map}
+use Rattle.collate_core.specs.declared.fault.RefusedTarget.{RefusedTarget}
+use Rattle.collate_core.specs.declared.fault.Refusal.TheVariants.{Scan, Info, Table, StatementTooLong, Map}
 use Rattle.collate_core.specs.declared.fault.RehearseFault.{RehearseFault}
 use Rattle.collate_core.specs.declared.fault.RehearseFault.TheVariants.{Effect}
 
@@ -86,6 +88,16 @@ IsObjectRefusal t written o (Map k fault) = (k ≡ o)
     × ((rule : RuleValue) → slice_get t.objects o ≡ Some rule → IsMapFault t written o rule fault)
 IsObjectRefusal t written o refusal = ⊥
 
+-- the refusal is the table's fault, and what was read is what was given for the table
+abbrev pub IsOfTable : RefusedTable → RefusedTarget → Type 0
+IsOfTable given refused = (refused.refusal ≡ Table given.fault)
+    × (refused.objects ≡ given.objects) × (refused.infos ≡ given.infos)
+
+-- the refusal with what was read, which has this table
+abbrev pub IsReadFrom : TableValue → Refusal → RefusedTarget → Type 0
+IsReadFrom t refusal refused = (refused.refusal ≡ refusal)
+    × (table_with refused.objects.items refused.infos.items ≡ t)
+
 -- the refusal is that of each target whose documents have this table
 abbrev pub IsTextsRefusal : TableValue → Option Written → Refusal → Type 0
 IsTextsRefusal t style refusal = (target : TargetValue) → t ≡ table_of target → IsResolved target
@@ -96,3 +108,9 @@ abbrev pub CollatesLinked : Option Written → List CollatedValue → ProjectTar
     CollatedValue → Type 0
 CollatesLinked style outs p c =
     LinksEarlier (length outs) p × Collates (target_of outs p) style c
+
+-- what this target collates to is added to what the targets that it may link wrote
+abbrev pub IsOneMore : Option Written → List CollatedValue → ProjectTargetValue →
+    List CollatedValue → Type 0
+IsOneMore style outs p more = (out : CollatedValue) × CollatesLinked style outs p out
+    × (more ≡ outs ++ out ∷ [])

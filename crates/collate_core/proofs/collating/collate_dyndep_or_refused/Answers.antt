@@ -10,9 +10,11 @@ use Rattle.collate_core.specs.Statements.{statements_of}
 use Rattle.collate_core.specs.Infos.{info_of_table}
 use Rattle.collate_core.specs.Collation.{HasPaths, Collates}
 use Rattle.collate_core.specs.Refusals.{IsRefusal, WasRead}
+use Rattle.collate_core.specs.declared.fault.RefusedTarget.{RefusedTarget}
 use Rattle.collate_core.specs.inner.Parts.{IsWriteRefusal}
-use Rattle.collate_core.proofs.Parts.{collates, texts_refused, write_refused, any_style, at_fault, write_read}
+use Rattle.collate_core.proofs.Parts.{collates, texts_refused, write_refused, any_style, write_read}
 use Rattle.collate_core.proofs.Texts.{info_is_sound}
+use Rattle.collate_core.proofs.Turning.{turned}
 use Rattle.collate_core.proofs.Writing.{has_paths}
 use Rattle.collate_core.proofs.collating.collate_dyndep_or_refused.Goals as goal
 
@@ -26,18 +28,16 @@ returns-clause-refused g c =
     let target : TargetValue = c.args.target.now in
     let table = c.in_ok-table.ensures in
     let refused = texts_refused target None c.in_ok-table.table table.table table.resolved _
-    (write_refused None c.in_ok-table.table (statements_of c.into_resolved-resolved.result) (ap statements_of c.into_resolved-resolved.ensures) _ c.in-Err-Fault.ensures.refused) in
-    subst (IsRefusal target None) (sym c.without_table.ensures)
-    (at_fault (IsRefusal target None) c.in-Err-Fault.field-0 c.in-Err-Fault.refusal c.in-Err-Fault.field-0-is refused)
+    (write_refused None c.in_ok-table.table (statements_of c.into_resolved-resolved.result) (ap statements_of c.into_resolved-resolved.ensures) _ c.in-Err.ensures.refused) in
+    turned (λ refusal (refused : RefusedTarget). refused.refusal ≡ refusal) (IsRefusal target None) (λ (refused : RefusedTarget). IsRefusal target None refused.refusal)
+    (λ refusal refused same h. subst (IsRefusal target None) (sym same) h) c.in-Err.failure c.nothing_read.result c.nothing_read.ensures refused
 
 pub returns-clause-read : goal.returns-clause-read
 returns-clause-read g c =
     let target : TargetValue = c.args.target.now in
     let statements : List StatementValue = statements_of c.into_resolved-resolved.result in
-    let read : TableValue = table_with c.without_table.result.objects.items c.without_table.result.infos.items in
-    subst (λ refusal. WasRead target refusal read) (sym c.without_table.ensures)
-    (write_read target statements c.in-Err-Fault.refusal
-    (at_fault (IsWriteRefusal statements) c.in-Err-Fault.field-0 c.in-Err-Fault.refusal c.in-Err-Fault.field-0-is c.in-Err-Fault.ensures.refused) read)
+    turned (λ refusal (refused : RefusedTarget). refused.refusal ≡ refusal) (IsWriteRefusal statements) (λ (refused : RefusedTarget). WasRead target refused.refusal (table_with refused.objects.items refused.infos.items))
+    (λ refusal refused same h. write_read target statements refused.refusal (subst (IsWriteRefusal statements) (sym same) h) (table_with refused.objects.items refused.infos.items)) c.in-Err.failure c.nothing_read.result c.nothing_read.ensures c.in-Err.ensures.refused
 
 -- what the target collates to has the text, and the info that is not written
 pub returns-in-Ok-clause-dyndep : goal.returns-in-Ok-clause-dyndep

@@ -1,9 +1,13 @@
-use Rattle.std.specs.Option.{option_copied, option_map}
-use Rattle.std.proofs.lemmas.Result.{err_from_is_err_and}
-use Rattle.collate_core.proofs.Parts.{any_style}
 use Rattle.collate_core.proofs.collating.collate_or_refused.Goals as goal
 
-pub returns-in_err-table-clause-refused : goal.returns-in_err-table-clause-refused
-returns-in_err-table-clause-refused g c =
-    let p = err_from_is_err_and c.from_residual.result c.from_residual.ensures.1 in
-    rw (p.1, p.2) (any_style c.args.target.now (option_map g.M.MapStyle.written (option_copied c.args.style)) _ c.in_err-table.ensures.refused)
+pub returns-clause-collated : goal.returns-clause-collated
+returns-clause-collated g c = c.collate_known.ensures.collated
+
+pub returns-clause-headline : goal.returns-clause-headline
+returns-clause-headline g c = c.collate_known.ensures.headline
+
+pub returns-clause-refused : goal.returns-clause-refused
+returns-clause-refused g c = c.collate_known.ensures.refused
+
+pub returns-clause-read : goal.returns-clause-read
+returns-clause-read g c = c.collate_known.ensures.read
