@@ -1,5 +1,5 @@
 -- What the infos of a project's targets are read as: one more target.
-use Rattle.std.proofs.Common.{◌≡◌, ℕ, List, ◌∷◌, [], ◌++◌, length, Option, Some, None, Result, Ok, Err, IfSome, ap, subst, sym, ◌∙◌, inl, inr, arith, length-append, ◌⊎◌, ◌<◌}
+use Rattle.std.proofs.Common.{◌≡◌, ℕ, List, ◌∷◌, [], ◌++◌, length, Option, Some, None, Result, Ok, Err, IfSome, subst, inl, inr, arith, length-append, ◌⊎◌, ◌<◌}
 use Rattle.std.specs.Prelude.{slice_get, Vec, IfOk, IfErr}
 use Rattle.std.specs.declared.alloc.Global.{Global}
 use Rattle.std.proofs.lemmas.Option.{slice_get_within}

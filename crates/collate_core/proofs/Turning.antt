@@ -1,7 +1,7 @@
 -- Failures and errors that are turned into others.
 use Rattle.std.proofs.Common.{◌≡◌, Result, Ok, Err, subst, sym}
 use Rattle.std.specs.Prelude.{IfOk, IfErr}
-use Rattle.std.specs.Result.{MatchResult, IsErrAnd, is_ok}
+use Rattle.std.specs.Result.{MatchResult, IsErrAnd}
 use Rattle.ninja_text.specs.Failure.{ForFault, Turns}
 use Rattle.ninja_text.specs.declared.failure.Failure.{Failure}
 use Rattle.ninja_text.specs.declared.failure.Failure.TheVariants.{Memory, Fault}

@@ -1,8 +1,8 @@
 //! What the infos of a project's targets are read as, once for all targets that link them.
-ghost use Rattle.std.specs.Prelude.{◌≡◌, ◌<◌, length, All, List, IfOk, IfSome};
+ghost use Rattle.std.specs.Prelude.{◌≡◌, ◌<◌, length, All, List, IfOk, OnOk, IfSome};
 ghost use Rattle.collate_core.specs.Values.{CollatedValue};
 ghost use Rattle.collate_core.specs.Projects.{linked_infos};
-ghost use Rattle.collate_core.specs.inner.ReadInfos.{IsReadAs, AreReadAs, AreKnown};
+ghost use Rattle.collate_core.specs.inner.ReadInfos.{IsReadAs, AreReadAs, AreKnown, IsOneMoreKnown};
 
 use crate::pairs::{copy_pair, copy_pairs};
 use ninja_text::Failure;
@@ -10,7 +10,7 @@ use scan_docs::{Info, InfoModule, info_read};
 use std::alloc::{AllocError, Global};
 
 /// What an info is read as, unless it is refused, since it is longer than a document may be.
-pub(crate) fn read_info(alloc: Global, document: &[u8]) -> Result<Option<Info>, AllocError>
+fn read_info(alloc: Global, document: &[u8]) -> Result<Option<Info>, AllocError>
     ensures { IfOk result (λ known. IfSome known (IsReadAs document.now)) }
 {
     match info_read(alloc, document) {
@@ -18,6 +18,18 @@ pub(crate) fn read_info(alloc: Global, document: &[u8]) -> Result<Option<Info>, 
         Err(Failure::Memory) => Err(AllocError),
         Err(Failure::Fault(_)) => Ok(None),
     }
+}
+
+/// Adds what the next target's info is read as to what is known.
+pub(crate) fn add_known(
+    alloc: Global,
+    document: &[u8],
+    known: &mut Vec<Option<Info>>,
+) -> Result<(), AllocError>
+    ensures { OnOk result (IsOneMoreKnown known.old.items document.now known.new.items) }
+{
+    known.push(read_info(alloc, document)?)?;
+    Ok(())
 }
 
 /// What the infos of the targets of these indexes are read as, unless one of them is refused.
@@ -62,8 +74,8 @@ fn copy_modules(alloc: Global, modules: &[InfoModule]) -> Result<Vec<InfoModule>
 fn copy_module(alloc: Global, entry: &InfoModule) -> Result<InfoModule, AllocError>
     ensures { IfOk result (λ copy. copy ≡ entry.now) }
 {
-    let (name, file) = copy_pair(alloc, &entry.name, &entry.file)?;
     let required = copy_pairs(alloc, &entry.required)?;
+    let (name, file) = copy_pair(alloc, &entry.name, &entry.file)?;
     Ok(InfoModule {
         name,
         file,

@@ -13,7 +13,7 @@ ghost use Rattle.collate_core.specs.inner.ReadInfos.{AreKnown};
 use crate::collated::Collated;
 use crate::collating::collate_known;
 use crate::fault::{Refusal, RefusedTarget, without_table};
-use crate::known_infos::{known_of, read_info};
+use crate::known_infos::{add_known, known_of};
 use crate::laws::{project_maps, project_orders};
 use crate::target::Target;
 use module_maps::MapStyle;
@@ -229,7 +229,7 @@ fn add_out<M: MapStyle, S: BuildHasher + Copy>(
         style,
         hash_builder,
     )?;
-    known.push(read_info(alloc, out.info())?)?;
+    add_known(alloc, out.info(), known)?;
     outs.push(out)?;
     Ok(())
 }

@@ -1,4 +1,4 @@
-use Rattle.std.proofs.Common.{ap, subst}
+use Rattle.std.proofs.Common.{ap}
 use Rattle.std.proofs.lemmas.Result.{err_from_is_err_and}
 use Rattle.collate_core.specs.Statements.{statements_of}
 use Rattle.collate_core.proofs.Parts.{write_refused, maps_refused}

@@ -1,4 +1,4 @@
-use Rattle.std.proofs.Common.{◌≡◌, ◌++◌, ◌∷◌, [], refl, sym, ap₂, ◌∙◌, List, ℕ}
+use Rattle.std.proofs.Common.{◌++◌, ◌∷◌, [], refl, sym, ap₂, ◌∙◌, List, ℕ}
 use Rattle.std.proofs.lemmas.List.{take_all}
 use Rattle.std.proofs.lemmas.Option.{slice_get_read}
 use Rattle.collate_core.proofs.Lists.{take_next}

@@ -30,12 +30,12 @@ returns-in_err-out-clause-read g c =
 pub returns-clause-collated : goal.returns-clause-collated
 returns-clause-collated g c =
     let style : Option Written = option_map g.M.MapStyle.written (option_copied c.args.style) in
-    (c.in_ok-out.out, subst (λ (outs : List CollatedValue). CollatesLinked style outs c.args.target.now c.in_ok-out.out) c.as_slice.ensures.value c.in_ok-out.ensures.collated, c.in_ok-push-2.ensures.items)
+    (c.in_ok-out.out, subst (λ (outs : List CollatedValue). CollatesLinked style outs c.args.target.now c.in_ok-out.out) c.as_slice.ensures.value c.in_ok-out.ensures.collated, c.in_ok-push.ensures.items)
 
 pub returns-clause-known : goal.returns-clause-known
 returns-clause-known g c =
     let outs : List CollatedValue = c.args.outs.now.items in
     let out : CollatedValue = c.in_ok-out.out in
-    subst (λ (os : List CollatedValue). AreKnown os c.push.new.self.items) (sym c.in_ok-push-2.ensures.items) (subst (AreKnown (outs ++ out ∷ [])) (sym c.in_ok-push.ensures.items)
-    (known_push outs c.args.known.now.items c.requires out c.in_ok-read_info.field-0
-    (subst (λ (document : List ℕ). IfSome c.in_ok-read_info.field-0 (IsReadAs document)) c.info.ensures c.in_ok-read_info.ensures)))
+    let more = c.in_ok-add_known.ensures in
+    subst (λ (os : List CollatedValue). AreKnown os c.add_known.new.known.items) (sym c.in_ok-push.ensures.items) (subst (AreKnown (outs ++ out ∷ [])) (sym more.2)
+    (known_push outs c.args.known.now.items c.requires out more.0 (subst (λ (document : List ℕ). IfSome more.0 (IsReadAs document)) c.info.ensures more.1)))
