@@ -86,14 +86,6 @@ pub any_style : (target : TargetValue) (style : Option Written) (failure : Failu
 any_style target style Memory h = tt
 any_style target style (Fault refused) h = h style
 
--- what holds of a failure's fault
-pub at_fault : {F : Type 0} (P : F → Type 0) (failure : Failure F) (fault : F) → failure ≡ Fault fault → ForFault P failure → P fault
-at_fault P failure fault is h = subst (ForFault P) is h
-
--- the same of the fault as a match picks it
-pub picked : {F : Type 0} (P : F → Type 0) (failure : Failure F) (fault pick : F) → failure ≡ Fault fault → pick ≡ fault → ForFault P failure → P pick
-picked P failure fault pick is same h = subst P (sym same) (at_fault P failure fault is h)
-
 -- of the table of the target's documents, whatever the refusal
 pub table_read : (target : TargetValue) (refusal : Refusal) (read : TableValue) → read ≡ table_of target → WasRead target refusal read
 table_read target (Scan i fault) read h = tt
