@@ -1,8 +1,9 @@
 -- What a run of `collate` answers.
 use Rattle.std.proofs.Common.{◌≡◌, ℕ, suc, List, [], ◌∷◌, map, zip, Option, refl, ap, sym, subst, arith}
-use Rattle.std.specs.Prelude.{All, IsUtf8}
+use Rattle.std.specs.Prelude.{All, IsUtf8, Vec}
+use Rattle.std.specs.Global.{Global}
 use Rattle.std.specs.List.{AllZip}
-use Rattle.std.proofs.lemmas.List.Elements.{All-nil, All-cons, All-append, All-map}
+use Rattle.std.proofs.lemmas.List.Elements.{All-nil, All-cons, All-head, All-tail, All-append, All-map}
 use Rattle.scan_docs.specs.Scan.{SettingValue, RuleValue, IsRule}
 use Rattle.scan_docs.specs.Values.{rules_of}
 use Rattle.module_maps.specs.Maps.{Written}
@@ -10,7 +11,9 @@ use Rattle.collate_core.specs.Values.{TargetValue, CollatedValue}
 use Rattle.collate_core.specs.Documents.{all_rules, table_of, IsScanAccepted}
 use Rattle.collate_core.specs.Collation.{Collates}
 use Rattle.commands.specs.declared.answer.Answer.{Answer}
+use Rattle.commands.specs.CollateCommand.{map_name}
 use Rattle.commands.specs.EdgeChecks.{AnswersEdges}
+use Rattle.commands.specs.Files.{FileValue}
 
 -- ---- the edges
 
@@ -38,9 +41,19 @@ pub objects_text : (target : TargetValue) (style : Option Written) (c : Collated
 objects_text target style c h =
     subst (All IsUtf8) (sym h.objects) (All-map IsUtf8 (λ (r : RuleValue). r.object) (table_of target).objects (all_rules_text target.setting target.scans h.resolved.documents.scans.each))
 
+-- what holds of the first list holds of the first parts
+pub first_all : {A B : Type 0} (P : A → Type 0) (xs : List A) (ys : List B) → All P xs → All (λ (p : A × B). P p.0) (zip xs ys)
+first_all P [] ys h = All-nil (λ p. P p.0)
+first_all P (x ∷ xs) [] h = All-nil (λ p. P p.0)
+first_all P (x ∷ xs) (y ∷ ys) h = All-cons (λ p. P p.0) (x, y) (zip xs ys) (All-head P x xs h) (first_all P xs ys (All-tail P x xs h))
+
 -- ---- names and texts
 
 pub zip_map : {A B C D : Type 0} (f : A → C) (g : B → D) (xs : List A) (ys : List B) → map (λ (p : A × B). (f p.0, g p.1)) (zip xs ys) ≡ zip (map f xs) (map g ys)
 zip_map f g [] ys = refl
 zip_map f g (x ∷ xs) [] = refl
 zip_map f g (x ∷ xs) (y ∷ ys) = ap (λ l. (f x, g y) ∷ l) (zip_map f g xs ys)
+
+-- the map file of an object
+abbrev pub map_file : List ℕ × Vec ℕ Global → FileValue
+map_file object = (map_name object.0, object.1.items)

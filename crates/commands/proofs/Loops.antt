@@ -1,6 +1,8 @@
 -- Lists that a loop makes, element by element.
 use Rattle.std.proofs.Common.{◌≡◌, ℕ, ◌+◌, ◌<◌, ◌≤◌, List, [], ◌∷◌, ◌++◌, length, map, take, get_or, ap, sym, ◌∙◌}
-use Rattle.std.proofs.lemmas.List.{map-append, take_all, take_more}
+use Rattle.std.specs.List.{flat_map}
+use Rattle.std.proofs.lemmas.Grind.{flat_map-append}
+use Rattle.std.proofs.lemmas.List.{append_assoc, append-nil, map-append, take_all, take_more}
 
 -- a loop that makes something of each element
 pub made_more : {X Y : Type 0} (f : X → Y) (xs : List X) (i : ℕ) (x : X) (now new : List Y) → i < length xs → x ≡ get_or xs i x → new ≡ now ++ f x ∷ [] → now ≡ map f (take i xs) → new ≡ map f (take (i + 1) xs)
@@ -11,3 +13,10 @@ made_more f xs i x now new within at more before =
 -- and what is made of the elements so far is that of all
 pub of_all : {X Y : Type 0} (f : List X → Y) (xs : List X) (i : ℕ) (now : Y) → length xs ≤ i → now ≡ f (take i xs) → now ≡ f xs
 of_all f xs i now past so_far = so_far ∙ ap f (take_all i xs past)
+
+-- a loop that appends something of each element
+pub appended_more : (f : ℕ → List ℕ) (start xs : List ℕ) (i : ℕ) (now new : List ℕ) → i < length xs → now ≡ start ++ flat_map f (take i xs) → new ≡ now ++ f (get_or xs i 0) → new ≡ start ++ flat_map f (take (i + 1) xs)
+appended_more f start xs i now new within before more =
+    more ∙ ap (λ z. z ++ f (get_or xs i 0)) before
+    ∙ append_assoc start (flat_map f (take i xs)) (f (get_or xs i 0))
+    ∙ ap (λ z. start ++ z) (sym (ap (flat_map f) (take_more xs i 0 within) ∙ flat_map-append f (take i xs) (get_or xs i 0 ∷ []) ∙ ap (λ z. flat_map f (take i xs) ++ z) (append-nil (f (get_or xs i 0)))))

@@ -4,6 +4,9 @@ use Rattle.std.specs.Prelude.{IfOk, IfErr}
 use Rattle.ninja_text.specs.Failure.{ForFault}
 use Rattle.ninja_text.specs.declared.failure.Failure.{Failure}
 use Rattle.ninja_text.specs.declared.failure.Failure.TheVariants.{Memory, Fault}
+use Rattle.std.specs.declared.alloc.AllocError.{AllocError}
+use Rattle.commands.specs.declared.answer.Answer.{Answer}
+use Rattle.commands.specs.inner.Refusals.{AnswersFault}
 
 -- what holds of each value holds of the one that is there
 pub if_any : {T E : Type 0} (r : Result T E) (P : T → Type 0) → ((x : T) → P x) → IfOk r P
@@ -20,3 +23,10 @@ pub if_fault : {T F : Type 0} (r : Result T (Failure F)) (P Q : F → Type 0) �
 if_fault (Ok x) P Q to h = tt
 if_fault (Err Memory) P Q to h = tt
 if_fault (Err (Fault f)) P Q to h = to f h
+
+-- what is answered to a failure, by what is known of its fault
+pub fault_answered : {F : Type 0} (result : Result Answer AllocError) (failure : Failure F) (P : F → Type 0) (Q : F → Answer → Type 0) (R : Answer → Type 0) →
+    ((fault : F) (answer : Answer) → P fault → Q fault answer → R answer) → ForFault P failure → IfOk result (AnswersFault Q failure) → IfOk result R
+fault_answered (Ok answer) Memory P Q R to is h = absurd h
+fault_answered (Ok answer) (Fault fault) P Q R to is h = to fault answer is h
+fault_answered (Err error) failure P Q R to is h = tt

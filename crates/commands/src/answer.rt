@@ -1,6 +1,7 @@
 //! What a run of a command answers.
 
-ghost use Rattle.std.specs.Prelude.{◌≡◌, ◌++◌, [], Err, map, IfOk, codes};
+ghost use Rattle.std.specs.Prelude.{◌≡◌, ◌++◌, ◌∷◌, [], Err, map, IfOk, OnOk, codes};
+ghost use Rattle.ninja_text.specs.Bytes.{line_feed};
 ghost use Rattle.dyndep_file.specs.WriteFaults.{text_or_fault};
 ghost use Rattle.commands.specs.Answers.{visible, line, file_value, Writes, Fails, AnswersText};
 ghost use Rattle.commands.specs.Files.{ended};
@@ -103,15 +104,24 @@ fn fault_line(alloc: Global, message: &[u8]) -> Result<Vec<u8>, AllocError>
     ensures { IfOk result (λ text. text.items ≡ line message.now) }
 {
     let mut text = Vec::from_slice(alloc, b"dyncollate: ")?;
-    for byte in message {
-        text.push(visible(*byte))?;
-    }
-    text.push(b'\n')?;
+    push_line(&mut text, message)?;
     Ok(text)
 }
 
+/// Appends a line. Control bytes are printed as `?`.
+pub(crate) fn push_line(text: &mut Vec<u8>, line: &[u8]) -> Result<(), AllocError>
+    ensures { OnOk result (text.new.items
+        ≡ text.old.items ++ map visible line.now ++ line_feed ∷ []) }
+{
+    for byte in line {
+        text.push(visible(*byte))?;
+    }
+    text.push(b'\n')?;
+    Ok(())
+}
+
 /// A byte as it is printed in a line: `?` for a control byte.
-pub(crate) fn visible(byte: u8) -> u8
+fn visible(byte: u8) -> u8
     ensures { result ≡ visible byte }
 {
     if byte < 32 || byte == 127 { b'?' } else { byte }

@@ -13,7 +13,7 @@ ghost use Rattle.commands.specs.Folder.{MakesCalls};
 ghost use Rattle.commands.specs.Targets.{AnswersTarget};
 
 use crate::answer::{Answer, answered};
-use crate::edges::{EdgesFault, edges_check, edges_refused};
+use crate::edges::{EdgesFault, edges_check, edges_failed};
 use crate::folder::Folder;
 use crate::reading::{TargetFiles, slices};
 use crate::refusal::failed_run;
@@ -141,8 +141,7 @@ fn collated_answer(
             let files = files_of(alloc, collated, document.spec())?;
             Ok(Answer::writes(alloc, files))
         }
-        Err(Failure::Memory) => Err(AllocError),
-        Err(Failure::Fault(fault)) => edges_refused(alloc, &fault),
+        Err(failure) => edges_failed(alloc, failure),
     }
 }
 
@@ -213,23 +212,27 @@ fn map_files(
     ensures { IfOk result (λ files. map file_value files.items
         ≡ zip (map map_name objects.now) (map (λ m. m.items) maps.items)) }
 {
-    if maps.is_empty() {
-        return Ok(Vec::new(alloc));
+    let mut files = Vec::with_capacity(alloc, maps.len())?;
+    for (object, map) in objects.iter().zip(maps) {
+        push_map(alloc, &mut files, object, map)?;
     }
-    let names = map_names(alloc, objects)?;
-    names.into_iter().zip(maps).collect(alloc)
+    Ok(files)
 }
 
-/// The names of the map files of these objects.
-fn map_names(alloc: Global, objects: &[Path]) -> Result<Vec<String>, AllocError>
-    requires { All IsUtf8 objects.now }
-    ensures { IfOk result (λ names. map string_bytes names.items ≡ map map_name objects.now) }
+/// Appends the map file of an object.
+fn push_map(
+    alloc: Global,
+    files: &mut Vec<(String, Vec<u8>)>,
+    object: &Path,
+    text: Vec<u8>,
+) -> Result<(), AllocError>
+    requires { IsUtf8 object.now }
+    ensures { OnOk result (map file_value files.new.items
+        ≡ map file_value files.old.items ++ (map_name object.now, text.items) ∷ []) }
 {
-    let mut names = Vec::with_capacity(alloc, objects.len())?;
-    for object in objects {
-        names.push(map_name(alloc, object)?)?;
-    }
-    Ok(names)
+    let name = map_name(alloc, object)?;
+    files.push((name, text))?;
+    Ok(())
 }
 
 /// The name of an object's map file.

@@ -4,7 +4,7 @@
 ghost use Rattle.std.specs.Prelude.{◌≡◌, IfOk};
 ghost use Rattle.commands.specs.EdgeFaults.{first_output, edges_fault_text, effect_text, chain_text, cycle_text};
 
-use crate::table_fault::joined;
+use crate::table_fault::{joined, push_next};
 use build_effect::{Edge, EffectFault, ListingFault};
 use std::alloc::{AllocError, Global};
 
@@ -52,14 +52,12 @@ pub(crate) fn cycle_text(
 fn chain_text(alloc: Global, edges: &[Edge], chain: &[usize]) -> Result<Vec<u8>, AllocError>
     ensures { IfOk result (λ text. text.items ≡ chain_text edges.now chain.now) }
 {
-    let mut text = Vec::new(alloc);
     let [first, others @ ..] = chain else {
-        return Ok(text);
+        return Ok(Vec::new(alloc));
     };
-    text.extend_from_slice(first_output(edges, *first))?;
+    let mut text = Vec::from_slice(alloc, first_output(edges, *first))?;
     for next in others {
-        text.extend_from_slice(b" -> ")?;
-        text.extend_from_slice(first_output(edges, *next))?;
+        push_next(&mut text, first_output(edges, *next))?;
     }
     Ok(text)
 }

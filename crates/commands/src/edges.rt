@@ -5,6 +5,7 @@ ghost use Rattle.ninja_text.specs.Failure.{ForFault};
 ghost use Rattle.commands.specs.Answers.{Refuses};
 ghost use Rattle.commands.specs.EdgeChecks.{AreOrderedAfter, ListsOrdered, IsEdgesFault, edges_text};
 ghost use Rattle.commands.specs.inner.EdgeChecks.{AreFaultyAfter};
+ghost use Rattle.commands.specs.inner.Refusals.{AnswersFault};
 
 use crate::answer::Answer;
 use crate::edge_fault::{cycle_text, edges_fault_text, effect_text};
@@ -66,8 +67,26 @@ fn graph_check(
     }
 }
 
+/// The answer to a failure of the check of edges.
+pub(crate) fn edges_failed(
+    alloc: Global,
+    failure: Failure<EdgesFault>,
+) -> Result<Answer, AllocError>
+    ensures { IfOk result (AnswersFault (λ fault. Refuses (edges_text fault)) failure) }
+{
+    match failure {
+        Failure::Memory => Err(AllocError),
+        Failure::Fault(fault) => {
+            let answer = edges_refused(alloc, &fault);
+            // Here, by one call: what it holds would be dropped field by field at the end.
+            drop(fault);
+            answer
+        }
+    }
+}
+
 /// The answer to edges that are faulty.
-pub(crate) fn edges_refused(alloc: Global, fault: &EdgesFault) -> Result<Answer, AllocError>
+fn edges_refused(alloc: Global, fault: &EdgesFault) -> Result<Answer, AllocError>
     ensures { IfOk result (Refuses (edges_text fault.now)) }
 {
     let message = edges_text(alloc, fault)?;

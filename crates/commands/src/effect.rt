@@ -1,7 +1,10 @@
 //! The command `effect`: a listing after the effect of a dyndep file.
 
-ghost use Rattle.std.specs.Prelude.{IfOk};
+ghost use Rattle.std.specs.Prelude.{◌++◌, codes, IfOk};
+ghost use Rattle.ninja_text.specs.FaultTexts.{path_fault_text};
+ghost use Rattle.commands.specs.Answers.{Refuses};
 ghost use Rattle.commands.specs.Dyndeps.{AnswersDyndep};
+ghost use Rattle.commands.specs.EdgeFaults.{effect_text};
 ghost use Rattle.commands.specs.Effect.{AnswersNew, AnswersEffectOf, AnswersGraph, AnswersEffect, AnswersEffectFile};
 ghost use Rattle.commands.specs.Files.{ended};
 ghost use Rattle.commands.specs.Folder.{MakesCalls};
@@ -14,9 +17,11 @@ use crate::folder::Folder;
 use crate::listing::{is_graph, listing_read, listing_refused};
 use crate::reading::read_file;
 use crate::table_fault::joined;
-use build_effect::{Graph, ListingWriteFault, apply_with_hasher, listing_write, one_listing};
+use build_effect::{
+    EffectFault, Graph, ListingWriteFault, apply_with_hasher, listing_write, one_listing,
+};
 use dyndep_file::{Dyndep, laws};
-use ninja_text::{Counted, Failure, Path};
+use ninja_text::{Counted, Failure, Path, PathFault};
 use std::alloc::{AllocError, Global};
 use std::hash::RandomState;
 
@@ -34,11 +39,16 @@ pub fn effect_run(
     match Path::of(alloc, name.as_bytes()) {
         Ok(path) => listing_run(alloc, keys, &path, edges, dyndep),
         Err(Failure::Memory) => Err(AllocError),
-        Err(Failure::Fault(fault)) => {
-            let message = format!(in alloc; "name: {fault}")?;
-            Answer::failed(alloc, 1, message.as_bytes())
-        }
+        Err(Failure::Fault(fault)) => name_refused(alloc, &fault),
     }
+}
+
+/// The answer to a name that is no path.
+fn name_refused(alloc: Global, fault: &PathFault) -> Result<Answer, AllocError>
+    ensures { IfOk result (Refuses (codes "name: " ++ path_fault_text fault.now)) }
+{
+    let message = format!(in alloc; "name: {fault}")?;
+    Answer::failed(alloc, 1, message.as_bytes())
 }
 
 /// Runs `effect NAME EDGES DYNDEP` on the name, the bytes of the edge listing, and the dyndep file
@@ -114,11 +124,16 @@ fn statements_run(
     match apply_with_hasher(alloc, graph, name, dyndep, keys) {
         Ok(new) => new_run(alloc, &new),
         Err(Failure::Memory) => Err(AllocError),
-        Err(Failure::Fault(fault)) => {
-            let message = effect_text(alloc, &fault)?;
-            Answer::failed(alloc, 1, &message)
-        }
+        Err(Failure::Fault(fault)) => effect_refused(alloc, &fault),
     }
+}
+
+/// The answer to statements that have no effect.
+fn effect_refused(alloc: Global, fault: &EffectFault) -> Result<Answer, AllocError>
+    ensures { IfOk result (Refuses (effect_text fault.now)) }
+{
+    let message = effect_text(alloc, fault)?;
+    Answer::failed(alloc, 1, &message)
 }
 
 /// The answer to a graph after the effect: its listing, or the edge whose build line is too long.

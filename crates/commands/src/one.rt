@@ -23,11 +23,23 @@ pub fn one_run(
 ) -> Result<Answer, AllocError>
     ensures { IfOk result (AnswersDocument (setting_of dir.now ext.now) document.now) }
 {
-    let name = target_name(alloc)?;
     let setting = setting_of(alloc, dir, ext)?;
+    document_run(alloc, keys, document, &setting)
+}
+
+/// The answer to a scan document under this setting.
+fn document_run(
+    alloc: Global,
+    keys: RandomState,
+    document: &[u8],
+    setting: &Setting,
+) -> Result<Answer, AllocError>
+    ensures { IfOk result (AnswersDocument setting.now document.now) }
+{
+    let name = target_name(alloc)?;
     let target = Target {
         name: &name,
-        setting: &setting,
+        setting,
         scans: &[document],
         infos: &[],
         kept: &[],

@@ -1,11 +1,12 @@
 //! The command `order`: the edges of a listing in an order in which they can run.
 
-ghost use Rattle.std.specs.Prelude.{◌≡◌, ◌++◌, map, IfOk, OnOk};
-ghost use Rattle.commands.specs.Answers.{visible};
+ghost use Rattle.std.specs.Prelude.{◌≡◌, IfOk};
+ghost use Rattle.commands.specs.Answers.{Refuses};
+ghost use Rattle.commands.specs.EdgeFaults.{cycle_text};
 ghost use Rattle.commands.specs.Listings.{AnswersListing};
 ghost use Rattle.commands.specs.Order.{order_text, AnswersOrder};
 
-use crate::answer::{Answer, visible};
+use crate::answer::{Answer, push_line};
 use crate::edge_fault::{cycle_text, first_output};
 use crate::listing::{is_graph, listing_read, listing_refused};
 use build_effect::{Edge, Graph, edge_order_with_hasher, one_listing};
@@ -38,11 +39,16 @@ fn graph_run(alloc: Global, keys: RandomState, graph: &Graph) -> Result<Answer, 
             let text = order_text(alloc, graph.edges(), &order)?;
             Ok(Answer::done(alloc, text))
         }
-        Sorting::Cycle(cycle) => {
-            let message = cycle_text(alloc, graph.edges(), &cycle)?;
-            Answer::failed(alloc, 1, &message)
-        }
+        Sorting::Cycle(cycle) => cycle_refused(alloc, graph.edges(), &cycle),
     }
+}
+
+/// The answer to edges that need each other.
+fn cycle_refused(alloc: Global, edges: &[Edge], cycle: &[usize]) -> Result<Answer, AllocError>
+    ensures { IfOk result (Refuses (cycle_text edges.now cycle.now)) }
+{
+    let message = cycle_text(alloc, edges, cycle)?;
+    Answer::failed(alloc, 1, &message)
 }
 
 /// The first output of each of these edges, one per line. Control bytes are printed as `?`.
@@ -51,18 +57,7 @@ fn order_text(alloc: Global, edges: &[Edge], order: &[usize]) -> Result<Vec<u8>,
 {
     let mut text = Vec::new(alloc);
     for edge_index in order {
-        push_visible(&mut text, first_output(edges, *edge_index))?;
-        text.push(b'\n')?;
+        push_line(&mut text, first_output(edges, *edge_index))?;
     }
     Ok(text)
-}
-
-/// Appends a name as it is printed in a line.
-fn push_visible(text: &mut Vec<u8>, name: &[u8]) -> Result<(), AllocError>
-    ensures { OnOk result (text.new.items ≡ text.old.items ++ map visible name.now) }
-{
-    for byte in name {
-        text.push(visible(*byte))?;
-    }
-    Ok(())
 }

@@ -4,20 +4,21 @@ ghost use Rattle.std.specs.Prelude.{◌≡◌, ◌<◌, ◌++◌, [], Some, All,
 ghost use Rattle.ninja_text.specs.Failure.{ForFault};
 ghost use Rattle.module_table.specs.TableValue.{table_with};
 ghost use Rattle.collate_core.specs.Projects.{CollatesProject, IsProjectRefusal, WasReadAt};
-ghost use Rattle.commands.specs.Answers.{file_value, Refuses};
+ghost use Rattle.commands.specs.Answers.{file_value, Writes, Refuses};
 ghost use Rattle.commands.specs.CollateCommand.{style_of, files_of};
+ghost use Rattle.commands.specs.EdgeChecks.{edges_text};
 ghost use Rattle.commands.specs.Files.{ended};
 ghost use Rattle.commands.specs.Folder.{MakesCalls};
 ghost use Rattle.commands.specs.ProjectCommand.{ReadTargetValue, target_text, project_target, form_of, names_at, PassesOwn, FailsFirst, all_files, AnswersCollatedTargets, AnswersReadTargets, AnswersNames, AnswersProject, project_text};
 ghost use Rattle.commands.specs.inner.ProjectTargets.{LinkEarlier, IsReportable, AreOuts};
-ghost use Rattle.commands.specs.inner.Refusals.{refusal_line};
+ghost use Rattle.commands.specs.inner.Refusals.{refusal_line, AnswersFault};
 
 use crate::answer::{Answer, answered};
 use crate::collate::{edges_pass, files_of};
 use crate::edges::{EdgesFault, edges_text};
 use crate::folder::Folder;
 use crate::project_targets::{ReadTarget, Targets, read_target, target_failed};
-use crate::reading::slices;
+use crate::reading::{pushed, slices};
 use crate::refusal::refusal_line;
 use collate_core::{Collated, ProjectOut, ProjectTarget, RefusedTarget, project_or_refused};
 use module_maps::{Clang, Gcc};
@@ -125,7 +126,7 @@ fn scans_of<'t>(alloc: Global, targets: &'t [ReadTarget]) -> Result<Vec<Vec<&'t 
 {
     let mut scans = Vec::with_capacity(alloc, targets.len())?;
     for target in targets {
-        scans.push(slices(alloc, &target.files.scans)?)?;
+        scans = pushed(scans, slices(alloc, &target.files.scans)?)?;
     }
     Ok(scans)
 }
@@ -229,16 +230,46 @@ fn collated_answer(
     ensures { IfOk result (AnswersCollatedTargets (zip targets.now outs.items)) }
 {
     match all_pass(alloc, keys, targets, &outs) {
-        Ok(()) => {
-            let files = all_files(alloc, targets, outs)?;
-            Ok(Answer::writes(alloc, files))
-        }
-        Err(Failure::Memory) => Err(AllocError),
-        Err(Failure::Fault((index, fault))) => {
-            let text = edges_text(alloc, &fault)?;
-            target_failed(alloc, index, &text)
+        Ok(()) => files_answer(alloc, targets, outs),
+        Err(failure) => edges_failed(alloc, failure),
+    }
+}
+
+/// The answer to targets whose edges have an order: the files of all.
+fn files_answer(
+    alloc: Global,
+    targets: &[ReadTarget],
+    outs: Vec<Collated>,
+) -> Result<Answer, AllocError>
+    requires { All (λ c. All IsUtf8 c.objects) outs.items }
+    ensures { IfOk result (Writes (all_files (zip targets.now outs.items))) }
+{
+    let files = all_files(alloc, targets, outs)?;
+    Ok(Answer::writes(alloc, files))
+}
+
+/// The answer to a failure of the edges of the target of an index.
+fn edges_failed(alloc: Global, failure: Failure<(usize, EdgesFault)>) -> Result<Answer, AllocError>
+    ensures { IfOk result (AnswersFault
+        (λ failed. Refuses (target_text failed.0 (edges_text failed.1))) failure) }
+{
+    match failure {
+        Failure::Memory => Err(AllocError),
+        Failure::Fault(failed) => {
+            let answer = target_edges_failed(alloc, &failed);
+            // Here, by one call: what it holds would be dropped field by field at the end.
+            drop(failed);
+            answer
         }
     }
+}
+
+/// The answer to the target of an index whose edges are faulty.
+fn target_edges_failed(alloc: Global, failed: &(usize, EdgesFault)) -> Result<Answer, AllocError>
+    ensures { IfOk result (Refuses (target_text failed.now.0 (edges_text failed.now.1))) }
+{
+    let text = edges_text(alloc, &failed.1)?;
+    target_failed(alloc, failed.0, &text)
 }
 
 /// Whether the edges that each target names can be put in order after its own dyndep file, or what

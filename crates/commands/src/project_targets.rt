@@ -58,10 +58,19 @@ impl ReadTarget {
 }
 
 /// The targets of a project that were read so far.
-#[derive(Drop)]
 pub(crate) struct Targets {
     read: Vec<ReadTarget>,
     writers: Writers,
+}
+
+// Not derived: a derived drop stands, field by field, wherever a value goes.
+impl Drop for Targets {
+    fn drop(self) {
+        let Targets {
+            read: _,
+            writers: _,
+        } = self;
+    }
 }
 
 impl Model for Targets {
@@ -132,7 +141,8 @@ impl Targets {
         ensures targets { result.items ≡ self }
         ensures links { LinkEarlier result.items }
     {
-        self.read
+        let Targets { read, writers: _ } = self;
+        read
     }
 }
 

@@ -1,7 +1,7 @@
 //! How a run reads files from a folder: each when its turn comes, and none after one that can't be
 //! read.
 
-ghost use Rattle.std.specs.Prelude.{◌≡◌, map, string_bytes, option_map, option_copied, IfOk};
+ghost use Rattle.std.specs.Prelude.{◌≡◌, ◌++◌, ◌∷◌, [], map, string_bytes, option_map, option_copied, IfOk};
 ghost use Rattle.commands.specs.Files.{ReadsFile, ReadsFiles, ReadsListing, ReadsTarget};
 ghost use Rattle.commands.specs.Folder.{MakesCalls};
 ghost use Rattle.commands.specs.inner.Parts.{GoesOn, contents};
@@ -43,8 +43,7 @@ pub(crate) fn read_in_turn<F: Folder>(
 {
     let mut files = Vec::with_capacity(alloc, names.len())?;
     for name in names {
-        let bytes = read_file(alloc, name.as_str(), folder)?;
-        files.push(bytes)?;
+        files = pushed(files, read_file(alloc, name.as_str(), folder)?)?;
     }
     Ok(files)
 }
@@ -133,7 +132,16 @@ pub(crate) fn slices(alloc: Global, files: &[Vec<u8>]) -> Result<Vec<&[u8]>, All
 {
     let mut slices = Vec::with_capacity(alloc, files.len())?;
     for file in files {
-        slices.push(file.as_slice())?;
+        slices = pushed(slices, file.as_slice())?;
     }
     Ok(slices)
+}
+
+/// The list with one more item.
+pub(crate) fn pushed<T: Drop>(list: Vec<T>, item: T) -> Result<Vec<T>, AllocError>
+    ensures { IfOk result (λ longer. longer.items ≡ list.items ++ item ∷ []) }
+{
+    let mut list = list;
+    list.push(item)?;
+    Ok(list)
 }

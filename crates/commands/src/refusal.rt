@@ -6,6 +6,7 @@ ghost use Rattle.commands.specs.RefusalTexts.{document_text, map_text};
 ghost use Rattle.commands.specs.inner.Refusals.{refusal_line, AnswersFailure};
 
 use crate::answer::Answer;
+use crate::reading::pushed;
 use crate::table_fault::{fault_text, joined, object_path};
 use collate_core::{Refusal, RefusedTarget};
 use dyndep_file::WriteFault;
@@ -37,9 +38,17 @@ fn target_refused(alloc: Global, refused: &RefusedTarget) -> Result<Answer, Allo
     ensures { IfOk result (Refuses (refusal_line refused.now.objects.items
         (map (λ info. info.target) refused.now.infos.items) refused.now.refusal)) }
 {
-    let names = names_of(alloc, &refused.infos)?;
-    let message = refusal_line(alloc, &refused.refusal, &refused.objects, &names)?;
+    let message = refused_text(alloc, refused)?;
     Answer::failed(alloc, 1, &message)
+}
+
+/// What is reported of a target that is refused.
+fn refused_text(alloc: Global, refused: &RefusedTarget) -> Result<Vec<u8>, AllocError>
+    ensures { IfOk result (λ text. text.items ≡ refusal_line refused.now.objects.items
+        (map (λ info. info.target) refused.now.infos.items) refused.now.refusal) }
+{
+    let names = names_of(alloc, &refused.infos)?;
+    refusal_line(alloc, &refused.refusal, &refused.objects, &names)
 }
 
 /// What is reported of a refusal of a target with these objects, which links targets of these
@@ -108,7 +117,7 @@ fn names_of<'i>(alloc: Global, infos: &'i [Info]) -> Result<Vec<&'i TargetName>,
 {
     let mut names = Vec::with_capacity(alloc, infos.len())?;
     for info in infos {
-        names.push(&info.target)?;
+        names = pushed(names, &info.target)?;
     }
     Ok(names)
 }

@@ -1,6 +1,6 @@
 //! How the faults of a module table are reported.
 
-ghost use Rattle.std.specs.Prelude.{◌≡◌, ◌++◌, map, IfOk, codes};
+ghost use Rattle.std.specs.Prelude.{◌≡◌, ◌++◌, map, IfOk, OnOk, codes};
 ghost use Rattle.std.specs.List.{flat_map};
 ghost use Rattle.commands.specs.TableFaults.{object_path, target_name, maker_text, made_twice_text, requirement_text, private_text, ring_text, fault_subject, fault_text};
 
@@ -134,16 +134,22 @@ fn maker_text(alloc: Global, maker: Maker, makers: Makers) -> Result<Vec<u8>, Al
 fn ring_text(alloc: Global, ring: &[usize], objects: &[Rule]) -> Result<Vec<u8>, AllocError>
     ensures { IfOk result (λ text. text.items ≡ ring_text objects.now ring.now) }
 {
-    let mut text = Vec::new(alloc);
     let [first, others @ ..] = ring else {
-        return Ok(text);
+        return Ok(Vec::new(alloc));
     };
-    text.extend_from_slice(object_path(objects, *first))?;
+    let mut text = Vec::from_slice(alloc, object_path(objects, *first))?;
     for next in others {
-        text.extend_from_slice(b" -> ")?;
-        text.extend_from_slice(object_path(objects, *next))?;
+        push_next(&mut text, object_path(objects, *next))?;
     }
     Ok(text)
+}
+
+/// Appends the next name of a ring, behind an arrow.
+pub(crate) fn push_next(text: &mut Vec<u8>, name: &[u8]) -> Result<(), AllocError>
+    ensures { OnOk result (text.new.items ≡ text.old.items ++ (codes " -> " ++ name.now)) }
+{
+    text.extend_from_slice(b" -> ")?;
+    text.extend_from_slice(name)
 }
 
 /// The path of the object of that index.

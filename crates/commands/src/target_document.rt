@@ -24,10 +24,12 @@ pub(crate) struct TargetDocument {
 impl Drop for TargetDocument {
     fn drop(self) {
         let TargetDocument {
-            spec: _,
-            setting: _,
+            spec,
+            setting,
             path: _,
         } = self;
+        drop(spec);
+        drop(setting);
     }
 }
 
@@ -60,13 +62,18 @@ impl TargetDocument {
         requires { IsPlaced spec }
         ensures { IfOk result (λ document. document ≡ spec) }
     {
-        let setting = setting_in(alloc, &spec)?;
-        let path = dyndep_path(alloc, &spec)?;
-        Ok(TargetDocument {
-            spec,
-            setting,
-            path,
-        })
+        match places_in(alloc, &spec) {
+            Ok((setting, path)) => Ok(TargetDocument {
+                spec,
+                setting,
+                path,
+            }),
+            Err(AllocError) => {
+                // Here, by one call: it would be dropped field by field at the end.
+                drop(spec);
+                Err(AllocError)
+            }
+        }
     }
 
     /// The members.
@@ -91,19 +98,35 @@ impl TargetDocument {
     }
 }
 
+/// What a target document says of where files are: its setting and its dyndep file.
+fn places_in(alloc: Global, spec: &TargetSpec) -> Result<(Setting, Path), AllocError>
+    requires { IsPlaced spec.now }
+    ensures setting { IfOk result (λ places. places.0 ≡ setting_in spec.now) }
+    ensures path { IfOk result (λ places. places.1 ≡ dyndep_path spec.now) }
+{
+    let path = dyndep_path(alloc, spec)?;
+    Ok((setting_in(alloc, spec)?, path))
+}
+
 /// Where the target's modules are compiled to, and where Ninja runs.
 fn setting_in(alloc: Global, spec: &TargetSpec) -> Result<Setting, AllocError>
     ensures { IfOk result (λ setting. setting ≡ setting_in spec.now) }
 {
-    let build_dir = match &spec.build_dir {
-        Some(path) => Some(path.copy(alloc)?),
-        None => None,
-    };
     Ok(Setting {
         module_dir: String::from_str(alloc, &spec.module_dir)?,
         module_ext: String::from_str(alloc, &spec.module_ext)?,
-        build_dir,
+        build_dir: path_copy(alloc, &spec.build_dir)?,
     })
+}
+
+/// A copy of the path, if there is one.
+fn path_copy(alloc: Global, path: &Option<Path>) -> Result<Option<Path>, AllocError>
+    ensures { IfOk result (λ copy. copy ≡ path.now) }
+{
+    match path {
+        Some(path) => Ok(Some(path.copy(alloc)?)),
+        None => Ok(None),
+    }
 }
 
 /// The dyndep file of a target document, as Ninja sees it.

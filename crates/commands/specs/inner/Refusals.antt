@@ -23,6 +23,11 @@ refusal_line objects names (StatementTooLong statement) =
 refusal_line objects names (Map object fault) = map_text objects object fault
 refusal_line objects names LinkedLater = codes "K3 LinkedLater"
 
+-- what a run answers to a failure: this to a fault, and nothing for want of memory
+abbrev pub AnswersFault : {F : Type 0} → (F → Answer → Type 0) → Failure F → Answer → Type 0
+AnswersFault Answers Memory answer = ⊥
+AnswersFault Answers (Fault fault) answer = Answers fault answer
+
 -- what a run answers to a target that failed to collate: the line of its refusal, and nothing for
 -- want of memory
 abbrev pub AnswersFailure : Failure RefusedTarget → Answer → Type 0

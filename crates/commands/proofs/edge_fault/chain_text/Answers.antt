@@ -1,8 +1,9 @@
-use Rattle.std.proofs.Common.{◌≡◌, ℕ, ◌-◌, ◌≤◌, List, [], ◌∷◌, ◌++◌, length, take, drop, get_or, codes, refl, arith}
+use Rattle.std.proofs.Common.{◌≡◌, ℕ, ◌-◌, ◌≤◌, List, [], ◌∷◌, ◌++◌, length, take, drop, get_or, codes, refl, ap, ◌∙◌, arith}
 use Rattle.std.specs.List.{flat_map}
 use Rattle.std.proofs.lemmas.List.{take_all}
 use Rattle.build_effect.specs.EdgeValue.{EdgeValue}
 use Rattle.commands.specs.EdgeFaults.{first_output, chain_text}
+use Rattle.commands.proofs.Loops.{appended_more}
 use Rattle.commands.proofs.edge_fault.chain_text.Goals as goal
 
 -- a chain that has a first edge
@@ -19,4 +20,10 @@ returns c =
     let chain = c.args.chain.now in
     let all = take_all c.loop-next.next-index (take (length chain - 1) (drop 1 chain)) c.loop-next-test.false in
     let first : c.first_output.result.now ≡ first_output edges (get_or chain 0 0) = c.first_output.ensures in
-    rw (c.loop-next.invariant, all, c.in_ok-extend_from_slice.ensures.items, c.new-text.ensures.items, first, chain_parts edges chain c.in-len1-up.len_at_least) refl
+    rw (c.loop-next.invariant, all, c.in_ok-text.ensures.items, first, chain_parts edges chain c.in-len1-up.len_at_least) refl
+
+-- one more
+pub loop-next-preserved : goal.loop-next-preserved
+loop-next-preserved c =
+    appended_more (λ next. codes " -> " ++ first_output c.args.edges.now next) _ _ c.loop-next.next-index _ _ c.loop-next-test.true c.loop-next.invariant
+    (c.in_ok-push_next.ensures ∙ ap (λ name. c.loop-next.text.items ++ (codes " -> " ++ name)) c.first_output-in-loop-next.ensures)

@@ -1,4 +1,4 @@
-use Rattle.std.proofs.Common.{ℕ, List, subst, sym, ◌∙◌}
+use Rattle.std.proofs.Common.{ℕ, List, subst, sym}
 use Rattle.std.proofs.lemmas.Result.{IfOk-weaker}
 use Rattle.ninja_text.specs.Failure.{ForFault}
 use Rattle.dyndep_file.specs.StatementValue.{StatementValue}
@@ -6,7 +6,8 @@ use Rattle.build_effect.specs.EdgeValue.{EdgeValue}
 use Rattle.build_effect.specs.Effect.{HasNoEffect}
 use Rattle.build_effect.specs.Faults.{IsEffectFault}
 use Rattle.build_effect.specs.declared.fault.EffectFault.{EffectFault}
-use Rattle.commands.specs.Answers.{Fails, Refuses}
+use Rattle.commands.specs.Answers.{Refuses}
+use Rattle.commands.specs.EdgeFaults.{effect_text}
 use Rattle.commands.specs.Effect.{AnswersNew, AnswersEffectOf}
 use Rattle.commands.proofs.effect.statements_run.Goals as goal
 
@@ -21,8 +22,8 @@ returns-in-Ok c =
     c.new_run.ensures
 
 -- the fault that keeps the statements from having one
-pub returns-in_ok-message-in-Err-Fault : goal.returns-in_ok-message-in-Err-Fault
-returns-in_ok-message-in-Err-Fault c =
+pub returns-in-Err-Fault : goal.returns-in-Err-Fault
+returns-in-Err-Fault c =
     let edges : List EdgeValue = c.args.graph.now in
     let name : List ℕ = c.args.name.now in
     let statements : List StatementValue = c.args.dyndep.now in
@@ -30,13 +31,13 @@ returns-in_ok-message-in-Err-Fault c =
     subst (ForFault (IsEffectFault edges name statements)) c.in-Err-Fault.field-0-is c.in-Err-Fault.ensures.fault in
     let none : HasNoEffect edges name statements =
     subst (ForFault {F = EffectFault} (λ _. HasNoEffect edges name statements)) c.in-Err-Fault.field-0-is c.in-Err-Fault.ensures.no_effect in
-    IfOk-weaker c.failed.result (Fails 1 c.deref.result.now) (AnswersEffectOf name edges statements)
+    IfOk-weaker c.effect_refused.result (Refuses (effect_text c.in-Err-Fault.fault)) (AnswersEffectOf name edges statements)
     (λ answer h. record {
       effect = λ new is. absurd (none new is);
       no_effect = λ _. record {
         fault = c.in-Err-Fault.fault;
         present = present;
-        refused = subst (λ text. Refuses text answer) (c.deref.ensures.value ∙ c.in_ok-message-in-Err-Fault.ensures) h;
+        refused = h;
       };
     })
-    c.failed.ensures
+    c.effect_refused.ensures

@@ -38,3 +38,15 @@ pub returns-in-Some-Clang-clause-read : goal.returns-in-Some-Clang-clause-read
 returns-in-Some-Clang-clause-read c =
     let form : c.args.form ≡ Some Clang = search rules in
     subst (λ (f : Option MapForm). IfErr c.project_or_refused-in-Some-Clang.result (ForFault (λ (x : ℕ × RefusedTarget). WasReadAt (style_of f) c.args.parts.now x.0 x.1.refusal (table_with x.1.objects.items x.1.infos.items)))) (sym form) c.project_or_refused-in-Some-Clang.ensures.read
+
+pub returns-in-None-clause-refused : goal.returns-in-None-clause-refused
+returns-in-None-clause-refused c =
+    subst (λ (f : Option MapForm). IfErr c.project_or_refused.result (ForFault (λ (x : ℕ × RefusedTarget). IsProjectRefusal (style_of f) c.args.parts.now x.0 x.1.refusal))) (sym c.in-None.is) c.project_or_refused.ensures.refused
+
+pub returns-in-None-clause-collated : goal.returns-in-None-clause-collated
+returns-in-None-clause-collated c =
+    subst (λ (f : Option MapForm). IfOk c.project_or_refused.result (λ out. CollatesProject (style_of f) c.args.parts.now out.targets.items)) (sym c.in-None.is) c.project_or_refused.ensures.collated
+
+pub returns-in-None-clause-read : goal.returns-in-None-clause-read
+returns-in-None-clause-read c =
+    subst (λ (f : Option MapForm). IfErr c.project_or_refused.result (ForFault (λ (x : ℕ × RefusedTarget). WasReadAt (style_of f) c.args.parts.now x.0 x.1.refusal (table_with x.1.objects.items x.1.infos.items)))) (sym c.in-None.is) c.project_or_refused.ensures.read

@@ -21,7 +21,7 @@ loop-target-preserved c =
     c.in_ok-slices.ensures ∙ ap (map (λ (file : Vec ℕ Global). file.items)) c.deref.ensures.value
     ∙ ap (λ (i : Inside). i.files.scans) c.target-inside.view_is ∙ ap (λ (t : ReadTargetValue). t.scans) c.target.view_is in
     subst (λ (all : List (Vec (Bor (List ℕ)) Global)). map texts all ≡ map (λ (t : ReadTargetValue). t.scans) (take (i + 1) targets))
-    (sym c.in_ok-push.ensures.items)
+    (sym c.in_ok-scans-2.ensures)
     (map_push texts c.loop-target.scans.items lent
     ∙ ap₂ (λ a b. a ++ b ∷ []) c.loop-target.invariant here
     ∙ sym {A = List (List (List ℕ))} (mapped_next (λ (t : ReadTargetValue). t.scans) targets i c.target-item.result c.loop-target-test.true c.target-item.is))

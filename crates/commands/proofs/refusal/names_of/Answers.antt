@@ -14,8 +14,8 @@ target_of info = info.target
 pub loop-info-preserved : goal.loop-info-preserved
 loop-info-preserved c =
     let names = c.loop-info.names.items in
-    made_more target_of c.args.infos.now c.loop-info.info-index c.info-item.result (now_of names) (now_of c.push.new.self.items) c.loop-info-test.true c.info-item.is
-    (ap now_of c.in_ok-push.ensures.items ∙ map-append (λ (n : Bor (List ℕ)). n.now) names _ ∙ ap (λ (i : InfoValue). now_of names ++ i.target ∷ []) c.info.view_is) c.loop-info.invariant
+    made_more target_of c.args.infos.now c.loop-info.info-index c.info-item.result (now_of names) _ c.loop-info-test.true c.info-item.is
+    (ap now_of c.in_ok-names-2.ensures ∙ map-append (λ (n : Bor (List ℕ)). n.now) names _ ∙ ap (λ (i : InfoValue). now_of names ++ i.target ∷ []) c.info.view_is) c.loop-info.invariant
 
 pub returns : goal.returns
 returns c = of_all (map target_of) c.args.infos.now c.loop-info.info-index (now_of c.loop-info.names.items) c.loop-info-test.false c.loop-info.invariant

@@ -1,13 +1,13 @@
 use Rattle.std.proofs.Common.{List, ℕ, ◌∷◌, [], ◌++◌, take, get_or, map, ap, ap₂, sym, ◌∙◌}
 use Rattle.std.proofs.lemmas.List.{append_assoc, map_push, take_more}
 use Rattle.commands.specs.Answers.{visible}
-use Rattle.commands.proofs.order.push_visible.Goals as goal
+use Rattle.commands.proofs.answer.push_line.Goals as goal
 
 -- one byte more
 pub loop-byte-preserved : goal.loop-byte-preserved
 loop-byte-preserved c =
     let text : List ℕ = c.args.text.now.items in
-    let name = c.args.name.now in
+    let name = c.args.line.now in
     let i : ℕ = c.loop-byte.byte-index in
     let byte : ℕ = get_or name i 0 in
     c.in_ok-push.ensures.items
