@@ -77,20 +77,12 @@ pub(crate) fn edges_failed(
     match failure {
         Failure::Memory => Err(AllocError),
         Failure::Fault(fault) => {
-            let answer = edges_refused(alloc, &fault);
+            let message = edges_text(alloc, &fault);
             // Here, by one call: what it holds would be dropped field by field at the end.
             drop(fault);
-            answer
+            Answer::failed(alloc, 1, &message?)
         }
     }
-}
-
-/// The answer to edges that are faulty.
-fn edges_refused(alloc: Global, fault: &EdgesFault) -> Result<Answer, AllocError>
-    ensures { IfOk result (Refuses (edges_text fault.now)) }
-{
-    let message = edges_text(alloc, fault)?;
-    Answer::failed(alloc, 1, &message)
 }
 
 /// What is reported of edges that are faulty.

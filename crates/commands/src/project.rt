@@ -165,7 +165,7 @@ fn in_project<'t>(
 {
     let mut parts = Vec::with_capacity(alloc, targets.len())?;
     for (index, target) in targets.iter().enumerate() {
-        parts.push(target.in_project(&scans[index]))?;
+        parts = pushed(parts, target.in_project(&scans[index]))?;
     }
     Ok(parts)
 }
@@ -213,7 +213,7 @@ fn linked_names<'t>(
     for index in linked {
         let target = &targets[*index];
         let spec = target.document.spec();
-        names.push(&spec.target)?;
+        names = pushed(names, &spec.target)?;
     }
     Ok(names)
 }
@@ -255,21 +255,13 @@ fn edges_failed(alloc: Global, failure: Failure<(usize, EdgesFault)>) -> Result<
 {
     match failure {
         Failure::Memory => Err(AllocError),
-        Failure::Fault(failed) => {
-            let answer = target_edges_failed(alloc, &failed);
+        Failure::Fault((index, fault)) => {
+            let text = edges_text(alloc, &fault);
             // Here, by one call: what it holds would be dropped field by field at the end.
-            drop(failed);
-            answer
+            drop(fault);
+            target_failed(alloc, index, &text?)
         }
     }
-}
-
-/// The answer to the target of an index whose edges are faulty.
-fn target_edges_failed(alloc: Global, failed: &(usize, EdgesFault)) -> Result<Answer, AllocError>
-    ensures { IfOk result (Refuses (target_text failed.now.0 (edges_text failed.now.1))) }
-{
-    let text = edges_text(alloc, &failed.1)?;
-    target_failed(alloc, failed.0, &text)
 }
 
 /// Whether the edges that each target names can be put in order after its own dyndep file, or what

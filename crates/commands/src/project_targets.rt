@@ -12,7 +12,7 @@ ghost use Rattle.commands.specs.inner.ProjectTargets.{writer_of, LinkEarlier};
 
 use crate::answer::{Answer, ended};
 use crate::folder::Folder;
-use crate::reading::{TargetFiles, read_file};
+use crate::reading::{TargetFiles, pushed, read_file};
 use crate::target_document::TargetDocument;
 use collate_core::ProjectTarget;
 use indexmap::IndexMap;
@@ -104,10 +104,9 @@ impl Targets {
         ensures { IfOk result (λ targets. targets ≡ self ++ target ∷ []) }
     {
         let Targets { read, writers } = self;
-        let mut read = read;
         let mut writers = writers;
         let index = read.len();
-        read.push(target)?;
+        let read = pushed(read, target)?;
         writers.insert(alloc, &read[index].document.spec().info, index)?;
         Ok(Targets { read, writers })
     }
@@ -273,7 +272,7 @@ fn linked_in(
     let mut linked = Vec::with_capacity(alloc, infos.len())?;
     for info in infos {
         match targets.writer(info.as_str()) {
-            Some(index) => linked.push(index)?,
+            Some(index) => linked = pushed(linked, index)?,
             None => return Ok(None),
         }
     }

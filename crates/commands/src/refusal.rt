@@ -1,7 +1,6 @@
 //! How the refusals of a target are reported.
 
 ghost use Rattle.std.specs.Prelude.{◌≡◌, map, codes, IfOk};
-ghost use Rattle.commands.specs.Answers.{Refuses};
 ghost use Rattle.commands.specs.RefusalTexts.{document_text, map_text};
 ghost use Rattle.commands.specs.inner.Refusals.{refusal_line, AnswersFailure};
 
@@ -25,24 +24,15 @@ pub(crate) fn failed_run(
     match failure {
         Failure::Memory => Err(AllocError),
         Failure::Fault(refused) => {
-            let answer = target_refused(alloc, &refused);
+            let message = refused_text(alloc, &refused);
             // Here, by one call: what it holds would be dropped field by field at the end.
             drop(refused);
-            answer
+            Answer::failed(alloc, 1, &message?)
         }
     }
 }
 
-/// The answer to a target that is refused: infos are named by the names in them.
-fn target_refused(alloc: Global, refused: &RefusedTarget) -> Result<Answer, AllocError>
-    ensures { IfOk result (Refuses (refusal_line refused.now.objects.items
-        (map (λ info. info.target) refused.now.infos.items) refused.now.refusal)) }
-{
-    let message = refused_text(alloc, refused)?;
-    Answer::failed(alloc, 1, &message)
-}
-
-/// What is reported of a target that is refused.
+/// What is reported of a target that is refused: infos are named by the names in them.
 fn refused_text(alloc: Global, refused: &RefusedTarget) -> Result<Vec<u8>, AllocError>
     ensures { IfOk result (λ text. text.items ≡ refusal_line refused.now.objects.items
         (map (λ info. info.target) refused.now.infos.items) refused.now.refusal) }

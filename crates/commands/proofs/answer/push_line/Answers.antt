@@ -1,5 +1,6 @@
 use Rattle.std.proofs.Common.{List, ℕ, ◌∷◌, [], ◌++◌, take, get_or, map, ap, ap₂, sym, ◌∙◌}
-use Rattle.std.proofs.lemmas.List.{append_assoc, map_push, take_more}
+use Rattle.std.proofs.lemmas.List.{append_assoc, map_push, take_all, take_more}
+use Rattle.ninja_text.specs.Bytes.{line_feed}
 use Rattle.commands.specs.Answers.{visible}
 use Rattle.commands.proofs.answer.push_line.Goals as goal
 
@@ -14,3 +15,10 @@ loop-byte-preserved c =
     ∙ ap₂ (λ a b. a ++ b ∷ []) c.loop-byte.invariant c.visible.ensures
     ∙ append_assoc text (map visible (take i name)) (visible byte ∷ [])
     ∙ ap (λ z. text ++ z) (sym (ap (map visible) (take_more name i 0 c.loop-byte-test.true) ∙ map_push visible (take i name) byte))
+
+pub returns : goal.returns
+returns c =
+    let text : List ℕ = c.args.text.now.items in
+    let line = c.args.line.now in
+    c.in_ok-push-2.ensures.items
+    ∙ ap (λ z. z ++ line_feed ∷ []) (c.loop-byte.invariant ∙ ap (λ bytes. text ++ map visible bytes) (take_all c.loop-byte.byte-index line c.loop-byte-test.false))

@@ -36,6 +36,6 @@ pub loop-index-preserved : goal.loop-index-preserved
 loop-index-preserved c =
     let targets = c.args.targets.now in
     let i : ℕ = c.loop-index.index in
-    subst (λ (parts : List ProjectTargetValue). parts ≡ map project_target (take (i + 1) targets)) (sym c.in_ok-push.ensures.items)
+    subst (λ (parts : List ProjectTargetValue). parts ≡ map project_target (take (i + 1) targets)) (sym c.in_ok-parts-2.ensures)
     (ap₂ (λ a b. a ++ b ∷ []) c.loop-index.invariant c.in_project.ensures
     ∙ sym {A = List ProjectTargetValue} (mapped_next project_target targets i c.index-targets-index.result c.loop-index-test.true c.index-targets-index.is))

@@ -20,5 +20,5 @@ loop-index-preserved c =
     let here : slice_get targets k ≡ Some t = at_index targets k t within c.index-targets-index.is in
     let named : c.spec.inside.target ≡ t.spec.target =
     ap (λ (s : document.TargetDocumentValue). s.target) (c.spec.view_is ∙ c.spec-spec.ensures) ∙ ap (λ (t : ReadTargetValue). t.spec.target) c.target.view_is in
-    rw (c.in_ok-push.ensures.items, map_push (λ (n : Bor (List ℕ)). n.now))
+    rw (c.in_ok-names-2.ensures, map_push (λ (n : Bor (List ℕ)). n.now))
     (names_next targets linked i t _ c.spec.inside.target c.loop-index-test.true here c.loop-index.invariant named)

@@ -13,9 +13,9 @@ invariant_of-result c =
     let target = c.args.target in
     let at : c.len-index.result ≡ length ts = search rules in
     let here : c.index.result.now ≡ target =
-    c.index.ensures ∙ ap (λ read. get_or read c.len-index.result c.index.result.now) c.in_ok-push.ensures.items ∙ get_or_push ts target c.index.result.now c.len-index.result (sym at) in
+    c.index.ensures ∙ ap (λ read. get_or read c.len-index.result c.index.result.now) c.in_ok-read.ensures ∙ get_or_push ts target c.index.result.now c.len-index.result (sym at) in
     let named : c.deref.result.now ≡ c.index.result.now.spec.info = search rules in
-    rw c.in_ok-push.ensures.items (
+    rw c.in_ok-read.ensures (
       links_push ts target c.self.invariant.0 (subst (λ (n : List ReadTargetValue). All (λ k. k < length n) target.linked) (sym c.self.view_is) c.requires),
       writer_push ts target c.deref.result.now c.len-index.result (writer_of c.self.inside.writers.indexes) (writer_of c.insert.new.self.indexes) c.self.invariant.1
           (named ∙ ap (λ (t : ReadTargetValue). t.spec.info) here) at c.in_ok-insert.ensures,
