@@ -1,4 +1,4 @@
--- How a refused target is reported, by what was read of it.
+-- What is answered to failures, and how a refused target is reported, by what was read of it.
 use Rattle.std.specs.Prelude.{ℕ, List, map, codes}
 use Rattle.ninja_text.specs.declared.failure.Failure.{Failure}
 use Rattle.ninja_text.specs.declared.failure.Failure.TheVariants.{Memory, Fault}
