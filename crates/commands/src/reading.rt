@@ -137,8 +137,8 @@ pub(crate) fn slices(alloc: Global, files: &[Vec<u8>]) -> Result<Vec<&[u8]>, All
     Ok(slices)
 }
 
-/// The list with one more item, or nothing of it. A loop that makes a list by this call has none to
-/// drop where memory is refused, which halves its proof.
+/// The list with one more item. A loop that makes its list by this call has none to drop where
+/// memory is refused, which halves its proof.
 pub(crate) fn pushed<T: Drop>(list: Vec<T>, item: T) -> Result<Vec<T>, AllocError>
     ensures { IfOk result (λ longer. longer.items ≡ list.items ++ item ∷ []) }
 {
