@@ -3,7 +3,8 @@ use Rattle.std.specs.Prelude.{List}
 use Rattle.ninja_text.specs.Bytes.{Text}
 use Rattle.dyndep_file.specs.StatementValue.{StatementValue}
 use Rattle.dyndep_file.specs.Reading.{StandsFor, HasReadFault, FaultAt}
-use Rattle.dyndep_file.specs.declared.fault.ReadFault.TheVariants.{AtLine}
+use Rattle.dyndep_file.specs.declared.fault.ReadFault.{ReadFault}
+use Rattle.dyndep_file.specs.declared.fault.ReadFault.TheVariants.{AtLine, Io}
 use Rattle.dyndep_file.specs.FaultTexts.{read_fault_text}
 use Rattle.commands.specs.declared.answer.Answer.{Answer}
 use Rattle.commands.specs.Answers.{Refuses}
