@@ -138,7 +138,7 @@ pub(crate) fn slices(alloc: Global, files: &[Vec<u8>]) -> Result<Vec<&[u8]>, All
 }
 
 /// The list with one more item. A loop that makes its list by this call has none to drop where
-/// memory is refused, which halves its proof.
+/// memory is refused, which makes its proof shorter.
 pub(crate) fn pushed<T: Drop>(list: Vec<T>, item: T) -> Result<Vec<T>, AllocError>
     ensures { IfOk result (λ longer. longer.items ≡ list.items ++ item ∷ []) }
 {
