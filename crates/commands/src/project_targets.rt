@@ -58,19 +58,10 @@ impl ReadTarget {
 }
 
 /// The targets of a project that were read so far.
+#[derive(Drop)]
 pub(crate) struct Targets {
     read: Vec<ReadTarget>,
     writers: Writers,
-}
-
-// Not derived: a derived drop stands, field by field, wherever a value goes.
-impl Drop for Targets {
-    fn drop(self) {
-        let Targets {
-            read: _,
-            writers: _,
-        } = self;
-    }
 }
 
 impl Model for Targets {
