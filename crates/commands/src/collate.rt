@@ -71,6 +71,7 @@ fn files_answer(
 ) -> Result<Answer, AllocError>
     ensures { IfOk result (AnswersTargetOf document.now files.now) }
 {
+    one_outcome();
     let scans = slices(alloc, &files.scans)?;
     let infos = slices(alloc, &files.infos)?;
     let spec = document.spec();
@@ -81,24 +82,8 @@ fn files_answer(
         infos: &infos,
         kept: &spec.kept,
     };
-    target_answer(alloc, keys, &target, document, files.listing())
-}
-
-/// The answer to a target, with the listing of edges that its document names, if it names one.
-fn target_answer(
-    alloc: Global,
-    keys: RandomState,
-    target: &Target<'_>,
-    document: &TargetDocument,
-    listing: Option<&[u8]>,
-) -> Result<Answer, AllocError>
-    ensures { IfOk result (AnswersTarget
-        (WritesCollated document.now (option_copied listing.entry))
-        target.now (style_of document.now.map_form)) }
-{
-    one_outcome();
-    match collate_in(alloc, keys, target, document.spec().map) {
-        Ok(collated) => collated_answer(alloc, keys, collated, document, listing),
+    match collate_in(alloc, keys, &target, spec.map) {
+        Ok(collated) => collated_answer(alloc, keys, collated, document, files.listing()),
         Err(failure) => failed_run(alloc, failure),
     }
 }
