@@ -144,7 +144,7 @@ fn ring_text(alloc: Global, ring: &[usize], objects: &[Rule]) -> Result<Vec<u8>,
     Ok(text)
 }
 
-/// Appends the next name of a ring, behind an arrow.
+/// Appends the next name of a ring, after an arrow.
 pub(crate) fn push_next(text: &mut Vec<u8>, name: &[u8]) -> Result<(), AllocError>
     ensures { OnOk result (text.new.items ≡ text.old.items ++ (codes " -> " ++ name.now)) }
 {
