@@ -10,7 +10,7 @@ ghost use Rattle.dyndep_file.specs.Texts.{IsTextOf, IsFinished};
 ghost use Rattle.dyndep_file.specs.inner.Paths.{texts, lent_texts};
 
 use crate::fault::WriteFault;
-use crate::statement::{Dyndep, LentStatement};
+use crate::statement::{Dyndep, LentStatement, Statement};
 use ninja_text::{Failure, LINE_LIMIT, escape_into, is_writable};
 use std::alloc::{AllocError, Global};
 use std::marker::Model;
@@ -77,6 +77,29 @@ impl DyndepText {
         Ok(())
     }
 
+    /// Adds the lines of a statement that has its own paths, which are lent here in the place of
+    /// what was lent before.
+    fn add_lent<'p>(
+        &mut self,
+        statement: &'p Statement,
+        outputs: &mut Vec<&'p [u8]>,
+        inputs: &mut Vec<&'p [u8]>,
+    ) -> Result<(), Failure<WriteFault>>
+        ensures added { OnOk result ((statements : List StatementValue) →
+            IsTextOf statements self.old → IsTextOf (statements ++ statement.now ∷ []) self.new) }
+        ensures fault { IfErr result (ForFault (λ fault.
+            statement_fault self.old.count statement.now ≡ Some fault)) }
+    {
+        lend(&statement.implicit_outputs, outputs)?;
+        lend(&statement.implicit_inputs, inputs)?;
+        self.add(&LentStatement {
+            output: &statement.output,
+            implicit_outputs: outputs,
+            implicit_inputs: inputs,
+            restat: statement.restat,
+        })
+    }
+
     /// The text, which the grammar relates to the statements that were added, and to no others.
     pub fn finish(self) -> Vec<u8>
         ensures { (statements : List StatementValue) →
@@ -99,14 +122,7 @@ impl Dyndep {
         let mut outputs = Vec::new(alloc);
         let mut inputs = Vec::new(alloc);
         for statement in &self.statements {
-            lend(&statement.implicit_outputs, &mut outputs)?;
-            lend(&statement.implicit_inputs, &mut inputs)?;
-            text.add(&LentStatement {
-                output: &statement.output,
-                implicit_outputs: &outputs,
-                implicit_inputs: &inputs,
-                restat: statement.restat,
-            })?;
+            text.add_lent(statement, &mut outputs, &mut inputs)?;
         }
         Ok(text.finish())
     }
