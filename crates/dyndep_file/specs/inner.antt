@@ -3,3 +3,4 @@ pub mod Paths
 pub mod BuildLines
 pub mod LineReading
 pub mod LineStates
+pub mod Feeding

@@ -1,5 +1,8 @@
 //! Reading a dyndep file from any `Read`.
-ghost use Rattle.dyndep_file.specs.ReadingAll.{IsReadFrom};
+ghost use Rattle.std.specs.Prelude.{[], MatchResult};
+ghost use Rattle.dyndep_file.specs.Reader.{HasReadDyndep};
+ghost use Rattle.dyndep_file.specs.ReadingAll.{Answer, IsReadFrom};
+ghost use Rattle.dyndep_file.specs.inner.Feeding.{AnswersAtEnd};
 
 use crate::fault::ReadFault;
 use crate::reader::DyndepReader;
@@ -20,10 +23,26 @@ pub fn read_all<R: ReadCall>(
     ensures { IsReadFrom R.remaining R.reads input.old input.new result }
 {
     let mut reader = DyndepReader::new(alloc);
+    feed_all(input, &mut reader)?;
+    reader.finish()
+}
+
+/// Feeds a new reader all bytes up to the input's end.
+fn feed_all<R: ReadCall>(
+    input: &mut Counted<R>,
+    reader: &mut DyndepReader,
+) -> Result<(), Failure<ReadFault>>
+    requires { HasReadDyndep [] reader.old }
+    // After the end, the answer of the whole is whatever `finish` answers then.
+    ensures { MatchResult result
+        (λ _. (answer : Answer) → AnswersAtEnd reader.new answer →
+            IsReadFrom R.remaining R.reads input.old input.new answer)
+        (λ failure. IsReadFrom R.remaining R.reads input.old input.new (Err failure)) }
+{
     let mut piece = [0; 4096];
     'read: for calls in 0..u64::MAX {
         match input.read(&mut piece) {
-            Ok(0) => return reader.finish(),
+            Ok(0) => return Ok(()),
             Ok(count) => reader.feed(&piece[..count])?,
             Err(_) => return Err(Failure::Fault(ReadFault::Io)),
         }
