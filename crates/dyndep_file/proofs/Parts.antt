@@ -1,9 +1,10 @@
 -- The paths of a part, as they are lent and as lists, and what is written of the first of them.
-use Rattle.std.proofs.Common.{◌≡◌, ℕ, suc, ◌+◌, ◌<◌, List, [], ◌∷◌, ◌++◌, length, get_or, take, Bor, ap, sym, ◌∙◌, subst, arith, append_assoc, length-append}
+use Rattle.std.proofs.Common.{◌≡◌, ℕ, suc, ◌+◌, ◌<◌, List, [], ◌∷◌, ◌++◌, length, get_or, take, codes, true, false, Bor, ap, refl, sym, ◌∙◌, ◌==◌, subst, arith, append_assoc, length-append}
 use Rattle.std.specs.Prelude.{All}
 use Rattle.std.specs.List.{flat_map}
 use Rattle.std.proofs.lemmas.List.{take_more, get_or-map, length-map, append-nil, get_or_append_left, get_or-append-add}
 use Rattle.std.proofs.lemmas.Grind.{flat_map-append}
+use Rattle.dyndep_file.specs.Writing.{spaced, part_text}
 use Rattle.dyndep_file.specs.inner.Paths.{lent_texts}
 
 -- the bytes of the path at an index
@@ -33,6 +34,11 @@ written_next start front text path byte =
     append_assoc (start ++ (front ++ text)) (byte ∷ []) path
     ∙ append_assoc start (front ++ text) (byte ∷ path)
     ∙ ap (λ rest. start ++ rest) (append_assoc front text (byte ∷ path))
+
+-- a part that has some paths
+pub some_part : (paths : List (List ℕ)) → (length paths == 0) ≡ false → codes " |" ++ flat_map spaced paths ≡ part_text paths
+some_part [] h = absurd (let x : true ≡ false = h in cc)
+some_part (path ∷ paths) h = refl
 
 -- what holds of all paths of a statement holds of those of each part
 pub first_part : (P : List ℕ → Type 0) (output : List ℕ) (outputs inputs : List (List ℕ)) → All P (output ∷ (outputs ++ inputs)) → All P outputs
