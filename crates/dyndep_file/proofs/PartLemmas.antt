@@ -2,7 +2,7 @@
 use Rattle.std.proofs.Common.{inr, ◌≡◌, ℕ, List, [], ◌∷◌, ◌++◌, map, false, Vec, Global, Ok, Err, refl, sym, ap, ◌∙◌, subst, append_assoc}
 use Rattle.std.specs.Prelude.{Option, Result, codes}
 use Rattle.std.specs.Result.{IsErrAnd}
-use Rattle.std.proofs.lemmas.List.{map-append}
+use Rattle.std.proofs.lemmas.List.{map-append, append-nil}
 use Rattle.ninja_text.specs.Tokens.{value_of}
 use Rattle.ninja_text.specs.TokenViews.{seen_token, tokens_left}
 use Rattle.ninja_text.specs.declared.failure.Failure.{Failure}
@@ -111,3 +111,14 @@ takes_bar old between new (Ok outputs) e t = record {
   is = t.is;
 }
 takes_bar old between new (Err failure) e t = subst (λ f. IsFailureOf f failure) (sym (ap after_output_fault e)) t
+
+-- `|` and the words behind it are a part of implicit inputs
+pub takes_rest : (old between : List Symbol) (result : Result (Vec (Vec ℕ Global) Global) (Failure LineFault)) → old ≡ SignSymbol Bar ∷ between
+    → TakesOr (implicit_inputs_fault between) (λ inputs. TakesWords between (texts inputs.items) []) result
+    → TakesOr (after_rule_fault old) (λ inputs. TakesInputs old (texts inputs.items)) result
+takes_rest old between (Ok inputs) e t = record {
+  words = t.words;
+  is_part = inr (e ∙ ap (λ s. SignSymbol Bar ∷ s) (t.are ∙ append-nil (map WordSymbol t.words)));
+  is = t.is;
+}
+takes_rest old between (Err failure) e t = subst (λ f. IsFailureOf f failure) (sym (ap after_rule_fault e)) t
