@@ -36,7 +36,7 @@ fn feed_all<R: ReadCall>(
     // After the end, the answer of the whole is whatever `finish` answers then.
     ensures { MatchResult result
         (λ _. (answer : Answer) → AnswersAtEnd reader.new answer →
-            IsReadFrom R.remaining R.reads input.old input.new answer)
+        IsReadFrom R.remaining R.reads input.old input.new answer)
         (λ failure. IsReadFrom R.remaining R.reads input.old input.new (Err failure)) }
 {
     let mut piece = [0; 4096];
