@@ -23,7 +23,8 @@
 //! It uses `ninja_text`, which cuts the lines, finds their tokens, spells paths and counts
 //! failed calls, and `thiserror`, which derives `Error` for its faults.
 //!
-//! `must-fail/` has a wrong body of each public function but of the laws, which have none.
+//! `must-fail/` has a wrong body of each public function, or of a private one that it calls, but of
+//! the laws, which have none.
 //! `first_byte_out_before_a_fault_is_reported` shows that nothing is written before a fault.
 #![tactic(auto)]
 
