@@ -1,12 +1,15 @@
 -- How far a line goes into a piece, by a scan of the part that the limit leaves.
 use Rattle.std.proofs.Common.{◌≡◌, ℕ, zero, suc, ◌+◌, ◌-◌, ◌<◌, ◌≤◌, min, List, [], ◌∷◌, ◌++◌, length, take, refl, sym, ap, ◌∙◌, arith, length-append, Some, None, Ok, Err, false, true}
 use Rattle.std.specs.Prelude.{Result, Bool, nat_le}
+use Rattle.std.specs.Result.{IsErr, IsErrAnd}
 use Rattle.std.proofs.Math.Seq.{take-append-add, take-length}
 use Rattle.std.proofs.lemmas.List.{length-take-le, take_min}
 use Rattle.std.proofs.lemmas.Bool.Decides.{nat_tests}
 use Rattle.ninja_text.specs.Lines.{line_limit, line_end}
 use Rattle.ninja_text.specs.Scanning.{scan_from}
-use Rattle.ninja_text.specs.Cutting.{CutterState, feed_outcome}
+use Rattle.ninja_text.specs.Cutting.{CutterState, feed_outcome, Feeds}
+use Rattle.ninja_text.specs.declared.failure.Failure.{Failure}
+use Rattle.ninja_text.specs.declared.failure.Failure.TheVariants.{Memory, Fault}
 use Rattle.ninja_text.specs.declared.fault.CutFault.{CutFault}
 use Rattle.ninja_text.specs.declared.fault.CutFault.TheVariants.{LineTooLong}
 use Rattle.ninja_text.specs.inner.Reaching.{Reaches}
@@ -118,3 +121,9 @@ pub feeds_past : (number : ℕ) (bytes piece : List ℕ) → Reaches bytes piece
 feeds_past number bytes piece reaches =
     let full : nat_le line_limit (length (bytes ++ piece)) ≡ true = rw length-append (grind (arith, nat_tests)) in
     rw (reaches.1, full) refl
+
+-- a feed that was refused memory
+pub refused : (old new : CutterState) (piece : List ℕ) (r : Result ℕ (Failure CutFault)) → IsErr r → IsErrAnd r (λ e. e ≡ Memory) → old.failed ≡ false → old.waits ≡ false → new ≡ old → Feeds old piece r new
+refused old new piece (Ok n) err memory f w is = absurd (let clash : false ≡ true = err in cc)
+refused old new piece (Err Memory) err memory f w is = (f, w, is)
+refused old new piece (Err (Fault fault)) err memory f w is = absurd (let clash : ◌≡◌ {A = Failure CutFault} (Fault fault) Memory = memory in cc)
