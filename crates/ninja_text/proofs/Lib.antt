@@ -11,6 +11,7 @@ pub mod KnownBytes
 pub mod Turns
 pub mod Writable
 pub mod ForCallers
+pub mod Refusals
 mod LineRows
 pub mod UnitLemmas
 pub mod ScanLemmas

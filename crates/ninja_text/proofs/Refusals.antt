@@ -1,0 +1,16 @@
+-- What a call answers that was refused memory.
+use Rattle.std.proofs.Common.{◌≡◌, Ok, Err, IfOk, false, true}
+use Rattle.std.specs.Prelude.{Result}
+use Rattle.std.specs.Result.{IsErr, IsErrAnd}
+use Rattle.ninja_text.specs.Failure.{Gives}
+use Rattle.ninja_text.specs.declared.failure.Failure.{Failure}
+use Rattle.ninja_text.specs.declared.failure.Failure.TheVariants.{Memory, Fault}
+
+pub refused_gives : {T V F : Type 0} (view : T → V) (r : Result T (Failure F)) (meaning : Result V F) → IsErr r → IsErrAnd r (λ e. e ≡ Memory) → Gives view r meaning
+refused_gives view (Ok value) meaning err memory = absurd (let clash : false ≡ true = err in cc)
+refused_gives view (Err Memory) meaning err memory = tt
+refused_gives {F} view (Err (Fault fault)) meaning err memory = absurd (let clash : ◌≡◌ {A = Failure F} (Fault fault) Memory = memory in cc)
+
+pub refused_ok : {T E : Type 0} (P : T → Type 0) (r : Result T E) → IsErr r → IfOk r P
+refused_ok P (Ok value) err = absurd (let clash : false ≡ true = err in cc)
+refused_ok P (Err failure) err = tt
