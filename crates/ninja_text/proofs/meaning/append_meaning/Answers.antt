@@ -1,5 +1,6 @@
-use Rattle.std.proofs.Common.{rules, arith, ◌≡◌, ℕ, ◌+◌, ◌≤◌, List, ◌∷◌, ◌++◌, length, take, drop, OnOk, append_assoc, length-append, subst, sym, ap, ◌∙◌}
-use Rattle.std.proofs.lemmas.List.{take-append-le}
+use Rattle.std.proofs.Common.{rules, arith, ◌≡◌, ℕ, ◌+◌, ◌≤◌, List, ◌∷◌, ◌++◌, length, take, drop, Ok, Err, OnOk, false, true, append_assoc, length-append, subst, refl, sym, ap, ◌∙◌}
+use Rattle.std.specs.Prelude.{Result, OnErr, is_err}
+use Rattle.std.proofs.lemmas.List.{append-nil, at_drop_all, take-append-le, take_all}
 use Rattle.std.proofs.lemmas.Grind.{common_steps}
 use Rattle.std.specs.List.{flat_map}
 use Rattle.ninja_text.specs.Units.{units}
@@ -40,3 +41,26 @@ loop-index-preserved c =
       kept = still_kept c.args.raw.now c.args.out.now.items c.loop-index.out.items c.append_unit.new.out.items c.len-before.result c.loop-index.index c.len-index.result u is so_far.longer so_far.kept;
       meaning = meant c.args.raw.now c.args.out.now.items c.loop-index.out.items c.append_unit.new.out.items c.len-before.result c.loop-index.index c.len-index.result u is here so_far.meaning;
     }
+
+pub loop-index-init : goal.loop-index-init
+loop-index-init c =
+    let out = c.args.out.now in
+    let len : c.len-before.result ≡ length out.items = c.len-before.ensures ∙ out.ok.0 in
+    record { within = omega arith; longer = omega arith; kept = take_all c.len-before.result out.items (omega arith); meaning = refl }
+
+-- what holds where an error is answered
+where_err : {T E : Type 0} (P : Type 0) (r : Result T E) → is_err r ≡ true → OnErr r P → P
+where_err P (Ok x) h p = absurd (let clash : false ≡ true = h in cc)
+where_err P (Err e) h p = p
+
+pub returns-then-is_err-clause-err : goal.returns-then-is_err-clause-err
+returns-then-is_err-clause-err c =
+    let same : c.append_unit.new.out.items ≡ c.loop-index.out.items = where_err _ c.append_unit.result (sym c.is_err.ensures.value ∙ c.if-is_err.true) c.append_unit.ensures.err in
+    c.truncate.ensures.items ∙ ap (take c.len-before.result) same ∙ c.loop-index.invariant.kept
+
+pub returns-clause-ok : goal.returns-clause-ok
+returns-clause-ok c =
+    let out = c.loop-index.out.items in
+    let nothing : out ++ flat_map unit_value (units (drop c.loop-index.index c.args.raw.now)) ≡ out =
+    at_drop_all (λ rest. out ++ flat_map unit_value (units rest)) c.args.raw.now c.loop-index.index (omega arith) ∙ append-nil out in
+    sym nothing ∙ c.loop-index.invariant.meaning
