@@ -20,10 +20,13 @@ at_index : (text : List ℕ) (index n : ℕ) (u : LineUnit) → units (from text
 at_index text index n u front =
     ap units (sym (to_the_end index text)) ∙ front ∙ ap (λ bytes. u ∷ units (drop n bytes)) (to_the_end index text) ∙ ap (λ bytes. u ∷ units bytes) (drop-drop n index text)
 
+not_byte : (b c : ℕ) → (b ≡ c → ⊥) → (b == c) ≡ false
+not_byte b c h = grind (arith, nat_tests, h)
+
 -- a byte other than `$` is a unit
 byte_first : (bytes : List ℕ) → 0 < length bytes → (slice_index_or bytes 0 0 ≡ 36 → ⊥) → units bytes ≡ Byte (slice_index_or bytes 0 0) ∷ units (drop 1 bytes)
 byte_first [] some other = absurd (omega arith)
-byte_first (b ∷ bytes) some other = units_byte b bytes (grind (arith, nat_tests, other))
+byte_first (b ∷ bytes) some other = units_byte b bytes (not_byte b 36 other)
 
 pub returns-then-first-ne36-clause-first : goal.returns-then-first-ne36-clause-first
 returns-then-first-ne36-clause-first c =
@@ -61,11 +64,9 @@ escape_first : (bytes : List ℕ) → 2 ≤ length bytes → slice_index_or byte
 escape_first [] two dollar feed return = absurd (omega arith)
 escape_first (a ∷ []) two dollar feed return = absurd (omega arith)
 escape_first (a ∷ b ∷ []) two dollar feed return =
-    subst (λ x. units (x ∷ b ∷ []) ≡ Escape b ∷ []) (sym dollar) (rw (not_byte b 10 feed) refl) where
-      not_byte : (x y : ℕ) → (x ≡ y → ⊥) → (x == y) ≡ false
-      not_byte x y h = grind (arith, nat_tests, h)
+    subst (λ x. units (x ∷ b ∷ []) ≡ Escape b ∷ []) (sym dollar) (rw (not_byte b 10 feed) refl)
 escape_first (a ∷ b ∷ c ∷ bytes) two dollar feed (inl return) =
-    subst (λ x. units (x ∷ b ∷ c ∷ bytes) ≡ Escape b ∷ units (c ∷ bytes)) (sym dollar) (units_pair b (c ∷ bytes) (grind (arith, nat_tests, feed)) (grind (arith, nat_tests, return)))
+    subst (λ x. units (x ∷ b ∷ c ∷ bytes) ≡ Escape b ∷ units (c ∷ bytes)) (sym dollar) (units_pair b (c ∷ bytes) (not_byte b 10 feed) (not_byte b 13 return))
 escape_first (a ∷ b ∷ c ∷ bytes) two dollar feed (inr short) = absurd (omega (arith, short.1))
 
 pub returns-then-second-ne13-clause-first : goal.returns-then-second-ne13-clause-first
@@ -82,7 +83,7 @@ return_first (a ∷ []) three dollar return feed = absurd (omega arith)
 return_first (a ∷ b ∷ []) three dollar return feed = absurd (omega arith)
 return_first (a ∷ b ∷ c ∷ bytes) three dollar return feed =
     subst (λ x. units (x ∷ b ∷ c ∷ bytes) ≡ Escape b ∷ units (c ∷ bytes)) (sym dollar)
-    (subst (λ x. units (36 ∷ x ∷ c ∷ bytes) ≡ Escape x ∷ units (c ∷ bytes)) (sym return) (units_return c bytes (grind (arith, nat_tests, feed))))
+    (subst (λ x. units (36 ∷ x ∷ c ∷ bytes) ≡ Escape x ∷ units (c ∷ bytes)) (sym return) (units_return c bytes (not_byte c 10 feed)))
 
 pub returns-clause-first : goal.returns-clause-first
 returns-clause-first c =
