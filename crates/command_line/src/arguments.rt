@@ -1,9 +1,9 @@
 //! The arguments that the program is called with.
 
 ghost use Rattle.std.specs.Prelude.{◌≡◌, false, map, option_map, string_bytes, IfOk, IsOkAnd};
-ghost use Rattle.clap.specs.Words.{AddsSubcommand, app_of, first_value, found_of, with_rule};
+ghost use Rattle.clap.specs.Words.{AddsSubcommand, app_of, first_value, found_of, subcommand_rows_of, with_rule};
 ghost use Rattle.command_line.specs.Tasks.{AreCallOf, task_value};
-ghost use Rattle.command_line.specs.inner.Parses.{has_globals, needed, one_app, three_app, program, task_by};
+ghost use Rattle.command_line.specs.inner.Parses.{has_globals, needed, one_app, three_app, program, task_by, task_found, texts, three};
 
 use clap::error::ErrorKind;
 use clap::{Arg, ArgMatches, Command};
@@ -72,15 +72,20 @@ pub fn task_of<'a>(alloc: Global, arguments: &'a [String]) -> Result<Option<Task
 {
     let command = program(alloc)?;
     match command.try_get_matches_from(arguments) {
-        Ok(matches) => match matches.subcommand() {
-            Some((command, given)) => Ok(task_by(command, given)),
-            None => Ok(None),
-        },
+        Ok(matches) => Ok(task_found(&matches)),
         Err(error) => match error.kind() {
             ErrorKind::OutOfMemory => Err(AllocError),
             _ => Ok(None),
         },
     }
+}
+
+/// The task that a parse found, if it found one.
+fn task_found<'a>(matches: &ArgMatches<'a>) -> Option<Task<'a>>
+    ensures { option_map task_value result ≡ task_found (subcommand_rows_of matches.now) }
+{
+    let (command, given) = matches.subcommand()?;
+    task_by(command, given)
 }
 
 /// The program's commands with their operands.
@@ -91,26 +96,27 @@ fn program<'a>(alloc: Global) -> Result<Command<'a>, AllocError>
         .disable_help_flag(true)
         .disable_help_subcommand(true)
         .subcommand_required(true);
-    let program = add(program, with_three(alloc, "one", "scan", "dir", "ext"))?;
-    let program = add(program, with_one(alloc, "collate", "target"))?;
-    let program = add(program, with_one(alloc, "show", "dyndep"))?;
+    let program = add(Ok(program), with_three(alloc, "one", "scan", "dir", "ext"));
+    let program = add(program, with_one(alloc, "collate", "target"));
+    let program = add(program, with_one(alloc, "show", "dyndep"));
     let program = add(
         program,
         with_three(alloc, "effect", "name", "edges", "dyndep"),
-    )?;
-    let program = add(program, with_one(alloc, "order", "edges"))?;
+    );
+    let program = add(program, with_one(alloc, "order", "edges"));
     add(program, with_one(alloc, "project", "document"))
 }
 
-/// The program with a command more, if memory for that was given. (A function of its own, so that
-/// `program` has nothing to drop where it ends early: half a minute of the prover's.)
+/// The program with a command more, if memory was given for both. (It takes what may be refused,
+/// so that `program` never ends early: a quarter of a minute of the prover's.)
 fn add<'a>(
-    program: Command<'a>,
+    program: Result<Command<'a>, AllocError>,
     command: Result<Command<'a>, AllocError>,
 ) -> Result<Command<'a>, AllocError>
-    ensures { IfOk result (λ c. IsOkAnd command.entry (λ sub. AddsSubcommand program.entry sub c)) }
+    ensures { IfOk result (λ c. IsOkAnd program.entry (λ above. IsOkAnd command.entry (λ sub.
+        AddsSubcommand above sub c))) }
 {
-    program.subcommand(command?)
+    program?.subcommand(command?)
 }
 
 /// A command that takes one operand.
@@ -158,22 +164,24 @@ fn task_by<'a>(command: &str, given: &ArgMatches<'a>) -> Option<Task<'a>>
         ≡ task_by command.now (first_value (found_of given.now)) }
 {
     match command {
-        "one" => Some(Task::One {
-            scan: given.get_str("scan")?,
-            dir: given.get_str("dir")?,
-            ext: given.get_str("ext")?,
-        }),
+        "one" => {
+            let (scan, dir, ext) = three(given, "scan", "dir", "ext")?;
+            Some(Task::One { scan, dir, ext })
+        }
         "collate" => Some(Task::Collate {
             target: given.get_str("target")?,
         }),
         "show" => Some(Task::Show {
             dyndep: given.get_str("dyndep")?,
         }),
-        "effect" => Some(Task::Effect {
-            name: given.get_str("name")?,
-            edges: given.get_str("edges")?,
-            dyndep: given.get_str("dyndep")?,
-        }),
+        "effect" => {
+            let (name, edges, dyndep) = three(given, "name", "edges", "dyndep")?;
+            Some(Task::Effect {
+                name,
+                edges,
+                dyndep,
+            })
+        }
         "order" => Some(Task::Order {
             edges: given.get_str("edges")?,
         }),
@@ -182,4 +190,21 @@ fn task_by<'a>(command: &str, given: &ArgMatches<'a>) -> Option<Task<'a>>
         }),
         _ => None,
     }
+}
+
+/// The three operands of these names, if each was found.
+fn three<'a>(
+    given: &ArgMatches<'a>,
+    first: &str,
+    second: &str,
+    third: &str,
+) -> Option<(&'a str, &'a str, &'a str)>
+    ensures { option_map texts result ≡ three (first_value (found_of given.now) first.now)
+        (first_value (found_of given.now) second.now) (first_value (found_of given.now) third.now) }
+{
+    Some((
+        given.get_str(first)?,
+        given.get_str(second)?,
+        given.get_str(third)?,
+    ))
 }

@@ -1,5 +1,6 @@
 -- What the parser of the command line is made of, and what a parse finds.
 use Rattle.std.specs.Prelude.{Bool, true, false, List, [], ◌∷◌, Option, Some, None, option_map, option_and_then, if◌then◌else◌, codes}
+use Rattle.std.specs.Borrow.{Bor}
 use Rattle.std.specs.Str.{bytes_eq}
 use Rattle.clap.specs.Words.{App, Row, Rule, Shape, Text, new_app, new_rule, with_rule, first_of}
 use Rattle.clap.specs.Simple.{new_shape}
@@ -44,21 +45,31 @@ program = record {
       ∷ (one_app (codes "project") (codes "document")).top ∷ [];
 }
 
--- a task of three operands, if all were found
-abbrev pub three : (Text → Text → Text → TaskValue) → Option Text → Option Text → Option Text
-    → Option TaskValue
-three task (Some first) (Some second) (Some third) = Some (task first second third)
-three task _ _ _ = None
+-- the texts of three operands
+abbrev pub Three : Type 0
+Three = Text × Text × Text
+
+abbrev pub texts : Bor Text × Bor Text × Bor Text → Three
+texts operands = (operands.0.now, operands.1.now, operands.2.now)
+
+-- three operands, if all were found
+abbrev pub three : Option Text → Option Text → Option Text → Option Three
+three (Some first) (Some second) (Some third) = Some (first, second, third)
+three _ _ _ = None
+
+-- a task made of three operands
+abbrev pub made : (Text → Text → Text → TaskValue) → Three → TaskValue
+made task (first, second, third) = task first second third
 
 -- the task of a command, by what was found for the name of each operand
 abbrev pub task_by : Text → (Text → Option Text) → Option TaskValue
 task_by command found =
     if bytes_eq command (codes "one")
-    then three one (found (codes "scan")) (found (codes "dir")) (found (codes "ext"))
+    then option_map (made one) (three (found (codes "scan")) (found (codes "dir")) (found (codes "ext")))
     else (if bytes_eq command (codes "collate") then option_map collate (found (codes "target"))
     else (if bytes_eq command (codes "show") then option_map show (found (codes "dyndep"))
     else (if bytes_eq command (codes "effect")
-    then three effect (found (codes "name")) (found (codes "edges")) (found (codes "dyndep"))
+    then option_map (made effect) (three (found (codes "name")) (found (codes "edges")) (found (codes "dyndep")))
     else (if bytes_eq command (codes "order") then option_map order (found (codes "edges"))
     else (if bytes_eq command (codes "project") then option_map project (found (codes "document"))
     else None)))))
