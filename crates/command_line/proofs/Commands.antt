@@ -17,7 +17,7 @@ use Rattle.clap.specs.declared.error.kind.ErrorKind.TheVariants.{OutOfMemory}
 use Rattle.clap.specs.declared.parser.matches.ArgMatches.{ArgMatches}
 use Rattle.clap.proofs.OnLiterals.{clap_on_literals}
 use Rattle.command_line.specs.Tasks.{TaskValue, operands, task_from, task_in}
-use Rattle.command_line.specs.inner.Parses.{one_app, program, task_found, three_app}
+use Rattle.command_line.specs.inner.Parses.{command_app, program, task_found}
 use Rattle.command_line.proofs.Positionals.{HasSingles, IsSingle, as_operands, at, read}
 use Rattle.command_line.proofs.Subcommands.{above, answered, hit, miss, pick}
 
@@ -25,11 +25,11 @@ use Rattle.command_line.proofs.Subcommands.{above, answered, hit, miss, pick}
 
 -- with one operand or with three, once it is built
 abbrev one_leaf : Text → Text → Shape
-one_leaf name operand = built_leaf (inherited above (one_app name operand).top)
+one_leaf name operand = built_leaf (inherited above (command_app name (operand ∷ [])).top)
 
 abbrev three_leaf : Text → Text → Text → Text → Shape
 three_leaf name first second third =
-    built_leaf (inherited above (three_app name first second third).top)
+    built_leaf (inherited above (command_app name (first ∷ second ∷ third ∷ [])).top)
 
 abbrev AreSingle : List Rule → Type 0
 AreSingle [] = Unit {0}

@@ -1,9 +1,9 @@
 //! The arguments that the program is called with.
 
 ghost use Rattle.std.specs.Prelude.{◌≡◌, false, map, option_map, string_bytes, IfOk, IsOkAnd};
-ghost use Rattle.clap.specs.Words.{AddsSubcommand, app_of, first_value, found_of, subcommand_rows_of, with_rule};
+ghost use Rattle.clap.specs.Words.{app_of, first_value, found_of, subcommand_rows_of, with_subcommand};
 ghost use Rattle.command_line.specs.Tasks.{AreCallOf, task_value};
-ghost use Rattle.command_line.specs.inner.Parses.{has_globals, needed, one_app, three_app, program, task_by, task_found, texts, three};
+ghost use Rattle.command_line.specs.inner.Parses.{has_globals, command_app, program, task_by, task_found, texts, three};
 
 use clap::error::ErrorKind;
 use clap::{Arg, ArgMatches, Command};
@@ -96,66 +96,44 @@ fn program<'a>(alloc: Global) -> Result<Command<'a>, AllocError>
         .disable_help_flag(true)
         .disable_help_subcommand(true)
         .subcommand_required(true);
-    let program = add(Ok(program), with_three(alloc, "one", "scan", "dir", "ext"));
-    let program = add(program, with_one(alloc, "collate", "target"));
-    let program = add(program, with_one(alloc, "show", "dyndep"));
-    let program = add(
-        program,
-        with_three(alloc, "effect", "name", "edges", "dyndep"),
-    );
-    let program = add(program, with_one(alloc, "order", "edges"));
-    add(program, with_one(alloc, "project", "document"))
+    let program = with_command(alloc, Ok(program), "one", &["scan", "dir", "ext"]);
+    let program = with_command(alloc, program, "collate", &["target"]);
+    let program = with_command(alloc, program, "show", &["dyndep"]);
+    let program = with_command(alloc, program, "effect", &["name", "edges", "dyndep"]);
+    let program = with_command(alloc, program, "order", &["edges"]);
+    with_command(alloc, program, "project", &["document"])
 }
 
-/// The program with a command more, if memory was given for both. (It takes what may be refused,
-/// so that `program` never ends early: a quarter of a minute of the prover's.)
-fn add<'a>(
+/// The program with a command more, which takes these operands. (It takes a program that may be
+/// refused, so that `program` never ends early: a quarter of a minute of the prover's.)
+fn with_command<'a>(
+    alloc: Global,
     program: Result<Command<'a>, AllocError>,
-    command: Result<Command<'a>, AllocError>,
+    name: &'a str,
+    operands: &[&'a str],
 ) -> Result<Command<'a>, AllocError>
-    ensures { IfOk result (λ c. IsOkAnd program.entry (λ above. IsOkAnd command.entry (λ sub.
-        AddsSubcommand above sub c))) }
+    ensures { IfOk result (λ c. IsOkAnd program.entry (λ above. app_of c
+        ≡ with_subcommand (app_of above) (command_app name.now (map (λ o. o.now) operands.now)).top)) }
 {
-    program?.subcommand(command?)
+    let program = program?;
+    program.subcommand(command(alloc, name, operands)?)
 }
 
-/// A command that takes one operand.
-fn with_one<'a>(alloc: Global, name: &'a str, operand: &'a str) -> Result<Command<'a>, AllocError>
-    ensures app { IfOk result (λ c. app_of c ≡ one_app name.now operand.now) }
-    ensures globals { IfOk result (λ c. has_globals c ≡ false) }
-{
-    with_operand(alloc, Command::new(alloc, name), operand)
-}
-
-/// A command that takes three operands.
-fn with_three<'a>(
+/// A command that takes these operands.
+fn command<'a>(
     alloc: Global,
     name: &'a str,
-    first: &'a str,
-    second: &'a str,
-    third: &'a str,
+    operands: &[&'a str],
 ) -> Result<Command<'a>, AllocError>
     ensures app { IfOk result (λ c.
-        app_of c ≡ three_app name.now first.now second.now third.now) }
+        app_of c ≡ command_app name.now (map (λ o. o.now) operands.now)) }
     ensures globals { IfOk result (λ c. has_globals c ≡ false) }
 {
-    let command = with_one(alloc, name, first)?;
-    let command = with_operand(alloc, command, second)?;
-    with_operand(alloc, command, third)
-}
-
-/// The command with an operand more, which has to be there.
-fn with_operand<'a>(
-    alloc: Global,
-    command: Command<'a>,
-    operand: &'a str,
-) -> Result<Command<'a>, AllocError>
-    ensures app { IfOk result (λ c.
-        app_of c ≡ with_rule (app_of command.entry) (needed operand.now)) }
-    ensures globals { IfOk result (λ c.
-        has_globals command.entry ≡ false → has_globals c ≡ false) }
-{
-    command.arg(Arg::new(alloc, operand).required(true))
+    let mut command = Command::new(alloc, name);
+    for operand in operands {
+        command = command.arg(Arg::new(alloc, *operand).required(true))?;
+    }
+    Ok(command)
 }
 
 /// The task of a command by its operands, if they were found.

@@ -1,5 +1,5 @@
 -- What the parser of the command line is made of, and what a parse finds.
-use Rattle.std.specs.Prelude.{Bool, true, false, List, [], ◌∷◌, Option, Some, None, option_map, option_and_then, if◌then◌else◌, codes}
+use Rattle.std.specs.Prelude.{Bool, true, false, List, [], ◌∷◌, Option, Some, None, option_map, option_and_then, fold, if◌then◌else◌, codes}
 use Rattle.std.specs.Borrow.{Bor}
 use Rattle.std.specs.Str.{bytes_eq}
 use Rattle.clap.specs.Words.{App, Row, Rule, Shape, Text, new_app, new_rule, with_rule, first_of}
@@ -16,14 +16,9 @@ has_globals c = (out-Command c).has_globals
 abbrev pub needed : Text → Rule
 needed id = record (new_rule id) { required = true }
 
--- a command with one operand
-abbrev pub one_app : Text → Text → App
-one_app name operand = with_rule (new_app name) (needed operand)
-
--- a command with three operands
-abbrev pub three_app : Text → Text → Text → Text → App
-three_app name first second third =
-    with_rule (with_rule (one_app name first) (needed second)) (needed third)
+-- a command with these operands
+abbrev pub command_app : Text → List Text → App
+command_app name = fold (λ app operand. with_rule app (needed operand)) (new_app name)
 
 -- the command above the others, which has no flag and no command for help
 abbrev pub top : Shape
@@ -37,12 +32,12 @@ top = record (new_shape (codes "dyncollate")) {
 abbrev pub program : App
 program = record {
   top = record top { is_leaf = false };
-  subs = (three_app (codes "one") (codes "scan") (codes "dir") (codes "ext")).top
-      ∷ (one_app (codes "collate") (codes "target")).top
-      ∷ (one_app (codes "show") (codes "dyndep")).top
-      ∷ (three_app (codes "effect") (codes "name") (codes "edges") (codes "dyndep")).top
-      ∷ (one_app (codes "order") (codes "edges")).top
-      ∷ (one_app (codes "project") (codes "document")).top ∷ [];
+  subs = (command_app (codes "one") (codes "scan" ∷ codes "dir" ∷ codes "ext" ∷ [])).top
+      ∷ (command_app (codes "collate") (codes "target" ∷ [])).top
+      ∷ (command_app (codes "show") (codes "dyndep" ∷ [])).top
+      ∷ (command_app (codes "effect") (codes "name" ∷ codes "edges" ∷ codes "dyndep" ∷ [])).top
+      ∷ (command_app (codes "order") (codes "edges" ∷ [])).top
+      ∷ (command_app (codes "project") (codes "document" ∷ [])).top ∷ [];
 }
 
 -- the texts of three operands

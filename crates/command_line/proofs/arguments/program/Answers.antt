@@ -1,46 +1,42 @@
-use Rattle.std.proofs.Common.{◌≡◌, ◌∙◌, Result, Ok, Err, ap, ap₂, codes, false, true, []}
+use Rattle.std.proofs.Common.{◌≡◌, ◌∙◌, Result, Ok, Err, ap, codes, true, List, [], ◌∷◌}
 use Rattle.std.specs.Prelude.{IfOk, IsOkAnd}
 use Rattle.std.specs.declared.alloc.AllocError.{AllocError}
-use Rattle.clap.specs.Words.{AddsSubcommand, App, app_of, with_subcommand}
+use Rattle.clap.specs.Words.{App, Text, app_of, with_subcommand}
 use Rattle.clap.specs.declared.builder.command.Command.{Command}
 use Rattle.clap.specs.Simple.{app_of_fields}
-use Rattle.command_line.specs.inner.Parses.{has_globals, one_app, three_app, top}
+use Rattle.command_line.specs.inner.Parses.{command_app, top}
 use Rattle.command_line.proofs.arguments.program.Goals as goal
 
--- a subcommand more
-added : (old given new : Result Command AllocError) (a b : App) →
+-- what is made of an app that may be refused
+added : (f : App → App) (old new : Result Command AllocError) (a : App) →
     IfOk old (λ above. app_of above ≡ a) →
-    IfOk given (λ sub. app_of sub ≡ b) → IfOk given (λ sub. has_globals sub ≡ false) →
-    IfOk new (λ c. IsOkAnd old (λ above. IsOkAnd given (λ sub. AddsSubcommand above sub c))) →
-    IfOk new (λ c. app_of c ≡ with_subcommand a b.top)
-added (Ok above) (Ok sub) (Ok new) a b is own no_globals h =
-    h.shape no_globals ∙ ap₂ with_subcommand is (ap (λ (x : App). x.top) own)
-added (Ok above) (Err _) (Ok new) a b is own no_globals h = absurd h
-added (Err _) given (Ok new) a b is own no_globals h = absurd h
-added old given (Err _) a b is own no_globals h = tt
+    IfOk new (λ c. IsOkAnd old (λ above. app_of c ≡ f (app_of above))) →
+    IfOk new (λ c. app_of c ≡ f a)
+added f (Ok above) (Ok new) a is h = h ∙ ap f is
+added f (Err _) (Ok new) a is h = absurd h
+added f old (Err _) a is h = tt
 
-abbrev with_one_more : App → App → App
-with_one_more a b = with_subcommand a b.top
+abbrev with_more : Text → List Text → App → App
+with_more name operands a = with_subcommand a (command_app name operands).top
 
--- the program with the first of its commands
 abbrev bare : App
 bare = record { top = top; subs = [] }
 
-abbrev with_one_command : App
-with_one_command = with_one_more bare (three_app (codes "one") (codes "scan") (codes "dir") (codes "ext"))
+-- the program with one of its commands, with two, and so on
+abbrev with_1 : App
+with_1 = with_more (codes "one") (codes "scan" ∷ codes "dir" ∷ codes "ext" ∷ []) bare
 
-abbrev with_collate : App
-with_collate = with_one_more with_one_command (one_app (codes "collate") (codes "target"))
+abbrev with_2 : App
+with_2 = with_more (codes "collate") (codes "target" ∷ []) with_1
 
-abbrev with_show : App
-with_show = with_one_more with_collate (one_app (codes "show") (codes "dyndep"))
+abbrev with_3 : App
+with_3 = with_more (codes "show") (codes "dyndep" ∷ []) with_2
 
-abbrev with_effect : App
-with_effect = with_one_more with_show
-    (three_app (codes "effect") (codes "name") (codes "edges") (codes "dyndep"))
+abbrev with_4 : App
+with_4 = with_more (codes "effect") (codes "name" ∷ codes "edges" ∷ codes "dyndep" ∷ []) with_3
 
-abbrev with_order : App
-with_order = with_one_more with_effect (one_app (codes "order") (codes "edges"))
+abbrev with_5 : App
+with_5 = with_more (codes "order") (codes "edges" ∷ []) with_4
 
 -- with the settings of the command above the others
 abbrev bare_of : App → App
@@ -60,21 +56,20 @@ returns c =
     ∙ ap (λ f. app_of_fields (record f { disable_help_subcommand = true; subcommand_required = true }))
     c.disable_help_flag.ensures
     ∙ ap bare_of c.new.ensures.app in
-    let one = added (Ok c.subcommand_required-program.result) c.with_three.result c.add-program.result bare
-    (three_app (codes "one") (codes "scan") (codes "dir") (codes "ext")) none
-    c.with_three.ensures.app c.with_three.ensures.globals c.add-program.ensures in
-    let collate = added c.add-program.result c.with_one.result c.add-program-2.result with_one_command
-    (one_app (codes "collate") (codes "target")) one
-    c.with_one.ensures.app c.with_one.ensures.globals c.add-program-2.ensures in
-    let show = added c.add-program-2.result c.with_one-2.result c.add-program-3.result with_collate
-    (one_app (codes "show") (codes "dyndep")) collate
-    c.with_one-2.ensures.app c.with_one-2.ensures.globals c.add-program-3.ensures in
-    let effect = added c.add-program-3.result c.with_three-2.result c.add-program-4.result with_show
-    (three_app (codes "effect") (codes "name") (codes "edges") (codes "dyndep")) show
-    c.with_three-2.ensures.app c.with_three-2.ensures.globals c.add-program-4.ensures in
-    let order = added c.add-program-4.result c.with_one-3.result c.add-program-5.result with_effect
-    (one_app (codes "order") (codes "edges")) effect
-    c.with_one-3.ensures.app c.with_one-3.ensures.globals c.add-program-5.ensures in
-    added c.add-program-5.result c.with_one-4.result c.add.result with_order
-    (one_app (codes "project") (codes "document")) order
-    c.with_one-4.ensures.app c.with_one-4.ensures.globals c.add.ensures
+    let one = added (with_more (codes "one") (codes "scan" ∷ codes "dir" ∷ codes "ext" ∷ []))
+    (Ok c.subcommand_required-program.result) c.with_command-program.result bare none
+    c.with_command-program.ensures in
+    let collate = added (with_more (codes "collate") (codes "target" ∷ []))
+    c.with_command-program.result c.with_command-program-2.result with_1 one
+    c.with_command-program-2.ensures in
+    let show = added (with_more (codes "show") (codes "dyndep" ∷ []))
+    c.with_command-program-2.result c.with_command-program-3.result with_2 collate
+    c.with_command-program-3.ensures in
+    let effect = added (with_more (codes "effect") (codes "name" ∷ codes "edges" ∷ codes "dyndep" ∷ []))
+    c.with_command-program-3.result c.with_command-program-4.result with_3 show
+    c.with_command-program-4.ensures in
+    let order = added (with_more (codes "order") (codes "edges" ∷ []))
+    c.with_command-program-4.result c.with_command-program-5.result with_4 effect
+    c.with_command-program-5.ensures in
+    added (with_more (codes "project") (codes "document" ∷ []))
+    c.with_command-program-5.result c.with_command.result with_5 order c.with_command.ensures
