@@ -38,8 +38,8 @@ class Manual(unittest.TestCase):
 
     def test_commands(self):
         arguments = (TOP / "crates/command_line/src/arguments.rt").read_text()
-        commands = re.findall(r'\badd\(\s*program,\s*[a-z_]+\(alloc, "([a-z]+)"', arguments)
-        self.assertEqual(len(commands), len(re.findall(r"\badd\(\s*program\b", arguments)), "each command that is added has a name")
+        commands = re.findall(r'\bwith_command\(\s*alloc,\s*\S+,\s*"([a-z]+)"', arguments)
+        self.assertEqual(len(commands), len(re.findall(r"\bwith_command\(", arguments)), "each command that is added has a name")
         self.equal_lists(commands, re.findall(r"^\.Cm (.*)", section(self.page, "SYNOPSIS", "DESCRIPTION"), re.M))
 
     def test_limits(self):
