@@ -81,19 +81,19 @@ impl fmt::Display for DocFault {
     ghost output = { λ fault. Some (doc_fault_text fault) };
 
     fn fmt<W: fmt::Write>(&self, f: &mut fmt::Formatter<W>) -> fmt::Result {
-        match self {
-            DocFault::NotJson => f.write_str("S1 NotJson document"),
-            DocFault::BadVersion => f.write_str("S2 BadVersion document"),
-            DocFault::BadShape { place, member } => write!(
-                f,
-                "S3 BadShape {place} member {member}"
-            ),
-            DocFault::NoPrimaryOutput { place } => write!(f, "S4 NoPrimaryOutput {place}"),
-            DocFault::HeaderUnit { place } => write!(f, "S5 HeaderUnit {place}"),
-            DocFault::BadName { place } => write!(f, "S6 BadName {place}"),
-            DocFault::BadPath { place, fault } => write!(f, "S7 BadPath {place} {fault}"),
-            DocFault::TooLarge { place } => write!(f, "S8 TooLarge {place}"),
-        }
+        let (name, place) = match self {
+            DocFault::NotJson => return f.write_str("S1 NotJson document"),
+            DocFault::BadVersion => return f.write_str("S2 BadVersion document"),
+            DocFault::BadShape { place, member } => {
+                return write!(f, "S3 BadShape {place} member {member}");
+            }
+            DocFault::NoPrimaryOutput { place } => ("S4 NoPrimaryOutput", place),
+            DocFault::HeaderUnit { place } => ("S5 HeaderUnit", place),
+            DocFault::BadName { place } => ("S6 BadName", place),
+            DocFault::BadPath { place, fault } => return write!(f, "S7 BadPath {place} {fault}"),
+            DocFault::TooLarge { place } => ("S8 TooLarge", place),
+        };
+        write!(f, "{name} {place}")
     }
 }
 
