@@ -6,9 +6,9 @@ ghost use Rattle.serde_json.specs.Data.{array};
 ghost use Rattle.serde_json.specs.Events.{SendsValue};
 ghost use Rattle.serde_json.specs.View.{items_of};
 ghost use Rattle.scan_docs.specs.Scan.{IsText};
-ghost use Rattle.scan_docs.specs.InfoText.{requirement_tree, requirements_tree, module_tree, info_tree, info_text, IsModuleText, IsInfoText, ReadsBack};
+ghost use Rattle.scan_docs.specs.InfoText.{requirements_tree, module_tree, info_tree, info_text, IsModuleText, IsInfoText, ReadsBack};
 ghost use Rattle.scan_docs.specs.Sound.{IsSoundPair, IsSoundModule, IsSoundInfo};
-ghost use Rattle.scan_docs.specs.inner.Writing.{SendsText, SendsNamedFile};
+ghost use Rattle.scan_docs.specs.inner.Writing.{SendsText, BeginsNamedFile};
 
 use crate::info::{Info, InfoModule};
 use crate::name::Name;
@@ -157,8 +157,7 @@ fn send_module<S: Serializer>(out: &mut S, entry: &LentModule<'_>) -> Result<(),
         (SendsValue (module_tree entry.now) (S.written out.old) (S.written out.new)) }
     ensures sound { OnOk result (IsSoundModule entry.now) }
 {
-    out.begin_map(Some(4))?;
-    send_named_file(out, entry.name, entry.file)?;
+    begin_named_file(out, 4, entry.name, entry.file)?;
     out.key("requires")?;
     send_requirements(out, entry.required)?;
     let visibility = if entry.is_private {
@@ -178,29 +177,26 @@ fn send_requirements<S: Serializer>(out: &mut S, pairs: &[(Name, Path)]) -> Resu
 {
     out.begin_seq(Some(pairs.len()))?;
     for pair in pairs {
-        send_requirement(out, pair)?;
+        begin_named_file(out, 2, &pair.0, &pair.1)?;
+        out.end_map()?;
     }
     out.end_seq()
 }
 
-fn send_requirement<S: Serializer>(out: &mut S, pair: &(Name, Path)) -> Result<(), S::Error>
-    requires { IsText pair.now.1 }
-    ensures sent { OnOk result
-        (SendsValue (requirement_tree pair.now) (S.written out.old) (S.written out.new)) }
-    ensures sound { OnOk result (IsSoundPair pair.now.0 pair.now.1) }
-{
-    out.begin_map(Some(2))?;
-    send_named_file(out, &pair.0, &pair.1)?;
-    out.end_map()
-}
-
-/// The members that a module and its requirements have in common.
-fn send_named_file<S: Serializer>(out: &mut S, name: &Name, file: &Path) -> Result<(), S::Error>
+/// Begins an object of so many members with those that a module and its requirements have in
+/// common.
+fn begin_named_file<S: Serializer>(
+    out: &mut S,
+    members: usize,
+    name: &Name,
+    file: &Path,
+) -> Result<(), S::Error>
     requires { IsText file.now }
     ensures sent { OnOk result
-        (SendsNamedFile name.now file.now (S.written out.old) (S.written out.new)) }
+        (BeginsNamedFile members name.now file.now (S.written out.old) (S.written out.new)) }
     ensures sound { OnOk result (IsSoundPair name.now file.now) }
 {
+    out.begin_map(Some(members))?;
     let path = match str::from_utf8(file.bytes()) {
         Ok(path) => path,
         Err(_) => unreachable!(),

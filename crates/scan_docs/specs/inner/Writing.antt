@@ -1,6 +1,6 @@
 -- What is sent for a part of an info.
-use Rattle.std.specs.Prelude.{ℕ, List, codes}
-use Rattle.serde.specs.Event.{Log, Logs, Then, text, field_key}
+use Rattle.std.specs.Prelude.{ℕ, List, Some, codes}
+use Rattle.serde.specs.Event.{Log, Logs, Then, map_begins, text, field_key}
 use Rattle.serde.specs.declared.name.Case.TheVariants.{AsIs}
 
 -- a member that is a text
@@ -8,6 +8,8 @@ abbrev pub SendsText : List ℕ → List ℕ → Log → Log → Type 0
 SendsText name value old new =
     (named : Log) × Logs old named (field_key name AsIs) × Logs named new (text value)
 
--- a file and a name, as the members of a module and of a requirement begin
-abbrev pub SendsNamedFile : List ℕ → List ℕ → Log → Log → Type 0
-SendsNamedFile name file = Then (SendsText (codes "bmi") file) (SendsText (codes "name") name)
+-- an object of so many members begins, with a file and a name, as a module and a requirement do
+abbrev pub BeginsNamedFile : ℕ → List ℕ → List ℕ → Log → Log → Type 0
+BeginsNamedFile members name file =
+    Then (λ old new. Logs old new (map_begins (Some members)))
+    (Then (SendsText (codes "bmi") file) (SendsText (codes "name") name))

@@ -14,15 +14,16 @@ send_requirements-requires g c = rw (ap (λ v. v.required) c.entry.view_is) c.re
 pub returns-clause-sent : goal.returns-clause-sent
 unfolding module_tree
 returns-clause-sent g c =
-    let pair = c.in_ok-send_named_file.ensures.sent in
+    let begun = c.in_ok-begin_named_file.ensures.sent in
+    let pair = begun.2 in
     let last = c.in_ok-send_text.ensures in
     let same : c.if-entry.visibility.now ≡ visibility_text c.entry.inside.is_private = elim c.if-entry.branch [ then-entry w ↦ grind (arith, common_steps) | else-entry w ↦ grind (arith, common_steps) ] in
     let visibility = subst (λ t. Logs last.0 (g.S.Serializer.written c.send_text.new.out) (text t)) same last.2 in
     subst (λ v. OnOk c.end_map.result (SendsValue (module_tree v) (g.S.Serializer.written c.args.out.now) (g.S.Serializer.written c.end_map.new.self))) c.entry.view_is
     (on_ok_weaker c.end_map.result
     (λ end. (
-      _,
-      c.in_ok-begin_map.ensures,
+      begun.0,
+      begun.1,
       (
         pair.1.0,
         _,
@@ -47,6 +48,6 @@ returns-clause-sent g c =
 pub returns-clause-sound : goal.returns-clause-sound
 returns-clause-sound g c =
     on_ok_weaker c.end_map.result (λ end. subst IsSoundModule c.entry.view_is (record {
-      named = c.in_ok-send_named_file.ensures.sound;
+      named = c.in_ok-begin_named_file.ensures.sound;
       required = c.in_ok-send_requirements.ensures.sound;
     })) c.end_map.ensures
