@@ -57,7 +57,7 @@ impl Name {
         ensures text { result.now ≡ self.now }
         ensures accepted { IsTrue (is_name self.now) }
     {
-        match str::from_utf8(self.bytes()) {
+        match str::from_utf8(self.bytes.as_slice()) {
             Ok(text) => text,
             Err(_) => unreachable!(),
         }
