@@ -98,13 +98,16 @@ fn binding_row(alloc: Global, assignment: Option<Assignment<'_>>) -> Result<Row,
     let Some(found) = assignment else {
         return Err(Failure::Fault(LineCause::Form));
     };
-    if is_same(found.name(), b"dyndep") {
-        return Ok(Row::Dyndep(assigned(alloc, found)?));
+    let is_dyndep = is_same(found.name(), b"dyndep");
+    if !is_dyndep && !is_same(found.name(), b"restat") {
+        return Err(Failure::Fault(LineCause::Form));
     }
-    if is_same(found.name(), b"restat") {
-        return Ok(Row::Restat(!assigned(alloc, found)?.is_empty()));
+    let value = assigned(alloc, found)?;
+    if is_dyndep {
+        Ok(Row::Dyndep(value))
+    } else {
+        Ok(Row::Restat(!value.is_empty()))
     }
-    Err(Failure::Fault(LineCause::Form))
 }
 
 /// What the tokens after the keyword `build` say; `None` where they have another form.
