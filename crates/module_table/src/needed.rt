@@ -8,6 +8,7 @@ ghost use Rattle.module_table.specs.Sound.{IsSound};
 ghost use Rattle.module_table.specs.inner.Origins.{origins_of};
 ghost use Rattle.module_table.specs.inner.Indexed.{IsNamedAt, IsObjectsPair};
 ghost use Rattle.module_table.specs.inner.Graph.{IsModuleGraph};
+ghost use Rattle.module_table.specs.inner.Ranks.{pairs_of};
 
 use crate::fault::Maker;
 use crate::graph::module_at;
@@ -27,8 +28,8 @@ pub struct Needs<'t> {
     objects: &'t [Rule],
     infos: &'t [Info],
     reaching: Reaching<'t>,
-    /// The name and the file of each module, in byte order of names.
-    pairs: Vec<(&'t Name, &'t Path)>,
+    /// The name and the file of each module, and its own index, in byte order of names.
+    modules: Vec<((&'t Name, &'t Path), usize)>,
     /// The index of each module among them, by its own index.
     ranks: Vec<usize>,
 }
@@ -40,7 +41,7 @@ impl<'t> Model for Needs<'t> {
     ghost use Rattle.module_table.specs.Modules.{provisions};
     ghost use Rattle.module_table.specs.Needed.{lent};
     ghost use Rattle.module_table.specs.inner.Graph.{IsModuleGraph};
-    ghost use Rattle.module_table.specs.inner.Ranks.{AreRanked};
+    ghost use Rattle.module_table.specs.inner.Ranks.{AreRanked, pairs_of};
 
     ghost Value = { TableValue };
 
@@ -49,7 +50,7 @@ impl<'t> Model for Needs<'t> {
     ghost invariant = { λ needs. IsSound (table_with needs.objects.now needs.infos.now)
         × IsModuleGraph (table_with needs.objects.now needs.infos.now) needs.reaching
         × AreRanked (provisions (table_with needs.objects.now needs.infos.now)) needs.ranks.items
-        (map lent needs.pairs.items)
+        (map lent (pairs_of needs.modules.items))
         × (length (provisions (table_with needs.objects.now needs.infos.now))
         + length needs.objects.now < 2 ^ 64) };
 }
@@ -68,13 +69,13 @@ impl<'t> Needs<'t> {
         requires origins { origins.now ≡ origins_of (table_with objects.now infos.now) }
         ensures { IfOk result (λ needs. needs ≡ table_with objects.now infos.now) }
     {
-        let (ranks, pairs) = ranked_modules(alloc, objects, infos, origins)?;
+        let (ranks, modules) = ranked_modules(alloc, objects, infos, origins)?;
         let reaching = Reaching::new(alloc, graph)?;
         Ok(Needs {
             objects,
             infos,
             reaching,
-            pairs,
+            modules,
             ranks,
         })
     }
@@ -94,7 +95,7 @@ impl<'t> Needs<'t> {
         let nodes = self.reaching.from(alloc, self.ranks.len() + object)?;
         let mut ranks = ranks_at(alloc, self.ranks.as_slice(), nodes.as_slice())?;
         ranks.sort_unstable();
-        pairs_at(alloc, self.pairs.as_slice(), ranks.as_slice())
+        pairs_at(alloc, self.modules.as_slice(), ranks.as_slice())
     }
 
     /// The same, copied.
@@ -125,19 +126,19 @@ fn ranks_at(alloc: Global, ranks: &[usize], nodes: &[usize]) -> Result<Vec<usize
     Ok(found)
 }
 
-/// The pairs at these indexes.
+/// The names and files of the modules at these indexes.
 fn pairs_at<'t>(
     alloc: Global,
-    pairs: &[(&'t Name, &'t Path)],
+    modules: &[((&'t Name, &'t Path), usize)],
     indexes: &[usize],
 ) -> Result<Vec<(&'t Name, &'t Path)>, AllocError>
-    requires { All (λ index. index < length pairs.now) indexes.now }
-    ensures { IfOk result
-        (λ found. map (λ pair. Some pair) found.items ≡ map (slice_get pairs.now) indexes.now) }
+    requires { All (λ index. index < length modules.now) indexes.now }
+    ensures { IfOk result (λ found. map (λ pair. Some pair) found.items
+        ≡ map (slice_get (pairs_of modules.now)) indexes.now) }
 {
     let mut found = Vec::with_capacity(alloc, indexes.len())?;
     for index in indexes {
-        found.push(pairs[*index])?;
+        found.push(modules[*index].0)?;
     }
     Ok(found)
 }

@@ -5,7 +5,7 @@ ghost use Rattle.module_table.specs.Modules.{provisions};
 ghost use Rattle.module_table.specs.Needed.{lent};
 ghost use Rattle.module_table.specs.Sound.{IsSound};
 ghost use Rattle.module_table.specs.inner.Origins.{origins_of};
-ghost use Rattle.module_table.specs.inner.Ranks.{AreByName, AreNumbers, AreRanks, AreRanked};
+ghost use Rattle.module_table.specs.inner.Ranks.{pairs_of, AreByName, AreNumbers, AreRanks, AreRanked};
 
 use crate::fault::Maker;
 use crate::needed::named_at;
@@ -13,24 +13,23 @@ use ninja_text::Path;
 use scan_docs::{Info, Name, Rule};
 use std::alloc::{AllocError, Global};
 
-/// The index of each module in byte order of names, by its own index, and the names and files of
-/// the modules in that order.
+/// The index of each module in byte order of names, by its own index, and the modules in that order:
+/// the name and the file of each, and its own index.
 pub(crate) fn ranked_modules<'t>(
     alloc: Global,
     objects: &'t [Rule],
     infos: &'t [Info],
     origins: &[(Maker, usize)],
-) -> Result<(Vec<usize>, Vec<(&'t Name, &'t Path)>), AllocError>
+) -> Result<(Vec<usize>, Vec<((&'t Name, &'t Path), usize)>), AllocError>
     requires sound { IsSound (table_with objects.now infos.now) }
     requires origins { origins.now ≡ origins_of (table_with objects.now infos.now) }
     ensures { IfOk result (λ ranked.
         AreRanked (provisions (table_with objects.now infos.now)) ranked.0.items
-        (map lent ranked.1.items)) }
+        (map lent (pairs_of ranked.1.items))) }
 {
     let modules = modules_by_name(alloc, objects, infos, origins)?;
     let ranks = ranks_of(alloc, modules.as_slice())?;
-    let pairs = pairs_of(alloc, modules.as_slice())?;
-    Ok((ranks, pairs))
+    Ok((ranks, modules))
 }
 
 /// The name and the file of each module, and its index, in byte order of names.
@@ -63,18 +62,4 @@ fn ranks_of(alloc: Global, modules: &[((&Name, &Path), usize)]) -> Result<Vec<us
         ranks[numbered.1] = rank;
     }
     Ok(ranks)
-}
-
-/// The names and files of the modules.
-fn pairs_of<'t>(
-    alloc: Global,
-    modules: &[((&'t Name, &'t Path), usize)],
-) -> Result<Vec<(&'t Name, &'t Path)>, AllocError>
-    ensures { IfOk result (λ pairs. pairs.items ≡ map (λ numbered. numbered.0) modules.now) }
-{
-    let mut pairs = Vec::with_capacity(alloc, modules.len())?;
-    for numbered in modules {
-        pairs.push(numbered.0)?;
-    }
-    Ok(pairs)
 }

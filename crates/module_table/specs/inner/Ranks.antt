@@ -1,5 +1,5 @@
 -- Modules in byte order of names.
-use Rattle.std.specs.Prelude.{◌≡◌, ℕ, ◌<◌, List, length, slice_get, slice_index, Some, AllPairs}
+use Rattle.std.specs.Prelude.{◌≡◌, ℕ, ◌<◌, List, length, map, slice_get, slice_index, Some, AllPairs}
 use Rattle.std.specs.Borrow.{Bor}
 use Rattle.module_table.specs.Modules.{Provision}
 use Rattle.module_table.specs.Needed.{lent}
@@ -9,6 +9,9 @@ use Rattle.module_table.specs.inner.Indexed.{pair_at}
 -- the name and the file of a module, and its number
 abbrev pub Numbered : Type 0
 Numbered = (Bor (List ℕ) × Bor (List ℕ)) × ℕ
+
+abbrev pub pairs_of : List Numbered → List (Bor (List ℕ) × Bor (List ℕ))
+pairs_of modules = map (λ m. m.0) modules
 
 -- each module in order of numbers
 pub record AreListed (provided : List Provision) (count : ℕ) (modules : List Numbered)

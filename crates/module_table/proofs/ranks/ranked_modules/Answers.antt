@@ -1,8 +1,8 @@
-use Rattle.std.proofs.Common.{◌≡◌, ◌∙◌, ap, sym, subst, length, map, List}
+use Rattle.std.proofs.Common.{sym, subst, length, map, List}
 use Rattle.module_table.specs.TableValue.{TableValue}
 use Rattle.module_table.specs.Modules.{provisions}
 use Rattle.module_table.specs.Needed.{lent}
-use Rattle.module_table.specs.inner.Ranks.{Numbered, AreNumbers, AreRanks}
+use Rattle.module_table.specs.inner.Ranks.{Numbered, pairs_of, AreNumbers, AreRanks}
 use Rattle.module_table.proofs.ByName.{are_numbers, are_ranked, lent_modules}
 use Rattle.module_table.proofs.ranks.ranked_modules.Goals as goal
 
@@ -16,5 +16,4 @@ returns c =
     let t : TableValue = record { objects = c.args.objects.now; infos = c.args.infos.now } in
     let modules = c.in_ok-modules.modules.items in
     let ranks = subst (λ (xs : List Numbered). AreRanks xs (length xs) c.in_ok-ranks.ranks.items) c.as_slice.ensures.value c.in_ok-ranks.ensures in
-    let pairs : map lent c.in_ok-pairs.pairs.items ≡ map (λ (m : Numbered). lent m.0) modules = ap (map lent) (c.in_ok-pairs.ensures ∙ ap (map (λ (m : Numbered). m.0)) c.as_slice-2.ensures.value) ∙ lent_modules modules in
-    are_ranked (provisions t) modules c.in_ok-modules.ensures c.in_ok-ranks.ranks.items ranks (map lent c.in_ok-pairs.pairs.items) pairs
+    are_ranked (provisions t) modules c.in_ok-modules.ensures c.in_ok-ranks.ranks.items ranks (map lent (pairs_of modules)) (lent_modules modules)

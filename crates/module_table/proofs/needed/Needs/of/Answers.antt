@@ -1,5 +1,4 @@
 use Rattle.std.proofs.Common.{◌≡◌, ◌+◌, ◌<◌, ◌∙◌, ap, sym, subst, length, map, arith, slice_get, Some, ℕ, List}
-use Rattle.std.specs.Borrow.{Bor}
 use Rattle.std.specs.List.{All, filter_map}
 use Rattle.std.specs.List.Sorted.{IsPermutation}
 use Rattle.std.proofs.lemmas.Result.{IfOk-weaker}
@@ -9,9 +8,11 @@ use Rattle.module_table.specs.Modules.{provisions}
 use Rattle.module_table.specs.Needed.{ArePairs, IsNeeded, lent}
 use Rattle.module_table.specs.inner.Graph.{IsModuleGraph}
 use Rattle.module_table.specs.inner.Origins.{origins_of}
+use Rattle.module_table.specs.inner.Ranks.{Numbered, pairs_of}
 use Rattle.module_table.proofs.Zips.{zip_length}
 use Rattle.module_table.proofs.ModulePlaces.{IsPlaceOf, module_places}
 use Rattle.module_table.proofs.GraphParts.{node_within}
+use Rattle.module_table.proofs.Rings.{length_mapped}
 use Rattle.module_table.proofs.NeededPairs.{all_in_range, needed_lent}
 use Rattle.module_table.proofs.needed.Needs.of.Goals as goal
 
@@ -34,9 +35,11 @@ pairs_at-requires c =
     let found : c.in_ok-ranks.ranks.items ≡ filter_map (slice_get ranks) nodes = c.in_ok-ranks.ensures ∙ ap (λ xs. filter_map (slice_get xs) c.as_slice-2.result.now) c.as_slice.ensures.value ∙ ap (filter_map (slice_get ranks)) c.as_slice-2.ensures.value in
     let sorted = c.sort_unstable.new.self.items in
     let permuted = subst (λ xs. IsPermutation xs sorted) found c.sort_unstable.ensures.permutation in
-    let all = all_in_range t c.self.invariant.0 c.self.inside.reaching c.self.invariant.1 ranks c.self.inside.pairs.items c.self.invariant.2 c.args.object within nodes reach sorted permuted c.sort_unstable.ensures.sorted in
-    subst (λ (xs : List (Bor (List ℕ) × Bor (List ℕ))). All (λ rank. rank < length xs) c.as_slice-4.result.now) (sym c.as_slice-3.ensures.value)
-    (subst (All (λ rank. rank < length c.self.inside.pairs.items)) (sym c.as_slice-4.ensures.value) all)
+    let all = all_in_range t c.self.invariant.0 c.self.inside.reaching c.self.invariant.1 ranks (pairs_of c.self.inside.modules.items) c.self.invariant.2 c.args.object within nodes reach sorted permuted c.sort_unstable.ensures.sorted in
+    let many = ap length c.as_slice-3.ensures.value in
+    let long = length_mapped (λ (m : Numbered). m.0) c.self.inside.modules.items in
+    subst (λ n. All (λ rank. rank < n) c.as_slice-4.result.now) (long ∙ sym many)
+    (subst (All (λ rank. rank < length (pairs_of c.self.inside.modules.items))) (sym c.as_slice-4.ensures.value) all)
 
 pub returns-clause-pairs : goal.returns-clause-pairs
 returns-clause-pairs c =
@@ -49,10 +52,10 @@ returns-clause-pairs c =
     let found : c.in_ok-ranks.ranks.items ≡ filter_map (slice_get ranks) nodes = c.in_ok-ranks.ensures ∙ ap (λ xs. filter_map (slice_get xs) c.as_slice-2.result.now) c.as_slice.ensures.value ∙ ap (filter_map (slice_get ranks)) c.as_slice-2.ensures.value in
     let sorted = c.sort_unstable.new.self.items in
     let permuted = subst (λ xs. IsPermutation xs sorted) found c.sort_unstable.ensures.permutation in
-    IfOk-weaker c.pairs_at.result (λ out. map (λ pair. Some pair) out.items ≡ map (slice_get c.as_slice-3.result.now) c.as_slice-4.result.now) _
+    IfOk-weaker c.pairs_at.result (λ out. map (λ pair. Some pair) out.items ≡ map (slice_get (pairs_of c.as_slice-3.result.now)) c.as_slice-4.result.now) _
     (λ out is. subst (λ (t : TableValue). ArePairs (IsNeeded t c.args.object) (map lent out.items)) c.self.view_is
-    (needed_lent t c.self.invariant.0 c.self.inside.reaching c.self.invariant.1 ranks c.self.inside.pairs.items c.self.invariant.2 c.args.object within nodes reach sorted permuted c.sort_unstable.ensures.sorted out.items
-    (is ∙ ap (λ (xs : List (Bor (List ℕ) × Bor (List ℕ))). map (slice_get xs) c.as_slice-4.result.now) c.as_slice-3.ensures.value ∙ ap (map (slice_get c.self.inside.pairs.items)) c.as_slice-4.ensures.value)))
+    (needed_lent t c.self.invariant.0 c.self.inside.reaching c.self.invariant.1 ranks (pairs_of c.self.inside.modules.items) c.self.invariant.2 c.args.object within nodes reach sorted permuted c.sort_unstable.ensures.sorted out.items
+    (is ∙ ap (λ (xs : List Numbered). map (slice_get (pairs_of xs)) c.as_slice-4.result.now) c.as_slice-3.ensures.value ∙ ap (map (slice_get (pairs_of c.self.inside.modules.items))) c.as_slice-4.ensures.value)))
     c.pairs_at.ensures
 
 pub overflow_add-len : goal.overflow_add-len
