@@ -1,6 +1,6 @@
 -- What the marks of a loop say of what it has met.
 use Rattle.std.proofs.Common.{◌≡◌, ℕ, zero, suc, ◌+◌, ◌<◌, Bool, true, false, not, ◌||◌, List, [], ◌∷◌, ◌++◌, length, map, take, get_or, set, filter_map, Option, Some, None, refl, ap, sym, ◌∙◌, ⊎_elim, arith, slice_get, bytes_eq}
-use Rattle.std.specs.List.{list_any, cons_option}
+use Rattle.std.specs.List.{All, list_any, cons_option}
 use Rattle.std.specs.Option.{option_map}
 use Rattle.std.specs.Cmp.Lexicographic.{bytes_decides}
 use Rattle.std.proofs.lemmas.Bool.{cases_eq}
@@ -11,8 +11,9 @@ use Rattle.module_table.specs.Added.{first_mentions, pair_of}
 use Rattle.ninja_text.specs.Firsts.{AllDiffer}
 use Rattle.module_table.specs.inner.Views.{names_of}
 use Rattle.module_table.specs.inner.Indexed.{pair_at}
-use Rattle.module_table.specs.inner.Mentioned.{name_in, AreMarked}
+use Rattle.module_table.specs.inner.Mentioned.{name_in, AreMarked, ArePairsSoFar}
 use Rattle.module_table.proofs.Places.{neither_less}
+use Rattle.module_table.proofs.Pushes.{pushes_next}
 use Rattle.module_table.proofs.Mentions.{map_push, mention_new, mention_old}
 use Rattle.module_table.proofs.Found.{named_found}
 use Rattle.ninja_text.proofs.ForCallers.{from_push, map_take, same_some, to_map, in_first, in_second}
@@ -133,3 +134,42 @@ module _ (ps : List Provision) (differ : AllDiffer (names_of ps)) where
       let head : Some pair ≡ pair_at ps i = same_some _ _ (ap (λ xs. slice_get xs zero) same) in
       let tail : map (λ pair. Some pair) pairs ≡ map (pair_at ps) indexes = ap drop_first same in
       ap (λ o. cons_option o (filter_map (pair_of ps) (map (name_in (names_of ps)) indexes))) (one_pair i pair head) ∙ ap (λ xs. pair ∷ xs) (pairs_found indexes pairs tail)
+
+-- ---- the pairs, with the marks
+
+-- before the loop nothing has the mark, and nothing is mentioned
+pub no_pairs : (ps : List Provision) (mark : ℕ) (marks indexes : List ℕ) (pairs : List (List ℕ × List ℕ)) → All (λ old. old < mark) marks → pairs ≡ [] → ArePairsSoFar ps mark marks (take 0 indexes) pairs
+no_pairs ps mark marks indexes pairs fresh none = record {
+  mentioned = [];
+  marked = record {
+    at_most = λ k d lt. let old = fresh k d lt in omega (arith, old);
+    met = λ i lt is. let old = fresh i 0 lt in absurd (omega (arith, old, is));
+    within = λ k i at. absurd (cc);
+    marked = λ k i at. absurd (cc);
+  };
+  firsts = λ names differ long. ap (λ xs. first_mentions (map (name_in names) xs)) (sym (none_taken indexes));
+  found = ap (map (λ pair. Some pair)) none;
+}
+  where
+    none_taken : (xs : List ℕ) → take 0 xs ≡ []
+    none_taken [] = refl
+    none_taken (x ∷ xs) = refl
+
+module _ (ps : List Provision) (mark : ℕ) (marks indexes : List ℕ) (i v : ℕ) (at : slice_get indexes i ≡ Some v) (lt : v < length marks) (pairs : List (List ℕ × List ℕ)) (h : ArePairsSoFar ps mark marks (take i indexes) pairs) where
+  pub pairs_new : (get_or marks v 0 ≡ mark → ⊥) → (more : List (List ℕ × List ℕ)) (pair : List ℕ × List ℕ) → more ≡ pairs ++ pair ∷ [] → Some pair ≡ pair_at ps v → ArePairsSoFar ps mark (set marks v mark) (take (i + 1) indexes) more
+  pairs_new fresh more pair pushed same = record {
+    mentioned = h.mentioned ++ v ∷ [];
+    marked = mark_new mark marks h.mentioned h.marked v lt;
+    firsts = λ names differ long.
+        let as_long = long ∙ length-set marks v mark in
+        firsts_new mark marks h.mentioned h.marked v lt names differ as_long indexes i at (h.firsts names differ as_long) fresh;
+    found = pushes_next (λ p. Some p) (pair_at ps) h.mentioned (h.mentioned ++ v ∷ []) v [] pairs more pair refl h.found pushed same;
+  }
+
+  pub pairs_old : get_or marks v 0 ≡ mark → ArePairsSoFar ps mark marks (take (i + 1) indexes) pairs
+  pairs_old is = record {
+    mentioned = h.mentioned;
+    marked = h.marked;
+    firsts = λ names differ long. firsts_old mark marks h.mentioned h.marked v lt names differ long indexes i at (h.firsts names differ long) is;
+    found = h.found;
+  }

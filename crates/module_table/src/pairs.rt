@@ -1,15 +1,13 @@
 //! What each object requires, with the files of the modules.
-ghost use Rattle.std.specs.Prelude.{◌≡◌, ◌<◌, ◌≤◌, [], All, length, map, Some, IfOk, OnOk};
+ghost use Rattle.std.specs.Prelude.{◌≡◌, ◌<◌, ◌≤◌, [], All, length, map, IfOk, OnOk};
 ghost use Rattle.dep_order.specs.Rows.{rows};
 ghost use Rattle.module_table.specs.Modules.{provisions};
 ghost use Rattle.module_table.specs.Added.{required_of};
 ghost use Rattle.module_table.specs.inner.Numbered.{AreIndexes};
-ghost use Rattle.module_table.specs.inner.Indexed.{pair_at};
-ghost use Rattle.module_table.specs.inner.Mentioned.{AreFirsts};
-ghost use Rattle.ninja_text.specs.Firsts.{AllDiffer};
-ghost use Rattle.module_table.specs.inner.Views.{names_of};
+ghost use Rattle.module_table.specs.inner.Mentioned.{AreFirstPairs};
+ghost use Rattle.module_table.specs.inner.Views.{provision_of};
 
-use crate::modules::{Modules, module_at};
+use crate::modules::{Module, Modules, module_at};
 use ninja_text::Path;
 use scan_docs::Name;
 use std::alloc::{AllocError, Global};
@@ -45,62 +43,42 @@ fn add_pairs<S: BuildHasher>(
     requires as_many { length marks.old.items ≡ length (provisions modules.now) }
     requires unmarked { All (λ mark. mark ≤ 0) marks.old.items }
     requires empty { all.old.items ≡ [] }
-    requires differ { AllDiffer (names_of (provisions modules.now)) }
     ensures { OnOk result (map (λ row. row.items) all.new.items
         ≡ map (required_of modules.now) modules.now.objects) }
 {
-    let mut mentioned = Vec::new(alloc);
+    let provided = modules.provided();
     for (object, row) in required.iter().enumerate() {
-        list_mentions(row.as_slice(), object + 1, marks, &mut mentioned)?;
-        let pairs = pairs_at(alloc, modules, mentioned.as_slice())?;
+        let pairs = first_pairs(alloc, provided, row.as_slice(), object + 1, marks)?;
         all.push(pairs)?;
     }
     Ok(())
 }
 
-/// Puts into `mentioned`, in place of what it held, the indexes in order of first mention, each
-/// once. What is mentioned gets the mark, which nothing had.
-fn list_mentions(
+/// The names and files of the modules of these indexes, in order of first mention, each once. What
+/// is mentioned gets the mark, which nothing had.
+fn first_pairs(
+    alloc: Global,
+    provided: &[Module],
     indexes: &[usize],
     mark: usize,
     marks: &mut Vec<usize>,
-    mentioned: &mut Vec<usize>,
-) -> Result<(), AllocError>
+) -> Result<Vec<(Name, Path)>, AllocError>
     requires within { All (λ index. index < length marks.old.items) indexes.now }
+    requires as_many { length marks.old.items ≡ length provided.now }
     requires fresh { All (λ old. old < mark) marks.old.items }
     ensures as_many { length marks.new.items ≡ length marks.old.items }
     ensures at_most { All (λ new. new ≤ mark) marks.new.items }
-    ensures within { OnOk result
-        (All (λ index. index < length marks.old.items) mentioned.new.items) }
-    ensures firsts { OnOk result
-        (AreFirsts (length marks.old.items) indexes.now mentioned.new.items) }
+    ensures pairs { IfOk result
+        (λ pairs. AreFirstPairs (map provision_of provided.now) indexes.now pairs.items) }
 {
-    mentioned.clear();
+    let mut pairs = Vec::with_capacity(alloc, indexes.len())?;
     for index in indexes {
         if marks[*index] != mark {
             marks[*index] = mark;
-            mentioned.push(*index)?;
+            let module = module_at(provided, *index);
+            let pair = copy_pair(alloc, module.name, module.file)?;
+            pairs.push(pair)?;
         }
-    }
-    Ok(())
-}
-
-/// The names and files of these modules.
-fn pairs_at<S: BuildHasher>(
-    alloc: Global,
-    modules: &Modules<S>,
-    indexes: &[usize],
-) -> Result<Vec<(Name, Path)>, AllocError>
-    requires { All (λ index. index < length (provisions modules.now)) indexes.now }
-    ensures { IfOk result (λ pairs. map (λ pair. Some pair) pairs.items
-        ≡ map (pair_at (provisions modules.now)) indexes.now) }
-{
-    let provided = modules.provided();
-    let mut pairs = Vec::with_capacity(alloc, indexes.len())?;
-    for index in indexes {
-        let module = module_at(provided, *index);
-        let pair = copy_pair(alloc, module.name, module.file)?;
-        pairs.push(pair)?;
     }
     Ok(pairs)
 }

@@ -1,6 +1,8 @@
 -- What a list mentions, each once, and the marks that say what was mentioned.
 use Rattle.std.specs.Prelude.{◌≡◌, ℕ, ◌<◌, ◌≤◌, List, [], length, map, All, get_or, slice_get, Some}
+use Rattle.module_table.specs.Modules.{Provision}
 use Rattle.module_table.specs.Added.{first_mentions}
+use Rattle.module_table.specs.inner.Indexed.{pair_at}
 use Rattle.ninja_text.specs.Firsts.{AllDiffer}
 
 -- the name of this index
@@ -21,3 +23,17 @@ pub record AreMarked (mark : ℕ) (marks mentioned : List ℕ) : Type 0 where
       × (slice_get mentioned k ≡ Some i)
   pub within : (k i : ℕ) → slice_get mentioned k ≡ Some i → i < length marks
   pub marked : (k i : ℕ) → slice_get mentioned k ≡ Some i → get_or marks i 0 ≡ mark
+
+-- the names and files of the modules of the indexes, each once, in order of first mention
+abbrev pub AreFirstPairs : List Provision → List ℕ → List (List ℕ × List ℕ) → Type 0
+AreFirstPairs provided indexes pairs = (mentioned : List ℕ)
+    × AreFirsts (length provided) indexes mentioned
+    × (map (λ pair. Some pair) pairs ≡ map (pair_at provided) mentioned)
+
+-- the same, and what has the mark is what was mentioned
+pub record ArePairsSoFar (provided : List Provision) (mark : ℕ) (marks indexes : List ℕ)
+    (pairs : List (List ℕ × List ℕ)) : Type 0 where
+  pub mentioned : List ℕ
+  pub marked : AreMarked mark marks mentioned
+  pub firsts : AreFirsts (length marks) indexes mentioned
+  pub found : map (λ pair. Some pair) pairs ≡ map (pair_at provided) mentioned

@@ -1,4 +1,4 @@
-use Rattle.std.proofs.Common.{◌≡◌, ◌≤◌, ◌∙◌, ◌++◌, ◌∷◌, [], ap, arith, get_or, length, map, refl, slice_get, sym, take, List, Vec, ℕ}
+use Rattle.std.proofs.Common.{◌≡◌, ◌≤◌, ◌∙◌, ◌++◌, ◌∷◌, [], ap, arith, get_or, length, map, refl, slice_get, subst, sym, take, List, Vec, ℕ}
 use Rattle.std.specs.declared.alloc.Global.{Global}
 use Rattle.std.specs.List.{filter_map}
 use Rattle.std.proofs.lemmas.List.{map-append}
@@ -6,9 +6,8 @@ use Rattle.std.proofs.lemmas.Option.{slice_get-get_or, slice_get_read, slice_get
 use Rattle.dep_order.specs.Rows.{rows}
 use Rattle.module_table.specs.Modules.{Provision, provisions}
 use Rattle.module_table.specs.Added.{first_mentions, pair_of, required_of}
-use Rattle.module_table.specs.inner.Views.{names_of}
-use Rattle.module_table.specs.inner.Indexed.{pair_at}
-use Rattle.module_table.specs.inner.Mentioned.{name_in}
+use Rattle.module_table.specs.inner.Views.{names_of, provision_of}
+use Rattle.module_table.specs.inner.Mentioned.{AreFirstPairs}
 use Rattle.module_table.proofs.Rings.{length_mapped}
 use Rattle.module_table.proofs.IndexRows.{take_all, many_rows, rule_of, name_of_index}
 use Rattle.module_table.proofs.Marks.{row_names, pairs_found}
@@ -18,8 +17,8 @@ use Rattle.ninja_text.proofs.ForCallers.{take_next, to_map}
 abbrev items_of : Vec ℕ Global → List ℕ
 items_of row = row.items
 
-pub list_mentions-requires-clause-within : goal.list_mentions-requires-clause-within
-list_mentions-requires-clause-within g c = λ k d lt.
+pub first_pairs-requires-clause-within : goal.first_pairs-requires-clause-within
+first_pairs-requires-clause-within g c = λ k d lt.
     let t = c.args.modules.now in
     let names = names_of (provisions t) in
     let i = c.loop-object.object in
@@ -34,26 +33,28 @@ list_mentions-requires-clause-within g c = λ k d lt.
     let many = c.loop-object.invariant.as_many in
     omega (arith, inside, long, many)
 
+pub first_pairs-requires-clause-as_many : goal.first_pairs-requires-clause-as_many
+first_pairs-requires-clause-as_many g c =
+    omega (arith, c.loop-object.invariant.as_many, length_mapped provision_of c.provided-provided.result.now, ap length c.provided-provided.ensures.provisions)
+
 pub loop-object-preserved : goal.loop-object-preserved
 unfolding required_of
 loop-object-preserved g c =
     let t = c.args.modules.now in
     let ps = provisions t in
     let names = names_of ps in
+    let differ = c.provided-provided.ensures.differ in
     let i = c.loop-object.object in
     let row = c.index-required-object.result in
     let at = slice_get_read c.args.required.now _ i row refl c.loop-object-test.true c.index-required-object.is in
     let rule = rule_of t (rows c.args.required.now) c.requires.indexes i row.items (to_map items_of c.args.required.now i row at) in
-    let many = c.loop-object.invariant.as_many in
-    let long = length_mapped (λ (p : Provision). p.name) ps ∙ sym many in
-    let mentioned = c.list_mentions.new.mentioned.items in
     let pairs = c.in_ok-pairs.pairs.items in
-    let firsts = c.in_ok-list_mentions.ensures.firsts names c.requires.differ long ∙ ap (λ xs. first_mentions (map (name_in names) xs)) c.as_slice.ensures.value ∙ ap first_mentions (row_names names row.items rule.0.required rule.2) in
-    let found = pairs_found ps c.requires.differ mentioned pairs (c.in_ok-pairs.ensures ∙ ap (map (pair_at ps)) c.as_slice-in-loop-object.ensures.value) in
-    let same : pairs ≡ required_of t rule.0 = sym found ∙ ap (filter_map (pair_of ps)) firsts in
+    let made = subst (λ qs. AreFirstPairs qs row.items pairs) c.provided-provided.ensures.provisions (subst (λ xs. AreFirstPairs (map provision_of c.provided-provided.result.now) xs pairs) c.as_slice.ensures.value c.in_ok-pairs.ensures.pairs) in
+    let firsts = made.1 names differ (length_mapped (λ (p : Provision). p.name) ps) ∙ ap first_mentions (row_names names row.items rule.0.required rule.2) in
+    let same : pairs ≡ required_of t rule.0 = sym (pairs_found ps differ made.0 pairs made.2) ∙ ap (filter_map (pair_of ps)) firsts in
     record {
-      as_many = c.list_mentions.ensures.as_many ∙ many;
-      at_most = c.list_mentions.ensures.at_most;
+      as_many = c.first_pairs.ensures.as_many ∙ c.loop-object.invariant.as_many;
+      at_most = c.first_pairs.ensures.at_most;
       found =
           ap (map (λ r. r.items)) c.in_ok-push.ensures.items ∙ map-append (λ r. r.items) c.loop-object.all.items _
           ∙ ap (λ xs. xs ++ pairs ∷ []) c.loop-object.invariant.found
