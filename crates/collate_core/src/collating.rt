@@ -151,14 +151,14 @@ fn collated_of<M: MapStyle, S: BuildHasher + Copy>(
 {
     headline();
     added_files();
-    let (text, maps) = texts_of(alloc, table, style)?;
+    let (text, maps) = dyndep_and_maps(alloc, table, style)?;
     let info = info_text_of(alloc, target.name, target.kept, table, hash_builder)?;
     let objects = objects_of(alloc, table)?;
     Ok(Collated::new(text, info, objects, maps))
 }
 
 /// The text of the dyndep file of a table's objects and, with a style, their maps.
-fn texts_of<M: MapStyle, S: BuildHasher>(
+fn dyndep_and_maps<M: MapStyle, S: BuildHasher>(
     alloc: Global,
     table: &Table<S>,
     style: Option<&M>,

@@ -33,13 +33,13 @@ pub(crate) fn maps_of<M: MapStyle, S: BuildHasher>(
         None => Ok(Vec::new(alloc)),
         Some(style) => {
             let mut needs = table.needs(alloc)?;
-            texts_of(alloc, table, &mut needs, style)
+            map_texts(alloc, table, &mut needs, style)
         }
     }
 }
 
 /// The text of each object's map, or the first that is refused.
-fn texts_of<M: MapStyle, S: BuildHasher>(
+fn map_texts<M: MapStyle, S: BuildHasher>(
     alloc: Global,
     table: &Table<S>,
     needs: &mut Needs<'_>,

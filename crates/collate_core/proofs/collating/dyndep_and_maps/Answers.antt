@@ -3,7 +3,7 @@ use Rattle.std.proofs.lemmas.Result.{err_from_is_err_and}
 use Rattle.collate_core.specs.Statements.{statements_of}
 use Rattle.collate_core.proofs.Parts.{write_refused, maps_refused}
 use Rattle.collate_core.proofs.Writing.{no_fault}
-use Rattle.collate_core.proofs.collating.texts_of.Goals as goal
+use Rattle.collate_core.proofs.collating.dyndep_and_maps.Goals as goal
 
 pub returns-in_err-text-clause-refused : goal.returns-in_err-text-clause-refused
 returns-in_err-text-clause-refused g c =

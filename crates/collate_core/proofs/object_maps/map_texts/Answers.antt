@@ -4,7 +4,7 @@ use Rattle.std.proofs.lemmas.Result.{err_from_is_err_and}
 use Rattle.module_table.specs.TableValue.{TableValue}
 use Rattle.module_maps.specs.Maps.{Written}
 use Rattle.collate_core.proofs.Parts.{EachMap, more_maps, object_refused}
-use Rattle.collate_core.proofs.object_maps.texts_of.Goals as goal
+use Rattle.collate_core.proofs.object_maps.map_texts.Goals as goal
 
 pub returns-in_err-text_of-clause-refused : goal.returns-in_err-text_of-clause-refused
 returns-in_err-text_of-clause-refused g c =
