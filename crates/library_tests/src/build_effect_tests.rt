@@ -1,6 +1,6 @@
 //! Edges of a caller's own, and the order of edges after an effect. What listings, effects and orders
 //! are answered is rows of `tests/rows`.
-ghost use Rattle.std.specs.Prelude.{◌≢◌, [], All, IfOk};
+ghost use Rattle.std.specs.Prelude.{◌≡◌, ◌≢◌, [], All, IfOk, OnOk};
 
 mod growths;
 
@@ -28,27 +28,34 @@ pub(crate) fn graph_of(alloc: Global, listing: &[u8]) -> Result<Graph, Fail> {
     value(reader.finish())
 }
 
-fn one_path(alloc: Global, text: &str) -> Result<Vec<Path>, Fail>
-    ensures { IfOk result (λ paths. paths.items ≢ []) }
-{
-    Ok(vec![in alloc; path(alloc, text)?]?)
-}
-
 /// Edges: one, with every part that an edge can have.
 pub(crate) fn whole_edge(alloc: Global) -> Result<Vec<Edge>, Fail>
     ensures { IfOk result (λ edges. All (λ e. e.outputs ≢ []) edges.items) }
 {
-    let edge = Edge {
+    let mut edge = Edge {
         rule: Vec::from_slice(alloc, b"cxx")?,
-        outputs: one_path(alloc, "a.o")?,
-        implicit_outputs: one_path(alloc, "a.d")?,
-        inputs: one_path(alloc, "a.cpp")?,
-        implicit_inputs: one_path(alloc, "a.h")?,
-        order_only: one_path(alloc, "t.dd")?,
-        dyndep: Some(path(alloc, "t.dd")?),
+        outputs: vec![in alloc; path(alloc, "a.o")?]?,
+        implicit_outputs: Vec::new(alloc),
+        inputs: Vec::new(alloc),
+        implicit_inputs: Vec::new(alloc),
+        order_only: Vec::new(alloc),
+        dyndep: None,
         restat: true,
     };
+    add_paths(alloc, &mut edge)?;
     Ok(vec![in alloc; edge]?)
+}
+
+/// Adds a path to each list of the edge that has none, and names the dyndep file.
+fn add_paths(alloc: Global, edge: &mut Edge) -> Result<(), Fail>
+    ensures { OnOk result (edge.new.outputs ≡ edge.old.outputs) }
+{
+    edge.implicit_outputs.push(path(alloc, "a.d")?)?;
+    edge.inputs.push(path(alloc, "a.cpp")?)?;
+    edge.implicit_inputs.push(path(alloc, "a.h")?)?;
+    edge.order_only.push(path(alloc, "t.dd")?)?;
+    edge.dyndep = Some(path(alloc, "t.dd")?);
+    Ok(())
 }
 
 /// The listing of that edge.
