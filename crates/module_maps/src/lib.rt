@@ -19,8 +19,9 @@
 //! It uses `ninja_text` for paths, `scan_docs` for names and `thiserror` for its fault, and knows of
 //! no table: which modules an object needs is known to who makes its map.
 //!
-//! `must-fail/` has a wrong body of each public function; `needed_lent_as_provided` shows the
-//! clause of both calls that lend a map's modules.
+//! `must-fail/` has a wrong body of each public function. `needed_lent_as_provided` shows the clause
+//! of both calls that lend a map's modules, `names_left_out` that of both that push entries, and
+//! `nothing_fits` and `clang_map_keeps_no_needed` those of what fits a style and of what it keeps.
 #![tactic(auto)]
 
 mod clang;

@@ -36,10 +36,10 @@
 //!
 //! `must-fail/` has a wrong body of each public function but of the laws, which have none, and of
 //! [`Failure::map`] and [`Counted::into_inner`], which can only pass on values of any type. Calls
-//! that lend one field each, or begin with fields that are known, have clauses of one form; one
-//! edit for each type shows it: `token_begins_at_its_end`, `every_line_is_the_first`,
-//! `value_lent_as_name`, `lines_numbered_from_0`, `failed_calls_are_not_counted` and
-//! `refusal_forgotten`. `escapes_stay_in_a_value` shows the clause of both calls `value_into`.
+//! that lend one field each have clauses of one form, which `token_begins_at_its_end` shows, and
+//! those that begin with fields that are known another: `lines_numbered_from_0`,
+//! `failed_calls_are_not_counted` and `refusal_forgotten` are of what they begin with or keep.
+//! `escapes_stay_in_a_value` shows the clause of both calls `value_into`.
 #![tactic(auto)]
 
 mod assigning;

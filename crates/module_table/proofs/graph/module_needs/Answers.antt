@@ -4,7 +4,7 @@ use Rattle.scan_docs.specs.Info.{ModuleValue}
 use Rattle.module_table.specs.inner.Graph.{indexes_in}
 use Rattle.module_table.proofs.graph.module_needs.Goals as goal
 
--- said here, so that `needed_lists_direct_requirements_only` is refused soon
+-- said here, so that `needed_stops_at_the_first_info` is refused soon
 pub returns-in_ok-row-in-Object : goal.returns-in_ok-row-in-Object
 returns-in_ok-row-in-Object _ c =
     rw c.in-Object.is (c.in_ok-row-in-Object.ensures.items ∙ ap (λ n. (n + c.in-Object.object) ∷ []) c.requires.as_many)
