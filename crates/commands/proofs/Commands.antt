@@ -1,8 +1,10 @@
 -- What a run of `collate` answers.
-use Rattle.std.proofs.Common.{◌≡◌, ℕ, suc, List, [], ◌∷◌, map, zip, Option, refl, ap, sym, subst, arith}
-use Rattle.std.specs.Prelude.{All, IsUtf8, Vec}
+use Rattle.std.proofs.Common.{◌≡◌, ◌∙◌, ℕ, suc, List, [], ◌∷◌, ◌++◌, map, zip, Option, refl, ap, ap₂, sym, subst, arith}
+use Rattle.std.specs.Prelude.{All, IsUtf8, Vec, Result, Ok, Err, IfOk, IsOkAnd, String}
 use Rattle.std.specs.Global.{Global}
 use Rattle.std.specs.List.{AllZip}
+use Rattle.std.specs.declared.alloc.AllocError.{AllocError}
+use Rattle.std.proofs.lemmas.List.{map-append}
 use Rattle.std.proofs.lemmas.List.Elements.{All-nil, All-cons, All-head, All-tail, All-append, All-map}
 use Rattle.scan_docs.specs.Scan.{SettingValue, RuleValue, IsRule}
 use Rattle.scan_docs.specs.Values.{rules_of}
@@ -11,6 +13,7 @@ use Rattle.collate_core.specs.Values.{TargetValue, CollatedValue}
 use Rattle.collate_core.specs.Documents.{all_rules, table_of, IsScanAccepted}
 use Rattle.collate_core.specs.Collation.{Collates}
 use Rattle.commands.specs.declared.answer.Answer.{Answer}
+use Rattle.commands.specs.Answers.{file_value}
 use Rattle.commands.specs.CollateCommand.{map_name}
 use Rattle.commands.specs.EdgeChecks.{AnswersEdges}
 use Rattle.commands.specs.Files.{FileValue}
@@ -57,3 +60,14 @@ zip_map f g (x ∷ xs) (y ∷ ys) = ap (λ l. (f x, g y) ∷ l) (zip_map f g xs 
 -- the map file of an object
 abbrev pub map_file : List ℕ × Vec ℕ Global → FileValue
 map_file object = (map_name object.0, object.1.items)
+
+-- one file more
+pub file_more : (files longer : Result (Vec (String Global × Vec ℕ Global) Global) AllocError) (file : Result (String Global × Vec ℕ Global) AllocError) (before : List FileValue) (one : FileValue) →
+    IfOk files (λ fs. map file_value fs.items ≡ before) → IfOk file (λ f. file_value f ≡ one) →
+    IfOk longer (λ l. IsOkAnd files (λ fs. IsOkAnd file (λ f. l.items ≡ fs.items ++ f ∷ []))) →
+    IfOk longer (λ l. map file_value l.items ≡ before ++ one ∷ [])
+file_more (Ok fs) (Ok l) (Ok f) before one so_far is more =
+    ap (map file_value) more ∙ map-append file_value fs.items (f ∷ []) ∙ ap₂ (λ a b. a ++ b ∷ []) so_far is
+file_more (Ok fs) (Ok l) (Err e) before one so_far is more = absurd more
+file_more (Err e) (Ok l) file before one so_far is more = absurd more
+file_more files (Err e) file before one so_far is more = tt

@@ -187,6 +187,13 @@ pub target_goes : {X Y : Type 0} (spec : document.TargetDocumentValue) (linked :
 target_goes spec linked view U c s more t goes h =
     target_then spec linked (GoesOn view) U c s more t (follows view U s more t goes) (value_then view U s more t goes) h
 
+pub after_goes : {X Y : Type 0} (earlier : List ReadTargetValue) (spec : document.TargetDocumentValue)
+    (view : X → ReadTargetValue) (U : ReadTargetValue → Part Y) (c : List FileCall) (s : Step X)
+    (more : List FileCall) (t : Step Y) → Goes view U s more t →
+    AnswersAfter earlier spec (GoesOn view) c s → AnswersAfter earlier spec U (c ++ more) t
+after_goes earlier spec view U c s more t goes h =
+    after_then earlier spec (GoesOn view) U c s more t (follows view U s more t goes) (value_then view U s more t goes) h
+
 pub next_goes : {X Y : Type 0} (earlier : List ReadTargetValue) (name : List ℕ)
     (view : X → ReadTargetValue) (U : ReadTargetValue → Part Y) (c : List FileCall) (s : Step X)
     (more : List FileCall) (t : Step Y) → Goes view U s more t →

@@ -1,6 +1,6 @@
 //! The command `collate`: the files of a target.
 
-ghost use Rattle.std.specs.Prelude.{◌≡◌, Some, None, [], ◌∷◌, ◌++◌, map, zip, string_bytes, option_copied, IsUtf8, All, IfOk, IfErr, OnOk};
+ghost use Rattle.std.specs.Prelude.{◌≡◌, Some, None, [], ◌∷◌, ◌++◌, map, zip, string_bytes, option_copied, IsUtf8, All, IfOk, IfErr, IsOkAnd, OnOk};
 ghost use Rattle.ninja_text.specs.Failure.{ForFault};
 ghost use Rattle.module_table.specs.TableValue.{table_with};
 ghost use Rattle.collate_core.specs.Collation.{Collates};
@@ -15,7 +15,7 @@ ghost use Rattle.commands.specs.Targets.{AnswersTarget};
 use crate::answer::{Answer, answered};
 use crate::edges::{EdgesFault, edges_check, edges_failed};
 use crate::folder::Folder;
-use crate::reading::{TargetFiles, slices};
+use crate::reading::{TargetFiles, pushed, slices};
 use crate::refusal::failed_run;
 use crate::target_document::TargetDocument;
 use collate_core::{
@@ -45,7 +45,7 @@ pub fn collate_run<F: Folder>(
         Ok(document) => {
             let spec = document.spec();
             match TargetFiles::read(alloc, spec, &spec.linked, folder) {
-                Ok(files) => files_answer(alloc, keys, &document, &files),
+                Ok(files) => target_answer(alloc, keys, &document, &files),
                 Err(failure) => answered(failure),
             }
         }
@@ -63,7 +63,7 @@ fn spec_refused(alloc: Global, fault: &DocFault) -> Result<Answer, AllocError>
 }
 
 /// The answer to the target of a document, of these files.
-fn files_answer(
+fn target_answer(
     alloc: Global,
     keys: RandomState,
     document: &TargetDocument,
@@ -166,25 +166,9 @@ pub(crate) fn files_of(
         objects,
         maps,
     } = collated.into_parts();
-    let mut files = map_files(alloc, &objects, maps)?;
-    push_file(alloc, &mut files, spec.info.as_str(), info_text)?;
-    push_file(alloc, &mut files, spec.dyndep.as_str(), dyndep_text)?;
-    Ok(files)
-}
-
-/// Appends a file of this name.
-fn push_file(
-    alloc: Global,
-    files: &mut Vec<(String, Vec<u8>)>,
-    name: &str,
-    text: Vec<u8>,
-) -> Result<(), AllocError>
-    ensures { OnOk result (map file_value files.new.items
-        ≡ map file_value files.old.items ++ (name.now, text.items) ∷ []) }
-{
-    let name = String::from_str(alloc, name)?;
-    files.push((name, text))?;
-    Ok(())
+    let files = map_files(alloc, &objects, maps);
+    let files = with_file(files, named(alloc, spec.info.as_str(), info_text));
+    with_file(files, named(alloc, spec.dyndep.as_str(), dyndep_text))
 }
 
 /// The map files of these objects, where there are maps.
@@ -197,27 +181,38 @@ fn map_files(
     ensures { IfOk result (λ files. map file_value files.items
         ≡ zip (map map_name objects.now) (map (λ m. m.items) maps.items)) }
 {
-    let mut files = Vec::with_capacity(alloc, maps.len())?;
+    let mut files = Vec::new(alloc);
     for (object, map) in objects.iter().zip(maps) {
-        push_map(alloc, &mut files, object, map)?;
+        files = with_file(Ok(files), map_file(alloc, object, map))?;
     }
     Ok(files)
 }
 
-/// Appends the map file of an object.
-fn push_map(
-    alloc: Global,
-    files: &mut Vec<(String, Vec<u8>)>,
-    object: &Path,
-    text: Vec<u8>,
-) -> Result<(), AllocError>
-    requires { IsUtf8 object.now }
-    ensures { OnOk result (map file_value files.new.items
-        ≡ map file_value files.old.items ++ (map_name object.now, text.items) ∷ []) }
+/// The files and one more, if memory was given for both. (It takes what may be refused, so that
+/// its callers have nothing to drop where they would end early.)
+fn with_file(
+    files: Result<Vec<(String, Vec<u8>)>, AllocError>,
+    file: Result<(String, Vec<u8>), AllocError>,
+) -> Result<Vec<(String, Vec<u8>)>, AllocError>
+    ensures { IfOk result (λ longer. IsOkAnd files (λ before. IsOkAnd file (λ one.
+        longer.items ≡ before.items ++ one ∷ []))) }
 {
-    let name = map_name(alloc, object)?;
-    files.push((name, text))?;
-    Ok(())
+    pushed(files?, file?)
+}
+
+/// A file of this name.
+fn named(alloc: Global, name: &str, text: Vec<u8>) -> Result<(String, Vec<u8>), AllocError>
+    ensures { IfOk result (λ file. file_value file ≡ (name.now, text.items)) }
+{
+    Ok((String::from_str(alloc, name)?, text))
+}
+
+/// The map file of an object.
+fn map_file(alloc: Global, object: &Path, text: Vec<u8>) -> Result<(String, Vec<u8>), AllocError>
+    requires { IsUtf8 object.now }
+    ensures { IfOk result (λ file. file_value file ≡ (map_name object.now, text.items)) }
+{
+    Ok((map_name(alloc, object)?, text))
 }
 
 /// The name of an object's map file.

@@ -230,13 +230,13 @@ fn collated_answer(
     ensures { IfOk result (AnswersCollatedTargets (zip targets.now outs.items)) }
 {
     match all_pass(alloc, keys, targets, &outs) {
-        Ok(()) => files_answer(alloc, targets, outs),
-        Err(failure) => edges_failed(alloc, failure),
+        Ok(()) => all_files_answer(alloc, targets, outs),
+        Err(failure) => target_edges_failed(alloc, failure),
     }
 }
 
 /// The answer to targets whose edges have an order: the files of all.
-fn files_answer(
+fn all_files_answer(
     alloc: Global,
     targets: &[ReadTarget],
     outs: Vec<Collated>,
@@ -249,7 +249,10 @@ fn files_answer(
 }
 
 /// The answer to a failure of the edges of the target of an index.
-fn edges_failed(alloc: Global, failure: Failure<(usize, EdgesFault)>) -> Result<Answer, AllocError>
+fn target_edges_failed(
+    alloc: Global,
+    failure: Failure<(usize, EdgesFault)>,
+) -> Result<Answer, AllocError>
     ensures { IfOk result (AnswersFault
         (λ failed. Refuses (target_text failed.0 (edges_text failed.1))) failure) }
 {

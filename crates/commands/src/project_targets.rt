@@ -6,7 +6,7 @@ ghost use Rattle.commands.specs.Answers.{Refuses};
 ghost use Rattle.commands.specs.CollateCommand.{spec_text};
 ghost use Rattle.commands.specs.Files.{ReadsFile};
 ghost use Rattle.commands.specs.Folder.{MakesCalls};
-ghost use Rattle.commands.specs.ProjectCommand.{last_with, target_text, project_target, LinksTo, LinksLater, HasFormOf, AnswersAfter, AnswersNext};
+ghost use Rattle.commands.specs.ProjectCommand.{last_with, target_text, project_target, read_target, LinksTo, LinksLater, HasFormOf, AnswersAfter, AnswersNext};
 ghost use Rattle.commands.specs.inner.Parts.{GoesOn};
 ghost use Rattle.commands.specs.inner.ProjectTargets.{writer_of, LinkEarlier};
 
@@ -205,7 +205,32 @@ fn target_of<F: Folder>(
         earlier.now document (GoesOn (λ target. target)) calls result) }
     ensures links { IfOk result (λ target. All (λ k. k < length earlier.now) target.linked) }
 {
-    let spec = document.spec();
+    match parts_of(alloc, earlier, document.spec(), folder) {
+        Ok((linked, files)) => Ok(ReadTarget {
+            document,
+            linked,
+            files,
+        }),
+        Err(failure) => {
+            // Here, by one call: it would be dropped field by field at the end.
+            drop(document);
+            Err(failure)
+        }
+    }
+}
+
+/// The indexes of the targets that a target with these members links, and its files. (The document
+/// is lent, so that there is none to drop where the run ends early.)
+fn parts_of<F: Folder>(
+    alloc: Global,
+    earlier: &Targets,
+    spec: &TargetSpec,
+    folder: &mut F,
+) -> Result<(Vec<usize>, TargetFiles), Failure<Answer>>
+    ensures read { MakesCalls (F.calls folder.old) (F.calls folder.new) (λ calls. AnswersAfter
+        earlier.now spec.now (GoesOn (λ parts. read_target spec.now parts.0.items parts.1)) calls result) }
+    ensures links { IfOk result (λ parts. All (λ k. k < length earlier.now) parts.0.items) }
+{
     if !earlier.have_form(spec) {
         return ended(other_form(alloc, earlier.len()));
     }
@@ -213,11 +238,7 @@ fn target_of<F: Folder>(
         return ended(target_failed(alloc, earlier.len(), b"K3 LinkedLater"));
     };
     let files = TargetFiles::read(alloc, spec, &[], folder)?;
-    Ok(ReadTarget {
-        document,
-        linked,
-        files,
-    })
+    Ok((linked, files))
 }
 
 /// The answer to a target of this index whose maps have another form than those of the first one.

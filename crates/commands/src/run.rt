@@ -33,14 +33,15 @@ pub fn task_run<F: Folder>(
         Ok(bytes) => bytes,
         Err(failure) => return answered(failure),
     };
+    let text = bytes.as_slice();
     match task {
-        Task::One { dir, ext, .. } => one_run(alloc, keys, &bytes, dir, ext),
-        Task::Collate { .. } => collate_run(alloc, keys, &bytes, folder),
-        Task::Show { .. } => show_run(alloc, &bytes),
+        Task::One { dir, ext, .. } => one_run(alloc, keys, text, dir, ext),
+        Task::Collate { .. } => collate_run(alloc, keys, text, folder),
+        Task::Show { .. } => show_run(alloc, text),
         Task::Effect { name, dyndep, .. } => {
-            effect_of_file(alloc, keys, name, &bytes, dyndep, folder)
+            effect_of_file(alloc, keys, name, text, dyndep, folder)
         }
-        Task::Order { .. } => order_run(alloc, keys, &bytes),
-        Task::Project { .. } => project_run(alloc, keys, &bytes, folder),
+        Task::Order { .. } => order_run(alloc, keys, text),
+        Task::Project { .. } => project_run(alloc, keys, text, folder),
     }
 }

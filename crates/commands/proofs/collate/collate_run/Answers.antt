@@ -21,7 +21,7 @@ returns-in-Ok-read g c =
     let named : map string_bytes c.deref.result.now ≡ spec.linked =
     ap (map string_bytes) c.deref.ensures.value ∙ ap (λ (s : document.TargetDocumentValue). s.linked) (c.spec.view_is ∙ is) in
     let files : TargetFilesValue = c.in-Ok-read.files in
-    let result = c.files_answer.result in
+    let result = c.target_answer.result in
     let step = ended result in
     held _ _ (λ calls. ReadsTarget c.spec-spec.result.now (map string_bytes c.deref.result.now) (GoesOn (λ (f : TargetFilesValue). f)) calls (Ok files))
     (λ calls. AnswersCollate c.args.document.now calls step) c.in-Ok-read.ensures
@@ -29,7 +29,7 @@ returns-in-Ok-read g c =
     let own : AnswersSpec spec calls step =
     no_more (AnswersSpec spec) calls step
     (target_goes spec spec.linked (λ f. f) (λ f. Ends (AnswersTargetOf spec f)) calls (Ok files) [] step
-    (on files refl (refl, ended_with (AnswersTargetOf spec files) result step refl c.files_answer.ensures))
+    (on files refl (refl, ended_with (AnswersTargetOf spec files) result step refl c.target_answer.ensures))
     (subst (λ (s : document.TargetDocumentValue). ReadsTarget s spec.linked (GoesOn (λ (f : TargetFilesValue). f)) calls (Ok files)) is
     (subst (λ (linked : List (List ℕ)). ReadsTarget c.spec-spec.result.now linked (GoesOn (λ (f : TargetFilesValue). f)) calls (Ok files)) named read))) in
     record {

@@ -1,5 +1,5 @@
-use Rattle.std.proofs.Common.{ℕ, List, [], ◌∷◌, ◌++◌, length, map, zip, ap, sym, subst, ◌∙◌, arith}
-use Rattle.std.specs.Prelude.{IsUtf8, Vec}
+use Rattle.std.proofs.Common.{ℕ, List, length, map, zip, ap, sym, subst, ◌∙◌, arith}
+use Rattle.std.specs.Prelude.{Ok, IsUtf8, Vec}
 use Rattle.std.specs.Global.{Global}
 use Rattle.std.proofs.lemmas.Iterator.{YieldsList-from_slice, YieldsList-from_zip}
 use Rattle.std.proofs.lemmas.Iterator.Adapters.{YieldsList-from_vec}
@@ -7,14 +7,13 @@ use Rattle.std.proofs.lemmas.Iterator.Consumers.{YieldsList-turn, YieldsList-end
 use Rattle.std.proofs.lemmas.List.{length_push, take_all}
 use Rattle.std.proofs.lemmas.List.Elements.{All-get_or}
 use Rattle.commands.specs.CollateCommand.{map_name}
-use Rattle.commands.specs.Files.{FileValue}
-use Rattle.commands.proofs.Commands.{first_all, map_file, zip_map}
+use Rattle.commands.proofs.Commands.{file_more, first_all, map_file, zip_map}
 use Rattle.commands.proofs.ProjectTargets.{mapped_next}
 use Rattle.commands.proofs.collate.map_files.Goals as goal
 
 -- this object is text
-pub push_map-requires : goal.push_map-requires
-push_map-requires c =
+pub map_file-requires : goal.map_file-requires
+map_file-requires c =
     let objects = c.args.objects.now in
     let maps = c.args.maps.items in
     let turn = YieldsList-turn (YieldsList-from_zip {s = c.into_iter-object-iterator.result} (YieldsList-from_slice objects (cc)) (YieldsList-from_vec maps (cc) (cc))) c.loop-object.yielded c.loop-object.object-iterator c.loop-object.yielded_by c.next.result c.next.new.self (c.in-Some.object, c.in-Some.map) c.in-Some.is c.next.ensures.steps in
@@ -29,8 +28,8 @@ loop-object-preserved c =
     let n : ℕ = length c.loop-object.yielded in
     let turn = YieldsList-turn (YieldsList-from_zip {s = c.into_iter-object-iterator.result} (YieldsList-from_slice objects (cc)) (YieldsList-from_vec maps (cc) (cc))) c.loop-object.yielded c.loop-object.object-iterator c.loop-object.yielded_by c.next.result c.next.new.self (c.in-Some.object, c.in-Some.map) c.in-Some.is c.next.ensures.steps in
     rw (length_push c.loop-object.yielded (c.in-Some.object, c.in-Some.map))
-    (c.in_ok-push_map.ensures
-    ∙ ap (λ (files : List FileValue). files ++ (map_name c.in-Some.object.now, c.in-Some.map.items) ∷ []) c.loop-object.invariant
+    (file_more (Ok c.loop-object.files) (Ok c.in_ok-files.files) c.map_file.result _
+    (map_name c.in-Some.object.now, c.in-Some.map.items) c.loop-object.invariant c.map_file.ensures c.in_ok-files.ensures
     ∙ sym (mapped_next map_file (zip objects maps) n (c.in-Some.object.now, c.in-Some.map) turn.0 turn.1))
 
 pub returns : goal.returns

@@ -13,15 +13,15 @@ use Rattle.commands.proofs.project.collated_answer.Goals as goal
 pub returns-in-Ok : goal.returns-in-Ok
 returns-in-Ok c =
     let pairs = zip c.args.targets.now c.args.outs.items in
-    IfOk-weaker c.files_answer.result (Writes (all_files pairs)) (AnswersCollatedTargets pairs)
+    IfOk-weaker c.all_files_answer.result (Writes (all_files pairs)) (AnswersCollatedTargets pairs)
     (λ answer h. all_pass (subst (λ (outs : List CollatedValue). All PassesOwn (zip c.args.targets.now outs)) c.deref.ensures.value c.in-Ok.ensures.pass) h)
-    c.files_answer.ensures
+    c.all_files_answer.ensures
 
 -- the edges of a target are faulty
 pub returns-in-Err : goal.returns-in-Err
 returns-in-Err c =
     let targets = c.args.targets.now in
-    fault_answered c.edges_failed.result c.in-Err.failure (λ (failed : ℕ × EdgesFault). FailsFirst (zip targets c.deref.result.now) failed.0 failed.1)
+    fault_answered c.target_edges_failed.result c.in-Err.failure (λ (failed : ℕ × EdgesFault). FailsFirst (zip targets c.deref.result.now) failed.0 failed.1)
     (λ failed answer. Refuses (target_text failed.0 (edges_text failed.1)) answer) (AnswersCollatedTargets (zip targets c.args.outs.items))
     (λ failed answer is h. one_fails failed.0 failed.1 (subst (λ (outs : List CollatedValue). FailsFirst (zip targets outs) failed.0 failed.1) c.deref.ensures.value is) h)
-    c.in-Err.ensures.fail c.edges_failed.ensures
+    c.in-Err.ensures.fail c.target_edges_failed.ensures

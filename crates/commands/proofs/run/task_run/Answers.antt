@@ -42,41 +42,41 @@ returns-in-Err g c =
 pub returns-in-One : goal.returns-in-One
 returns-in-One g c =
     let result = c.one_run.result in
-    answered _ _ _ (task_value c.args.task.now) _ c.in-Ok.bytes c.deref.result.now result c.file.ensures c.deref.ensures.value c.in-Ok.ensures
-    (subst (λ task. MakesCalls (g.F.Folder.calls c.read_file.new.folder) (g.F.Folder.calls c.read_file.new.folder) (λ calls. AnswersBytes (task_value task) c.deref.result.now calls (ended result))) (sym c.in-One.is)
+    answered _ _ _ (task_value c.args.task.now) _ c.in-Ok.bytes c.as_slice-text.result.now result c.file.ensures c.as_slice-text.ensures.value c.in-Ok.ensures
+    (subst (λ task. MakesCalls (g.F.Folder.calls c.read_file.new.folder) (g.F.Folder.calls c.read_file.new.folder) (λ calls. AnswersBytes (task_value task) c.as_slice-text.result.now calls (ended result))) (sym c.in-One.is)
     (at_once _ _ result c.one_run.ensures))
 
 pub returns-in-Collate : goal.returns-in-Collate
 returns-in-Collate g c =
     let result = c.collate_run.result in
-    answered _ _ _ (task_value c.args.task.now) _ c.in-Ok.bytes c.deref-in-Collate.result.now result c.file.ensures c.deref-in-Collate.ensures.value c.in-Ok.ensures
-    (subst (λ task. MakesCalls (g.F.Folder.calls c.read_file.new.folder) (g.F.Folder.calls c.collate_run.new.folder) (λ calls. AnswersBytes (task_value task) c.deref-in-Collate.result.now calls (ended result))) (sym c.in-Collate.is)
+    answered _ _ _ (task_value c.args.task.now) _ c.in-Ok.bytes c.as_slice-text.result.now result c.file.ensures c.as_slice-text.ensures.value c.in-Ok.ensures
+    (subst (λ task. MakesCalls (g.F.Folder.calls c.read_file.new.folder) (g.F.Folder.calls c.collate_run.new.folder) (λ calls. AnswersBytes (task_value task) c.as_slice-text.result.now calls (ended result))) (sym c.in-Collate.is)
     c.collate_run.ensures)
 
 pub returns-in-Show : goal.returns-in-Show
 returns-in-Show g c =
     let result = c.show_run.result in
-    answered _ _ _ (task_value c.args.task.now) _ c.in-Ok.bytes c.deref-in-Show.result.now result c.file.ensures c.deref-in-Show.ensures.value c.in-Ok.ensures
-    (subst (λ task. MakesCalls (g.F.Folder.calls c.read_file.new.folder) (g.F.Folder.calls c.read_file.new.folder) (λ calls. AnswersBytes (task_value task) c.deref-in-Show.result.now calls (ended result))) (sym c.in-Show.is)
+    answered _ _ _ (task_value c.args.task.now) _ c.in-Ok.bytes c.as_slice-text.result.now result c.file.ensures c.as_slice-text.ensures.value c.in-Ok.ensures
+    (subst (λ task. MakesCalls (g.F.Folder.calls c.read_file.new.folder) (g.F.Folder.calls c.read_file.new.folder) (λ calls. AnswersBytes (task_value task) c.as_slice-text.result.now calls (ended result))) (sym c.in-Show.is)
     (at_once _ _ result c.show_run.ensures))
 
 pub returns-in-Effect : goal.returns-in-Effect
 returns-in-Effect g c =
     let result = c.effect_of_file.result in
-    answered _ _ _ (task_value c.args.task.now) _ c.in-Ok.bytes c.deref-in-Effect.result.now result c.file.ensures c.deref-in-Effect.ensures.value c.in-Ok.ensures
-    (subst (λ task. MakesCalls (g.F.Folder.calls c.read_file.new.folder) (g.F.Folder.calls c.effect_of_file.new.folder) (λ calls. AnswersBytes (task_value task) c.deref-in-Effect.result.now calls (ended result))) (sym c.in-Effect.is)
+    answered _ _ _ (task_value c.args.task.now) _ c.in-Ok.bytes c.as_slice-text.result.now result c.file.ensures c.as_slice-text.ensures.value c.in-Ok.ensures
+    (subst (λ task. MakesCalls (g.F.Folder.calls c.read_file.new.folder) (g.F.Folder.calls c.effect_of_file.new.folder) (λ calls. AnswersBytes (task_value task) c.as_slice-text.result.now calls (ended result))) (sym c.in-Effect.is)
     c.effect_of_file.ensures)
 
 pub returns-in-Order : goal.returns-in-Order
 returns-in-Order g c =
     let result = c.order_run.result in
-    answered _ _ _ (task_value c.args.task.now) _ c.in-Ok.bytes c.deref-in-Order.result.now result c.file.ensures c.deref-in-Order.ensures.value c.in-Ok.ensures
-    (subst (λ task. MakesCalls (g.F.Folder.calls c.read_file.new.folder) (g.F.Folder.calls c.read_file.new.folder) (λ calls. AnswersBytes (task_value task) c.deref-in-Order.result.now calls (ended result))) (sym c.in-Order.is)
+    answered _ _ _ (task_value c.args.task.now) _ c.in-Ok.bytes c.as_slice-text.result.now result c.file.ensures c.as_slice-text.ensures.value c.in-Ok.ensures
+    (subst (λ task. MakesCalls (g.F.Folder.calls c.read_file.new.folder) (g.F.Folder.calls c.read_file.new.folder) (λ calls. AnswersBytes (task_value task) c.as_slice-text.result.now calls (ended result))) (sym c.in-Order.is)
     (at_once _ _ result c.order_run.ensures))
 
 pub returns : goal.returns
 returns g c =
     let result = c.project_run.result in
-    answered _ _ _ (task_value c.args.task.now) _ c.in-Ok.bytes c.deref-in-Project.result.now result c.file.ensures c.deref-in-Project.ensures.value c.in-Ok.ensures
-    (subst (λ task. MakesCalls (g.F.Folder.calls c.read_file.new.folder) (g.F.Folder.calls c.project_run.new.folder) (λ calls. AnswersBytes (task_value task) c.deref-in-Project.result.now calls (ended result))) (sym c.in-Project.is)
+    answered _ _ _ (task_value c.args.task.now) _ c.in-Ok.bytes c.as_slice-text.result.now result c.file.ensures c.as_slice-text.ensures.value c.in-Ok.ensures
+    (subst (λ task. MakesCalls (g.F.Folder.calls c.read_file.new.folder) (g.F.Folder.calls c.project_run.new.folder) (λ calls. AnswersBytes (task_value task) c.as_slice-text.result.now calls (ended result))) (sym c.in-Project.is)
     c.project_run.ensures)

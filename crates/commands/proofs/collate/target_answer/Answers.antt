@@ -16,7 +16,7 @@ use Rattle.commands.specs.Targets.{AnswersTarget}
 use Rattle.commands.specs.declared.answer.Answer.{Answer}
 use Rattle.commands.proofs.Commands.{objects_text}
 use Rattle.commands.proofs.Targets.{collated, failed}
-use Rattle.commands.proofs.collate.files_answer.Goals as goal
+use Rattle.commands.proofs.collate.target_answer.Goals as goal
 
 -- the target of these parts
 abbrev target_of : List ℕ → SettingValue → List (List ℕ) → List (List ℕ) → List (List ℕ) → TargetValue
