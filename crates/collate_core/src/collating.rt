@@ -1,5 +1,5 @@
 //! Collating a target.
-ghost use Rattle.std.specs.Prelude.{◌≡◌, map, None, Ok, All, IfOk, OnOk, IfErr, IfSome};
+ghost use Rattle.std.specs.Prelude.{◌≡◌, map, None, Ok, All, IfOk, OnOk, IfErr, IfSome, MatchResult, IsErrAnd};
 ghost use Rattle.std.specs.Option.{option_copied, option_map};
 ghost use Rattle.ninja_text.specs.Failure.{ForFault, Turns};
 ghost use Rattle.dyndep_file.specs.WriteFaults.{text_or_fault};
@@ -106,29 +106,27 @@ pub(crate) fn collate_known<M: MapStyle, S: BuildHasher + Copy>(
         (table_with refused.objects.items refused.infos.items))) }
 {
     let table = table_of(alloc, target, known, hash_builder)?;
-    match collated_of(alloc, target, &table, style, hash_builder) {
-        Ok(collated) => Ok(collated),
-        Err(failure) => Err(with_table(failure, table)),
-    }
+    let collated = collated_of(alloc, target, &table, style, hash_builder);
+    with_table(collated, table)
 }
 
-/// The failure of a target with what was read of it, which has this table.
+/// What was collated, or its failure with what was read of the target, which has this table.
 fn with_table<S: BuildHasher + Copy>(
-    failure: Failure<Refusal>,
+    collated: Result<Collated, Failure<Refusal>>,
     table: Table<S>,
-) -> Failure<RefusedTarget>
-    ensures { Turns (IsReadFrom table) failure result }
+) -> Result<Collated, Failure<RefusedTarget>>
+    ensures { MatchResult collated (λ collated. result ≡ Ok collated)
+        (λ failure. IsErrAnd result (Turns (IsReadFrom table) failure)) }
 {
-    match failure {
-        Failure::Memory => Failure::Memory,
-        Failure::Fault(refusal) => {
-            let (objects, infos) = table.into_resolved().into_parts();
-            Failure::Fault(RefusedTarget {
-                refusal,
-                objects,
-                infos,
-            })
-        }
+    let (objects, infos) = table.into_resolved().into_parts();
+    match collated {
+        Ok(collated) => Ok(collated),
+        Err(Failure::Memory) => Err(Failure::Memory),
+        Err(Failure::Fault(refusal)) => Err(Failure::Fault(RefusedTarget {
+            refusal,
+            objects,
+            infos,
+        })),
     }
 }
 
