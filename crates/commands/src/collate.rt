@@ -181,7 +181,7 @@ fn map_files(
     ensures { IfOk result (λ files. map file_value files.items
         ≡ zip (map map_name objects.now) (map (λ m. m.items) maps.items)) }
 {
-    let mut files = Vec::new(alloc);
+    let mut files = Vec::with_capacity(alloc, maps.len())?;
     for (object, map) in objects.iter().zip(maps) {
         files = with_file(Ok(files), map_file(alloc, object, map))?;
     }

@@ -28,8 +28,8 @@ loop-object-preserved c =
     let n : ℕ = length c.loop-object.yielded in
     let turn = YieldsList-turn (YieldsList-from_zip {s = c.into_iter-object-iterator.result} (YieldsList-from_slice objects (cc)) (YieldsList-from_vec maps (cc) (cc))) c.loop-object.yielded c.loop-object.object-iterator c.loop-object.yielded_by c.next.result c.next.new.self (c.in-Some.object, c.in-Some.map) c.in-Some.is c.next.ensures.steps in
     rw (length_push c.loop-object.yielded (c.in-Some.object, c.in-Some.map))
-    (file_more (Ok c.loop-object.files) (Ok c.in_ok-files.files) c.map_file.result _
-    (map_name c.in-Some.object.now, c.in-Some.map.items) c.loop-object.invariant c.map_file.ensures c.in_ok-files.ensures
+    (file_more (Ok c.loop-object.files) (Ok c.in_ok-files-2.files) c.map_file.result _
+    (map_name c.in-Some.object.now, c.in-Some.map.items) c.loop-object.invariant c.map_file.ensures c.in_ok-files-2.ensures
     ∙ sym (mapped_next map_file (zip objects maps) n (c.in-Some.object.now, c.in-Some.map) turn.0 turn.1))
 
 pub returns : goal.returns
