@@ -49,9 +49,8 @@
 //! `must-fail/` has a wrong body of each public function but of the laws, which have none, and of
 //! those that only pass on another's answer, whose clauses they have: the calls without a hasher,
 //! and of [`collate_or_refused`], [`collate_dyndep_or_refused`] and [`project_or_refused`] those
-//! that answer the refusal alone. [`collate_dyndep`] answers a text of which
-//! `required_module_left_out` shows the clause, and `no_maps_lent` shows those by which a
-//! [`Collated`] lends its parts and gives them up.
+//! that answer the refusal alone. `info_lent_as_dyndep` and `no_maps_lent` show the clauses by
+//! which a [`Collated`] lends its parts and gives them up.
 #![tactic(auto)]
 
 mod check;

@@ -52,10 +52,8 @@
 //! `must-fail/` has a wrong body of each public function but of the laws, which have none, and of
 //! those that only pass on what a [`Resolved`] has: [`Table::objects`], [`Table::required`],
 //! [`Table::resolved`] and [`Table::into_resolved`]. `objects_left_out` and
-//! `required_by_the_first_object` are of what they pass on, and show the clauses by which
-//! [`Resolved::into_parts`] gives it up. The plain calls have the clauses of
-//! [`Table::build_or_refused`], whose answers they give. That this gives back what it was given,
-//! where it is refused, `objects_of_a_refusal_left_out` of `collate_core` shows.
+//! `required_by_the_first_object` are of what they pass on. The plain calls have the clauses of
+//! [`Table::build_or_refused`], whose answers they give.
 #![tactic(auto)]
 
 mod checks;

@@ -26,9 +26,9 @@
 //! `proofs/`.
 //!
 //! `must-fail/` has a wrong body of each public function but of the laws, which have none.
-//! `name_copy_of_another` has the clause of [`TargetName::copy`] too, and that of the calls by which
-//! either lends its text, which is of one form. `first_module_written_for_each` has that of both
-//! calls that write an info. `path_fault_not_printed` stands for the texts of [`Place`] and
+//! `name_bytes_of_another` has the clause of [`Name::text`] and [`TargetName::text`] too,
+//! `name_copy_of_another` that of [`TargetName::copy`], `first_module_written_for_each` that of
+//! both calls that write an info. `path_fault_not_printed` stands for the texts of [`Place`] and
 //! [`Member`], whose clauses are of its form.
 #![tactic(auto)]
 
