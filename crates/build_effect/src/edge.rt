@@ -1,4 +1,6 @@
 //! Build edges.
+ghost use Rattle.std.specs.Prelude.{◌≡◌};
+ghost use Rattle.build_effect.specs.inner.Extended.{blank_edge};
 
 use ninja_text::Path;
 use std::alloc::Global;
@@ -45,7 +47,9 @@ impl Model for Edge {
 
 impl Edge {
     /// An edge whose parts are all empty, to be filled in. It takes no memory.
-    pub(crate) fn blank(alloc: Global) -> Edge {
+    pub(crate) fn blank(alloc: Global) -> Edge
+        ensures { result ≡ blank_edge }
+    {
         Edge {
             rule: Vec::new(alloc),
             outputs: Vec::new(alloc),
