@@ -5,39 +5,38 @@ ghost use Rattle.std.specs.Option.{SomeIff};
 ghost use Rattle.std.specs.List.{list_all, slice_split};
 ghost use Rattle.scan_docs.specs.Name.{is_name, is_name_byte, is_separator, is_not_empty};
 
-use smallvec::SmallVec;
 use std::alloc::{AllocError, Global};
 use std::cmp::Ordering;
 use std::hash::{Hash, Hasher};
 use std::marker::Model;
+use std::rc::RcSlice;
 use std::{fmt, str};
 
 /// The most bytes that a name has.
 pub const NAME_LIMIT: usize = 1024;
 
-/// How many bytes of a name are kept without an allocation. Most names have fewer.
-const INLINE_BYTES: usize = 24;
-
 /// The name of a module, or of a module's partition: the logical name of P1689R5.
 ///
 /// It has 1 to 1,024 bytes and one `:` at most, no part between the separators `.` and `:` is
 /// empty, and no byte is a control byte, a space, 127 or one of `/ \ " ' = | $`. A contract sees a
-/// name as its text.
+/// name as its text. Copies of a name share the text.
 #[derive(Drop)]
 pub struct Name {
-    bytes: SmallVec<u8, INLINE_BYTES>,
+    bytes: RcSlice<u8>,
 }
 
 impl Model for Name {
+    ghost use Rattle.std.specs.Rc.{rc_slice_items};
     ghost use Rattle.ninja_text.specs.Bytes.{Bytes};
     ghost use Rattle.std.specs.Prelude.{ℕ, List, IsTrue, IsUtf8};
     ghost use Rattle.scan_docs.specs.Name.{is_name};
 
     ghost Value = { Bytes };
 
-    ghost view = { λ n. n.bytes.items };
+    ghost view = { λ n. rc_slice_items n.bytes };
 
-    ghost invariant = { λ n. IsTrue (is_name n.bytes.items) × IsUtf8 n.bytes.items };
+    ghost invariant = { λ n. IsTrue (is_name (rc_slice_items n.bytes))
+        × IsUtf8 (rc_slice_items n.bytes) };
 }
 
 impl Name {
@@ -48,7 +47,7 @@ impl Name {
         if !is_name(text.as_bytes()) {
             return Ok(None);
         }
-        let bytes = SmallVec::from_slice(alloc, text.as_bytes())?;
+        let bytes = RcSlice::from_slice(alloc, text.as_bytes())?;
         Ok(Some(Name { bytes }))
     }
 
@@ -72,11 +71,11 @@ impl Name {
         &self.bytes
     }
 
-    /// The same name once more.
-    pub fn copy(&self, alloc: Global) -> Result<Name, AllocError>
+    /// The same name once more. It shares the text, as [`Path::copy`](ninja_text::Path::copy) does.
+    pub fn copy(&self, _alloc: Global) -> Result<Name, AllocError>
         ensures { IfOk result (λ copy. copy ≡ self.now) }
     {
-        let bytes = SmallVec::from_slice(alloc, self.bytes.as_slice())?;
+        let bytes = self.bytes.clone()?;
         Ok(Name { bytes })
     }
 }
