@@ -25,8 +25,9 @@
 //! task is, and `indexmap` for the table of the infos that a project writes.
 //!
 //! `must-fail/` has a wrong body of each public function. `usage_with_status_1` shows the clause of
-//! each call that makes an [`Answer`] with a line, and `every_document_reported_as_no_json` that of
-//! the line of a refusal, whatever the command.
+//! each call that makes an [`Answer`] with a line, `every_document_reported_as_no_json` that of the
+//! line of a refusal, whatever the command, and `file_read_twice` that of what is read, how often
+//! and in which order.
 #![tactic(auto)]
 
 mod answer;

@@ -21,7 +21,9 @@
 //!
 //! `must-fail/` has a wrong body of each public function. `needed_lent_as_provided` shows the clause
 //! of both calls that lend a map's modules, `names_left_out` that of both that push entries, and
-//! `nothing_fits` and `clang_map_keeps_no_needed` those of what fits a style and of what it keeps.
+//! `name_read_as_path` that of both that read a path. Of what is written, fits a style and is kept
+//! by it, `gcc_map_without_the_needed`, `nothing_fits` and `clang_map_keeps_no_needed` show the
+//! clauses, which are the same for each style.
 #![tactic(auto)]
 
 mod clang;

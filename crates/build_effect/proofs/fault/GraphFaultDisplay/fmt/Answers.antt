@@ -3,7 +3,7 @@ use Rattle.build_effect.specs.FaultTexts.{graph_fault_text}
 use Rattle.build_effect.proofs.fault.GraphFaultDisplay.fmt.Goals as goal
 use Rattle.build_effect.proofs.fault.GraphFaultDisplay.fmt.Goals.{in-ProducedTwice, in-DyndepNotInput}
 
--- said here, so that `faults_of_graphs_printed_alike` is refused soon
+-- said here, so that a fault which is printed as another is refused soon
 pub returns-clause-writes : goal.returns-clause-writes
 returns-clause-writes _ c =
     let name : c.match-self.write_str.now ≡ graph_fault_text c.args.self.now =
