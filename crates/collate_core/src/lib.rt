@@ -49,8 +49,7 @@
 //! `must-fail/` has a wrong body of each public function but of the laws, which have none, and of
 //! those that only pass on another's answer, whose clauses they have: the calls without a hasher,
 //! and of [`collate_or_refused`], [`collate_dyndep_or_refused`] and [`project_or_refused`] those
-//! that answer the refusal alone. Those of `statements.rt` show the clause of the dyndep text, of
-//! [`collate_dyndep_or_refused`] too. `info_lent_as_dyndep` and `no_maps_lent` show the clauses by
+//! that answer the refusal alone. `info_lent_as_dyndep` and `no_maps_lent` show the clauses by
 //! which a [`Collated`] lends its parts and gives them up.
 #![tactic(auto)]
 
