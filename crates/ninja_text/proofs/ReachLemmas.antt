@@ -12,11 +12,11 @@ use Rattle.ninja_text.specs.declared.failure.Failure.{Failure}
 use Rattle.ninja_text.specs.declared.failure.Failure.TheVariants.{Memory, Fault}
 use Rattle.ninja_text.specs.declared.fault.CutFault.{CutFault}
 use Rattle.ninja_text.specs.declared.fault.CutFault.TheVariants.{LineTooLong}
-use Rattle.ninja_text.specs.inner.Reaching.{Reaches}
+use Rattle.ninja_text.specs.inner.Reaching.{Takes, Reaches}
 use Rattle.ninja_text.specs.Phases.{bytes_in}
 use Rattle.ninja_text.specs.CutterViews.{state_in}
 use Rattle.ninja_text.specs.declared.cutter.Phase.{Phase}
-use Rattle.ninja_text.specs.declared.cutter.Reach.TheVariants.{Whole, Part, TooLong}
+use Rattle.ninja_text.specs.declared.cutter.Phase.TheVariants.{Gathering, Waiting, Lent, Failed}
 use Rattle.ninja_text.specs.declared.scan.ScanState.{ScanState}
 use Rattle.ninja_text.specs.declared.scan.ScanState.TheVariants.{Start}
 use Rattle.ninja_text.specs.declared.scan.Scanned.TheVariants.{End, Open}
@@ -28,6 +28,9 @@ take_shorter zero i xs h = refl
 take_shorter (suc j) zero xs h = absurd (omega arith)
 take_shorter (suc j) (suc i) [] h = refl
 take_shorter (suc j) (suc i) (x ∷ xs) h = ap (λ ys. x ∷ ys) (take_shorter j i xs (omega arith))
+
+joined_len : (n : ℕ) (bytes piece : List ℕ) → n ≤ length piece → length (bytes ++ take n piece) ≡ length bytes + n
+joined_len n bytes piece h = rw length-append (ap (λ k. length bytes + k) (length-take-le n piece h))
 
 module _ (B P : List ℕ) (s : ScanState) (reach : ℕ) (room : length B < line_limit) (held : scan_from 0 Start B ≡ Open s)
     (is : reach ≡ min (length P) (line_limit - length B)) where
@@ -63,31 +66,38 @@ module _ (B P : List ℕ) (s : ScanState) (reach : ℕ) (room : length B < line_
     shorter : take (w - length B) (take reach P) ≡ take (w - length B) P
     shorter = take_shorter (w - length B) reach P taken_fits
 
-    pub reaches_whole : Reaches B P (Whole (w - length B) t)
+    part_fits : w - length B ≤ length P
+    part_fits = omega (arith, taken_fits, reach_fits)
+
+    pub reaches_whole : Reaches B P (Some (w - length B, Waiting t))
     reaches_whole = (
-      omega (arith, taken_fits, reach_fits),
-      omega (arith, fits.past),
+      part_fits,
+      λ _. omega (arith, fits.past),
       omega (arith, taken_fits, within, past_held),
-      at_limit ∙ ap end_of ended ∙ ap (λ k. Some (record { text_len = t; line_len = k })) {x = w} {y = length B + (w - length B)} (omega (arith, past_held)),
       scan_open_append B (take (w - length B) P) 0 Start s held ∙ ap (λ k. scan_from k s (take (w - length B) P)) {x = 0 + length B} {y = length B} (omega arith)
-          ∙ ap (scan_from (length B) s) (sym shorter) ∙ whole_scan ∙ ap (λ k. End t k) {x = w} {y = length B + (w - length B)} (omega (arith, past_held)),
+          ∙ ap (scan_from (length B) s) (sym shorter) ∙ whole_scan
+          ∙ ap (λ k. End t k) {x = w} {y = length (B ++ take (w - length B) P)} (omega (arith, past_held, joined_len (w - length B) B P part_fits)),
+      at_limit ∙ ap end_of ended ∙ ap (λ k. Some (record { text_len = t; line_len = k })) {x = w} {y = length B + (w - length B)} (omega (arith, past_held)),
     )
 
   module _ (next : ScanState) (still : scan_from (length B) s (take reach P) ≡ Open next) where
     no_end : line_end (take line_limit (B ++ P)) ≡ None
     no_end = at_limit ∙ ap end_of still
 
-    pub reaches_past : length B + reach ≡ line_limit → Reaches B P TooLong
+    pub reaches_past : length B + reach ≡ line_limit → Reaches B P None
     reaches_past full = (omega (arith, reach_fits), no_end)
 
-    pub reaches_part : (length B + reach ≡ line_limit → ⊥) → Reaches B P (Part next)
-    reaches_part free =
-        let all : reach ≡ length P = omega arith in (
-          omega arith,
-          no_end,
-          scan_open_append B P 0 Start s held ∙ ap (λ k. scan_from k s P) {x = 0 + length B} {y = length B} (omega arith)
-              ∙ ap (scan_from (length B) s) (sym (ap (λ n. take n P) all ∙ take-length P)) ∙ still,
-        )
+    pub reaches_part : (length B + reach ≡ line_limit → ⊥) → Reaches B P (Some (reach, Gathering next))
+    reaches_part free = (
+      reach_fits,
+      λ some. omega arith,
+      within,
+      (
+        omega (arith, joined_len reach B P reach_fits, within),
+        scan_open_append B (take reach P) 0 Start s held ∙ ap (λ k. scan_from k s (take reach P)) {x = 0 + length B} {y = length B} (omega arith) ∙ still,
+      ),
+      (omega arith, no_end),
+    )
 
 -- a cutter at work on these bytes
 abbrev pub at_work : ℕ → List ℕ → CutterState
@@ -99,24 +109,23 @@ is_at_work phase bytes B number h v w f e = sym v ∙ rebuilt e (ap (λ k. k.wai
   rebuilt : {x y : List ℕ} {p q : Bool} → x ≡ y → p ≡ false → q ≡ false → ◌≡◌ {A = CutterState} (record { number = number; bytes = x; waits = p; failed = q }) (at_work number y)
   rebuilt i j k = rw (i, j, k) refl
 
--- the line that the piece ends
-pub feeds_whole : (number : ℕ) (bytes piece new : List ℕ) (taken text_len : ℕ) → Reaches bytes piece (Whole taken text_len) → new ≡ bytes ++ take taken piece
-    → feed_outcome (at_work number bytes) piece ≡ (Ok taken, record { number = number; bytes = new; waits = true; failed = false })
-feeds_whole number bytes piece new taken text_len reaches is =
-    rw reaches.3 (both {a = length bytes + taken - length bytes} {b = taken} (omega arith) (take-append-add bytes piece taken ∙ sym is)) where
+-- the line takes so much of the piece
+pub feeds_on : (number : ℕ) (bytes piece new : List ℕ) (taken : ℕ) (phase : Phase) → Takes bytes piece taken phase → new ≡ bytes ++ take taken piece
+    → feed_outcome (at_work number bytes) piece ≡ (Ok taken, state_in phase new number)
+feeds_on number bytes piece new taken (Waiting text_len) takes is =
+    rw takes.4 (both {a = length bytes + taken - length bytes} {b = taken} (omega arith) (take-append-add bytes piece taken ∙ sym is)) where
       both : {a b : ℕ} {x y : List ℕ} → a ≡ b → x ≡ y
           → ◌≡◌ {A = Result ℕ CutFault × CutterState} (Ok a, record { number = number; bytes = x; waits = true; failed = false }) (Ok b, record { number = number; bytes = y; waits = true; failed = false })
       both p q = rw (p, q) refl
-
--- the piece that ends no line, and leaves room
-pub feeds_part : (number : ℕ) (bytes piece new : List ℕ) (next : ScanState) → Reaches bytes piece (Part next) → new ≡ bytes ++ piece
-    → feed_outcome (at_work number bytes) piece ≡ (Ok (length piece), at_work number new)
-feeds_part number bytes piece new next reaches is =
-    let room : nat_le line_limit (length (bytes ++ piece)) ≡ false = rw length-append (grind (arith, nat_tests)) in
-    rw (reaches.1, room, is) refl
+feeds_on number bytes piece new taken (Gathering next) takes is =
+    let all : new ≡ bytes ++ piece = is ∙ ap (λ n. bytes ++ take n piece) takes.4.0 ∙ ap (λ ys. bytes ++ ys) (take-length piece) in
+    let room : nat_le line_limit (length (bytes ++ piece)) ≡ false = rw length-append (let short : length (bytes ++ take taken piece) < line_limit = takes.3.0 in let len = joined_len taken bytes piece takes.0 in grind (arith, nat_tests)) in
+    rw (takes.4.1, room, all, takes.4.0) refl
+feeds_on number bytes piece new taken Lent takes is = absurd takes.4
+feeds_on number bytes piece new taken Failed takes is = absurd takes.4
 
 -- the piece that leaves none
-pub feeds_past : (number : ℕ) (bytes piece : List ℕ) → Reaches bytes piece TooLong
+pub feeds_past : (number : ℕ) (bytes piece : List ℕ) → Reaches bytes piece None
     → feed_outcome (at_work number bytes) piece ≡ (Err (LineTooLong number), record { number = number; bytes = bytes; waits = false; failed = true })
 feeds_past number bytes piece reaches =
     let full : nat_le line_limit (length (bytes ++ piece)) ≡ true = rw length-append (grind (arith, nat_tests)) in

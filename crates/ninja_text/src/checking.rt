@@ -1,6 +1,7 @@
 //! The lexical faults of a line's text.
 ghost use Rattle.std.specs.Prelude.{◌≡◌};
 ghost use Rattle.ninja_text.specs.Lexical.{unit_fault, lexical_fault};
+ghost use Rattle.ninja_text.specs.inner.PlainTexts.{is_suspect};
 
 use crate::fault::LexFault;
 use crate::unit::{LineUnit, unit_at};
@@ -9,20 +10,26 @@ use crate::unit::{LineUnit, unit_at};
 pub(crate) fn fault_in(text: &[u8]) -> Option<LexFault>
     ensures { result ≡ lexical_fault text.now }
 {
-    // Nearly no text has a byte that a fault begins with, or the `$` of a unit of several bytes.
-    if !text.iter().any(|b| matches!(*b, b'$' | 0 | b'\r')) {
+    // Nearly no text has such a byte.
+    if !text.iter().any(is_suspect) {
         return None;
     }
     let mut index = 0;
     while index < text.len() {
         let unit = unit_at(text, index);
-        let fault = fault_at(index, unit);
-        if fault.is_some() {
-            return fault;
+        if let Some(fault) = fault_at(index, unit) {
+            return Some(fault);
         }
         index += unit.len();
     }
     None
+}
+
+/// Whether a byte is one that a fault or a unit of several bytes begins with.
+fn is_suspect(byte: &u8) -> bool
+    ensures { result ≡ is_suspect byte.now }
+{
+    matches!(*byte, b'$' | 0 | b'\r')
 }
 
 /// The fault of a unit at an index.
@@ -31,9 +38,10 @@ fn fault_at(index: usize, unit: LineUnit) -> Option<LexFault>
 {
     match unit {
         LineUnit::Continuation(_) => None,
-        LineUnit::Escape(b'{' | b'_' | b'-' | b'a'..=b'z' | b'A'..=b'Z' | b'0'..=b'9') => Some(
-            LexFault::Variable { place: index },
-        ),
+        LineUnit::Escape(byte) if byte.is_ascii_alphanumeric() => Some(LexFault::Variable {
+            place: index,
+        }),
+        LineUnit::Escape(b'{' | b'_' | b'-') => Some(LexFault::Variable { place: index }),
         LineUnit::Escape(b'$' | b' ' | b':') => None,
         LineUnit::Escape(_) => Some(LexFault::BadEscape { place: index }),
         LineUnit::Byte(0) => Some(LexFault::Nul { place: index }),

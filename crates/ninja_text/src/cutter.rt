@@ -1,6 +1,6 @@
 //! Bytes that come in pieces, cut into logical lines.
 ghost use Rattle.std.specs.Prelude.{◌≡◌, ◌+◌, ◌<◌, ◌≤◌, List, [], length, false, IfOk};
-ghost use Rattle.ninja_text.specs.Lines.{is_comment};
+ghost use Rattle.ninja_text.specs.Lines.{is_comment, line_feeds_in};
 ghost use Rattle.ninja_text.specs.inner.Reaching.{IsGoing, Reaches};
 ghost use Rattle.ninja_text.specs.Phases.{PhaseFits, bytes_in};
 
@@ -101,15 +101,14 @@ impl LineCutter {
             Phase::Failed => Err(CutFault::LineTooLong { line: self.number }),
             Phase::Waiting { text_len } => {
                 let number = self.number;
-                let is_comment = begins_comment(self.buffer.as_slice());
-                let line_feeds = self.buffer.iter().filter(|b| **b == b'\n').count();
-                self.number = number.saturating_add(line_feeds as u64);
+                let line = self.buffer.as_slice();
+                self.number = number.saturating_add(line_feeds(line));
                 self.phase = Phase::Lent;
-                let text = &self.buffer.as_slice()[..text_len];
+                let text = &line[..text_len];
                 Ok(Some(Line {
                     text,
                     number,
-                    is_comment,
+                    is_comment: begins_comment(line),
                 }))
             }
             Phase::Lent | Phase::Gathering(_) => Ok(None),
@@ -148,32 +147,17 @@ impl LineCutter {
         let state = go_on(&mut self.buffer, self.phase);
         self.phase = Phase::Gathering(state);
         match reach_of(self.buffer.as_slice(), state, piece) {
-            Reach::Whole { taken, text_len } => {
+            Some((taken, phase)) => {
                 self.buffer.extend_from_slice(&piece[..taken])?;
-                self.phase = Phase::Waiting { text_len };
+                self.phase = phase;
                 Ok(taken)
             }
-            Reach::Part(next) => {
-                self.buffer.extend_from_slice(piece)?;
-                self.phase = Phase::Gathering(next);
-                Ok(piece.len())
-            }
-            Reach::TooLong => {
+            None => {
                 self.phase = Phase::Failed;
                 Err(Failure::Fault(CutFault::LineTooLong { line: self.number }))
             }
         }
     }
-}
-
-/// How far the line that is cut goes into a piece.
-enum Reach {
-    /// To its end, after that many bytes of the piece; its text has this length.
-    Whole { taken: usize, text_len: usize },
-    /// To the piece's end, and on.
-    Part(ScanState),
-    /// Past the limit.
-    TooLong,
 }
 
 /// The state of the line that is cut. A line that was lent is given up.
@@ -191,23 +175,21 @@ fn go_on(buffer: &mut Vec<u8>, phase: Phase) -> ScanState
     }
 }
 
-/// How far the line goes whose beginning is in the buffer.
-fn reach_of(buffer: &[u8], state: ScanState, piece: &[u8]) -> Reach
+/// How many bytes of the piece the line takes whose beginning is in the buffer, and its phase then;
+/// `None` where it is past the limit.
+fn reach_of(buffer: &[u8], state: ScanState, piece: &[u8]) -> Option<(usize, Phase)>
     requires { PhaseFits (Phase.Gathering state) buffer.now }
     ensures { Reaches buffer.now piece.now result }
 {
     let held = buffer.len();
     let reach = piece.len().min(LINE_LIMIT - held);
     match scan_bytes(held, state, &piece[..reach]) {
-        Scanned::End { text_len, line_len } => Reach::Whole {
-            taken: line_len - held,
-            text_len,
-        },
+        Scanned::End { text_len, line_len } => Some((line_len - held, Phase::Waiting { text_len })),
         Scanned::Open(next) => {
             if held + reach == LINE_LIMIT {
-                Reach::TooLong
+                None
             } else {
-                Reach::Part(next)
+                Some((reach, Phase::Gathering(next)))
             }
         }
     }
@@ -223,4 +205,17 @@ fn begins_comment(bytes: &[u8]) -> bool
         }
     }
     false
+}
+
+/// How many of the bytes are LF.
+fn line_feeds(bytes: &[u8]) -> u64
+    ensures { result ≡ line_feeds_in bytes.now }
+{
+    let mut count = 0;
+    for byte in bytes {
+        if *byte == b'\n' {
+            count += 1;
+        }
+    }
+    count
 }

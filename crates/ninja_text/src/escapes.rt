@@ -1,10 +1,17 @@
 //! Spellings of paths in Ninja files.
 ghost use Rattle.std.specs.Prelude.{◌≡◌, ◌↔◌, ◌++◌, IsTrue, OnOk, OnErr};
 ghost use Rattle.ninja_text.specs.Bytes.{PathText};
-ghost use Rattle.ninja_text.specs.Escapes.{is_writable, IsWritable, escaped, escaped_byte, Spells};
+ghost use Rattle.ninja_text.specs.Escapes.{is_writable, is_escaped, IsWritable, escaped, escaped_byte, Spells};
 
 use crate::reduction::first_unwritable;
 use std::alloc::AllocError;
+
+/// Whether a byte needs a `$` before it.
+fn is_escaped(byte: &u8) -> bool
+    ensures { result ≡ is_escaped byte.now }
+{
+    matches!(*byte, b'$' | b' ' | b':')
+}
 
 /// Appends a byte with a `$` before it where it needs one.
 fn push_escaped(out: &mut Vec<u8>, byte: u8) -> Result<(), AllocError>
@@ -34,7 +41,7 @@ pub fn escape_into(path: &[u8], out: &mut Vec<u8>) -> Result<(), AllocError>
     ensures meaning { (value : PathText) → Spells (escaped path.now) value ↔ (value ≡ path.now) }
 {
     // Nearly no path has such a byte.
-    if !path.iter().any(|b| matches!(*b, b'$' | b' ' | b':')) {
+    if !path.iter().any(is_escaped) {
         return out.extend_from_slice(path);
     }
     let start = out.len();

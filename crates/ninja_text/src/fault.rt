@@ -24,12 +24,12 @@ impl fmt::Display for PathFault {
     ghost output = { λ fault. Some (path_fault_text fault) };
 
     fn fmt<W: fmt::Write>(&self, f: &mut fmt::Formatter<W>) -> fmt::Result {
-        match self {
-            PathFault::Empty => f.write_str("N1 Empty"),
-            PathFault::AboveRoot => f.write_str("N2 AboveRoot"),
-            PathFault::Unwritable { place: _ } => f.write_str("N3 Unwritable"),
-            PathFault::TooLong => f.write_str("N4 TooLong"),
-        }
+        f.write_str(match self {
+            PathFault::Empty => "N1 Empty",
+            PathFault::AboveRoot => "N2 AboveRoot",
+            PathFault::Unwritable { place: _ } => "N3 Unwritable",
+            PathFault::TooLong => "N4 TooLong",
+        })
     }
 }
 
@@ -49,10 +49,10 @@ impl fmt::Display for CutFault {
     ghost output = { λ fault. Some (cut_fault_text fault) };
 
     fn fmt<W: fmt::Write>(&self, f: &mut fmt::Formatter<W>) -> fmt::Result {
-        match self {
-            CutFault::LineTooLong { line: _ } => f.write_str("N5 LineTooLong"),
-            CutFault::Truncated { line: _ } => f.write_str("N6 Truncated"),
-        }
+        f.write_str(match self {
+            CutFault::LineTooLong { line: _ } => "N5 LineTooLong",
+            CutFault::Truncated { line: _ } => "N6 Truncated",
+        })
     }
 }
 
@@ -78,11 +78,12 @@ impl fmt::Display for LexFault {
     ghost output = { λ fault. Some (lex_fault_text fault) };
 
     fn fmt<W: fmt::Write>(&self, f: &mut fmt::Formatter<W>) -> fmt::Result {
-        match self {
-            LexFault::Nul { place } => write!(f, "N7 Nul at {place}"),
-            LexFault::LoneCr { place } => write!(f, "N8 LoneCr at {place}"),
-            LexFault::Variable { place } => write!(f, "N9 Variable at {place}"),
-            LexFault::BadEscape { place } => write!(f, "N10 BadEscape at {place}"),
-        }
+        let (name, place) = match self {
+            LexFault::Nul { place } => ("N7 Nul", place),
+            LexFault::LoneCr { place } => ("N8 LoneCr", place),
+            LexFault::Variable { place } => ("N9 Variable", place),
+            LexFault::BadEscape { place } => ("N10 BadEscape", place),
+        };
+        write!(f, "{name} at {place}")
     }
 }

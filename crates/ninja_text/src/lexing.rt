@@ -24,12 +24,10 @@ pub fn words(line: Line<'_>) -> Result<Words<'_>, LexFault>
         (λ words. AllByRecursion (IsSlice (seen_line line.entry).text) (tokens_left words)) }
     ensures rise { IfOk result (λ words. RiseFrom 0 (tokens_left words)) }
 {
-    match fault_in(line.text()) {
+    let text = line.text();
+    match fault_in(text) {
         Some(fault) => Err(fault),
-        None => Ok(Words {
-            text: line.text(),
-            index: 0,
-        }),
+        None => Ok(Words { text, index: 0 }),
     }
 }
 

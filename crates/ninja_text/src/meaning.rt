@@ -19,9 +19,9 @@ pub(crate) fn append_meaning(raw: &[u8], out: &mut Vec<u8>) -> Result<(), AllocE
     let mut index = 0;
     while index < raw.len() {
         let unit = unit_at(raw, index);
-        if append_unit(unit, out).is_err() {
+        if let Err(e) = append_unit(unit, out) {
             out.truncate(before);
-            return Err(AllocError);
+            return Err(e);
         }
         index += unit.len();
     }
@@ -35,9 +35,6 @@ fn append_unit(unit: LineUnit, out: &mut Vec<u8>) -> Result<(), AllocError>
 {
     match unit {
         LineUnit::Continuation(_) => Ok(()),
-        LineUnit::Escape(byte) | LineUnit::Byte(byte) => {
-            out.push(byte)?;
-            Ok(())
-        }
+        LineUnit::Escape(byte) | LineUnit::Byte(byte) => out.extend_from_slice(&[byte]),
     }
 }

@@ -109,8 +109,7 @@ pub fn place(
     match work {
         Some(work) if !work.is_empty() && !reduction::is_rooted(path) => {
             let mut text = Vec::from_slice(alloc, work)?;
-            text.push(b'/')?;
-            text.extend_from_slice(path)?;
+            reduction::append(&mut text, path)?;
             canonical(alloc, build, &text)
         }
         _ => canonical(alloc, build, path),

@@ -4,9 +4,9 @@
 //! absolute path begins with. It is never longer than the text that is read. A text whose
 //! components are all names is its own list, and is copied whole; of any other the list is made in
 //! one pass.
-ghost use Rattle.std.specs.Prelude.{◌≡◌, ◌≢◌, ℕ, ◌+◌, ◌-◌, ◌<◌, ◌≤◌, ◌&&◌, ◌||◌, List, [], ◌∷◌, ◌++◌, length, slice_index, take, MatchOption, IfOk, OnOk, true, false, position};
+ghost use Rattle.std.specs.Prelude.{◌≡◌, ◌≢◌, ℕ, ◌+◌, ◌-◌, ◌<◌, ◌≤◌, ◌==◌, ◌&&◌, ◌||◌, List, [], ◌∷◌, ◌++◌, length, slice_index, take, MatchOption, IfOk, OnOk, true, false, position};
 ghost use Rattle.std.specs.List.{list_any};
-ghost use Rattle.ninja_text.specs.Bytes.{Component};
+ghost use Rattle.ninja_text.specs.Bytes.{Component, slash};
 ghost use Rattle.ninja_text.specs.Escapes.{is_unwritable};
 ghost use Rattle.ninja_text.specs.Reduction.{components, is_current, is_parent, reduced};
 ghost use Rattle.ninja_text.specs.PathShape.{parts};
@@ -23,7 +23,7 @@ pub(crate) fn reduce(alloc: Global, text: &[u8]) -> Result<Vec<u8>, AllocError>
         return Vec::from_slice(alloc, text);
     }
     let mut list = Vec::with_capacity(alloc, text.len())?;
-    for component in text.split(|b| *b == b'/') {
+    for component in text.split(is_slash) {
         put(&mut list, component)?;
     }
     Ok(list)
@@ -34,9 +34,7 @@ pub(crate) fn reduce(alloc: Global, text: &[u8]) -> Result<Vec<u8>, AllocError>
 fn is_reduced(text: &[u8]) -> bool
     ensures { result ≡ true → parts text.now ≡ components text.now }
 {
-    !text
-        .split(|b| *b == b'/')
-        .any(|part| is_current(part) || is_parent(part))
+    !text.split(is_slash).any(is_no_name)
 }
 
 /// Whether a text is absolute and its canonical list leads above the root.
@@ -44,21 +42,21 @@ pub(crate) fn is_above_root(text: &[u8], list: &[u8]) -> bool
     requires { list.now ≡ reduced_text text.now }
     ensures { result ≡ (is_rooted text.now && list_any is_parent (parts text.now)) }
 {
-    is_rooted(text) && list.split(|b| *b == b'/').any(is_parent)
+    is_rooted(text) && list.split(is_slash).any(is_parent)
 }
 
 /// The index of the first byte of a text that has no spelling in a Ninja file.
 pub(crate) fn first_unwritable(text: &[u8]) -> Option<usize>
     ensures { result ≡ position is_unwritable text.now }
 {
-    text.iter().position(|b| is_unwritable(*b))
+    text.iter().position(is_unwritable)
 }
 
 /// Whether a byte has no spelling in a Ninja file.
-pub(crate) fn is_unwritable(byte: u8) -> bool
-    ensures { result ≡ is_unwritable byte }
+pub(crate) fn is_unwritable(byte: &u8) -> bool
+    ensures { result ≡ is_unwritable byte.now }
 {
-    matches!(byte, b'|' | 0 | b'\r' | b'\n')
+    matches!(*byte, b'|' | 0 | b'\r' | b'\n')
 }
 
 /// Whether a text begins with `/`.
@@ -92,8 +90,8 @@ fn put(list: &mut Vec<u8>, component: &[u8]) -> Result<(), AllocError>
     }
 }
 
-/// Writes a component after a list.
-fn append(list: &mut Vec<u8>, component: &[u8]) -> Result<(), AllocError>
+/// Writes a component after a list, with a slash between them where the list is not empty.
+pub(crate) fn append(list: &mut Vec<u8>, component: &[u8]) -> Result<(), AllocError>
     ensures { OnOk result (list.new.items ≡ appended list.old.items component.now) }
 {
     if !list.is_empty() {
@@ -124,7 +122,24 @@ fn last_start(list: &[u8]) -> usize
     ensures slash { 0 < result → slice_index list.now (result - 1) ≡ 47 }
     ensures rest { (k : ℕ) → result ≤ k → k < length list.now → slice_index list.now k ≢ 47 }
 {
-    list.iter().rposition(|b| *b == b'/').map_or(0, |i| i + 1)
+    match list.iter().rposition(is_slash) {
+        Some(index) => index + 1,
+        None => 0,
+    }
+}
+
+/// Whether a byte is what separates components.
+fn is_slash(byte: &u8) -> bool
+    ensures { result ≡ (byte.now == slash) }
+{
+    *byte == b'/'
+}
+
+/// Whether a component is no name.
+fn is_no_name(component: &[u8]) -> bool
+    ensures { result ≡ (is_current component.now || is_parent component.now) }
+{
+    is_current(component) || is_parent(component)
 }
 
 /// Whether a component is empty or `.`.

@@ -67,7 +67,11 @@ impl LineUnit {
     pub(crate) fn is_name_part(&self) -> bool
         ensures { result ≡ is_name_unit self.now }
     {
-        matches!(self, LineUnit::Byte(b'_' | b'.' | b'-' | b'a'..=b'z' | b'A'..=b'Z' | b'0'..=b'9'))
+        match self {
+            LineUnit::Byte(byte) => byte.is_ascii_alphanumeric()
+                || matches!(*byte, b'_' | b'.' | b'-'),
+            LineUnit::Escape(_) | LineUnit::Continuation(_) => false,
+        }
     }
 }
 

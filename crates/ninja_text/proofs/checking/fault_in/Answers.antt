@@ -1,5 +1,5 @@
-use Rattle.std.proofs.Common.{arith, rules, tests, ◌≡◌, true, false, Some, None, refl, sym, ap, ◌∙◌}
-use Rattle.std.specs.Prelude.{Option, is_some}
+use Rattle.std.proofs.Common.{arith, rules, tests, ◌≡◌, Some, None, refl, sym, ap, ◌∙◌}
+use Rattle.std.specs.Prelude.{Option}
 use Rattle.std.specs.List.{list_any}
 use Rattle.std.proofs.lemmas.List.{at_drop_all}
 use Rattle.std.proofs.lemmas.Iterator.{YieldsList-from_slice}
@@ -16,26 +16,24 @@ returns-then-not-any c =
     let found : c.any.result ≡ list_any is_suspect c.args.text.now = any_from_yields_List is_suspect _ _ c.any.result c.any.ensures.ran (YieldsList-from_slice c.args.text.now cc) (λ x b q k. search (rules, tests)) in
     sym (no_suspect c.args.text.now (sym found ∙ c.if-not-any.true))
 
-none_earlier : (r later : Option LexFault) → is_some r ≡ false → earlier r later ≡ later
-none_earlier None later h = refl
-none_earlier (Some fault) later h = absurd (cc)
+none_earlier : (r later : Option LexFault) → r ≡ None → earlier r later ≡ later
+none_earlier r later h = rw h refl
 
-some_earlier : (r later : Option LexFault) → is_some r ≡ true → earlier r later ≡ r
-some_earlier None later h = absurd (cc)
-some_earlier (Some fault) later h = refl
+some_earlier : (r later : Option LexFault) (fault : LexFault) → r ≡ Some fault → earlier r later ≡ Some fault
+some_earlier r later fault h = rw h refl
 
 pub loop-index-preserved : goal.loop-index-preserved
 loop-index-preserved c =
-    let none : is_some (unit_fault c.loop-index.index c.unit_at-unit.result) ≡ false = sym (ap is_some c.fault_at-fault.ensures) ∙ sym c.is_some.ensures ∙ c.if-is_some.false in
+    let none : unit_fault c.loop-index.index c.unit_at-unit.result ≡ None = sym c.fault_at.ensures ∙ c.in_default.is in
     record {
       within = omega (arith, c.unit_at-unit.ensures.within, c.len-index.ensures);
       fault = rw c.len-index.ensures (sym (none_earlier (unit_fault c.loop-index.index c.unit_at-unit.result) _ none) ∙ sym (ap (first_fault c.loop-index.index) c.unit_at-unit.ensures.first) ∙ c.loop-index.invariant.fault);
     }
 
-pub returns-then-is_some : goal.returns-then-is_some
-returns-then-is_some c =
-    let some : is_some (unit_fault c.loop-index.index c.unit_at-unit.result) ≡ true = sym (ap is_some c.fault_at-fault.ensures) ∙ sym c.is_some.ensures ∙ c.if-is_some.true in
-    c.fault_at-fault.ensures ∙ sym (some_earlier (unit_fault c.loop-index.index c.unit_at-unit.result) _ some)
+pub returns-in-Some : goal.returns-in-Some
+returns-in-Some c =
+    let some : unit_fault c.loop-index.index c.unit_at-unit.result ≡ Some c.in-Some.fault = sym c.fault_at.ensures ∙ c.in-Some.is in
+    sym (some_earlier (unit_fault c.loop-index.index c.unit_at-unit.result) _ c.in-Some.fault some)
     ∙ sym (ap (first_fault c.loop-index.index) c.unit_at-unit.ensures.first) ∙ c.loop-index.invariant.fault
 
 pub loop-index-init : goal.loop-index-init

@@ -5,7 +5,7 @@ use Rattle.ninja_text.proofs.SpanLemmas.{tokens_are_slices, tokens_rise}
 use Rattle.ninja_text.proofs.lexing.words.Goals as goal
 
 pub returns-in-None-clause-slices : goal.returns-in-None-clause-slices
-returns-in-None-clause-slices c = subst (λ text. AllByRecursion (IsSlice c.args.line.text.now) (seen_tokens text)) (sym c.text-in-None.ensures) (tokens_are_slices c.args.line.text.now)
+returns-in-None-clause-slices c = subst (λ text. AllByRecursion (IsSlice c.args.line.text.now) (seen_tokens text)) (sym c.text-text.ensures) (tokens_are_slices c.args.line.text.now)
 
 pub returns-in-None-clause-rise : goal.returns-in-None-clause-rise
-returns-in-None-clause-rise c = tokens_rise c.text-in-None.result.now
+returns-in-None-clause-rise c = tokens_rise c.text-text.result.now

@@ -1,7 +1,5 @@
-use Rattle.std.proofs.Common.{rules, arith, ◌≡◌, ℕ, ◌+◌, ◌≤◌, List, ◌∷◌, ◌++◌, length, take, drop, Ok, Err, OnOk, false, true, append_assoc, length-append, subst, refl, sym, ap, ◌∙◌}
-use Rattle.std.specs.Prelude.{Result, OnErr, is_err}
+use Rattle.std.proofs.Common.{rules, arith, ◌≡◌, ℕ, ◌+◌, ◌≤◌, List, ◌∷◌, ◌++◌, length, take, drop, OnOk, append_assoc, length-append, subst, refl, sym, ap, ◌∙◌}
 use Rattle.std.proofs.lemmas.List.{append-nil, at_drop_all, take-append-le, take_all}
-use Rattle.std.proofs.lemmas.Grind.{common_steps}
 use Rattle.std.specs.List.{flat_map}
 use Rattle.ninja_text.specs.Units.{units}
 use Rattle.ninja_text.specs.Tokens.{unit_value, value_of}
@@ -32,7 +30,7 @@ pub loop-index-preserved : goal.loop-index-preserved
 loop-index-preserved c =
     let so_far = c.loop-index.invariant in
     let u = c.unit_at-unit.result in
-    let is : c.append_unit.new.out.items ≡ c.loop-index.out.items ++ unit_value u = grind (arith, common_steps) in
+    let is : c.append_unit.new.out.items ≡ c.loop-index.out.items ++ unit_value u = c.in_default.ensures.ok in
     let here : units (drop c.loop-index.index c.args.raw.now) ≡ u ∷ units (drop (c.loop-index.index + c.len-index.result) c.args.raw.now) =
     rw c.len-index.ensures c.unit_at-unit.ensures.first in
     record {
@@ -48,15 +46,8 @@ loop-index-init c =
     let len : c.len-before.result ≡ length out.items = c.len-before.ensures ∙ out.ok.0 in
     record { within = omega arith; longer = omega arith; kept = take_all c.len-before.result out.items (omega arith); meaning = refl }
 
--- what holds where an error is answered
-where_err : {T E : Type 0} (P : Type 0) (r : Result T E) → is_err r ≡ true → OnErr r P → P
-where_err P (Ok x) h p = absurd (let clash : false ≡ true = h in cc)
-where_err P (Err e) h p = p
-
-pub returns-then-is_err-clause-err : goal.returns-then-is_err-clause-err
-returns-then-is_err-clause-err c =
-    let same : c.append_unit.new.out.items ≡ c.loop-index.out.items = where_err _ c.append_unit.result (sym c.is_err.ensures.value ∙ c.if-is_err.true) c.append_unit.ensures.err in
-    c.truncate.ensures.items ∙ ap (take c.len-before.result) same ∙ c.loop-index.invariant.kept
+pub returns-in-Err-clause-err : goal.returns-in-Err-clause-err
+returns-in-Err-clause-err c = c.truncate.ensures.items ∙ ap (take c.len-before.result) c.in-Err.ensures.err ∙ c.loop-index.invariant.kept
 
 pub returns-clause-ok : goal.returns-clause-ok
 returns-clause-ok c =
