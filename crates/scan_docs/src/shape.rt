@@ -158,14 +158,10 @@ pub(crate) fn texts(
     ensures { Tests (shape_check place member (fits texts member (view object.now)))
         (λ v. map string_bytes v.items ≡ texts_of member (view object.now)) result }
 {
-    let values = match given(object, member) {
-        None => return Ok(Vec::new(alloc)),
-        Some(value) => match elements(value) {
-            Some(list) => list,
-            None => return Err(bad_shape(place, member)),
-        },
-    };
-    copy_texts(alloc, values)?.ok_or(bad_shape(place, member))
+    match given(object, member) {
+        None => Ok(Vec::new(alloc)),
+        Some(_) => required_texts(alloc, object, member, place),
+    }
 }
 
 /// The member's texts, which have to be there.
