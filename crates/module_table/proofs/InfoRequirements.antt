@@ -56,6 +56,12 @@ module _ (t : TableValue) where
       (λ info. map_flat_map with_found (module_requirements info.0 info.1.target) _ info.1.modules
       (λ entry. map_map with_found (λ (r : List ℕ × List ℕ). requirement_of info.0 info.1.target entry r.0 r.1) entry.required))
 
+  -- and with the module of its name
+  pub found_there : (all : List InfoRequired) → AreLookedUp t all → (k : ℕ) (r : InfoRequired) → slice_get all k ≡ Some r → looked_up r ≡ with_found (requirement_seen r)
+  found_there all looked k r at =
+      let y = from_map with_found (info_requirements t) k (looked_up r) (ap (λ xs. slice_get xs k) (sym looked.same) ∙ to_map looked_up all k r at) in
+      sym y.2 ∙ ap (λ (x : LookedUp). with_found x.0) y.2
+
   -- what is looked up is the requirement at the same index
   pub required_there : (all : List InfoRequired) → AreLookedUp t all → (k : ℕ) (r : InfoRequired) → slice_get all k ≡ Some r → slice_get (info_requirements t) k ≡ Some (requirement_seen r)
   required_there all looked k r at =

@@ -1,5 +1,5 @@
 -- What has passed after each check, and which fault is reported by then.
-use Rattle.std.proofs.Common.{ℕ, ◌+◌, ◌≤◌, List, ◌++◌, length, map, slice_get, Some, ap, subst, sym, ◌∙◌, ⊎_elim, arith}
+use Rattle.std.proofs.Common.{ℕ, ◌+◌, ◌≤◌, List, ◌++◌, length, map, slice_get, Some, ap, subst, sym, ◌∙◌, ⊎_elim, arith, Box, Global}
 use Rattle.std.proofs.lemmas.Bool.{cases_eq}
 use Rattle.std.proofs.lemmas.Option.{slice_get-get_or}
 use Rattle.ninja_text.specs.Failure.{ForFault}
@@ -34,11 +34,11 @@ code_within (ObjectTwice path first second) = (omega arith, omega arith)
 code_within fault = (omega arith, omega arith)
 
 -- what is reported of one table whatever names are kept
-pub for_every_kept : (t : TableValue) (P : TableFault → Type 0) (failure : Failure TableFault) → ((kept : List (List ℕ)) (fault : TableFault) → P fault → IsReported t kept fault) → ForFault P failure → ForFault (λ fault. (kept : List (List ℕ)) → IsReported t kept fault) failure
+pub for_every_kept : (t : TableValue) (P : Box TableFault Global → Type 0) (failure : Failure (Box TableFault Global)) → ((kept : List (List ℕ)) (fault : Box TableFault Global) → P fault → IsReported t kept fault.value) → ForFault P failure → ForFault (λ fault. (kept : List (List ℕ)) → IsReported t kept fault.value) failure
 for_every_kept t P Memory to h = h
 for_every_kept t P (Fault fault) to h = λ kept. to kept fault h
 
-pub for_these_kept : (t : TableValue) (kept : List (List ℕ)) (failure : Failure TableFault) → ForFault (λ fault. (kept : List (List ℕ)) → IsReported t kept fault) failure → ForFault (IsReported t kept) failure
+pub for_these_kept : (t : TableValue) (kept : List (List ℕ)) (failure : Failure (Box TableFault Global)) → ForFault (λ fault. (kept : List (List ℕ)) → IsReported t kept fault.value) failure → ForFault (λ fault. IsReported t kept fault.value) failure
 for_these_kept t kept Memory h = h
 for_these_kept t kept (Fault fault) h = h kept
 

@@ -8,8 +8,8 @@ use Rattle.std.proofs.lemmas.Grind.{common_steps}
 use Rattle.std.proofs.lemmas.Option.{slice_get-get_or, slice_get_within, get_or_from_slice_get}
 use Rattle.std.proofs.lemmas.List.Quantifiers.{position-Some}
 use Rattle.std.proofs.lemmas.List.Sums.{fails_before_first}
-use Rattle.module_table.specs.inner.Finds.{AcceptsAll, FindsRefused}
-use Rattle.ninja_text.proofs.ForCallers.{from_push, take_next, to_map, from_map}
+use Rattle.module_table.specs.inner.Finds.{AcceptsAll, FindsRefused, RefusesAt}
+use Rattle.ninja_text.proofs.ForCallers.{from_push, in_take, take_next, to_map, from_map}
 
 module _ {X : Type 0} (Accepted Refused : X → Type 0) (xs : List X) (place : ℕ) (x : X) (at : slice_get xs place ≡ Some x) (before : AcceptsAll Accepted (take place xs)) where
   pub accepts_next : Accepted x → AcceptsAll Accepted (take (place + 1) xs)
@@ -17,6 +17,9 @@ module _ {X : Type 0} (Accepted Refused : X → Type 0) (xs : List X) (place : �
     where
       each : (k : ℕ) (y : X) → slice_get (take place xs ++ x ∷ []) k ≡ Some y → Accepted y
       each k y at_k = ⊎_elim (λ in_k. before.each k y in_k) (λ last. subst Accepted last.1 good) (from_push (take place xs) x k y at_k)
+
+  pub refuses_here : Refused x → RefusesAt Accepted Refused xs place
+  refuses_here bad = record { x = x; here = at; refused = bad; accepted = λ k y lt at_k. before.each k y (in_take place xs k y lt at_k) }
 
 -- the first element that a test refuses, in a list that says the same as the one that is tested
 module _ {X Y Z : Type 0} (f : X → Z) (g : Y → Z) (test : Z → Bool) (Accepted Refused : Y → Type 0) (decides : (y : Y) → MatchBool (test (g y)) (Accepted y) (Refused y)) where

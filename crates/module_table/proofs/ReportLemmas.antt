@@ -1,5 +1,5 @@
 -- What the checks report.
-use Rattle.std.proofs.Common.{◌≡◌, ℕ, zero, suc, ◌+◌, ◌<◌, ◌≤◌, ◌⊎◌, true, false, List, [], ◌∷◌, ◌++◌, length, map, take, Some, refl, ap, subst, sym, ◌∙◌, inl, inr, ⊎_elim, arith, slice_get}
+use Rattle.std.proofs.Common.{◌≡◌, ℕ, zero, suc, ◌+◌, ◌<◌, ◌≤◌, ◌⊎◌, true, false, List, [], ◌∷◌, ◌++◌, length, map, take, Some, refl, ap, subst, sym, ◌∙◌, inl, inr, ⊎_elim, arith, slice_get, Box, Global}
 use Rattle.std.specs.List.{enumerate_from}
 use Rattle.std.proofs.lemmas.List.{map-append}
 use Rattle.std.proofs.lemmas.Option.{slice_get_within}
@@ -21,9 +21,14 @@ use Rattle.module_table.proofs.Required.{from_provisions}
 use Rattle.module_table.proofs.Repetitions.{repetition_of}
 use Rattle.ninja_text.proofs.ForCallers.{in_take, same_some, to_map, in_first, in_second, from_map}
 
-pub for_fault : (P Q : TableFault → Type 0) (failure : Failure TableFault) → ((fault : TableFault) → P fault → Q fault) → ForFault P failure → ForFault Q failure
+pub for_fault : (P Q : Box TableFault Global → Type 0) (failure : Failure (Box TableFault Global)) → ((fault : Box TableFault Global) → P fault → Q fault) → ForFault P failure → ForFault Q failure
 for_fault P Q Memory to h = h
 for_fault P Q (Fault fault) to h = to fault h
+
+-- what is known of a fault is known of the failure that it makes
+pub for_boxed : (P : TableFault → Type 0) (fault : TableFault) (failure : Failure (Box TableFault Global)) → P fault → ForFault (λ boxed. boxed.value ≡ fault) failure → ForFault (λ boxed. P boxed.value) failure
+for_boxed P fault Memory is same = tt
+for_boxed P fault (Fault boxed) is same = subst P (sym same) is
 
 -- a fault that is another one in other words
 pub reports_same : (code : ℕ) (t : TableValue) (kept : List (List ℕ)) (fault other : TableFault) → fault ≡ other → Reports code t kept other → Reports code t kept fault

@@ -82,19 +82,20 @@ pub(crate) fn check_all<'t, S: BuildHasher + Copy>(
     kept: &[Name],
     paths: &mut IndexSet<&'t Path, S>,
     hash_builder: S,
-) -> Result<Index<S>, Failure<TableFault>>
+) -> Result<Index<S>, Failure<Box<TableFault>>>
     requires { IsEmpty paths.old }
     ensures no_fault { OnOk result
         (HasNoFault (table_with objects.now infos.now) kept.now) }
     ensures index { IfOk result (λ index. AreLookUps (table_with objects.now infos.now)
         index.names.keys index.origins.items index.graph
         (map (λ row. row.items) index.required.items)) }
-    ensures fault { IfErr result (ForFault
-        (IsReported (table_with objects.now infos.now) kept.now)) }
+    ensures fault { IfErr result (ForFault (λ fault.
+        IsReported (table_with objects.now infos.now) kept.now fault.value)) }
 {
     let modules = check_repetitions(alloc, objects, infos, paths, hash_builder)?;
     let indexes = check_requirements(alloc, &modules, kept)?;
-    Ok(Index::new(alloc, modules, indexes)?)
+    let index = Index::new(alloc, modules, indexes)?;
+    Ok(index)
 }
 
 /// M1 to M4, and the modules by index.
@@ -104,14 +105,14 @@ fn check_repetitions<'t, S: BuildHasher + Copy>(
     infos: &'t [Info],
     paths: &mut IndexSet<&'t Path, S>,
     hash_builder: S,
-) -> Result<Modules<'t, S>, Failure<TableFault>>
+) -> Result<Modules<'t, S>, Failure<Box<TableFault>>>
     requires { IsEmpty paths.old }
     ensures modules { IfOk result
         (λ modules. modules ≡ table_with objects.now infos.now) }
     ensures passed { OnOk result ((kept : List Name) →
         Passed 5 (table_with objects.now infos.now) kept) }
     ensures fault { IfErr result (ForFault (λ fault. (kept : List Name) →
-        IsReported (table_with objects.now infos.now) kept fault)) }
+        IsReported (table_with objects.now infos.now) kept fault.value)) }
 {
     check_objects(alloc, objects, paths)?;
     check_infos(alloc, infos, hash_builder)?;
@@ -125,11 +126,11 @@ fn check_requirements<S: BuildHasher>(
     alloc: Global,
     modules: &Modules<S>,
     kept: &[Name],
-) -> Result<Vec<Vec<usize>>, Failure<TableFault>>
+) -> Result<Vec<Vec<usize>>, Failure<Box<TableFault>>>
     requires { Passed 5 modules.now kept.now }
     ensures indexes { IfOk result (λ indexes. AreIndexes modules.now (rows indexes.items)) }
     ensures passed { OnOk result (Passed 11 modules.now kept.now) }
-    ensures fault { IfErr result (ForFault (IsReported modules.now kept.now)) }
+    ensures fault { IfErr result (ForFault (λ fault. IsReported modules.now kept.now fault.value)) }
 {
     let indexes = check_objects_known(alloc, modules)?;
     let required = all_required(alloc, modules)?;
@@ -151,12 +152,12 @@ fn check_looked_up<S: BuildHasher>(
     indexes: &[Vec<usize>],
     required: &[InfoRequired],
     kept: &[Name],
-) -> Result<(), Failure<TableFault>>
+) -> Result<(), Failure<Box<TableFault>>>
     requires indexes { AreIndexes modules.now (rows indexes.now) }
     requires required { AreLookedUp modules.now required.now }
     requires passed { Passed 6 modules.now kept.now }
     ensures passed { OnOk result (Passed 11 modules.now kept.now) }
-    ensures fault { IfErr result (ForFault (IsReported modules.now kept.now)) }
+    ensures fault { IfErr result (ForFault (λ fault. IsReported modules.now kept.now fault.value)) }
 {
     check_infos_known(alloc, modules, required)?;
     check_infos_agree(alloc, modules, required)?;
@@ -171,12 +172,12 @@ fn check_allowed<S: BuildHasher>(
     indexes: &[Vec<usize>],
     required: &[InfoRequired],
     kept: &[Name],
-) -> Result<(), Failure<TableFault>>
+) -> Result<(), Failure<Box<TableFault>>>
     requires indexes { AreIndexes modules.now (rows indexes.now) }
     requires required { AreLookedUp modules.now required.now }
     requires passed { Passed 9 modules.now kept.now }
     ensures passed { OnOk result (Passed 11 modules.now kept.now) }
-    ensures fault { IfErr result (ForFault (IsReported modules.now kept.now)) }
+    ensures fault { IfErr result (ForFault (λ fault. IsReported modules.now kept.now fault.value)) }
 {
     check_objects_allowed(alloc, modules, indexes)?;
     check_infos_allowed(alloc, modules, required)?;

@@ -1,7 +1,10 @@
 //! Why a table cannot be built.
+ghost use Rattle.std.specs.Prelude.{◌≡◌};
+ghost use Rattle.ninja_text.specs.Failure.{ForFault};
 
-use ninja_text::Path;
+use ninja_text::{Failure, Path};
 use scan_docs::{Info, Name, Rule, TargetName};
+use std::alloc::Global;
 use std::fmt;
 use thiserror::Error;
 
@@ -109,6 +112,16 @@ impl TableFault {
             TableFault::ModulePrivate { .. } => "M9 ModulePrivate",
             TableFault::PrivateUnknown { .. } => "M10 PrivateUnknown",
         }
+    }
+}
+
+/// The failure of a check that finds this fault. It is boxed, so that what a check answers is small.
+pub(crate) fn failure_of(alloc: Global, fault: TableFault) -> Failure<Box<TableFault>>
+    ensures { ForFault (λ boxed. boxed.value ≡ fault) result }
+{
+    match Box::new(alloc, fault) {
+        Ok(boxed) => Failure::Fault(boxed),
+        Err(_) => Failure::Memory,
     }
 }
 

@@ -1,5 +1,5 @@
 //! What the modules of infos require, each name looked up once.
-ghost use Rattle.std.specs.Prelude.{◌≡◌, ◌<◌, ◌++◌, map, length, slice_get, Some, IfOk, OnOk};
+ghost use Rattle.std.specs.Prelude.{◌≡◌, ◌++◌, map, IfOk, OnOk};
 ghost use Rattle.std.specs.List.{flat_map};
 ghost use Rattle.module_table.specs.Modules.{provisions};
 ghost use Rattle.module_table.specs.inner.Found.{looked_up, lookup_of, lookups_of, AreLookedUp};
@@ -89,14 +89,4 @@ fn look_up<'m, 't, S: BuildHasher>(
         file: &pair.1,
         module: modules.find(&pair.0),
     }
-}
-
-pub(crate) fn required_at<'r, 'm, 't>(
-    all: &'r [InfoRequired<'m, 't>],
-    index: usize,
-) -> &'r InfoRequired<'m, 't>
-    requires { index < length all.now }
-    ensures { slice_get all.now index ≡ Some result.now }
-{
-    &all[index]
 }

@@ -140,7 +140,7 @@ impl<S: BuildHasher + Copy> Table<S> {
             }),
             Err(Failure::Memory) => Err(Failure::Memory),
             Err(Failure::Fault(fault)) => Err(Failure::Fault(RefusedTable {
-                fault,
+                fault: Box::into_inner(fault),
                 objects,
                 infos,
             })),

@@ -1,6 +1,6 @@
 //! M9 and M10: who requires a module that is private to an info's target, and which modules of the
 //! target are to be private.
-ghost use Rattle.std.specs.Prelude.{◌≡◌, ◌<◌, ℕ, List, length, map, slice_get, Some, position, not, IfOk, IfErr, OnOk};
+ghost use Rattle.std.specs.Prelude.{◌≡◌, ℕ, List, map, position, not, IfErr, OnOk};
 ghost use Rattle.ninja_text.specs.Bytes.{Name};
 ghost use Rattle.ninja_text.specs.Failure.{ForFault};
 ghost use Rattle.dep_order.specs.Rows.{rows};
@@ -13,12 +13,12 @@ ghost use Rattle.module_table.specs.inner.Reported.{Reports};
 ghost use Rattle.module_table.specs.inner.Views.{names_of, provision_of};
 ghost use Rattle.module_table.specs.declared.fault.TableFault.TheVariants.{ModulePrivate};
 
-use crate::fault::{Maker, TableFault};
+use crate::fault::{Maker, TableFault, failure_of};
 use crate::modules::{Module, Modules};
-use crate::requirements::{InfoRequired, required_at};
+use crate::requirements::InfoRequired;
 use ninja_text::Failure;
 use scan_docs::Name;
-use std::alloc::{AllocError, Global};
+use std::alloc::Global;
 use std::hash::BuildHasher;
 
 /// M9: no object requires a module that is private to an info. Each object has a row of the indexes
@@ -27,12 +27,12 @@ pub(crate) fn check_objects_allowed<S: BuildHasher>(
     alloc: Global,
     modules: &Modules<S>,
     required: &[Vec<usize>],
-) -> Result<(), Failure<TableFault>>
+) -> Result<(), Failure<Box<TableFault>>>
     requires { AreIndexes modules.now (rows required.now) }
     ensures ok { OnOk result
         (AcceptsAll (RequiresPublic (provisions modules.now)) modules.now.objects) }
     ensures fault { IfErr result (ForFault
-        (λ fault. (kept : List Name) → Reports 9 modules.now kept fault)) }
+        (λ fault. (kept : List Name) → Reports 9 modules.now kept fault.value)) }
 {
     let provided = modules.provided();
     for (object, row) in required.iter().enumerate() {
@@ -40,8 +40,7 @@ pub(crate) fn check_objects_allowed<S: BuildHasher>(
             None => {}
             Some(index) => {
                 let name = modules.name_at(row[index]);
-                let fault = private_fault(alloc, modules, name, Maker::Object(object))?;
-                return Err(Failure::Fault(fault));
+                return Err(requires_private(alloc, modules, name, Maker::Object(object)));
             }
         }
     }
@@ -53,23 +52,21 @@ pub(crate) fn check_infos_allowed<S: BuildHasher>(
     alloc: Global,
     modules: &Modules<S>,
     all: &[InfoRequired],
-) -> Result<(), Failure<TableFault>>
+) -> Result<(), Failure<Box<TableFault>>>
     requires all { AreLookedUp modules.now all.now }
     requires public { AcceptsAll (RequiresPublic (provisions modules.now)) modules.now.objects }
     ensures ok { OnOk result
         (AcceptsAll (IsAllowed (provisions modules.now)) (info_requirements modules.now)) }
     ensures fault { IfErr result (ForFault
-        (λ fault. (kept : List Name) → Reports 9 modules.now kept fault)) }
+        (λ fault. (kept : List Name) → Reports 9 modules.now kept fault.value)) }
 {
-    match first_not_allowed(all) {
-        None => Ok(()),
-        Some(index) => {
-            let required = required_at(all, index);
+    for required in all {
+        if !is_allowed(required) {
             let user = Maker::Info(required.info);
-            let fault = private_fault(alloc, modules, required.name, user)?;
-            Err(Failure::Fault(fault))
+            return Err(requires_private(alloc, modules, required.name, user));
         }
     }
+    Ok(())
 }
 
 /// M10: each name that is to be private is provided by an object.
@@ -77,36 +74,38 @@ pub(crate) fn check_kept<S: BuildHasher>(
     alloc: Global,
     modules: &Modules<S>,
     kept: &[Name],
-) -> Result<(), Failure<TableFault>>
+) -> Result<(), Failure<Box<TableFault>>>
     requires { AllDiffer (names_of (provisions modules.now)) }
     ensures ok { OnOk result (AcceptsAll (IsByObject (provisions modules.now)) kept.now) }
-    ensures fault { IfErr result (ForFault (Reports 10 modules.now kept.now)) }
+    ensures fault { IfErr result (ForFault (λ fault. Reports 10 modules.now kept.now fault.value)) }
 {
-    match first_not_by_object(modules, kept) {
-        None => Ok(()),
-        Some(index) => {
-            let name = name_at(kept, index).copy(alloc)?;
-            Err(Failure::Fault(TableFault::PrivateUnknown { name }))
+    for name in kept {
+        if !is_by_object(modules, name) {
+            let name = name.copy(alloc)?;
+            return Err(failure_of(alloc, TableFault::PrivateUnknown { name }));
         }
     }
+    Ok(())
 }
 
-/// The fault that a private module is required.
-fn private_fault<S: BuildHasher>(
+/// The failure that a private module is required.
+fn requires_private<S: BuildHasher>(
     alloc: Global,
     modules: &Modules<S>,
     name: &Name,
     user: Maker,
-) -> Result<TableFault, AllocError>
+) -> Failure<Box<TableFault>>
     requires differ { AllDiffer (names_of (provisions modules.now)) }
     requires private { IsPrivate (provisions modules.now) name.now }
-    ensures { IfOk result (λ fault. (info : ℕ)
+    ensures { ForFault (λ fault. (info : ℕ)
         × IsPrivateTo (provisions modules.now) name.now info
-        × (fault ≡ ModulePrivate name.now info user)) }
+        × (fault.value ≡ ModulePrivate name.now info user)) result }
 {
     let info = info_of(modules, name);
-    let name = name.copy(alloc)?;
-    Ok(TableFault::ModulePrivate { name, info, user })
+    match name.copy(alloc) {
+        Ok(name) => failure_of(alloc, TableFault::ModulePrivate { name, info, user }),
+        Err(_) => Failure::Memory,
+    }
 }
 
 /// The info that the module of that name is private to.
@@ -132,19 +131,6 @@ fn first_private(provided: &[Module], indexes: &[usize]) -> Option<usize>
     indexes
         .iter()
         .position(|index| !is_public_at(provided, *index))
-}
-
-fn first_not_allowed(all: &[InfoRequired]) -> Option<usize>
-    ensures { result ≡ position (λ r. not (is_allowed (looked_up r))) all.now }
-{
-    all.iter().position(|required| !is_allowed(required))
-}
-
-fn first_not_by_object<S: BuildHasher>(modules: &Modules<S>, names: &[Name]) -> Option<usize>
-    ensures { result ≡ position
-        (λ name. not (is_by_object (provisions modules.now) name)) names.now }
-{
-    names.iter().position(|name| !is_by_object(modules, name))
 }
 
 /// Whether the module of that name is private to no other info.
@@ -188,11 +174,4 @@ fn is_by_object<S: BuildHasher>(modules: &Modules<S>, name: &Name) -> bool
         },
         None => false,
     }
-}
-
-fn name_at(names: &[Name], index: usize) -> &Name
-    requires { index < length names.now }
-    ensures { slice_get names.now index ≡ Some result.now }
-{
-    &names[index]
 }

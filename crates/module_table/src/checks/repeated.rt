@@ -11,7 +11,7 @@ ghost use Rattle.ninja_text.specs.Firsts.{AllDiffer, RepeatsFirst};
 ghost use Rattle.module_table.specs.inner.Views.{provision_of, names_of, files_of, IsProvidedTwice, IsMadeTwice};
 ghost use Rattle.module_table.specs.inner.Reported.{Reports};
 
-use crate::fault::{Maker, TableFault};
+use crate::fault::{Maker, TableFault, failure_of};
 use crate::modules::{Module, Modules, module_at, provided_modules};
 use indexmap::IndexSet;
 use ninja_text::{Failure, Path};
@@ -24,24 +24,25 @@ pub(crate) fn check_objects<'t, S: BuildHasher>(
     alloc: Global,
     objects: &'t [Rule],
     paths: &mut IndexSet<&'t Path, S>,
-) -> Result<(), Failure<TableFault>>
+) -> Result<(), Failure<Box<TableFault>>>
     requires { IsEmpty paths.old }
     ensures paths { OnOk result
         (map (λ path. path.now) paths.new.keys ≡ map (λ rule. rule.object) objects.now) }
     ensures differ { OnOk result (AllDiffer (map (λ rule. rule.object) objects.now)) }
     ensures fault { IfErr result (ForFault (λ fault. (t : TableValue) (kept : List Name) →
-        objects.now ≡ t.objects → Reports 1 t kept fault)) }
+        objects.now ≡ t.objects → Reports 1 t kept fault.value)) }
 {
     paths.reserve(objects.len())?;
     for (index, rule) in objects.iter().enumerate() {
         let (first, is_new) = paths.insert_full(&rule.object)?;
         if !is_new {
             let path = rule.object.copy(alloc)?;
-            return Err(Failure::Fault(TableFault::ObjectTwice {
+            let fault = TableFault::ObjectTwice {
                 path,
                 first: Maker::Object(first),
                 second: Maker::Object(index),
-            }));
+            };
+            return Err(failure_of(alloc, fault));
         }
     }
     Ok(())
@@ -52,10 +53,10 @@ pub(crate) fn check_infos<S: BuildHasher + Copy>(
     alloc: Global,
     infos: &[Info],
     hash_builder: S,
-) -> Result<(), Failure<TableFault>>
+) -> Result<(), Failure<Box<TableFault>>>
     ensures ok { OnOk result (AllDiffer (map (λ info. info.target) infos.now)) }
     ensures fault { IfErr result (ForFault (λ fault. (t : TableValue) (kept : List Name) →
-        infos.now ≡ t.infos → Reports 2 t kept fault)) }
+        infos.now ≡ t.infos → Reports 2 t kept fault.value)) }
 {
     let mut targets = IndexSet::with_hasher(alloc, hash_builder);
     add_targets(alloc, infos, &mut targets)
@@ -66,18 +67,18 @@ fn add_targets<'t, S: BuildHasher>(
     alloc: Global,
     infos: &'t [Info],
     targets: &mut IndexSet<&'t TargetName, S>,
-) -> Result<(), Failure<TableFault>>
+) -> Result<(), Failure<Box<TableFault>>>
     requires { IsEmpty targets.old }
     ensures ok { OnOk result (AllDiffer (map (λ info. info.target) infos.now)) }
     ensures fault { IfErr result (ForFault (λ fault. (t : TableValue) (kept : List Name) →
-        infos.now ≡ t.infos → Reports 2 t kept fault)) }
+        infos.now ≡ t.infos → Reports 2 t kept fault.value)) }
 {
     targets.reserve(infos.len())?;
     for info in infos {
         let (_, is_new) = targets.insert_full(&info.target)?;
         if !is_new {
             let target = info.target.copy(alloc)?;
-            return Err(Failure::Fault(TableFault::InfoTwice { target }));
+            return Err(failure_of(alloc, TableFault::InfoTwice { target }));
         }
     }
     Ok(())
@@ -89,12 +90,12 @@ pub(crate) fn check_names<'t, S: BuildHasher + Copy>(
     objects: &'t [Rule],
     infos: &'t [Info],
     hash_builder: S,
-) -> Result<Modules<'t, S>, Failure<TableFault>>
+) -> Result<Modules<'t, S>, Failure<Box<TableFault>>>
     ensures modules { IfOk result
         (λ modules. modules ≡ table_with objects.now infos.now) }
     ensures differ { IfOk result (λ modules. AllDiffer (names_of (provisions modules))) }
     ensures fault { IfErr result (ForFault (λ fault. (kept : List Name) →
-        Reports 3 (table_with objects.now infos.now) kept fault)) }
+        Reports 3 (table_with objects.now infos.now) kept fault.value)) }
 {
     let provided = provided_modules(alloc, objects, infos)?;
     let mut names = IndexSet::with_hasher(alloc, hash_builder);
@@ -107,43 +108,49 @@ fn add_names<S: BuildHasher>(
     alloc: Global,
     provided: &[Module],
     names: &mut IndexSet<Name, S>,
-) -> Result<(), Failure<TableFault>>
+) -> Result<(), Failure<Box<TableFault>>>
     requires { IsEmpty names.old }
     ensures names { OnOk result (names.new.keys ≡ names_of (map provision_of provided.now)) }
     ensures differ { OnOk result (AllDiffer names.new.keys) }
     ensures fault { IfErr result (ForFault (λ fault. (t : TableValue) (kept : List Name) →
-        map provision_of provided.now ≡ provisions t → Reports 3 t kept fault)) }
+        map provision_of provided.now ≡ provisions t → Reports 3 t kept fault.value)) }
 {
     names.reserve(provided.len())?;
     for (index, module) in provided.iter().enumerate() {
         let name = module.name.copy(alloc)?;
         let (first, is_new) = names.insert_full(name)?;
         if !is_new {
-            let fault = provided_twice(alloc, provided, first, index)?;
-            return Err(Failure::Fault(fault));
+            return Err(provided_twice(alloc, provided, first, index));
         }
     }
     Ok(())
 }
 
+/// The failure that these two modules have one name.
 fn provided_twice(
     alloc: Global,
     provided: &[Module],
     first: usize,
     second: usize,
-) -> Result<TableFault, AllocError>
+) -> Failure<Box<TableFault>>
     requires first { first < length provided.now }
     requires second { second < length provided.now }
-    ensures { IfOk result (IsProvidedTwice (map provision_of provided.now) first second) }
+    ensures { ForFault (λ fault.
+        IsProvidedTwice (map provision_of provided.now) first second fault.value) result }
 {
     let earlier = module_at(provided, first);
     let later = module_at(provided, second);
-    let name = later.name.copy(alloc)?;
-    Ok(TableFault::ProvidedTwice {
-        name,
-        first: earlier.maker,
-        second: later.maker,
-    })
+    match later.name.copy(alloc) {
+        Ok(name) => {
+            let fault = TableFault::ProvidedTwice {
+                name,
+                first: earlier.maker,
+                second: later.maker,
+            };
+            failure_of(alloc, fault)
+        }
+        Err(_) => Failure::Memory,
+    }
 }
 
 /// M4: no file is that of two provided modules, or of a module and an object. No two objects have
@@ -153,21 +160,21 @@ pub(crate) fn check_files<'t, S: BuildHasher>(
     alloc: Global,
     modules: &Modules<'t, S>,
     files: &mut IndexSet<&'t Path, S>,
-) -> Result<(), Failure<TableFault>>
+) -> Result<(), Failure<Box<TableFault>>>
     requires paths { map (λ path. path.now) files.old.keys
         ≡ map (λ rule. rule.object) modules.now.objects }
     requires differ { AllDiffer (map (λ rule. rule.object) modules.now.objects) }
     ensures ok { OnOk result (AllDiffer
         (map (λ rule. rule.object) modules.now.objects ++ files_of (provisions modules.now))) }
     ensures fault { IfErr result (ForFault
-        (λ fault. (kept : List Name) → Reports 4 modules.now kept fault)) }
+        (λ fault. (kept : List Name) → Reports 4 modules.now kept fault.value)) }
 {
     let provided = modules.provided();
     match add_files(provided, files)? {
         None => Ok(()),
         Some(twice) => {
-            let fault = made_twice(alloc, modules.objects(), provided, twice.0, twice.1)?;
-            Err(Failure::Fault(fault))
+            let objects = modules.objects();
+            Err(made_twice(alloc, objects, provided, twice.0, twice.1))
         }
     }
 }
@@ -195,26 +202,31 @@ fn add_files<'t, S: BuildHasher>(
     Ok(None)
 }
 
-/// The fault that a module has a file that is made before it.
+/// The failure that a module has a file that is made before it.
 fn made_twice(
     alloc: Global,
     objects: &[Rule],
     provided: &[Module],
     first: usize,
     module_index: usize,
-) -> Result<TableFault, AllocError>
+) -> Failure<Box<TableFault>>
     requires first { first < length objects.now + length provided.now }
     requires module_index { module_index < length provided.now }
-    ensures { IfOk result (IsMadeTwice objects.now (map provision_of provided.now) first
-        (length objects.now + module_index)) }
+    ensures { ForFault (λ fault. IsMadeTwice objects.now (map provision_of provided.now) first
+        (length objects.now + module_index) fault.value) result }
 {
     let later = module_at(provided, module_index);
-    let path = later.file.copy(alloc)?;
-    Ok(TableFault::BmiTwice {
-        path,
-        first: maker_of(objects, provided, first),
-        second: later.maker,
-    })
+    match later.file.copy(alloc) {
+        Ok(path) => {
+            let fault = TableFault::BmiTwice {
+                path,
+                first: maker_of(objects, provided, first),
+                second: later.maker,
+            };
+            failure_of(alloc, fault)
+        }
+        Err(_) => Failure::Memory,
+    }
 }
 
 /// Who makes the file of this index among objects' own paths and then modules' files.

@@ -1,5 +1,5 @@
 //! M5 to M7: what is required is provided. M5 speaks of objects, M6 and M7 of the modules of infos.
-ghost use Rattle.std.specs.Prelude.{◌≡◌, ℕ, List, map, slice_get, Some, position, not, IfOk, IfErr, OnOk};
+ghost use Rattle.std.specs.Prelude.{◌≡◌, ℕ, List, map, slice_get, Some, IfOk, IfErr, OnOk};
 ghost use Rattle.ninja_text.specs.Bytes.{Name};
 ghost use Rattle.ninja_text.specs.Failure.{ForFault};
 ghost use Rattle.dep_order.specs.Rows.{rows};
@@ -12,9 +12,9 @@ ghost use Rattle.module_table.specs.inner.Numbered.{AreIndexes};
 ghost use Rattle.module_table.specs.inner.Reported.{Reports};
 ghost use Rattle.module_table.specs.declared.fault.TableFault.TheVariants.{ModuleUnknown};
 
-use crate::fault::{Maker, TableFault};
+use crate::fault::{Maker, TableFault, failure_of};
 use crate::modules::{Modules, index_of};
-use crate::requirements::{InfoRequired, required_at};
+use crate::requirements::InfoRequired;
 use indexmap::IndexSet;
 use ninja_text::Failure;
 use scan_docs::{Name, Rule, TargetName};
@@ -25,10 +25,10 @@ use std::hash::BuildHasher;
 pub(crate) fn check_objects_known<S: BuildHasher>(
     alloc: Global,
     modules: &Modules<S>,
-) -> Result<Vec<Vec<usize>>, Failure<TableFault>>
+) -> Result<Vec<Vec<usize>>, Failure<Box<TableFault>>>
     ensures ok { IfOk result (λ required. AreIndexes modules.now (rows required.items)) }
     ensures fault { IfErr result (ForFault
-        (λ fault. (kept : List Name) → Reports 5 modules.now kept fault)) }
+        (λ fault. (kept : List Name) → Reports 5 modules.now kept fault.value)) }
 {
     let names = modules.names();
     let objects = modules.objects();
@@ -45,12 +45,12 @@ fn indexes_of<S: BuildHasher>(
     names: &IndexSet<Name, S>,
     object: usize,
     rule: &Rule,
-) -> Result<Vec<usize>, Failure<TableFault>>
+) -> Result<Vec<usize>, Failure<Box<TableFault>>>
     ensures ok { IfOk result (λ row.
         map (slice_get names.now.keys) row.items ≡ map (λ name. Some name) rule.now.required) }
     ensures fault { IfErr result (ForFault (λ fault. (index : ℕ) × (name : Name)
         × IsFirst (IsAbsent names.now.keys) rule.now.required index name
-        × (fault ≡ ModuleUnknown name object))) }
+        × (fault.value ≡ ModuleUnknown name object))) }
 {
     let mut row = Vec::with_capacity(alloc, rule.required.len())?;
     for required in &rule.required {
@@ -66,16 +66,16 @@ fn known_index<S: BuildHasher>(
     names: &IndexSet<Name, S>,
     object: usize,
     required: &Name,
-) -> Result<usize, Failure<TableFault>>
+) -> Result<usize, Failure<Box<TableFault>>>
     ensures ok { IfOk result (λ index. slice_get names.now.keys index ≡ Some required.now) }
     ensures fault { IfErr result (ForFault (λ fault. IsAbsent names.now.keys required.now
-        × (fault ≡ ModuleUnknown required.now object))) }
+        × (fault.value ≡ ModuleUnknown required.now object))) }
 {
     match index_of(names, required) {
         Some(index) => Ok(index),
         None => {
             let name = required.copy(alloc)?;
-            Err(Failure::Fault(TableFault::ModuleUnknown { name, object }))
+            Err(failure_of(alloc, TableFault::ModuleUnknown { name, object }))
         }
     }
 }
@@ -85,24 +85,25 @@ pub(crate) fn check_infos_known<S: BuildHasher>(
     alloc: Global,
     modules: &Modules<S>,
     all: &[InfoRequired],
-) -> Result<(), Failure<TableFault>>
+) -> Result<(), Failure<Box<TableFault>>>
     requires { AreLookedUp modules.now all.now }
     ensures ok { OnOk result
         (AcceptsAll (IsByInfo (provisions modules.now)) (info_requirements modules.now)) }
     ensures fault { IfErr result (ForFault
-        (λ fault. (kept : List Name) → Reports 6 modules.now kept fault)) }
+        (λ fault. (kept : List Name) → Reports 6 modules.now kept fault.value)) }
 {
-    match first_not_by_info(all) {
-        None => Ok(()),
-        Some(index) => {
-            let (target, module_name, name) = copy_names(alloc, required_at(all, index))?;
-            Err(Failure::Fault(TableFault::InfoUnknown {
+    for required in all {
+        if !is_by_info(required) {
+            let (target, module_name, name) = copy_names(alloc, required)?;
+            let fault = TableFault::InfoUnknown {
                 target,
                 module_name,
                 name,
-            }))
+            };
+            return Err(failure_of(alloc, fault));
         }
     }
+    Ok(())
 }
 
 /// M7: and with the files that the infos say.
@@ -110,26 +111,27 @@ pub(crate) fn check_infos_agree<S: BuildHasher>(
     alloc: Global,
     modules: &Modules<S>,
     all: &[InfoRequired],
-) -> Result<(), Failure<TableFault>>
+) -> Result<(), Failure<Box<TableFault>>>
     requires all { AreLookedUp modules.now all.now }
     requires known { AcceptsAll (IsByInfo (provisions modules.now))
         (info_requirements modules.now) }
     ensures ok { OnOk result
         (AcceptsAll (Agrees (provisions modules.now)) (info_requirements modules.now)) }
     ensures fault { IfErr result (ForFault
-        (λ fault. (kept : List Name) → Reports 7 modules.now kept fault)) }
+        (λ fault. (kept : List Name) → Reports 7 modules.now kept fault.value)) }
 {
-    match first_differing(all) {
-        None => Ok(()),
-        Some(index) => {
-            let (target, module_name, name) = copy_names(alloc, required_at(all, index))?;
-            Err(Failure::Fault(TableFault::InfoDisagrees {
+    for required in all {
+        if !agrees(required) {
+            let (target, module_name, name) = copy_names(alloc, required)?;
+            let fault = TableFault::InfoDisagrees {
                 target,
                 module_name,
                 name,
-            }))
+            };
+            return Err(failure_of(alloc, fault));
         }
     }
+    Ok(())
 }
 
 /// The names of the target, of the module that requires, and of what it requires.
@@ -145,18 +147,6 @@ fn copy_names(
     let module_name = required.module_name.copy(alloc)?;
     let name = required.name.copy(alloc)?;
     Ok((target, module_name, name))
-}
-
-fn first_not_by_info(all: &[InfoRequired]) -> Option<usize>
-    ensures { result ≡ position (λ r. not (is_by_info (looked_up r))) all.now }
-{
-    all.iter().position(|required| !is_by_info(required))
-}
-
-fn first_differing(all: &[InfoRequired]) -> Option<usize>
-    ensures { result ≡ position (λ r. not (agrees (looked_up r))) all.now }
-{
-    all.iter().position(|required| !agrees(required))
 }
 
 /// Whether an info provides what is required.

@@ -11,7 +11,7 @@ ghost use Rattle.module_table.specs.inner.Numbered.{AreIndexes, maker_at};
 ghost use Rattle.module_table.specs.inner.Views.{provision_of};
 ghost use Rattle.module_table.specs.inner.Reported.{Reports};
 
-use crate::fault::{Maker, TableFault};
+use crate::fault::{Maker, TableFault, failure_of};
 use crate::modules::{Module, Modules};
 use dep_order::{Digraph, Sorting, order};
 use ninja_text::Failure;
@@ -24,15 +24,15 @@ pub(crate) fn check_rings<S: BuildHasher>(
     alloc: Global,
     modules: &Modules<S>,
     required: &[Vec<usize>],
-) -> Result<(), Failure<TableFault>>
+) -> Result<(), Failure<Box<TableFault>>>
     requires { AreIndexes modules.now (rows required.now) }
     ensures ok { OnOk result (IsOrderable (length modules.now.objects) (DependsOn modules.now)) }
     ensures fault { IfErr result (ForFault
-        (λ fault. (kept : List Name) → Reports 8 modules.now kept fault)) }
+        (λ fault. (kept : List Name) → Reports 8 modules.now kept fault.value)) }
 {
     match sort_objects(alloc, modules, required)? {
         Sorting::Order(_) => Ok(()),
-        Sorting::Cycle(objects) => Err(Failure::Fault(TableFault::ImportCycle { objects })),
+        Sorting::Cycle(objects) => Err(failure_of(alloc, TableFault::ImportCycle { objects })),
     }
 }
 

@@ -23,7 +23,7 @@ returns-in_err-indexes-clause-fault g c =
     let same = c.in_ok-modules.ensures.modules in
     let p = err_from_is_err_and c.from_residual-in_err-indexes.result c.from_residual-in_err-indexes.ensures.1 in
     rw (p.1, p.2)
-    (for_fault _ _ _ (λ fault is. subst (λ t. IsReported t c.args.kept.now fault) same is) c.in_err-indexes.ensures.fault)
+    (for_fault _ _ _ (λ fault is. subst (λ t. IsReported t c.args.kept.now fault.value) same is) c.in_err-indexes.ensures.fault)
 
 pub returns-clause-no_fault : goal.returns-clause-no_fault
 returns-clause-no_fault g c =
@@ -32,5 +32,5 @@ returns-clause-no_fault g c =
 
 pub returns-clause-index : goal.returns-clause-index
 returns-clause-index g c =
-    let index = c.in_ok-new.field-0 in
-    subst (λ u. AreLookUps u index.names.keys index.origins.items index.graph (map (λ row. row.items) index.required.items)) c.in_ok-modules.ensures.modules c.in_ok-new.ensures
+    let index = c.in_ok-index.index in
+    subst (λ u. AreLookUps u index.names.keys index.origins.items index.graph (map (λ row. row.items) index.required.items)) c.in_ok-modules.ensures.modules c.in_ok-index.ensures

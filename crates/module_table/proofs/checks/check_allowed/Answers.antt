@@ -11,14 +11,14 @@ returns-in_err-check_objects_allowed-clause-fault g c =
     let t = c.args.modules.now in
     let kept = c.args.kept.now in
     let p = err_from_is_err_and c.from_residual.result c.from_residual.ensures.1 in
-    rw (p.1, p.2) (for_fault _ _ _ (λ fault is'. reported t kept 9 fault (is' kept) c.requires.passed) c.in_err-check_objects_allowed.ensures.fault)
+    rw (p.1, p.2) (for_fault _ _ _ (λ fault is'. reported t kept 9 fault.value (is' kept) c.requires.passed) c.in_err-check_objects_allowed.ensures.fault)
 
 pub returns-in_err-check_infos_allowed-clause-fault : goal.returns-in_err-check_infos_allowed-clause-fault
 returns-in_err-check_infos_allowed-clause-fault g c =
     let t = c.args.modules.now in
     let kept = c.args.kept.now in
     let p = err_from_is_err_and c.from_residual-in_err-check_infos_allowed.result c.from_residual-in_err-check_infos_allowed.ensures.1 in
-    rw (p.1, p.2) (for_fault _ _ _ (λ fault is'. reported t kept 9 fault (is' kept) c.requires.passed) c.in_err-check_infos_allowed.ensures.fault)
+    rw (p.1, p.2) (for_fault _ _ _ (λ fault is'. reported t kept 9 fault.value (is' kept) c.requires.passed) c.in_err-check_infos_allowed.ensures.fault)
 
 pub check_kept-requires : goal.check_kept-requires
 check_kept-requires g c = c.requires.required.differ
@@ -28,8 +28,8 @@ returns-clause-fault g c =
     let t = c.args.modules.now in
     let kept = c.args.kept.now in
     let allowed = after_allowed t kept c.in_ok-check_objects_allowed.ensures.ok c.in_ok-check_infos_allowed.ensures.ok c.requires.passed in
-    IfErr-weaker c.check_kept.result (ForFault (Reports 10 t kept)) (ForFault (IsReported t kept))
-    (λ failure h. for_fault _ _ failure (λ fault is'. reported t kept 10 fault is' allowed) h) c.check_kept.ensures.fault
+    IfErr-weaker c.check_kept.result (ForFault (λ fault. Reports 10 t kept fault.value)) (ForFault (λ fault. IsReported t kept fault.value))
+    (λ failure h. for_fault _ _ failure (λ fault is'. reported t kept 10 fault.value is' allowed) h) c.check_kept.ensures.fault
 
 pub returns-clause-passed : goal.returns-clause-passed
 returns-clause-passed g c =

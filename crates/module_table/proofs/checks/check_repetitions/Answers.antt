@@ -15,21 +15,21 @@ returns-in_err-check_objects-clause-fault g c =
     let t : TableValue = record { objects = c.args.objects.now; infos = c.args.infos.now } in
     let p = err_from_is_err_and c.from_residual.result c.from_residual.ensures.1 in
     rw (p.1, p.2)
-    (for_every_kept t _ _ (λ kept fault is. reported t kept 1 fault (is t kept refl) (none_passed t kept)) c.in_err-check_objects.ensures.fault)
+    (for_every_kept t _ _ (λ kept fault is. reported t kept 1 fault.value (is t kept refl) (none_passed t kept)) c.in_err-check_objects.ensures.fault)
 
 pub returns-in_err-check_infos-clause-fault : goal.returns-in_err-check_infos-clause-fault
 returns-in_err-check_infos-clause-fault g c =
     let t : TableValue = record { objects = c.args.objects.now; infos = c.args.infos.now } in
     let p = err_from_is_err_and c.from_residual-in_err-check_infos.result c.from_residual-in_err-check_infos.ensures.1 in
     rw (p.1, p.2)
-    (for_every_kept t _ _ (λ kept fault is. reported t kept 2 fault (is t kept refl) (after_objects t kept c.in_ok-check_objects.ensures.differ)) c.in_err-check_infos.ensures.fault)
+    (for_every_kept t _ _ (λ kept fault is. reported t kept 2 fault.value (is t kept refl) (after_objects t kept c.in_ok-check_objects.ensures.differ)) c.in_err-check_infos.ensures.fault)
 
 pub returns-in_err-modules-clause-fault : goal.returns-in_err-modules-clause-fault
 returns-in_err-modules-clause-fault g c =
     let t : TableValue = record { objects = c.args.objects.now; infos = c.args.infos.now } in
     let p = err_from_is_err_and c.from_residual-in_err-modules.result c.from_residual-in_err-modules.ensures.1 in
     rw (p.1, p.2)
-    (for_every_kept t _ _ (λ kept fault is. reported t kept 3 fault (is kept) (after_infos t kept c.in_ok-check_infos.ensures.ok (after_objects t kept c.in_ok-check_objects.ensures.differ))) c.in_err-modules.ensures.fault)
+    (for_every_kept t _ _ (λ kept fault is. reported t kept 3 fault.value (is kept) (after_infos t kept c.in_ok-check_infos.ensures.ok (after_objects t kept c.in_ok-check_objects.ensures.differ))) c.in_err-modules.ensures.fault)
 
 pub check_files-requires-clause-paths : goal.check_files-requires-clause-paths
 check_files-requires-clause-paths g c =
@@ -53,7 +53,7 @@ returns-in_err-check_files-clause-fault g c =
     let passed = three_passed t u same c.in_ok-check_objects.ensures.differ c.in_ok-check_infos.ensures.ok c.in_ok-modules.ensures.differ in
     let p = err_from_is_err_and c.from_residual-in_err-check_files.result c.from_residual-in_err-check_files.ensures.1 in
     rw (p.1, p.2)
-    (for_every_kept t _ _ (λ kept fault is. subst (λ v. IsReported v kept fault) same (reported u kept 4 fault (is kept) (passed kept))) c.in_err-check_files.ensures.fault)
+    (for_every_kept t _ _ (λ kept fault is. subst (λ v. IsReported v kept fault.value) same (reported u kept 4 fault.value (is kept) (passed kept))) c.in_err-check_files.ensures.fault)
 
 pub returns-clause-passed : goal.returns-clause-passed
 returns-clause-passed g c = λ kept.

@@ -11,7 +11,7 @@ pub returns-in_err-indexes-clause-fault : goal.returns-in_err-indexes-clause-fau
 returns-in_err-indexes-clause-fault g c =
     let kept = c.args.kept.now in
     let p = err_from_is_err_and c.from_residual.result c.from_residual.ensures.1 in
-    rw (p.1, p.2) (for_fault _ _ _ (λ fault is'. reported c.args.modules.now kept 5 fault (is' kept) c.requires) c.in_err-indexes.ensures.fault)
+    rw (p.1, p.2) (for_fault _ _ _ (λ fault is'. reported c.args.modules.now kept 5 fault.value (is' kept) c.requires) c.in_err-indexes.ensures.fault)
 
 pub check_looked_up-requires-clause-required : goal.check_looked_up-requires-clause-required
 check_looked_up-requires-clause-required g c = subst (AreLookedUp c.args.modules.now) (sym c.as_slice-2.ensures.value) c.in_ok-required.ensures

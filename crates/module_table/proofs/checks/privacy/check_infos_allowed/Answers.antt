@@ -1,35 +1,66 @@
-use Rattle.std.proofs.Common.{◌∙◌, sym, subst, None, Some}
+use Rattle.std.proofs.Common.{ℕ, ◌≤◌, List, ◌∙◌, ap, arith, length, sym, refl, subst, MatchBool}
+use Rattle.std.proofs.lemmas.Option.{slice_get_read}
 use Rattle.module_table.specs.Modules.{provisions, info_requirements}
 use Rattle.module_table.specs.inner.Views.{requirement_of}
-use Rattle.module_table.specs.inner.Finds.{is_allowed, IsAllowed, IsNotAllowed}
+use Rattle.module_table.specs.inner.Finds.{is_allowed, IsAllowed, IsNotAllowed, AcceptsAll}
 use Rattle.module_table.specs.inner.Found.{looked_up, with_module}
-use Rattle.module_table.proofs.Refusals.{first_refused}
+use Rattle.module_table.specs.inner.Reported.{Reports}
+use Rattle.module_table.proofs.IndexRows.{take_all}
+use Rattle.module_table.proofs.Rings.{length_mapped}
+use Rattle.module_table.proofs.Refusals.{accepts_next, refuses_here}
 use Rattle.module_table.proofs.Found.{allowed}
-use Rattle.module_table.proofs.InfoRequirements.{required_there}
+use Rattle.module_table.proofs.InfoRequirements.{required_there, found_there}
 use Rattle.module_table.proofs.Privacy.{reports_private_info}
+use Rattle.module_table.proofs.ReportLemmas.{for_fault}
 use Rattle.module_table.proofs.checks.privacy.check_infos_allowed.Goals as goal
-use Rattle.ninja_text.proofs.ForCallers.{same_some}
 
-pub private_fault-requires-clause-private : goal.private_fault-requires-clause-private
-private_fault-requires-clause-private g c =
+pub requires_private-requires-clause-private : goal.requires_private-requires-clause-private
+requires_private-requires-clause-private g c =
     let t = c.args.modules.now in
     let ps = provisions t in
-    let refused = first_refused looked_up (with_module ps) is_allowed (IsAllowed ps) (IsNotAllowed ps) (allowed ps c.requires.all.differ) (info_requirements t) c.args.all.now c.requires.all.same (Some c.in-Some.index) (sym c.in-Some.is ∙ c.first_not_allowed.ensures) in
-    let same = same_some _ _ (sym refused.here ∙ required_there t c.args.all.now c.requires.all c.in-Some.index c.required_at-required.result.now c.required_at-required.ensures) in
-    let bad = subst (IsNotAllowed ps) same refused.refused in
-    (bad.0, bad.1, bad.2, bad.3)
+    let all = c.args.all.now in
+    let i = c.loop-required.required-index in
+    let r = requirement_of c.required-item.result in
+    let at = slice_get_read all _ i c.required-item.result refl c.loop-required-test.true c.required-item.is in
+    let there = required_there t all c.requires.all i c.required-item.result at in
+    let tested = sym c.is_allowed.ensures ∙ c.if-not-is_allowed.true in
+    let found = ap is_allowed (sym (found_there t all c.requires.all i c.required-item.result at)) in
+    let by = subst (λ b. MatchBool b (IsAllowed ps r) (IsNotAllowed ps r)) (found ∙ tested) (allowed ps c.requires.all.differ r) in
+    (by.0, by.1, by.2, by.3)
 
-pub returns-in-None-clause-ok : goal.returns-in-None-clause-ok
-returns-in-None-clause-ok g c =
-    let ps = provisions c.args.modules.now in
-    first_refused looked_up (with_module ps) is_allowed (IsAllowed ps) (IsNotAllowed ps) (allowed ps c.requires.all.differ) (info_requirements c.args.modules.now) c.args.all.now c.requires.all.same None (sym c.in-None.is ∙ c.first_not_allowed.ensures)
-
-pub returns-in_ok-fault-in-Some-clause-fault : goal.returns-in_ok-fault-in-Some-clause-fault
-returns-in_ok-fault-in-Some-clause-fault g c = λ kept.
+pub returns-then-not-is_allowed-clause-fault : goal.returns-then-not-is_allowed-clause-fault
+returns-then-not-is_allowed-clause-fault g c =
     let t = c.args.modules.now in
     let ps = provisions t in
-    let h = c.in_ok-fault-in-Some.ensures in
-    reports_private_info t kept c.in-Some.index (requirement_of c.required_at-required.result.now) h.0 c.in_ok-fault-in-Some.fault c.requires.all.differ
-    (first_refused looked_up (with_module ps) is_allowed (IsAllowed ps) (IsNotAllowed ps) (allowed ps c.requires.all.differ) (info_requirements t) c.args.all.now c.requires.all.same (Some c.in-Some.index) (sym c.in-Some.is ∙ c.first_not_allowed.ensures))
-    (required_there t c.args.all.now c.requires.all c.in-Some.index c.required_at-required.result.now c.required_at-required.ensures)
-    h.1 h.2 c.requires.public
+    let all = c.args.all.now in
+    let i = c.loop-required.required-index in
+    let r = requirement_of c.required-item.result in
+    let at = slice_get_read all _ i c.required-item.result refl c.loop-required-test.true c.required-item.is in
+    let there = required_there t all c.requires.all i c.required-item.result at in
+    let tested = sym c.is_allowed.ensures ∙ c.if-not-is_allowed.true in
+    let found = ap is_allowed (sym (found_there t all c.requires.all i c.required-item.result at)) in
+    let by = subst (λ b. MatchBool b (IsAllowed ps r) (IsNotAllowed ps r)) (found ∙ tested) (allowed ps c.requires.all.differ r) in
+    for_fault _ (λ fault. (kept : List (List ℕ)) → Reports 9 t kept fault.value) _
+    (λ fault is kept. reports_private_info t kept i r is.0 fault.value c.requires.all.differ (refuses_here (IsAllowed ps) (IsNotAllowed ps) (info_requirements t) i r there c.loop-required.invariant by) there is.1 is.2 c.requires.public)
+    c.requires_private.ensures
+
+pub loop-required-preserved : goal.loop-required-preserved
+loop-required-preserved g c =
+    let t = c.args.modules.now in
+    let ps = provisions t in
+    let all = c.args.all.now in
+    let i = c.loop-required.required-index in
+    let r = requirement_of c.required-item.result in
+    let at = slice_get_read all _ i c.required-item.result refl c.loop-required-test.true c.required-item.is in
+    let there = required_there t all c.requires.all i c.required-item.result at in
+    let tested = sym c.is_allowed.ensures ∙ c.if-not-is_allowed.false in
+    let found = ap is_allowed (sym (found_there t all c.requires.all i c.required-item.result at)) in
+    let by = subst (λ b. MatchBool b (IsAllowed ps r) (IsNotAllowed ps r)) (found ∙ tested) (allowed ps c.requires.all.differ r) in
+    accepts_next (IsAllowed ps) (IsNotAllowed ps) (info_requirements t) i r there c.loop-required.invariant by
+
+pub returns-clause-ok : goal.returns-clause-ok
+returns-clause-ok g c =
+    let t = c.args.modules.now in
+    let long = sym (length_mapped looked_up c.args.all.now) ∙ ap length c.requires.all.same ∙ length_mapped (with_module (provisions t)) (info_requirements t) in
+    let all : length (info_requirements t) ≤ c.loop-required.required-index = omega (arith, c.loop-required-test.false, long) in
+    subst (AcceptsAll (IsAllowed (provisions t))) (take_all (info_requirements t) c.loop-required.required-index all) c.loop-required.invariant

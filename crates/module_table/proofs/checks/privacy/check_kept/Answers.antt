@@ -1,20 +1,34 @@
-use Rattle.std.proofs.Common.{◌∙◌, ap, sym, refl, None, Some}
+use Rattle.std.proofs.Common.{◌∙◌, ap, sym, refl, subst, MatchBool}
+use Rattle.std.proofs.lemmas.Option.{slice_get_read}
 use Rattle.module_table.specs.Modules.{provisions}
-use Rattle.module_table.specs.inner.Finds.{is_by_object, IsByObject, IsNotByObject}
+use Rattle.module_table.specs.inner.Finds.{IsByObject, IsNotByObject}
+use Rattle.module_table.specs.inner.Reported.{Reports}
 use Rattle.module_table.specs.declared.fault.TableFault.TheVariants.{PrivateUnknown}
-use Rattle.module_table.proofs.Refusals.{first_refused}
+use Rattle.module_table.proofs.Refusals.{accepts_next, refuses_here}
 use Rattle.module_table.proofs.Found.{by_object}
 use Rattle.module_table.proofs.InfoFaults.{reports_private_unknown}
+use Rattle.module_table.proofs.ReportLemmas.{for_boxed}
 use Rattle.module_table.proofs.checks.privacy.check_kept.Goals as goal
 
-pub returns-in-None-clause-ok : goal.returns-in-None-clause-ok
-returns-in-None-clause-ok g c =
-    let ps = provisions c.args.modules.now in
-    first_refused (λ name. name) (λ name. name) (is_by_object ps) (IsByObject ps) (IsNotByObject ps) (by_object ps c.requires) c.args.kept.now c.args.kept.now refl None (sym c.in-None.is ∙ c.first_not_by_object.ensures)
+pub returns-then-not-is_by_object-clause-fault : goal.returns-then-not-is_by_object-clause-fault
+returns-then-not-is_by_object-clause-fault g c =
+    let t = c.args.modules.now in
+    let ps = provisions t in
+    let kept = c.args.kept.now in
+    let i = c.loop-name.name-index in
+    let name = c.name-item.result in
+    let at = slice_get_read kept _ i name refl c.loop-name-test.true c.name-item.is in
+    let bad = subst (λ b. MatchBool b (IsByObject ps name) (IsNotByObject ps name)) (sym c.is_by_object.ensures ∙ c.if-not-is_by_object.true) (by_object ps c.requires name) in
+    for_boxed (Reports 10 t kept) _ _
+    (reports_private_unknown t kept i name _ (refuses_here (IsByObject ps) (IsNotByObject ps) kept i name at c.loop-name.invariant bad) at (ap PrivateUnknown c.in_ok-name.ensures))
+    c.failure_of.ensures
 
-pub returns-in_ok-name-in-Some-clause-fault : goal.returns-in_ok-name-in-Some-clause-fault
-returns-in_ok-name-in-Some-clause-fault g c =
+pub loop-name-preserved : goal.loop-name-preserved
+loop-name-preserved g c =
     let ps = provisions c.args.modules.now in
-    reports_private_unknown c.args.modules.now c.args.kept.now c.in-Some.index c.name_at.result.now _
-    (first_refused (λ name. name) (λ name. name) (is_by_object ps) (IsByObject ps) (IsNotByObject ps) (by_object ps c.requires) c.args.kept.now c.args.kept.now refl (Some c.in-Some.index) (sym c.in-Some.is ∙ c.first_not_by_object.ensures))
-    c.name_at.ensures (ap PrivateUnknown c.in_ok-name-in-Some.ensures)
+    let kept = c.args.kept.now in
+    let i = c.loop-name.name-index in
+    let name = c.name-item.result in
+    let at = slice_get_read kept _ i name refl c.loop-name-test.true c.name-item.is in
+    accepts_next (IsByObject ps) (IsNotByObject ps) kept i name at c.loop-name.invariant
+    (subst (λ b. MatchBool b (IsByObject ps name) (IsNotByObject ps name)) (sym c.is_by_object.ensures ∙ c.if-not-is_by_object.false) (by_object ps c.requires name))

@@ -14,6 +14,8 @@ use Rattle.module_table.proofs.Rings.{length_mapped}
 use Rattle.module_table.proofs.Found.{IsPublicAt, IsPrivateAt, at_index, row_public, row_private}
 use Rattle.module_table.proofs.Refusals.{accepts_next, first_refused}
 use Rattle.module_table.proofs.Privacy.{reports_private_object}
+use Rattle.module_table.proofs.ReportLemmas.{for_fault}
+use Rattle.module_table.specs.inner.Reported.{Reports}
 use Rattle.module_table.proofs.checks.privacy.check_objects_allowed.Goals as goal
 use Rattle.ninja_text.proofs.ForCallers.{same_some, to_map}
 
@@ -53,8 +55,8 @@ name_at-name-requires g c =
     let long = length_mapped (λ (p : Provision). p.name) ps in
     omega (arith, within, long, same)
 
-pub private_fault-requires-clause-private : goal.private_fault-requires-clause-private
-private_fault-requires-clause-private g c =
+pub requires_private-requires-clause-private : goal.requires_private-requires-clause-private
+requires_private-requires-clause-private g c =
     let ps = provisions c.args.modules.now in
     let i = c.loop-object.object in
     let k = c.in-Some.index in
@@ -66,7 +68,7 @@ private_fault-requires-clause-private g c =
     subst (IsPrivate ps) (same_some _ _ (sym p.7.here ∙ p.5) ∙ name) p.7.refused
 
 pub returns-in-Some-clause-fault : goal.returns-in-Some-clause-fault
-returns-in-Some-clause-fault g c = λ kept.
+returns-in-Some-clause-fault g c =
     let t = c.args.modules.now in
     let i = c.loop-object.object in
     let k = c.in-Some.index in
@@ -75,8 +77,9 @@ returns-in-Some-clause-fault g c = λ kept.
     let p = private_in t c.args.required.now c.requires c.provided-provided.ensures.differ i row at k c.as_slice.result.now c.as_slice.ensures.value (sym c.in-Some.is ∙ c.first_private.ensures ∙ ap (λ modules. position (λ index. not (is_public_at modules index)) c.as_slice.result.now) c.provided-provided.ensures.provisions) in
     let same = c.index.ensures ∙ get_or_from_slice_get row.items k p.0 c.index.result.now p.3 in
     let name : p.2 ≡ c.name_at-name.result.now = same_some _ _ (sym p.6 ∙ ap (slice_get (names_of (provisions t))) (sym same) ∙ c.name_at-name.ensures) in
-    let h = c.in_ok-fault-in-Some.ensures in
-    reports_private_object t kept i p.1 k c.name_at-name.result.now h.0 c.in_ok-fault-in-Some.fault p.4 c.loop-object.invariant p.7 (p.5 ∙ ap (λ x. Some x) name) h.1 h.2
+    for_fault _ (λ fault. (kept : List (List ℕ)) → Reports 9 t kept fault.value) _
+    (λ fault is kept. reports_private_object t kept i p.1 k c.name_at-name.result.now is.0 fault.value p.4 c.loop-object.invariant p.7 (p.5 ∙ ap (λ x. Some x) name) is.1 is.2)
+    c.requires_private.ensures
 
 pub loop-object-preserved : goal.loop-object-preserved
 loop-object-preserved g c =

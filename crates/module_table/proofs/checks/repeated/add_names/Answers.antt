@@ -2,12 +2,14 @@ use Rattle.std.proofs.Common.{◌≡◌, ◌∙◌, ◌≤◌, ap, arith, length
 use Rattle.std.proofs.lemmas.Option.{slice_get_read}
 use Rattle.ninja_text.specs.Firsts.{AllDiffer}
 use Rattle.module_table.specs.inner.Views.{provision_of, names_of}
-use Rattle.module_table.specs.Modules.{Provision}
+use Rattle.module_table.specs.Modules.{Provision, provisions}
 use Rattle.module_table.specs.declared.modules.Module.{Module}
 use Rattle.module_table.proofs.IndexRows.{take_all}
 use Rattle.module_table.proofs.Rings.{length_mapped}
 use Rattle.module_table.proofs.Repetitions.{repeats_if_found, keys_if_new, differ_if_new, map_same}
-use Rattle.module_table.proofs.ReportLemmas.{reports_provided_twice}
+use Rattle.module_table.proofs.ReportLemmas.{reports_provided_twice, for_fault}
+use Rattle.module_table.specs.inner.Reported.{Reports}
+use Rattle.module_table.specs.TableValue.{TableValue}
 use Rattle.module_table.proofs.checks.repeated.add_names.Goals as goal
 use Rattle.ninja_text.proofs.ForCallers.{to_map}
 
@@ -46,7 +48,8 @@ returns-then-not-is_new-clause-fault g c =
     let h = c.in_ok-first.ensures in
     let stored = h.stored in
     let repeated = repeats_if_found (λ n. n) (names_of list) i c.in_ok-name.name c.loop-index.names.keys c.insert_full.new.self.keys at before c.loop-index.invariant.differ h.keys first (sym c.if-not-is_new.true ∙ h.added) stored.0 stored.1 stored.2 in
-    λ t kept same. reports_provided_twice t kept first i c.in_ok-fault.fault list same repeated c.in_ok-fault.ensures
+    for_fault _ (λ fault. (t : TableValue) (kept : List (List ℕ)) → list ≡ provisions t → Reports 3 t kept fault.value) _
+    (λ fault is t kept same. reports_provided_twice t kept first i fault.value list same repeated is) c.provided_twice.ensures
 
 pub loop-index-preserved : goal.loop-index-preserved
 loop-index-preserved g c =

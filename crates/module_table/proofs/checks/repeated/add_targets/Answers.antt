@@ -5,7 +5,9 @@ use Rattle.ninja_text.specs.Firsts.{IsFirstRepetition, AllDiffer}
 use Rattle.module_table.specs.declared.fault.TableFault.TheVariants.{InfoTwice}
 use Rattle.module_table.proofs.IndexRows.{map_take_all}
 use Rattle.module_table.proofs.Repetitions.{repeats_if_found, keys_if_new, differ_if_new, text_repetition}
-use Rattle.module_table.proofs.ReportLemmas.{reports_same}
+use Rattle.module_table.proofs.ReportLemmas.{reports_same, for_boxed}
+use Rattle.module_table.specs.inner.Reported.{Reports}
+use Rattle.module_table.specs.TableValue.{TableValue}
 use Rattle.module_table.proofs.checks.repeated.add_targets.Goals as goal
 use Rattle.ninja_text.proofs.ForCallers.{to_map}
 
@@ -32,8 +34,9 @@ returns-then-not-is_new-clause-fault g c =
     let stored = h.stored in
     let repeated = repeats_if_found text_of (map target_of infos) i _ c.loop-info.targets.keys c.insert_full.new.self.keys at c.loop-info.invariant.same c.loop-info.invariant.differ h.keys first (sym c.if-not-is_new.true ∙ h.added) stored.0 stored.1 stored.2 in
     let is = text_repetition (map target_of infos) first i target repeated at in
-    λ t kept same.
-    reports_same 2 t kept _ _ (ap InfoTwice c.in_ok-target.ensures) (record { present = (first, i, subst (λ xs. IsFirstRepetition (λ a b. a ≡ b) (map target_of xs) first i target target) same is); coded = refl })
+    for_boxed (λ fault. (t : TableValue) (kept : List (List ℕ)) → infos ≡ t.infos → Reports 2 t kept fault) _ _
+    (λ t kept same. reports_same 2 t kept _ _ (ap InfoTwice c.in_ok-target.ensures) (record { present = (first, i, subst (λ xs. IsFirstRepetition (λ a b. a ≡ b) (map target_of xs) first i target target) same is); coded = refl }))
+    c.failure_of.ensures
 
 pub loop-info-preserved : goal.loop-info-preserved
 loop-info-preserved g c =

@@ -6,7 +6,8 @@ use Rattle.ninja_text.specs.Firsts.{AllDiffer, RepeatsFirst}
 use Rattle.module_table.specs.inner.Views.{provision_of, files_of, IsMadeTwice}
 use Rattle.module_table.specs.declared.modules.Module.{Module}
 use Rattle.module_table.proofs.Rings.{length_mapped}
-use Rattle.module_table.proofs.ReportLemmas.{reported_made}
+use Rattle.module_table.proofs.ReportLemmas.{reported_made, for_fault}
+use Rattle.module_table.specs.inner.Reported.{Reports}
 use Rattle.module_table.proofs.checks.repeated.check_files.Goals as goal
 
 abbrev text_of : Bor (List ℕ) → List ℕ
@@ -41,7 +42,7 @@ made_twice-requires-clause-first g c =
     let within = module_within paths provided twice.0 twice.1 r in
     let earlier = r.earlier in
     let many = as_many paths c.args.modules.now.objects c.requires.paths in
-    let objects = ap length c.objects.ensures in
+    let objects = ap length c.objects-objects.ensures in
     omega (arith, earlier, within, many, objects)
 
 pub made_twice-requires-clause-module_index : goal.made_twice-requires-clause-module_index
@@ -52,22 +53,22 @@ made_twice-requires-clause-module_index g c =
     let r = subst (λ o. IfSome o (λ (at : ℕ × ℕ). RepeatsFirst (map text_of paths ++ files_of (map provision_of provided)) at.0 (length paths + at.1))) c.in-Some.is c.in_ok-add_files.ensures.some in
     module_within paths provided twice.0 twice.1 r
 
-pub returns-in_ok-fault-in-Some-clause-fault : goal.returns-in_ok-fault-in-Some-clause-fault
-returns-in_ok-fault-in-Some-clause-fault g c =
+pub returns-in-Some-clause-fault : goal.returns-in-Some-clause-fault
+returns-in-Some-clause-fault g c =
     let t = c.args.modules.now in
     let paths = c.args.files.now.keys in
     let provided = c.provided-provided.result.now in
-    let objects = c.objects.result.now in
+    let objects = c.objects-objects.result.now in
     let twice = c.in-Some.twice in
     let r = subst (λ o. IfSome o (λ (at : ℕ × ℕ). RepeatsFirst (map text_of paths ++ files_of (map provision_of provided)) at.0 (length paths + at.1))) c.in-Some.is c.in_ok-add_files.ensures.some in
     let of_objects = subst (λ xs. RepeatsFirst (xs ++ files_of (map provision_of provided)) twice.0 (length paths + twice.1)) c.requires.paths r in
     let of_modules = subst (λ ps. RepeatsFirst (map object_of t.objects ++ files_of ps) twice.0 (length paths + twice.1)) c.provided-provided.ensures.provisions of_objects in
     let repeats = subst (λ n. RepeatsFirst (map object_of t.objects ++ files_of (provisions t)) twice.0 (n + twice.1)) (as_many paths t.objects c.requires.paths) of_modules in
-    let fault = c.in_ok-fault-in-Some.fault in
-    λ kept.
-    reported_made t kept twice.0 (length t.objects + twice.1) fault c.requires.differ repeats
-    (subst (λ os. IsMadeTwice os (provisions t) twice.0 (length os + twice.1) fault) c.objects.ensures
-    (subst (λ ps. IsMadeTwice objects ps twice.0 (length objects + twice.1) fault) c.provided-provided.ensures.provisions c.in_ok-fault-in-Some.ensures))
+    for_fault _ (λ fault. (kept : List (List ℕ)) → Reports 4 t kept fault.value) _
+    (λ fault is kept. reported_made t kept twice.0 (length t.objects + twice.1) fault.value c.requires.differ repeats
+    (subst (λ os. IsMadeTwice os (provisions t) twice.0 (length os + twice.1) fault.value) c.objects-objects.ensures
+    (subst (λ ps. IsMadeTwice objects ps twice.0 (length objects + twice.1) fault.value) c.provided-provided.ensures.provisions is)))
+    c.made_twice.ensures
 
 pub returns-in-None-clause-ok : goal.returns-in-None-clause-ok
 returns-in-None-clause-ok g c =

@@ -6,7 +6,9 @@ use Rattle.module_table.specs.declared.fault.Maker.TheVariants.{Object}
 use Rattle.module_table.specs.declared.fault.TableFault.TheVariants.{ObjectTwice}
 use Rattle.module_table.proofs.IndexRows.{map_take_all}
 use Rattle.module_table.proofs.Repetitions.{repeats_if_found, keys_if_new, differ_if_new, text_repetition}
-use Rattle.module_table.proofs.ReportLemmas.{reports_same}
+use Rattle.module_table.proofs.ReportLemmas.{reports_same, for_boxed}
+use Rattle.module_table.specs.inner.Reported.{Reports}
+use Rattle.module_table.specs.TableValue.{TableValue}
 use Rattle.module_table.proofs.checks.repeated.check_objects.Goals as goal
 use Rattle.ninja_text.proofs.ForCallers.{to_map}
 
@@ -33,8 +35,9 @@ returns-then-not-is_new-clause-fault g c =
     let stored = h.stored in
     let repeated = repeats_if_found text_of (map object_of objects) i _ c.loop-index.paths.keys c.insert_full.new.self.keys at c.loop-index.invariant.same c.loop-index.invariant.differ h.keys first (sym c.if-not-is_new.true ∙ h.added) stored.0 stored.1 stored.2 in
     let is = text_repetition (map object_of objects) first i path repeated at in
-    λ t kept same.
-    reports_same 1 t kept _ _ (ap (λ p. ObjectTwice p (Object first) (Object i)) c.in_ok-path.ensures) (record { present = (first, i, subst (λ xs. IsFirstRepetition (λ a b. a ≡ b) (map object_of xs) first i path path) same is, refl, refl); coded = refl })
+    for_boxed (λ fault. (t : TableValue) (kept : List (List ℕ)) → objects ≡ t.objects → Reports 1 t kept fault) _ _
+    (λ t kept same. reports_same 1 t kept _ _ (ap (λ p. ObjectTwice p (Object first) (Object i)) c.in_ok-path.ensures) (record { present = (first, i, subst (λ xs. IsFirstRepetition (λ a b. a ≡ b) (map object_of xs) first i path path) same is, refl, refl); coded = refl }))
+    c.failure_of.ensures
 
 pub loop-index-preserved : goal.loop-index-preserved
 loop-index-preserved g c =

@@ -1,28 +1,57 @@
-use Rattle.std.proofs.Common.{◌∙◌, ap, sym, Some, None}
+use Rattle.std.proofs.Common.{ℕ, ◌≤◌, List, ◌∙◌, ap, arith, length, sym, refl, subst, MatchBool}
+use Rattle.std.proofs.lemmas.Option.{slice_get_read}
 use Rattle.module_table.specs.Modules.{provisions, info_requirements}
 use Rattle.module_table.specs.inner.Views.{requirement_of}
-use Rattle.module_table.specs.inner.Finds.{is_by_info, IsByInfo, IsNotByInfo}
+use Rattle.module_table.specs.inner.Finds.{is_by_info, IsByInfo, IsNotByInfo, AcceptsAll}
 use Rattle.module_table.specs.inner.Found.{looked_up, with_module}
+use Rattle.module_table.specs.inner.Reported.{Reports}
 use Rattle.module_table.specs.declared.fault.TableFault.TheVariants.{InfoUnknown}
-use Rattle.module_table.proofs.Refusals.{first_refused}
+use Rattle.module_table.proofs.IndexRows.{take_all}
+use Rattle.module_table.proofs.Rings.{length_mapped}
+use Rattle.module_table.proofs.Refusals.{accepts_next, refuses_here}
 use Rattle.module_table.proofs.Found.{by_info}
-use Rattle.module_table.proofs.InfoRequirements.{required_there}
+use Rattle.module_table.proofs.InfoRequirements.{required_there, found_there}
 use Rattle.module_table.proofs.InfoFaults.{reports_info_unknown}
+use Rattle.module_table.proofs.ReportLemmas.{for_boxed}
 use Rattle.module_table.proofs.checks.required.check_infos_known.Goals as goal
 
-pub returns-in-None-clause-ok : goal.returns-in-None-clause-ok
-returns-in-None-clause-ok g c =
-    let ps = provisions c.args.modules.now in
-    first_refused looked_up (with_module ps) is_by_info (IsByInfo ps) (IsNotByInfo ps) (by_info ps c.requires.differ) (info_requirements c.args.modules.now) c.args.all.now c.requires.same None (sym c.in-None.is ∙ c.first_not_by_info.ensures)
-
-pub returns-in_ok-target-in-Some-clause-fault : goal.returns-in_ok-target-in-Some-clause-fault
-returns-in_ok-target-in-Some-clause-fault g c = λ kept.
+pub returns-then-not-is_by_info-clause-fault : goal.returns-then-not-is_by_info-clause-fault
+returns-then-not-is_by_info-clause-fault g c =
     let t = c.args.modules.now in
     let ps = provisions t in
-    let r = requirement_of c.required_at.result.now in
-    reports_info_unknown t kept c.in-Some.index r _
-    (first_refused looked_up (with_module ps) is_by_info (IsByInfo ps) (IsNotByInfo ps) (by_info ps c.requires.differ) (info_requirements t) c.args.all.now c.requires.same (Some c.in-Some.index) (sym c.in-Some.is ∙ c.first_not_by_info.ensures))
-    (required_there t c.args.all.now c.requires c.in-Some.index c.required_at.result.now c.required_at.ensures)
-    (ap (λ x. InfoUnknown x c.in_ok-target-in-Some.module_name c.in_ok-target-in-Some.name) c.in_ok-target-in-Some.ensures.target
-    ∙ ap (λ x. InfoUnknown r.target x c.in_ok-target-in-Some.name) c.in_ok-target-in-Some.ensures.module_name
-    ∙ ap (λ x. InfoUnknown r.target r.module_name x) c.in_ok-target-in-Some.ensures.name)
+    let all = c.args.all.now in
+    let i = c.loop-required.required-index in
+    let r = requirement_of c.required-item.result in
+    let at = slice_get_read all _ i c.required-item.result refl c.loop-required-test.true c.required-item.is in
+    let there = required_there t all c.requires i c.required-item.result at in
+    let tested = sym c.is_by_info.ensures ∙ c.if-not-is_by_info.true in
+    let found = ap is_by_info (sym (found_there t all c.requires i c.required-item.result at)) in
+    let by = subst (λ b. MatchBool b (IsByInfo ps r) (IsNotByInfo ps r)) (found ∙ tested) (by_info ps c.requires.differ r) in
+    let names = c.in_ok-target.ensures in
+    for_boxed (λ fault. (kept : List (List ℕ)) → Reports 6 t kept fault) _ _
+    (λ kept. reports_info_unknown t kept i r _ (refuses_here (IsByInfo ps) (IsNotByInfo ps) (info_requirements t) i r there c.loop-required.invariant by) there
+    (ap (λ x. InfoUnknown x c.in_ok-target.module_name c.in_ok-target.name) names.target
+    ∙ ap (λ x. InfoUnknown r.target x c.in_ok-target.name) names.module_name
+    ∙ ap (λ x. InfoUnknown r.target r.module_name x) names.name))
+    c.failure_of.ensures
+
+pub loop-required-preserved : goal.loop-required-preserved
+loop-required-preserved g c =
+    let t = c.args.modules.now in
+    let ps = provisions t in
+    let all = c.args.all.now in
+    let i = c.loop-required.required-index in
+    let r = requirement_of c.required-item.result in
+    let at = slice_get_read all _ i c.required-item.result refl c.loop-required-test.true c.required-item.is in
+    let there = required_there t all c.requires i c.required-item.result at in
+    let tested = sym c.is_by_info.ensures ∙ c.if-not-is_by_info.false in
+    let found = ap is_by_info (sym (found_there t all c.requires i c.required-item.result at)) in
+    let by = subst (λ b. MatchBool b (IsByInfo ps r) (IsNotByInfo ps r)) (found ∙ tested) (by_info ps c.requires.differ r) in
+    accepts_next (IsByInfo ps) (IsNotByInfo ps) (info_requirements t) i r there c.loop-required.invariant by
+
+pub returns-clause-ok : goal.returns-clause-ok
+returns-clause-ok g c =
+    let t = c.args.modules.now in
+    let long = sym (length_mapped looked_up c.args.all.now) ∙ ap length c.requires.same ∙ length_mapped (with_module (provisions t)) (info_requirements t) in
+    let all : length (info_requirements t) ≤ c.loop-required.required-index = omega (arith, c.loop-required-test.false, long) in
+    subst (AcceptsAll (IsByInfo (provisions t))) (take_all (info_requirements t) c.loop-required.required-index all) c.loop-required.invariant

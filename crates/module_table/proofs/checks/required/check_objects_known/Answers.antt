@@ -1,9 +1,10 @@
-use Rattle.std.proofs.Common.{◌∙◌, ◌+◌, [], ap, map, refl, slice_get, take, Some, List, Vec, ℕ}
+use Rattle.std.proofs.Common.{◌∙◌, ◌+◌, [], ap, map, refl, slice_get, take, Some, List, Vec, Box, ℕ}
 use Rattle.std.specs.declared.alloc.Global.{Global}
 use Rattle.std.proofs.lemmas.Option.{slice_get_read}
 use Rattle.std.proofs.lemmas.Result.{err_from_is_err_and}
 use Rattle.scan_docs.specs.Scan.{RuleValue}
 use Rattle.module_table.specs.inner.Reported.{Reports}
+use Rattle.module_table.specs.declared.fault.TableFault.{TableFault}
 use Rattle.module_table.proofs.IndexRows.{are_indexes, take_all}
 use Rattle.module_table.proofs.Pushes.{pushes_next}
 use Rattle.module_table.proofs.ReportLemmas.{for_fault, reports_unknown}
@@ -19,8 +20,8 @@ returns-in_err-row-clause-fault g c =
     let objects = c.objects-objects.result.now in
     let at = slice_get_read objects _ c.loop-object.object c.index-objects-object.result refl c.loop-object-test.true c.index-objects-object.is in
     rw (p.1, p.2)
-    (for_fault _ (λ fault. (kept : List (List ℕ)) → Reports 5 c.args.modules.now kept fault) _
-    (λ fault is kept. reports_unknown (λ (row : Vec ℕ Global). row.items) c.names-names.result.now.keys objects c.loop-object.required.items c.loop-object.object c.index-objects-object.result fault at c.loop-object.invariant is c.args.modules.now kept c.objects-objects.ensures c.names-names.ensures)
+    (for_fault _ (λ (fault : Box TableFault Global). (kept : List (List ℕ)) → Reports 5 c.args.modules.now kept fault.value) _
+    (λ fault is kept. reports_unknown (λ (row : Vec ℕ Global). row.items) c.names-names.result.now.keys objects c.loop-object.required.items c.loop-object.object c.index-objects-object.result fault.value at c.loop-object.invariant is c.args.modules.now kept c.objects-objects.ensures c.names-names.ensures)
     c.in_err-row.ensures.fault)
 
 pub loop-object-preserved : goal.loop-object-preserved

@@ -1,7 +1,8 @@
-use Rattle.std.proofs.Common.{◌≡◌, ◌∙◌, ◌≤◌, ◌+◌, [], ap, arith, length, map, sym, refl, take, slice_get, Some, List, ℕ}
+use Rattle.std.proofs.Common.{◌≡◌, ◌∙◌, ◌≤◌, ◌+◌, [], ap, arith, length, map, sym, refl, take, slice_get, Some, List, ℕ, Box, Global}
 use Rattle.std.proofs.lemmas.Option.{slice_get_read}
 use Rattle.std.proofs.lemmas.Result.{err_from_is_err_and}
 use Rattle.scan_docs.specs.Scan.{RuleValue}
+use Rattle.module_table.specs.declared.fault.TableFault.{TableFault}
 use Rattle.module_table.proofs.IndexRows.{take_all}
 use Rattle.module_table.proofs.Pushes.{pushes_next}
 use Rattle.module_table.proofs.ReportLemmas.{IsRowFault, for_fault, in_row}
@@ -20,7 +21,7 @@ returns-in_err-index-clause-fault g c =
     let list : c.deref-required-items.result.now ≡ required = c.deref-required-items.ensures.value ∙ ap (λ (r : RuleValue). r.required) c.rule.view_is in
     let at = ap (λ xs. slice_get xs i) (sym list) ∙ slice_get_read c.deref-required-items.result.now _ i name refl c.loop-required-test.true c.required-item.is in
     let p = err_from_is_err_and c.from_residual-in_err-index.result c.from_residual-in_err-index.ensures.1 in
-    rw (p.1, p.2) (for_fault _ (IsRowFault keys c.args.rule.now c.args.object) _ (λ fault is. (
+    rw (p.1, p.2) (for_fault _ (λ (fault : Box TableFault Global). IsRowFault keys c.args.rule.now c.args.object fault.value) _ (λ fault is. (
       i,
       name,
       record {
