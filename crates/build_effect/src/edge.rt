@@ -1,9 +1,5 @@
 //! Build edges.
-ghost use Rattle.std.specs.Prelude.{◌≡◌};
-ghost use Rattle.build_effect.specs.inner.Extended.{blank_edge};
-
 use ninja_text::Path;
-use std::alloc::Global;
 use std::marker::Model;
 
 /// A build statement of a manifest (Ninja 1.11 manual, "Build statements"): what it makes, and what
@@ -43,22 +39,4 @@ impl Model for Edge {
       dyndep = e.dyndep;
       restat = e.restat;
     } };
-}
-
-impl Edge {
-    /// An edge whose parts are all empty, to be filled in. It takes no memory.
-    pub(crate) fn blank(alloc: Global) -> Edge
-        ensures { result ≡ blank_edge }
-    {
-        Edge {
-            rule: Vec::new(alloc),
-            outputs: Vec::new(alloc),
-            implicit_outputs: Vec::new(alloc),
-            inputs: Vec::new(alloc),
-            implicit_inputs: Vec::new(alloc),
-            order_only: Vec::new(alloc),
-            dyndep: None,
-            restat: false,
-        }
-    }
 }

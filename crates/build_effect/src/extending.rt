@@ -1,7 +1,7 @@
 //! Edges with what statements add.
 ghost use Rattle.std.specs.Prelude.{◌≡◌, ◌++◌, ◌<◌, ℕ, length, Some, IfSome, IfOk, OnOk};
 ghost use Rattle.build_effect.specs.Effect.{extended};
-ghost use Rattle.build_effect.specs.inner.Extended.{blank_edge, IsEdgeAfter, AreExtended};
+ghost use Rattle.build_effect.specs.inner.Extended.{IsEdgeAfter, AreExtended};
 ghost use Rattle.build_effect.specs.inner.StatementEdges.{statement_on};
 
 use crate::addition::Addition;
@@ -39,8 +39,7 @@ fn edge_after(
     requires { IfSome statement (λ k. k < length additions.now) }
     ensures { IfOk result (IsEdgeAfter edge.now additions.now statement) }
 {
-    let mut after = Edge::blank(alloc);
-    copy_edge(alloc, edge, &mut after)?;
+    let mut after = copy_of(alloc, edge)?;
     if let Some(statement_index) = statement {
         extend(alloc, &additions[statement_index], &mut after)?;
     }
@@ -61,25 +60,42 @@ fn extend(alloc: Global, addition: &Addition, edge: &mut Edge) -> Result<(), All
     Ok(())
 }
 
-/// Makes the blank edge the same as this one. (Its own lists are filled in: others, to be put in,
-/// would be dropped at each early end, which takes the prover longer.)
-fn copy_edge(alloc: Global, edge: &Edge, copy: &mut Edge) -> Result<(), AllocError>
-    requires { copy.old ≡ blank_edge }
-    ensures { OnOk result (copy.new ≡ edge.now) }
+/// The same edge again.
+fn copy_of(alloc: Global, edge: &Edge) -> Result<Edge, AllocError>
+    ensures { IfOk result (λ copy. copy ≡ edge.now) }
 {
-    copy.rule.extend_from_slice(&edge.rule)?;
-    add_copies(alloc, &edge.outputs, &mut copy.outputs)?;
-    add_copies(alloc, &edge.implicit_outputs, &mut copy.implicit_outputs)?;
-    add_copies(alloc, &edge.inputs, &mut copy.inputs)?;
-    add_copies(alloc, &edge.implicit_inputs, &mut copy.implicit_inputs)?;
-    add_copies(alloc, &edge.order_only, &mut copy.order_only)?;
-    if let Some(path) = &edge.dyndep {
-        copy.dyndep = Some(path.copy(alloc)?);
-    }
-    copy.restat = edge.restat;
-    Ok(())
+    Ok(Edge {
+        rule: Vec::from_slice(alloc, &edge.rule)?,
+        outputs: copies_of(alloc, &edge.outputs)?,
+        implicit_outputs: copies_of(alloc, &edge.implicit_outputs)?,
+        inputs: copies_of(alloc, &edge.inputs)?,
+        implicit_inputs: copies_of(alloc, &edge.implicit_inputs)?,
+        order_only: copies_of(alloc, &edge.order_only)?,
+        dyndep: dyndep_of(alloc, edge)?,
+        restat: edge.restat,
+    })
 }
 
+/// A copy of the dyndep file that the edge names.
+fn dyndep_of(alloc: Global, edge: &Edge) -> Result<Option<Path>, AllocError>
+    ensures { IfOk result (λ dyndep. dyndep ≡ edge.now.dyndep) }
+{
+    match &edge.dyndep {
+        None => Ok(None),
+        Some(path) => Ok(Some(path.copy(alloc)?)),
+    }
+}
+
+/// Copies of the paths.
+fn copies_of(alloc: Global, paths: &[Path]) -> Result<Vec<Path>, AllocError>
+    ensures { IfOk result (λ copies. copies.items ≡ paths.now) }
+{
+    let mut copies = Vec::with_capacity(alloc, paths.len())?;
+    add_copies(alloc, paths, &mut copies)?;
+    Ok(copies)
+}
+
+/// Appends copies of the paths.
 fn add_copies(alloc: Global, paths: &[Path], copies: &mut Vec<Path>) -> Result<(), AllocError>
     ensures { OnOk result (copies.new.items ≡ copies.old.items ++ paths.now) }
 {

@@ -1,22 +1,9 @@
 -- Edges with what the statements on them add.
-use Rattle.std.specs.Prelude.{◌≡◌, ℕ, List, [], length, slice_get, Option, Some, None, false}
+use Rattle.std.specs.Prelude.{◌≡◌, ℕ, List, length, slice_get, Option, Some, None}
 use Rattle.dyndep_file.specs.StatementValue.{StatementValue}
 use Rattle.build_effect.specs.EdgeValue.{EdgeValue}
 use Rattle.build_effect.specs.Effect.{extended}
 use Rattle.build_effect.specs.inner.StatementEdges.{statement_on}
-
--- an edge to be filled in
-abbrev pub blank_edge : EdgeValue
-blank_edge = record {
-  rule = [];
-  outputs = [];
-  implicit_outputs = [];
-  inputs = [];
-  implicit_inputs = [];
-  order_only = [];
-  dyndep = None;
-  restat = false;
-}
 
 -- the edge as it is, or with what the statement of this index adds
 abbrev pub IsEdgeAfter : EdgeValue → List StatementValue → Option ℕ → EdgeValue → Type 0

@@ -1,5 +1,5 @@
 //! The writer of edge listings.
-ghost use Rattle.std.specs.Prelude.{◌≡◌, ◌++◌, MatchResult, OnOk};
+ghost use Rattle.std.specs.Prelude.{◌≡◌, ◌++◌, codes, MatchResult, OnOk};
 ghost use Rattle.std.specs.List.{flat_map};
 ghost use Rattle.ninja_text.specs.Counting.{held, IsWritten};
 ghost use Rattle.ninja_text.specs.Failure.{Gives};
@@ -66,15 +66,26 @@ fn text_of(alloc: Global, edges: &[Edge]) -> Result<Vec<u8>, Failure<ListingWrit
 fn push_line(text: &mut Vec<u8>, edge: &Edge) -> Result<(), AllocError>
     ensures { OnOk result (text.new.items ≡ text.old.items ++ edge_line edge.now) }
 {
-    text.extend_from_slice(b"build")?;
-    push_spaced(text, &edge.outputs)?;
-    push_part(text, b" |", &edge.implicit_outputs)?;
+    push_side(text, b"build", &edge.outputs, &edge.implicit_outputs)?;
     text.extend_from_slice(b": ")?;
-    text.extend_from_slice(&edge.rule)?;
-    push_spaced(text, &edge.inputs)?;
-    push_part(text, b" |", &edge.implicit_inputs)?;
+    push_side(text, &edge.rule, &edge.inputs, &edge.implicit_inputs)?;
     push_part(text, b" ||", &edge.order_only)?;
     text.extend_from_slice(b"\n")
+}
+
+/// Appends a word, and the explicit and implicit paths after it on its side of the colon.
+fn push_side(
+    text: &mut Vec<u8>,
+    word: &[u8],
+    explicit: &[Path],
+    implicit: &[Path],
+) -> Result<(), AllocError>
+    ensures { OnOk result (text.new.items ≡ text.old.items
+        ++ (word.now ++ flat_map spaced explicit.now ++ marked_text (codes " |") implicit.now)) }
+{
+    text.extend_from_slice(word)?;
+    push_spaced(text, explicit)?;
+    push_part(text, b" |", implicit)
 }
 
 /// Appends the line of the binding `dyndep`, where there is one.

@@ -20,6 +20,6 @@ returns c =
           let addition : StatementValue = w.index-additions-statement_index.result in
           let read = slice_get_read additions _ k addition refl (slice_get_within additions k a at) w.index-additions-statement_index.is in
           let same : addition ≡ a = same_some _ _ (sym read ∙ at) in
-          w.after-is ∙ w.in_ok-extend.ensures ∙ ap (λ x. extended x addition) c.in_ok-copy_edge.ensures ∙ ap (extended e) same)
-      | in_default w ↦ unchanged e after additions _ w.in_default.not-Some (w.after-is ∙ c.in_ok-copy_edge.ensures)
+          w.after-is ∙ w.in_ok-extend.ensures ∙ ap (λ x. extended x addition) c.in_ok-after.ensures ∙ ap (extended e) same)
+      | in_default w ↦ unchanged e after additions _ w.in_default.not-Some (w.after-is ∙ c.in_ok-after.ensures)
     ]
