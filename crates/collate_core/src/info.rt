@@ -61,29 +61,17 @@ fn text_with<S: BuildHasher>(
         (λ text. ReadsBack (info_of_table name.now kept.now.keys table.now) text.items) }
 {
     added_files();
-    let info = info_of_table(alloc, name, kept, table)?;
-    lent_info_write(alloc, &info)
-}
-
-/// The info of a target of this name, which keeps these modules to itself.
-fn info_of_table<'t, S: BuildHasher>(
-    alloc: Global,
-    name: &'t TargetName,
-    kept: &IndexSet<Name, S>,
-    table: &'t Table<S>,
-) -> Result<LentInfo<'t>, AllocError>
-    ensures { IfOk result (λ info. info ≡ info_of_table name.now kept.now.keys table.now) }
-{
     let objects = table.objects();
     let mut modules = Vec::new(alloc);
     for (index, rule) in objects.iter().enumerate() {
         let required = table.required(index);
         add_modules(kept, rule, required, &mut modules)?;
     }
-    Ok(LentInfo {
+    let info = LentInfo {
         target: name,
         modules,
-    })
+    };
+    lent_info_write(alloc, &info)
 }
 
 /// Appends the modules that an object provides, which requires these.

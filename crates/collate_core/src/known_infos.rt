@@ -1,9 +1,10 @@
 //! What the infos of a project's targets are read as, once for all targets that link them.
-ghost use Rattle.std.specs.Prelude.{◌≡◌, ◌<◌, length, All, List, IfOk, OnOk, IfSome};
+ghost use Rattle.std.specs.Prelude.{◌≡◌, ◌∷◌, ◌++◌, ◌<◌, [], length, All, List, IfOk, OnOk, IfSome};
 ghost use Rattle.collate_core.specs.Values.{CollatedValue};
 ghost use Rattle.collate_core.specs.Projects.{linked_infos};
-ghost use Rattle.collate_core.specs.inner.ReadInfos.{IsReadAs, AreReadAs, AreKnown, IsOneMoreKnown};
+ghost use Rattle.collate_core.specs.inner.ReadInfos.{IsReadAs, AreReadAs, AreKnown};
 
+use crate::collated::Collated;
 use crate::pairs::{copy_pair, copy_pairs};
 use ninja_text::Failure;
 use scan_docs::{Info, InfoModule, info_read};
@@ -20,15 +21,20 @@ fn read_info(alloc: Global, document: &[u8]) -> Result<Option<Info>, AllocError>
     }
 }
 
-/// Adds what the next target's info is read as to what is known.
+/// Adds what the next target collated to, and what its info is read as.
 pub(crate) fn add_known(
     alloc: Global,
-    document: &[u8],
+    out: Collated,
+    outs: &mut Vec<Collated>,
     known: &mut Vec<Option<Info>>,
 ) -> Result<(), AllocError>
-    ensures { OnOk result (IsOneMoreKnown known.old.items document.now known.new.items) }
+    requires { AreKnown outs.old.items known.old.items }
+    ensures added { OnOk result (outs.new.items ≡ outs.old.items ++ out ∷ []) }
+    ensures known { OnOk result (AreKnown outs.new.items known.new.items) }
 {
-    known.push(read_info(alloc, document)?)?;
+    let entry = read_info(alloc, out.info())?;
+    known.push(entry)?;
+    outs.push(out)?;
     Ok(())
 }
 
@@ -42,7 +48,7 @@ pub(crate) fn known_of(
     ensures { IfOk result (λ found. IfSome found (λ infos. (outs : List CollatedValue) →
         AreKnown outs known.now → AreReadAs (linked_infos outs linked.now) infos.items)) }
 {
-    let mut infos = Vec::with_capacity(alloc, linked.len())?;
+    let mut infos = Vec::new(alloc);
     for target in linked {
         match &known[*target] {
             Some(info) => infos.push(copy_info(alloc, info)?)?,

@@ -7,7 +7,7 @@ ghost use Rattle.collate_core.specs.Refusals.{WasRead};
 ghost use Rattle.collate_core.specs.Projects.{CollatesProject, IsProjectRefusal, IsLinkedRefusal, WasReadAt, target_of, linked_infos, project_tables};
 ghost use Rattle.collate_core.specs.ProjectOrders.{AllOrders, IsProjectOrdered, EndIsOrderable};
 ghost use Rattle.collate_core.specs.ProjectNeeds.{MapsReadBack};
-ghost use Rattle.collate_core.specs.inner.Parts.{CollatesLinked, IsOneMore};
+ghost use Rattle.collate_core.specs.inner.Parts.{CollatesLinked};
 ghost use Rattle.collate_core.specs.inner.ReadInfos.{AreKnown};
 
 use crate::collated::Collated;
@@ -159,7 +159,7 @@ pub fn project_or_refused<M: MapStyle, S: BuildHasher + Copy>(
 {
     project_orders();
     project_maps();
-    let mut outs = Vec::with_capacity(alloc, targets.len())?;
+    let mut outs = Vec::new(alloc);
     add_outs(alloc, targets, style, hash_builder, &mut outs)?;
     Ok(ProjectOut { targets: outs })
 }
@@ -184,10 +184,18 @@ fn add_outs<M: MapStyle, S: BuildHasher + Copy>(
         targets.now refused.0 refused.1.refusal
         (table_with refused.1.objects.items refused.1.infos.items))) }
 {
-    let mut known = Vec::with_capacity(alloc, targets.len())?;
+    let mut known = Vec::new(alloc);
     for (index, target) in targets.iter().enumerate() {
-        if let Err(failure) = add_out(alloc, target, style, hash_builder, outs, &mut known) {
-            return Err(of_target(index, failure));
+        match collate_linked(
+            alloc,
+            target,
+            outs.as_slice(),
+            known.as_slice(),
+            style,
+            hash_builder,
+        ) {
+            Ok(out) => add_known(alloc, out, outs, &mut known)?,
+            Err(failure) => return Err(of_target(index, failure)),
         }
     }
     Ok(())
@@ -198,40 +206,6 @@ fn of_target(index: usize, failure: Failure<RefusedTarget>) -> Failure<(usize, R
     ensures { Turns (λ refused found. found ≡ (index, refused)) failure result }
 {
     failure.map(|refused| (index, refused))
-}
-
-/// Adds what the next target collates to, and what its info is read as.
-fn add_out<M: MapStyle, S: BuildHasher + Copy>(
-    alloc: Global,
-    target: &ProjectTarget<'_>,
-    style: Option<&M>,
-    hash_builder: S,
-    outs: &mut Vec<Collated>,
-    known: &mut Vec<Option<Info>>,
-) -> Result<(), Failure<RefusedTarget>>
-    requires { AreKnown outs.old.items known.old.items }
-    ensures collated { OnOk result (IsOneMore
-        (option_map M.written (option_copied style.entry))
-        outs.old.items target.now outs.new.items) }
-    ensures known { OnOk result (AreKnown outs.new.items known.new.items) }
-    ensures refused { IfErr result (ForFault (λ refused. IsLinkedRefusal
-        (option_map M.written (option_copied style.entry))
-        outs.old.items (length outs.old.items) target.now refused.refusal)) }
-    ensures read { IfErr result (ForFault (λ refused.
-        WasRead (target_of outs.old.items target.now) refused.refusal
-        (table_with refused.objects.items refused.infos.items))) }
-{
-    let out = collate_linked(
-        alloc,
-        target,
-        outs.as_slice(),
-        known.as_slice(),
-        style,
-        hash_builder,
-    )?;
-    add_known(alloc, out.info(), known)?;
-    outs.push(out)?;
-    Ok(())
 }
 
 /// Whether all indexes are below this one.
@@ -256,7 +230,7 @@ fn infos_of<'a>(
     ensures { IfOk result
         (λ infos. map (λ s. s.now) infos.items ≡ linked_infos outs.now linked.now) }
 {
-    let mut infos = Vec::with_capacity(alloc, linked.len())?;
+    let mut infos = Vec::new(alloc);
     for target in linked {
         infos.push(outs[*target].info())?;
     }

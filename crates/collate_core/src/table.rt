@@ -124,7 +124,7 @@ fn infos_of_all(alloc: Global, documents: &[&[u8]]) -> Result<Vec<Info>, Failure
     ensures refused { IfErr result
         (ForFault (ForInfo (IsInfoRefusal (map (λ info. info.now) documents.now)))) }
 {
-    let mut infos = Vec::with_capacity(alloc, documents.len())?;
+    let mut infos = Vec::new(alloc);
     for (index, document) in documents.iter().enumerate() {
         match info_read(alloc, document) {
             Ok(info) => infos.push(info)?,

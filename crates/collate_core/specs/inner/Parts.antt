@@ -1,5 +1,5 @@
 -- What the parts of collating promise one another: definitions for private clauses.
-use Rattle.std.specs.Prelude.{◌≡◌, ℕ, List, [], ◌∷◌, ◌++◌, length, map, slice_get, Option, Some, All}
+use Rattle.std.specs.Prelude.{◌≡◌, ℕ, List, length, map, slice_get, Option, Some, All}
 use Rattle.std.specs.Borrow.{Bor}
 use Rattle.ninja_text.specs.Paths.{IsPath}
 use Rattle.ninja_text.specs.Escapes.{IsWritable}
@@ -108,9 +108,3 @@ abbrev pub CollatesLinked : Option Written → List CollatedValue → ProjectTar
     CollatedValue → Type 0
 CollatesLinked style outs p c =
     LinksEarlier (length outs) p × Collates (target_of outs p) style c
-
--- what this target collates to is added to what the targets that it may link wrote
-abbrev pub IsOneMore : Option Written → List CollatedValue → ProjectTargetValue →
-    List CollatedValue → Type 0
-IsOneMore style outs p more = (out : CollatedValue) × CollatesLinked style outs p out
-    × (more ≡ outs ++ out ∷ [])

@@ -1,5 +1,5 @@
 -- What is known of infos that were read before: definitions for private clauses.
-use Rattle.std.specs.Prelude.{◌≡◌, ℕ, List, [], ◌∷◌, ◌++◌, length, map, slice_get, Option, Some, IfSome, All}
+use Rattle.std.specs.Prelude.{◌≡◌, ℕ, List, length, map, slice_get, Option, Some, All}
 use Rattle.ninja_text.specs.Bytes.{Text}
 use Rattle.scan_docs.specs.Info.{InfoValue}
 use Rattle.scan_docs.specs.InfoText.{IsInfoText}
@@ -24,8 +24,3 @@ pub record AreKnown (outs : List CollatedValue) (known : List (Option InfoValue)
   pub count : length known ≡ length outs
   pub each : (k : ℕ) (out : CollatedValue) (info : InfoValue) →
       slice_get outs k ≡ Some out → slice_get known k ≡ Some (Some info) → IsReadAs out.info info
-
--- what this document is read as, unless it is refused, is added to what is known
-abbrev pub IsOneMoreKnown : List (Option InfoValue) → Text → List (Option InfoValue) → Type 0
-IsOneMoreKnown known document more = (entry : Option InfoValue) × IfSome entry (IsReadAs document)
-    × (more ≡ known ++ entry ∷ [])

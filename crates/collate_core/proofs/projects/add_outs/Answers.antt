@@ -3,12 +3,14 @@ use Rattle.std.specs.Prelude.{slice_get}
 use Rattle.std.specs.Option.{option_copied, option_map}
 use Rattle.std.proofs.lemmas.List.{take_all}
 use Rattle.std.proofs.lemmas.Option.{slice_get_read}
+use Rattle.ninja_text.specs.Failure.{ForFault}
 use Rattle.module_maps.specs.Maps.{Written}
 use Rattle.collate_core.specs.Values.{CollatedValue, ProjectTargetValue}
 use Rattle.module_table.specs.TableValue.{TableValue, table_with}
 use Rattle.collate_core.specs.Refusals.{WasRead}
 use Rattle.collate_core.specs.Projects.{CollatesProject, IsLinkedRefusal, IsProjectRefusal, WasReadAt, target_of}
 use Rattle.collate_core.specs.declared.fault.RefusedTarget.{RefusedTarget}
+use Rattle.collate_core.specs.inner.Parts.{CollatesLinked}
 use Rattle.collate_core.proofs.Lists.{take_next}
 use Rattle.collate_core.proofs.LoopLemmas.{project_push, refused_here}
 use Rattle.collate_core.proofs.Turning.{turned}
@@ -19,7 +21,7 @@ loop-index-init g c =
     record {
       collated = subst (CollatesProject (option_map g.M.MapStyle.written (option_copied c.args.style)) []) (sym c.requires)
           (record { count = refl; earlier = λ n p at. absurd (cc); each = λ n p out at also. absurd (cc) });
-      known = rw (c.requires, c.in_ok-known.ensures.items) (record { count = refl; each = λ n out info at also. absurd (cc) });
+      known = rw (c.requires, c.new-known.ensures.items) (record { count = refl; each = λ n out info at also. absurd (cc) });
     }
 
 pub returns-in-Err-clause-refused : goal.returns-in-Err-clause-refused
@@ -32,7 +34,7 @@ returns-in-Err-clause-refused g c =
     let here : slice_get targets n ≡ Some p = slice_get_read targets _ n _ refl c.loop-index-test.true c.index-targets-index.is in
     turned (λ refused (found : ℕ × RefusedTarget). found ≡ (n, refused)) (λ (refused : RefusedTarget). IsLinkedRefusal style outs (length outs) p refused.refusal) (λ (found : ℕ × RefusedTarget). IsProjectRefusal style targets found.0 found.1.refusal)
     (λ refused found same h. subst (λ (f : ℕ × RefusedTarget). IsProjectRefusal style targets f.0 f.1.refusal) (sym same) (refused_here style targets n outs p c.loop-index.invariant.collated here refused.refusal h))
-    c.in-Err.failure c.of_target.result c.of_target.ensures c.in-Err.ensures.refused
+    c.in-Err.failure c.of_target.result c.of_target.ensures (subst (λ os. ForFault (λ (refused : RefusedTarget). IsLinkedRefusal style os (length os) p refused.refusal) c.in-Err.failure) c.as_slice.ensures.value c.in-Err.ensures.refused)
 
 pub returns-in-Err-clause-read : goal.returns-in-Err-clause-read
 returns-in-Err-clause-read g c =
@@ -45,7 +47,7 @@ returns-in-Err-clause-read g c =
     let read : RefusedTarget → TableValue = λ refused. table_with refused.objects.items refused.infos.items in
     turned (λ refused (found : ℕ × RefusedTarget). found ≡ (n, refused)) (λ (refused : RefusedTarget). WasRead (target_of outs p) refused.refusal (read refused)) (λ (found : ℕ × RefusedTarget). WasReadAt style targets found.0 found.1.refusal (read found.1))
     (λ refused found same h. subst (λ (f : ℕ × RefusedTarget). WasReadAt style targets f.0 f.1.refusal (read f.1)) (sym same) (outs, p, c.loop-index.invariant.collated, here, h))
-    c.in-Err.failure c.of_target.result c.of_target.ensures c.in-Err.ensures.read
+    c.in-Err.failure c.of_target.result c.of_target.ensures (subst (λ os. ForFault (λ (refused : RefusedTarget). WasRead (target_of os p) refused.refusal (read refused)) c.in-Err.failure) c.as_slice.ensures.value c.in-Err.ensures.read)
 
 pub loop-index-preserved : goal.loop-index-preserved
 loop-index-preserved g c =
@@ -55,10 +57,11 @@ loop-index-preserved g c =
     let p : ProjectTargetValue = c.index-targets-index.result in
     let here : slice_get targets n ≡ Some p = slice_get_read targets _ n _ refl c.loop-index-test.true c.index-targets-index.is in
     let next : take (n + 1) targets ≡ take n targets ++ p ∷ [] = take_next targets n p here in
-    let more = c.in_default.ensures.collated in
+    let outs : List CollatedValue = c.loop-index.outs.items in
+    let linked : CollatesLinked style outs p c.in-Ok.out = subst (λ (os : List CollatedValue). CollatesLinked style os p c.in-Ok.out) c.as_slice.ensures.value c.in-Ok.ensures.collated in
     record {
-      collated = rw (next, more.2) (project_push style (take n targets) c.loop-index.outs.items c.loop-index.invariant.collated p more.0 more.1.0 more.1.1);
-      known = c.in_default.ensures.known;
+      collated = rw (next, c.in_ok-add_known-in-Ok.ensures.added) (project_push style (take n targets) outs c.loop-index.invariant.collated p c.in-Ok.out linked.0 linked.1);
+      known = c.in_ok-add_known-in-Ok.ensures.known;
     }
 
 pub returns-clause-collated : goal.returns-clause-collated

@@ -5,7 +5,7 @@ use Rattle.collate_core.proofs.projects.project_or_refused.Goals as goal
 
 pub returns-in_err-add_outs-clause-refused : goal.returns-in_err-add_outs-clause-refused
 returns-in_err-add_outs-clause-refused g c =
-    let p = err_from_is_err_and c.from_residual-in_err-add_outs.result c.from_residual-in_err-add_outs.ensures.1 in
+    let p = err_from_is_err_and c.from_residual.result c.from_residual.ensures.1 in
     rw (p.1, p.2) c.in_err-add_outs.ensures.refused
 
 pub returns-clause-collated : goal.returns-clause-collated

@@ -2,7 +2,7 @@ use Rattle.std.proofs.Common.{◌≡◌, take}
 use Rattle.std.specs.List.{flat_map}
 use Rattle.module_table.specs.Added.{tasks_of}
 use Rattle.collate_core.specs.Infos.{modules_of}
-use Rattle.collate_core.proofs.info.info_of_table.Given as goal
+use Rattle.collate_core.proofs.info.text_with.Given as goal
 
 -- the modules of the objects so far
 abbrev pub invariant-loop-index : goal.invariant-loop-index
