@@ -1,9 +1,8 @@
 -- What a run of `collate` answers.
-use Rattle.std.proofs.Common.{◌≡◌, ◌∙◌, ℕ, suc, List, [], ◌∷◌, ◌++◌, map, zip, Option, refl, ap, ap₂, sym, subst, arith}
-use Rattle.std.specs.Prelude.{All, IsUtf8, Vec, Result, Ok, Err, IfOk, IsOkAnd, String}
+use Rattle.std.proofs.Common.{◌≡◌, ◌∙◌, ℕ, suc, List, [], ◌∷◌, ◌++◌, map, zip, Option, refl, ap, sym, subst, arith}
+use Rattle.std.specs.Prelude.{All, IsUtf8, Vec, Result, Ok, Err, OnOk, String}
 use Rattle.std.specs.Global.{Global}
 use Rattle.std.specs.List.{AllZip}
-use Rattle.std.specs.declared.alloc.AllocError.{AllocError}
 use Rattle.std.proofs.lemmas.List.{map-append}
 use Rattle.std.proofs.lemmas.List.Elements.{All-nil, All-cons, All-head, All-tail, All-append, All-map}
 use Rattle.scan_docs.specs.Scan.{SettingValue, RuleValue, IsRule}
@@ -62,12 +61,8 @@ abbrev pub map_file : List ℕ × Vec ℕ Global → FileValue
 map_file object = (map_name object.0, object.1.items)
 
 -- one file more
-pub file_more : (files longer : Result (Vec (String Global × Vec ℕ Global) Global) AllocError) (file : Result (String Global × Vec ℕ Global) AllocError) (before : List FileValue) (one : FileValue) →
-    IfOk files (λ fs. map file_value fs.items ≡ before) → IfOk file (λ f. file_value f ≡ one) →
-    IfOk longer (λ l. IsOkAnd files (λ fs. IsOkAnd file (λ f. l.items ≡ fs.items ++ f ∷ []))) →
-    IfOk longer (λ l. map file_value l.items ≡ before ++ one ∷ [])
-file_more (Ok fs) (Ok l) (Ok f) before one so_far is more =
-    ap (map file_value) more ∙ map-append file_value fs.items (f ∷ []) ∙ ap₂ (λ a b. a ++ b ∷ []) so_far is
-file_more (Ok fs) (Ok l) (Err e) before one so_far is more = absurd more
-file_more (Err e) (Ok l) file before one so_far is more = absurd more
-file_more files (Err e) file before one so_far is more = tt
+pub file_more : {E : Type 0} (r : Result Unit E) (old new : List (String Global × Vec ℕ Global)) (file : String Global × Vec ℕ Global) (value : FileValue) →
+    file_value file ≡ value → OnOk r (new ≡ old ++ file ∷ []) → OnOk r (map file_value new ≡ map file_value old ++ value ∷ [])
+file_more (Ok done) old new file value is more =
+    ap (map file_value) more ∙ map-append file_value old (file ∷ []) ∙ ap (λ v. map file_value old ++ v ∷ []) is
+file_more (Err e) old new file value is more = tt

@@ -1,12 +1,17 @@
 -- A fact of the value that a call answers, if there is one, and of its fault.
 use Rattle.std.proofs.Common.{Result, Ok, Err}
-use Rattle.std.specs.Prelude.{IfOk, IfErr}
+use Rattle.std.specs.Prelude.{IfOk, IfErr, OnOk}
 use Rattle.ninja_text.specs.Failure.{ForFault}
 use Rattle.ninja_text.specs.declared.failure.Failure.{Failure}
 use Rattle.ninja_text.specs.declared.failure.Failure.TheVariants.{Memory, Fault}
 use Rattle.std.specs.declared.alloc.AllocError.{AllocError}
 use Rattle.commands.specs.declared.answer.Answer.{Answer}
 use Rattle.commands.specs.inner.Refusals.{AnswersFault}
+
+-- what follows from a fact that holds where a call succeeds
+pub if_done : {T E : Type 0} (r : Result T E) (P Q : Type 0) → (P → Q) → OnOk r P → OnOk r Q
+if_done (Ok x) P Q to h = to h
+if_done (Err e) P Q to h = tt
 
 -- what holds of each value holds of the one that is there
 pub if_any : {T E : Type 0} (r : Result T E) (P : T → Type 0) → ((x : T) → P x) → IfOk r P

@@ -3,7 +3,7 @@
 ghost use Rattle.std.specs.Prelude.{◌≡◌, ◌++◌, ◌∷◌, [], Err, map, IfOk, OnOk, codes};
 ghost use Rattle.ninja_text.specs.Bytes.{line_feed};
 ghost use Rattle.dyndep_file.specs.WriteFaults.{text_or_fault};
-ghost use Rattle.commands.specs.Answers.{visible, line, file_value, Writes, Fails, AnswersText};
+ghost use Rattle.commands.specs.Answers.{visible, file_value, Writes, Fails, AnswersText};
 ghost use Rattle.commands.specs.Files.{ended};
 
 use dyndep_file::Dyndep;
@@ -73,15 +73,22 @@ impl Answer {
     pub fn unread(alloc: Global, name: &str) -> Result<Answer, AllocError>
         ensures { IfOk result (Fails 3 (codes "cannot read " ++ name.now)) }
     {
-        let message = format!(in alloc; "cannot read {name}")?;
-        Answer::failed(alloc, 3, message.as_bytes())
+        Answer::cannot(alloc, "read", name)
     }
 
     /// The file of this name could not be written.
     pub fn unwritten(alloc: Global, name: &str) -> Result<Answer, AllocError>
         ensures { IfOk result (Fails 3 (codes "cannot write " ++ name.now)) }
     {
-        let message = format!(in alloc; "cannot write {name}")?;
+        Answer::cannot(alloc, "write", name)
+    }
+
+    /// This could not be done to the file of this name.
+    fn cannot(alloc: Global, verb: &str, name: &str) -> Result<Answer, AllocError>
+        ensures { IfOk result (Fails 3
+            (codes "cannot " ++ verb.now ++ codes " " ++ name.now)) }
+    {
+        let message = format!(in alloc; "cannot {verb} {name}")?;
         Answer::failed(alloc, 3, message.as_bytes())
     }
 
@@ -89,7 +96,8 @@ impl Answer {
     pub(crate) fn failed(alloc: Global, status: u8, message: &[u8]) -> Result<Answer, AllocError>
         ensures { IfOk result (Fails status message.now) }
     {
-        let err = fault_line(alloc, message)?;
+        let mut err = Vec::from_slice(alloc, b"dyncollate: ")?;
+        push_line(&mut err, message)?;
         Ok(Answer {
             status,
             out: Vec::new(alloc),
@@ -97,15 +105,6 @@ impl Answer {
             files: Vec::new(alloc),
         })
     }
-}
-
-/// The line on standard error that says why a run failed. Control bytes are printed as `?`.
-fn fault_line(alloc: Global, message: &[u8]) -> Result<Vec<u8>, AllocError>
-    ensures { IfOk result (λ text. text.items ≡ line message.now) }
-{
-    let mut text = Vec::from_slice(alloc, b"dyncollate: ")?;
-    push_line(&mut text, message)?;
-    Ok(text)
 }
 
 /// Appends a line. Control bytes are printed as `?`.

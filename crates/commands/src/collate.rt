@@ -1,29 +1,28 @@
 //! The command `collate`: the files of a target.
 
-ghost use Rattle.std.specs.Prelude.{◌≡◌, Some, None, [], ◌∷◌, ◌++◌, map, zip, string_bytes, option_copied, IsUtf8, All, IfOk, IfErr, IsOkAnd, OnOk};
+ghost use Rattle.std.specs.Prelude.{◌≡◌, Some, None, [], ◌∷◌, ◌++◌, map, zip, option_copied, IsUtf8, All, IfOk, IfErr, OnOk};
 ghost use Rattle.ninja_text.specs.Failure.{ForFault};
 ghost use Rattle.module_table.specs.TableValue.{table_with};
 ghost use Rattle.collate_core.specs.Collation.{Collates};
 ghost use Rattle.collate_core.specs.Refusals.{IsRefusal, WasRead};
-ghost use Rattle.commands.specs.Answers.{file_value, Refuses};
-ghost use Rattle.commands.specs.CollateCommand.{style_of, map_name, files_of, WritesCollated, AnswersTargetOf, AnswersCollate, spec_text};
-ghost use Rattle.commands.specs.EdgeChecks.{PassesEdges, FailsEdges};
+ghost use Rattle.commands.specs.Answers.{file_value};
+ghost use Rattle.commands.specs.CollateCommand.{style_of, map_name, files_of, WritesCollated, AnswersTargetOf, AnswersCollate};
 ghost use Rattle.commands.specs.Files.{ended};
 ghost use Rattle.commands.specs.Folder.{MakesCalls};
 ghost use Rattle.commands.specs.Targets.{AnswersTarget};
 
 use crate::answer::{Answer, answered};
-use crate::edges::{EdgesFault, edges_check, edges_failed};
+use crate::edges::{edges_failed, edges_pass};
 use crate::folder::Folder;
-use crate::reading::{TargetFiles, pushed, slices};
-use crate::refusal::failed_run;
+use crate::reading::{TargetFiles, add, slices};
+use crate::refusal::{document_refused, failed_run};
 use crate::target_document::TargetDocument;
 use collate_core::{
     Collated, CollatedParts, RefusedTarget, Target, collate_or_refused, one_outcome,
 };
 use module_maps::{Clang, Gcc};
 use ninja_text::{Failure, Path};
-use scan_docs::{DocFault, MapForm, TargetSpec};
+use scan_docs::{MapForm, TargetSpec};
 use std::alloc::{AllocError, Global};
 use std::hash::RandomState;
 
@@ -50,16 +49,8 @@ pub fn collate_run<F: Folder>(
             }
         }
         Err(Failure::Memory) => Err(AllocError),
-        Err(Failure::Fault(fault)) => spec_refused(alloc, &fault),
+        Err(Failure::Fault(fault)) => document_refused(alloc, "target", &fault),
     }
-}
-
-/// The answer to a target document that is refused.
-fn spec_refused(alloc: Global, fault: &DocFault) -> Result<Answer, AllocError>
-    ensures { IfOk result (Refuses (spec_text fault.now)) }
-{
-    let message = format!(in alloc; "target: {fault}")?;
-    Answer::failed(alloc, 1, message.as_bytes())
 }
 
 /// The answer to the target of a document, of these files.
@@ -88,26 +79,6 @@ fn target_answer(
     }
 }
 
-/// Whether the edges of a listing, if there is one, can be put in order after the effect of a
-/// collated target's dyndep file, which has that name.
-pub(crate) fn edges_pass(
-    alloc: Global,
-    keys: RandomState,
-    listing: Option<&[u8]>,
-    name: &Path,
-    collated: &Collated,
-) -> Result<(), Failure<EdgesFault>>
-    ensures passes { OnOk result
-        (PassesEdges (option_copied listing.entry) name.now collated.now.dyndep) }
-    ensures fails { IfErr result (ForFault
-        (FailsEdges (option_copied listing.entry) name.now collated.now.dyndep)) }
-{
-    match listing {
-        Some(text) => edges_check(alloc, keys, text, name, collated),
-        None => Ok(()),
-    }
-}
-
 /// The answer to a collated target: its files, or what is wrong with the edges of the listing, if
 /// there is one.
 fn collated_answer(
@@ -123,7 +94,8 @@ fn collated_answer(
 {
     match edges_pass(alloc, keys, listing, document.path(), &collated) {
         Ok(()) => {
-            let files = files_of(alloc, collated, document.spec())?;
+            let mut files = Vec::new(alloc);
+            append_files(alloc, collated, document.spec(), &mut files)?;
             Ok(Answer::writes(alloc, files))
         }
         Err(failure) => edges_failed(alloc, failure),
@@ -150,15 +122,16 @@ fn collate_in(
     }
 }
 
-/// The files of a collated target, whose texts are given up and not copied.
-pub(crate) fn files_of(
+/// Appends the files of a collated target, whose texts are given up and not copied.
+pub(crate) fn append_files(
     alloc: Global,
     collated: Collated,
     spec: &TargetSpec,
-) -> Result<Vec<(String, Vec<u8>)>, AllocError>
+    files: &mut Vec<(String, Vec<u8>)>,
+) -> Result<(), AllocError>
     requires { All IsUtf8 collated.objects }
-    ensures { IfOk result (λ files. map file_value files.items
-        ≡ files_of spec.now collated) }
+    ensures { OnOk result (map file_value files.new.items
+        ≡ map file_value files.old.items ++ files_of spec.now collated) }
 {
     let CollatedParts {
         dyndep: dyndep_text,
@@ -166,62 +139,57 @@ pub(crate) fn files_of(
         objects,
         maps,
     } = collated.into_parts();
-    let files = map_files(alloc, &objects, maps);
-    let files = with_file(files, named(alloc, spec.info.as_str(), info_text));
-    with_file(files, named(alloc, spec.dyndep.as_str(), dyndep_text))
+    append_maps(alloc, &objects, maps, files)?;
+    append_file(alloc, spec.info.as_str(), info_text, files)?;
+    append_file(alloc, spec.dyndep.as_str(), dyndep_text, files)
 }
 
-/// The map files of these objects, where there are maps.
-fn map_files(
+/// Appends the map files of these objects, where there are maps.
+fn append_maps(
     alloc: Global,
     objects: &[Path],
     maps: Vec<Vec<u8>>,
-) -> Result<Vec<(String, Vec<u8>)>, AllocError>
+    files: &mut Vec<(String, Vec<u8>)>,
+) -> Result<(), AllocError>
     requires { All IsUtf8 objects.now }
-    ensures { IfOk result (λ files. map file_value files.items
-        ≡ zip (map map_name objects.now) (map (λ m. m.items) maps.items)) }
+    ensures { OnOk result (map file_value files.new.items ≡ map file_value files.old.items
+        ++ zip (map map_name objects.now) (map (λ m. m.items) maps.items)) }
 {
-    let mut files = Vec::with_capacity(alloc, maps.len())?;
+    files.reserve(maps.len())?;
     for (object, map) in objects.iter().zip(maps) {
-        files = with_file(Ok(files), map_file(alloc, object, map))?;
+        append_map(alloc, object, map, files)?;
     }
-    Ok(files)
+    Ok(())
 }
 
-/// The files and one more, if memory was given for both. (It takes what may be refused, so that
-/// its callers have nothing to drop where they would end early.)
-fn with_file(
-    files: Result<Vec<(String, Vec<u8>)>, AllocError>,
-    file: Result<(String, Vec<u8>), AllocError>,
-) -> Result<Vec<(String, Vec<u8>)>, AllocError>
-    ensures { IfOk result (λ longer. IsOkAnd files (λ before. IsOkAnd file (λ one.
-        longer.items ≡ before.items ++ one ∷ []))) }
-{
-    pushed(files?, file?)
-}
-
-/// A file of this name.
-fn named(alloc: Global, name: &str, text: Vec<u8>) -> Result<(String, Vec<u8>), AllocError>
-    ensures { IfOk result (λ file. file_value file ≡ (name.now, text.items)) }
-{
-    Ok((String::from_str(alloc, name)?, text))
-}
-
-/// The map file of an object.
-fn map_file(alloc: Global, object: &Path, text: Vec<u8>) -> Result<(String, Vec<u8>), AllocError>
+/// Appends the map file of an object.
+fn append_map(
+    alloc: Global,
+    object: &Path,
+    text: Vec<u8>,
+    files: &mut Vec<(String, Vec<u8>)>,
+) -> Result<(), AllocError>
     requires { IsUtf8 object.now }
-    ensures { IfOk result (λ file. file_value file ≡ (map_name object.now, text.items)) }
+    ensures { OnOk result (map file_value files.new.items
+        ≡ map file_value files.old.items ++ (map_name object.now, text.items) ∷ []) }
 {
-    Ok((map_name(alloc, object)?, text))
+    let Ok(object) = str::from_utf8(object.bytes()) else {
+        unreachable!()
+    };
+    let name = format!(in alloc; "{object}.modmap")?;
+    add(files, (name, text))
 }
 
-/// The name of an object's map file.
-fn map_name(alloc: Global, object: &Path) -> Result<String, AllocError>
-    requires { IsUtf8 object.now }
-    ensures { IfOk result (λ name. string_bytes name ≡ map_name object.now) }
+/// Appends a file of this name.
+fn append_file(
+    alloc: Global,
+    name: &str,
+    text: Vec<u8>,
+    files: &mut Vec<(String, Vec<u8>)>,
+) -> Result<(), AllocError>
+    ensures { OnOk result (map file_value files.new.items
+        ≡ map file_value files.old.items ++ (name.now, text.items) ∷ []) }
 {
-    match str::from_utf8(object.bytes()) {
-        Ok(object) => Ok(format!(in alloc; "{object}.modmap")?),
-        Err(_) => unreachable!(),
-    }
+    let name = String::from_str(alloc, name)?;
+    add(files, (name, text))
 }

@@ -2,7 +2,7 @@
 //! reported.
 
 ghost use Rattle.std.specs.Prelude.{◌≡◌, IfOk};
-ghost use Rattle.commands.specs.EdgeFaults.{first_output, edges_fault_text, effect_text, chain_text, cycle_text};
+ghost use Rattle.commands.specs.EdgeFaults.{first_output, edges_fault_text, effect_text, cycle_text};
 
 use crate::table_fault::{joined, push_next};
 use build_effect::{Edge, EffectFault, ListingFault};
@@ -44,18 +44,11 @@ pub(crate) fn cycle_text(
 ) -> Result<Vec<u8>, AllocError>
     ensures { IfOk result (λ text. text.items ≡ cycle_text edges.now cycle.now) }
 {
-    let chain = chain_text(alloc, edges, cycle)?;
-    joined(alloc, &[b"cycle ", &chain])
-}
-
-/// The first outputs of edges, with arrows between them.
-fn chain_text(alloc: Global, edges: &[Edge], chain: &[usize]) -> Result<Vec<u8>, AllocError>
-    ensures { IfOk result (λ text. text.items ≡ chain_text edges.now chain.now) }
-{
-    let [first, others @ ..] = chain else {
-        return Ok(Vec::new(alloc));
+    let mut text = Vec::from_slice(alloc, b"cycle ")?;
+    let [first, others @ ..] = cycle else {
+        return Ok(text);
     };
-    let mut text = Vec::from_slice(alloc, first_output(edges, *first))?;
+    text.extend_from_slice(first_output(edges, *first))?;
     for next in others {
         push_next(&mut text, first_output(edges, *next))?;
     }

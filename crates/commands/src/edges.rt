@@ -1,9 +1,9 @@
 //! The check of the edges that a target document names.
 
-ghost use Rattle.std.specs.Prelude.{◌≡◌, IfOk, IfErr, OnOk};
+ghost use Rattle.std.specs.Prelude.{◌≡◌, option_copied, IfOk, IfErr, OnOk};
 ghost use Rattle.ninja_text.specs.Failure.{ForFault};
 ghost use Rattle.commands.specs.Answers.{Refuses};
-ghost use Rattle.commands.specs.EdgeChecks.{AreOrderedAfter, ListsOrdered, IsEdgesFault, edges_text};
+ghost use Rattle.commands.specs.EdgeChecks.{AreOrderedAfter, PassesEdges, FailsEdges, edges_text};
 ghost use Rattle.commands.specs.inner.EdgeChecks.{AreFaultyAfter};
 ghost use Rattle.commands.specs.inner.Refusals.{AnswersFault};
 
@@ -28,18 +28,23 @@ pub(crate) enum EdgesFault {
     Cycle { graph: Graph, cycle: Vec<usize> },
 }
 
-/// Whether the edges that a text lists can be put in order after the effect of a collated target's
-/// dyndep file, which has that name.
-pub(crate) fn edges_check(
+/// Whether the edges of a listing, if there is one, can be put in order after the effect of a
+/// collated target's dyndep file, which has that name.
+pub(crate) fn edges_pass(
     alloc: Global,
     keys: RandomState,
-    text: &[u8],
+    listing: Option<&[u8]>,
     name: &Path,
     collated: &Collated,
 ) -> Result<(), Failure<EdgesFault>>
-    ensures ordered { OnOk result (ListsOrdered text.now name.now collated.now.dyndep) }
-    ensures faulty { IfErr result (ForFault (IsEdgesFault text.now name.now collated.now.dyndep)) }
+    ensures passes { OnOk result
+        (PassesEdges (option_copied listing.entry) name.now collated.now.dyndep) }
+    ensures fails { IfErr result (ForFault
+        (FailsEdges (option_copied listing.entry) name.now collated.now.dyndep)) }
 {
+    let Some(text) = listing else {
+        return Ok(());
+    };
     match listing_read(alloc, keys, text) {
         Ok(graph) => graph_check(alloc, keys, graph, name, collated),
         Err(Failure::Memory) => Err(Failure::Memory),
@@ -80,7 +85,8 @@ pub(crate) fn edges_failed(
             let message = edges_text(alloc, &fault);
             // Here, by one call: what it holds would be dropped field by field at the end.
             drop(fault);
-            Answer::failed(alloc, 1, &message?)
+            let message = message?;
+            Answer::failed(alloc, 1, &message)
         }
     }
 }

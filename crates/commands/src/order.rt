@@ -1,8 +1,6 @@
 //! The command `order`: the edges of a listing in an order in which they can run.
 
 ghost use Rattle.std.specs.Prelude.{◌≡◌, IfOk};
-ghost use Rattle.commands.specs.Answers.{Refuses};
-ghost use Rattle.commands.specs.EdgeFaults.{cycle_text};
 ghost use Rattle.commands.specs.Listings.{AnswersListing};
 ghost use Rattle.commands.specs.Order.{order_text, AnswersOrder};
 
@@ -39,16 +37,11 @@ fn graph_run(alloc: Global, keys: RandomState, graph: &Graph) -> Result<Answer, 
             let text = order_text(alloc, graph.edges(), &order)?;
             Ok(Answer::done(alloc, text))
         }
-        Sorting::Cycle(cycle) => cycle_refused(alloc, graph.edges(), &cycle),
+        Sorting::Cycle(cycle) => {
+            let message = cycle_text(alloc, graph.edges(), &cycle)?;
+            Answer::failed(alloc, 1, &message)
+        }
     }
-}
-
-/// The answer to edges that need each other.
-fn cycle_refused(alloc: Global, edges: &[Edge], cycle: &[usize]) -> Result<Answer, AllocError>
-    ensures { IfOk result (Refuses (cycle_text edges.now cycle.now)) }
-{
-    let message = cycle_text(alloc, edges, cycle)?;
-    Answer::failed(alloc, 1, &message)
 }
 
 /// The first output of each of these edges, one per line. Control bytes are printed as `?`.

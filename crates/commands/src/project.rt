@@ -1,29 +1,29 @@
 //! The command `project`: the files of all targets of a project.
 
-ghost use Rattle.std.specs.Prelude.{◌≡◌, ◌<◌, ◌++◌, [], Some, All, IsUtf8, List, ℕ, length, map, zip, slice_get, string_bytes, IfOk, IfErr, OnOk};
+ghost use Rattle.std.specs.Prelude.{◌≡◌, ◌<◌, [], Some, All, IsUtf8, List, ℕ, length, map, zip, slice_get, string_bytes, IfOk, IfErr, OnOk};
 ghost use Rattle.ninja_text.specs.Failure.{ForFault};
 ghost use Rattle.module_table.specs.TableValue.{table_with};
 ghost use Rattle.collate_core.specs.Projects.{CollatesProject, IsProjectRefusal, WasReadAt};
-ghost use Rattle.commands.specs.Answers.{file_value, Writes, Refuses};
-ghost use Rattle.commands.specs.CollateCommand.{style_of, files_of};
+ghost use Rattle.commands.specs.Answers.{Writes, Refuses};
+ghost use Rattle.commands.specs.CollateCommand.{style_of};
 ghost use Rattle.commands.specs.EdgeChecks.{edges_text};
 ghost use Rattle.commands.specs.Files.{ended};
 ghost use Rattle.commands.specs.Folder.{MakesCalls};
-ghost use Rattle.commands.specs.ProjectCommand.{ReadTargetValue, target_text, project_target, form_of, names_at, PassesOwn, FailsFirst, all_files, AnswersCollatedTargets, AnswersReadTargets, AnswersNames, AnswersProject, project_text};
+ghost use Rattle.commands.specs.ProjectCommand.{ReadTargetValue, target_text, project_target, form_of, names_at, PassesOwn, FailsFirst, all_files, AnswersCollatedTargets, AnswersReadTargets, AnswersNames, AnswersProject};
 ghost use Rattle.commands.specs.inner.ProjectTargets.{LinkEarlier, IsReportable, AreOuts};
 ghost use Rattle.commands.specs.inner.Refusals.{refusal_line, AnswersFault};
 
 use crate::answer::{Answer, answered};
-use crate::collate::{edges_pass, files_of};
-use crate::edges::{EdgesFault, edges_text};
+use crate::collate::append_files;
+use crate::edges::{EdgesFault, edges_pass, edges_text};
 use crate::folder::Folder;
 use crate::project_targets::{ReadTarget, Targets, read_target, target_failed};
 use crate::reading::{pushed, slices};
-use crate::refusal::refusal_line;
+use crate::refusal::{document_refused, refusal_line};
 use collate_core::{Collated, ProjectOut, ProjectTarget, RefusedTarget, project_or_refused};
 use module_maps::{Clang, Gcc};
 use ninja_text::Failure;
-use scan_docs::{DocFault, MapForm, TargetName, TargetSpec, project_read};
+use scan_docs::{MapForm, TargetName, project_read};
 use std::alloc::{AllocError, Global};
 use std::hash::RandomState;
 
@@ -46,16 +46,8 @@ pub fn project_run<F: Folder>(
     match project_read(alloc, document) {
         Ok(spec) => names_answer(alloc, keys, &spec.targets, folder),
         Err(Failure::Memory) => Err(AllocError),
-        Err(Failure::Fault(fault)) => project_refused(alloc, &fault),
+        Err(Failure::Fault(fault)) => document_refused(alloc, "project", &fault),
     }
-}
-
-/// The answer to a project document that is refused.
-fn project_refused(alloc: Global, fault: &DocFault) -> Result<Answer, AllocError>
-    ensures { IfOk result (Refuses (project_text fault.now)) }
-{
-    let message = format!(in alloc; "project: {fault}")?;
-    Answer::failed(alloc, 1, message.as_bytes())
 }
 
 /// The answer to the target documents of these names.
@@ -235,7 +227,7 @@ fn collated_answer(
     }
 }
 
-/// The answer to targets whose edges have an order: the files of all.
+/// The answer to targets whose edges have an order: the files of all, which collated to these.
 fn all_files_answer(
     alloc: Global,
     targets: &[ReadTarget],
@@ -244,7 +236,10 @@ fn all_files_answer(
     requires { All (λ c. All IsUtf8 c.objects) outs.items }
     ensures { IfOk result (Writes (all_files (zip targets.now outs.items))) }
 {
-    let files = all_files(alloc, targets, outs)?;
+    let mut files = Vec::new(alloc);
+    for (target, collated) in targets.iter().zip(outs) {
+        append_files(alloc, collated, target.document.spec(), &mut files)?;
+    }
     Ok(Answer::writes(alloc, files))
 }
 
@@ -262,7 +257,8 @@ fn target_edges_failed(
             let text = edges_text(alloc, &fault);
             // Here, by one call: what it holds would be dropped field by field at the end.
             drop(fault);
-            target_failed(alloc, index, &text?)
+            let text = text?;
+            target_failed(alloc, index, &text)
         }
     }
 }
@@ -294,36 +290,4 @@ fn all_pass(
         }
     }
     Ok(())
-}
-
-/// The files of all targets, which collated to these.
-fn all_files(
-    alloc: Global,
-    targets: &[ReadTarget],
-    outs: Vec<Collated>,
-) -> Result<Vec<(String, Vec<u8>)>, AllocError>
-    requires { All (λ c. All IsUtf8 c.objects) outs.items }
-    ensures { IfOk result (λ files.
-        map file_value files.items ≡ all_files (zip targets.now outs.items)) }
-{
-    let mut files = Vec::new(alloc);
-    for (target, collated) in targets.iter().zip(outs) {
-        append_files(alloc, &mut files, collated, target.document.spec())?;
-    }
-    Ok(files)
-}
-
-/// Appends the files of a collated target.
-fn append_files(
-    alloc: Global,
-    files: &mut Vec<(String, Vec<u8>)>,
-    collated: Collated,
-    spec: &TargetSpec,
-) -> Result<(), AllocError>
-    requires { All IsUtf8 collated.objects }
-    ensures { OnOk result (map file_value files.new.items
-        ≡ map file_value files.old.items ++ files_of spec.now collated) }
-{
-    let mut more = files_of(alloc, collated, spec)?;
-    files.append(&mut more)
 }

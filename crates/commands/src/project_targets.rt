@@ -12,7 +12,7 @@ ghost use Rattle.commands.specs.inner.ProjectTargets.{writer_of, LinkEarlier};
 
 use crate::answer::{Answer, ended};
 use crate::folder::Folder;
-use crate::reading::{TargetFiles, pushed, read_file};
+use crate::reading::{TargetFiles, add, pushed, read_file};
 use crate::target_document::TargetDocument;
 use collate_core::ProjectTarget;
 use indexmap::IndexMap;
@@ -60,8 +60,7 @@ impl ReadTarget {
 /// The targets of a project that were read so far.
 #[derive(Drop)]
 pub(crate) struct Targets {
-    read: Vec<ReadTarget>,
-    writers: Writers,
+    table: TargetTable,
 }
 
 impl Model for Targets {
@@ -72,10 +71,10 @@ impl Model for Targets {
 
     ghost Value = { List ReadTargetValue };
 
-    ghost view = { λ t. t.read.items };
+    ghost view = { λ t. t.table.read.items };
 
-    ghost invariant = { λ t. LinkEarlier t.read.items × ((info : PathText) →
-        writer_of t.writers.indexes info ≡ last_with t.read.items info) };
+    ghost invariant = { λ t. LinkEarlier t.table.read.items × ((info : PathText) →
+        writer_of t.table.writers info ≡ last_with t.table.read.items info) };
 }
 
 impl Targets {
@@ -84,8 +83,10 @@ impl Targets {
         ensures { result ≡ [] }
     {
         Targets {
-            read: Vec::new(alloc),
-            writers: Writers::new(alloc, keys),
+            table: TargetTable {
+                read: Vec::new(alloc),
+                writers: IndexMap::with_hasher(alloc, keys),
+            },
         }
     }
 
@@ -94,33 +95,34 @@ impl Targets {
         requires { All (λ k. k < length self) target.linked }
         ensures { IfOk result (λ targets. targets ≡ self ++ target ∷ []) }
     {
-        let Targets { read, writers } = self;
-        let mut writers = writers;
-        let index = read.len();
-        let read = pushed(read, target)?;
-        writers.insert(alloc, &read[index].document.spec().info, index)?;
-        Ok(Targets { read, writers })
+        let Targets { table } = self;
+        let mut table = table;
+        table.push(alloc, target)?;
+        Ok(Targets { table })
     }
 
     /// How many there are.
     fn len(&self) -> usize
         ensures { result ≡ length self.now }
     {
-        self.read.len()
+        self.table.read.len()
     }
 
     /// The index of the last target that writes this info, if one does.
     fn writer(&self, info: &str) -> Option<usize>
         ensures { result ≡ last_with self.now info.now }
     {
-        self.writers.get(info)
+        match self.table.writers.get(info) {
+            Some(index) => Some(*index),
+            None => None,
+        }
     }
 
     /// Whether a target with maps of this form has the form of the first one.
     fn have_form(&self, spec: &TargetSpec) -> bool
         ensures { Decides result (HasFormOf self.now spec.now) }
     {
-        match self.read.first() {
+        match self.table.read.first() {
             Some(first) => spec.map == first.document.spec().map,
             None => true,
         }
@@ -131,45 +133,31 @@ impl Targets {
         ensures targets { result.items ≡ self }
         ensures links { LinkEarlier result.items }
     {
-        let Targets { read, writers: _ } = self;
-        read
+        let Targets { table } = self;
+        table.read
     }
 }
 
-/// Of each info that targets write the index of the last one that does.
+/// Targets, and of each info that they write the index of the last one that does.
 #[derive(Drop)]
-struct Writers {
-    indexes: IndexMap<String, usize, RandomState>,
+struct TargetTable {
+    read: Vec<ReadTarget>,
+    writers: IndexMap<String, usize, RandomState>,
 }
 
-impl Writers {
-    /// No info has a writer.
-    fn new(alloc: Global, keys: RandomState) -> Writers
-        ensures { (info : PathText) → writer_of result.indexes info ≡ None }
+impl TargetTable {
+    /// Adds a target.
+    fn push(&mut self, alloc: Global, target: ReadTarget) -> Result<(), AllocError>
+        ensures read { OnOk result (self.new.read.items ≡ self.old.read.items ++ target ∷ []) }
+        ensures writers { OnOk result ((info : Bytes) → writer_of self.new.writers info
+            ≡ (if bytes_eq target.spec.info info then Some (length self.old.read.items)
+            else writer_of self.old.writers info)) }
     {
-        Writers {
-            indexes: IndexMap::with_hasher(alloc, keys),
-        }
-    }
-
-    /// This target writes that info.
-    fn insert(&mut self, alloc: Global, info: &str, index: usize) -> Result<(), AllocError>
-        ensures { OnOk result ((other : Bytes) → writer_of self.new.indexes other
-            ≡ (if bytes_eq info.now other then Some index else writer_of self.old.indexes other)) }
-    {
-        let info = String::from_str(alloc, info)?;
-        self.indexes.insert(info, index)?;
+        let index = self.read.len();
+        add(&mut self.read, target)?;
+        let info = String::from_str(alloc, &self.read[index].document.spec().info)?;
+        self.writers.insert(info, index)?;
         Ok(())
-    }
-
-    /// The index of the last target that writes this info, if one does.
-    fn get(&self, info: &str) -> Option<usize>
-        ensures { result ≡ writer_of self.now.indexes info.now }
-    {
-        match self.indexes.get(info) {
-            Some(index) => Some(*index),
-            None => None,
-        }
     }
 }
 
@@ -234,11 +222,13 @@ fn parts_of<F: Folder>(
     if !earlier.have_form(spec) {
         return ended(other_form(alloc, earlier.len()));
     }
-    let Some(linked) = linked_in(alloc, earlier, &spec.linked)? else {
-        return ended(target_failed(alloc, earlier.len(), b"K3 LinkedLater"));
-    };
-    let files = TargetFiles::read(alloc, spec, &[], folder)?;
-    Ok((linked, files))
+    match linked_in(alloc, earlier, &spec.linked)? {
+        None => ended(target_failed(alloc, earlier.len(), b"K3 LinkedLater")),
+        Some(linked) => {
+            let files = TargetFiles::read(alloc, spec, &[], folder)?;
+            Ok((linked, files))
+        }
+    }
 }
 
 /// The answer to a target of this index whose maps have another form than those of the first one.

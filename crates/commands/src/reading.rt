@@ -1,7 +1,7 @@
 //! How a run reads files from a folder: each when its turn comes, and none after one that can't be
 //! read.
 
-ghost use Rattle.std.specs.Prelude.{◌≡◌, ◌++◌, ◌∷◌, [], map, string_bytes, option_map, option_copied, IfOk};
+ghost use Rattle.std.specs.Prelude.{◌≡◌, ◌++◌, ◌∷◌, [], map, string_bytes, option_map, option_copied, IfOk, OnOk};
 ghost use Rattle.commands.specs.Files.{ReadsFile, ReadsFiles, ReadsListing, ReadsTarget};
 ghost use Rattle.commands.specs.Folder.{MakesCalls};
 ghost use Rattle.commands.specs.inner.Parts.{GoesOn, contents};
@@ -43,7 +43,8 @@ pub(crate) fn read_in_turn<F: Folder>(
 {
     let mut files = Vec::with_capacity(alloc, names.len())?;
     for name in names {
-        files = pushed(files, read_file(alloc, name.as_str(), folder)?)?;
+        let bytes = read_file(alloc, name.as_str(), folder)?;
+        files = pushed(files, bytes)?;
     }
     Ok(files)
 }
@@ -145,4 +146,12 @@ pub(crate) fn pushed<T: Drop>(list: Vec<T>, item: T) -> Result<Vec<T>, AllocErro
     let mut list = list;
     list.push(item)?;
     Ok(list)
+}
+
+/// Adds an item to the list. An item that finds no room is dropped here, for all types at once.
+pub(crate) fn add<T: Drop>(list: &mut Vec<T>, item: T) -> Result<(), AllocError>
+    ensures { OnOk result (list.new.items ≡ list.old.items ++ item ∷ []) }
+{
+    list.push(item)?;
+    Ok(())
 }

@@ -1,6 +1,8 @@
 //! How the refusals of a target are reported.
 
-ghost use Rattle.std.specs.Prelude.{◌≡◌, map, codes, IfOk};
+ghost use Rattle.std.specs.Prelude.{◌≡◌, ◌++◌, map, codes, IfOk};
+ghost use Rattle.scan_docs.specs.FaultTexts.{doc_fault_text};
+ghost use Rattle.commands.specs.Answers.{Refuses};
 ghost use Rattle.commands.specs.RefusalTexts.{document_text, map_text};
 ghost use Rattle.commands.specs.inner.Refusals.{refusal_line, AnswersFailure};
 
@@ -27,7 +29,8 @@ pub(crate) fn failed_run(
             let message = refused_text(alloc, &refused);
             // Here, by one call: what it holds would be dropped field by field at the end.
             drop(refused);
-            Answer::failed(alloc, 1, &message?)
+            let message = message?;
+            Answer::failed(alloc, 1, &message)
         }
     }
 }
@@ -66,6 +69,19 @@ pub(crate) fn refusal_line(
         Refusal::Map { object, fault } => map_text(alloc, objects, *object, fault),
         Refusal::LinkedLater => Vec::from_slice(alloc, b"K3 LinkedLater"),
     }
+}
+
+/// The answer to a faulty document of this kind.
+pub(crate) fn document_refused(
+    alloc: Global,
+    kind: &str,
+    fault: &DocFault,
+) -> Result<Answer, AllocError>
+    ensures { IfOk result
+        (Refuses (kind.now ++ codes ": " ++ doc_fault_text fault.now)) }
+{
+    let message = format!(in alloc; "{kind}: {fault}")?;
+    Answer::failed(alloc, 1, message.as_bytes())
 }
 
 /// A faulty document, by its kind and its index.

@@ -81,9 +81,10 @@ fn made_twice_text(
     ensures { IfOk result (λ text. text.items ≡ made_twice_text
         makers.entry.objects.now (map (λ n. n.now) makers.entry.names.now) made.now first second) }
 {
-    let first = maker_text(alloc, first, makers)?;
-    let second = maker_text(alloc, second, makers)?;
-    joined(alloc, &[made, b" by ", &first, b" and ", &second])
+    let (kind, name) = kind_and_name(first, makers);
+    let (other_kind, other_name) = kind_and_name(second, makers);
+    let parts = [made, b" by ", kind, name, b" and ", other_kind, other_name];
+    joined(alloc, &parts)
 }
 
 /// A module of a target, and a name that it requires.
@@ -115,18 +116,18 @@ fn private_text(
 {
     let name = name.text().as_bytes();
     let target = target_name(makers.names, info);
-    let user = maker_text(alloc, user, makers)?;
-    joined(alloc, &[name, b" of ", target, b" in ", &user])
+    let (kind, user) = kind_and_name(user, makers);
+    joined(alloc, &[name, b" of ", target, b" in ", kind, user])
 }
 
-/// Who makes a file.
-fn maker_text(alloc: Global, maker: Maker, makers: Makers) -> Result<Vec<u8>, AllocError>
-    ensures { IfOk result (λ text. text.items ≡ maker_text
-        makers.entry.objects.now (map (λ n. n.now) makers.entry.names.now) maker) }
+/// Who makes a file: the word for what it is, and its name.
+fn kind_and_name<'t>(maker: Maker, makers: Makers<'t>) -> (&'t [u8], &'t [u8])
+    ensures { result.0.now ++ result.1.now ≡ maker_text
+        makers.entry.objects.now (map (λ n. n.now) makers.entry.names.now) maker }
 {
     match maker {
-        Maker::Object(index) => joined(alloc, &[b"object ", object_path(makers.objects, index)]),
-        Maker::Info(index) => joined(alloc, &[b"info ", target_name(makers.names, index)]),
+        Maker::Object(index) => (b"object ".as_slice(), object_path(makers.objects, index)),
+        Maker::Info(index) => (b"info ".as_slice(), target_name(makers.names, index)),
     }
 }
 

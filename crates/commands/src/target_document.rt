@@ -53,25 +53,16 @@ impl TargetDocument {
         ensures one_answer { HasOneAnswer target_checks IsTarget bytes.now }
     {
         let spec = spec_read(alloc, bytes)?;
-        let document = TargetDocument::of(alloc, spec)?;
-        Ok(document)
-    }
-
-    /// The document with these members.
-    fn of(alloc: Global, spec: TargetSpec) -> Result<TargetDocument, AllocError>
-        requires { IsPlaced spec }
-        ensures { IfOk result (λ document. document ≡ spec) }
-    {
         match places_in(alloc, &spec) {
             Ok((setting, path)) => Ok(TargetDocument {
                 spec,
                 setting,
                 path,
             }),
-            Err(AllocError) => {
+            Err(refused) => {
                 // Here, by one call: it would be dropped field by field at the end.
                 drop(spec);
-                Err(AllocError)
+                Err(refused.into())
             }
         }
     }
@@ -105,17 +96,21 @@ fn places_in(alloc: Global, spec: &TargetSpec) -> Result<(Setting, Path), AllocE
     ensures path { IfOk result (λ places. places.1 ≡ dyndep_path spec.now) }
 {
     let path = dyndep_path(alloc, spec)?;
-    Ok((setting_in(alloc, spec)?, path))
+    let setting = setting_in(alloc, spec)?;
+    Ok((setting, path))
 }
 
 /// Where the target's modules are compiled to, and where Ninja runs.
 fn setting_in(alloc: Global, spec: &TargetSpec) -> Result<Setting, AllocError>
     ensures { IfOk result (λ setting. setting ≡ setting_in spec.now) }
 {
+    let module_dir = String::from_str(alloc, &spec.module_dir)?;
+    let module_ext = String::from_str(alloc, &spec.module_ext)?;
+    let build_dir = path_copy(alloc, &spec.build_dir)?;
     Ok(Setting {
-        module_dir: String::from_str(alloc, &spec.module_dir)?,
-        module_ext: String::from_str(alloc, &spec.module_ext)?,
-        build_dir: path_copy(alloc, &spec.build_dir)?,
+        module_dir,
+        module_ext,
+        build_dir,
     })
 }
 
@@ -124,7 +119,10 @@ fn path_copy(alloc: Global, path: &Option<Path>) -> Result<Option<Path>, AllocEr
     ensures { IfOk result (λ copy. copy ≡ path.now) }
 {
     match path {
-        Some(path) => Ok(Some(path.copy(alloc)?)),
+        Some(path) => {
+            let copy = path.copy(alloc)?;
+            Ok(Some(copy))
+        }
         None => Ok(None),
     }
 }

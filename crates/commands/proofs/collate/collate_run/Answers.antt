@@ -67,11 +67,11 @@ returns-in-Err-Memory g c = untouched _ _ (collate_stops c.args.document.now)
 -- a refused document has no members, and no other fault
 pub returns : goal.returns
 returns g c =
-    let result = c.spec_refused.result in
+    let result = c.document_refused.result in
     let own : IsRefused target_checks c.args.document.now c.in-Err-Fault.fault =
     subst (ForFault (IsRefused target_checks c.args.document.now)) c.in-Err-Fault.field-0-is c.in-Err-Fault.ensures.refused in
     let line : IfOk result (Refuses (spec_text c.in-Err-Fault.fault)) =
-    subst (λ (f : DocFault). IfOk result (Refuses (spec_text f))) c.in-Err-Fault.fault-is c.spec_refused.ensures in
+    subst (λ (f : DocFault). IfOk result (Refuses (spec_text f))) c.in-Err-Fault.fault-is c.document_refused.ensures in
     untouched _ (λ calls. AnswersCollate c.args.document.now calls (ended result)) (record {
       accepted = λ spec has. absurd (c.read.ensures.one_answer.not_both spec c.in-Err-Fault.fault has own);
       refused = λ fault is. (

@@ -20,12 +20,14 @@ returns-in_ok-text-in-Order c = record {
   };
 }
 
-pub returns-in-Cycle : goal.returns-in-Cycle
-returns-in-Cycle c =
-    IfOk-weaker c.cycle_refused.result (Refuses (cycle_text c.edges-in-Cycle.result.now c.deref-in-Cycle.result.now)) (AnswersOrder c.args.graph.now)
+-- said here, so that a body which does something else is refused soon
+pub returns-in_ok-message-in-Cycle : goal.returns-in_ok-message-in-Cycle
+returns-in_ok-message-in-Cycle c =
+    IfOk-weaker c.failed.result (Refuses c.deref-in-Cycle-2.result.now) (AnswersOrder c.args.graph.now)
     (λ answer h. record {
       sorting = Cycle c.in-Cycle.cycle;
       is = subst (IsSortingOf (length c.args.graph.now) (EdgeNeeds c.args.graph.now)) c.in-Cycle.is c.in_ok-order.ensures;
-      answers = subst (λ text. Refuses text answer) (ap₂ cycle_text c.edges-in-Cycle.ensures.edges c.deref-in-Cycle.ensures.value) h;
+      answers = subst (λ text. Refuses text answer)
+          (c.deref-in-Cycle-2.ensures.value ∙ c.in_ok-message-in-Cycle.ensures ∙ ap₂ cycle_text c.edges-in-Cycle.ensures.edges c.deref-in-Cycle.ensures.value) h;
     })
-    c.cycle_refused.ensures
+    c.failed.ensures

@@ -32,11 +32,11 @@ returns-in-Err-Memory g c = untouched _ _ (project_stops c.args.document.now)
 -- a refused document has no members, and no other fault
 pub returns-in-Err-Fault : goal.returns-in-Err-Fault
 returns-in-Err-Fault g c =
-    let result = c.project_refused.result in
+    let result = c.document_refused.result in
     let own : IsRefused project_checks c.args.document.now c.in-Err-Fault.fault =
     subst (ForFault (IsRefused project_checks c.args.document.now)) c.in-Err-Fault.field-0-is c.in-Err-Fault.ensures.refused in
     let line : IfOk result (Refuses (project_text c.in-Err-Fault.fault)) =
-    subst (λ (f : DocFault). IfOk result (Refuses (project_text f))) c.in-Err-Fault.fault-is c.project_refused.ensures in
+    subst (λ (f : DocFault). IfOk result (Refuses (project_text f))) c.in-Err-Fault.fault-is c.document_refused.ensures in
     untouched _ (λ calls. AnswersProject c.args.document.now calls (ended result)) (record {
       accepted = λ project has. absurd (c.project_read.ensures.one_answer.not_both project c.in-Err-Fault.fault has own);
       refused = λ fault is. (

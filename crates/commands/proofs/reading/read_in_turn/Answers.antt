@@ -66,20 +66,20 @@ loop-name-init g c =
     (sym c.in_ok-files.ensures.items) (leads_none known (All c.args.names.now))
 
 -- the file that can't be read
-pub returns-in_err-read_file : goal.returns-in_err-read_file
-returns-in_err-read_file g c =
+pub returns-in_err-bytes : goal.returns-in_err-bytes
+returns-in_err-bytes g c =
     let i : ℕ = c.loop-name.name-index in
     let names = c.args.names.now in
     let start = g.F.Folder.calls c.args.folder.now in
     let before = g.F.Folder.calls c.loop-name.folder in
     let behind = g.F.Folder.calls c.read_file.new.folder in
-    let is : c.from_residual-in_err-read_file.result ≡ Err c.in_err-read_file.field-0.0 = search rules in
+    let is : c.from_residual-in_err-bytes.result ≡ Err c.in_err-bytes.field-0.0 = search rules in
     leads_end start before behind (Left (drop i names) (contents c.loop-name.files)) (All names) _ c.loop-name.invariant
-    (held before behind (λ calls. ReadsFile c.as_str.result.now (GoesOn (λ b. b.items)) calls (Err c.in_err-read_file.field-0.0))
-    (λ calls. Left (drop i names) (contents c.loop-name.files) calls c.from_residual-in_err-read_file.result) c.in_err-read_file.ensures
+    (held before behind (λ calls. ReadsFile c.as_str.result.now (GoesOn (λ b. b.items)) calls (Err c.in_err-bytes.field-0.0))
+    (λ calls. Left (drop i names) (contents c.loop-name.files) calls c.from_residual-in_err-bytes.result) c.in_err-bytes.ensures
     (λ calls own.
     next_unread (drop i names) (drop (i + 1) names) c.name-item.result c.as_str.result.now (contents c.loop-name.files) calls
-    c.in_err-read_file.field-0.0 _ (left names i c.name-item.result c.loop-name-test.true c.name-item.is) c.as_str.ensures.value is own))
+    c.in_err-bytes.field-0.0 _ (left names i c.name-item.result c.loop-name-test.true c.name-item.is) c.as_str.ensures.value is own))
 
 -- memory is refused after a file was read
 pub returns-in_err-files-2 : goal.returns-in_err-files-2
@@ -89,12 +89,12 @@ returns-in_err-files-2 g c =
     let start = g.F.Folder.calls c.args.folder.now in
     let before = g.F.Folder.calls c.loop-name.folder in
     let behind = g.F.Folder.calls c.read_file.new.folder in
-    let bytes = c.in_ok-read_file.field-0 in
+    let bytes = c.in_ok-bytes.bytes in
     let after = contents c.loop-name.files ++ bytes.items ∷ [] in
     let is : c.from_residual-in_err-files-2.result ≡ Err Memory = search rules in
     leads_stop start behind (Left (drop (i + 1) names) after) (All names) _
     (leads_on start before behind (Left (drop i names) (contents c.loop-name.files)) (Left (drop (i + 1) names) after) (All names)
-    (λ calls. ReadsFile c.as_str.result.now (GoesOn (λ b. b.items)) calls (Ok bytes)) c.loop-name.invariant c.in_ok-read_file.ensures
+    (λ calls. ReadsFile c.as_str.result.now (GoesOn (λ b. b.items)) calls (Ok bytes)) c.loop-name.invariant c.in_ok-bytes.ensures
     (λ calls more step own rest.
     next_read (drop i names) (drop (i + 1) names) c.name-item.result c.as_str.result.now (contents c.loop-name.files) after bytes calls more step
     (left names i c.name-item.result c.loop-name-test.true c.name-item.is) c.as_str.ensures.value refl own rest))
@@ -107,9 +107,9 @@ loop-name-preserved g c =
     let start = g.F.Folder.calls c.args.folder.now in
     let before = g.F.Folder.calls c.loop-name.folder in
     let behind = g.F.Folder.calls c.read_file.new.folder in
-    let bytes = c.in_ok-read_file.field-0 in
+    let bytes = c.in_ok-bytes.bytes in
     leads_on start before behind (Left (drop i names) (contents c.loop-name.files)) (Left (drop (i + 1) names) _) (All names)
-    (λ calls. ReadsFile c.as_str.result.now (GoesOn (λ b. b.items)) calls (Ok bytes)) c.loop-name.invariant c.in_ok-read_file.ensures
+    (λ calls. ReadsFile c.as_str.result.now (GoesOn (λ b. b.items)) calls (Ok bytes)) c.loop-name.invariant c.in_ok-bytes.ensures
     (λ calls more step own rest.
     next_read (drop i names) (drop (i + 1) names) c.name-item.result c.as_str.result.now (contents c.loop-name.files) _ bytes calls more step
     (left names i c.name-item.result c.loop-name-test.true c.name-item.is) c.as_str.ensures.value

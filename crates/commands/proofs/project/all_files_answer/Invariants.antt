@@ -1,7 +1,7 @@
 use Rattle.std.proofs.Common.{◌≡◌, length, take, map, zip}
 use Rattle.commands.specs.Answers.{file_value}
 use Rattle.commands.specs.ProjectCommand.{all_files}
-use Rattle.commands.proofs.project.all_files.Given as goal
+use Rattle.commands.proofs.project.all_files_answer.Given as goal
 
 -- the files of the targets so far
 abbrev pub invariant-loop-target : goal.invariant-loop-target

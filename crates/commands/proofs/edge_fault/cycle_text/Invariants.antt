@@ -1,7 +1,7 @@
 use Rattle.std.proofs.Common.{◌≡◌, ◌++◌, take, codes}
 use Rattle.std.specs.List.{flat_map}
 use Rattle.commands.specs.EdgeFaults.{first_output}
-use Rattle.commands.proofs.edge_fault.chain_text.Given as goal
+use Rattle.commands.proofs.edge_fault.cycle_text.Given as goal
 
 -- the edges so far stand behind the first one
 abbrev pub invariant-loop-next : goal.invariant-loop-next

@@ -1,10 +1,10 @@
-use Rattle.std.proofs.Common.{◌≡◌, ℕ, ◌-◌, ◌≤◌, List, [], ◌∷◌, ◌++◌, length, take, drop, get_or, codes, refl, ap, ◌∙◌, arith}
+use Rattle.std.proofs.Common.{◌≡◌, ℕ, ◌-◌, ◌≤◌, List, [], ◌∷◌, ◌++◌, length, take, drop, get_or, codes, rules, append_assoc, refl, ap, ◌∙◌, arith}
 use Rattle.std.specs.List.{flat_map}
 use Rattle.std.proofs.lemmas.List.{take_all}
 use Rattle.build_effect.specs.EdgeValue.{EdgeValue}
 use Rattle.commands.specs.EdgeFaults.{first_output, chain_text}
 use Rattle.commands.proofs.Loops.{appended_more}
-use Rattle.commands.proofs.edge_fault.chain_text.Goals as goal
+use Rattle.commands.proofs.edge_fault.cycle_text.Goals as goal
 
 -- a chain that has a first edge
 chain_parts : (edges : List EdgeValue) (chain : List ℕ) → 1 ≤ length chain →
@@ -17,10 +17,12 @@ chain_parts edges (first ∷ others) some =
 pub returns : goal.returns
 returns c =
     let edges = c.args.edges.now in
-    let chain = c.args.chain.now in
+    let chain = c.args.cycle.now in
     let all = take_all c.loop-next.next-index (take (length chain - 1) (drop 1 chain)) c.loop-next-test.false in
-    let first : c.first_output.result.now ≡ first_output edges (get_or chain 0 0) = c.first_output.ensures in
-    rw (c.loop-next.invariant, all, c.in_ok-text.ensures.items, first, chain_parts edges chain c.in-len1-up.len_at_least) refl
+    let tail : List ℕ = flat_map (λ next. codes " -> " ++ first_output edges next) (take (length chain - 1) (drop 1 chain)) in
+    let before : c.extend_from_slice.new.self.items ≡ codes "cycle " ++ first_output edges (get_or chain 0 0) = search rules in
+    rw (c.loop-next.invariant, all, chain_parts edges chain c.in-len1-up.len_at_least)
+    (ap (λ text. text ++ tail) before ∙ append_assoc (codes "cycle ") (first_output edges (get_or chain 0 0)) tail)
 
 -- one more
 pub loop-next-preserved : goal.loop-next-preserved

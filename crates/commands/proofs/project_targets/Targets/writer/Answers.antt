@@ -1,5 +1,5 @@
 use Rattle.std.proofs.Common.{rules}
-use Rattle.commands.proofs.project_targets.Writers.get.Goals as goal
+use Rattle.commands.proofs.project_targets.Targets.writer.Goals as goal
 
 -- said here, so that a body which does something else is refused soon
 pub returns-in-Some : goal.returns-in-Some

@@ -1,4 +1,4 @@
-use Rattle.std.proofs.Common.{ℕ, length, zip, ap, sym, subst, ◌∙◌, arith}
+use Rattle.std.proofs.Common.{ℕ, List, length, zip, ap, sym, subst, ◌∙◌, arith}
 use Rattle.std.specs.Prelude.{All, IsUtf8}
 use Rattle.std.proofs.lemmas.Iterator.{YieldsList-from_slice, YieldsList-from_zip}
 use Rattle.std.proofs.lemmas.Iterator.Adapters.{YieldsList-from_vec}
@@ -7,11 +7,13 @@ use Rattle.std.proofs.lemmas.List.{length_push, take_all}
 use Rattle.std.proofs.lemmas.List.Elements.{All-get_or}
 use Rattle.scan_docs.specs.Target as document
 use Rattle.collate_core.specs.Values.{CollatedValue}
+use Rattle.commands.specs.Answers.{Writes}
 use Rattle.commands.specs.CollateCommand.{files_of}
+use Rattle.commands.specs.Files.{FileValue}
 use Rattle.commands.specs.ProjectCommand.{ReadTargetValue, all_files}
 use Rattle.commands.proofs.ProjectTargets.{at_index}
 use Rattle.commands.proofs.ProjectRuns.{second_all, files_next}
-use Rattle.commands.proofs.project.all_files.Goals as goal
+use Rattle.commands.proofs.project.all_files_answer.Goals as goal
 
 -- the objects of this target are text
 pub append_files-requires : goal.append_files-requires
@@ -41,4 +43,5 @@ returns c =
     let outs = c.args.outs.items in
     let n : ℕ = length c.loop-target.yielded in
     let end = YieldsList-end (YieldsList-from_zip {s = c.into_iter-target-iterator.result} (YieldsList-from_slice targets (cc)) (YieldsList-from_vec outs (cc) (cc))) c.loop-target.yielded c.loop-target.target-iterator c.loop-target.yielded_by c.next.result c.next.new.self c.in-None.is c.next.ensures.steps in
-    c.loop-target.invariant ∙ ap all_files (take_all n (zip targets outs) (omega (arith, end.1)))
+    let files = c.loop-target.invariant ∙ ap all_files (take_all n (zip targets outs) (omega (arith, end.1))) in
+    subst (λ (files : List FileValue). Writes files c.writes.result) files c.writes.ensures
