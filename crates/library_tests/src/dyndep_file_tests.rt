@@ -109,14 +109,6 @@ fn is_reported_everywhere(alloc: Global, unwritable: &[u8]) -> bool {
     true
 }
 
-#[test]
-fn a_path_without_a_spelling_is_reported_by_its_index(rt: HostRuntime) {
-    let unwritable: &[&[u8]] = &[b"", b"a|b", b"\0", b"x\r", b"\ny", b"a\\|"];
-    for path in unwritable {
-        assert!(rt; is_reported_everywhere(rt.alloc(), path));
-    }
-}
-
 /// Whether of a path without a spelling and too long a line the path is reported, wherever both
 /// are.
 fn path_comes_first(alloc: Global, long: &[u8]) -> bool {
@@ -137,6 +129,10 @@ fn path_comes_first(alloc: Global, long: &[u8]) -> bool {
 
 #[test]
 fn the_first_fault_of_the_first_statement_counts(rt: HostRuntime) -> Result<(), Fail> {
+    let unwritable: &[&[u8]] = &[b"", b"a|b", b"\0", b"x\r", b"\ny", b"a\\|"];
+    for path in unwritable {
+        assert!(rt; is_reported_everywhere(rt.alloc(), path));
+    }
     let long = vec![in rt.alloc(); b'a'; 1_048_562]?;
     assert!(rt; path_comes_first(rt.alloc(), &long));
     Ok(())
@@ -166,19 +162,13 @@ fn is_answered(
 }
 
 #[test]
-fn a_writer_that_fails_holds_what_it_took(rt: HostRuntime) -> Result<(), Fail> {
-    for left in 0..TWO_STATEMENTS.len() {
+fn a_writer_holds_what_it_took(rt: HostRuntime) -> Result<(), Fail> {
+    for left in 0..=TWO_STATEMENTS.len() {
         let taken = &TWO_STATEMENTS[..left];
         assert!(rt; is_answered(rt.alloc(), taken, 200, true)?);
         assert!(rt; is_answered(rt.alloc(), taken, 3, true)?);
         assert!(rt; is_answered(rt.alloc(), taken, 200, false)?);
         assert!(rt; is_answered(rt.alloc(), taken, 3, false)?);
     }
-    Ok(())
-}
-
-#[test]
-fn a_writer_that_takes_three_bytes_a_call_gets_all(rt: HostRuntime) -> Result<(), Fail> {
-    assert!(rt; is_answered(rt.alloc(), TWO_STATEMENTS, 3, true)?);
     Ok(())
 }

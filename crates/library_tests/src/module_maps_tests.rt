@@ -108,9 +108,7 @@ fn bad_line<M: MapStyle>(alloc: Global, style: &M, text: &str) -> Result<Option<
 }
 
 #[test]
-fn a_text_that_is_no_map_of_gcc_is_refused_at_its_first_bad_line(
-    rt: HostRuntime,
-) -> Result<(), Fail> {
+fn a_text_that_is_no_map_is_refused_at_its_first_bad_line(rt: HostRuntime) -> Result<(), Fail> {
     for (text, line) in [
         ("A mod/A.bmi", 1),
         ("A ./a\n", 1),
@@ -121,13 +119,6 @@ fn a_text_that_is_no_map_of_gcc_is_refused_at_its_first_bad_line(
         assert!(rt; bad_line(rt.alloc(), &Gcc, text)? == Some(line));
     }
     assert!(rt; entries_in(rt.alloc(), &Gcc, "")?.is_empty());
-    Ok(())
-}
-
-#[test]
-fn a_text_that_is_no_map_of_clang_is_refused_at_its_first_bad_line(
-    rt: HostRuntime,
-) -> Result<(), Fail> {
     for (text, line) in [
         ("-x c++-module\n", 2),
         ("-x c++-module\n-fmodule-output=a", 2),

@@ -19,7 +19,7 @@ const K_INFO: &[u8] =
     br#"{"modules":[{"bmi":"k/K.bmi","name":"K","requires":[{"bmi":"k/J.bmi","name":"J"}],"visibility":"public"},{"bmi":"k/J.bmi","name":"J","requires":[],"visibility":"private"}],"target":"k","version":2}"#;
 
 /// The table of both objects and the info.
-fn table(alloc: Global, keys: RandomState) -> Result<Table<RandomState>, Fail> {
+pub(crate) fn table(alloc: Global, keys: RandomState) -> Result<Table<RandomState>, Fail> {
     let objects = scan(alloc, OBJECTS, &setting(alloc)?)?;
     let infos = vec![in alloc; info_read(alloc, K_INFO)?]?;
     Ok(Table::build_with_hasher(alloc, objects, infos, &[], keys)?)
@@ -42,7 +42,7 @@ fn is_found(
 }
 
 /// Whether a module of an object, one of an info and no other is found.
-fn finds_both(alloc: Global, table: &Table<RandomState>) -> Result<bool, AllocError> {
+pub(crate) fn finds_both(alloc: Global, table: &Table<RandomState>) -> Result<bool, AllocError> {
     Ok(
         is_found(alloc, table, "A", ("mod/A.bmi", Maker::Object(1)))?
             && is_found(alloc, table, "J", ("k/J.bmi", Maker::Info(0)))?
@@ -61,22 +61,11 @@ fn are_pairs(pairs: &[(Name, Path)], wanted: &[(&str, &str)]) -> bool {
 }
 
 /// Whether the first object needs three modules, in byte order.
-fn needs_three(alloc: Global, table: &Table<RandomState>) -> Result<bool, AllocError> {
+pub(crate) fn needs_three(alloc: Global, table: &Table<RandomState>) -> Result<bool, AllocError> {
     if table.objects().is_empty() {
         return Ok(false);
     }
     let needed = table.needed(alloc, 0)?;
     let wanted = [("A", "mod/A.bmi"), ("J", "k/J.bmi"), ("K", "k/K.bmi")];
     Ok(are_pairs(&needed, &wanted))
-}
-
-/// Whether the table of both objects and the info answers as it has to.
-fn answers(alloc: Global, table: &Table<RandomState>) -> Result<bool, AllocError> {
-    Ok(finds_both(alloc, table)? && needs_three(alloc, table)?)
-}
-
-/// Whether the table answers who provides a module, and what is needed.
-pub(crate) fn is_answered(alloc: Global, keys: RandomState) -> Result<bool, Fail> {
-    let table = table(alloc, keys)?;
-    Ok(answers(alloc, &table)?)
 }

@@ -38,17 +38,13 @@ fn each_target_sees_the_infos_of_those_that_it_links(rt: HostRuntime) -> Result<
     Ok(())
 }
 
+/// Byte by byte, and with keys.
 #[test]
-fn rehearsing_byte_by_byte(rt: HostRuntime) -> Result<(), Fail> {
+fn rehearsing(rt: HostRuntime) -> Result<(), Fail> {
     let graph = graph_of(rt.alloc(), LIBRARY)?;
     let cuts = bytewise(rt.alloc())?;
     let found = rehearsed(rt.alloc(), &graph, &cuts)?;
     assert!(rt; found.as_slice() == LIBRARY_AFTER);
-    Ok(())
-}
-
-#[test]
-fn rehearsing_with_keys(rt: HostRuntime) -> Result<(), Fail> {
     let found = rehearsed_with_keys(rt.alloc(), RandomState::new(&rt)?)?;
     assert!(rt; found.as_slice() == LIBRARY_AFTER);
     Ok(())

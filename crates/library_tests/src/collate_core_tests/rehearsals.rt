@@ -84,7 +84,9 @@ fn is_bad_at(alloc: Global, text: &[u8], graph: &Graph, number: u64) -> Result<b
 
 /// A faulty line counts before what the statements do to the graph, of whatever edges it is.
 #[test]
-fn a_text_that_is_no_dyndep_file_is_refused_at_its_line(rt: HostRuntime) -> Result<(), Fail> {
+fn a_text_without_an_effect_is_refused_at_its_line_or_for_the_graph(
+    rt: HostRuntime,
+) -> Result<(), Fail> {
     let alloc = rt.alloc();
     let rule = b"ninja_dyndep_version = 1\nrule cc\n";
     let graph = graph_of(alloc, LIBRARY)?;
@@ -92,13 +94,6 @@ fn a_text_that_is_no_dyndep_file_is_refused_at_its_line(rt: HostRuntime) -> Resu
     let text = b"ninja_dyndep_version = 1\nbuild x.o: dyndep\nrule cc\n";
     assert!(rt; is_bad_at(alloc, text, &graph, 3)?);
     assert!(rt; is_bad_at(alloc, rule, &graph_of(alloc, b"")?, 2)?);
-    Ok(())
-}
-
-#[test]
-fn statements_without_an_effect_are_refused(rt: HostRuntime) -> Result<(), Fail> {
-    let alloc = rt.alloc();
-    let graph = graph_of(alloc, LIBRARY)?;
     let found = refused(
         alloc,
         b"ninja_dyndep_version = 1\nbuild a.o: dyndep\n",

@@ -1,13 +1,18 @@
-//! What a node of a small graph reaches, where `tests/growths.py` refuses each growth of memory in
+//! What nodes of a small graph reach, where `tests/growths.py` refuses each growth of memory in
 //! turn. The test answers `AllocError` where a call answered that memory was refused, and nowhere
 //! else; every other answer has to be the example's.
 
-use super::{reaches, rows_of};
+use super::{finds, graph};
+use dep_order::{Reaching, reach};
 use std::test::Fail;
 
+/// Of two searches the second one finds nothing of the first.
 #[test]
 fn reached_nodes(rt: HostRuntime) -> Result<(), Fail> {
-    let rows = rows_of(rt.alloc(), &[&[1], &[2], &[], &[0]])?;
-    assert!(rt; reaches(rt.alloc(), rows, 0, &[0, 1, 2])?);
+    let graph = graph(rt.alloc())?;
+    assert!(rt; reach(rt.alloc(), &graph, 0)?.as_slice() == [0, 1, 2].as_slice());
+    let mut reaching = Reaching::new(rt.alloc(), &graph)?;
+    assert!(rt; finds(rt.alloc(), &mut reaching, 3, &[0, 1, 2, 3])?);
+    assert!(rt; finds(rt.alloc(), &mut reaching, 1, &[1, 2])?);
     Ok(())
 }

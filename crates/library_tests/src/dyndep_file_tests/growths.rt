@@ -10,15 +10,11 @@ use ninja_text::{Counted, Failure};
 use std::alloc::{AllocError, Global};
 use std::test::Fail;
 
-/// A reader that answered that memory was refused answers so again.
+/// Byte by byte, what is read and what is refused. A reader that answered that memory was refused
+/// answers so again.
 #[test]
-fn reading_byte_by_byte(rt: HostRuntime) -> Result<(), Fail> {
+fn reading_in_pieces(rt: HostRuntime) -> Result<(), Fail> {
     assert!(rt; answers_in_pieces(rt.alloc(), TWO_STATEMENTS, 1, Ok(TWO_STATEMENTS))?);
-    Ok(())
-}
-
-#[test]
-fn reading_a_text_that_is_refused(rt: HostRuntime) -> Result<(), Fail> {
     let text = b"ninja_dyndep_version = 1\nbuild a.o | mod/A.bmi: dyndep | $\n  mod/B.bmi || x\n";
     let wanted = Err(line_fault(2, LineFault::OrderOnly));
     assert!(rt; answers_in_pieces(rt.alloc(), text, 1, wanted)?);
@@ -45,16 +41,11 @@ fn written(alloc: Global, rows: &[Row], room: usize) -> Result<Vec<u8>, Failure<
     }
 }
 
-/// Where memory was refused, nothing was written.
+/// To a writer and in memory. Where memory was refused, nothing was written.
 #[test]
 fn writing(rt: HostRuntime) -> Result<(), Fail> {
     let found = written(rt.alloc(), TWO_ROWS, TWO_STATEMENTS.len())?;
     assert!(rt; found.as_slice() == TWO_STATEMENTS);
-    Ok(())
-}
-
-#[test]
-fn a_text_in_memory(rt: HostRuntime) -> Result<(), Fail> {
     let found = text_of(rt.alloc(), TWO_ROWS)?;
     assert!(rt; found.as_slice() == TWO_STATEMENTS);
     Ok(())

@@ -68,16 +68,11 @@ const EVERY_LINE: &[u8] =
     b"# $\n\r\nninja_dyndep_version=1.0\r\nbuild a$\r\n  b.o $\n: dyndep | d$ e $$f$$\r\n  # why \0$\r\r\n  restat = x $\n  y\r\nbuild a$\n$:b: dyndep\n\n";
 
 #[test]
-fn a_text_is_read_in_every_cutting(rt: HostRuntime) -> Result<(), Fail> {
+fn a_text_is_answered_alike_in_every_cutting(rt: HostRuntime) -> Result<(), Fail> {
     let text =
         b"ninja_dyndep_version = 1\nbuild ab.o: dyndep | d$ e $$f$$\n  restat = 1\nbuild a$:b: dyndep\n";
     assert!(rt; always_answers(rt.alloc(), TWO_STATEMENTS, Ok(TWO_STATEMENTS))?);
     assert!(rt; always_answers(rt.alloc(), EVERY_LINE, Ok(text))?);
-    Ok(())
-}
-
-#[test]
-fn a_text_is_refused_in_every_cutting(rt: HostRuntime) -> Result<(), Fail> {
     let truncated = Err(line_fault(4, LineFault::Truncated));
     assert!(rt; always_answers(rt.alloc(), &TWO_STATEMENTS[..90], truncated)?);
     let text = b"ninja_dyndep_version = 1\nbuild a $\r\n: dyndep\nrule cc\n build\n";
@@ -100,23 +95,13 @@ fn reads_as(
 }
 
 #[test]
-fn a_reader_is_read_to_its_end(rt: HostRuntime) -> Result<(), Fail> {
+fn a_reader_is_read_to_its_end_a_failure_or_a_refusal(rt: HostRuntime) -> Result<(), Fail> {
     let input = bytewise_reader(TWO_STATEMENTS, 0);
     assert!(rt; reads_as(rt.alloc(), input, Ok(TWO_STATEMENTS), 124, 0)?);
-    Ok(())
-}
-
-#[test]
-fn a_failed_read_is_not_tried_again(rt: HostRuntime) -> Result<(), Fail> {
     for call in 1..124usize {
         let input = bytewise_reader(TWO_STATEMENTS, call);
         assert!(rt; reads_as(rt.alloc(), input, Err(ReadFault::Io), call, 1)?);
     }
-    Ok(())
-}
-
-#[test]
-fn a_refused_text_is_read_no_further(rt: HostRuntime) -> Result<(), Fail> {
     let input = bytewise_reader(b"ninja_dyndep_version = 2\nrule cc\n", 26);
     let refused = Err(line_fault(1, LineFault::BadVersion));
     assert!(rt; reads_as(rt.alloc(), input, refused, 25, 0)?);

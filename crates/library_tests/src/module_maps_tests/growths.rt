@@ -8,21 +8,11 @@ use module_maps::{Clang, Gcc};
 use std::test::Fail;
 
 #[test]
-fn maps_of_gcc(rt: HostRuntime) -> Result<(), Fail> {
+fn maps_of_each_style(rt: HostRuntime) -> Result<(), Fail> {
     let text = "A mod/A.bmi\nB mod/B.bmi\n";
     assert!(rt; is_read_back(rt.alloc(), &Gcc, text, text)?);
-    Ok(())
-}
-
-#[test]
-fn maps_of_clang(rt: HostRuntime) -> Result<(), Fail> {
     let text = "-x c++-module\n-fmodule-output=mod/A.bmi\n-fmodule-file=B=mod/B.bmi\n";
     assert!(rt; is_read_back(rt.alloc(), &Clang, text, "- mod/A.bmi\nB mod/B.bmi\n")?);
-    Ok(())
-}
-
-#[test]
-fn maps_of_the_callers_own_style(rt: HostRuntime) -> Result<(), Fail> {
     let entries = "- mod/A.bmi\n- mod/B.bmi\n";
     assert!(rt; is_read_back(rt.alloc(), &Bare, "mod/A.bmi\nmod/B.bmi\n", entries)?);
     Ok(())

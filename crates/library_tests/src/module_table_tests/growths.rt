@@ -2,12 +2,14 @@
 //! `AllocError` or `Failure::Memory` where a call answered that memory was refused, and nowhere
 //! else; every other answer has to be the example's.
 
-use super::is_answered;
+use super::{finds_both, needs_three, table};
 use std::hash::RandomState;
 use std::test::Fail;
 
 #[test]
 fn who_provides_a_module_and_what_is_needed(rt: HostRuntime) -> Result<(), Fail> {
-    assert!(rt; is_answered(rt.alloc(), RandomState::new(&rt)?)?);
+    let table = table(rt.alloc(), RandomState::new(&rt)?)?;
+    assert!(rt; finds_both(rt.alloc(), &table)?);
+    assert!(rt; needs_three(rt.alloc(), &table)?);
     Ok(())
 }
