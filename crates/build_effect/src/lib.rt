@@ -54,9 +54,9 @@
 //! - The edits in `must-fail/` of `added.rt`, `extending.rt` and `statement_edges.rt` show the
 //!   clauses of [`apply`], and those of `makers.rt` and `needs.rt` that of [`edge_order`]. A plain
 //!   call has the clauses of the call with a hasher. [`GraphFault::path`] and [`Graph::edges`] have
-//!   nothing else to lend. Each fault type says how it is printed by a clause of the form that
-//!   `write_fault_of_another_statement` of `dyndep_file` shows. `edges_forgotten_at_the_end` and
-//!   `restat_of_a_listing_lost_at_a_piece_end` show the clauses of [`ListingReader`].
+//!   nothing else to lend. `faults_of_graphs_printed_alike` shows the clause by which each fault type
+//!   says how it is printed, and `edges_forgotten_at_the_end` and
+//!   `restat_of_a_listing_lost_at_a_piece_end` those of [`ListingReader`].
 //!
 //! It uses `ninja_text` for paths and lines, `dyndep_file` for statements, `dep_order` for
 //! orders and cycles, `indexmap` for look-ups, and `thiserror` for its fault types.

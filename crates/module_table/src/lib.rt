@@ -51,10 +51,10 @@
 //!
 //! `must-fail/` has a wrong body of each public function but of the laws, which have none, and of
 //! those that only pass on what a [`Resolved`] has: [`Table::objects`], [`Table::required`],
-//! [`Table::resolved`], [`Table::into_resolved`], [`Resolved::into_parts`], and [`Table::needs`],
-//! which lends the table. `objects_left_out` and `required_by_the_first_object` are of what they
-//! pass on, and those of `graph.rt` and `needed.rt` of what is needed. The plain calls have the
-//! clauses of [`Table::build_or_refused`], whose answers they give.
+//! [`Table::resolved`], [`Table::into_resolved`], and [`Table::needs`], which lends the table.
+//! `objects_left_out` and `required_by_the_first_object` are of what they pass on, and those of
+//! `graph.rt` and `needed.rt` of what is needed. The plain calls have the clauses of
+//! [`Table::build_or_refused`], whose answers they give.
 #![tactic(auto)]
 
 mod checks;
