@@ -16,7 +16,7 @@ AllZip-second R P k [] (y ∷ ys) h = absurd h
 AllZip-second R P k (x ∷ xs) [] h = absurd h
 AllZip-second R P k (x ∷ xs) (y ∷ ys) h = (k x y h.0, AllZip-second R P k xs ys h.1)
 
-second : {A B : Type 0} → (R : A → B → Type 0) (P : B → Type 0) → ((a : A) (b : B) → R a b → P b) → (xs : List A) (ys : List B) → AllZip R xs ys → All P ys
+pub second : {A B : Type 0} → (R : A → B → Type 0) (P : B → Type 0) → ((a : A) (b : B) → R a b → P b) → (xs : List A) (ys : List B) → AllZip R xs ys → All P ys
 second R P k xs ys h = All-from_recursion P ys (AllZip-second R P k xs ys h)
 
 module _ (s : SettingValue) where

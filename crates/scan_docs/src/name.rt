@@ -1,9 +1,9 @@
 //! Names of modules.
 
-ghost use Rattle.std.specs.Prelude.{◌≡◌, ◌==◌, IfOk, IsTrue, IsUtf8, nat_le, count_by};
+ghost use Rattle.std.specs.Prelude.{◌≡◌, ◌==◌, map, All, IfOk, IsTrue, IsUtf8, nat_le, count_by};
 ghost use Rattle.std.specs.Option.{SomeIff};
-ghost use Rattle.std.specs.List.{list_all, slice_split};
-ghost use Rattle.scan_docs.specs.Name.{is_name, is_name_byte, is_separator, is_not_empty};
+ghost use Rattle.std.specs.List.{list_all, flat_map, slice_split};
+ghost use Rattle.scan_docs.specs.Name.{is_name, is_name_byte, is_separator, is_not_empty, IsName};
 
 use std::alloc::{AllocError, Global};
 use std::cmp::Ordering;
@@ -19,24 +19,28 @@ pub const NAME_LIMIT: usize = 1024;
 ///
 /// It has 1 to 1,024 bytes and one `:` at most, no part between the separators `.` and `:` is
 /// empty, and no byte is a control byte, a space, 127 or one of `/ \ " ' = | $`. A contract sees a
-/// name as its text. Copies of a name share the text.
+/// name as its text. Copies of a name share the text, and the names that a rule requires share one.
 #[derive(Drop)]
 pub struct Name {
-    bytes: RcSlice<u8>,
+    /// The text, from `start` to `end`.
+    shared: RcSlice<u8>,
+    start: usize,
+    end: usize,
 }
 
 impl Model for Name {
+    ghost use Rattle.std.specs.Prelude.{ℕ, ◌≤◌, List, length, slice_range, IsTrue, IsUtf8};
     ghost use Rattle.std.specs.Rc.{rc_slice_items};
     ghost use Rattle.ninja_text.specs.Bytes.{Bytes};
-    ghost use Rattle.std.specs.Prelude.{ℕ, List, IsTrue, IsUtf8};
     ghost use Rattle.scan_docs.specs.Name.{is_name};
 
     ghost Value = { Bytes };
 
-    ghost view = { λ n. rc_slice_items n.bytes };
+    ghost view = { λ n. slice_range (rc_slice_items n.shared) n.start n.end };
 
-    ghost invariant = { λ n. IsTrue (is_name (rc_slice_items n.bytes))
-        × IsUtf8 (rc_slice_items n.bytes) };
+    ghost invariant = { λ n. (n.start ≤ n.end) × (n.end ≤ length (rc_slice_items n.shared))
+        × IsTrue (is_name (slice_range (rc_slice_items n.shared) n.start n.end))
+        × IsUtf8 (slice_range (rc_slice_items n.shared) n.start n.end) };
 }
 
 impl Name {
@@ -47,8 +51,13 @@ impl Name {
         if !is_name(text.as_bytes()) {
             return Ok(None);
         }
-        let bytes = RcSlice::from_slice(alloc, text.as_bytes())?;
-        Ok(Some(Name { bytes }))
+        let shared = RcSlice::from_slice(alloc, text.as_bytes())?;
+        let name = Name {
+            shared,
+            start: 0,
+            end: text.len(),
+        };
+        Ok(Some(name))
     }
 
     /// The text that the name was made of.
@@ -56,7 +65,7 @@ impl Name {
         ensures text { result.now ≡ self.now }
         ensures accepted { IsTrue (is_name self.now) }
     {
-        match str::from_utf8(self.bytes.as_slice()) {
+        match str::from_utf8(self.bytes()) {
             Ok(text) => text,
             Err(_) => unreachable!(),
         }
@@ -68,20 +77,58 @@ impl Name {
         ensures accepted { IsTrue (is_name self.now) }
         ensures utf8 { IsUtf8 result.now }
     {
-        &self.bytes
+        &self.shared.as_slice()[self.start..self.end]
     }
 
     /// The same name once more. It shares the text, as [`Path::copy`](ninja_text::Path::copy) does.
     pub fn copy(&self, _alloc: Global) -> Result<Name, AllocError>
         ensures { IfOk result (λ copy. copy ≡ self.now) }
     {
-        let bytes = self.bytes.clone()?;
-        Ok(Name { bytes })
+        let shared = self.shared.clone()?;
+        Ok(Name {
+            shared,
+            start: self.start,
+            end: self.end,
+        })
     }
 }
 
+/// The names of these texts, which are accepted. They share one text, for which memory is asked
+/// once.
+pub(crate) fn names_of(alloc: Global, texts: &[&str]) -> Result<Vec<Name>, AllocError>
+    requires { All IsName (map (λ text. text.now) texts.now) }
+    ensures { IfOk result (λ names. names.items ≡ map (λ text. text.now) texts.now) }
+{
+    let all = joined(alloc, texts)?;
+    let all = RcSlice::from_vec(all)?;
+    let mut names = Vec::with_capacity(alloc, texts.len())?;
+    let mut start = 0;
+    for text in texts {
+        let shared = all.clone()?;
+        let end = start + text.len();
+        names.push(Name { shared, start, end })?;
+        start = end;
+    }
+    Ok(names)
+}
+
+/// The texts, one after the other.
+fn joined(alloc: Global, texts: &[&str]) -> Result<Vec<u8>, AllocError>
+    ensures { IfOk result (λ all. all.items ≡ flat_map (λ text. text.now) texts.now) }
+{
+    let mut room: usize = 0;
+    for text in texts {
+        room = room.saturating_add(text.len());
+    }
+    let mut all = Vec::with_capacity(alloc, room)?;
+    for text in texts {
+        all.extend_from_slice(text.as_bytes())?;
+    }
+    Ok(all)
+}
+
 #[tactic(auto, unfolding(crate::specs::Name::is_name))]
-fn is_name(text: &[u8]) -> bool
+pub(crate) fn is_name(text: &[u8]) -> bool
     ensures { result ≡ is_name text.now }
 {
     !text.is_empty()
@@ -118,8 +165,17 @@ fn has_full_parts(text: &[u8]) -> bool
 fn has_name_bytes(text: &[u8]) -> bool
     ensures { result ≡ list_all is_name_byte text.now }
 {
-    text.iter()
-        .all(|b| *b >= 33 && *b != 127 && !b"/\\\"'=|$".contains(b))
+    text.iter().all(is_name_byte)
+}
+
+fn is_name_byte(byte: &u8) -> bool
+    ensures { result ≡ is_name_byte byte.now }
+{
+    *byte > b' '
+        && !matches!(
+            *byte,
+            b'/' | b'\\' | b'"' | b'\'' | b'=' | b'|' | b'$' | 127
+        )
 }
 
 /// Two names are equal where their texts are.
@@ -133,7 +189,7 @@ impl PartialEq for Name {
     ghost laws = { partial_equiv_from_equiv nat_list_eq_equiv };
 
     fn eq(&self, other: &Name) -> bool {
-        self.bytes.as_slice() == other.bytes.as_slice()
+        self.bytes() == other.bytes()
     }
 }
 
@@ -159,7 +215,7 @@ impl Ord for Name {
     ghost matches_eq = { Prim.search (comparing, rules) };
 
     fn cmp(&self, other: &Name) -> Ordering {
-        self.bytes.as_slice().cmp(other.bytes.as_slice())
+        self.bytes().cmp(other.bytes())
     }
 }
 
@@ -191,8 +247,8 @@ impl Hash for Name {
     ghost respects_eq = { Prim.search (hashing, rules) };
 
     fn hash<H: Hasher>(&self, state: &mut H) {
-        state.write_usize(self.bytes.len());
-        state.write(self.bytes.as_slice());
+        state.write_usize(self.bytes().len());
+        state.write(self.bytes());
     }
 }
 

@@ -15,7 +15,7 @@ ghost use Rattle.scan_docs.specs.declared.member.Member.TheVariants as m;
 
 use crate::fault::{DocFault, Place, bad_shape, path_at};
 use crate::member::Member;
-use crate::name::Name;
+use crate::name::{Name, is_name, names_of};
 use crate::scan_document::COUNT_LIMIT;
 use crate::setting::Setting;
 use crate::shape;
@@ -226,19 +226,21 @@ fn read_all_required(
     ensures { Answers (all_required_checks rule (map view entries.now))
         (λ found. AllZip IsRequired (map view entries.now) found.items) result }
 {
-    let mut found = Vec::with_capacity(alloc, entries.len())?;
+    let mut texts = Vec::with_capacity(alloc, entries.len())?;
     for (entry, value) in entries.iter().enumerate() {
         let place = Place::Requires { rule, entry };
-        let name = read_required(alloc, place, value)?;
-        found.push(name)?;
+        let text = read_required(place, value)?;
+        texts.push(text)?;
     }
-    Ok(found)
+    let names = names_of(alloc, &texts)?;
+    Ok(names)
 }
 
+/// The text of the name of a required module.
 #[tactic(auto, unfolding(crate::specs::ScanChecks::required_checks))]
-fn read_required(alloc: Global, place: Place, entry: &Value) -> Result<Name, Failure<DocFault>>
+fn read_required<'v>(place: Place, entry: &'v Value) -> Result<&'v str, Failure<DocFault>>
     ensures { Answers (required_checks place (view entry.now))
-        (IsRequired (view entry.now)) result }
+        (λ name. IsRequired (view entry.now) name.now) result }
 {
     shape::check_object(entry, Member::Entry, place)?;
     let name = shape::required_text(entry, Member::LogicalName, place)?;
@@ -247,7 +249,10 @@ fn read_required(alloc: Global, place: Place, entry: &Value) -> Result<Name, Fai
     if unique == Some(true) || header {
         return Err(Failure::Fault(DocFault::HeaderUnit { place }));
     }
-    read_name(alloc, name, place)
+    if !is_name(name.as_bytes()) {
+        return Err(Failure::Fault(DocFault::BadName { place }));
+    }
+    Ok(name)
 }
 
 /// Whether a requirement is looked up as a header.
@@ -296,7 +301,7 @@ fn made_file(alloc: Global, setting: &Setting, name: &Name) -> Result<Vec<u8>, A
 {
     let module_dir = setting.module_dir.as_str();
     let module_ext = setting.module_ext.as_str();
-    let name = name.text();
+    let name = name.bytes();
     let room = module_dir
         .len()
         .saturating_add(name.len())
@@ -306,7 +311,7 @@ fn made_file(alloc: Global, setting: &Setting, name: &Name) -> Result<Vec<u8>, A
         path.extend_from_slice(module_dir.as_bytes())?;
         path.push(b'/')?;
     }
-    push_dashed(&mut path, name.as_bytes())?;
+    push_dashed(&mut path, name)?;
     path.extend_from_slice(module_ext.as_bytes())?;
     Ok(path)
 }

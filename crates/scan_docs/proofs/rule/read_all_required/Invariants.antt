@@ -7,4 +7,4 @@ use Rattle.scan_docs.proofs.Each.{SoFar}
 use Rattle.scan_docs.proofs.rule.read_all_required.Given as goal
 
 abbrev pub invariant-loop-entry : goal.invariant-loop-entry
-invariant-loop-entry l = SoFar (λ entry d. required_checks (place.Requires l.rule entry) d) IsRequired (map view l.entries) l.entry l.found.items
+invariant-loop-entry l = SoFar (λ entry d. required_checks (place.Requires l.rule entry) d) IsRequired (map view l.entries) l.entry (map (λ text. text.now) l.texts.items)
