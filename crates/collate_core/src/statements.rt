@@ -99,7 +99,7 @@ fn add(text: &mut DyndepText, statement: &LentStatement<'_>) -> Result<(), Failu
     ensures refused { IfErr result (ForFault (IsLineRefusal text.old.count statement.now)) }
 {
     laws::long_lines();
-    match text.add(statement) {
+    match text.add_writable(statement) {
         Ok(()) => Ok(()),
         Err(Failure::Memory) => Err(Failure::Memory),
         Err(Failure::Fault(fault)) => match fault {

@@ -87,7 +87,7 @@ no_longer : (n : ℕ) → n ≤ line_limit → nat_lt line_limit n ≡ false
 no_longer n h = grind (arith, h)
 
 -- among paths that have spellings none is found without
-all_found : (paths : List (List ℕ)) → All IsWritable paths → position (λ path. not (is_writable path)) paths ≡ None
+pub all_found : (paths : List (List ℕ)) → All IsWritable paths → position (λ path. not (is_writable path)) paths ≡ None
 all_found paths w =
     position_none (λ path. not (is_writable path)) paths [] (λ k lt. test_of (is_writable (get_or paths k [])) ((is_writable-meaning (get_or paths k [])).1 (w k [] lt)))
 

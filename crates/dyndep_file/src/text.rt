@@ -64,6 +64,18 @@ impl DyndepText {
                 path,
             }));
         }
+        self.add_writable(statement)
+    }
+
+    /// The same of a statement whose paths have spellings: no path is looked at for it, and Y2 alone
+    /// is left.
+    pub fn add_writable(&mut self, statement: &LentStatement<'_>) -> Result<(), Failure<WriteFault>>
+        requires { All IsWritable (paths_of statement.now) }
+        ensures added { OnOk result ((statements : List StatementValue) →
+            IsTextOf statements self.old → IsTextOf (statements ++ statement.now ∷ []) self.new) }
+        ensures fault { IfErr result (ForFault (λ fault.
+            statement_fault self.old.count statement.now ≡ Some fault)) }
+    {
         let start = self.text.len();
         push_build_line(statement, &mut self.text)?;
         if self.text.len() - start > LINE_LIMIT {

@@ -5,7 +5,7 @@ mod growths;
 mod reading;
 
 use crate::failing::{has_got, refusing_writer};
-use dyndep_file::{Dyndep, Statement, WriteFault, write};
+use dyndep_file::{Dyndep, DyndepText, LentStatement, Statement, WriteFault, write};
 use ninja_text::Failure;
 use std::alloc::{AllocError, Global};
 use std::test::Fail;
@@ -125,6 +125,30 @@ fn path_comes_first(alloc: Global, long: &[u8]) -> bool {
         && fault_among(alloc, long, &[b"p"], &[b"|"]) == Some(Failure::Fault(third))
         && fault_among(alloc, b"|", &[b"p"], &[long]) == Some(Failure::Fault(first))
         && fault_among(alloc, long, &[b"p"], &[b"x"]) == Some(Failure::Fault(too_long))
+}
+
+/// A statement of these paths, whose flag is set.
+fn lent<'p>(
+    output: &'p [u8],
+    outputs: &'p [&'p [u8]],
+    inputs: &'p [&'p [u8]],
+) -> LentStatement<'p> {
+    LentStatement {
+        output,
+        implicit_outputs: outputs,
+        implicit_inputs: inputs,
+        restat: true,
+    }
+}
+
+#[test]
+fn lent_statements_are_added(rt: HostRuntime) -> Result<(), Fail> {
+    let mut text = DyndepText::new(rt.alloc())?;
+    for (output, outputs, inputs) in TWO_ROWS {
+        text.add(&lent(output, outputs, inputs))?;
+    }
+    assert!(rt; text.finish().as_slice() == TWO_STATEMENTS);
+    Ok(())
 }
 
 #[test]

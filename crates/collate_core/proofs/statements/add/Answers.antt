@@ -8,6 +8,9 @@ use Rattle.dyndep_file.specs.declared.fault.WriteFault.TheVariants.{Unwritable, 
 use Rattle.collate_core.specs.inner.Parts.{IsSpelled}
 use Rattle.collate_core.proofs.statements.add.Goals as goal
 
+pub add_writable-requires : goal.add_writable-requires
+add_writable-requires c = All-weaker IsSpelled IsWritable (λ path p. p.writable) (paths_of c.args.statement.now) c.requires
+
 pub unreachable-requires : goal.unreachable-requires
 unreachable-requires c =
     let s = c.args.statement.now in

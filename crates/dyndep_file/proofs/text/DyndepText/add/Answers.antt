@@ -1,39 +1,14 @@
-use Rattle.std.proofs.Common.{◌≡◌, ◌+◌, ◌≤◌, ◌++◌, length, Some, sym, ap, ◌∙◌, arith, length-append}
-use Rattle.ninja_text.specs.Lines.{line_limit}
-use Rattle.dyndep_file.specs.StatementValue.{StatementValue}
-use Rattle.dyndep_file.specs.Writing.{build_line, binding_line}
+use Rattle.std.proofs.Common.{Some, sym, ap, ◌∙◌}
 use Rattle.dyndep_file.specs.WriteFaults.{paths_of}
-use Rattle.dyndep_file.specs.declared.fault.WriteFault.TheVariants.{Unwritable, StatementTooLong}
+use Rattle.dyndep_file.specs.declared.fault.WriteFault.TheVariants.{Unwritable}
 use Rattle.dyndep_file.proofs.WriteFaultLemmas.{paths_written}
-use Rattle.dyndep_file.proofs.TextLemmas.{added, counted, unwritable, too_long}
+use Rattle.dyndep_file.proofs.TextLemmas.{unwritable}
 use Rattle.dyndep_file.proofs.text.DyndepText.add.Goals as goal
 
-pub push_build_line-requires : goal.push_build_line-requires
-push_build_line-requires c = paths_written (paths_of c.args.statement.now) (sym c.unwritable_path.ensures ∙ c.in_default.is)
-
-pub returns-clause-added : goal.returns-clause-added
-returns-clause-added c = λ statements is.
-    let s : StatementValue = c.args.statement.now in
-    let v = c.self.view_is in
-    let line : c.push_build_line.new.text.items ≡ c.self.inside.text.items ++ build_line s = c.in_ok-push_build_line.ensures in
-    let both : length c.push_build_line.new.text.items ≡ length c.self.inside.text.items + length (build_line s) = ap length line ∙ length-append c.self.inside.text.items (build_line s) in
-    let short : length (build_line s) ≤ line_limit = omega (arith, both, c.len.ensures, c.len-start.ensures, c.if-len-start-gt-LINE_LIMIT.false) in
-    let bytes : c.push_binding.new.text.items ≡ (c.args.self.now.bytes ++ build_line s) ++ binding_line s =
-    c.in_ok-push_binding.ensures ∙ ap (λ t. t ++ binding_line s) (line ∙ ap (λ t. t.bytes ++ build_line s) v) in
-    let within : length statements + 2 ≤ length c.args.self.now.bytes = counted statements c.args.self.now.bytes is.bytes in
-    added statements s c.args.self.now _ is (sym c.unwritable_path.ensures ∙ c.in_default.is) short bytes
-    (omega (arith, c.saturating_add-self-inside.ensures, ap (λ t. t.count) v, is.count, within, c.len-start.type_inv, c.len-start.ensures, ap (λ t. length t.bytes) v))
+pub add_writable-requires : goal.add_writable-requires
+add_writable-requires c = paths_written (paths_of c.args.statement.now) (sym c.unwritable_path.ensures ∙ c.in_default.is)
 
 pub returns-in-Some-clause-fault : goal.returns-in-Some-clause-fault
 returns-in-Some-clause-fault c =
     unwritable c.args.statement.now c.args.self.now.count c.in-Some.path (sym c.unwritable_path.ensures ∙ c.in-Some.is)
     ∙ ap (λ n. Some (Unwritable n c.in-Some.path)) (sym (ap (λ t. t.count) c.self.view_is))
-
-pub returns-then-len-start-gt-LINE_LIMIT-clause-fault : goal.returns-then-len-start-gt-LINE_LIMIT-clause-fault
-returns-then-len-start-gt-LINE_LIMIT-clause-fault c =
-    let s : StatementValue = c.args.statement.now in
-    let line : c.push_build_line.new.text.items ≡ c.self.inside.text.items ++ build_line s = c.in_ok-push_build_line.ensures in
-    let both : length c.push_build_line.new.text.items ≡ length c.self.inside.text.items + length (build_line s) = ap length line ∙ length-append c.self.inside.text.items (build_line s) in
-    let long : line_limit + 1 ≤ length (build_line s) = omega (arith, both, c.len.ensures, c.len-start.ensures, c.if-len-start-gt-LINE_LIMIT.true) in
-    too_long s c.args.self.now.count (sym c.unwritable_path.ensures ∙ c.in_default.is) long
-    ∙ ap (λ n. Some (StatementTooLong n)) (sym (ap (λ t. t.count) c.self.view_is))
