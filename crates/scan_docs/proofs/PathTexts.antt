@@ -6,7 +6,7 @@ use Rattle.serde_json.specs.Data.{Data}
 use Rattle.scan_docs.specs.declared.member.Member.TheVariants as m
 use Rattle.scan_docs.specs.Shape.{text, entries_of}
 use Rattle.scan_docs.specs.Name.{IsName}
-use Rattle.scan_docs.specs.Scan.{SettingValue, RuleValue, IsText, IsProvidedModule, IsRequired, IsRule, AreRules, IsRuleText}
+use Rattle.scan_docs.specs.Scan.{SettingValue, RuleValue, IsText, IsProvidedModule, IsRequired, IsRule, IsRuleText}
 use Rattle.scan_docs.specs.Info.{ModuleValue, InfoValue, IsRequirement, IsModule, IsInfo, has_visibility}
 use Rattle.scan_docs.specs.InfoText.{IsModuleText, IsInfoText}
 
@@ -16,7 +16,7 @@ AllZip-second R P k [] (y ∷ ys) h = absurd h
 AllZip-second R P k (x ∷ xs) [] h = absurd h
 AllZip-second R P k (x ∷ xs) (y ∷ ys) h = (k x y h.0, AllZip-second R P k xs ys h.1)
 
-pub second : {A B : Type 0} → (R : A → B → Type 0) (P : B → Type 0) → ((a : A) (b : B) → R a b → P b) → (xs : List A) (ys : List B) → AllZip R xs ys → All P ys
+second : {A B : Type 0} → (R : A → B → Type 0) (P : B → Type 0) → ((a : A) (b : B) → R a b → P b) → (xs : List A) (ys : List B) → AllZip R xs ys → All P ys
 second R P k xs ys h = All-from_recursion P ys (AllZip-second R P k xs ys h)
 
 module _ (s : SettingValue) where
@@ -28,8 +28,8 @@ module _ (s : SettingValue) where
     required = second IsRequired IsName (λ entry name k. k.is_name) (entries_of m.Requires d) rule.required h.required;
   }
 
-  pub rules_text : (d : Data) (rules : List RuleValue) → AreRules s d rules → All IsRuleText rules
-  rules_text d rules h = second (IsRule s) IsRuleText rule_text (entries_of m.Rules d) rules h
+  pub rules_text : (ds : List Data) (rules : List RuleValue) → AllZip (IsRule s) ds rules → All IsRuleText rules
+  rules_text ds rules h = second (IsRule s) IsRuleText rule_text ds rules h
 
 module_text : (with_visibility : Bool) (d : Data) (entry : ModuleValue) → IsModule with_visibility d entry → IsModuleText entry
 module_text with_visibility d entry h = record {

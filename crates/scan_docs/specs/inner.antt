@@ -1,3 +1,4 @@
 -- Definitions that private clauses alone speak of.
 pub mod Reading
+pub mod SharedNames
 pub mod Writing

@@ -10,7 +10,8 @@
 //!   `specs/Target.antt` and `specs/Project.antt`; `specs/Document.antt` puts them together.
 //!   `specs/Values.antt` gives the meaning as a function of the bytes.
 //! - `document` makes a tree of a document's bytes by `serde_json` and reads its version, and
-//!   `shape` asks the tree for members of a type. The tree is dropped once the value is made.
+//!   `shape` asks the tree for members of a type. `rule` reads rules whose names the tree lends, and
+//!   `lent_rule` gives them names of their own. The tree is dropped once the value is made.
 //! - [`laws`] proves of all bytes that they have one answer at most, and that the value of an
 //!   accepted document is that of the function.
 //! - [`info_write`] gives the one text of an info (`specs/InfoText.antt`), which is read as the
@@ -37,6 +38,7 @@ mod fault;
 mod info;
 mod info_text;
 pub mod laws;
+mod lent_rule;
 mod map_form;
 mod member;
 mod name;

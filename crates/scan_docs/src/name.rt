@@ -1,9 +1,10 @@
 //! Names of modules.
 
-ghost use Rattle.std.specs.Prelude.{◌≡◌, ◌==◌, map, All, IfOk, IsTrue, IsUtf8, nat_le, count_by};
+ghost use Rattle.std.specs.Prelude.{◌≡◌, ◌==◌, ◌&&◌, IfOk, OnOk, IsTrue, IsUtf8, length, drop, nat_le, count_by};
 ghost use Rattle.std.specs.Option.{SomeIff};
-ghost use Rattle.std.specs.List.{list_all, flat_map, slice_split};
+ghost use Rattle.std.specs.List.{list_all, slice_split};
 ghost use Rattle.scan_docs.specs.Name.{is_name, is_name_byte, is_separator, is_not_empty, IsName};
+ghost use Rattle.scan_docs.specs.inner.SharedNames.{IsFront};
 
 use std::alloc::{AllocError, Global};
 use std::cmp::Ordering;
@@ -19,7 +20,7 @@ pub const NAME_LIMIT: usize = 1024;
 ///
 /// It has 1 to 1,024 bytes and one `:` at most, no part between the separators `.` and `:` is
 /// empty, and no byte is a control byte, a space, 127 or one of `/ \ " ' = | $`. A contract sees a
-/// name as its text. Copies of a name share the text, and the names that a rule requires share one.
+/// name as its text. Copies of a name share the text, and the names of a scan document share one.
 #[derive(Drop)]
 pub struct Name {
     /// The text, from `start` to `end`.
@@ -93,79 +94,80 @@ impl Name {
     }
 }
 
-/// The names of these texts, which are accepted. They share one text, for which memory is asked
-/// once.
-pub(crate) fn names_of(alloc: Global, texts: &[&str]) -> Result<Vec<Name>, AllocError>
-    requires { All IsName (map (λ text. text.now) texts.now) }
-    ensures { IfOk result (λ names. names.items ≡ map (λ text. text.now) texts.now) }
-{
-    let all = joined(alloc, texts)?;
-    let all = RcSlice::from_vec(all)?;
-    let mut names = Vec::with_capacity(alloc, texts.len())?;
-    let mut start = 0;
-    for text in texts {
-        let shared = all.clone()?;
-        let end = start + text.len();
-        names.push(Name { shared, start, end })?;
-        start = end;
-    }
-    Ok(names)
+/// A text from whose front names are taken, which share it. A contract sees what is left of it.
+#[derive(Drop)]
+pub(crate) struct SharedText {
+    text: RcSlice<u8>,
+    start: usize,
 }
 
-/// The texts, one after the other.
-fn joined(alloc: Global, texts: &[&str]) -> Result<Vec<u8>, AllocError>
-    ensures { IfOk result (λ all. all.items ≡ flat_map (λ text. text.now) texts.now) }
-{
-    let mut room: usize = 0;
-    for text in texts {
-        room = room.saturating_add(text.len());
+impl Model for SharedText {
+    ghost use Rattle.std.specs.Prelude.{◌≤◌, length, drop};
+    ghost use Rattle.std.specs.Rc.{rc_slice_items};
+    ghost use Rattle.ninja_text.specs.Bytes.{Bytes};
+
+    ghost Value = { Bytes };
+
+    ghost view = { λ s. drop s.start (rc_slice_items s.text) };
+
+    ghost invariant = { λ s. s.start ≤ length (rc_slice_items s.text) };
+}
+
+impl SharedText {
+    pub(crate) fn new(text: Vec<u8>) -> Result<SharedText, AllocError>
+        ensures { IfOk result (λ shared. shared ≡ text.items) }
+    {
+        let text = RcSlice::from_vec(text)?;
+        Ok(SharedText { text, start: 0 })
     }
-    let mut all = Vec::with_capacity(alloc, room)?;
-    for text in texts {
-        all.extend_from_slice(text.as_bytes())?;
+
+    /// The name of this text, which is in front.
+    pub(crate) fn take(&mut self, text: &str) -> Result<Name, AllocError>
+        requires name { IsName text.now }
+        requires front { IsFront text.now self.old }
+        ensures name { IfOk result (λ name. name ≡ text.now) }
+        ensures left { OnOk result (self.new ≡ drop (length text.now) self.old) }
+    {
+        let shared = self.text.clone()?;
+        let start = self.start;
+        let end = start + text.len();
+        self.start = end;
+        Ok(Name { shared, start, end })
     }
-    Ok(all)
 }
 
 #[tactic(auto, unfolding(crate::specs::Name::is_name))]
 pub(crate) fn is_name(text: &[u8]) -> bool
     ensures { result ≡ is_name text.now }
 {
-    !text.is_empty()
-        && text.len() <= NAME_LIMIT
-        && has_few_colons(text)
-        && has_full_parts(text)
-        && has_name_bytes(text)
+    !text.is_empty() && text.len() <= NAME_LIMIT && has_name_parts(text)
 }
 
-fn has_few_colons(text: &[u8]) -> bool
-    ensures { result ≡ nat_le (count_by (λ b. b == 58) text.now) 1 }
+/// Whether there is one colon at most, no part is empty, and each byte is one of a name.
+/// `is_empty` speaks of the part that is being read.
+#[tactic(auto, using(crate::proofs::Parts::name_parts))]
+fn has_name_parts(text: &[u8]) -> bool
+    ensures { result ≡ (nat_le (count_by (λ b. b == 58) text.now) 1
+        && list_all is_not_empty (slice_split is_separator text.now)
+        && list_all is_name_byte text.now) }
 {
-    text.iter().filter(|b| **b == b':').count() <= 1
-}
-
-/// Whether no part is empty. `is_empty` speaks of the part that is being read.
-#[tactic(auto, using(crate::proofs::Parts::full_parts))]
-fn has_full_parts(text: &[u8]) -> bool
-    ensures { result ≡ list_all is_not_empty (slice_split is_separator text.now) }
-{
+    let mut has_colon = false;
     let mut is_empty = true;
     for byte in text {
-        if *byte != b'.' && *byte != b':' {
-            is_empty = false;
-        } else if is_empty {
-            return false;
-        } else {
+        if *byte == b'.' || *byte == b':' {
+            let is_colon = *byte == b':';
+            if is_empty || is_colon && has_colon {
+                return false;
+            }
+            has_colon = has_colon || is_colon;
             is_empty = true;
+        } else if is_name_byte(byte) {
+            is_empty = false;
+        } else {
+            return false;
         }
     }
     !is_empty
-}
-
-fn has_name_bytes(text: &[u8]) -> bool
-    ensures { result ≡ list_all is_name_byte text.now }
-{
-    text.iter().all(is_name_byte)
 }
 
 fn is_name_byte(byte: &u8) -> bool

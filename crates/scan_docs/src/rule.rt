@@ -7,6 +7,7 @@ ghost use Rattle.serde_json.specs.Data.{Data};
 ghost use Rattle.serde_json.specs.View.{view};
 ghost use Rattle.scan_docs.specs.Check.{◌otherwise◌};
 ghost use Rattle.scan_docs.specs.inner.Reading.{Answers, Tests, AnswersPath};
+ghost use Rattle.scan_docs.specs.inner.SharedNames.{lent_pairs, lent_names};
 ghost use Rattle.scan_docs.specs.Shape.{text, entries_of, given};
 ghost use Rattle.scan_docs.specs.Name.{is_name, IsName};
 ghost use Rattle.scan_docs.specs.Scan.{IsText, object_of, file_from, names_header, made_file, dashed, IsProvidedModule, IsRequired, IsRule};
@@ -14,8 +15,9 @@ ghost use Rattle.scan_docs.specs.ScanChecks.{rule_shape_checks, object_checks, c
 ghost use Rattle.scan_docs.specs.declared.member.Member.TheVariants as m;
 
 use crate::fault::{DocFault, Place, bad_shape, path_at};
+use crate::lent_rule::LentRule;
 use crate::member::Member;
-use crate::name::{Name, is_name, names_of};
+use crate::name::{Name, is_name};
 use crate::scan_document::COUNT_LIMIT;
 use crate::setting::Setting;
 use crate::shape;
@@ -55,12 +57,12 @@ struct RuleMembers<'v> {
 }
 
 #[tactic(auto, unfolding(crate::specs::ScanChecks::rule_checks), using(crate::proofs::Each::failure_of_both))]
-pub(crate) fn read_rule(
+pub(crate) fn read_rule<'v>(
     alloc: Global,
     setting: &Setting,
     rule: usize,
-    value: &Value,
-) -> Result<Rule, Failure<DocFault>>
+    value: &'v Value,
+) -> Result<LentRule<'v>, Failure<DocFault>>
     ensures { Answers (rule_checks setting.now rule (view value.now))
         (IsRule setting.now (view value.now)) result }
 {
@@ -68,7 +70,7 @@ pub(crate) fn read_rule(
     let members = read_members(place, value)?;
     let object = read_object(alloc, setting, place, members)?;
     let (provided, required) = read_modules(alloc, setting, rule, members)?;
-    Ok(Rule {
+    Ok(LentRule {
         object,
         provided,
         required,
@@ -101,12 +103,12 @@ fn read_object(
 }
 
 /// The modules that the rule's source provides and requires, of which there may be too many.
-fn read_modules(
+fn read_modules<'v>(
     alloc: Global,
     setting: &Setting,
     rule: usize,
-    members: RuleMembers<'_>,
-) -> Result<(Vec<(Name, Path)>, Vec<Name>), Failure<DocFault>>
+    members: RuleMembers<'v>,
+) -> Result<(Vec<(&'v str, Path)>, Vec<&'v str>), Failure<DocFault>>
     ensures { Answers (count_checks (Place.Rule rule) (map view members.entry.provided.now)
         (map view members.entry.required.now)
         ++ (all_provided_checks setting.now (option_copied members.entry.work_directory) rule
@@ -114,8 +116,10 @@ fn read_modules(
         ++ all_required_checks rule (map view members.entry.required.now)))
         (λ found. AllZip
         (IsProvidedModule setting.now (option_copied members.entry.work_directory))
-        (map view members.entry.provided.now) found.0.items
-        × AllZip IsRequired (map view members.entry.required.now) found.1.items) result }
+        (map view members.entry.provided.now)
+        (lent_pairs found.0.items)
+        × AllZip IsRequired (map view members.entry.required.now)
+        (lent_names found.1.items)) result }
 {
     if members.provided.len() > COUNT_LIMIT || members.required.len() > COUNT_LIMIT {
         return Err(Failure::Fault(DocFault::TooLarge {
@@ -150,17 +154,17 @@ fn read_members<'v>(place: Place, rule: &'v Value) -> Result<RuleMembers<'v>, Fa
 }
 
 #[tactic(auto, unfolding(crate::specs::ScanChecks::all_provided_checks))]
-fn read_all_provided(
+fn read_all_provided<'v>(
     alloc: Global,
     setting: &Setting,
     work: Option<&str>,
     rule: usize,
-    entries: &[Value],
-) -> Result<Vec<(Name, Path)>, Failure<DocFault>>
+    entries: &'v [Value],
+) -> Result<Vec<(&'v str, Path)>, Failure<DocFault>>
     ensures { Answers
         (all_provided_checks setting.now (option_copied work.entry) rule (map view entries.now))
         (λ found. AllZip (IsProvidedModule setting.now (option_copied work.entry))
-        (map view entries.now) found.items) result }
+        (map view entries.now) (lent_pairs found.items)) result }
 {
     let mut found = Vec::with_capacity(alloc, entries.len())?;
     for (entry, value) in entries.iter().enumerate() {
@@ -172,16 +176,17 @@ fn read_all_provided(
 }
 
 #[tactic(auto, unfolding(crate::specs::ScanChecks::provided_checks))]
-fn read_provided(
+fn read_provided<'v>(
     alloc: Global,
     setting: &Setting,
     work: Option<&str>,
     place: Place,
-    entry: &Value,
-) -> Result<(Name, Path), Failure<DocFault>>
+    entry: &'v Value,
+) -> Result<(&'v str, Path), Failure<DocFault>>
     ensures { Answers
         (provided_checks setting.now (option_copied work.entry) place (view entry.now))
-        (IsProvidedModule setting.now (option_copied work.entry) (view entry.now)) result }
+        (λ found. IsProvidedModule setting.now (option_copied work.entry) (view entry.now)
+        (found.0.now, found.1)) result }
 {
     shape::check_object(entry, Member::Entry, place)?;
     let name = shape::required_text(entry, Member::LogicalName, place)?;
@@ -191,8 +196,8 @@ fn read_provided(
     if unique == Some(true) {
         return Err(Failure::Fault(DocFault::HeaderUnit { place }));
     }
-    let name = read_name(alloc, name, place)?;
-    let file = read_file(alloc, setting, work, place, &name, file)?;
+    let name = accepted_name(name, place)?;
+    let file = read_file(alloc, setting, work, place, name, file)?;
     Ok((name, file))
 }
 
@@ -202,7 +207,7 @@ fn read_file(
     setting: &Setting,
     work: Option<&str>,
     place: Place,
-    name: &Name,
+    name: &str,
     path: Option<&str>,
 ) -> Result<Path, Failure<DocFault>>
     ensures { AnswersPath place (file_from setting.now (option_copied work.entry) name.now
@@ -218,25 +223,24 @@ fn read_file(
 }
 
 #[tactic(auto, unfolding(crate::specs::ScanChecks::all_required_checks))]
-fn read_all_required(
+fn read_all_required<'v>(
     alloc: Global,
     rule: usize,
-    entries: &[Value],
-) -> Result<Vec<Name>, Failure<DocFault>>
+    entries: &'v [Value],
+) -> Result<Vec<&'v str>, Failure<DocFault>>
     ensures { Answers (all_required_checks rule (map view entries.now))
-        (λ found. AllZip IsRequired (map view entries.now) found.items) result }
+        (λ found. AllZip IsRequired (map view entries.now)
+        (lent_names found.items)) result }
 {
-    let mut texts = Vec::with_capacity(alloc, entries.len())?;
+    let mut found = Vec::with_capacity(alloc, entries.len())?;
     for (entry, value) in entries.iter().enumerate() {
         let place = Place::Requires { rule, entry };
-        let text = read_required(place, value)?;
-        texts.push(text)?;
+        let name = read_required(place, value)?;
+        found.push(name)?;
     }
-    let names = names_of(alloc, &texts)?;
-    Ok(names)
+    Ok(found)
 }
 
-/// The text of the name of a required module.
 #[tactic(auto, unfolding(crate::specs::ScanChecks::required_checks))]
 fn read_required<'v>(place: Place, entry: &'v Value) -> Result<&'v str, Failure<DocFault>>
     ensures { Answers (required_checks place (view entry.now))
@@ -249,10 +253,7 @@ fn read_required<'v>(place: Place, entry: &'v Value) -> Result<&'v str, Failure<
     if unique == Some(true) || header {
         return Err(Failure::Fault(DocFault::HeaderUnit { place }));
     }
-    if !is_name(name.as_bytes()) {
-        return Err(Failure::Fault(DocFault::BadName { place }));
-    }
-    Ok(name)
+    accepted_name(name, place)
 }
 
 /// Whether a requirement is looked up as a header.
@@ -268,6 +269,17 @@ fn names_header(entry: &Value, place: Place) -> Result<bool, Failure<DocFault>>
             _ => Err(bad_shape(place, Member::LookupMethod)),
         },
     }
+}
+
+/// A text that has to be the name of a module.
+fn accepted_name(text: &str, place: Place) -> Result<&str, Failure<DocFault>>
+    ensures { Tests (is_name text.now otherwise DocFault.BadName place)
+        (λ name. (name.now ≡ text.now) × IsName name.now) result }
+{
+    if !is_name(text.as_bytes()) {
+        return Err(Failure::Fault(DocFault::BadName { place }));
+    }
+    Ok(text)
 }
 
 /// The name of a module, which has to be accepted.
@@ -295,13 +307,13 @@ fn read_path(
 }
 
 /// The name of a module's file where the document names none.
-fn made_file(alloc: Global, setting: &Setting, name: &Name) -> Result<Vec<u8>, AllocError>
+fn made_file(alloc: Global, setting: &Setting, name: &str) -> Result<Vec<u8>, AllocError>
     ensures path { IfOk result (λ path. path.items ≡ made_file setting.now name.now) }
     ensures text { IfOk result (λ path. IsUtf8 path.items) }
 {
     let module_dir = setting.module_dir.as_str();
     let module_ext = setting.module_ext.as_str();
-    let name = name.bytes();
+    let name = name.as_bytes();
     let room = module_dir
         .len()
         .saturating_add(name.len())

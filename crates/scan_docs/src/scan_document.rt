@@ -12,6 +12,7 @@ ghost use Rattle.scan_docs.specs.Values.{rules_of};
 
 use crate::document::{read_tree, read_version};
 use crate::fault::{DocFault, Place};
+use crate::lent_rule::{push_names, with_names};
 use crate::member::Member;
 use crate::rule::{Rule, read_rule};
 use crate::setting::Setting;
@@ -69,10 +70,13 @@ fn read_all_rules(
     ensures { Answers (all_rule_checks setting.now (map view rules.now))
         (λ found. AllZip (IsRule setting.now) (map view rules.now) found.items) result }
 {
-    let mut found = Vec::with_capacity(alloc, rules.len())?;
+    let mut lent = Vec::with_capacity(alloc, rules.len())?;
+    let mut names = Vec::new(alloc);
     for (index, value) in rules.iter().enumerate() {
         let rule = read_rule(alloc, setting, index, value)?;
-        found.push(rule)?;
+        push_names(&rule, &mut names)?;
+        lent.push(rule)?;
     }
-    Ok(found)
+    let rules = with_names(alloc, lent, names)?;
+    Ok(rules)
 }

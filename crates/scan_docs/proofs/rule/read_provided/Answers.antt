@@ -73,7 +73,7 @@ unfolding provided_checks
 returns-in_err-file-2 c =
     let unique = is_not_unique c.in_ok-unique.unique (sym c.eq.ensures ∙ c.if-eq.false) in
     let name = c.in_ok-name-2.ensures in
-    let file = file_is c.args.setting.now (option_copied c.args.work) (view c.args.entry.now) c.in_ok-name.name.now c.in_ok-name-2.name (option_copied c.in_ok-file.file) c.in_ok-name.ensures.1 name.1.0 c.in_ok-file.ensures.1 in
+    let file = file_is c.args.setting.now (option_copied c.args.work) (view c.args.entry.now) c.in_ok-name.name.now c.in_ok-name-2.name.now (option_copied c.in_ok-file.file) c.in_ok-name.ensures.1 name.1.0 c.in_ok-file.ensures.1 in
     let p = err_from_is_err_and c.from_residual-in_err-file-2.result c.from_residual-in_err-file-2.ensures.1 in
     rw (p.1, p.2) (λ ne. rw (file, c.in_ok-check_object.ensures.0, c.in_ok-name.ensures.0, c.in_ok-file.ensures.0, c.in_ok-unique.ensures.0, c.in_ok-flag.ensures.0, ← c.in_ok-unique.ensures.1, unique, c.in_ok-name.ensures.1, name.0) (c.in_err-file-2.ensures ne))
 
@@ -82,7 +82,7 @@ unfolding provided_checks
 returns c =
     let unique = is_not_unique c.in_ok-unique.unique (sym c.eq.ensures ∙ c.if-eq.false) in
     let name = c.in_ok-name-2.ensures in
-    let file = file_is c.args.setting.now (option_copied c.args.work) (view c.args.entry.now) c.in_ok-name.name.now c.in_ok-name-2.name (option_copied c.in_ok-file.file) c.in_ok-name.ensures.1 name.1.0 c.in_ok-file.ensures.1 in
+    let file = file_is c.args.setting.now (option_copied c.args.work) (view c.args.entry.now) c.in_ok-name.name.now c.in_ok-name-2.name.now (option_copied c.in_ok-file.file) c.in_ok-name.ensures.1 name.1.0 c.in_ok-file.ensures.1 in
     let path = c.in_ok-file-2.ensures in (
       rw (file, c.in_ok-check_object.ensures.0, c.in_ok-name.ensures.0, c.in_ok-file.ensures.0, c.in_ok-unique.ensures.0, c.in_ok-flag.ensures.0, ← c.in_ok-unique.ensures.1, unique, c.in_ok-name.ensures.1, name.0) path.0,
       record {

@@ -28,7 +28,7 @@ returns-clause-one_answer c = scan_one_answer c.args.setting.now c.args.bytes.no
 pub returns-clause-text : goal.returns-clause-text
 returns-clause-text c =
     let read = c.in_ok-tree.ensures.read in
-    holds (λ rules. rules.items) (scan_checks c.args.setting.now) (AreRules c.args.setting.now) c.args.bytes.now (view c.in_ok-tree.tree) read.0 read.1 (All IsRuleText) (λ rules h. rules_text c.args.setting.now h.tree rules h.meaning) c.read_rules.result c.read_rules.ensures
+    holds (λ rules. rules.items) (scan_checks c.args.setting.now) (AreRules c.args.setting.now) c.args.bytes.now (view c.in_ok-tree.tree) read.0 read.1 (All IsRuleText) (λ rules h. rules_text c.args.setting.now _ rules h.meaning) c.read_rules.result c.read_rules.ensures
 
 pub returns-clause-value : goal.returns-clause-value
 returns-clause-value c =
