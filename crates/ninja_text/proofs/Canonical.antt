@@ -7,7 +7,7 @@ use Rattle.ninja_text.specs.Escapes.{is_unwritable}
 use Rattle.ninja_text.specs.Reduction.{is_parent, reduced, components}
 use Rattle.ninja_text.specs.Paths.{path_text, below, relative_or, seen_from, checked, is_empty, is_rooted, canonical_of, IsPath}
 use Rattle.ninja_text.specs.inner.ComponentLists.{list_text, LacksSlash, EachLacksSlash}
-use Rattle.ninja_text.proofs.ReducedList.{IsFixed, reduced-fixed, reduced-each, fixed-reduced, fixed-tail, in_front-current}
+use Rattle.ninja_text.proofs.ReducedList.{IsFixed, reduced-fixed, reduced-each, fixed-reduced, fixed-behind, in_front-current}
 use Rattle.ninja_text.proofs.Components.{components-lack, components-list, below-some, below-is, below-not}
 
 -- what holds of a text that has no fault
@@ -172,11 +172,6 @@ clean-components (b ∷ bs) a = clean-cond (b == 47) b (components bs) a.0 (clea
 
 -- ---- what is left of a text that has no fault
 
--- no step applies to the rest of a list to which none applies
-below-fixed : (ds cs : List (List ℕ)) → IsFixed (ds ++ cs) → IsFixed cs
-below-fixed [] cs f = f
-below-fixed (d ∷ ds) cs f = below-fixed ds cs (fixed-tail d (ds ++ cs) f)
-
 -- what holds of each component holds of the rest
 below-each : (P : List ℕ → Type 0) (ds cs : List (List ℕ)) → AllByRecursion P (ds ++ cs) → AllByRecursion P cs
 below-each P [] cs a = a
@@ -200,7 +195,7 @@ seen-rest dirs list rest w h =
     let k = below-some dirs list rest h in
     record {
       some = some-list rest k.1;
-      fixed = below-fixed dirs rest (subst IsFixed k.0 w.fixed);
+      fixed = fixed-behind dirs rest (subst IsFixed k.0 w.fixed);
       lacks = below-each LacksSlash dirs rest (subst EachLacksSlash k.0 w.lacks);
       clean = below-each IsClean dirs rest (subst (AllByRecursion IsClean) k.0 w.clean);
       inside = refl;

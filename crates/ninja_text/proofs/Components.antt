@@ -1,5 +1,5 @@
 -- The pieces between the slashes of a text.
-use Rattle.std.proofs.Common.{◌≡◌, ℕ, zero, suc, Bool, true, false, cond, ◌==◌, List, [], ◌∷◌, ◌++◌, take, map, refl, sym, ◌∙◌, ap, subst, append_assoc}
+use Rattle.std.proofs.Common.{◌≡◌, ℕ, zero, suc, Bool, true, false, cond, ◌==◌, List, [], ◌∷◌, ◌++◌, take, refl, sym, ◌∙◌, ap, subst, append_assoc}
 use Rattle.std.specs.List.{AllByRecursion, onto_first}
 use Rattle.std.proofs.lemmas.List.Splits.{slice_split-cons_no, join_with_byte-slice_split}
 use Rattle.std.proofs.lemmas.Slice.Eq.{bytes_eq-Decides}
@@ -29,11 +29,6 @@ pub each-take : (P : List ℕ → Type 0) (n : ℕ) (xs : List (List ℕ)) → A
 each-take P zero xs a = tt
 each-take P (suc n) [] a = tt
 each-take P (suc n) (x ∷ xs) a = (a.0, each-take P n xs a.1)
-
--- a map of a list with one more element behind it
-pub map-snoc : {A : Type 0} (f : A → List ℕ) (xs : List A) (x : A) → map f (xs ++ x ∷ []) ≡ map f xs ++ f x ∷ []
-map-snoc f [] x = refl
-map-snoc f (y ∷ ys) x = ap (λ l. f y ∷ l) (map-snoc f ys x)
 
 -- ---- the components of a list that is written out
 

@@ -1,6 +1,6 @@
 -- What a cutter's calls do where no line waits: when a feed is refused, and what it leaves.
-use Rattle.std.proofs.Common.{inl, inr, ◌≡◌, ℕ, ◌+◌, ◌-◌, ◌<◌, ◌≤◌, Bool, true, false, List, [], ◌∷◌, ◌++◌, length, take, drop, refl, sym, ap, ◌∙◌, subst, append_assoc, Some, None, Ok}
-use Rattle.std.proofs.Common.{Err, arith, min, take_all, length-drop}
+use Rattle.std.proofs.Common.{inl, inr, ◌≡◌, ℕ, ◌+◌, ◌<◌, ◌≤◌, Bool, true, false, List, [], ◌∷◌, ◌++◌, length, take, drop, refl, sym, ap, ◌∙◌, subst, append_assoc, Some, None, Ok}
+use Rattle.std.proofs.Common.{Err, arith, min}
 use Rattle.std.specs.Prelude.{Option, Result, nat_le, if◌then◌else◌}
 use Rattle.std.proofs.lemmas.List.{take-append-drop}
 use Rattle.std.proofs.lemmas.Bool.{cases_Bool, leb-true, leb-false, cases_lt}
@@ -66,10 +66,6 @@ lends_some h new is works waits = (ap (λ k. k.waits) it, ap (λ k. k.failed) it
 
   next : (p q : Bool) → p ≡ true → q ≡ false → (if q then [] else if p then waiting_line h ∷ [] else []) ≡ waiting_line h ∷ []
   next p q i j = rw (i, j) refl
-
--- the bytes from an index on are all that there are from there
-pub to_the_end : (i : ℕ) (bytes : List ℕ) → take (length bytes - i) (drop i bytes) ≡ drop i bytes
-to_the_end i bytes = take_all (length bytes - i) (drop i bytes) (omega (arith, length-drop i bytes))
 
 -- where a feed is refused, a line waits only if one waited before; by the first end of a line
 waits_up_to : (h : CutterState) (piece : List ℕ) (e : CutFault) (new : CutterState) (o : Option LineEnd) → feed_outcome_at h piece o ≡ (Err e, new) → new.waits ≡ h.waits

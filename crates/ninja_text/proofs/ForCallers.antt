@@ -53,7 +53,11 @@ pub use Rattle.ninja_text.proofs.SpelledTexts.{written_line, written_text}
 -- The first token of one that begins with a word stands at its beginning.
 pub use Rattle.ninja_text.proofs.SpelledTexts.{First, written_first}
 -- The elements of lists, by index: of mapped lists, of two lists, and of the first few of a list.
-pub use Rattle.ninja_text.proofs.Indexed.{same_some, from_map, to_map, in_append, in_first, in_second, from_push, from_take, in_take, map_take, take_next}
+pub use Rattle.ninja_text.proofs.Indexed.{same_some, same_cons, element_at, from_map, to_map, in_append, in_first, in_second, from_push, from_take, in_take, map_take, take_next, to_the_end}
+-- The elements of lists put one after another: the parts of a list that `flat_map` makes.
+pub use Rattle.ninja_text.proofs.Indexed.{offset, InPart, in_flat_map, FromPart, from_flat_map}
+-- Numbers in one of three orders; a choice for each number makes a list.
+pub use Rattle.ninja_text.proofs.Indexed.{three_ways, choose}
 -- Lists in which all differ, and what a search for a text says of them.
 pub use Rattle.ninja_text.proofs.Repetitions.{differ_push, not_among, found_if, new_if}
 -- A text of a format whose lines and ends are decided stands for one value or has one fault, not both.

@@ -1,12 +1,23 @@
 -- The elements of lists, by index.
-use Rattle.std.proofs.Common.{◌≡◌, ℕ, zero, suc, ◌+◌, ◌<◌, ◌⊎◌, List, [], ◌∷◌, ◌++◌, length, map, take, Some, refl, ap, ◌∙◌, inl, inr, ⊎_elim, arith}
+use Rattle.std.proofs.Common.{◌≡◌, ℕ, zero, suc, ◌+◌, ◌-◌, ◌<◌, ◌⊎◌, List, [], ◌∷◌, ◌++◌, length, map, take, drop, Some, refl, sym, ap, subst, ◌∙◌, inl, inr, ⊎_elim, arith, length-drop}
 use Rattle.std.specs.Prelude.{slice_get}
-use Rattle.std.proofs.lemmas.List.{take_more}
+use Rattle.std.specs.List.{flat_map}
+use Rattle.std.proofs.lemmas.List.{take_all, take_more}
 use Rattle.std.proofs.lemmas.Option.{slice_get_within, get_or_from_slice_get}
 
 -- Some is injective
 pub same_some : {X : Type 0} (x y : X) → Some x ≡ Some y → x ≡ y
 same_some x y e = cc
+
+-- lists whose first elements and whose tails are equal
+pub same_cons : {X : Type 0} {x y : X} {xs ys : List X} → x ≡ y → xs ≡ ys → x ∷ xs ≡ y ∷ ys
+same_cons p q = rw (p, q) refl
+
+-- each index of a list has an element
+pub element_at : {X : Type 0} (xs : List X) (k : ℕ) → k < length xs → (x : X) × (slice_get xs k ≡ Some x)
+element_at [] k h = absurd (omega arith)
+element_at (x ∷ xs) zero h = (x, refl)
+element_at (x ∷ xs) (suc k) h = element_at xs k (omega arith)
 
 -- an element of a mapped list comes from one of the list
 pub from_map : {A B : Type 0} (f : A → B) (xs : List A) (k : ℕ) (y : B) → slice_get (map f xs) k ≡ Some y → (x : A) × (slice_get xs k ≡ Some x) × (f x ≡ y)
@@ -64,3 +75,60 @@ map_take f (suc n) (x ∷ xs) = ap (λ ys. f x ∷ ys) (map_take f n xs)
 -- one more of the list
 pub take_next : {X : Type 0} (xs : List X) (i : ℕ) (x : X) → slice_get xs i ≡ Some x → take (i + 1) xs ≡ take i xs ++ x ∷ []
 take_next xs i x at = take_more xs i x (slice_get_within xs i x at) ∙ ap (λ y. take i xs ++ y ∷ []) (get_or_from_slice_get xs i x x at)
+
+-- `list[n..]`
+pub to_the_end : {X : Type 0} (n : ℕ) (xs : List X) → take (length xs - n) (drop n xs) ≡ drop n xs
+to_the_end n xs = take_all (length xs - n) (drop n xs) (omega (arith, length-drop n xs))
+
+-- two numbers are in one of three orders
+pub three_ways : (a b : ℕ) → (a < b) ⊎ ((a ≡ b) ⊎ (b < a))
+three_ways zero zero = inr (inl refl)
+three_ways zero (suc b) = inl (omega arith)
+three_ways (suc a) zero = inr (inr (omega arith))
+three_ways (suc a) (suc b) = elim (three_ways a b) [ inl h ↦ inl (omega arith) | inr h ↦ inr (elim h [ inl e ↦ inl (ap suc e) | inr m ↦ inr (omega arith) ]) ]
+
+chosen : {X : Type 0} (P : ℕ → X → Type 0) (x : X) → P 0 x → (xs : List X) → ((i : ℕ) (y : X) → slice_get xs i ≡ Some y → P (suc i) y) → (i : ℕ) (y : X) → slice_get (x ∷ xs) i ≡ Some y → P i y
+chosen P x p xs f zero y e = let same : x ≡ y = cc in subst (λ z. P 0 z) same p
+chosen P x p xs f (suc i) y e = f i y e
+
+-- a choice for each number below n makes a list
+pub choose : {X : Type 0} (P : ℕ → X → Type 0) (n : ℕ) → ((i : ℕ) → i < n → (x : X) × P i x) → (xs : List X) × (length xs ≡ n) × ((i : ℕ) (x : X) → slice_get xs i ≡ Some x → P i x)
+choose P zero f = ([], refl, λ i x e. cc)
+choose P (suc n) f =
+    let first : (x : _) × P 0 x = f 0 (omega arith) in
+    let others : (xs : List _) × (length xs ≡ n) × ((i : ℕ) (x : _) → slice_get xs i ≡ Some x → P (suc i) x) = choose (λ i x. P (suc i) x) n (λ i h. f (suc i) (omega arith)) in
+    (first.0 ∷ others.0, omega (arith, others.1), chosen P first.0 first.1 others.0 others.2)
+
+-- how many elements come before the part of element i
+pub offset : {A B : Type 0} → (A → List B) → List A → ℕ → ℕ
+offset f [] i = 0
+offset f (x ∷ xs) zero = 0
+offset f (x ∷ xs) (suc i) = length (f x) + offset f xs i
+
+-- y is element j of the part of element i
+abbrev pub InPart : {A B : Type 0} → (A → List B) → List A → ℕ → ℕ → B → Type 0
+InPart {A} f xs i j y = (x : A) × (slice_get xs i ≡ Some x) × (slice_get (f x) j ≡ Some y)
+
+-- an element of a part is one of the whole list
+pub in_flat_map : {A B : Type 0} (f : A → List B) (xs : List A) (i j : ℕ) (y : B) → InPart f xs i j y → slice_get (flat_map f xs) (offset f xs i + j) ≡ Some y
+unfolding offset
+in_flat_map f [] i j y h = let none = h.1 in cc
+in_flat_map f (z ∷ xs) zero j y h =
+    let at : 0 + j ≡ j = omega arith in
+    rw at (in_first (f z) (flat_map f xs) j y (subst (λ w. slice_get (f w) j ≡ Some y) (sym (same_some _ _ h.1)) h.2))
+in_flat_map f (z ∷ xs) (suc i) j y h =
+    let at : (length (f z) + offset f xs i) + j ≡ length (f z) + (offset f xs i + j) = omega arith in
+    rw at (in_second (f z) (flat_map f xs) (offset f xs i + j) y (in_flat_map f xs i j y (h.0, h.1, h.2)))
+
+-- an element of the whole list is one of a part
+abbrev pub FromPart : {A B : Type 0} → (A → List B) → List A → ℕ → B → Type 0
+FromPart f xs k y = (i : ℕ) × (j : ℕ) × InPart f xs i j y × (k ≡ offset f xs i + j)
+
+pub from_flat_map : {A B : Type 0} (f : A → List B) (xs : List A) (k : ℕ) (y : B) → slice_get (flat_map f xs) k ≡ Some y → FromPart f xs k y
+unfolding offset
+from_flat_map f [] k y e = cc
+from_flat_map f (x ∷ xs) k y e =
+    elim (in_append (f x) (flat_map f xs) k y e) [
+      | inl h ↦ (0, k, (x, refl, h), omega arith)
+      | inr h ↦ let r = from_flat_map f xs h.0 y h.2 in (suc r.0, r.1, (r.2.0, r.2.1, r.2.2), omega (arith, h.1, r.3))
+    ]

@@ -12,7 +12,6 @@ pub mod Turns
 pub mod Writable
 pub mod ForCallers
 pub mod Refusals
-mod LineRows
 pub mod UnitLemmas
 pub mod ScanLemmas
 pub mod ScanLists

@@ -5,11 +5,8 @@ use Rattle.std.proofs.lemmas.List.{append-nil}
 use Rattle.std.proofs.lemmas.Grind.{flat_map-append}
 use Rattle.ninja_text.specs.Lines.{line_end, IsLine, Divides, text_of_line, is_comment, number_after}
 use Rattle.ninja_text.specs.LineFormats.{LineFormat, LineFaults, IsOfClass, AreOfClasses, Begins, StandsForValue, FaultyLine, FaultyEnd, HasFault, IsDecided}
+use Rattle.ninja_text.proofs.Indexed.{same_cons}
 use Rattle.ninja_text.proofs.CutLemmas.{AllByRecursion-append, divides_one, divides_some}
-
--- equal lists with equal first elements
-cons_same : {X : Type 0} {x y : X} {xs ys : List X} → x ≡ y → xs ≡ ys → x ∷ xs ≡ y ∷ ys
-cons_same e f = rw (e, f) refl
 
 -- the lines go on after these, this one, and perhaps more
 abbrev GoesBeyond : List (List ℕ) → List ℕ → List (List ℕ) → Type 0
@@ -34,10 +31,10 @@ meet (x ∷ xs) (y ∷ ys) a b ms ns h =
     let first : x ≡ y = cc in
     let rest : (xs ++ a ∷ []) ++ ms ≡ (ys ++ b ∷ []) ++ ns = cc in
     elim (meet xs ys a b ms ns rest) [
-      | inl s ↦ inl (cons_same first s.0, s.1)
+      | inl s ↦ inl (same_cons first s.0, s.1)
       | inr d ↦ elim d [
-        | inl w ↦ inr (inl (w.0, cons_same (sym first) w.1))
-        | inr w ↦ inr (inr (w.0, cons_same first w.1))
+        | inl w ↦ inr (inl (w.0, same_cons (sym first) w.1))
+        | inr w ↦ inr (inr (w.0, same_cons first w.1))
       ]
     ]
 
@@ -65,7 +62,7 @@ module _ {C V : Type 0} (format : LineFormat C V) where
     classes_one [] [] (d ∷ ds) p q = absurd q
     classes_one (l ∷ lines) [] ds p q = absurd p
     classes_one (l ∷ lines) (c ∷ cs) [] p q = absurd q
-    classes_one (l ∷ lines) (c ∷ cs) (d ∷ ds) p q = cons_same (decided.one_class (text_of_line l) (is_comment l) c d p.0.1 q.0.1) (classes_one lines cs ds p.1 q.1)
+    classes_one (l ∷ lines) (c ∷ cs) (d ∷ ds) p q = same_cons (decided.one_class (text_of_line l) (is_comment l) c d p.0.1 q.0.1) (classes_one lines cs ds p.1 q.1)
 
     -- a text stands for one value at most
     pub one_value : (bytes : List ℕ) (v w : V) → StandsForValue format bytes v → StandsForValue format bytes w → v ≡ w
@@ -89,7 +86,7 @@ module _ {C V : Type 0} (format : LineFormat C V) where
     split_classes (l ∷ before) line after (c ∷ cs) [] p q = absurd q
     split_classes (l ∷ before) line after (c ∷ cs) (d ∷ ds) p q =
         let later = split_classes before line after cs ds p.1 q.1 in
-        record { class = later.class; more = later.more; is = later.is; are = cons_same (decided.one_class (text_of_line l) (is_comment l) c d p.0.1 q.0.1) later.are }
+        record { class = later.class; more = later.more; is = later.is; are = same_cons (decided.one_class (text_of_line l) (is_comment l) c d p.0.1 q.0.1) later.are }
 
     -- the lines of a text with a faulty one
     faulty_lines : (bytes : List ℕ) (n : ℕ) (fault : F) (f : FaultyLine format faults bytes n fault) → (lines : List (List ℕ)) × (rest : List ℕ) × GoesBeyond f.before f.line lines × Divides bytes lines rest

@@ -1,7 +1,7 @@
 -- The tokens of a text are a list of tokens that it is divided into, and the only one.
-use Rattle.std.proofs.Common.{inl, inr, ◌⊎◌, ◌≡◌, ℕ, ◌+◌, Bool, true, false, ◌&&◌, List, [], ◌∷◌, ◌++◌, refl, sym, ap, ◌∙◌, subst, arith, append_assoc}
+use Rattle.std.proofs.Common.{inl, inr, ◌⊎◌, ◌≡◌, ℕ, ◌+◌, Bool, true, false, List, [], ◌∷◌, ◌++◌, refl, sym, ap, ◌∙◌, subst, arith, append_assoc}
 use Rattle.std.specs.List.{AllByRecursion}
-use Rattle.std.proofs.lemmas.Bool.{cases_Bool}
+use Rattle.std.proofs.lemmas.Bool.{cases_Bool, and_parts}
 use Rattle.ninja_text.specs.Units.{units, unit_len, is_byte, is_continuation}
 use Rattle.ninja_text.specs.declared.unit.LineUnit.{LineUnit}
 use Rattle.ninja_text.specs.declared.unit.LineUnit.TheVariants.{Continuation, Escape, Byte}
@@ -56,11 +56,6 @@ goes_over (Continuation len) us h = refl
 goes_over (Escape b) us h = absurd (let x : false ≡ true = h in cc)
 goes_over (Byte b) us h = absurd (let x : false ≡ true = h in cc)
 
-both_true : (a b : Bool) → (a && b) ≡ true → (a ≡ true) × (b ≡ true)
-both_true true true h = (refl, refl)
-both_true true false h = absurd (cc)
-both_true false b h = absurd (cc)
-
 -- a continuation in a word is passed over
 passed_over : (u : LineUnit) (us after : List LineUnit) (may_end : Bool) (start index : ℕ) → is_continuation u ≡ true → Follows false start (index + unit_len u) us after → Follows may_end start index (u ∷ us) after
 passed_over u us after may_end start index h (inl none) = absurd (let x : false ≡ true = none.1 in cc)
@@ -78,7 +73,7 @@ follows (u ∷ us) after may_end start index stop h = elim (cases_Bool (is_piece
     on = goes_on_piece u (us ++ after) p;
     word = ap (with_first_start start) (word_first index u us after p stop (follows us after true index (index + unit_len u) stop (rw p at h)));
   })
-  | inr p ↦ let both = both_true (is_continuation u) (may_follow false us) (rw p at h) in
+  | inr p ↦ let both = and_parts (is_continuation u) (may_follow false us) (rw p at h) in
       passed_over u us after may_end start index both.0 (follows us after false start (index + unit_len u) stop both.1)
 ]
 
@@ -87,7 +82,7 @@ token_first : (kind : TokenKind) (s : ℕ) (own after : List LineUnit) → IsTok
     → tokens_from s (own ++ after) ≡ record { kind = kind; start = s; end = s + total_len own } ∷ tokens_from (s + total_len own) after
 token_first Word s [] after h = absurd (let x : false ≡ true = h.0 in cc)
 token_first Word s (u ∷ us) after h =
-    let both = both_true (is_piece u) (may_follow true us) h.0 in
+    let both = and_parts (is_piece u) (may_follow true us) h.0 in
     word_first s u us after both.0 h.1 (follows us after true s (s + unit_len u) h.1 both.1)
 token_first Bar s own after h = subst (λ xs. tokens_from s (xs ++ after) ≡ record { kind = Bar; start = s; end = s + total_len xs } ∷ tokens_from (s + total_len xs) after) (sym h.0) (alone after h.1 h.2) where
   alone : (us : List LineUnit) → begins_with 124 us ≡ false → begins_with 64 us ≡ false → tokens_from s (Byte 124 ∷ us) ≡ record { kind = Bar; start = s; end = s + 1 } ∷ tokens_from (s + 1) us
@@ -148,7 +143,7 @@ goes_on_in Colon own after h g = absurd (let x : false ≡ true = subst (λ xs. 
 -- a word may follow a piece, past continuations
 word_over : (gap own : List LineUnit) (may_end : Bool) → AreContinuations gap → is_word own ≡ true → may_follow may_end (gap ++ own) ≡ true
 word_over [] [] may_end g w = absurd (let x : false ≡ true = w in cc)
-word_over [] (u ∷ us) may_end g w = let both = both_true (is_piece u) (may_follow true us) w in rw both.0 both.1
+word_over [] (u ∷ us) may_end g w = let both = and_parts (is_piece u) (may_follow true us) w in rw both.0 both.1
 word_over (u ∷ gap) own may_end g w = rw (no_piece u g.0, g.0) (word_over gap own false g.1 w)
 
 -- a piece in front of the word that goes on after it

@@ -1,10 +1,10 @@
 -- Lists of components, written out with a slash between each two.
-use Rattle.std.proofs.Common.{◌≡◌, ◌≢◌, ℕ, zero, suc, ◌+◌, ◌-◌, ◌<◌, ◌≤◌, Bool, true, false, not, ◌||◌, ◌&&◌, Some, None, ◌==◌, ◌⊎◌, inl, inr, List, [], ◌∷◌, ◌++◌, length, take, drop, get_or, refl, sym, ◌∙◌, ap, subst, append_assoc, arith, length-append}
+use Rattle.std.proofs.Common.{◌≡◌, ◌≢◌, ℕ, zero, suc, ◌+◌, ◌-◌, ◌<◌, ◌≤◌, Bool, true, false, ◌&&◌, Some, None, ◌==◌, ◌⊎◌, inl, inr, List, [], ◌∷◌, ◌++◌, length, take, drop, get_or, refl, sym, ◌∙◌, ap, subst, append_assoc, arith, length-append}
 use Rattle.std.proofs.lemmas.List.{get_or-append-add}
 use Rattle.std.proofs.Math.Seq.{take-append_seam, drop-append_seam}
 use Rattle.std.specs.List.{AllByRecursion}
-use Rattle.ninja_text.proofs.ReducedList.{IsFixed, reduced-fixed, reduced-each, behind-pair, behind-none, behind-stays, parent-not-name}
-use Rattle.ninja_text.proofs.KnownBytes.{rest-is}
+use Rattle.ninja_text.proofs.ReducedList.{IsFixed, name-of, reduced-fixed, reduced-each, behind-pair, behind-none, behind-stays, parent-not-name}
+use Rattle.ninja_text.proofs.Indexed.{to_the_end}
 use Rattle.ninja_text.specs.Reduction.{is_current, is_parent, is_named_component, reduced}
 use Rattle.ninja_text.specs.inner.ComponentLists.{list_text, appended, LacksSlash, EachLacksSlash}
 
@@ -102,7 +102,7 @@ start-of list init last start e h bound slash rest =
 -- what stands from there on is the last component
 pub last-of : (list : List ℕ) (init : List (List ℕ)) (last : List ℕ) (start : ℕ) → list ≡ list_text (init ++ last ∷ []) → start ≡ length (up_to_last init) → take (length list - start) (drop start list) ≡ last
 last-of list init last start e s =
-    rest-is start list ∙ ap (drop start) (e ∙ list_text-last init last) ∙ ap (λ n. drop n (up_to_last init ++ last)) s ∙ drop-append_seam (up_to_last init) last
+    to_the_end start list ∙ ap (drop start) (e ∙ list_text-last init last) ∙ ap (λ n. drop n (up_to_last init ++ last)) s ∙ drop-append_seam (up_to_last init) last
 
 -- what stands before the slash in front of it is the rest of the list
 pub init-of : (list : List ℕ) (init : List (List ℕ)) (last : List ℕ) (start n : ℕ) → list ≡ list_text (init ++ last ∷ []) → start ≡ length (up_to_last init) → n ≡ start - 1 → take n list ≡ list_text init
@@ -140,10 +140,6 @@ list_text-fixed [] last c f = list_text-appended last [] c (fixed-first last [] 
 list_text-fixed (a ∷ init) last c f =
     ap list_text (sym (append_assoc (a ∷ init) (last ∷ []) (c ∷ []))) ∙ list_text-appended a (init ++ last ∷ []) c (fixed-first a (init ++ last ∷ []) f)
 
--- what is not empty, no `.` and no `..` is a name
-name-by : (i u : Bool) → i ≡ false → u ≡ false → not (i || u) ≡ true
-name-by i u h k = ap (λ b. not (b || u)) h ∙ ap not k
-
 -- what is no `..` makes no pair
 none-parent : (n u : Bool) → u ≡ false → (n && u) ≡ false
 none-parent true u h = h
@@ -162,7 +158,7 @@ put-parent before c list n each e goes_up empty parent =
           let lacks : LacksSlash w.1 = each-last LacksSlash w.0 w.1 (subst EachLacksSlash w.2 (reduced-each LacksSlash before each)) in
           let not_current = fixed-last w.0 w.1 fixed in
           let p = parent w.0 w.1 lacks not_current (e ∙ ap list_text w.2) in
-          p.1 ∙ ap list_text (sym (behind-pair before w.0 w.1 c w.2 (name-by (is_current w.1) (is_parent w.1) not_current p.0) goes_up))
+          p.1 ∙ ap list_text (sym (behind-pair before w.0 w.1 c w.2 (name-of (is_current w.1) (is_parent w.1) not_current p.0) goes_up))
     ]
 
 -- any other component, and `..` behind a list that ends in none

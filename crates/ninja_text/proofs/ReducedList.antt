@@ -23,6 +23,10 @@ IsFixed [] = Unit {0}
 IsFixed (c ∷ []) = is_current c ≡ false
 IsFixed (c ∷ d ∷ ds) = (is_current c ≡ false) × ((is_named_component c && is_parent d) ≡ false) × IsFixed (d ∷ ds)
 
+-- what is not empty, no `.` and no `..` is a name
+pub name-of : (i u : Bool) → i ≡ false → u ≡ false → not (i || u) ≡ true
+name-of i u h k = ap (λ b. not (b || u)) h ∙ ap not k
+
 -- no step applies to the rest of a list to which none applies
 pub fixed-tail : (c : List ℕ) (cs : List (List ℕ)) → IsFixed (c ∷ cs) → IsFixed cs
 fixed-tail c [] h = tt
@@ -191,7 +195,7 @@ final-fixed (c ∷ d ∷ ds) h = (
 )
 
 -- what stands behind in a fixed list is fixed
-fixed-behind : (front xs : List (List ℕ)) → IsFixed (front ++ xs) → IsFixed xs
+pub fixed-behind : (front xs : List (List ℕ)) → IsFixed (front ++ xs) → IsFixed xs
 fixed-behind [] xs h = h
 fixed-behind (c ∷ front) xs h = fixed-behind front xs (fixed-tail c (front ++ xs) h)
 

@@ -1,5 +1,5 @@
 -- What a canonical path is made of, and that a text stays one.
-use Rattle.std.proofs.Common.{◌≡◌, ◌≢◌, ℕ, zero, suc, ◌+◌, ◌<◌, ◌≤◌, Bool, true, false, not, ◌&&◌, ◌||◌, cond, nat_lt, inl, inr, List, [], ◌∷◌, ◌++◌, length, drop, get_or, Option, Some, None, Ok, Err, refl, sym, ◌∙◌, ap, subst, arith, IsUtf8, length-append, lit<}
+use Rattle.std.proofs.Common.{◌≡◌, ◌≢◌, ℕ, zero, suc, ◌+◌, ◌<◌, ◌≤◌, Bool, true, false, ◌&&◌, ◌||◌, cond, nat_lt, inl, inr, List, [], ◌∷◌, ◌++◌, length, drop, get_or, Option, Some, None, Ok, Err, refl, sym, ◌∙◌, ap, subst, arith, IsUtf8, length-append, lit<}
 use Rattle.std.specs.List.{AllByRecursion, list_any, prefix_len}
 use Rattle.std.proofs.lemmas.List.Elements.{All-from_recursion}
 use Rattle.std.proofs.lemmas.List.{get_or-append-add}
@@ -12,15 +12,11 @@ use Rattle.ninja_text.specs.Reduction.{is_current, is_parent, is_named_component
 use Rattle.ninja_text.specs.Paths.{path_text, below, relative_or, seen_from, is_empty, is_rooted, canonical_of, path_of, IsPath}
 use Rattle.ninja_text.specs.PathShape.{parts, names, IsShaped}
 use Rattle.ninja_text.specs.inner.ComponentLists.{list_text}
-use Rattle.ninja_text.proofs.ReducedList.{IsFixed, either_way, reduced-fixed, reduced-each, reaches, reaches-only}
+use Rattle.ninja_text.proofs.ReducedList.{IsFixed, fixed-tail, name-of, either_way, reduced-fixed, reduced-each, reaches, reaches-only}
 use Rattle.ninja_text.proofs.Components.{below-some}
 use Rattle.ninja_text.proofs.Canonical.{facts, none-clean, whole-list, rooted-text, reduced-text, is-empty, some-not-empty}
 
 -- ---- the names stand behind the `..`
-
--- what is not empty, no `.` and no `..` is a name
-name-of : (i u : Bool) → i ≡ false → u ≡ false → not (i || u) ≡ true
-name-of i u h k = ap (λ b. not (b || u)) h ∙ ap not k
 
 -- the second of two tests fails where the first holds and not both do
 and-other : (n u : Bool) → n ≡ true → (n && u) ≡ false → u ≡ false
@@ -33,18 +29,13 @@ all-names c (d ∷ ds) f h =
     let n = name-of (is_current c) (is_parent c) f.0 h in
     (n, all-names d ds f.2 (and-other (is_named_component c) (is_parent d) n f.1))
 
--- no step applies to the rest of a list to which none applies
-fixed-rest : (c : List ℕ) (cs : List (List ℕ)) → IsFixed (c ∷ cs) → IsFixed cs
-fixed-rest c [] f = tt
-fixed-rest c (d ∷ ds) f = f.2
-
 -- behind the `..` in front there are only names
 behind-parents : (l : List (List ℕ)) → IsFixed l → AllByRecursion (λ n. is_named_component n ≡ true) (drop (prefix_len is_parent l) l)
 behind-parents [] f = tt
 behind-parents (c ∷ cs) f = elim (either_way (is_parent c)) [
   | inl h ↦
       let e : prefix_len is_parent (c ∷ cs) ≡ suc (prefix_len is_parent cs) = ap (λ b. cond b (1 + prefix_len is_parent cs) 0) h ∙ omega arith in
-      subst (λ n. AllByRecursion (λ n. is_named_component n ≡ true) (drop n (c ∷ cs))) (sym e) (behind-parents cs (fixed-rest c cs f))
+      subst (λ n. AllByRecursion (λ n. is_named_component n ≡ true) (drop n (c ∷ cs))) (sym e) (behind-parents cs (fixed-tail c cs f))
   | inr h ↦
       let e : prefix_len is_parent (c ∷ cs) ≡ 0 = ap (λ b. cond b (1 + prefix_len is_parent cs) 0) h in
       subst (λ n. AllByRecursion (λ n. is_named_component n ≡ true) (drop n (c ∷ cs))) (sym e) (all-names c cs f h)

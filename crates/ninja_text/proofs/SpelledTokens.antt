@@ -5,6 +5,8 @@ use Rattle.std.specs.List.{list_all}
 use Rattle.std.proofs.lemmas.List.{append-nil, append_assoc, take_at, drop_at}
 use Rattle.std.proofs.lemmas.Grind.{flat_map-append}
 use Rattle.std.proofs.lemmas.Bool.{and_parts, or_parts, not-true}
+pub use Rattle.ninja_text.proofs.TokenLemmas.{goes_on_piece}
+use Rattle.ninja_text.proofs.Indexed.{same_cons}
 use Rattle.ninja_text.specs.Units.{unit_len, is_byte}
 use Rattle.ninja_text.specs.declared.unit.LineUnit.{LineUnit}
 use Rattle.ninja_text.specs.declared.unit.LineUnit.TheVariants.{Continuation, Escape, Byte}
@@ -21,11 +23,6 @@ piece_len : (u : LineUnit) → is_piece u ≡ true → unit_len u ≡ length (un
 piece_len (Continuation len) h = absurd (let e : false ≡ true = h in cc)
 piece_len (Escape b) h = refl
 piece_len (Byte b) h = refl
-
-pub goes_on_piece : (u : LineUnit) (us : List LineUnit) → is_piece u ≡ true → goes_on (u ∷ us) ≡ true
-goes_on_piece (Continuation len) us h = absurd (let e : false ≡ true = h in cc)
-goes_on_piece (Escape b) us h = refl
-goes_on_piece (Byte b) us h = h
 
 piece_no_bar : (u : LineUnit) → is_piece u ≡ true → is_byte 124 u ≡ false
 piece_no_bar (Continuation len) h = refl
@@ -69,9 +66,6 @@ bytes_between front us vs =
     ap (λ t. slice_range t (length a) (length a + length b)) whole
     ∙ ap (take (length a + length b - length a)) (drop_at a (b ++ c) (length a) refl)
     ∙ take_at b c (length a + length b - length a) (omega arith)
-
-same_cons : {X : Type 0} {x y : X} {xs ys : List X} → x ≡ y → xs ≡ ys → x ∷ xs ≡ y ∷ ys
-same_cons p q = rw (p, q) refl
 
 module _ {X : Type 0} (view : TokenKind → List ℕ → X) where
   -- a token by its kind and its bytes

@@ -1,6 +1,7 @@
 -- The bytes of an assignment's value spell one value.
 use Rattle.std.proofs.Common.{◌≡◌, ℕ, true, false, IsTrue, inl, inr, List, [], ◌∷◌, ◌++◌, refl, sym, ◌∙◌, ap, subst, append_assoc}
 use Rattle.std.specs.List.{concat, AllByRecursion}
+use Rattle.std.proofs.lemmas.List.{append-nil}
 use Rattle.ninja_text.specs.Escapes.{is_escaped, IsContinuation}
 use Rattle.ninja_text.specs.Meanings.{is_value_byte, IsValuePiece, SpellsValue}
 use Rattle.ninja_text.proofs.ReducedList.{true_is}
@@ -90,16 +91,12 @@ no_piece : (p : List ℕ) (v : ℕ) (x : List ℕ) → IsValuePiece p v → [] �
 no_piece [] v x h e = h
 no_piece (b ∷ p) v x h e = cc
 
-append_none : (p : List ℕ) → p ++ [] ≡ p
-append_none [] = refl
-append_none (b ∷ p) = ap (λ l. b ∷ l) (append_none p)
-
 -- bytes that are a gap alone have no piece
 gap_alone : (raw : List ℕ) (v : ℕ) (vs : List ℕ) → SpellsValue raw [] → SpellsValue raw (v ∷ vs) → ⊥
 gap_alone raw v vs h k =
     no_piece k.1 v k.2 k.4
     (same_behind h.0 k.3.0 [] (k.1 ++ k.2) h.1 k.3.1 (nothing h.0) (behind k.3.0 k.0 k.1 v k.2 k.3.1 k.3.2 k.4 k.5)
-    (append_none (concat h.0) ∙ sym h.2 ∙ k.7 ∙ ap (λ l. l ++ (k.1 ++ k.2)) k.3.2))
+    (append-nil (concat h.0) ∙ sym h.2 ∙ k.7 ∙ ap (λ l. l ++ (k.1 ++ k.2)) k.3.2))
 
 -- a value's bytes spell one value
 pub value_same : (raw a b : List ℕ) → SpellsValue raw a → SpellsValue raw b → a ≡ b

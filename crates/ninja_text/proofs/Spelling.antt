@@ -1,5 +1,6 @@
 -- A spelling stands for one value.
 use Rattle.std.proofs.Common.{◌≡◌, ◌≢◌, ℕ, zero, suc, Bool, true, false, not, ◌||◌, cond, IsTrue, ◌⊎◌, inl, inr, List, [], ◌∷◌, ◌++◌, replicate, refl, sym, ◌∙◌, ap, subst, append_assoc, arith}
+use Rattle.std.proofs.lemmas.List.{append-nil}
 use Rattle.std.proofs.lemmas.List.Elements.{recursion_from_All}
 use Rattle.std.specs.List.{concat, AllByRecursion}
 use Rattle.ninja_text.specs.Escapes.{is_unwritable, IsWritable, is_escaped, escaped_byte, escaped, IsPiece, IsContinuation, Spells}
@@ -135,14 +136,9 @@ gap-same (p ∷ ps) (q ∷ qs) x y a b f g e =
     (part-same p q a.0 b.0 (concat ps ++ x) (concat qs ++ y) (λ r. gap-space ps x r a.1 f) (λ r. gap-space qs y r b.1 g)
     (sym (append_assoc p (concat ps) x) ∙ e ∙ append_assoc q (concat qs) y))
 
--- nothing behind a text
-append-none : (p : List ℕ) → p ++ [] ≡ p
-append-none [] = refl
-append-none (b ∷ p) = ap (λ l. b ∷ l) (append-none p)
-
 -- a spelling begins with a piece
 spells-begins : (raw : List ℕ) (c : ℕ) (cs : List ℕ) → Spells raw (c ∷ cs) → Begins raw
-spells-begins raw c [] h = record { piece = raw; value = c; rest = []; is_piece = h; is = sym (append-none raw) }
+spells-begins raw c [] h = record { piece = raw; value = c; rest = []; is_piece = h; is = sym (append-nil raw) }
 spells-begins raw c (d ∷ ds) h = record { piece = h.0; value = c; rest = h.1 ++ h.2; is_piece = h.3; is = h.6 }
 
 -- nothing follows a piece where a gap and another piece do
@@ -161,9 +157,9 @@ spells-same raw (v ∷ []) [] h k = absurd k
 spells-same raw (v ∷ v2 ∷ vs) [] h k = absurd k
 spells-same raw (v ∷ []) (w ∷ []) h k = ap (λ n. n ∷ []) (piece-same raw raw v w [] [] h k refl).0
 spells-same raw (v ∷ []) (w ∷ w2 ∷ ws) h k =
-    absurd (not-nothing k.1 k.2 (spells-begins k.2 w2 ws k.5) (piece-same raw k.0 v w [] (k.1 ++ k.2) h k.3 (append-none raw ∙ k.6)).1)
+    absurd (not-nothing k.1 k.2 (spells-begins k.2 w2 ws k.5) (piece-same raw k.0 v w [] (k.1 ++ k.2) h k.3 (append-nil raw ∙ k.6)).1)
 spells-same raw (v ∷ v2 ∷ vs) (w ∷ []) h k =
-    absurd (not-nothing h.1 h.2 (spells-begins h.2 v2 vs h.5) (piece-same raw h.0 w v [] (h.1 ++ h.2) k h.3 (append-none raw ∙ h.6)).1)
+    absurd (not-nothing h.1 h.2 (spells-begins h.2 v2 vs h.5) (piece-same raw h.0 w v [] (h.1 ++ h.2) k h.3 (append-nil raw ∙ h.6)).1)
 spells-same raw (v ∷ v2 ∷ vs) (w ∷ w2 ∷ ws) h k =
     let p = piece-same h.0 k.0 v w (h.1 ++ h.2) (k.1 ++ k.2) h.3 k.3 (sym h.6 ∙ k.6) in
     let g : concat h.4.0 ++ h.2 ≡ concat k.4.0 ++ k.2 = ap (λ l. l ++ h.2) (sym h.4.2) ∙ p.1 ∙ ap (λ l. l ++ k.2) k.4.2 in
@@ -182,7 +178,7 @@ piece-is b h = elim (either_way (is_escaped b)) [
 -- a path as it is spelled stands for the path
 pub escaped-spells : (path : List ℕ) → path ≢ [] → AllByRecursion (λ b. is_unwritable b ≡ false) path → Spells (escaped path) path
 escaped-spells [] some clean = absurd (some refl)
-escaped-spells (b ∷ []) some clean = subst (λ l. IsPiece l b) (sym (append-none (escaped_byte b))) (piece-is b clean.0)
+escaped-spells (b ∷ []) some clean = subst (λ l. IsPiece l b) (sym (append-nil (escaped_byte b))) (piece-is b clean.0)
 escaped-spells (b ∷ c ∷ cs) some clean = (escaped_byte b, [], escaped (c ∷ cs), piece-is b clean.0, ([], tt, refl), escaped-spells (c ∷ cs) (λ h. cc) clean.1, refl)
 
 -- and for nothing else

@@ -1,5 +1,5 @@
 -- The first unit of a text, by its first bytes.
-use Rattle.std.proofs.Common.{take_all, take, length-drop, ◌-◌, get_or, ◌≤◌, inl, inr, suc, subst, ◌≡◌, ℕ, ◌+◌, List, [], ◌∷◌, length, drop, refl, sym, ap, ◌∙◌, false, ◌==◌, ◌&&◌, ◌||◌, arith, map, None}
+use Rattle.std.proofs.Common.{get_or, ◌≤◌, inl, inr, suc, subst, ◌≡◌, ℕ, ◌+◌, List, [], ◌∷◌, length, drop, refl, sym, ap, ◌∙◌, false, ◌==◌, ◌&&◌, ◌||◌, arith, map, None}
 use Rattle.std.specs.List.{flat_map, list_any}
 use Rattle.std.proofs.lemmas.Bool.{cases_Bool, eqb-true, or_parts}
 use Rattle.ninja_text.specs.Units.{units, with_continuation}
@@ -176,7 +176,3 @@ return_continuation_at (a ∷ b ∷ c ∷ rest) n long first second third is =
     (subst (λ x. units (36 ∷ 13 ∷ x ∷ rest) ≡ Continuation (3 + n) ∷ units (drop (3 + n) (36 ∷ 13 ∷ x ∷ rest))) (sym third)
     (continued_spaces 3 rest
     ∙ same_continuation (omega (arith, is)) (ap (λ k. units (drop k rest)) (sym is) ∙ ap (λ k. units (drop k (36 ∷ 13 ∷ 10 ∷ rest))) {x = suc (suc (suc n))} {y = 3 + n} (omega arith)))))
-
--- what a slice up to the end has
-pub to_the_end : (i : ℕ) (bytes : List ℕ) → take (length bytes - i) (drop i bytes) ≡ drop i bytes
-to_the_end i bytes = take_all (length bytes - i) (drop i bytes) (omega (arith, length-drop i bytes))

@@ -4,19 +4,15 @@ use Rattle.std.specs.Prelude.{All, position, is_some}
 use Rattle.std.specs.List.{list_any, position_from}
 use Rattle.std.proofs.lemmas.Iterator.Adapters.{position_from-zero}
 use Rattle.std.proofs.lemmas.List.Elements.{All-nil, All-cons}
+use Rattle.std.proofs.lemmas.Bool.{or_parts}
 use Rattle.std.proofs.lemmas.List.Folds.{list_any_none}
 use Rattle.ninja_text.specs.Escapes.{is_unwritable, is_writable, IsWritable}
-
--- neither of two tests holds
-or-false : (a b : Bool) → (a || b) ≡ false → (a ≡ false) × (b ≡ false)
-or-false true b h = cc
-or-false false b h = (refl, h)
 
 -- where no element passes the test, each fails it
 none_passes : (p : ℕ → Bool) (bs : List ℕ) → list_any p bs ≡ false → All (λ b. p b ≡ false) bs
 none_passes p [] h = All-nil (λ b. p b ≡ false)
 none_passes p (b ∷ bs) h =
-    let both = or-false (p b) (list_any p bs) h in
+    let both = or_parts (p b) (list_any p bs) h in
     All-cons (λ x. p x ≡ false) b bs both.0 (none_passes p bs both.1)
 
 -- a test whose contrary holds fails

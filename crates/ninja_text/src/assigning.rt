@@ -1,4 +1,4 @@
-//! The assignment that a line is: a name, `=` and a value.
+//! Parses an assignment: a name, `=` and a value.
 ghost use Rattle.std.specs.Prelude.{◌≡◌, ◌<◌, ◌≤◌, length, false, IfOk, IfSome};
 ghost use Rattle.ninja_text.specs.LineViews.{seen_line};
 ghost use Rattle.ninja_text.specs.AssignmentViews.{IsAssignment, seen_assignment};
@@ -6,13 +6,12 @@ ghost use Rattle.ninja_text.specs.Assignments.{LiesIn, assignment_indexes, is_na
 ghost use Rattle.ninja_text.specs.inner.Runs.{Run};
 
 use crate::assignments::Assignment;
-use crate::checking::fault_in;
 use crate::fault::LexFault;
-use crate::lexing::blank_end;
+use crate::lexing::{blank_end, fault_in};
 use crate::line::Line;
 use crate::unit::unit_at;
 
-/// Where the parts of an assignment are: the name, and the value, which goes to the end.
+/// The offsets of the name and the value of an assignment. The value extends to the end of the line.
 #[derive(Drop)]
 pub(crate) struct AssignmentIndexes {
     pub(crate) name_start: usize,
@@ -20,11 +19,15 @@ pub(crate) struct AssignmentIndexes {
     pub(crate) value_start: usize,
 }
 
-/// The assignment that a line is that is no comment, `None` where it is none, or the line's first
-/// lexical fault.
+/// Returns the assignment in a line, or `None` if the line is not an assignment. The line must not be
+/// a comment.
 ///
-/// The name begins at the line's first byte that is not blank, `=` follows it, and the value goes
-/// to the line's end; spaces and continuations may come between them.
+/// The name begins at the first byte that is not blank. It is followed by `=` and the value, which
+/// extends to the end of the line. Spaces and continuations may come between them.
+///
+/// # Errors
+///
+/// Returns the first lexical error of the line.
 pub fn assignment(line: Line<'_>) -> Result<Option<Assignment<'_>>, LexFault>
     requires { (seen_line line).comment ≡ false }
     ensures found { IsAssignment (seen_line line.entry) result }
@@ -46,7 +49,6 @@ pub fn assignment(line: Line<'_>) -> Result<Option<Assignment<'_>>, LexFault>
     }
 }
 
-/// Where the parts of the assignment are that a text is.
 fn indexes_in(text: &[u8]) -> Option<AssignmentIndexes>
     ensures value { result ≡ assignment_indexes text.now }
     ensures within { IfSome result (λ a. (a.name_start < a.name_end)
@@ -72,7 +74,7 @@ fn indexes_in(text: &[u8]) -> Option<AssignmentIndexes>
     })
 }
 
-/// Where the name ends that begins at an index.
+/// Returns the end of the name that begins at an offset.
 fn name_end(text: &[u8], from: usize) -> usize
     requires { from ≤ length text.now }
     ensures within { (from ≤ result) × (result ≤ length text.now) }

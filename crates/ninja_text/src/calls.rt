@@ -1,4 +1,4 @@
-//! One call of a reader or a writer, and what is known of it.
+//! Traits for a single call of a reader or a writer, and what is known about it.
 ghost use Rattle.std.specs.Prelude.{ℕ, List, Option, Result, ⊤};
 ghost use Rattle.std.specs.Io.{ReadsAtMost, WritesAtMost};
 ghost use Rattle.std.specs.Io.KnownBytes.{ReadConsumes, WriteAppends};
@@ -8,18 +8,18 @@ ghost use Rattle.ninja_text.specs.Bytes.{Bytes};
 use std::io;
 use std::io::{Read, Write};
 
-/// What has a `read` that can be called.
+/// Something with a `read` method.
 ///
-/// Every `Read` has, and no more is known of its calls than the library says of all readers. Where
-/// more is known of a source, it can say so: `reads` relates the source before a call, the source
-/// after it, the call's answer, and what is then in the buffer.
+/// It is implemented for every `Read`, about whose calls only what std says of all readers is known.
+/// Another implementation can say more: `reads` relates the reader before a call, the reader after it,
+/// the result, and the contents of the buffer.
 pub trait ReadCall {
-    // the bytes that calls will give from here on, where they are known
+    // the bytes that later calls will return, if they are known
     ghost remaining: { Self → Option Bytes };
 
     ghost reads: { Self → Self → Result ℕ Error → Bytes → Type 0 };
 
-    /// One `read`.
+    /// Calls `read` once.
     fn read_call(&mut self, buf: &mut [u8]) -> io::Result<usize>
         ensures bound { ReadsAtMost result buf.new }
         ensures bytes { ReadConsumes (remaining self.old) (remaining self.new) result buf.new }
@@ -36,18 +36,18 @@ impl<R: Read> ReadCall for R {
     }
 }
 
-/// What has a `write` that can be called.
+/// Something with a `write` method.
 ///
-/// Every `Write` has, and no more is known of its calls than the library says of all writers. Where
-/// more is known of a sink, it can say so: `writes` relates the sink before a call, the sink after
-/// it, the call's answer, and the piece.
+/// It is implemented for every `Write`, about whose calls only what std says of all writers is known.
+/// Another implementation can say more: `writes` relates the writer before a call, the writer after
+/// it, the result, and the bytes to be written.
 pub trait WriteCall {
-    // the bytes that calls wrote, where they are known
+    // the bytes written so far, if they are known
     ghost contents: { Self → Option Bytes };
 
     ghost writes: { Self → Self → Result ℕ Error → Bytes → Type 0 };
 
-    /// One `write`.
+    /// Calls `write` once.
     fn write_call(&mut self, piece: &[u8]) -> io::Result<usize>
         ensures bound { WritesAtMost result piece.now }
         ensures bytes { WriteAppends (contents self.old) (contents self.new) result piece.now }

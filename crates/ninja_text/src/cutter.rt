@@ -1,4 +1,4 @@
-//! Bytes that come in pieces, cut into logical lines.
+//! Divides bytes that arrive in pieces into logical lines.
 ghost use Rattle.std.specs.Prelude.{◌≡◌, ◌+◌, ◌<◌, ◌≤◌, List, [], length, false, IfOk};
 ghost use Rattle.ninja_text.specs.Lines.{is_comment, line_feeds_in};
 ghost use Rattle.ninja_text.specs.inner.Reaching.{IsGoing, Reaches};
@@ -11,13 +11,13 @@ use crate::scan::{ScanState, Scanned, scan_bytes};
 use std::alloc::Global;
 use std::marker::Model;
 
-/// Cuts bytes that come in pieces of any size into logical lines (Ninja 1.11 manual, "Lexical
+/// Divides bytes that arrive in pieces of any size into logical lines (Ninja 1.11 manual, "Lexical
 /// syntax").
 ///
-/// Feed it a piece; while a line waits, take it by `next_line` and feed the rest of the piece. A
-/// line ends at its first LF that no `$` before it escapes; in a comment, at its first LF. Of an
-/// unfinished line the cutter holds the bytes, at most [`LINE_LIMIT`] of them, and one small state,
-/// so that the search for its end continues where it stopped.
+/// Feed it a piece. If a line is complete, take the line with [`next_line`](LineCutter::next_line) and
+/// feed the rest of the piece. A line ends at its first LF that is not escaped by `$`; a comment ends
+/// at its first LF. The cutter keeps the bytes of an unfinished line, at most [`LINE_LIMIT`], and the
+/// state of the search for its end, so that no byte is searched twice.
 #[derive(Drop)]
 pub struct LineCutter {
     buffer: Vec<u8>,
@@ -29,9 +29,9 @@ pub struct LineCutter {
 enum Phase {
     /// The buffer holds the beginning of a line.
     Gathering(ScanState),
-    /// The buffer holds a whole line, whose text has this length.
+    /// The buffer holds a complete line whose text has this length.
     Waiting { text_len: usize },
-    /// The buffer holds a line that was lent, and whose bytes count no more.
+    /// The buffer holds a line that was handed out; its bytes are stale.
     Lent,
     /// The line is too long.
     Failed,
@@ -56,7 +56,7 @@ impl LineCutter {
     ghost use Rattle.ninja_text.specs.LineViews.{Lends};
     ghost use Rattle.ninja_text.specs.Lending.{EndsLent};
 
-    /// A cutter that has taken nothing. It takes no memory yet.
+    /// Returns a cutter without any bytes. It does not allocate.
     pub fn new(alloc: Global) -> LineCutter
         ensures value { result ≡ new_cutter }
         ensures nothing { Cuts [] [] result }
@@ -68,18 +68,21 @@ impl LineCutter {
         }
     }
 
-    /// Takes a beginning of the piece, up to and with the end of the next line, else the whole
-    /// piece, and answers how many bytes it took. While a line waits it takes none.
+    /// Takes bytes from the front of the piece, up to and including the end of the next line, or the
+    /// whole piece if no line ends in it. Returns the number of bytes taken, which is 0 while a line
+    /// waits.
     ///
-    /// `LineTooLong` as soon as the line's first [`LINE_LIMIT`] bytes are there and hold no end;
-    /// every later `feed`, `next_line` and `finish` answers the same. `Memory` where the line's
-    /// bytes found no room, and never while a line waits: then nothing was taken, and the same
-    /// piece can be fed again.
+    /// # Errors
+    ///
+    /// Returns `LineTooLong` as soon as the first [`LINE_LIMIT`] bytes of a line contain no end. Every
+    /// later `feed`, `next_line` and `finish` returns the same error. Returns [`Failure::Memory`] if an
+    /// allocation fails, never while a line waits. Nothing was taken then, and the same piece can be
+    /// fed again.
     pub fn feed(&mut self, piece: &[u8]) -> Result<usize, Failure<CutFault>>
         ensures exact { Feeds self.old piece.now result self.new }
         ensures within { IfOk result (λ n. n ≤ length piece.now) }
         ensures some { self.old.waits ≡ false → 0 < length piece.now → IfOk result (λ n. 0 < n) }
-        // Whatever was taken and lent before, this call takes what it answers.
+        // Whatever was taken and handed out before, this call takes as many bytes as it returns.
         ensures all { (taken : Bytes) (lent : List LogicalLine) → Cuts taken lent self.old
             → FeedsAll taken lent piece.now result self.new }
     {
@@ -90,11 +93,15 @@ impl LineCutter {
         }
     }
 
-    /// Lends the line that waits, once; `None` only where none waits. After a line that is too
-    /// long: that fault again.
+    /// Returns the line that waits, borrowed from the cutter, or `None` if no line waits. Each line is
+    /// returned once.
+    ///
+    /// # Errors
+    ///
+    /// Returns `LineTooLong` if an earlier call did.
     pub fn next_line(&mut self) -> Result<Option<Line<'_>>, CutFault>
         ensures line { Lends self.old result }
-        // Once the line is no longer borrowed, it has been lent.
+        // Once the line is no longer borrowed, it has been handed out.
         ensures* after { sem 𝓛 (EndsLent self.entry) }
     {
         match self.phase {
@@ -115,14 +122,19 @@ impl LineCutter {
         }
     }
 
-    /// The number of the line that waits, or of the one that comes next.
+    /// Returns the number of the line that waits, or of the next line if none waits.
     pub fn number(&self) -> u64
         ensures { result ≡ self.now.number }
     {
         self.number
     }
 
-    /// Whether the bytes end with a line's end: `Truncated` where bytes are left without one.
+    /// Checks that the bytes end with the end of a line. No line may wait.
+    ///
+    /// # Errors
+    ///
+    /// Returns `Truncated` if bytes without a line's end are left, or `LineTooLong` if an earlier call
+    /// did.
     pub fn finish(&self) -> Result<(), CutFault>
         requires { self.now.waits ≡ false }
         ensures { Finishes self.now result }
@@ -136,8 +148,8 @@ impl LineCutter {
         }
     }
 
-    /// Takes from the piece where no line waits. The bytes are looked at before room is asked for
-    /// them.
+    /// Takes bytes from the piece when no line waits. The bytes are scanned before memory for them is
+    /// allocated.
     fn gather(&mut self, piece: &[u8]) -> Result<usize, Failure<CutFault>>
         requires { (self.old.waits ≡ false) × (self.old.failed ≡ false) }
         ensures exact { Feeds self.old piece.now result self.new }
@@ -160,7 +172,7 @@ impl LineCutter {
     }
 }
 
-/// The state of the line that is cut. A line that was lent is given up.
+/// Returns the state of the current line. A line that was handed out is dropped first.
 fn go_on(buffer: &mut Vec<u8>, phase: Phase) -> ScanState
     requires { IsGoing phase × PhaseFits phase buffer.old.items }
     ensures fits { PhaseFits (Phase.Gathering result) buffer.new.items }
@@ -175,8 +187,8 @@ fn go_on(buffer: &mut Vec<u8>, phase: Phase) -> ScanState
     }
 }
 
-/// How many bytes of the piece the line takes whose beginning is in the buffer, and its phase then;
-/// `None` where it is past the limit.
+/// Returns how many bytes of the piece belong to the line that begins in the buffer, and the phase
+/// after them, or `None` if the line exceeds the limit.
 fn reach_of(buffer: &[u8], state: ScanState, piece: &[u8]) -> Option<(usize, Phase)>
     requires { PhaseFits (Phase.Gathering state) buffer.now }
     ensures { Reaches buffer.now piece.now result }
@@ -195,7 +207,7 @@ fn reach_of(buffer: &[u8], state: ScanState, piece: &[u8]) -> Option<(usize, Pha
     }
 }
 
-/// Whether the first byte other than space is `#`.
+/// Returns whether the first byte other than space is `#`.
 fn begins_comment(bytes: &[u8]) -> bool
     ensures { result ≡ is_comment bytes.now }
 {
@@ -207,7 +219,7 @@ fn begins_comment(bytes: &[u8]) -> bool
     false
 }
 
-/// How many of the bytes are LF.
+/// Returns the number of LFs.
 fn line_feeds(bytes: &[u8]) -> u64
     ensures { result ≡ line_feeds_in bytes.now }
 {

@@ -1,4 +1,4 @@
-//! Spellings of paths in Ninja files.
+//! Escaped paths in Ninja files.
 ghost use Rattle.std.specs.Prelude.{◌≡◌, ◌↔◌, ◌++◌, IsTrue, OnOk, OnErr};
 ghost use Rattle.ninja_text.specs.Bytes.{PathText};
 ghost use Rattle.ninja_text.specs.Escapes.{is_writable, is_escaped, IsWritable, escaped, escaped_byte, Spells};
@@ -6,14 +6,14 @@ ghost use Rattle.ninja_text.specs.Escapes.{is_writable, is_escaped, IsWritable, 
 use crate::reduction::first_unwritable;
 use std::alloc::AllocError;
 
-/// Whether a byte needs a `$` before it.
+/// Returns whether a byte needs a `$` before it.
 fn is_escaped(byte: &u8) -> bool
     ensures { result ≡ is_escaped byte.now }
 {
     matches!(*byte, b'$' | b' ' | b':')
 }
 
-/// Appends a byte with a `$` before it where it needs one.
+/// Appends a byte, with a `$` before it if it needs one.
 fn push_escaped(out: &mut Vec<u8>, byte: u8) -> Result<(), AllocError>
     ensures ok { OnOk result (out.new.items ≡ out.old.items ++ escaped_byte byte) }
     ensures err { OnErr result (out.new.items ≡ out.old.items) }
@@ -24,7 +24,7 @@ fn push_escaped(out: &mut Vec<u8>, byte: u8) -> Result<(), AllocError>
     }
 }
 
-/// Whether a path can be spelled in a Ninja file.
+/// Returns whether a path can be escaped in a Ninja file.
 pub fn is_writable(path: &[u8]) -> bool
     ensures value { result ≡ is_writable path.now }
     ensures meaning { IsTrue result ↔ IsWritable path.now }
@@ -32,15 +32,19 @@ pub fn is_writable(path: &[u8]) -> bool
     !path.is_empty() && first_unwritable(path).is_none()
 }
 
-/// Appends a path as it is spelled in a Ninja file. An `Err` leaves the vector as it was.
+/// Appends the escaped form of a path to a vector.
+///
+/// # Errors
+///
+/// Returns an error if an allocation fails. The vector is then unchanged.
 pub fn escape_into(path: &[u8], out: &mut Vec<u8>) -> Result<(), AllocError>
     requires { IsWritable path.now }
     ensures ok { OnOk result (out.new.items ≡ out.old.items ++ escaped path.now) }
     ensures err { OnErr result (out.new.items ≡ out.old.items) }
-    // The spelling stands for the path, and for nothing else.
+    // The escaped form stands for the path, and for nothing else.
     ensures meaning { (value : PathText) → Spells (escaped path.now) value ↔ (value ≡ path.now) }
 {
-    // Nearly no path has such a byte.
+    // Hardly any path has such a byte.
     if !path.iter().any(is_escaped) {
         return out.extend_from_slice(path);
     }

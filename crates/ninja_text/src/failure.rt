@@ -1,4 +1,4 @@
-//! What a call answers that may be refused memory.
+//! The error type of calls that allocate memory.
 ghost use Rattle.std.specs.Prelude.{◌≡◌};
 ghost use Rattle.ninja_text.specs.Failure.{Turns, ForFault};
 
@@ -6,20 +6,19 @@ use std::alloc::{AllocError, AllocFailed};
 use std::fmt;
 use thiserror::Error;
 
-/// Why a call that may be refused memory gave no value: a growth was refused, or the input has a
-/// fault.
+/// The error of a call that allocates memory: an allocation failed, or the input has a fault.
 ///
-/// A fault type never speaks of memory itself, so a fault is always a fact about the input.
+/// Fault types themselves never mention memory, so a fault is always a fact about the input.
 #[derive(Clone, Copy, Debug, PartialEq, Eq, Error)]
 pub enum Failure<F> {
-    /// A growth was refused.
+    /// An allocation failed.
     Memory,
     /// The input has this fault.
     Fault(F),
 }
 
 impl<F> Failure<F> {
-    /// The same failure, with its fault turned into another one.
+    /// Maps the fault with a function. `Memory` stays `Memory`.
     pub fn map<G, H: FnOnce(F) -> G>(self, turn: H) -> Failure<G>
         requires { ForFault (H.pre turn) self }
         ensures { Turns (H.post turn) self result }

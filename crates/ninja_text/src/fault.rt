@@ -1,17 +1,17 @@
-//! What can be wrong with a text: facts about its bytes, never about memory.
+//! Errors in a text. They are facts about its bytes and never mention memory.
 
 use std::fmt;
 use thiserror::Error;
 
-/// Why a text is no path. Of several faults the first in this order is answered.
+/// Why a string is not a valid path. If several apply, the first in this order is reported.
 #[derive(Clone, Copy, Debug, PartialEq, Eq, Error)]
 pub enum PathFault {
-    /// No component is left.
+    /// The canonical path has no component.
     Empty,
-    /// The path is absolute, and a `..` is left.
+    /// The path is absolute and its canonical form begins with `..`.
     AboveRoot,
-    /// The text that was read has a byte that no spelling in a Ninja file stands for: `|`, NUL, CR
-    /// or LF. The place is that of the first one, from 0, before anything is deleted.
+    /// The string contains `|`, NUL, CR or LF, which cannot be escaped in a Ninja file. `place` is the
+    /// offset of the first one in the string that was read.
     Unwritable { place: usize },
     /// The canonical path has more than 4,096 bytes.
     TooLong,
@@ -33,12 +33,12 @@ impl fmt::Display for PathFault {
     }
 }
 
-/// Why a cutter gives no further line, with the number of the line.
+/// Why a cutter returns no further line, with the number of the line.
 #[derive(Clone, Copy, Debug, PartialEq, Eq, Error)]
 pub enum CutFault {
-    /// The first [`LINE_LIMIT`](crate::LINE_LIMIT) bytes of this line hold no end.
+    /// The first [`LINE_LIMIT`](crate::LINE_LIMIT) bytes of this line contain no end.
     LineTooLong { line: u64 },
-    /// At the end of the input, bytes of this line are left without an end.
+    /// The input ends in the middle of this line.
     Truncated { line: u64 },
 }
 
@@ -56,18 +56,17 @@ impl fmt::Display for CutFault {
     }
 }
 
-/// What no token and no value can hold, with its place in the line's text (Ninja 1.11 manual,
-/// "Lexical syntax").
+/// A lexical error, with its offset in the line's text (Ninja 1.11 manual, "Lexical syntax").
 #[derive(Clone, Copy, Debug, PartialEq, Eq, Error)]
 pub enum LexFault {
     /// A NUL.
     Nul { place: usize },
-    /// A CR that is no part of the line's end.
+    /// A CR that is not part of the line's end.
     LoneCr { place: usize },
-    /// `$` and a letter, a digit, `_`, `-` or `{`: a reference to a variable, and there are none
-    /// here.
+    /// `$` and a letter, a digit, `_`, `-` or `{`: a reference to a variable. Variables are not
+    /// supported.
     Variable { place: usize },
-    /// `$` and any other byte but `$`, space and `:`.
+    /// `$` and a byte that cannot be escaped.
     BadEscape { place: usize },
 }
 

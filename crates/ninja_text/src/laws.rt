@@ -1,5 +1,5 @@
-//! Laws of lines, tokens, spellings and paths, for callers' proofs: each is the contract of a call
-//! that does nothing.
+//! Laws about lines, tokens, escapes and paths. A law is the contract of a function that does nothing;
+//! callers call it to use the law in a proof.
 ghost use Rattle.std.specs.Prelude.{◌≡◌, ◌↔◌, ℕ, List, [], Ok, Err, All};
 ghost use Rattle.std.specs.Option.{ForSome};
 ghost use Rattle.ninja_text.specs.Bytes.{Bytes, Text, PathText, Component};
@@ -14,7 +14,7 @@ ghost use Rattle.ninja_text.specs.TokenLists.{AreTokens};
 ghost use Rattle.ninja_text.specs.Assignments.{assignment_of};
 ghost use Rattle.ninja_text.specs.Meanings.{IsFaultless, IsReadAsSpelled, SpellsValue, IsValueAsSpelled};
 
-/// A text is divided into lines and a rest, and in one way only.
+/// A text is divided into lines and a rest in exactly one way.
 pub fn one_division()
     ensures some { (bytes : Bytes)
         → (lines : List Text) × (rest : Bytes) × Divides bytes lines rest }
@@ -23,17 +23,17 @@ pub fn one_division()
         → (lines ≡ others) × (rest ≡ left) }
 {}
 
-/// The tokens that [`words`](crate::words) gives divide the text, with nothing but spaces and
-/// continuations between them, and no other list of tokens does.
+/// The tokens that [`words`](crate::words) returns divide the text, with only spaces and continuations
+/// between them, and no other list of tokens does.
 pub fn one_list_of_tokens()
     ensures some { (text : Text) → AreTokens text (tokens text) }
     ensures one { (text : Text) (ts : List TokenAt) → AreTokens text ts → ts ≡ tokens text }
 {}
 
-/// What is read of a word is what its bytes spell, so that a reader and a writer mean the same by
-/// it; and so is what is read of an assignment's value. Both are said of each line that a cutter
-/// can lend, that is no comment and has no lexical fault. The bytes of a value spell one value
-/// only; of a word [`one_meaning`](crate::one_meaning) says that.
+/// The value that is read from a word, or from an assignment, is the one that its bytes stand for, so
+/// a reader and a writer agree on it. This holds for each line that a cutter can return, unless the
+/// line is a comment or has a lexical error. The bytes of an assignment's value stand for one value
+/// only; [`one_meaning`] says the same about words.
 pub fn read_as_spelled()
     ensures words { (line : Text) → IsFaultless line
         → All IsReadAsSpelled (seen_tokens (text_of_line line)) }
@@ -42,20 +42,20 @@ pub fn read_as_spelled()
     ensures one_value { (raw a b : Text) → SpellsValue raw a → SpellsValue raw b → a ≡ b }
 {}
 
-/// A spelling stands for one value at most.
+/// An escaped word stands for at most one value.
 pub fn one_meaning()
     ensures { (raw a b : Text) → Spells raw a → Spells raw b → a ≡ b }
 {}
 
-/// Whatever the choice of steps, a list of components is made canonical in one way.
+/// A list of components has one canonical form, whatever the order of the steps.
 pub fn one_canonical_list()
     ensures reached { (list : List Component) → ReducesTo list (reduced list) }
     ensures only { (list other : List Component) → ReducesTo list other → other ≡ reduced list }
 {}
 
-/// The path of a text has the components that are left of the text's components, whatever the
-/// choice of steps, and is absolute where the text is; a text of whose components none are left has
-/// no path; and each path has the shape that its name promises.
+/// The path of a string has the components that are left of the string's components, whatever the
+/// order of the steps. It is absolute if and only if the string is. A string of whose components none
+/// are left has no path. Each path has canonical shape.
 pub fn path_meaning()
     ensures path { (text path : PathText) → path_of text ≡ Ok path
         → (is_rooted path ≡ is_rooted text) × ReducesTo (components text) (parts path) }

@@ -1,4 +1,4 @@
-//! The tokens of a line: where each begins, what it is, and where it ends.
+//! Finds the tokens and the lexical errors of a line.
 ghost use Rattle.std.specs.Prelude.{◌≡◌, ◌+◌, ◌<◌, ◌≤◌, length, false, IfOk};
 ghost use Rattle.ninja_text.specs.LineViews.{seen_line};
 ghost use Rattle.ninja_text.specs.TokenViews.{IsWords, tokens_left};
@@ -6,16 +6,20 @@ ghost use Rattle.std.specs.List.{AllByRecursion};
 ghost use Rattle.ninja_text.specs.inner.Runs.{Run};
 ghost use Rattle.ninja_text.specs.Tokens.{is_blank, IsSlice, RiseFrom, tokens_at};
 ghost use Rattle.ninja_text.specs.inner.TokenStarts.{BeginsToken, BeginsPiece, IsFirstToken};
-ghost use Rattle.ninja_text.specs.inner.PlainTexts.{is_plain_piece};
+ghost use Rattle.ninja_text.specs.Lexical.{unit_fault, lexical_fault};
+ghost use Rattle.ninja_text.specs.inner.PlainTexts.{is_suspect, is_plain_piece};
 
-use crate::checking::fault_in;
 use crate::fault::LexFault;
 use crate::line::Line;
 use crate::token::{TokenKind, Words};
-use crate::unit::unit_at;
+use crate::unit::{LineUnit, unit_at};
 
-/// The tokens of a line that is no comment, in order, or the line's first lexical fault (Ninja 1.11
-/// manual, "Lexical syntax").
+/// Returns an iterator over the tokens of a line (Ninja 1.11 manual, "Lexical syntax"). The line must
+/// not be a comment.
+///
+/// # Errors
+///
+/// Returns the first lexical error of the line.
 pub fn words(line: Line<'_>) -> Result<Words<'_>, LexFault>
     requires { (seen_line line).comment ≡ false }
     ensures tokens { IsWords (seen_line line.entry) result }
@@ -31,7 +35,51 @@ pub fn words(line: Line<'_>) -> Result<Words<'_>, LexFault>
     }
 }
 
-/// Where the blank run ends that begins at an index: where the next token begins, or the end.
+/// Returns the first lexical error of a text.
+pub(crate) fn fault_in(text: &[u8]) -> Option<LexFault>
+    ensures { result ≡ lexical_fault text.now }
+{
+    // Hardly any line has such a byte.
+    if !text.iter().any(is_suspect) {
+        return None;
+    }
+    let mut index = 0;
+    while index < text.len() {
+        let unit = unit_at(text, index);
+        if let Some(fault) = fault_at(index, unit) {
+            return Some(fault);
+        }
+        index += unit.len();
+    }
+    None
+}
+
+/// Returns whether an error, or a unit of several bytes, can begin with this byte.
+fn is_suspect(byte: &u8) -> bool
+    ensures { result ≡ is_suspect byte.now }
+{
+    matches!(*byte, b'$' | 0 | b'\r')
+}
+
+/// Returns the lexical error of a unit at this offset, if it has one.
+fn fault_at(index: usize, unit: LineUnit) -> Option<LexFault>
+    ensures { result ≡ unit_fault index unit }
+{
+    match unit {
+        LineUnit::Continuation(_) => None,
+        LineUnit::Escape(byte) if byte.is_ascii_alphanumeric() => Some(LexFault::Variable {
+            place: index,
+        }),
+        LineUnit::Escape(b'{' | b'_' | b'-') => Some(LexFault::Variable { place: index }),
+        LineUnit::Escape(b'$' | b' ' | b':') => None,
+        LineUnit::Escape(_) => Some(LexFault::BadEscape { place: index }),
+        LineUnit::Byte(0) => Some(LexFault::Nul { place: index }),
+        LineUnit::Byte(b'\r') => Some(LexFault::LoneCr { place: index }),
+        LineUnit::Byte(_) => None,
+    }
+}
+
+/// Skips blanks. Returns the offset of the next token, or the length of the text.
 pub(crate) fn blank_end(text: &[u8], from: usize) -> usize
     requires { from ≤ length text.now }
     ensures within { (from ≤ result) × (result ≤ length text.now) }
@@ -50,7 +98,7 @@ pub(crate) fn blank_end(text: &[u8], from: usize) -> usize
     index
 }
 
-/// The kind of the token that begins at an index, and its end.
+/// Returns the kind and the end of the token that begins at an offset.
 pub(crate) fn token_at(text: &[u8], start: usize) -> (TokenKind, usize)
     requires in_text { start < length text.now }
     requires begins { BeginsToken text.now start }
@@ -78,8 +126,8 @@ pub(crate) fn token_at(text: &[u8], start: usize) -> (TokenKind, usize)
     (TokenKind::Bar, start + 1)
 }
 
-/// Where the word ends whose first piece is at an index: after its last piece, and before the
-/// continuations after it.
+/// Returns the end of the word that begins at an offset. Continuations after its last piece do not
+/// belong to the word.
 fn word_end(text: &[u8], start: usize) -> usize
     requires in_text { start < length text.now }
     requires begins { BeginsPiece text.now start }
@@ -108,7 +156,7 @@ fn word_end(text: &[u8], start: usize) -> usize
     end
 }
 
-/// Whether a byte is a piece of a word by itself, as nearly every byte of a word is.
+/// Returns whether a byte is a piece of a word by itself, as nearly every byte of a word is.
 fn is_plain(byte: u8) -> bool
     ensures { result ≡ is_plain_piece byte }
 {

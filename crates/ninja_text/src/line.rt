@@ -1,13 +1,10 @@
-//! A logical line, as a cutter lends it.
+//! Logical lines.
 ghost use Rattle.std.specs.Prelude.{◌≡◌};
 
-/// The most bytes of a logical line, its end included.
+/// The maximum length of a logical line in bytes, including its end.
 pub const LINE_LIMIT: usize = 1_048_576;
 
-/// A logical line, lent by the cutter that holds its bytes.
-///
-/// Its text has continuations as they were read: they belong to the line, and its end does
-/// not.
+/// A logical line, borrowed from a cutter.
 #[derive(Clone, Copy, Debug)]
 pub struct Line<'a> {
     pub(crate) text: &'a [u8],
@@ -18,22 +15,23 @@ pub struct Line<'a> {
 impl<'a> Line<'a> {
     ghost use Rattle.ninja_text.specs.LineViews.{seen_line};
 
-    /// The line without its end, continuations included.
+    /// Returns the line without its end. Continuations are included as they were read.
     pub fn text(&self) -> &'a [u8]
         ensures { result.now ≡ (seen_line self.now).text }
     {
         self.text
     }
 
-    /// The number of its first physical line, from 1. It stays at `u64::MAX` once it is there.
+    /// Returns the number of its first physical line, from 1. Numbers stay at `u64::MAX` once it is
+    /// reached.
     pub fn number(&self) -> u64
         ensures { result ≡ (seen_line self.now).number }
     {
         self.number
     }
 
-    /// Whether its first byte other than space is `#`. A comment may hold any bytes, and has
-    /// neither tokens nor faults.
+    /// Returns whether its first byte other than space is `#`. A comment may contain any bytes and has
+    /// neither tokens nor lexical errors.
     pub fn is_comment(&self) -> bool
         ensures { result ≡ (seen_line self.now).comment }
     {

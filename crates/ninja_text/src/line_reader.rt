@@ -1,4 +1,4 @@
-//! Lines read one by one into a state, of a text that comes in pieces.
+//! Reads the lines of a text that arrives in pieces into a state, one by one.
 ghost use Rattle.std.specs.Prelude.{◌≡◌, ℕ, List, ◌++◌, false};
 ghost use Rattle.ninja_text.specs.Bytes.{Bytes};
 ghost use Rattle.ninja_text.specs.Lines.{LogicalLine};
@@ -14,34 +14,39 @@ use crate::line::Line;
 use std::alloc::Global;
 use std::marker::Model;
 
-/// What the lines of a file so far amount to, and what one more line does to it.
+/// The state of a reader between two lines.
 ///
-/// `passes` relates the state before a line, the line, and the state after it; `refuses` the state,
-/// the line, and its fault.
+/// `passes` relates the state before a line, the line, and the state after it. `refuses` relates the
+/// state, a line that is rejected, and its fault.
 pub trait LineState {
-    /// Why a line is refused.
+    /// Why a line is rejected.
     type Fault;
 
     ghost passes: { Self → LogicalLine → Self → Type 0 };
 
     ghost refuses: { Self → LogicalLine → Self.Fault → Type 0 };
 
-    // what a fault of the cutter is here
+    // the fault that stands for a fault of the cutter
     ghost of_cutter: { CutFault → Self.Fault };
 
-    /// Reads a line. What a refused line leaves of the state is of no use.
+    /// Reads a line.
+    ///
+    /// # Errors
+    ///
+    /// Returns the fault of the line, or [`Failure::Memory`] if an allocation fails. The state is of
+    /// no use then.
     fn read_line(&mut self, alloc: Global, line: Line<'_>) -> Result<(), Failure<Self::Fault>>
         ensures { ReadsLine passes refuses self.old (seen_line line.entry) result self.new };
 
-    /// A fault of the cutter, as one of the lines.
+    /// Returns the fault that stands for a fault of the cutter.
     fn cut_fault(fault: CutFault) -> Self::Fault
         ensures { result ≡ of_cutter fault };
 }
 
-/// Reads a text that comes in pieces into a state, line by line.
+/// Reads a text that arrives in pieces into a state, line by line.
 ///
-/// A piece may end anywhere, within a continuation or between CR and LF too: the answer is that for
-/// the whole text.
+/// A piece may end anywhere, also within a continuation or between CR and LF. The result is the same
+/// for all divisions of a text into pieces.
 #[derive(Drop)]
 pub struct LineReader<S, F> {
     alloc: Global,
@@ -68,7 +73,7 @@ impl<F: Copy, S: LineState<Fault = F> + Drop> LineReader<S, F> {
     ghost use Rattle.ninja_text.specs.LineReading.{HasLentAll, StaysRefused, FeedsLines, EndsLines};
     ghost use Rattle.ninja_text.specs.declared.failure.Failure.{Failure};
 
-    /// A reader that was fed nothing. It takes no memory yet.
+    /// Returns a reader that has read nothing. It does not allocate.
     pub fn new(alloc: Global, state: S) -> LineReader<S, F>
         ensures nothing { HasLentAll [] [] result }
         ensures state { result.state ≡ state }
@@ -81,11 +86,14 @@ impl<F: Copy, S: LineState<Fault = F> + Drop> LineReader<S, F> {
         }
     }
 
-    /// Takes the next piece of the text, all of it.
+    /// Reads the next piece of the text, all of it.
     ///
-    /// The first line that the state refuses is answered as soon as its end is there, and
-    /// `LineTooLong` as soon as [`LINE_LIMIT`](crate::LINE_LIMIT) bytes hold no end. After a
-    /// refusal, `Memory` included, the answer is the same from then on.
+    /// # Errors
+    ///
+    /// Returns the fault of the first line that the state rejects, as soon as the line is complete, or
+    /// `LineTooLong` as soon as [`LINE_LIMIT`](crate::LINE_LIMIT) bytes contain no end of a line.
+    /// Returns [`Failure::Memory`] if an allocation fails. After an error every later call returns the
+    /// same error.
     pub fn feed(&mut self, piece: &[u8]) -> Result<(), Failure<F>>
         ensures failed { StaysRefused self.old result self.new }
         // Whatever bytes it was fed before this piece, and whatever lines they were.
@@ -105,11 +113,11 @@ impl<F: Copy, S: LineState<Fault = F> + Drop> LineReader<S, F> {
         }
     }
 
-    /// The state that the lines led to, and the number of the line that would come next, once all
-    /// of the text was fed.
+    /// Returns the state after all lines, and the number of the line that would come next.
     ///
-    /// `Truncated` where the last line has no end. A reader that refused answers the same once
-    /// more.
+    /// # Errors
+    ///
+    /// Returns the error of an earlier `feed` again, or `Truncated` if the last line has no end.
     pub fn finish(self) -> Result<(S, u64), Failure<F>>
         ensures failed { (failure : Failure F) → self.failed ≡ Some failure → result ≡ Err failure }
         ensures all { (bytes : Bytes) (lent : List LogicalLine) → HasLentAll bytes lent self
@@ -131,7 +139,7 @@ impl<F: Copy, S: LineState<Fault = F> + Drop> LineReader<S, F> {
     }
 }
 
-/// Feeds the cutter the whole piece, and reads each line that it lends.
+/// Feeds the cutter the whole piece and reads each line that it returns.
 fn read_piece<S: LineState>(
     alloc: Global,
     cutter: &mut LineCutter,
@@ -148,7 +156,7 @@ fn read_piece<S: LineState>(
     while !rest.is_empty() {
         let taken = match cutter.feed(rest) {
             Ok(taken) => taken,
-            Err(failure) => return Err(cut_failure::<S>(failure)),
+            Err(failure) => return Err(failure.map(|fault| S::cut_fault(fault))),
         };
         rest = &rest[taken..];
         match cutter.next_line() {
@@ -161,11 +169,4 @@ fn read_piece<S: LineState>(
         }
     }
     Ok(())
-}
-
-/// The cutter's failure as one of the lines.
-fn cut_failure<S: LineState>(failure: Failure<CutFault>) -> Failure<S::Fault>
-    ensures { result ≡ failure_of S.of_cutter failure }
-{
-    failure.map(|fault| S::cut_fault(fault))
 }

@@ -1,17 +1,17 @@
-//! What the bytes of a word or a value stand for.
+//! Resolves the escapes of a word or a value.
 ghost use Rattle.std.specs.Prelude.{◌≡◌, ◌++◌, OnOk, OnErr};
 ghost use Rattle.ninja_text.specs.Tokens.{unit_value, value_of};
 
 use crate::unit::{LineUnit, unit_at};
 use std::alloc::AllocError;
 
-/// Appends what the bytes of a word or a value stand for. Where the vector cannot grow, it is left
-/// as it was.
+/// Appends what the bytes of a word or a value stand for. If an allocation fails, the vector is
+/// unchanged.
 pub(crate) fn append_meaning(raw: &[u8], out: &mut Vec<u8>) -> Result<(), AllocError>
     ensures ok { OnOk result (out.new.items ≡ out.old.items ++ value_of raw.now) }
     ensures err { OnErr result (out.new.items ≡ out.old.items) }
 {
-    // Where it has no `$`, each byte stands for itself.
+    // Without a `$`, each byte stands for itself.
     if !raw.contains(&b'$') {
         return out.extend_from_slice(raw);
     }

@@ -17,16 +17,17 @@ use std::hash::{Hash, Hasher};
 use std::marker::Model;
 use std::rc::RcSlice;
 
-/// The most bytes that a canonical path has.
+/// The maximum length of a canonical path in bytes.
 pub const PATH_LIMIT: usize = 4096;
 
-/// A canonical path: the text that is left when empty components and `.` are deleted, and a name
-/// together with a `..` after it, until neither can be done. An absolute path keeps the slash that
-/// it begins with, and a relative one the `..` that it begins with. Nothing is looked up in a file
-/// system.
+/// A canonical path.
 ///
-/// A contract sees a path as its text. It has 1 to 4,096 bytes, none of them `|`, NUL, CR or LF.
-/// Copies of a path share the text.
+/// To make a path canonical, remove empty components and `.`, and remove each name that is followed
+/// by `..` together with that `..`, until nothing is left to remove. An absolute path keeps its first
+/// slash, and a relative path keeps the `..` at its beginning. No file system is accessed.
+///
+/// The view of a path is its string: 1 to 4,096 bytes, without `|`, NUL, CR or LF. Copies of a path
+/// share the string.
 #[derive(Debug, Drop)]
 pub struct Path {
     text: RcSlice<u8>,
@@ -45,8 +46,12 @@ impl Model for Path {
 }
 
 impl Path {
-    /// The canonical path of a text. The fault is the first one that is present, in the order of
-    /// [`PathFault`].
+    /// Returns the canonical path of a string.
+    ///
+    /// # Errors
+    ///
+    /// Returns a [`PathFault`] if the string has no canonical path; if several apply, the first in the
+    /// order of [`PathFault`]. Returns [`Failure::Memory`] if an allocation fails.
     pub fn of(alloc: Global, text: &[u8]) -> Result<Path, Failure<PathFault>>
         ensures meaning { Gives (λ path. path) result (path_of text.now) }
         ensures text { IsUtf8 text.now → IfOk result IsUtf8 }
@@ -54,7 +59,7 @@ impl Path {
         canonical(alloc, None, text)
     }
 
-    /// The canonical text. It is the text of this very path, and can be spelled in a Ninja file.
+    /// Returns the canonical string of the path. It can be escaped in a Ninja file.
     pub fn bytes(&self) -> &[u8]
         ensures text { result.now ≡ self.now }
         ensures canonical { path_of result.now ≡ Ok self.now }
@@ -63,33 +68,54 @@ impl Path {
         &self.text
     }
 
-    /// Whether the path is absolute.
+    /// Returns whether the path is absolute.
     pub fn is_rooted(&self) -> bool
         ensures { result ≡ is_rooted self.now }
     {
         reduction::is_rooted(self.text.as_slice())
     }
 
-    /// The same path once more. It shares the text, so no memory is asked for; the error would be
-    /// that there are more copies than can be counted.
-    pub fn copy(&self, _alloc: Global) -> Result<Path, AllocError>
+    /// Returns a copy of the path. The copies share one string; if its reference count is full, the
+    /// copy gets a string of its own.
+    ///
+    /// # Errors
+    ///
+    /// Returns an error if an allocation fails.
+    pub fn copy(&self, alloc: Global) -> Result<Path, AllocError>
         ensures { IfOk result (λ copy. copy ≡ self.now) }
     {
+        match self.text.clone() {
+            Ok(text) => Ok(Path { text }),
+            Err(_) => Ok(Path {
+                text: RcSlice::from_slice(alloc, &self.text)?,
+            }),
+        }
+    }
+}
+
+/// The clone shares the string and allocates nothing. It fails only if the reference count is full;
+/// [`Path::copy`] does not.
+impl Clone for Path {
+    ghost is_clone = { λ path clone. clone ≡ path };
+
+    fn clone(&self) -> Result<Path, AllocError> {
         let text = self.text.clone()?;
         Ok(Path { text })
     }
 }
 
-/// The canonical path that a text names in a work directory, as seen from a build directory, which
-/// has to be absolute.
+/// Returns the canonical path of a string that is relative to a work directory, as seen from a build
+/// directory. The build directory has to be absolute.
 ///
-/// An empty text has no path (N1). A relative text is read after the work directory and a slash,
-/// unless there is no work directory or it is empty; an absolute one is read as it is. Where the
-/// build directory's components are a proper beginning of an absolute result's components, they are
-/// taken off and the result is relative.
+/// A relative string is read after the work directory and a slash, unless there is no work directory
+/// or it is empty. An absolute string is read as it is. If the result is absolute and lies below the
+/// build directory, it is made relative to the build directory.
 ///
-/// The place of N3 is one in the text that was read, work directory included, and N4 counts the
-/// last result.
+/// # Errors
+///
+/// Returns N1 if the string is empty, and otherwise the first [`PathFault`] that applies. The offset
+/// in N3 counts from the beginning of the string that is read, work directory included; N4 counts the
+/// bytes of the final result. Returns [`Failure::Memory`] if an allocation fails.
 #[tactic(auto, unfolding(crate::specs::Paths::placed))]
 pub fn place(
     alloc: Global,
@@ -116,7 +142,6 @@ pub fn place(
     }
 }
 
-/// The canonical path of a text, as seen from a build directory.
 fn canonical(alloc: Global, build: Option<&Path>, text: &[u8]) -> Result<Path, Failure<PathFault>>
     requires { ForSome (option_copied build) (λ b. is_rooted b ≡ true) }
     ensures meaning { Gives (λ path. path) result
@@ -141,7 +166,7 @@ fn canonical(alloc: Global, build: Option<&Path>, text: &[u8]) -> Result<Path, F
     Ok(Path { text })
 }
 
-/// A canonical list of components as a path's text, as seen from a build directory.
+/// Returns the string of a path with these components, as seen from a build directory.
 fn seen(
     alloc: Global,
     build: Option<&Path>,
@@ -164,8 +189,7 @@ fn seen(
     }
 }
 
-/// What of an absolute path's list is below a build directory, where the directory is a proper
-/// beginning of it.
+/// Returns the components below a build directory, if an absolute path lies below it.
 fn below<'t>(build: &Path, list: &'t [u8]) -> Option<&'t [u8]>
     requires { is_rooted build.now ≡ true }
     ensures { (text : Text) → list.now ≡ reduced_text text
@@ -176,7 +200,7 @@ fn below<'t>(build: &Path, list: &'t [u8]) -> Option<&'t [u8]>
     list.strip_prefix(directory)?.strip_prefix(b"/")
 }
 
-/// A list after the slash that an absolute path begins with.
+/// Puts the slash of an absolute path in front of its components.
 fn with_root(mut list: Vec<u8>) -> Result<Vec<u8>, AllocError>
     ensures { IfOk result (λ text. text.items ≡ 47 ∷ list.items) }
 {
@@ -184,7 +208,7 @@ fn with_root(mut list: Vec<u8>) -> Result<Vec<u8>, AllocError>
     Ok(list)
 }
 
-/// Two paths are equal where their canonical texts are.
+/// Two paths are equal if their canonical strings are.
 impl PartialEq for Path {
     ghost use Rattle.std.specs.Prelude.{bytes_eq};
     ghost use Rattle.std.specs.Cmp.{partial_equiv_from_equiv};
@@ -205,7 +229,7 @@ impl Eq for Path {
     ghost laws = { nat_list_eq_equiv };
 }
 
-/// Paths are in the byte order of their canonical texts.
+/// Paths are ordered as their canonical strings, byte by byte.
 impl Ord for Path {
     ghost use Rattle.std.proofs.Common.{rules};
     ghost use Rattle.std.specs.Cmp.Rules.{comparing};
@@ -242,7 +266,7 @@ impl PartialOrd for Path {
     }
 }
 
-/// The length, and then the text in one piece: a hasher takes whole words of it at a time.
+/// Hashes the length and then all bytes in one call, so that a hasher can read whole words.
 impl Hash for Path {
     ghost use Rattle.std.specs.Prelude.{length};
     ghost use Rattle.std.proofs.Common.{rules};

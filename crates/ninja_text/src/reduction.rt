@@ -1,9 +1,8 @@
-//! From a text to its canonical list of components.
+//! The canonical list of a path's components.
 //!
-//! The list is kept as a text, its components joined by slashes and without the slash that an
-//! absolute path begins with. It is never longer than the text that is read. A text whose
-//! components are all names is its own list, and is copied whole; of any other the list is made in
-//! one pass.
+//! The list is kept as a string: the components joined by slashes, without the first slash of an
+//! absolute path. It is never longer than the path that is read. If all components are names, the
+//! path is copied as a whole. Otherwise one pass over the components makes the list.
 ghost use Rattle.std.specs.Prelude.{◌≡◌, ◌≢◌, ℕ, ◌+◌, ◌-◌, ◌<◌, ◌≤◌, ◌==◌, ◌&&◌, ◌||◌, List, [], ◌∷◌, ◌++◌, length, slice_index, take, MatchOption, IfOk, OnOk, true, false, position};
 ghost use Rattle.std.specs.List.{list_any};
 ghost use Rattle.ninja_text.specs.Bytes.{Component, slash};
@@ -15,11 +14,12 @@ ghost use Rattle.ninja_text.specs.inner.ComponentLists.{list_text, reduced_text,
 
 use std::alloc::{AllocError, Global};
 
-/// The canonical list of a text's components.
+/// Returns the canonical list of a path's components.
 pub(crate) fn reduce(alloc: Global, text: &[u8]) -> Result<Vec<u8>, AllocError>
     ensures { IfOk result (λ list. list.items ≡ reduced_text text.now) }
 {
-    if is_reduced(text) {
+    // Nearly every path has only names, and then no component is removed.
+    if !text.split(is_slash).any(is_no_name) {
         return Vec::from_slice(alloc, text);
     }
     let mut list = Vec::with_capacity(alloc, text.len())?;
@@ -29,15 +29,7 @@ pub(crate) fn reduce(alloc: Global, text: &[u8]) -> Result<Vec<u8>, AllocError>
     Ok(list)
 }
 
-/// Whether no step applies to a text's components, since each of them is a name. Nearly every text
-/// is so, and is copied whole.
-fn is_reduced(text: &[u8]) -> bool
-    ensures { result ≡ true → parts text.now ≡ components text.now }
-{
-    !text.split(is_slash).any(is_no_name)
-}
-
-/// Whether a text is absolute and its canonical list leads above the root.
+/// Returns whether a path is absolute and its canonical list leads above the root.
 pub(crate) fn is_above_root(text: &[u8], list: &[u8]) -> bool
     requires { list.now ≡ reduced_text text.now }
     ensures { result ≡ (is_rooted text.now && list_any is_parent (parts text.now)) }
@@ -45,21 +37,21 @@ pub(crate) fn is_above_root(text: &[u8], list: &[u8]) -> bool
     is_rooted(text) && list.split(is_slash).any(is_parent)
 }
 
-/// The index of the first byte of a text that has no spelling in a Ninja file.
+/// Returns the offset of the first byte that cannot be escaped in a Ninja file.
 pub(crate) fn first_unwritable(text: &[u8]) -> Option<usize>
     ensures { result ≡ position is_unwritable text.now }
 {
     text.iter().position(is_unwritable)
 }
 
-/// Whether a byte has no spelling in a Ninja file.
+/// Returns whether a byte cannot be escaped in a Ninja file.
 pub(crate) fn is_unwritable(byte: &u8) -> bool
     ensures { result ≡ is_unwritable byte.now }
 {
     matches!(*byte, b'|' | 0 | b'\r' | b'\n')
 }
 
-/// Whether a text begins with `/`.
+/// Returns whether a path begins with `/`.
 pub(crate) fn is_rooted(text: &[u8]) -> bool
     ensures { result ≡ is_rooted text.now }
 {
@@ -69,7 +61,7 @@ pub(crate) fn is_rooted(text: &[u8]) -> bool
     }
 }
 
-/// Puts a component after a canonical list, and takes the step that applies then, if there is one.
+/// Adds a component to a canonical list and makes the list canonical again.
 fn put(list: &mut Vec<u8>, component: &[u8]) -> Result<(), AllocError>
     ensures { OnOk result ((before : List Component) → EachLacksSlash before
         → list.old.items ≡ list_text (reduced before)
@@ -90,7 +82,7 @@ fn put(list: &mut Vec<u8>, component: &[u8]) -> Result<(), AllocError>
     }
 }
 
-/// Writes a component after a list, with a slash between them where the list is not empty.
+/// Appends a component to a list, after a slash if the list is not empty.
 pub(crate) fn append(list: &mut Vec<u8>, component: &[u8]) -> Result<(), AllocError>
     ensures { OnOk result (list.new.items ≡ appended list.old.items component.now) }
 {
@@ -100,7 +92,7 @@ pub(crate) fn append(list: &mut Vec<u8>, component: &[u8]) -> Result<(), AllocEr
     list.extend_from_slice(component)
 }
 
-/// The length of a list without its last component, where that is a name.
+/// Returns the length of a list without its last component, if that component is a name.
 fn len_without_name(list: &[u8]) -> Option<usize>
     ensures empty { list.now ≡ [] → result ≡ None }
     ensures last { (init : List Component) (last : Component)
@@ -116,7 +108,7 @@ fn len_without_name(list: &[u8]) -> Option<usize>
     }
 }
 
-/// Where the last component of a list begins.
+/// Returns the offset at which the last component of a list begins.
 fn last_start(list: &[u8]) -> usize
     ensures bound { result ≤ length list.now }
     ensures slash { 0 < result → slice_index list.now (result - 1) ≡ 47 }
@@ -128,28 +120,28 @@ fn last_start(list: &[u8]) -> usize
     }
 }
 
-/// Whether a byte is what separates components.
+/// Returns whether a byte separates components.
 fn is_slash(byte: &u8) -> bool
     ensures { result ≡ (byte.now == slash) }
 {
     *byte == b'/'
 }
 
-/// Whether a component is no name.
+/// Returns whether a component is empty, `.` or `..`.
 fn is_no_name(component: &[u8]) -> bool
     ensures { result ≡ (is_current component.now || is_parent component.now) }
 {
     is_current(component) || is_parent(component)
 }
 
-/// Whether a component is empty or `.`.
+/// Returns whether a component is empty or `.`.
 fn is_current(component: &[u8]) -> bool
     ensures { result ≡ is_current component.now }
 {
     component.is_empty() || component == b".".as_slice()
 }
 
-/// Whether a component is `..`.
+/// Returns whether a component is `..`.
 fn is_parent(component: &[u8]) -> bool
     ensures { result ≡ is_parent component.now }
 {

@@ -1,9 +1,8 @@
-//! The scan for a line's end, byte by byte: what is remembered between two pieces is one small
-//! state.
+//! Scans for the end of a line, byte by byte. One small state is kept between two pieces.
 ghost use Rattle.std.specs.Prelude.{◌≡◌, ℕ, ◌+◌, ◌^◌, ◌<◌, length, true, Some};
 ghost use Rattle.ninja_text.specs.Scanning.{step_of, scan_from, scan_end};
 
-/// What is known of an unfinished line at its last byte.
+/// What is known about an unfinished line at its last byte.
 #[derive(Clone, Copy)]
 pub(crate) enum ScanState {
     /// Only spaces so far.
@@ -14,7 +13,7 @@ pub(crate) enum ScanState {
     Plain,
     /// The last unit is a CR.
     Return,
-    /// A `$` whose unit is not finished.
+    /// A `$` without the byte that it escapes.
     Dollar,
     /// `$` and CR: an escape, or the beginning of a continuation.
     DollarReturn,
@@ -22,13 +21,13 @@ pub(crate) enum ScanState {
 
 /// Where a scan stopped.
 pub(crate) enum Scanned {
-    /// The line ends: its text's length, and its own.
+    /// The line ends. These are the length of its text and of the whole line.
     End { text_len: usize, line_len: usize },
     /// The bytes end before the line does.
     Open(ScanState),
 }
 
-/// Scans bytes at an index of the line, up to its end.
+/// Scans bytes that begin at this offset of the line, up to its end.
 pub(crate) fn scan_bytes(index: usize, from: ScanState, bytes: &[u8]) -> Scanned
     requires { index + length bytes.now < 2 ^ 64 }
     ensures { result ≡ scan_from index from bytes.now }
@@ -47,7 +46,7 @@ pub(crate) fn scan_bytes(index: usize, from: ScanState, bytes: &[u8]) -> Scanned
     Scanned::Open(state)
 }
 
-/// Whether a byte leaves the state as it is, plain, as nearly every byte of a line does.
+/// Returns whether a byte leaves the state plain, as nearly every byte of a line does.
 fn stays_plain(state: ScanState, byte: u8) -> bool
     ensures { result ≡ true → step_of state byte ≡ Some state }
 {
@@ -57,7 +56,7 @@ fn stays_plain(state: ScanState, byte: u8) -> bool
     }
 }
 
-/// The next state, or `None` where the byte ends the line.
+/// Returns the next state, or `None` if the byte ends the line.
 fn next_state(state: ScanState, byte: u8) -> Option<ScanState>
     ensures { result ≡ step_of state byte }
 {
@@ -84,7 +83,7 @@ fn next_state(state: ScanState, byte: u8) -> Option<ScanState>
     }
 }
 
-/// The state after a byte that begins a unit.
+/// Returns the state after a byte that begins a unit.
 fn plain_state(byte: u8) -> Option<ScanState>
     ensures { result ≡ step_of ScanState.Plain byte }
 {
@@ -96,7 +95,7 @@ fn plain_state(byte: u8) -> Option<ScanState>
     }
 }
 
-/// The end of a line whose LF is at an index: a CR just before it belongs to the end.
+/// Returns the end of a line whose LF is at this offset. A CR just before it belongs to the end.
 fn line_ended(index: usize, before: ScanState) -> Scanned
     requires { index + 1 < 2 ^ 64 }
     ensures { result ≡ scan_end index before }

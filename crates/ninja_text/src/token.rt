@@ -1,10 +1,11 @@
-//! Tokens, and the iterator that finds them one by one.
+//! Tokens, and an iterator over the tokens of a line.
 ghost use Rattle.std.specs.Prelude.{◌≡◌, ◌≤◌, length};
 
 use crate::lexing::{blank_end, token_at};
 use crate::meaning::append_meaning;
 use std::alloc::AllocError;
 
+/// The kind of a token.
 #[derive(Clone, Copy, Debug, PartialEq, Eq)]
 pub enum TokenKind {
     /// A run of pieces: ordinary bytes, and escapes such as `$ ` and `$:`.
@@ -19,7 +20,7 @@ pub enum TokenKind {
     Colon,
 }
 
-/// A token, and where it is in its line's text.
+/// A token and its position in the line's text.
 #[derive(Clone, Copy, Debug)]
 pub struct Token<'a> {
     kind: TokenKind,
@@ -33,35 +34,40 @@ impl<'a> Token<'a> {
     ghost use Rattle.ninja_text.specs.Tokens.{value_of};
     ghost use Rattle.ninja_text.specs.TokenViews.{seen_token};
 
+    /// Returns the kind of the token.
     pub fn kind(&self) -> TokenKind
         ensures { result ≡ (seen_token self.now).kind }
     {
         self.kind
     }
 
-    /// The index of its first byte in the line's text.
+    /// Returns the offset of its first byte in the line's text.
     pub fn start(&self) -> usize
         ensures { result ≡ (seen_token self.now).start }
     {
         self.start
     }
 
-    /// The index after its last byte.
+    /// Returns the offset after its last byte.
     pub fn end(&self) -> usize
         ensures { result ≡ (seen_token self.now).end }
     {
         self.end
     }
 
-    /// Its bytes in the line's text, from `start` to `end`, escapes and continuations included.
+    /// Returns its bytes in the line's text, from `start` to `end`, with escapes and continuations.
     pub fn raw(&self) -> &'a [u8]
         ensures { result.now ≡ (seen_token self.now).raw }
     {
         self.raw
     }
 
-    /// Appends what its bytes stand for: an escape stands for its second byte, and a continuation
-    /// for nothing. Where the vector cannot grow, it is left as it was.
+    /// Appends its value to a vector, with escapes resolved: an escape stands for its second byte, and
+    /// a continuation for nothing.
+    ///
+    /// # Errors
+    ///
+    /// Returns an error if an allocation fails. The vector is then unchanged.
     pub fn value_into(&self, out: &mut Vec<u8>) -> Result<(), AllocError>
         ensures ok { OnOk result
             (out.new.items ≡ out.old.items ++ value_of (seen_token self.now).raw) }
@@ -71,7 +77,7 @@ impl<'a> Token<'a> {
     }
 }
 
-/// The tokens of a line, in order.
+/// An iterator over the tokens of a line, in order.
 #[derive(Clone, Copy, Debug)]
 pub struct Words<'a> {
     pub(crate) text: &'a [u8],

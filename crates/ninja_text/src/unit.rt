@@ -1,12 +1,12 @@
-//! The units that a line is made of, and what each may be.
+//! The units of a line: single bytes, escapes and continuations.
 ghost use Rattle.std.specs.Prelude.{◌≡◌, ◌∷◌, ◌+◌, ◌<◌, ◌≤◌, length, drop};
 ghost use Rattle.ninja_text.specs.Units.{units, unit_len};
 ghost use Rattle.ninja_text.specs.inner.Runs.{spaces_at};
 
-/// A unit of a line that is no comment.
+/// A unit of a line that is not a comment.
 #[derive(Clone, Copy)]
 pub(crate) enum LineUnit {
-    /// `$` and a line's end, with the spaces after it; that many bytes.
+    /// `$` and a line's end, with the spaces after it. This is their length.
     Continuation(usize),
     /// `$` and this byte.
     Escape(u8),
@@ -19,7 +19,7 @@ impl LineUnit {
     ghost use Rattle.ninja_text.specs.Tokens.{is_blank, is_piece};
     ghost use Rattle.ninja_text.specs.Assignments.{is_name_unit};
 
-    /// How many bytes of the text it is.
+    /// Returns its length in the text.
     pub(crate) fn len(&self) -> usize
         ensures { result ≡ unit_len self.now }
     {
@@ -30,7 +30,7 @@ impl LineUnit {
         }
     }
 
-    /// This byte by itself.
+    /// Returns whether it is this byte by itself.
     pub(crate) fn is_byte(&self, byte: u8) -> bool
         ensures { result ≡ is_byte byte self.now }
     {
@@ -46,14 +46,14 @@ impl LineUnit {
         matches!(self, LineUnit::Continuation(_))
     }
 
-    /// What may come between two tokens: a space or a continuation.
+    /// Returns whether it may come between two tokens: a space or a continuation.
     pub(crate) fn is_blank(&self) -> bool
         ensures { result ≡ is_blank self.now }
     {
         matches!(self, LineUnit::Continuation(_) | LineUnit::Byte(b' '))
     }
 
-    /// What words are made of.
+    /// Returns whether it can be part of a word.
     pub(crate) fn is_piece(&self) -> bool
         ensures { result ≡ is_piece self.now }
     {
@@ -63,7 +63,7 @@ impl LineUnit {
         )
     }
 
-    /// What names are made of: a letter, a digit, `_`, `.` or `-`.
+    /// Returns whether it can be part of a name: a letter, a digit, `_`, `.` or `-`.
     pub(crate) fn is_name_part(&self) -> bool
         ensures { result ≡ is_name_unit self.now }
     {
@@ -75,7 +75,7 @@ impl LineUnit {
     }
 }
 
-/// The unit that begins at an index.
+/// Returns the unit that begins at this offset.
 pub(crate) fn unit_at(text: &[u8], index: usize) -> LineUnit
     requires { index < length text.now }
     ensures within { index + unit_len result ≤ length text.now }
@@ -85,7 +85,7 @@ pub(crate) fn unit_at(text: &[u8], index: usize) -> LineUnit
 {
     let bytes = &text[index..];
     let first = bytes[0];
-    // Two tests, since nearly every byte ends at the first one.
+    // Two tests, because the first one decides for nearly every byte.
     if first != b'$' {
         return LineUnit::Byte(first);
     }
@@ -105,7 +105,7 @@ pub(crate) fn unit_at(text: &[u8], index: usize) -> LineUnit
     LineUnit::Escape(second)
 }
 
-/// How many spaces are at the front.
+/// Returns the number of spaces at the front.
 fn leading_spaces(bytes: &[u8]) -> usize
     ensures value { result ≡ spaces_at bytes.now }
     ensures within { result ≤ length bytes.now }

@@ -5,7 +5,7 @@ use Rattle.ninja_text.specs.Assignments.{LiesIn, SeenAssignment, assignment_of, 
 use Rattle.ninja_text.specs.Lexical.{lexical_fault}
 use Rattle.ninja_text.specs.declared.assigning.AssignmentIndexes.{AssignmentIndexes}
 use Rattle.ninja_text.proofs.SpanLemmas.{lies_in}
-use Rattle.ninja_text.proofs.UnitLemmas.{to_the_end}
+use Rattle.ninja_text.proofs.Indexed.{to_the_end}
 use Rattle.ninja_text.proofs.assigning.assignment.Goals as goal
 
 pub returns-in-Some-indexes_in-clause-slices : goal.returns-in-Some-indexes_in-clause-slices

@@ -1,9 +1,11 @@
-use Rattle.std.proofs.Common.{◌≡◌, ◌++◌, ◌∙◌, [], ◌∷◌, length, take, drop, ap, sym, subst, refl, arith, rules}
+use Rattle.std.proofs.Common.{◌≡◌, ◌++◌, ◌∙◌, [], ◌∷◌, length, take, drop, ap, sym, subst, refl, arith, rules, tests}
 use Rattle.std.proofs.lemmas.List.{append-nil}
 use Rattle.ninja_text.specs.Cutting.{Cuts, lent_next}
 use Rattle.ninja_text.specs.LineViews.{seen_line}
 use Rattle.ninja_text.specs.LineReading.{HasLent, HasFailureBehind}
-use Rattle.ninja_text.proofs.FeedLemmas.{moves_on, below_limit, lends_none, lends_some, to_the_end, err_waits, never_failed}
+use Rattle.ninja_text.specs.inner.PieceReading.{failure_of}
+use Rattle.ninja_text.proofs.FeedLemmas.{moves_on, below_limit, lends_none, lends_some, err_waits, never_failed}
+use Rattle.ninja_text.proofs.Indexed.{to_the_end}
 use Rattle.ninja_text.proofs.PieceLemmas.{lead_on, lent_more, failure_fed, line_refused, no_bytes}
 use Rattle.ninja_text.proofs.line_reader.read_piece.Goals as goal
 
@@ -73,7 +75,8 @@ pub returns-in-Err-clause-all : goal.returns-in-Err-clause-all
 returns-in-Err-clause-all g c = λ bytes lent before.
     let f = c.loop-rest.invariant.read bytes lent before in
     let p = g.S.LineState in
-    subst (HasFailureBehind p.passes p.refuses p.of_cutter (bytes ++ c.args.piece.now) lent c.args.state.now) (sym c.cut_failure.ensures)
+    let is : c.map.result ≡ failure_of p.of_cutter c.in-Err.failure = search (rules, tests) in
+    subst (HasFailureBehind p.passes p.refuses p.of_cutter (bytes ++ c.args.piece.now) lent c.args.state.now) (sym is)
     (failure_fed p.passes p.refuses p.of_cutter f.0 c.loop-rest.rest.now (bytes ++ c.args.piece.now) lent f.1 c.loop-rest.cutter c.args.state.now c.loop-rest.state c.in-Err.failure c.feed.new.self
     f.2 f.3 f.4 c.in-Err.ensures.exact)
 

@@ -1,7 +1,7 @@
 use Rattle.std.proofs.Common.{◌≡◌, ◌≤◌, ◌-◌, drop, length}
 use Rattle.ninja_text.specs.Units.{units}
 use Rattle.ninja_text.specs.Lexical.{first_fault, lexical_fault}
-use Rattle.ninja_text.proofs.checking.fault_in.Given as goal
+use Rattle.ninja_text.proofs.lexing.fault_in.Given as goal
 
 -- the fault of what is left is that of the text
 abbrev pub invariant-loop-index : goal.invariant-loop-index
