@@ -25,4 +25,6 @@ pub mod Faultless
 pub mod RequiredPairs
 pub mod PairLists
 pub mod OneReported
+pub mod PartLemmas
+pub mod PoolLemmas
 pub mod ForCallers

@@ -20,7 +20,7 @@ numbered n (y ∷ xs) zero x e = let at : n + 0 ≡ n = omega arith in rw at (ap
 numbered n (y ∷ xs) (suc k) x e = let at : n + suc k ≡ (n + 1) + k = omega arith in rw at (numbered (n + 1) xs k x e)
 
 -- how many elements are before those of element i
-pub offset : {A B : Type 0} → (A → List B) → List A → ℕ → ℕ
+unfoldable pub offset : {A B : Type 0} → (A → List B) → List A → ℕ → ℕ
 offset f [] i = 0
 offset f (x ∷ xs) zero = 0
 offset f (x ∷ xs) (suc i) = length (f x) + offset f xs i

@@ -76,7 +76,7 @@ from_filter : {X : Type 0} (test : X → Bool) (xs : List X) (x : X) → Has (fi
 from_filter test [] x h = h
 from_filter test (y ∷ xs) x h = kept y (filter test xs) xs x (from_filter test xs x) (test y) h
 
-from_mentions : (names : List (List ℕ)) (name : List ℕ) → Has (first_mentions names) name → Has names name
+pub from_mentions : (names : List (List ℕ)) (name : List ℕ) → Has (first_mentions names) name → Has names name
 from_mentions [] name h = h
 from_mentions (n ∷ names) name (zero, e) = (0, e)
 from_mentions (n ∷ names) name (suc k, e) = has_more n names name (from_mentions names name (from_filter _ (first_mentions names) name (k, e)))

@@ -6,4 +6,5 @@ pub mod Sound
 pub mod Needed
 pub mod Added
 pub mod Outcomes
+pub mod Parts
 pub mod inner

@@ -29,7 +29,7 @@ use required::{check_infos_agree, check_infos_known, check_objects_known};
 use rings::check_rings;
 use scan_docs::{Info, Name, Rule};
 use std::alloc::{AllocError, Global};
-use std::hash::BuildHasher;
+use table_keys::TableKey;
 
 mod privacy;
 mod repeated;
@@ -38,9 +38,9 @@ mod rings;
 
 /// What a table keeps besides its objects and infos, so that no look-up searches them.
 #[derive(Drop)]
-pub(crate) struct Index<S: BuildHasher> {
+pub(crate) struct Index {
     /// The names of all provided modules. A name's index is that of its module.
-    pub names: IndexSet<Name, S>,
+    pub names: IndexSet<Name, TableKey>,
     /// Who provides each module, and at which index among its maker's.
     pub origins: Vec<(Maker, usize)>,
     /// What the modules and the objects need of one another, by index.
@@ -49,13 +49,13 @@ pub(crate) struct Index<S: BuildHasher> {
     pub required: Vec<Vec<(Name, Path)>>,
 }
 
-impl<S: BuildHasher + Copy> Index<S> {
+impl Index {
     /// That of the modules, where each object requires the modules of a row of indexes.
     fn new(
         alloc: Global,
-        modules: Modules<'_, S>,
+        modules: Modules<'_>,
         indexes: Vec<Vec<usize>>,
-    ) -> Result<Index<S>, AllocError>
+    ) -> Result<Index, AllocError>
         requires { AreIndexes modules (rows indexes.items) }
         ensures { IfOk result (λ index. AreLookUps modules.entry index.names.keys
             index.origins.items index.graph (map (λ row. row.items) index.required.items)) }
@@ -73,16 +73,16 @@ impl<S: BuildHasher + Copy> Index<S> {
 }
 
 /// All checks, from the lowest code to the highest. Names, targets and files are hashed by
-/// `hash_builder`. The paths of the objects are put into the empty set, and after them the modules'
+/// `key`. The paths of the objects are put into the empty set, and after them the modules'
 /// files.
-pub(crate) fn check_all<'t, S: BuildHasher + Copy>(
+pub(crate) fn check_all<'t>(
     alloc: Global,
     objects: &'t [Rule],
     infos: &'t [Info],
     kept: &[Name],
-    paths: &mut IndexSet<&'t Path, S>,
-    hash_builder: S,
-) -> Result<Index<S>, Failure<Box<TableFault>>>
+    paths: &mut IndexSet<&'t Path, TableKey>,
+    key: TableKey,
+) -> Result<Index, Failure<Box<TableFault>>>
     requires { IsEmpty paths.old }
     ensures no_fault { OnOk result
         (HasNoFault (table_with objects.now infos.now) kept.now) }
@@ -92,20 +92,20 @@ pub(crate) fn check_all<'t, S: BuildHasher + Copy>(
     ensures fault { IfErr result (ForFault (λ fault.
         IsReported (table_with objects.now infos.now) kept.now fault.value)) }
 {
-    let modules = check_repetitions(alloc, objects, infos, paths, hash_builder)?;
+    let modules = check_repetitions(alloc, objects, infos, paths, key)?;
     let indexes = check_requirements(alloc, &modules, kept)?;
     let index = Index::new(alloc, modules, indexes)?;
     Ok(index)
 }
 
 /// M1 to M4, and the modules by index.
-fn check_repetitions<'t, S: BuildHasher + Copy>(
+fn check_repetitions<'t>(
     alloc: Global,
     objects: &'t [Rule],
     infos: &'t [Info],
-    paths: &mut IndexSet<&'t Path, S>,
-    hash_builder: S,
-) -> Result<Modules<'t, S>, Failure<Box<TableFault>>>
+    paths: &mut IndexSet<&'t Path, TableKey>,
+    key: TableKey,
+) -> Result<Modules<'t>, Failure<Box<TableFault>>>
     requires { IsEmpty paths.old }
     ensures modules { IfOk result
         (λ modules. modules ≡ table_with objects.now infos.now) }
@@ -115,16 +115,16 @@ fn check_repetitions<'t, S: BuildHasher + Copy>(
         IsReported (table_with objects.now infos.now) kept fault.value)) }
 {
     check_objects(alloc, objects, paths)?;
-    check_infos(alloc, infos, hash_builder)?;
-    let modules = check_names(alloc, objects, infos, hash_builder)?;
+    check_infos(alloc, infos, key)?;
+    let modules = check_names(alloc, objects, infos, key)?;
     check_files(alloc, &modules, paths)?;
     Ok(modules)
 }
 
 /// M5 to M10, and the indexes of the modules that each object requires.
-fn check_requirements<S: BuildHasher>(
+fn check_requirements(
     alloc: Global,
-    modules: &Modules<S>,
+    modules: &Modules,
     kept: &[Name],
 ) -> Result<Vec<Vec<usize>>, Failure<Box<TableFault>>>
     requires { Passed 5 modules.now kept.now }
@@ -146,9 +146,9 @@ fn check_requirements<S: BuildHasher>(
 
 /// M6 to M10, of what was looked up: each object has a row of the indexes of what it requires, and
 /// what infos' modules require comes with the modules of those names.
-fn check_looked_up<S: BuildHasher>(
+fn check_looked_up(
     alloc: Global,
-    modules: &Modules<S>,
+    modules: &Modules,
     indexes: &[Vec<usize>],
     required: &[InfoRequired],
     kept: &[Name],
@@ -166,9 +166,9 @@ fn check_looked_up<S: BuildHasher>(
 }
 
 /// M9 and M10, of what was looked up.
-fn check_allowed<S: BuildHasher>(
+fn check_allowed(
     alloc: Global,
-    modules: &Modules<S>,
+    modules: &Modules,
     indexes: &[Vec<usize>],
     required: &[InfoRequired],
     kept: &[Name],

@@ -15,13 +15,13 @@ use indexmap::IndexSet;
 use ninja_text::Path;
 use scan_docs::{Info, InfoModule, Name};
 use std::alloc::{AllocError, Global};
-use std::hash::BuildHasher;
+use table_keys::TableKey;
 
 /// What each module needs, by index, and after all modules what each object needs: the modules of
 /// these indexes.
-pub(crate) fn module_graph<S: BuildHasher>(
+pub(crate) fn module_graph(
     alloc: Global,
-    modules: &Modules<S>,
+    modules: &Modules,
     origins: &[(Maker, usize)],
     required: Vec<Vec<usize>>,
 ) -> Result<Digraph, AllocError>
@@ -42,9 +42,9 @@ pub(crate) fn module_graph<S: BuildHasher>(
 }
 
 /// What each module needs, where so many objects come after the modules.
-fn modules_needs<S: BuildHasher>(
+fn modules_needs(
     alloc: Global,
-    names: &IndexSet<Name, S>,
+    names: &IndexSet<Name, TableKey>,
     origins: &[(Maker, usize)],
     infos: &[Info],
     object_count: usize,
@@ -65,9 +65,9 @@ fn modules_needs<S: BuildHasher>(
 
 /// What a module needs: a module of an object needs the object, and a module of an info what it
 /// requires.
-fn module_needs<S: BuildHasher>(
+fn module_needs(
     alloc: Global,
-    names: &IndexSet<Name, S>,
+    names: &IndexSet<Name, TableKey>,
     infos: &[Info],
     module_count: usize,
     object_count: usize,
@@ -91,9 +91,9 @@ fn module_needs<S: BuildHasher>(
 }
 
 /// The indexes of the names of these pairs.
-fn indexes_of<S: BuildHasher>(
+fn indexes_of(
     alloc: Global,
-    names: &IndexSet<Name, S>,
+    names: &IndexSet<Name, TableKey>,
     pairs: &[(Name, Path)],
 ) -> Result<Vec<usize>, AllocError>
     ensures { IfOk result (λ indexes. indexes.items ≡ indexes_in names.now.keys pairs.now) }

@@ -1,6 +1,7 @@
 //! Laws of tables: functions that do nothing, and whose contracts callers' proofs may cite.
 
 ghost use Rattle.module_table.specs.Added.{AddedOrderable, FilesOnce, FilesApart, RequiredFiles, AllRequired, OneFile};
+ghost use Rattle.module_table.specs.Parts.{PartIsSound, PartHasTasks, PartIsNeeded};
 ghost use Rattle.module_table.specs.Outcomes.{SoundHasNoFault, FaultlessIsSound, OneTableFault};
 
 /// A table is sound, and its objects provide the names that are to be private, exactly where none
@@ -27,4 +28,13 @@ pub fn added_files()
     ensures required { RequiredFiles }
     ensures all_required { AllRequired }
     ensures one_file { OneFile }
+{}
+
+/// A part of the linked modules that is enough for a table: if the table of the part is sound, so is
+/// the table of all. Then the objects of both require the same. If the part keeps what its modules
+/// require, the objects of both also need the same.
+pub fn parts()
+    ensures sound { PartIsSound }
+    ensures tasks { PartHasTasks }
+    ensures needed { PartIsNeeded }
 {}

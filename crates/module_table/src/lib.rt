@@ -7,18 +7,17 @@
 //! [`sound_tables`] says that this holds exactly there, and [`one_fault`] that no other fault is
 //! reported (`specs/Outcomes.antt`).
 //!
-//! Names, paths, targets and files are looked up by their hashes. `build` hashes with a fixed seed,
-//! so that many of them can be chosen to collide, and the work then grows with their square. Where
-//! strangers write the scan documents or the infos, [`Table::build_with_hasher`] does the same with
-//! the keys of a `RandomState`. [`Table::build_or_refused`] also gives the objects and infos back
-//! with a fault, which has only their indexes ([`RefusedTable`]).
+//! Names, paths, targets and files are looked up by their hashes, under a key that is made of all of
+//! them (`table_keys`): nobody can choose names that all hash alike. [`Table::build_or_refused`] also
+//! gives the objects and infos back with a fault, which has only their indexes ([`RefusedTable`]).
 //!
 //! [`Table::lookup`] answers who provides a name, [`Table::provided`] and [`Table::required`] what
 //! an object provides and requires, and [`Table::needed`] the modules at the ends of chains of
 //! requirements (`specs/Needed.antt`); [`Table::needs`] answers the same for one object after the
 //! other. [`Resolved`] has the objects and what each requires, and no look-ups. The law
 //! [`added_files`] says what a sound table means for the files that are added to a build
-//! (`specs/Added.antt`). These definitions are relations over rules and infos
+//! (`specs/Added.antt`), and the law [`parts`] which part of the linked modules a table needs
+//! (`specs/Parts.antt`). These definitions are relations over rules and infos
 //! (`specs/Modules.antt`); that the code works with indexes of modules does not show in them. What
 //! private clauses speak of is below `specs/inner/`.
 //!
@@ -47,7 +46,8 @@
 //! alone of the proofs is cited by other crates.
 //!
 //! It uses `scan_docs` for rules, infos and names, `ninja_text` for paths, `dep_order` for rings
-//! and for what a module leads to, `indexmap` for look-ups, and `thiserror` for its fault.
+//! and for what a module leads to, `indexmap` and `table_keys` for look-ups, and `thiserror` for its
+//! fault.
 //!
 //! `must-fail/` has a wrong body of each public function but of the laws, which have none, and of
 //! those that only pass on what a [`Resolved`] has: [`Table::objects`], [`Table::required`],
@@ -60,6 +60,7 @@
 mod checks;
 mod fault;
 mod graph;
+mod keys;
 mod laws;
 mod modules;
 mod needed;
@@ -70,7 +71,7 @@ mod resolved;
 mod table;
 
 pub use fault::{Maker, RefusedTable, TableFault};
-pub use laws::{added_files, one_fault, sound_tables};
+pub use laws::{added_files, one_fault, parts, sound_tables};
 pub use needed::Needs;
 pub use resolved::Resolved;
 pub use table::Table;

@@ -15,8 +15,8 @@ use indexmap::IndexSet;
 use ninja_text::Path;
 use scan_docs::{Info, Name, Rule};
 use std::alloc::{AllocError, Global};
-use std::hash::BuildHasher;
 use std::marker::Model;
+use table_keys::TableKey;
 
 /// A provided module: who provides it, and at which index among the modules that its maker
 /// provides. Those of objects are not private.
@@ -31,16 +31,16 @@ pub(crate) struct Module<'t> {
 
 /// The modules that objects and infos provide, no two of one name: by object, then by info, and for
 /// each of these in order of provision. A contract sees it as the table of the objects and infos.
-pub(crate) struct Modules<'t, S: BuildHasher> {
+pub(crate) struct Modules<'t> {
     objects: &'t [Rule],
     infos: &'t [Info],
     provided: Vec<Module<'t>>,
     /// The names of the modules. A name's index is that of its module.
-    names: IndexSet<Name, S>,
+    names: IndexSet<Name, TableKey>,
 }
 
 // Not derived: a derived drop is written out, field by field, wherever a value goes.
-impl<S: BuildHasher + Drop> Drop for Modules<'_, S> {
+impl Drop for Modules<'_> {
     fn drop(self) {
         let Modules {
             objects: _,
@@ -51,7 +51,7 @@ impl<S: BuildHasher + Drop> Drop for Modules<'_, S> {
     }
 }
 
-impl<'t, S: BuildHasher> Model for Modules<'t, S> {
+impl<'t> Model for Modules<'t> {
     ghost use Rattle.std.specs.Prelude.{◌≡◌, map};
     ghost use Rattle.module_table.specs.TableValue.{TableValue, table_with};
     ghost use Rattle.module_table.specs.Modules.{provisions};
@@ -70,14 +70,14 @@ impl<'t, S: BuildHasher> Model for Modules<'t, S> {
         × AllDiffer (names_of (provisions (table_with m.objects.now m.infos.now))) };
 }
 
-impl<'t, S: BuildHasher> Modules<'t, S> {
+impl<'t> Modules<'t> {
     /// These modules of the objects and infos, with their names in the same order.
     pub(crate) fn new(
         objects: &'t [Rule],
         infos: &'t [Info],
         provided: Vec<Module<'t>>,
-        names: IndexSet<Name, S>,
-    ) -> Modules<'t, S>
+        names: IndexSet<Name, TableKey>,
+    ) -> Modules<'t>
         requires provisions { map provision_of provided.items
             ≡ provisions (table_with objects.now infos.now) }
         requires origins { map origin_of provided.items
@@ -117,7 +117,7 @@ impl<'t, S: BuildHasher> Modules<'t, S> {
     }
 
     /// The names of all modules, by index.
-    pub(crate) fn names(&self) -> &IndexSet<Name, S>
+    pub(crate) fn names(&self) -> &IndexSet<Name, TableKey>
         ensures { result.now.keys ≡ names_of (provisions self.now) }
     {
         &self.names
@@ -143,7 +143,7 @@ impl<'t, S: BuildHasher> Modules<'t, S> {
     }
 
     /// The names of all modules, by index, for a table to keep.
-    pub(crate) fn into_names(self) -> IndexSet<Name, S>
+    pub(crate) fn into_names(self) -> IndexSet<Name, TableKey>
         ensures { result.keys ≡ names_of (provisions self.entry) }
     {
         let Modules {
@@ -248,7 +248,7 @@ pub(crate) fn module_at<'p, 't>(provided: &'p [Module<'t>], index: usize) -> &'p
 }
 
 /// The index of the name, if it is there.
-pub(crate) fn index_of<S: BuildHasher>(names: &IndexSet<Name, S>, name: &Name) -> Option<usize>
+pub(crate) fn index_of(names: &IndexSet<Name, TableKey>, name: &Name) -> Option<usize>
     ensures found { IfSome result (λ index. slice_get names.now.keys index ≡ Some name.now) }
     ensures none { IfNone result
         ((index : ℕ) → slice_get names.now.keys index ≡ Some name.now → ⊥) }

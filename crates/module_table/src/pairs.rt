@@ -11,13 +11,12 @@ use crate::modules::{Module, Modules, module_at};
 use ninja_text::Path;
 use scan_docs::Name;
 use std::alloc::{AllocError, Global};
-use std::hash::BuildHasher;
 
 /// The modules that each object requires, in order of first mention, each once. Each object has a
 /// row of the indexes of what it requires.
-pub(crate) fn all_pairs<S: BuildHasher>(
+pub(crate) fn all_pairs(
     alloc: Global,
-    modules: &Modules<S>,
+    modules: &Modules,
     required: &[Vec<usize>],
 ) -> Result<Vec<Vec<(Name, Path)>>, AllocError>
     requires { AreIndexes modules.now (rows required.now) }
@@ -32,9 +31,9 @@ pub(crate) fn all_pairs<S: BuildHasher>(
 
 /// Puts what each object requires into the empty list. A module's mark is the number of the last
 /// object that mentioned it, counted from 1.
-fn add_pairs<S: BuildHasher>(
+fn add_pairs(
     alloc: Global,
-    modules: &Modules<S>,
+    modules: &Modules,
     required: &[Vec<usize>],
     marks: &mut Vec<usize>,
     all: &mut Vec<Vec<(Name, Path)>>,

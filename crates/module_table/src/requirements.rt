@@ -8,7 +8,6 @@ use crate::modules::{Module, Modules};
 use ninja_text::Path;
 use scan_docs::{Info, InfoModule, Name, TargetName};
 use std::alloc::{AllocError, Global};
-use std::hash::BuildHasher;
 
 /// A requirement of an info's module, with the file that the info says, and the module of that
 /// name.
@@ -24,9 +23,9 @@ pub(crate) struct InfoRequired<'m, 't> {
 }
 
 /// All requirements of infos' modules: by info, module and index.
-pub(crate) fn all_required<'m, 't, S: BuildHasher>(
+pub(crate) fn all_required<'m, 't>(
     alloc: Global,
-    modules: &'m Modules<'t, S>,
+    modules: &'m Modules<'t>,
 ) -> Result<Vec<InfoRequired<'m, 't>>, AllocError>
     ensures { IfOk result (λ all. AreLookedUp modules.now all.items) }
 {
@@ -38,8 +37,8 @@ pub(crate) fn all_required<'m, 't, S: BuildHasher>(
     Ok(all)
 }
 
-fn add_info<'m, 't, S: BuildHasher>(
-    modules: &'m Modules<'t, S>,
+fn add_info<'m, 't>(
+    modules: &'m Modules<'t>,
     info: usize,
     value: &'t Info,
     all: &mut Vec<InfoRequired<'m, 't>>,
@@ -53,8 +52,8 @@ fn add_info<'m, 't, S: BuildHasher>(
     Ok(())
 }
 
-fn add_module<'m, 't, S: BuildHasher>(
-    modules: &'m Modules<'t, S>,
+fn add_module<'m, 't>(
+    modules: &'m Modules<'t>,
     info: usize,
     target: &'t TargetName,
     entry: &'t InfoModule,
@@ -71,8 +70,8 @@ fn add_module<'m, 't, S: BuildHasher>(
 }
 
 /// The requirement of a module by this pair, with the module that is found.
-fn look_up<'m, 't, S: BuildHasher>(
-    modules: &'m Modules<'t, S>,
+fn look_up<'m, 't>(
+    modules: &'m Modules<'t>,
     info: usize,
     target: &'t TargetName,
     module_name: &'t Name,

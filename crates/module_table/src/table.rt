@@ -12,6 +12,7 @@ ghost use Rattle.module_table.specs.declared.fault.TableFault.{TableFault};
 
 use crate::checks::check_all;
 use crate::fault::{Maker, RefusedTable, TableFault};
+use crate::keys::table_key;
 use crate::modules::index_of;
 use crate::needed::{Needs, named_at};
 use crate::resolved::Resolved;
@@ -20,23 +21,22 @@ use indexmap::IndexSet;
 use ninja_text::{Failure, Path};
 use scan_docs::{Info, Name, Rule};
 use std::alloc::{AllocError, Global};
-use std::hash::{BuildHasher, BuildHasherDefault, FoldHasher};
 use std::marker::Model;
+use table_keys::TableKey;
 
-/// The modules of one target and of the targets that it links, without a fault. Names are hashed by
-/// an `S`.
+/// The modules of one target and of the targets that it links, without a fault.
 #[derive(Drop)]
-pub struct Table<S: BuildHasher = BuildHasherDefault<FoldHasher>> {
+pub struct Table {
     resolved: Resolved,
     /// The names of all provided modules. A name's index is that of its module.
-    names: IndexSet<Name, S>,
+    names: IndexSet<Name, TableKey>,
     /// Who provides each module, and at which index among its maker's.
     origins: Vec<(Maker, usize)>,
     /// What the modules and the objects need of one another, by index.
     graph: Digraph,
 }
 
-impl<S: BuildHasher> Model for Table<S> {
+impl Model for Table {
     ghost use Rattle.std.specs.Prelude.{◌≡◌};
     ghost use Rattle.module_table.specs.TableValue.{TableValue};
     ghost use Rattle.module_table.specs.Modules.{provisions};
@@ -54,11 +54,12 @@ impl<S: BuildHasher> Model for Table<S> {
 }
 
 impl Table {
-    /// The table of a target's objects and of the infos of the targets that it links, or the fault
-    /// with the lowest code. `kept` are the names of the modules that are private to the target.
+    /// Returns the table of a target's objects and of the info files of the targets that it links.
+    /// `kept` has the names of the modules that are private to the target.
     ///
-    /// Names and files are hashed with a fixed seed. Where strangers choose them, use
-    /// `build_with_hasher` with a `RandomState`.
+    /// # Errors
+    ///
+    /// Returns the fault with the lowest code, if the modules have one.
     pub fn build(
         alloc: Global,
         objects: Vec<Rule>,
@@ -73,42 +74,19 @@ impl Table {
         ensures fault { IfErr result
             (ForFault (IsReported (table_with objects.items infos.items) kept.now)) }
     {
-        Table::build_with_hasher(alloc, objects, infos, kept, BuildHasherDefault::new())
-    }
-}
-
-impl<S: BuildHasher + Copy> Table<S> {
-    /// The same, where names and files are hashed by `hash_builder`: with the keys of a
-    /// `RandomState` nobody who chooses names can make many of them collide.
-    pub fn build_with_hasher(
-        alloc: Global,
-        objects: Vec<Rule>,
-        infos: Vec<Info>,
-        kept: &[Name],
-        hash_builder: S,
-    ) -> Result<Table<S>, Failure<TableFault>>
-        ensures table { IfOk result (λ table. table ≡ table_with objects.items infos.items) }
-        ensures sound { IfOk result IsSound }
-        ensures kept { IfOk result (λ table. PrivateAreProvided table kept.now) }
-        ensures no_fault { IfOk result
-            (λ table. (fault : TableFault) → IsFault table kept.now fault → ⊥) }
-        ensures fault { IfErr result
-            (ForFault (IsReported (table_with objects.items infos.items) kept.now)) }
-    {
-        Table::build_or_refused(alloc, objects, infos, kept, hash_builder).map_err(
-            |failure| failure.map(|refused| refused.fault),
-        )
+        Table::build_or_refused(alloc, objects, infos, kept).map_err(|failure| failure.map(
+            |refused| refused.fault,
+        ))
     }
 
-    /// The same, and with a fault the objects and the infos are given back: the fault names them by
-    /// their indexes.
+    /// Does the same as `build`, and returns the objects and the info files with a fault, because
+    /// the fault has only their indexes.
     pub fn build_or_refused(
         alloc: Global,
         objects: Vec<Rule>,
         infos: Vec<Info>,
         kept: &[Name],
-        hash_builder: S,
-    ) -> Result<Table<S>, Failure<RefusedTable>>
+    ) -> Result<Table, Failure<RefusedTable>>
         ensures table { IfOk result (λ table. table ≡ table_with objects.items infos.items) }
         ensures sound { IfOk result IsSound }
         ensures kept { IfOk result (λ table. PrivateAreProvided table kept.now) }
@@ -121,14 +99,15 @@ impl<S: BuildHasher + Copy> Table<S> {
             ≡ table_with objects.items infos.items)) }
     {
         let checked = {
-            let mut paths = IndexSet::with_hasher(alloc, hash_builder);
+            let key = table_key(objects.as_slice(), infos.as_slice());
+            let mut paths = IndexSet::with_hasher(alloc, key);
             check_all(
                 alloc,
                 objects.as_slice(),
                 infos.as_slice(),
                 kept,
                 &mut paths,
-                hash_builder,
+                key,
             )
         };
         match checked {
@@ -159,9 +138,7 @@ impl<S: BuildHasher + Copy> Table<S> {
         } = self;
         resolved
     }
-}
 
-impl<S: BuildHasher> Table<S> {
     /// The objects, by index.
     pub fn objects(&self) -> &[Rule]
         ensures objects { result.now ≡ self.now.objects }

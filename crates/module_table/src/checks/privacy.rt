@@ -19,13 +19,12 @@ use crate::requirements::InfoRequired;
 use ninja_text::Failure;
 use scan_docs::Name;
 use std::alloc::Global;
-use std::hash::BuildHasher;
 
 /// M9: no object requires a module that is private to an info. Each object has a row of the indexes
 /// of what it requires.
-pub(crate) fn check_objects_allowed<S: BuildHasher>(
+pub(crate) fn check_objects_allowed(
     alloc: Global,
-    modules: &Modules<S>,
+    modules: &Modules,
     required: &[Vec<usize>],
 ) -> Result<(), Failure<Box<TableFault>>>
     requires { AreIndexes modules.now (rows required.now) }
@@ -48,9 +47,9 @@ pub(crate) fn check_objects_allowed<S: BuildHasher>(
 }
 
 /// M9: and no info's module requires one that is private to another info.
-pub(crate) fn check_infos_allowed<S: BuildHasher>(
+pub(crate) fn check_infos_allowed(
     alloc: Global,
-    modules: &Modules<S>,
+    modules: &Modules,
     all: &[InfoRequired],
 ) -> Result<(), Failure<Box<TableFault>>>
     requires all { AreLookedUp modules.now all.now }
@@ -70,9 +69,9 @@ pub(crate) fn check_infos_allowed<S: BuildHasher>(
 }
 
 /// M10: each name that is to be private is provided by an object.
-pub(crate) fn check_kept<S: BuildHasher>(
+pub(crate) fn check_kept(
     alloc: Global,
-    modules: &Modules<S>,
+    modules: &Modules,
     kept: &[Name],
 ) -> Result<(), Failure<Box<TableFault>>>
     requires { AllDiffer (names_of (provisions modules.now)) }
@@ -89,9 +88,9 @@ pub(crate) fn check_kept<S: BuildHasher>(
 }
 
 /// The failure that a private module is required.
-fn requires_private<S: BuildHasher>(
+fn requires_private(
     alloc: Global,
-    modules: &Modules<S>,
+    modules: &Modules,
     name: &Name,
     user: Maker,
 ) -> Failure<Box<TableFault>>
@@ -109,7 +108,7 @@ fn requires_private<S: BuildHasher>(
 }
 
 /// The info that the module of that name is private to.
-fn info_of<S: BuildHasher>(modules: &Modules<S>, name: &Name) -> usize
+fn info_of(modules: &Modules, name: &Name) -> usize
     requires differ { AllDiffer (names_of (provisions modules.now)) }
     requires private { IsPrivate (provisions modules.now) name.now }
     ensures { IsPrivateTo (provisions modules.now) name.now result }
@@ -164,7 +163,7 @@ fn is_public_at(provided: &[Module], index: usize) -> bool
 }
 
 /// Whether an object provides the name.
-fn is_by_object<S: BuildHasher>(modules: &Modules<S>, name: &Name) -> bool
+fn is_by_object(modules: &Modules, name: &Name) -> bool
     ensures { result ≡ is_by_object (provisions modules.now) name.now }
 {
     match modules.find(name) {

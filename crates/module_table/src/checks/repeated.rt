@@ -17,13 +17,13 @@ use indexmap::IndexSet;
 use ninja_text::{Failure, Path};
 use scan_docs::{Info, Name, Rule, TargetName};
 use std::alloc::{AllocError, Global};
-use std::hash::BuildHasher;
+use table_keys::TableKey;
 
 /// M1: no two objects have one path. Puts the paths into the empty set, each at its object's index.
-pub(crate) fn check_objects<'t, S: BuildHasher>(
+pub(crate) fn check_objects<'t>(
     alloc: Global,
     objects: &'t [Rule],
-    paths: &mut IndexSet<&'t Path, S>,
+    paths: &mut IndexSet<&'t Path, TableKey>,
 ) -> Result<(), Failure<Box<TableFault>>>
     requires { IsEmpty paths.old }
     ensures paths { OnOk result
@@ -49,24 +49,24 @@ pub(crate) fn check_objects<'t, S: BuildHasher>(
 }
 
 /// M2: no two infos have one target name.
-pub(crate) fn check_infos<S: BuildHasher + Copy>(
+pub(crate) fn check_infos(
     alloc: Global,
     infos: &[Info],
-    hash_builder: S,
+    key: TableKey,
 ) -> Result<(), Failure<Box<TableFault>>>
     ensures ok { OnOk result (AllDiffer (map (λ info. info.target) infos.now)) }
     ensures fault { IfErr result (ForFault (λ fault. (t : TableValue) (kept : List Name) →
         infos.now ≡ t.infos → Reports 2 t kept fault.value)) }
 {
-    let mut targets = IndexSet::with_hasher(alloc, hash_builder);
+    let mut targets = IndexSet::with_hasher(alloc, key);
     add_targets(alloc, infos, &mut targets)
 }
 
 /// Puts the infos' targets into the empty set, if none is there twice.
-fn add_targets<'t, S: BuildHasher>(
+fn add_targets<'t>(
     alloc: Global,
     infos: &'t [Info],
-    targets: &mut IndexSet<&'t TargetName, S>,
+    targets: &mut IndexSet<&'t TargetName, TableKey>,
 ) -> Result<(), Failure<Box<TableFault>>>
     requires { IsEmpty targets.old }
     ensures ok { OnOk result (AllDiffer (map (λ info. info.target) infos.now)) }
@@ -85,12 +85,12 @@ fn add_targets<'t, S: BuildHasher>(
 }
 
 /// All provided modules. M3: no name is provided twice.
-pub(crate) fn check_names<'t, S: BuildHasher + Copy>(
+pub(crate) fn check_names<'t>(
     alloc: Global,
     objects: &'t [Rule],
     infos: &'t [Info],
-    hash_builder: S,
-) -> Result<Modules<'t, S>, Failure<Box<TableFault>>>
+    key: TableKey,
+) -> Result<Modules<'t>, Failure<Box<TableFault>>>
     ensures modules { IfOk result
         (λ modules. modules ≡ table_with objects.now infos.now) }
     ensures differ { IfOk result (λ modules. AllDiffer (names_of (provisions modules))) }
@@ -98,16 +98,16 @@ pub(crate) fn check_names<'t, S: BuildHasher + Copy>(
         Reports 3 (table_with objects.now infos.now) kept fault.value)) }
 {
     let provided = provided_modules(alloc, objects, infos)?;
-    let mut names = IndexSet::with_hasher(alloc, hash_builder);
+    let mut names = IndexSet::with_hasher(alloc, key);
     add_names(alloc, provided.as_slice(), &mut names)?;
     Ok(Modules::new(objects, infos, provided, names))
 }
 
 /// Puts the modules' names into the empty set, each at its module's index, if none is there twice.
-fn add_names<S: BuildHasher>(
+fn add_names(
     alloc: Global,
     provided: &[Module],
-    names: &mut IndexSet<Name, S>,
+    names: &mut IndexSet<Name, TableKey>,
 ) -> Result<(), Failure<Box<TableFault>>>
     requires { IsEmpty names.old }
     ensures names { OnOk result (names.new.keys ≡ names_of (map provision_of provided.now)) }
@@ -156,10 +156,10 @@ fn provided_twice(
 /// M4: no file is that of two provided modules, or of a module and an object. No two objects have
 /// one path here, so a file that is made twice is a module's at least once. `files` has the paths
 /// of the objects, after which the modules' files come.
-pub(crate) fn check_files<'t, S: BuildHasher>(
+pub(crate) fn check_files<'t>(
     alloc: Global,
-    modules: &Modules<'t, S>,
-    files: &mut IndexSet<&'t Path, S>,
+    modules: &Modules<'t>,
+    files: &mut IndexSet<&'t Path, TableKey>,
 ) -> Result<(), Failure<Box<TableFault>>>
     requires paths { map (λ path. path.now) files.old.keys
         ≡ map (λ rule. rule.object) modules.now.objects }
@@ -181,9 +181,9 @@ pub(crate) fn check_files<'t, S: BuildHasher>(
 
 /// Puts the modules' files into the set, up to the first that is there: its index in the set, and
 /// the module's.
-fn add_files<'t, S: BuildHasher>(
+fn add_files<'t>(
     provided: &[Module<'t>],
-    files: &mut IndexSet<&'t Path, S>,
+    files: &mut IndexSet<&'t Path, TableKey>,
 ) -> Result<Option<(usize, usize)>, AllocError>
     requires { AllDiffer (map (λ path. path.now) files.old.keys) }
     ensures none { IfOk result (λ twice. IfNone twice (AllDiffer

@@ -19,12 +19,12 @@ use indexmap::IndexSet;
 use ninja_text::Failure;
 use scan_docs::{Name, Rule, TargetName};
 use std::alloc::{AllocError, Global};
-use std::hash::BuildHasher;
+use table_keys::TableKey;
 
 /// The indexes of the modules that each object requires. M5: each is provided.
-pub(crate) fn check_objects_known<S: BuildHasher>(
+pub(crate) fn check_objects_known(
     alloc: Global,
-    modules: &Modules<S>,
+    modules: &Modules,
 ) -> Result<Vec<Vec<usize>>, Failure<Box<TableFault>>>
     ensures ok { IfOk result (λ required. AreIndexes modules.now (rows required.items)) }
     ensures fault { IfErr result (ForFault
@@ -40,9 +40,9 @@ pub(crate) fn check_objects_known<S: BuildHasher>(
     Ok(required)
 }
 
-fn indexes_of<S: BuildHasher>(
+fn indexes_of(
     alloc: Global,
-    names: &IndexSet<Name, S>,
+    names: &IndexSet<Name, TableKey>,
     object: usize,
     rule: &Rule,
 ) -> Result<Vec<usize>, Failure<Box<TableFault>>>
@@ -61,9 +61,9 @@ fn indexes_of<S: BuildHasher>(
 }
 
 /// The index of a name that the object requires, if it is provided.
-fn known_index<S: BuildHasher>(
+fn known_index(
     alloc: Global,
-    names: &IndexSet<Name, S>,
+    names: &IndexSet<Name, TableKey>,
     object: usize,
     required: &Name,
 ) -> Result<usize, Failure<Box<TableFault>>>
@@ -81,9 +81,9 @@ fn known_index<S: BuildHasher>(
 }
 
 /// M6: what infos' modules require is provided by infos.
-pub(crate) fn check_infos_known<S: BuildHasher>(
+pub(crate) fn check_infos_known(
     alloc: Global,
-    modules: &Modules<S>,
+    modules: &Modules,
     all: &[InfoRequired],
 ) -> Result<(), Failure<Box<TableFault>>>
     requires { AreLookedUp modules.now all.now }
@@ -107,9 +107,9 @@ pub(crate) fn check_infos_known<S: BuildHasher>(
 }
 
 /// M7: and with the files that the infos say.
-pub(crate) fn check_infos_agree<S: BuildHasher>(
+pub(crate) fn check_infos_agree(
     alloc: Global,
-    modules: &Modules<S>,
+    modules: &Modules,
     all: &[InfoRequired],
 ) -> Result<(), Failure<Box<TableFault>>>
     requires all { AreLookedUp modules.now all.now }

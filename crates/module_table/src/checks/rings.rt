@@ -16,13 +16,12 @@ use crate::modules::{Module, Modules};
 use dep_order::{Digraph, Sorting, order};
 use ninja_text::Failure;
 use std::alloc::{AllocError, Global};
-use std::hash::BuildHasher;
 
 /// M8: no objects need each other's modules in a ring. Each object has a row of the indexes of what
 /// it requires.
-pub(crate) fn check_rings<S: BuildHasher>(
+pub(crate) fn check_rings(
     alloc: Global,
-    modules: &Modules<S>,
+    modules: &Modules,
     required: &[Vec<usize>],
 ) -> Result<(), Failure<Box<TableFault>>>
     requires { AreIndexes modules.now (rows required.now) }
@@ -37,9 +36,9 @@ pub(crate) fn check_rings<S: BuildHasher>(
 }
 
 /// The objects in an order, or the least ring of them.
-fn sort_objects<S: BuildHasher>(
+fn sort_objects(
     alloc: Global,
-    modules: &Modules<S>,
+    modules: &Modules,
     required: &[Vec<usize>],
 ) -> Result<Sorting, AllocError>
     requires { AreIndexes modules.now (rows required.now) }

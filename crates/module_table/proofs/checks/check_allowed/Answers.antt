@@ -7,24 +7,24 @@ use Rattle.module_table.proofs.Passing.{reported, after_allowed, after_kept}
 use Rattle.module_table.proofs.checks.check_allowed.Goals as goal
 
 pub returns-in_err-check_objects_allowed-clause-fault : goal.returns-in_err-check_objects_allowed-clause-fault
-returns-in_err-check_objects_allowed-clause-fault g c =
+returns-in_err-check_objects_allowed-clause-fault c =
     let t = c.args.modules.now in
     let kept = c.args.kept.now in
     let p = err_from_is_err_and c.from_residual.result c.from_residual.ensures.1 in
     rw (p.1, p.2) (for_fault _ _ _ (λ fault is'. reported t kept 9 fault.value (is' kept) c.requires.passed) c.in_err-check_objects_allowed.ensures.fault)
 
 pub returns-in_err-check_infos_allowed-clause-fault : goal.returns-in_err-check_infos_allowed-clause-fault
-returns-in_err-check_infos_allowed-clause-fault g c =
+returns-in_err-check_infos_allowed-clause-fault c =
     let t = c.args.modules.now in
     let kept = c.args.kept.now in
     let p = err_from_is_err_and c.from_residual-in_err-check_infos_allowed.result c.from_residual-in_err-check_infos_allowed.ensures.1 in
     rw (p.1, p.2) (for_fault _ _ _ (λ fault is'. reported t kept 9 fault.value (is' kept) c.requires.passed) c.in_err-check_infos_allowed.ensures.fault)
 
 pub check_kept-requires : goal.check_kept-requires
-check_kept-requires g c = c.requires.required.differ
+check_kept-requires c = c.requires.required.differ
 
 pub returns-clause-fault : goal.returns-clause-fault
-returns-clause-fault g c =
+returns-clause-fault c =
     let t = c.args.modules.now in
     let kept = c.args.kept.now in
     let allowed = after_allowed t kept c.in_ok-check_objects_allowed.ensures.ok c.in_ok-check_infos_allowed.ensures.ok c.requires.passed in
@@ -32,7 +32,7 @@ returns-clause-fault g c =
     (λ failure h. for_fault _ _ failure (λ fault is'. reported t kept 10 fault.value is' allowed) h) c.check_kept.ensures.fault
 
 pub returns-clause-passed : goal.returns-clause-passed
-returns-clause-passed g c =
+returns-clause-passed c =
     let t = c.args.modules.now in
     let kept = c.args.kept.now in
     let allowed = after_allowed t kept c.in_ok-check_objects_allowed.ensures.ok c.in_ok-check_infos_allowed.ensures.ok c.requires.passed in

@@ -11,32 +11,32 @@ use Rattle.module_table.proofs.Passing.{for_every_kept, reported, none_passed, a
 use Rattle.module_table.proofs.checks.check_repetitions.Goals as goal
 
 pub returns-in_err-check_objects-clause-fault : goal.returns-in_err-check_objects-clause-fault
-returns-in_err-check_objects-clause-fault g c =
+returns-in_err-check_objects-clause-fault c =
     let t : TableValue = record { objects = c.args.objects.now; infos = c.args.infos.now } in
     let p = err_from_is_err_and c.from_residual.result c.from_residual.ensures.1 in
     rw (p.1, p.2)
     (for_every_kept t _ _ (λ kept fault is. reported t kept 1 fault.value (is t kept refl) (none_passed t kept)) c.in_err-check_objects.ensures.fault)
 
 pub returns-in_err-check_infos-clause-fault : goal.returns-in_err-check_infos-clause-fault
-returns-in_err-check_infos-clause-fault g c =
+returns-in_err-check_infos-clause-fault c =
     let t : TableValue = record { objects = c.args.objects.now; infos = c.args.infos.now } in
     let p = err_from_is_err_and c.from_residual-in_err-check_infos.result c.from_residual-in_err-check_infos.ensures.1 in
     rw (p.1, p.2)
     (for_every_kept t _ _ (λ kept fault is. reported t kept 2 fault.value (is t kept refl) (after_objects t kept c.in_ok-check_objects.ensures.differ)) c.in_err-check_infos.ensures.fault)
 
 pub returns-in_err-modules-clause-fault : goal.returns-in_err-modules-clause-fault
-returns-in_err-modules-clause-fault g c =
+returns-in_err-modules-clause-fault c =
     let t : TableValue = record { objects = c.args.objects.now; infos = c.args.infos.now } in
     let p = err_from_is_err_and c.from_residual-in_err-modules.result c.from_residual-in_err-modules.ensures.1 in
     rw (p.1, p.2)
     (for_every_kept t _ _ (λ kept fault is. reported t kept 3 fault.value (is kept) (after_infos t kept c.in_ok-check_infos.ensures.ok (after_objects t kept c.in_ok-check_objects.ensures.differ))) c.in_err-modules.ensures.fault)
 
 pub check_files-requires-clause-paths : goal.check_files-requires-clause-paths
-check_files-requires-clause-paths g c =
+check_files-requires-clause-paths c =
     c.in_ok-check_objects.ensures.paths ∙ ap (λ (t : TableValue). map (λ (rule : RuleValue). rule.object) t.objects) (sym c.in_ok-modules.ensures.modules)
 
 pub check_files-requires-clause-differ : goal.check_files-requires-clause-differ
-check_files-requires-clause-differ g c =
+check_files-requires-clause-differ c =
     subst (λ (t : TableValue). AllDiffer (map (λ (rule : RuleValue). rule.object) t.objects)) (sym c.in_ok-modules.ensures.modules) c.in_ok-check_objects.ensures.differ
 
 -- the checks of objects, infos and names have passed for what the modules are
@@ -46,7 +46,7 @@ three_passed t u same objects infos names kept =
     (after_names t kept (subst (λ v. AllDiffer (names_of (provisions v))) same names) (after_infos t kept infos (after_objects t kept objects)))
 
 pub returns-in_err-check_files-clause-fault : goal.returns-in_err-check_files-clause-fault
-returns-in_err-check_files-clause-fault g c =
+returns-in_err-check_files-clause-fault c =
     let t : TableValue = record { objects = c.args.objects.now; infos = c.args.infos.now } in
     let u : TableValue = c.in_ok-modules.modules in
     let same = c.in_ok-modules.ensures.modules in
@@ -56,7 +56,7 @@ returns-in_err-check_files-clause-fault g c =
     (for_every_kept t _ _ (λ kept fault is. subst (λ v. IsReported v kept fault.value) same (reported u kept 4 fault.value (is kept) (passed kept))) c.in_err-check_files.ensures.fault)
 
 pub returns-clause-passed : goal.returns-clause-passed
-returns-clause-passed g c = λ kept.
+returns-clause-passed c = λ kept.
     let t : TableValue = record { objects = c.args.objects.now; infos = c.args.infos.now } in
     let u : TableValue = c.in_ok-modules.modules in
     let same = c.in_ok-modules.ensures.modules in

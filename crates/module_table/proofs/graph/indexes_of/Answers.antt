@@ -7,7 +7,7 @@ use Rattle.module_table.proofs.graph.indexes_of.Goals as goal
 use Rattle.module_table.proofs.graph.indexes_of.Goals.{in-Some+in_ok-push-in-Some, in-None}
 
 pub loop-pair-preserved : goal.loop-pair-preserved
-loop-pair-preserved g c =
+loop-pair-preserved c =
     let h = λ (pair : List ℕ × List ℕ). index_in c.args.names.now.keys pair.0 in
     let xs = c.args.pairs.now in
     let i = c.loop-pair.pair-index in
@@ -18,7 +18,7 @@ loop-pair-preserved g c =
     ]
 
 pub loop-pair-init : goal.loop-pair-init
-loop-pair-init g c = c.in_ok-indexes.ensures.items
+loop-pair-init c = c.in_ok-indexes.ensures.items
 
 pub returns : goal.returns
-returns g c = c.loop-pair.invariant ∙ ap (indexes_in c.args.names.now.keys) (take_all c.args.pairs.now c.loop-pair.pair-index c.loop-pair-test.false)
+returns c = c.loop-pair.invariant ∙ ap (indexes_in c.args.names.now.keys) (take_all c.args.pairs.now c.loop-pair.pair-index c.loop-pair-test.false)

@@ -3,4 +3,4 @@ use Rattle.module_table.specs.inner.Graph.{indexes_in}
 use Rattle.module_table.proofs.graph.indexes_of.Given as goal
 
 abbrev pub invariant-loop-pair : goal.invariant-loop-pair
-invariant-loop-pair g l = l.indexes.items ≡ indexes_in l.names.keys (take l.pair-index l.pairs)
+invariant-loop-pair l = l.indexes.items ≡ indexes_in l.names.keys (take l.pair-index l.pairs)

@@ -5,4 +5,4 @@ use Rattle.module_table.specs.inner.Graph.{IsModuleRow}
 use Rattle.module_table.proofs.graph.modules_needs.Given as goal
 
 abbrev pub invariant-loop-origin : goal.invariant-loop-origin
-invariant-loop-origin g l = AllZip (IsModuleRow l.names.keys l.infos) (take l.origin-index l.origins) (rows l.needs.items)
+invariant-loop-origin l = AllZip (IsModuleRow l.names.keys l.infos) (take l.origin-index l.origins) (rows l.needs.items)

@@ -2,7 +2,7 @@ use Rattle.module_table.proofs.Repetitions.{finds, misses}
 use Rattle.module_table.proofs.modules.index_of.Goals as goal
 
 pub returns-clause-found : goal.returns-clause-found
-returns-clause-found g c = finds c.args.names.now.keys c.args.name.now c.get_index_of.result c.get_index_of.ensures.index
+returns-clause-found c = finds c.args.names.now.keys c.args.name.now c.get_index_of.result c.get_index_of.ensures.index
 
 pub returns-clause-none : goal.returns-clause-none
-returns-clause-none g c = misses c.args.names.now.keys c.args.name.now c.get_index_of.result c.get_index_of.ensures.found
+returns-clause-none c = misses c.args.names.now.keys c.args.name.now c.get_index_of.result c.get_index_of.ensures.found

@@ -18,7 +18,7 @@ abbrev items_of : Vec ℕ Global → List ℕ
 items_of row = row.items
 
 pub first_pairs-requires-clause-within : goal.first_pairs-requires-clause-within
-first_pairs-requires-clause-within g c = λ k d lt.
+first_pairs-requires-clause-within c = λ k d lt.
     let t = c.args.modules.now in
     let names = names_of (provisions t) in
     let i = c.loop-object.object in
@@ -34,12 +34,12 @@ first_pairs-requires-clause-within g c = λ k d lt.
     omega (arith, inside, long, many)
 
 pub first_pairs-requires-clause-as_many : goal.first_pairs-requires-clause-as_many
-first_pairs-requires-clause-as_many g c =
+first_pairs-requires-clause-as_many c =
     omega (arith, c.loop-object.invariant.as_many, length_mapped provision_of c.provided-provided.result.now, ap length c.provided-provided.ensures.provisions)
 
 pub loop-object-preserved : goal.loop-object-preserved
 unfolding required_of
-loop-object-preserved g c =
+loop-object-preserved c =
     let t = c.args.modules.now in
     let ps = provisions t in
     let names = names_of ps in
@@ -63,7 +63,7 @@ loop-object-preserved g c =
     }
 
 pub returns : goal.returns
-returns g c =
+returns c =
     let t = c.args.modules.now in
     let many = many_rows t (rows c.args.required.now) c.requires.indexes in
     let long = length_mapped items_of c.args.required.now in

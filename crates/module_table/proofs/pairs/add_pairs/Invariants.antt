@@ -5,7 +5,7 @@ use Rattle.module_table.specs.Added.{required_of}
 use Rattle.module_table.proofs.pairs.add_pairs.Given as goal
 
 abbrev pub invariant-loop-object : goal.invariant-loop-object
-invariant-loop-object g l = record {
+invariant-loop-object l = record {
   as_many : length l.marks.items ≡ length (provisions l.modules);
   at_most : All (λ m. m ≤ l.object) l.marks.items;
   found : map (λ row. row.items) l.all.items ≡ map (required_of l.modules) (take l.object l.modules.objects);

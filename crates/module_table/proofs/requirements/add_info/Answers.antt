@@ -9,7 +9,7 @@ use Rattle.module_table.proofs.Refusals.{gathers_more}
 use Rattle.module_table.proofs.requirements.add_info.Goals as goal
 
 pub loop-entry-preserved : goal.loop-entry-preserved
-loop-entry-preserved g c =
+loop-entry-preserved c =
     let i = c.loop-entry.entry-index in
     let modules = c.args.value.now.modules in
     let entry = c.entry-item.result in
@@ -19,7 +19,7 @@ loop-entry-preserved g c =
     (c.in_ok-add_module.ensures ∙ ap (λ (v : InfoValue). map looked_up c.loop-entry.all.items ++ lookups_of (provisions c.args.modules.now) c.args.info v.target entry) c.value.view_is)
 
 pub returns : goal.returns
-returns g c =
+returns c =
     let modules = c.args.value.now.modules in
     let list : c.deref-entry-items.result.now ≡ modules = c.deref-entry-items.ensures.value ∙ ap (λ (r : InfoValue). r.modules) c.value.view_is in
     let all : length modules ≤ c.loop-entry.entry-index = omega (arith, c.loop-entry-test.false, ap length list) in

@@ -5,4 +5,4 @@ use Rattle.module_table.specs.inner.Found.{looked_up, lookups_of}
 use Rattle.module_table.proofs.requirements.add_info.Given as goal
 
 abbrev pub invariant-loop-entry : goal.invariant-loop-entry
-invariant-loop-entry g l = map looked_up l.all.items ≡ map looked_up l.initial.all.items ++ flat_map (lookups_of (provisions l.modules) l.info l.value.target) (take l.entry-index l.value.modules)
+invariant-loop-entry l = map looked_up l.all.items ≡ map looked_up l.initial.all.items ++ flat_map (lookups_of (provisions l.modules) l.info l.value.target) (take l.entry-index l.value.modules)

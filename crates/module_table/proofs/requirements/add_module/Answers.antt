@@ -9,7 +9,7 @@ use Rattle.module_table.proofs.requirements.add_module.Goals as goal
 use Rattle.ninja_text.proofs.ForCallers.{take_next}
 
 pub loop-pair-preserved : goal.loop-pair-preserved
-loop-pair-preserved g c =
+loop-pair-preserved c =
     let ps = provisions c.args.modules.now in
     let i = c.loop-pair.pair-index in
     let entry = c.args.entry.now in
@@ -20,7 +20,7 @@ loop-pair-preserved g c =
     (c.look_up.ensures ∙ ap (λ (m : ModuleValue). lookup_of ps c.args.info c.args.target.now m.name pair) c.entry.view_is)
 
 pub returns : goal.returns
-returns g c =
+returns c =
     let required = c.args.entry.now.required in
     let list : c.deref-pair-items.result.now ≡ required = c.deref-pair-items.ensures.value ∙ ap (λ (m : ModuleValue). m.required) c.entry.view_is in
     let all : length required ≤ c.loop-pair.pair-index = omega (arith, c.loop-pair-test.false, ap length list) in

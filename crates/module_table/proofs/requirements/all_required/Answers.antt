@@ -10,14 +10,14 @@ use Rattle.module_table.proofs.IndexRows.{take_all}
 use Rattle.module_table.proofs.requirements.all_required.Goals as goal
 
 pub loop-info-preserved : goal.loop-info-preserved
-loop-info-preserved g c =
+loop-info-preserved c =
     let infos = c.infos-infos.result.now in
     let i = c.loop-info.info in
     let value = c.index-infos-info.result in
     gathers_next (λ (info : ℕ × InfoValue). flat_map (lookups_of (provisions c.args.modules.now) info.0 info.1.target) info.1.modules) infos i value [] _ _ (slice_get_read infos _ i value refl c.loop-info-test.true c.index-infos-info.is) c.loop-info.invariant c.in_ok-add_info.ensures
 
 pub returns : goal.returns
-returns g c = record {
+returns c = record {
   same =
       let t = c.args.modules.now in
       c.loop-info.invariant

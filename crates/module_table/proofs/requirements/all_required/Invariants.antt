@@ -6,4 +6,4 @@ use Rattle.module_table.specs.inner.Found.{looked_up, lookups_of}
 use Rattle.module_table.proofs.requirements.all_required.Given as goal
 
 abbrev pub invariant-loop-info : goal.invariant-loop-info
-invariant-loop-info g l = map looked_up l.all.items ≡ flat_map (λ (info : ℕ × InfoValue). flat_map (lookups_of (provisions l.modules) info.0 info.1.target) info.1.modules) (enumerate_from 0 (take l.info l.infos))
+invariant-loop-info l = map looked_up l.all.items ≡ flat_map (λ (info : ℕ × InfoValue). flat_map (lookups_of (provisions l.modules) info.0 info.1.target) info.1.modules) (enumerate_from 0 (take l.info l.infos))

@@ -15,7 +15,7 @@ use Rattle.module_table.proofs.ReportLemmas.{for_fault}
 use Rattle.module_table.proofs.checks.privacy.check_infos_allowed.Goals as goal
 
 pub requires_private-requires-clause-private : goal.requires_private-requires-clause-private
-requires_private-requires-clause-private g c =
+requires_private-requires-clause-private c =
     let t = c.args.modules.now in
     let ps = provisions t in
     let all = c.args.all.now in
@@ -29,7 +29,7 @@ requires_private-requires-clause-private g c =
     (by.0, by.1, by.2, by.3)
 
 pub returns-then-not-is_allowed-clause-fault : goal.returns-then-not-is_allowed-clause-fault
-returns-then-not-is_allowed-clause-fault g c =
+returns-then-not-is_allowed-clause-fault c =
     let t = c.args.modules.now in
     let ps = provisions t in
     let all = c.args.all.now in
@@ -45,7 +45,7 @@ returns-then-not-is_allowed-clause-fault g c =
     c.requires_private.ensures
 
 pub loop-required-preserved : goal.loop-required-preserved
-loop-required-preserved g c =
+loop-required-preserved c =
     let t = c.args.modules.now in
     let ps = provisions t in
     let all = c.args.all.now in
@@ -59,7 +59,7 @@ loop-required-preserved g c =
     accepts_next (IsAllowed ps) (IsNotAllowed ps) (info_requirements t) i r there c.loop-required.invariant by
 
 pub returns-clause-ok : goal.returns-clause-ok
-returns-clause-ok g c =
+returns-clause-ok c =
     let t = c.args.modules.now in
     let long = sym (length_mapped looked_up c.args.all.now) ∙ ap length c.requires.all.same ∙ length_mapped (with_module (provisions t)) (info_requirements t) in
     let all : length (info_requirements t) ≤ c.loop-required.required-index = omega (arith, c.loop-required-test.false, long) in

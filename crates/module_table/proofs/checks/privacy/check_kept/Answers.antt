@@ -11,7 +11,7 @@ use Rattle.module_table.proofs.ReportLemmas.{for_boxed}
 use Rattle.module_table.proofs.checks.privacy.check_kept.Goals as goal
 
 pub returns-then-not-is_by_object-clause-fault : goal.returns-then-not-is_by_object-clause-fault
-returns-then-not-is_by_object-clause-fault g c =
+returns-then-not-is_by_object-clause-fault c =
     let t = c.args.modules.now in
     let ps = provisions t in
     let kept = c.args.kept.now in
@@ -24,7 +24,7 @@ returns-then-not-is_by_object-clause-fault g c =
     c.failure_of.ensures
 
 pub loop-name-preserved : goal.loop-name-preserved
-loop-name-preserved g c =
+loop-name-preserved c =
     let ps = provisions c.args.modules.now in
     let kept = c.args.kept.now in
     let i = c.loop-name.name-index in

@@ -4,4 +4,4 @@ use Rattle.module_table.specs.inner.Finds.{IsByObject, AcceptsAll}
 use Rattle.module_table.proofs.checks.privacy.check_kept.Given as goal
 
 abbrev pub invariant-loop-name : goal.invariant-loop-name
-invariant-loop-name g l = AcceptsAll (IsByObject (provisions l.modules)) (take l.name-index l.kept)
+invariant-loop-name l = AcceptsAll (IsByObject (provisions l.modules)) (take l.name-index l.kept)

@@ -33,7 +33,7 @@ private_in t vectors is differ i row at k slice same first =
     (found.x, rule.0, name.0, found.here, rule.1, name.1, name.2, row_private ps differ row.items rule.0.required rule.2 k found name.0 name.1)
 
 pub index-requires : goal.index-requires
-index-requires g c =
+index-requires c =
     let i = c.loop-object.object in
     let k = c.in-Some.index in
     let row = c.index-required-object.result in
@@ -43,7 +43,7 @@ index-requires g c =
     omega (arith, within, row.ok.0)
 
 pub name_at-name-requires : goal.name_at-name-requires
-name_at-name-requires g c =
+name_at-name-requires c =
     let ps = provisions c.args.modules.now in
     let i = c.loop-object.object in
     let k = c.in-Some.index in
@@ -56,7 +56,7 @@ name_at-name-requires g c =
     omega (arith, within, long, same)
 
 pub requires_private-requires-clause-private : goal.requires_private-requires-clause-private
-requires_private-requires-clause-private g c =
+requires_private-requires-clause-private c =
     let ps = provisions c.args.modules.now in
     let i = c.loop-object.object in
     let k = c.in-Some.index in
@@ -68,7 +68,7 @@ requires_private-requires-clause-private g c =
     subst (IsPrivate ps) (same_some _ _ (sym p.7.here ∙ p.5) ∙ name) p.7.refused
 
 pub returns-in-Some-clause-fault : goal.returns-in-Some-clause-fault
-returns-in-Some-clause-fault g c =
+returns-in-Some-clause-fault c =
     let t = c.args.modules.now in
     let i = c.loop-object.object in
     let k = c.in-Some.index in
@@ -82,7 +82,7 @@ returns-in-Some-clause-fault g c =
     c.requires_private.ensures
 
 pub loop-object-preserved : goal.loop-object-preserved
-loop-object-preserved g c =
+loop-object-preserved c =
     let t = c.args.modules.now in
     let ps = provisions t in
     let i = c.loop-object.object in
@@ -95,7 +95,7 @@ loop-object-preserved g c =
     (row_public ps differ row.items rule.0.required rule.2 found)
 
 pub returns-clause-ok : goal.returns-clause-ok
-returns-clause-ok g c =
+returns-clause-ok c =
     let t = c.args.modules.now in
     let many = many_rows t (rows c.args.required.now) c.requires in
     let long = length_mapped items_of c.args.required.now in

@@ -4,4 +4,4 @@ use Rattle.module_table.specs.inner.Finds.{RequiresPublic, AcceptsAll}
 use Rattle.module_table.proofs.checks.privacy.check_objects_allowed.Given as goal
 
 abbrev pub invariant-loop-object : goal.invariant-loop-object
-invariant-loop-object g l = AcceptsAll (RequiresPublic (provisions l.modules)) (take l.object l.modules.objects)
+invariant-loop-object l = AcceptsAll (RequiresPublic (provisions l.modules)) (take l.object l.modules.objects)

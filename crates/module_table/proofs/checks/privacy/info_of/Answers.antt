@@ -7,7 +7,7 @@ use Rattle.module_table.proofs.Found.{found_named, none_named}
 use Rattle.module_table.proofs.checks.privacy.info_of.Goals as goal
 
 pub unreachable-requires : goal.unreachable-requires
-unreachable-requires g c =
+unreachable-requires c =
     let t = c.args.modules.now in
     let f = found_named (provisions t) c.args.name.now (provision_of c.in-Some.module.now) (sym c.in-Some.ensures) in
     let h = info_of_private (provisions t) c.requires.differ (private_by_infos t) c.args.name.now c.requires.private f.0 (provision_of c.in-Some.module.now) f.1 in
@@ -15,12 +15,12 @@ unreachable-requires g c =
     cc
 
 pub unreachable-requires-in-None : goal.unreachable-requires-in-None
-unreachable-requires-in-None g c =
+unreachable-requires-in-None c =
     let p = c.requires.private in
     none_named (provisions c.args.modules.now) c.args.name.now (sym c.in-None.ensures) p.0 p.1 p.2
 
 pub returns : goal.returns
-returns g c =
+returns c =
     let t = c.args.modules.now in
     let f = found_named (provisions t) c.args.name.now (provision_of c.in-Some.module.now) (sym c.in-Some.ensures) in
     let h = info_of_private (provisions t) c.requires.differ (private_by_infos t) c.args.name.now c.requires.private f.0 (provision_of c.in-Some.module.now) f.1 in

@@ -24,7 +24,7 @@ file_at paths provided i p at =
     (in_second (map text_of paths) (files_of (map provision_of provided)) i p.file.now (to_map (λ (q : Provision). q.file) (map provision_of provided) i (provision_of p) (to_map provision_of provided i p at)))
 
 pub loop-index-init : goal.loop-index-init
-loop-index-init g c =
+loop-index-init c =
     let paths = c.args.files.now.keys in
     let none = first_files paths (files_of (map provision_of c.args.provided.now)) 0 ∙ append-nil (map text_of paths) in
     record {
@@ -33,7 +33,7 @@ loop-index-init g c =
     }
 
 pub returns-then-not-is_new-clause-some : goal.returns-then-not-is_new-clause-some
-returns-then-not-is_new-clause-some g c =
+returns-then-not-is_new-clause-some c =
     let paths = c.args.files.now.keys in
     let provided = c.args.provided.now in
     let i = c.loop-index.index in
@@ -44,7 +44,7 @@ returns-then-not-is_new-clause-some g c =
     (file_at paths provided i p (slice_get_read provided _ i p refl c.loop-index-test.true c.index-provided-index.is)) c.loop-index.invariant.same c.loop-index.invariant.differ h.keys c.in_ok-first.first (sym c.if-not-is_new.true ∙ h.added) stored.0 stored.1 stored.2
 
 pub loop-index-preserved : goal.loop-index-preserved
-loop-index-preserved g c =
+loop-index-preserved c =
     let paths = c.args.files.now.keys in
     let provided = c.args.provided.now in
     let i = c.loop-index.index in
@@ -60,7 +60,7 @@ loop-index-preserved g c =
     }
 
 pub returns-clause-none : goal.returns-clause-none
-returns-clause-none g c =
+returns-clause-none c =
     let paths = c.args.files.now.keys in
     let provided = c.args.provided.now in
     let files = files_of (map provision_of provided) in

@@ -21,13 +21,13 @@ name_at : (provided : List Module) (place : ℕ) (p : Module) → slice_get prov
 name_at provided place p at name same = to_map name_of (map provision_of provided) place (provision_of p) (to_map provision_of provided place p at) ∙ ap (λ n. Some n) (sym same)
 
 pub loop-index-init : goal.loop-index-init
-loop-index-init g c = record {
+loop-index-init c = record {
   same = c.in_ok-reserve.ensures.keys ∙ c.requires;
   differ = record { differ = λ i j x lt at again. cc };
 }
 
 pub provided_twice-requires-clause-first : goal.provided_twice-requires-clause-first
-provided_twice-requires-clause-first g c =
+provided_twice-requires-clause-first c =
     let list = map provision_of c.args.provided.now in
     let i = c.loop-index.index in
     let at = name_at c.args.provided.now i c.index-provided-index.result (slice_get_read c.args.provided.now _ i c.index-provided-index.result refl c.loop-index-test.true c.index-provided-index.is) c.in_ok-name.name c.in_ok-name.ensures in
@@ -39,7 +39,7 @@ provided_twice-requires-clause-first g c =
     omega (arith, earlier, c.loop-index-test.true)
 
 pub returns-then-not-is_new-clause-fault : goal.returns-then-not-is_new-clause-fault
-returns-then-not-is_new-clause-fault g c =
+returns-then-not-is_new-clause-fault c =
     let list = map provision_of c.args.provided.now in
     let i = c.loop-index.index in
     let first = c.in_ok-first.first in
@@ -52,7 +52,7 @@ returns-then-not-is_new-clause-fault g c =
     (λ fault is t kept same. reports_provided_twice t kept first i fault.value list same repeated is) c.provided_twice.ensures
 
 pub loop-index-preserved : goal.loop-index-preserved
-loop-index-preserved g c =
+loop-index-preserved c =
     let list = map provision_of c.args.provided.now in
     let at = name_at c.args.provided.now c.loop-index.index c.index-provided-index.result (slice_get_read c.args.provided.now _ c.loop-index.index c.index-provided-index.result refl c.loop-index-test.true c.index-provided-index.is) c.in_ok-name.name c.in_ok-name.ensures in
     let before = map_same c.loop-index.names.keys ∙ c.loop-index.invariant.same in
@@ -63,11 +63,11 @@ loop-index-preserved g c =
     }
 
 pub returns-clause-names : goal.returns-clause-names
-returns-clause-names g c =
+returns-clause-names c =
     let list = map provision_of c.args.provided.now in
     let long = length_mapped name_of list ∙ length_mapped provision_of c.args.provided.now in
     let all : length (names_of list) ≤ c.loop-index.index = omega (arith, c.loop-index-test.false, long) in
     c.loop-index.invariant.same ∙ take_all (names_of list) c.loop-index.index all
 
 pub returns-clause-differ : goal.returns-clause-differ
-returns-clause-differ g c = subst AllDiffer (sym c.loop-index.invariant.same) c.loop-index.invariant.differ
+returns-clause-differ c = subst AllDiffer (sym c.loop-index.invariant.same) c.loop-index.invariant.differ

@@ -18,13 +18,13 @@ abbrev target_of : InfoValue → List ℕ
 target_of info = info.target
 
 pub loop-info-init : goal.loop-info-init
-loop-info-init g c = record {
+loop-info-init c = record {
   same = ap (map text_of) (c.in_ok-reserve.ensures.keys ∙ c.requires);
   differ = record { differ = λ i j x lt at again. cc };
 }
 
 pub returns-then-not-is_new-clause-fault : goal.returns-then-not-is_new-clause-fault
-returns-then-not-is_new-clause-fault g c =
+returns-then-not-is_new-clause-fault c =
     let infos = c.args.infos.now in
     let i = c.loop-info.info-index in
     let first = c.in_ok-is_new.field-0-0 in
@@ -39,7 +39,7 @@ returns-then-not-is_new-clause-fault g c =
     c.failure_of.ensures
 
 pub loop-info-preserved : goal.loop-info-preserved
-loop-info-preserved g c =
+loop-info-preserved c =
     let infos = c.args.infos.now in
     let i = c.loop-info.info-index in
     let info = c.info-item.result in
@@ -52,4 +52,4 @@ loop-info-preserved g c =
     }
 
 pub returns-clause-ok : goal.returns-clause-ok
-returns-clause-ok g c = subst AllDiffer (map_take_all target_of c.args.infos.now c.loop-info.info-index c.loop-info-test.false) c.loop-info.invariant.differ
+returns-clause-ok c = subst AllDiffer (map_take_all target_of c.args.infos.now c.loop-info.info-index c.loop-info-test.false) c.loop-info.invariant.differ

@@ -31,10 +31,10 @@ as_many : (paths : List (Bor (List ℕ))) (objects : List RuleValue) → map tex
 as_many paths objects same = sym (length_mapped text_of paths) ∙ ap length same ∙ length_mapped object_of objects
 
 pub add_files-requires : goal.add_files-requires
-add_files-requires g c = subst AllDiffer (sym c.requires.paths) c.requires.differ
+add_files-requires c = subst AllDiffer (sym c.requires.paths) c.requires.differ
 
 pub made_twice-requires-clause-first : goal.made_twice-requires-clause-first
-made_twice-requires-clause-first g c =
+made_twice-requires-clause-first c =
     let paths = c.args.files.now.keys in
     let provided = c.provided-provided.result.now in
     let twice = c.in-Some.twice in
@@ -46,7 +46,7 @@ made_twice-requires-clause-first g c =
     omega (arith, earlier, within, many, objects)
 
 pub made_twice-requires-clause-module_index : goal.made_twice-requires-clause-module_index
-made_twice-requires-clause-module_index g c =
+made_twice-requires-clause-module_index c =
     let paths = c.args.files.now.keys in
     let provided = c.provided-provided.result.now in
     let twice = c.in-Some.twice in
@@ -54,7 +54,7 @@ made_twice-requires-clause-module_index g c =
     module_within paths provided twice.0 twice.1 r
 
 pub returns-in-Some-clause-fault : goal.returns-in-Some-clause-fault
-returns-in-Some-clause-fault g c =
+returns-in-Some-clause-fault c =
     let t = c.args.modules.now in
     let paths = c.args.files.now.keys in
     let provided = c.provided-provided.result.now in
@@ -71,7 +71,7 @@ returns-in-Some-clause-fault g c =
     c.made_twice.ensures
 
 pub returns-in-None-clause-ok : goal.returns-in-None-clause-ok
-returns-in-None-clause-ok g c =
+returns-in-None-clause-ok c =
     let t = c.args.modules.now in
     let paths = c.args.files.now.keys in
     let provided = c.provided-provided.result.now in

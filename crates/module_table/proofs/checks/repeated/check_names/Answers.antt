@@ -8,7 +8,7 @@ use Rattle.module_table.specs.declared.fault.TableFault.{TableFault}
 use Rattle.module_table.proofs.checks.repeated.check_names.Goals as goal
 
 pub returns-in_err-add_names-clause-fault : goal.returns-in_err-add_names-clause-fault
-returns-in_err-add_names-clause-fault g c =
+returns-in_err-add_names-clause-fault c =
     let t : TableValue = record { objects = c.args.objects.now; infos = c.args.infos.now } in
     let same = ap (map provision_of) c.as_slice.ensures.value ∙ c.in_ok-provided.ensures.provisions in
     let p = err_from_is_err_and c.from_residual-in_err-add_names.result c.from_residual-in_err-add_names.ensures.1 in

@@ -19,13 +19,13 @@ abbrev object_of : RuleValue → List ℕ
 object_of rule = rule.object
 
 pub loop-index-init : goal.loop-index-init
-loop-index-init g c = record {
+loop-index-init c = record {
   same = ap (map text_of) (c.in_ok-reserve.ensures.keys ∙ c.requires);
   differ = record { differ = λ i j x lt at again. cc };
 }
 
 pub returns-then-not-is_new-clause-fault : goal.returns-then-not-is_new-clause-fault
-returns-then-not-is_new-clause-fault g c =
+returns-then-not-is_new-clause-fault c =
     let objects = c.args.objects.now in
     let i = c.loop-index.index in
     let first = c.in_ok-first.first in
@@ -40,7 +40,7 @@ returns-then-not-is_new-clause-fault g c =
     c.failure_of.ensures
 
 pub loop-index-preserved : goal.loop-index-preserved
-loop-index-preserved g c =
+loop-index-preserved c =
     let objects = c.args.objects.now in
     let i = c.loop-index.index in
     let rule = c.index-objects-index.result in
@@ -53,7 +53,7 @@ loop-index-preserved g c =
     }
 
 pub returns-clause-paths : goal.returns-clause-paths
-returns-clause-paths g c = c.loop-index.invariant.same ∙ map_take_all object_of c.args.objects.now c.loop-index.index c.loop-index-test.false
+returns-clause-paths c = c.loop-index.invariant.same ∙ map_take_all object_of c.args.objects.now c.loop-index.index c.loop-index-test.false
 
 pub returns-clause-differ : goal.returns-clause-differ
-returns-clause-differ g c = subst AllDiffer (map_take_all object_of c.args.objects.now c.loop-index.index c.loop-index-test.false) c.loop-index.invariant.differ
+returns-clause-differ c = subst AllDiffer (map_take_all object_of c.args.objects.now c.loop-index.index c.loop-index-test.false) c.loop-index.invariant.differ

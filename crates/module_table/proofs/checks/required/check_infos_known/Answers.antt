@@ -16,7 +16,7 @@ use Rattle.module_table.proofs.ReportLemmas.{for_boxed}
 use Rattle.module_table.proofs.checks.required.check_infos_known.Goals as goal
 
 pub returns-then-not-is_by_info-clause-fault : goal.returns-then-not-is_by_info-clause-fault
-returns-then-not-is_by_info-clause-fault g c =
+returns-then-not-is_by_info-clause-fault c =
     let t = c.args.modules.now in
     let ps = provisions t in
     let all = c.args.all.now in
@@ -36,7 +36,7 @@ returns-then-not-is_by_info-clause-fault g c =
     c.failure_of.ensures
 
 pub loop-required-preserved : goal.loop-required-preserved
-loop-required-preserved g c =
+loop-required-preserved c =
     let t = c.args.modules.now in
     let ps = provisions t in
     let all = c.args.all.now in
@@ -50,7 +50,7 @@ loop-required-preserved g c =
     accepts_next (IsByInfo ps) (IsNotByInfo ps) (info_requirements t) i r there c.loop-required.invariant by
 
 pub returns-clause-ok : goal.returns-clause-ok
-returns-clause-ok g c =
+returns-clause-ok c =
     let t = c.args.modules.now in
     let long = sym (length_mapped looked_up c.args.all.now) ∙ ap length c.requires.same ∙ length_mapped (with_module (provisions t)) (info_requirements t) in
     let all : length (info_requirements t) ≤ c.loop-required.required-index = omega (arith, c.loop-required-test.false, long) in

@@ -12,10 +12,10 @@ use Rattle.module_table.proofs.checks.required.check_objects_known.Goals as goal
 use Rattle.ninja_text.proofs.ForCallers.{take_next}
 
 pub loop-object-init : goal.loop-object-init
-loop-object-init g c = ap (map (λ (row : Vec ℕ Global). map (slice_get c.names-names.result.now.keys) row.items)) c.in_ok-required.ensures.items
+loop-object-init c = ap (map (λ (row : Vec ℕ Global). map (slice_get c.names-names.result.now.keys) row.items)) c.in_ok-required.ensures.items
 
 pub returns-in_err-row-clause-fault : goal.returns-in_err-row-clause-fault
-returns-in_err-row-clause-fault g c =
+returns-in_err-row-clause-fault c =
     let p = err_from_is_err_and c.from_residual-in_err-row.result c.from_residual-in_err-row.ensures.1 in
     let objects = c.objects-objects.result.now in
     let at = slice_get_read objects _ c.loop-object.object c.index-objects-object.result refl c.loop-object-test.true c.index-objects-object.is in
@@ -25,7 +25,7 @@ returns-in_err-row-clause-fault g c =
     c.in_err-row.ensures.fault)
 
 pub loop-object-preserved : goal.loop-object-preserved
-loop-object-preserved g c =
+loop-object-preserved c =
     let keys = c.names-names.result.now.keys in
     let objects = c.objects-objects.result.now in
     let i = c.loop-object.object in
@@ -34,7 +34,7 @@ loop-object-preserved g c =
     pushes_next (λ (row : Vec ℕ Global). map (slice_get keys) row.items) (λ (rule : RuleValue). map (λ name. Some name) rule.required) (take i objects) (take (i + 1) objects) rule [] _ _ _ (take_next objects i rule at) c.loop-object.invariant c.in_ok-push.ensures.items c.in_ok-row.ensures.ok
 
 pub returns-clause-ok : goal.returns-clause-ok
-returns-clause-ok g c =
+returns-clause-ok c =
     let objects = c.objects-objects.result.now in
     are_indexes c.args.modules.now c.names-names.result.now.keys c.loop-object.required.items c.names-names.ensures
     (c.loop-object.invariant ∙ ap (map (λ (rule : RuleValue). map (λ name. Some name) rule.required)) (take_all objects c.loop-object.object c.loop-object-test.false ∙ c.objects-objects.ensures))

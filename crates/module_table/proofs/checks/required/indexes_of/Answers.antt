@@ -10,10 +10,10 @@ use Rattle.module_table.proofs.checks.required.indexes_of.Goals as goal
 use Rattle.ninja_text.proofs.ForCallers.{in_take, take_next}
 
 pub loop-required-init : goal.loop-required-init
-loop-required-init g c = ap (map (slice_get c.args.names.now.keys)) c.in_ok-row.ensures.items
+loop-required-init c = ap (map (slice_get c.args.names.now.keys)) c.in_ok-row.ensures.items
 
 pub returns-in_err-index-clause-fault : goal.returns-in_err-index-clause-fault
-returns-in_err-index-clause-fault g c =
+returns-in_err-index-clause-fault c =
     let keys = c.args.names.now.keys in
     let required = c.args.rule.now.required in
     let i = c.loop-required.required-index in
@@ -33,7 +33,7 @@ returns-in_err-index-clause-fault g c =
     )) c.in_err-index.ensures.fault)
 
 pub loop-required-preserved : goal.loop-required-preserved
-loop-required-preserved g c =
+loop-required-preserved c =
     let required = c.args.rule.now.required in
     let i = c.loop-required.required-index in
     let name = c.required-item.result in
@@ -42,7 +42,7 @@ loop-required-preserved g c =
     pushes_next (slice_get c.args.names.now.keys) (λ (n : List ℕ). Some n) (take i required) (take (i + 1) required) name [] _ _ _ (take_next required i name at) c.loop-required.invariant c.in_ok-push.ensures.items c.in_ok-index.ensures.ok
 
 pub returns-clause-ok : goal.returns-clause-ok
-returns-clause-ok g c =
+returns-clause-ok c =
     let required = c.args.rule.now.required in
     let list : c.deref-required-items.result.now ≡ required = c.deref-required-items.ensures.value ∙ ap (λ (r : RuleValue). r.required) c.rule.view_is in
     let all : length required ≤ c.loop-required.required-index = omega (arith, c.loop-required-test.false, ap length list) in

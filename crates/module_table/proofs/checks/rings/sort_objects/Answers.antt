@@ -11,14 +11,14 @@ use Rattle.module_table.proofs.Rings.{sorting_of, are_nodes}
 use Rattle.module_table.proofs.checks.rings.sort_objects.Goals as goal
 
 pub new-graph-requires : goal.new-graph-requires
-new-graph-requires g c =
+new-graph-requires c =
     let t = c.args.modules.now in
     let required = rows c.args.required.now in
     let made = c.in_ok-needs.ensures ∙ ap (λ ps. map (filter_map (maker_at ps)) required) c.provided.ensures.provisions in
     subst NeedsAreNodes (sym made) (are_nodes t (provisions t) required (numbered t required c.provided.ensures.differ c.requires))
 
 pub returns : goal.returns
-returns g c =
+returns c =
     let t = c.args.modules.now in
     let required = rows c.args.required.now in
     let graph = c.new-graph.result in

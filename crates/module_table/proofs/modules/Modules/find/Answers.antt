@@ -10,7 +10,7 @@ use Rattle.module_table.proofs.modules.Modules.find.Goals as goal
 use Rattle.ninja_text.proofs.ForCallers.{same_some, to_map}
 
 pub module_at-requires : goal.module_at-requires
-module_at-requires g c =
+module_at-requires c =
     let t : TableValue = record { objects = c.self.inside.objects.now; infos = c.self.inside.infos.now } in
     let same = ap (map provision_of) c.as_slice.ensures.value ∙ c.self.invariant.0 in
     let inside = slice_get_within c.self.inside.names.keys c.in-Some.index c.args.name.now c.in-Some.ensures.found in
@@ -20,7 +20,7 @@ module_at-requires g c =
     omega (arith, inside, named, long, as_long)
 
 pub returns-in-Some : goal.returns-in-Some
-returns-in-Some g c =
+returns-in-Some c =
     let t : TableValue = record { objects = c.self.inside.objects.now; infos = c.self.inside.infos.now } in
     let ps = provisions t in
     let k = c.in-Some.index in
@@ -31,7 +31,7 @@ returns-in-Some g c =
     (sym (named_found ps c.args.name.now c.self.invariant.3 k _ (at, named_so)))
 
 pub returns-in-None : goal.returns-in-None
-returns-in-None g c =
+returns-in-None c =
     let t : TableValue = record { objects = c.self.inside.objects.now; infos = c.self.inside.infos.now } in
     subst (λ (u : TableValue). None ≡ found (provisions u) c.args.name.now) c.self.view_is
     (sym (absent_found (provisions t) c.args.name.now (subst (λ keys. IsAbsent keys c.args.name.now) c.self.invariant.2 c.in-None.ensures.none)))

@@ -1,11 +1,24 @@
+use Rattle.std.proofs.Common.{◌≡◌, Result, Ok, Err, IfOk, MatchResult, is_ok, subst, sym}
 use Rattle.module_table.proofs.table.Table.build.Goals as goal
 
--- said here, so that `no_module_private_to_the_target` is refused soon
+-- an error in another's place leaves what is told of a success
+with_other_error : {A E D : Type 0} (P : A → Type 0) (Q : E → Type 0) (r : Result A E) (s : Result A D) → MatchResult r (λ x. s ≡ Ok x) Q → is_ok s ≡ is_ok r → IfOk r P → IfOk s P
+with_other_error P Q (Ok x) s h same p = subst (λ t. IfOk t P) (sym h) p
+with_other_error P Q (Err e) (Ok x) h same p = absurd cc
+with_other_error P Q (Err e) (Err d) h same p = tt
+
 pub returns-clause-kept : goal.returns-clause-kept
-returns-clause-kept c = c.build_with_hasher.ensures.kept
+returns-clause-kept c =
+    with_other_error _ _ c.build_or_refused.result c.map_err.result c.map_err.ensures.cases c.map_err.ensures.variant c.build_or_refused.ensures.kept
+
+pub returns-clause-table : goal.returns-clause-table
+returns-clause-table c =
+    with_other_error _ _ c.build_or_refused.result c.map_err.result c.map_err.ensures.cases c.map_err.ensures.variant c.build_or_refused.ensures.table
+
+pub returns-clause-sound : goal.returns-clause-sound
+returns-clause-sound c =
+    with_other_error _ _ c.build_or_refused.result c.map_err.result c.map_err.ensures.cases c.map_err.ensures.variant c.build_or_refused.ensures.sound
 
 pub returns-clause-no_fault : goal.returns-clause-no_fault
-returns-clause-no_fault c = c.build_with_hasher.ensures.no_fault
-
-pub returns-clause-fault : goal.returns-clause-fault
-returns-clause-fault c = c.build_with_hasher.ensures.fault
+returns-clause-no_fault c =
+    with_other_error _ _ c.build_or_refused.result c.map_err.result c.map_err.ensures.cases c.map_err.ensures.variant c.build_or_refused.ensures.no_fault

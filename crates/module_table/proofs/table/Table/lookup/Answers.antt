@@ -9,13 +9,13 @@ use Rattle.module_table.proofs.ModulePlaces.{within_places, found_there, provide
 use Rattle.module_table.proofs.table.Table.lookup.Goals as goal
 
 pub index-origin-requires : goal.index-origin-requires
-index-origin-requires g c =
+index-origin-requires c =
     let t : TableValue = c.self.inside.resolved in
     let within = within_places t c.self.inside.names.keys c.self.inside.origins.items c.self.invariant.0 c.self.invariant.1 c.in-Some.index c.args.name.now c.in-Some.ensures.found in
     omega (arith, c.self.inside.origins.ok.0)
 
 pub named_at-requires : goal.named_at-requires
-named_at-requires g c =
+named_at-requires c =
     let t : TableValue = c.self.inside.resolved in
     let names = c.self.inside.names.keys in
     let origins = c.self.inside.origins.items in
@@ -28,7 +28,7 @@ named_at-requires g c =
     (name, found.0, same_place t.objects c.objects.result.now t.infos c.infos.result.now origin (name, found.0) (sym c.objects.ensures.objects) (sym c.infos.ensures) found.1)
 
 pub returns-in-Some-clause-found : goal.returns-in-Some-clause-found
-returns-in-Some-clause-found g c =
+returns-in-Some-clause-found c =
     let t : TableValue = c.self.inside.resolved in
     let names = c.self.inside.names.keys in
     let origins = c.self.inside.origins.items in
@@ -43,7 +43,7 @@ returns-in-Some-clause-found g c =
     (provided_there t names origins c.self.invariant.0 c.self.invariant.1 index name c.in-Some.ensures.found origin here pair named)
 
 pub returns-in-None-clause-none : goal.returns-in-None-clause-none
-returns-in-None-clause-none g c =
+returns-in-None-clause-none c =
     let t : TableValue = c.self.inside.resolved in
     subst (λ (s : TableValue). IsUnknown s c.args.name.now) c.self.view_is
     (absent_unknown t c.args.name.now (subst (λ names. IsAbsent names c.args.name.now) c.self.invariant.0 c.in-None.ensures.none))

@@ -8,14 +8,14 @@ use Rattle.module_table.proofs.IndexRows.{same_table}
 use Rattle.module_table.proofs.table.Table.needs.Goals as goal
 
 pub new-requires-clause-sound : goal.new-requires-clause-sound
-new-requires-clause-sound g c = subst IsSound (sym (same_table _ _ _ _ c.objects.ensures.objects c.infos.ensures)) c.objects.ensures.sound
+new-requires-clause-sound c = subst IsSound (sym (same_table _ _ _ _ c.objects.ensures.objects c.infos.ensures)) c.objects.ensures.sound
 
 pub new-requires-clause-graph : goal.new-requires-clause-graph
-new-requires-clause-graph g c = subst (λ (t : TableValue). IsModuleGraph t c.self.inside.graph) (sym (same_table _ _ _ _ c.objects.ensures.objects c.infos.ensures)) c.self.invariant.2
+new-requires-clause-graph c = subst (λ (t : TableValue). IsModuleGraph t c.self.inside.graph) (sym (same_table _ _ _ _ c.objects.ensures.objects c.infos.ensures)) c.self.invariant.2
 
 pub new-requires-clause-origins : goal.new-requires-clause-origins
-new-requires-clause-origins g c = c.deref.ensures.value ∙ c.self.invariant.1 ∙ ap origins_of (sym (same_table _ _ _ _ c.objects.ensures.objects c.infos.ensures))
+new-requires-clause-origins c = c.deref.ensures.value ∙ c.self.invariant.1 ∙ ap origins_of (sym (same_table _ _ _ _ c.objects.ensures.objects c.infos.ensures))
 
 pub returns : goal.returns
-returns g c =
+returns c =
     IfOk-weaker c.new.result _ _ (λ needs same. same ∙ same_table _ _ _ _ c.objects.ensures.objects c.infos.ensures ∙ c.self.view_is) c.new.ensures

@@ -7,7 +7,7 @@ abbrev provided_of : RuleValue → List (List ℕ × List ℕ)
 provided_of rule = rule.provided
 
 pub returns : goal.returns
-returns _ c = λ rule at.
+returns c = λ rule at.
     let objects : List RuleValue = c.self.inside.resolved.objects in
     let here : slice_get objects c.args.object ≡ Some rule = rw (← c.self.view_is) at at in
     c.deref.ensures.value ∙ ap provided_of c.rule.view_is
