@@ -18,7 +18,7 @@ TOP = Path(program.TOP)
 VERSION = (TOP / "VERSION").read_text().strip()
 NAME = f"dyncollate-{VERSION}-linux-x86_64"
 # what ./release takes from the commit, and what it needs itself
-SOURCES = ["CHANGELOG.md", "README.md", "docs", "examples", "install"]
+SOURCES = ["CHANGELOG.md", "README.md", "cmake", "docs", "examples", "install"]
 TOOLS = [".gitignore", "VERSION", "build", "crates.txt", "release"]
 EXAMPLE = "ninja_dyndep_version = 1\nbuild obj/b.o | mod/B.bmi: dyndep\n  restat = 1\n"
 HELLO = ("ninja_dyndep_version = 1\nbuild obj/main.o: dyndep | bmi/greet.pcm\n"
@@ -248,7 +248,8 @@ class Archive(unittest.TestCase):
         """It says what it puts where, also a second time, and takes away exactly that."""
         prefix = self.room / "a prefix"
         (prefix / "share/doc").mkdir(parents=True)
-        installed = [prefix / it for it in ("share/dyncollate/installed", "bin/dyncollate", "share/man/man1/dyncollate.1")]
+        installed = [prefix / it for it in ("share/dyncollate/installed", "bin/dyncollate", "bin/dyncollate-cmake",
+                                            "share/man/man1/dyncollate.1")]
         said = "".join(f"{it}\n" for it in installed)
         before = sorted(prefix.rglob("*"))
         for _ in range(2):
@@ -256,6 +257,7 @@ class Archive(unittest.TestCase):
         self.assertEqual(sorted(it for it in prefix.rglob("*") if it.is_file()), sorted(installed))
         self.assertEqual(call(prefix / "bin/dyncollate", "one", self.home / "examples/b.ddi", "mod", ".bmi"), (0, EXAMPLE, ""))
         self.assertEqual((prefix / "share/man/man1/dyncollate.1").read_bytes(), (self.home / "docs/dyncollate.1").read_bytes())
+        self.assertEqual(call(prefix / "bin/dyncollate-cmake", "--help"), call(self.home / "cmake/dyncollate-cmake", "--help"))
         status, out, err = call(self.home / "install", "--uninstall", prefix)
         self.assertEqual((status, err), (0, ""))
         self.assertEqual(sorted(prefix.rglob("*")), before)
