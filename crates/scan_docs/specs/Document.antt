@@ -3,7 +3,6 @@ use Rattle.std.specs.Prelude.{◌≡◌, ℕ, ◌≤◌, ◌<◌, List, length, 
 use Rattle.ninja_text.specs.Bytes.{Bytes}
 use Rattle.serde_json.specs.Data.{Data}
 use Rattle.serde_json.specs.Read.{read}
-use Rattle.scan_docs.specs.declared.document.TheConstants.{DOCUMENT_LIMIT}
 use Rattle.scan_docs.specs.declared.fault.DocFault.{DocFault}
 use Rattle.scan_docs.specs.declared.fault.DocFault.TheVariants.{NotJson, TooLarge}
 use Rattle.scan_docs.specs.declared.fault.Place.TheVariants as place
@@ -11,7 +10,7 @@ use Rattle.scan_docs.specs.Check.{Check, first_refusal}
 
 -- the longest document, in bytes
 abbrev pub document_limit : ℕ
-document_limit = DOCUMENT_LIMIT
+document_limit = 16777216
 
 -- the tree that the bytes are read as, by RFC 8259 as `serde_json` reads it
 abbrev pub IsTree : Bytes → Data → Type 0

@@ -2,11 +2,10 @@
 use Rattle.std.specs.Prelude.{◌≡◌, ℕ, [], ◌∷◌, length, count_by, Bool, true, not, ◌&&◌, ◌||◌, ◌==◌, nat_le, nat_lt, IsUtf8}
 use Rattle.std.specs.List.{list_all, list_any, slice_split}
 use Rattle.ninja_text.specs.Bytes.{Bytes, Text, Name, space, double_quote, dollar, single_quote, dot, slash, colon, equals_sign, backslash, vertical_bar, delete}
-use Rattle.scan_docs.specs.declared.name.TheConstants.{NAME_LIMIT}
 
 -- the longest name, in bytes
 abbrev pub name_limit : ℕ
-name_limit = NAME_LIMIT
+name_limit = 1024
 
 -- `.` and `:`
 abbrev pub is_separator : ℕ → Bool

@@ -6,7 +6,6 @@ use Rattle.scan_docs.specs.declared.fault.DocFault.TheVariants.{BadVersion, NoPr
 use Rattle.scan_docs.specs.declared.fault.Place.{Place}
 use Rattle.scan_docs.specs.declared.fault.Place.TheVariants as place
 use Rattle.scan_docs.specs.declared.member.Member.TheVariants as m
-use Rattle.scan_docs.specs.declared.scan_document.TheConstants.{COUNT_LIMIT}
 use Rattle.scan_docs.specs.Check.{Check, ◌otherwise◌, shape_check, path_checks, each_from}
 use Rattle.scan_docs.specs.Shape.{is_object, given, text, text_of, flag, entries, entries_of, whole_number, fits}
 use Rattle.scan_docs.specs.Name.{is_name}
@@ -14,7 +13,7 @@ use Rattle.scan_docs.specs.Scan.{SettingValue, object_of, module_file_of, is_uni
 
 -- the most rules of a document, and entries of one of a rule's lists
 abbrev pub count_limit : ℕ
-count_limit = COUNT_LIMIT
+count_limit = 65536
 
 -- the list has no more entries than one may have
 abbrev pub is_short : List Data → Bool
