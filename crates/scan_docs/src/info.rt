@@ -30,7 +30,7 @@ use std::marker::Model;
 
 /// A module that a target provides: its file, the modules that it requires, each with the file that
 /// it was found in, and whether it is private.
-#[derive(Drop)]
+#[derive(Clone, Drop)]
 pub struct InfoModule {
     pub name: Name,
     pub file: Path,
@@ -52,7 +52,7 @@ impl Model for InfoModule {
 }
 
 /// What a target tells the targets that link it.
-#[derive(Drop)]
+#[derive(Clone, Drop)]
 pub struct Info {
     pub target: TargetName,
     pub modules: Vec<InfoModule>,

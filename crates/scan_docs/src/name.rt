@@ -52,13 +52,20 @@ impl Name {
         if !is_name(text.as_bytes()) {
             return Ok(None);
         }
-        let shared = RcSlice::from_slice(alloc, text.as_bytes())?;
-        let name = Name {
+        let name = Name::with_own_text(alloc, text.as_bytes())?;
+        Ok(Some(name))
+    }
+
+    fn with_own_text(alloc: Global, text: &[u8]) -> Result<Name, AllocError>
+        requires { IsName text.now }
+        ensures { IfOk result (λ name. name ≡ text.now) }
+    {
+        let shared = RcSlice::from_slice(alloc, text)?;
+        Ok(Name {
             shared,
             start: 0,
             end: text.len(),
-        };
-        Ok(Some(name))
+        })
     }
 
     /// The text that the name was made of.
@@ -81,10 +88,28 @@ impl Name {
         &self.shared.as_slice()[self.start..self.end]
     }
 
-    /// The same name once more. It shares the text, as [`Path::copy`](ninja_text::Path::copy) does.
-    pub fn copy(&self, _alloc: Global) -> Result<Name, AllocError>
+    /// Returns a copy of the name. The copies share one string; if its reference count is full, the
+    /// copy gets a string of its own.
+    ///
+    /// # Errors
+    ///
+    /// Returns an error if an allocation fails.
+    pub fn copy(&self, alloc: Global) -> Result<Name, AllocError>
         ensures { IfOk result (λ copy. copy ≡ self.now) }
     {
+        match self.clone() {
+            Ok(name) => Ok(name),
+            Err(_) => Name::with_own_text(alloc, self.bytes()),
+        }
+    }
+}
+
+/// The clone shares the string and allocates nothing. It fails only if the reference count is full;
+/// [`Name::copy`] does not.
+impl Clone for Name {
+    ghost is_clone = { λ name clone. clone ≡ name };
+
+    fn clone(&self) -> Result<Name, AllocError> {
         let shared = self.shared.clone()?;
         Ok(Name {
             shared,

@@ -28,7 +28,7 @@ use std::marker::Model;
 
 /// A rule of a scan document: an object file, the modules that its source provides, each with its
 /// file, and the names of the modules that it requires, both in the order of the document.
-#[derive(Drop)]
+#[derive(Clone, Drop)]
 pub struct Rule {
     pub object: Path,
     pub provided: Vec<(Name, Path)>,

@@ -50,7 +50,11 @@ impl TargetName {
         self.text.as_str()
     }
 
-    /// The same name once more.
+    /// Returns a copy of the name.
+    ///
+    /// # Errors
+    ///
+    /// Returns an error if an allocation fails.
     pub fn copy(&self, alloc: Global) -> Result<TargetName, AllocError>
         ensures { IfOk result (λ copy. copy ≡ self.now) }
     {
@@ -70,6 +74,15 @@ fn has_printed_bytes(text: &[u8]) -> bool
     ensures { result ≡ list_all (λ b. nat_le 32 b && not (b == 127)) text.now }
 {
     text.iter().all(|b| *b >= 32 && *b != 127)
+}
+
+impl Clone for TargetName {
+    ghost is_clone = { λ name clone. clone ≡ name };
+
+    fn clone(&self) -> Result<TargetName, AllocError> {
+        let text = self.text.clone()?;
+        Ok(TargetName { text })
+    }
 }
 
 /// Two names are equal where their texts are.
