@@ -1,8 +1,8 @@
 -- What a document means is the value of the functions.
-use Rattle.std.proofs.Common.{◌≡◌, ℕ, List, [], ◌∷◌, map, Bool, false, Option, Some, Result, Ok, refl, sym, ap, ap₂, unwrap_or}
+use Rattle.std.proofs.Common.{◌≡◌, ℕ, List, [], ◌∷◌, map, Bool, false, Option, Some, None, Result, Ok, refl, sym, ap, ap₂, unwrap_or, ◌∙◌}
 use Rattle.std.specs.List.{AllZip}
 use Rattle.serde_json.specs.Data.{Data, null}
-use Rattle.ninja_text.specs.Paths.{path_of}
+use Rattle.ninja_text.specs.Paths.{path_of, placed}
 use Rattle.ninja_text.specs.declared.fault.PathFault.{PathFault}
 use Rattle.scan_docs.specs.declared.member.Member.TheVariants as m
 use Rattle.scan_docs.specs.declared.map_form.MapForm.{MapForm}
@@ -10,9 +10,9 @@ use Rattle.scan_docs.specs.Shape.{text, text_of, texts, entries_of}
 use Rattle.scan_docs.specs.Document.{IsTree}
 use Rattle.scan_docs.specs.Scan.{SettingValue, RuleValue, object_of, module_file_of, IsProvidedModule, IsRequired, IsRule, AreRules}
 use Rattle.scan_docs.specs.Info.{ModuleValue, InfoValue, has_visibility, privacy, IsRequirement, IsModule, IsInfo}
-use Rattle.scan_docs.specs.Target.{TargetDocumentValue, IsTarget}
+use Rattle.scan_docs.specs.Target.{TargetDocumentValue, IsTarget, build_dir}
 use Rattle.scan_docs.specs.Project.{ProjectValue, IsProject}
-use Rattle.scan_docs.specs.Values.{tree_of, accepted_path, provided_in, rule_in, rules_in, requirement_in, module_in, info_in, target_in, project_in}
+use Rattle.scan_docs.specs.Values.{tree_of, accepted_path, provided_in, rule_in, rules_in, requirement_in, module_in, info_in, setting_of, target_in, project_in}
 
 pub tree_is : (bytes : List ℕ) (d : Data) → IsTree bytes d → d ≡ tree_of bytes
 tree_is bytes d h = sym (ap (λ (o : Option Data). unwrap_or o null) h.1)
@@ -68,23 +68,30 @@ info_is d info h =
 
 -- ---- target documents
 
-together : (f : List ℕ → List ℕ → List ℕ → Option (List ℕ) → List (List ℕ) → List (List ℕ) → List (List ℕ) → List ℕ → List ℕ → Option MapForm → Option (List ℕ) → TargetDocumentValue) (x y : TargetDocumentValue)
-    → x.target ≡ y.target → x.module_dir ≡ y.module_dir → x.module_ext ≡ y.module_ext → x.build_dir ≡ y.build_dir → x.scans ≡ y.scans → x.linked ≡ y.linked
-    → x.kept ≡ y.kept → x.dyndep ≡ y.dyndep → x.info ≡ y.info → x.map_form ≡ y.map_form → x.edges ≡ y.edges
-    → f x.target x.module_dir x.module_ext x.build_dir x.scans x.linked x.kept x.dyndep x.info x.map_form x.edges
-    ≡ f y.target y.module_dir y.module_ext y.build_dir y.scans y.linked y.kept y.dyndep y.info y.map_form y.edges
-together f x y target module_dir module_ext build_dir scans linked kept dyndep info map_form edges = cc
+together : (f : List ℕ → SettingValue → List (List ℕ) → List (List ℕ) → List (List ℕ) → List ℕ → List ℕ → List ℕ → Option MapForm → Option (List ℕ) → Bool → TargetDocumentValue) (x y : TargetDocumentValue)
+    → x.target ≡ y.target → x.setting ≡ y.setting → x.scans ≡ y.scans → x.linked ≡ y.linked → x.kept ≡ y.kept
+    → x.dyndep ≡ y.dyndep → x.dyndep_path ≡ y.dyndep_path → x.info ≡ y.info → x.map_form ≡ y.map_form → x.edges ≡ y.edges → x.restat ≡ y.restat
+    → f x.target x.setting x.scans x.linked x.kept x.dyndep x.dyndep_path x.info x.map_form x.edges x.restat
+    ≡ f y.target y.setting y.scans y.linked y.kept y.dyndep y.dyndep_path y.info y.map_form y.edges y.restat
+together f x y target setting scans linked kept dyndep dyndep_path info map_form edges restat = cc
+
+setting_is : (d : Data) (s : SettingValue) → text m.ModuleDir d ≡ Some s.module_dir → text m.ModuleExt d ≡ Some s.module_ext → build_dir d ≡ s.build_dir → s ≡ setting_of d
+setting_is d s module_dir module_ext directory =
+    ap₂ (λ (a : List ℕ × List ℕ) b. record { module_dir = a.0; module_ext = a.1; build_dir = b })
+    (ap₂ (λ a b. (a, b)) (some_is (text m.ModuleDir d) s.module_dir [] module_dir) (some_is (text m.ModuleExt d) s.module_ext [] module_ext))
+    (sym directory)
 
 pub target_is : (d : Data) (t : TargetDocumentValue) → IsTarget d t → t ≡ target_in d
 target_is d t h =
-    together (λ a b c d e f g h i j k. record { target = a; module_dir = b; module_ext = c; build_dir = d; scans = e; linked = f; kept = g; dyndep = h; info = i; map_form = j; edges = k }) t (target_in d)
+    let dyndep = some_is (text m.Dyndep d) t.dyndep [] h.dyndep in
+    let placed_at = path_is (placed None t.setting.build_dir t.dyndep) t.dyndep_path h.dyndep_path in
+    together (λ a b c d e f g h i j k. record { target = a; setting = b; scans = c; linked = d; kept = e; dyndep = f; dyndep_path = g; info = h; map_form = i; edges = j; restat = k }) t (target_in d)
     (some_is (text m.Target d) t.target [] h.target)
-    (some_is (text m.ModuleDir d) t.module_dir [] h.module_dir)
-    (some_is (text m.ModuleExt d) t.module_ext [] h.module_ext)
-    (sym h.directory) (sym h.scans) (sym h.linked) (sym h.kept)
-    (some_is (text m.Dyndep d) t.dyndep [] h.dyndep)
+    (setting_is d t.setting h.module_dir h.module_ext h.directory)
+    (sym h.scans) (sym h.linked) (sym h.kept) dyndep
+    (placed_at ∙ ap₂ (λ build text. accepted_path (placed None build text)) (sym h.directory) dyndep)
     (some_is (text m.Info d) t.info [] h.info)
-    (sym h.form) (sym h.edges)
+    (sym h.form) (sym h.edges) (sym h.restat)
 
 -- ---- project documents
 

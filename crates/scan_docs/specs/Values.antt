@@ -1,17 +1,17 @@
 -- What accepted documents mean, as functions of their bytes. Of bytes that are refused they say
 -- nothing.
-use Rattle.std.specs.Prelude.{List, [], map, Bool, false, Option, unwrap_or, Result}
+use Rattle.std.specs.Prelude.{List, [], map, Bool, false, Option, None, unwrap_or, Result}
 use Rattle.std.specs.Result.{result_ok}
 use Rattle.ninja_text.specs.Bytes.{Bytes, PathText, Name}
 use Rattle.serde_json.specs.Data.{Data, null}
 use Rattle.serde_json.specs.Read.{read}
-use Rattle.ninja_text.specs.Paths.{path_of}
+use Rattle.ninja_text.specs.Paths.{path_of, placed}
 use Rattle.ninja_text.specs.declared.fault.PathFault.{PathFault}
 use Rattle.scan_docs.specs.declared.member.Member.TheVariants as m
 use Rattle.scan_docs.specs.Shape.{text, text_of, texts_of, entries_of}
 use Rattle.scan_docs.specs.Scan.{SettingValue, RuleValue, object_of, module_file_of}
 use Rattle.scan_docs.specs.Info.{ModuleValue, InfoValue, has_visibility, privacy}
-use Rattle.scan_docs.specs.Target.{TargetDocumentValue, build_dir, map_form}
+use Rattle.scan_docs.specs.Target.{TargetDocumentValue, build_dir, map_form, restat}
 use Rattle.scan_docs.specs.Project.{ProjectValue}
 
 -- the tree of the bytes; where they have none that of `null`, which has no members
@@ -72,20 +72,28 @@ info_of bytes = info_in (tree_of bytes)
 
 -- ---- target documents
 
+-- where a target's modules are compiled to, and where Ninja runs
+abbrev pub setting_of : Data → SettingValue
+setting_of d = record {
+  module_dir = text_of m.ModuleDir d;
+  module_ext = text_of m.ModuleExt d;
+  build_dir = build_dir d;
+}
+
 -- the members of a target
 abbrev pub target_in : Data → TargetDocumentValue
 target_in d = record {
   target = text_of m.Target d;
-  module_dir = text_of m.ModuleDir d;
-  module_ext = text_of m.ModuleExt d;
-  build_dir = build_dir d;
+  setting = setting_of d;
   scans = texts_of m.Scans d;
   linked = texts_of m.Linked d;
   kept = texts_of m.Private d;
   dyndep = text_of m.Dyndep d;
+  dyndep_path = accepted_path (placed None (build_dir d) (text_of m.Dyndep d));
   info = text_of m.Info d;
   map_form = map_form d;
   edges = text m.Edges d;
+  restat = restat d;
 }
 
 -- the members of a target document

@@ -37,6 +37,7 @@ pub enum Member {
     Info,
     Map,
     Edges,
+    Restat,
     Targets,
 }
 
@@ -78,6 +79,7 @@ impl Member {
             Member::Info => "info",
             Member::Map => "map",
             Member::Edges => "edges",
+            Member::Restat => "restat",
             Member::Targets => "targets",
         }
     }

@@ -1,17 +1,17 @@
 //! Target documents.
 
-ghost use Rattle.std.specs.Prelude.{◌≡◌, ◌++◌, Some, Ok, true, IfOk, IfErr, is_none, is_some, ◌||◌, map, string_bytes, option_map, option_copied};
+ghost use Rattle.std.specs.Prelude.{◌≡◌, ◌++◌, Some, None, Ok, true, IfOk, IfErr, is_none, is_some, ◌||◌, map, string_bytes, option_map};
 ghost use Rattle.std.specs.List.{list_all};
 ghost use Rattle.std.specs.Option.{ForSome};
 ghost use Rattle.ninja_text.specs.Failure.{ForFault};
-ghost use Rattle.ninja_text.specs.Paths.{is_rooted};
+ghost use Rattle.ninja_text.specs.Paths.{is_rooted, placed};
 ghost use Rattle.serde_json.specs.View.{view};
 ghost use Rattle.scan_docs.specs.Check.{◌otherwise◌, shape_check};
 ghost use Rattle.scan_docs.specs.inner.Reading.{Answers, Tests};
 ghost use Rattle.scan_docs.specs.Document.{IsAccepted, IsRefused, HasOneAnswer};
 ghost use Rattle.scan_docs.specs.Shape.{text, texts_of, given, fits};
 ghost use Rattle.scan_docs.specs.Name.{is_name};
-ghost use Rattle.scan_docs.specs.Target.{IsTarget, build_dir, map_form};
+ghost use Rattle.scan_docs.specs.Target.{IsTarget, build_dir, map_form, restat};
 ghost use Rattle.scan_docs.specs.TargetChecks.{name_checks, directory_checks, list_checks, kept_checks, dyndep_checks, file_checks, target_checks, info_check, map_check};
 ghost use Rattle.scan_docs.specs.Values.{spec_of};
 ghost use Rattle.scan_docs.specs.declared.member.Member.TheVariants as m;
@@ -30,56 +30,52 @@ use serde_json::Value;
 use std::alloc::Global;
 use std::marker::Model;
 
-/// The members of a target document. Texts are as in the document; only the build
-/// directory, which is absolute, is made canonical.
+/// The members of a target document. Strings are as in the document.
 #[derive(Drop)]
 pub struct TargetSpec {
     pub target: TargetName,
-    /// The directory that modules are compiled to, or an empty text.
-    pub module_dir: String,
-    /// What the name of a compiled module ends in.
-    pub module_ext: String,
-    /// The directory that Ninja runs in.
-    pub build_dir: Option<Path>,
+    /// Where modules are compiled to, and the directory that Ninja runs in: the members
+    /// `module-dir`, `module-ext` and `build-dir`.
+    pub setting: Setting,
     /// The scan documents.
     pub scans: Vec<String>,
     /// The info documents of the targets that this one links.
     pub linked: Vec<String>,
     /// The modules that the target keeps to itself: the member `private`.
     pub kept: Vec<Name>,
-    /// The dyndep file to be written, which is a path as Ninja sees it.
+    /// The dyndep file to be written.
     pub dyndep: String,
+    /// The path of the dyndep file as Ninja sees it: `dyndep` in `build-dir`.
+    pub dyndep_path: Path,
     /// The info document to be written.
     pub info: String,
     /// The form of the module maps, if maps are to be written.
     pub map: Option<MapForm>,
-    /// The listing of edges to be checked against, if there is one.
+    /// The edge list to be checked against, if there is one.
     pub edges: Option<String>,
+    /// Whether maps and info files that already have their bytes are left alone.
+    pub restat: bool,
 }
 
 impl Model for TargetSpec {
-    ghost use Rattle.std.specs.Prelude.{◌≡◌, true, map, option_map, string_bytes};
-    ghost use Rattle.std.specs.Option.{ForSome};
-    ghost use Rattle.ninja_text.specs.Paths.{is_rooted};
+    ghost use Rattle.std.specs.Prelude.{map, option_map, string_bytes};
     ghost use Rattle.scan_docs.specs.Target.{TargetDocumentValue};
 
     ghost Value = { TargetDocumentValue };
 
     ghost view = { λ t. record {
       target = t.target;
-      module_dir = string_bytes t.module_dir;
-      module_ext = string_bytes t.module_ext;
-      build_dir = t.build_dir;
+      setting = t.setting;
       scans = Rattle.std.specs.Prelude.map string_bytes t.scans.items;
       linked = Rattle.std.specs.Prelude.map string_bytes t.linked.items;
       kept = t.kept.items;
       dyndep = string_bytes t.dyndep;
+      dyndep_path = t.dyndep_path;
       info = string_bytes t.info;
       map_form = t.map;
       edges = option_map string_bytes t.edges;
+      restat = t.restat;
     } };
-
-    ghost invariant = { λ t. ForSome t.build_dir (λ path. is_rooted path ≡ true) };
 }
 
 /// The members of a target document, or the refusal of the first check that fails.
@@ -100,20 +96,21 @@ fn read_spec(alloc: Global, tree: &Value) -> Result<TargetSpec, Failure<DocFault
     read_version(tree, &[1])?;
     let target = read_target_name(alloc, tree)?;
     let setting = read_setting(alloc, tree)?;
-    let read = read_inputs(alloc, tree)?;
-    let written = read_outputs(alloc, tree, setting.build_dir.as_ref())?;
+    let (scans, linked, kept) = read_inputs(alloc, tree)?;
+    let (dyndep, dyndep_path) = read_dyndep(alloc, tree, &setting)?;
+    let (info, map, edges, restat) = read_outputs(alloc, tree)?;
     Ok(TargetSpec {
         target,
-        module_dir: setting.module_dir,
-        module_ext: setting.module_ext,
-        build_dir: setting.build_dir,
-        scans: read.scans,
-        linked: read.linked,
-        kept: read.kept,
-        dyndep: written.dyndep,
-        info: written.info,
-        map: written.map,
-        edges: written.edges,
+        setting,
+        scans,
+        linked,
+        kept,
+        dyndep,
+        dyndep_path,
+        info,
+        map,
+        edges,
+        restat,
     })
 }
 
@@ -166,29 +163,21 @@ fn read_build_dir(alloc: Global, tree: &Value) -> Result<Option<Path>, Failure<D
     }
 }
 
-/// The documents that are read, and the private modules.
-#[derive(Drop)]
-struct Inputs {
-    scans: Vec<String>,
-    linked: Vec<String>,
-    kept: Vec<Name>,
-}
-
+/// The members `scans`, `linked` and `private`.
 #[tactic(auto, unfolding(crate::specs::TargetChecks::list_checks))]
-fn read_inputs(alloc: Global, tree: &Value) -> Result<Inputs, Failure<DocFault>>
+fn read_inputs(
+    alloc: Global,
+    tree: &Value,
+) -> Result<(Vec<String>, Vec<String>, Vec<Name>), Failure<DocFault>>
     ensures { Answers (list_checks (view tree.now) ++ kept_checks (view tree.now))
-        (λ found. (texts_of m.Scans (view tree.now) ≡ map string_bytes found.scans.items)
-        × (texts_of m.Linked (view tree.now) ≡ map string_bytes found.linked.items)
-        × (texts_of m.Private (view tree.now) ≡ found.kept.items)) result }
+        (λ found. (texts_of m.Scans (view tree.now) ≡ map string_bytes found.0.items)
+        × (texts_of m.Linked (view tree.now) ≡ map string_bytes found.1.items)
+        × (texts_of m.Private (view tree.now) ≡ found.2.items)) result }
 {
     let scans = shape::texts(alloc, tree, Member::Scans, Place::Document)?;
     let linked = shape::texts(alloc, tree, Member::Linked, Place::Document)?;
     let kept = read_private(alloc, tree)?;
-    Ok(Inputs {
-        scans,
-        linked,
-        kept,
-    })
+    Ok((scans, linked, kept))
 }
 
 #[tactic(auto, unfolding(crate::specs::TargetChecks::kept_checks))]
@@ -214,59 +203,42 @@ fn read_names(alloc: Global, texts: &[String]) -> Result<Vec<Name>, Failure<DocF
     Ok(names)
 }
 
-/// The files that are written, the form of the module maps, and the listing of edges.
-#[derive(Drop)]
-struct Outputs {
-    dyndep: String,
-    info: String,
-    map: Option<MapForm>,
-    edges: Option<String>,
-}
-
-#[tactic(auto, unfolding(crate::specs::TargetChecks::file_checks))]
-fn read_outputs(
-    alloc: Global,
-    tree: &Value,
-    build: Option<&Path>,
-) -> Result<Outputs, Failure<DocFault>>
-    requires { ForSome (option_copied build) (λ path. is_rooted path ≡ true) }
-    ensures { build_dir (view tree.now) ≡ option_copied build.entry
-        → Answers (dyndep_checks (view tree.now) ++ file_checks (view tree.now))
-        (λ found. (text m.Dyndep (view tree.now) ≡ Some (string_bytes found.dyndep))
-        × (text m.Info (view tree.now) ≡ Some (string_bytes found.info))
-        × (map_form (view tree.now) ≡ found.map)
-        × (text m.Edges (view tree.now) ≡ option_map string_bytes found.edges)) result }
-{
-    let dyndep = read_dyndep(alloc, tree, build)?;
-    let info = read_info_file(alloc, tree)?;
-    let map = read_map_form(tree)?;
-    let edges = read_edges(alloc, tree)?;
-    Ok(Outputs {
-        dyndep,
-        info,
-        map,
-        edges,
-    })
-}
-
-/// The dyndep file, which has to be a path as Ninja sees it.
+/// The member `dyndep`, as it stands and as a path, which has to be one as Ninja sees it.
 #[tactic(auto, unfolding(crate::specs::TargetChecks::dyndep_checks))]
 fn read_dyndep(
     alloc: Global,
     tree: &Value,
-    build: Option<&Path>,
-) -> Result<String, Failure<DocFault>>
-    requires { ForSome (option_copied build) (λ path. is_rooted path ≡ true) }
-    ensures { build_dir (view tree.now) ≡ option_copied build.entry
+    setting: &Setting,
+) -> Result<(String, Path), Failure<DocFault>>
+    ensures { build_dir (view tree.now) ≡ setting.now.build_dir
         → Answers (dyndep_checks (view tree.now))
-        (λ t. text m.Dyndep (view tree.now) ≡ Some (string_bytes t)) result }
+        (λ found. (text m.Dyndep (view tree.now) ≡ Some (string_bytes found.0))
+        × (placed None setting.now.build_dir (string_bytes found.0) ≡ Ok found.1)) result }
 {
-    let dyndep = shape::required_text(tree, Member::Dyndep, Place::Document)?;
-    path_at(
-        Place::Document,
-        place(alloc, None, build, dyndep.as_bytes()),
-    )?;
-    Ok(String::from_str(alloc, dyndep)?)
+    let text = shape::required_text(tree, Member::Dyndep, Place::Document)?;
+    let placed = place(alloc, None, setting.build_dir.as_ref(), text.as_bytes());
+    let path = path_at(Place::Document, placed)?;
+    let dyndep = String::from_str(alloc, text)?;
+    Ok((dyndep, path))
+}
+
+/// The members `info`, `map`, `edges` and `restat`.
+#[tactic(auto, unfolding(crate::specs::TargetChecks::file_checks))]
+fn read_outputs(
+    alloc: Global,
+    tree: &Value,
+) -> Result<(String, Option<MapForm>, Option<String>, bool), Failure<DocFault>>
+    ensures { Answers (file_checks (view tree.now))
+        (λ found. (text m.Info (view tree.now) ≡ Some (string_bytes found.0))
+        × (map_form (view tree.now) ≡ found.1)
+        × (text m.Edges (view tree.now) ≡ option_map string_bytes found.2)
+        × (restat (view tree.now) ≡ found.3)) result }
+{
+    let info = read_info_file(alloc, tree)?;
+    let map = read_map_form(tree)?;
+    let edges = read_edges(alloc, tree)?;
+    let restat = shape::flag(tree, Member::Restat, Place::Document)?;
+    Ok((info, map, edges, restat.unwrap_or(false)))
 }
 
 fn read_info_file(alloc: Global, tree: &Value) -> Result<String, Failure<DocFault>>

@@ -1,4 +1,3 @@
-use Rattle.std.proofs.Common.{Some, sym, ap, ◌∙◌}
 use Rattle.std.proofs.lemmas.Result.{err_from_is_err_and}
 use Rattle.scan_docs.specs.TargetChecks.{target_checks}
 use Rattle.scan_docs.proofs.Each.{failure_of_both, failure_of_three}
@@ -23,38 +22,46 @@ returns-in_err-setting c =
     let p = err_from_is_err_and c.from_residual-in_err-setting.result c.from_residual-in_err-setting.ensures.1 in
     rw (p.1, p.2) (λ ne. rw (failure_of_both, target_head, c.in_ok-read_version.ensures.0, failure_of_both, c.in_ok-target.ensures.0, failure_of_both, c.in_err-setting.ensures ne))
 
-pub returns-in_err-read : goal.returns-in_err-read
+pub returns-in_err-scans : goal.returns-in_err-scans
 unfolding target_checks
-returns-in_err-read c =
-    let p = err_from_is_err_and c.from_residual-in_err-read.result c.from_residual-in_err-read.ensures.1 in
-    rw (p.1, p.2) (λ ne. rw (failure_of_both, target_head, c.in_ok-read_version.ensures.0, failure_of_both, c.in_ok-target.ensures.0, failure_of_both, c.in_ok-setting.ensures.0, failure_of_three, c.in_err-read.ensures ne))
+returns-in_err-scans c =
+    let p = err_from_is_err_and c.from_residual-in_err-scans.result c.from_residual-in_err-scans.ensures.1 in
+    rw (p.1, p.2) (λ ne. rw (failure_of_both, target_head, c.in_ok-read_version.ensures.0, failure_of_both, c.in_ok-target.ensures.0, failure_of_both, c.in_ok-setting.ensures.0, failure_of_three, c.in_err-scans.ensures ne))
 
-pub returns-in_err-written : goal.returns-in_err-written
+pub returns-in_err-dyndep : goal.returns-in_err-dyndep
 unfolding target_checks
-returns-in_err-written c =
-    let same = c.in_ok-setting.ensures.1.2 ∙ sym (ap (λ v. v.build_dir) c.setting.view_is) ∙ sym c.as_ref.ensures.value in
-    let p = err_from_is_err_and c.from_residual-in_err-written.result c.from_residual-in_err-written.ensures.1 in
-    rw (p.1, p.2) (λ ne. rw (failure_of_both, target_head, c.in_ok-read_version.ensures.0, failure_of_both, c.in_ok-target.ensures.0, failure_of_both, c.in_ok-setting.ensures.0, failure_of_three, c.in_ok-read.ensures.0, c.in_err-written.ensures same ne))
+returns-in_err-dyndep c =
+    let p = err_from_is_err_and c.from_residual-in_err-dyndep.result c.from_residual-in_err-dyndep.ensures.1 in
+    rw (p.1, p.2) (λ ne. rw (failure_of_both, target_head, c.in_ok-read_version.ensures.0, failure_of_both, c.in_ok-target.ensures.0, failure_of_both, c.in_ok-setting.ensures.0, failure_of_three, c.in_ok-scans.ensures.0, failure_of_both, c.in_err-dyndep.ensures c.in_ok-setting.ensures.1.2 ne))
+
+pub returns-in_err-info : goal.returns-in_err-info
+unfolding target_checks
+returns-in_err-info c =
+    let dyndep = c.in_ok-dyndep.ensures c.in_ok-setting.ensures.1.2 in
+    let p = err_from_is_err_and c.from_residual-in_err-info.result c.from_residual-in_err-info.ensures.1 in
+    rw (p.1, p.2) (λ ne. rw (failure_of_both, target_head, c.in_ok-read_version.ensures.0, failure_of_both, c.in_ok-target.ensures.0, failure_of_both, c.in_ok-setting.ensures.0, failure_of_three, c.in_ok-scans.ensures.0, failure_of_both, dyndep.0, c.in_err-info.ensures ne))
 
 pub returns : goal.returns
 unfolding target_checks
 returns c =
-    let same = c.in_ok-setting.ensures.1.2 ∙ sym (ap (λ v. v.build_dir) c.setting.view_is) ∙ sym c.as_ref.ensures.value in
-    let found = c.in_ok-written.ensures same in
     let setting = c.in_ok-setting.ensures.1 in
-    let read = c.in_ok-read.ensures.1 in (
-      rw (failure_of_both, target_head, c.in_ok-read_version.ensures.0, failure_of_both, c.in_ok-target.ensures.0, failure_of_both, c.in_ok-setting.ensures.0, failure_of_three, c.in_ok-read.ensures.0) found.0,
+    let read = c.in_ok-scans.ensures.1 in
+    let dyndep = c.in_ok-dyndep.ensures setting.2 in
+    let files = c.in_ok-info.ensures in (
+      rw (failure_of_both, target_head, c.in_ok-read_version.ensures.0, failure_of_both, c.in_ok-target.ensures.0, failure_of_both, c.in_ok-setting.ensures.0, failure_of_three, c.in_ok-scans.ensures.0, failure_of_both, dyndep.0) files.0,
       record {
         target = c.in_ok-target.ensures.1;
-        module_dir = setting.0 ∙ ap (λ v. Some v.module_dir) (sym c.setting.view_is);
-        module_ext = setting.1 ∙ ap (λ v. Some v.module_ext) (sym c.setting.view_is);
-        directory = setting.2 ∙ ap (λ v. v.build_dir) (sym c.setting.view_is);
+        module_dir = setting.0;
+        module_ext = setting.1;
+        directory = setting.2;
         scans = read.0;
         linked = read.1;
         kept = read.2;
-        dyndep = found.1.0;
-        info = found.1.1;
-        form = found.1.2;
-        edges = found.1.3;
+        dyndep = dyndep.1.0;
+        dyndep_path = dyndep.1.1;
+        info = files.1.0;
+        form = files.1.1;
+        edges = files.1.2;
+        restat = files.1.3;
       },
     )
