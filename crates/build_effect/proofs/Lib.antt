@@ -28,4 +28,3 @@ mod WrittenSymbols
 mod WrittenLines
 mod WrittenListings
 pub mod ListingWrites
-mod ListingLengths

@@ -5,7 +5,7 @@ use Rattle.std.specs.Option.{option_and_then}
 use Rattle.ninja_text.specs.Lines.{line_limit, IsLine, LogicalLine, logical_line, text_of_line, is_comment}
 use Rattle.ninja_text.specs.Failure.{ForFault, Turns}
 use Rattle.ninja_text.specs.LineReading.{BeginsWith, IsNextFault, HasLentAll, FeedsLines, EndsLines}
-use Rattle.ninja_text.specs.FormatReading.{AreReadTo}
+use Rattle.ninja_text.specs.FormatReading.{AreReadTo, Reads}
 use Rattle.ninja_text.specs.declared.failure.Failure.{Failure}
 use Rattle.ninja_text.specs.declared.failure.Failure.TheVariants.{Fault, Memory}
 use Rattle.ninja_text.proofs.ForCallers.{all_lent, faulty_next, faulty_rest, faulty_at_limit}
@@ -22,8 +22,8 @@ use Rattle.build_effect.specs.inner.ReadLines.{fault_of_cutter, PassesLine, Refu
 use Rattle.build_effect.specs.declared.fault.LineCause.{LineCause}
 use Rattle.build_effect.specs.declared.fault.LineCause.TheVariants as causes
 use Rattle.build_effect.specs.declared.fault.LineFault.{LineFault}
-use Rattle.build_effect.specs.declared.fault.ListingFault.{ListingFault}
-use Rattle.build_effect.specs.declared.fault.ListingFault.TheVariants.{AtLine, NoGraph}
+use Rattle.build_effect.specs.declared.fault.ListFault.{ListFault}
+use Rattle.build_effect.specs.declared.fault.ListFault.TheVariants.{AtLine, NoGraph}
 use Rattle.build_effect.specs.Faults.{IsGraphFault}
 use Rattle.build_effect.specs.declared.fault.GraphFault.{GraphFault}
 use Rattle.build_effect.specs.declared.listing.state.Binding.TheVariants.{Closed}
@@ -74,11 +74,16 @@ steps_on classes old new line led (c, is, steps) =
     run_more classes (c ∷ []) Closed [] old (ran classes old led) ∙ ap (option_and_then (λ (s : ListingValue). run s.binding s.edges [])) steps in
     (c, class_holds line.text line.comment c is, (run_is_listing (classes ++ c ∷ []) new on, binding_runs (classes ++ c ∷ []) Closed [] new on))
 
--- what reading a piece answers and leaves
+-- what reading a piece returns and leaves
 pub fed : (bytes all : List ℕ) (old : ListingReaderState) (result : Result Unit (Failure LineFault)) (new : ListingReaderState) → HasReadListing bytes old
     → ((lent : List LogicalLine) → HasLentAll bytes lent old → FeedsLines PassesLine RefusesLine fault_of_cutter all lent old.state result new)
-    → FeedsListing all result new
+    → Reads HasReadListing IsListingFaultIn all result new
 fed bytes all old result new has feeds = lines.fed listing_format LeadToEdges PassesLine RefusesLine fault_of_cutter steps_on IsListingFaultIn fault_of_next bytes all old result new has feeds
+
+-- a line's failure as one of the listing
+pub fails : (all : List ℕ) (failure : Failure LineFault) (new : ListingReaderState) → Reads HasReadListing IsListingFaultIn all (Err failure) new → FeedsListing all (Err (line_failure failure)) new
+fails all (Fault fault) new is = is
+fails all Memory new is = is.0
 
 -- what the edges are that all lines led to
 pub listed : (bytes : List ℕ) (r : ListingReaderState) (end : ListingValue × ℕ) → HasReadListing bytes r
@@ -97,12 +102,12 @@ ended bytes r (Fault f) has ends =
 ended bytes r Memory has ends = absurd (ends has.lent has.has)
 
 -- why edges are no graph, as a failure of the listing
-abbrev pub graph_failure : Failure GraphFault → Failure ListingFault
+abbrev pub graph_failure : Failure GraphFault → Failure ListFault
 graph_failure Memory = Memory
 graph_failure (Fault fault) = Fault (NoGraph fault)
 
 -- what becomes of the edges listed
-pub graph_ends : (bytes : List ℕ) (edges : List EdgeValue) (result : Result (List EdgeValue) (Failure ListingFault)) → Lists bytes edges → GivesGraph edges result → EndsListing bytes result
+pub graph_ends : (bytes : List ℕ) (edges : List EdgeValue) (result : Result (List EdgeValue) (Failure ListFault)) → Lists bytes edges → GivesGraph edges result → EndsListing bytes result
 graph_ends bytes edges (Ok graph) lists gives = subst (Lists bytes) (sym gives) lists
 graph_ends bytes edges (Err (Fault (NoGraph fault))) lists gives = (edges, lists, gives)
 graph_ends bytes edges (Err (Fault (AtLine fault))) lists gives = absurd gives
@@ -114,7 +119,7 @@ no_graph edges (Fault fault) is = is
 no_graph edges Memory is = tt
 
 -- the failure of a call as a fault of the listing
-pub turned_to : {F : Type 0} (turn : F → ListingFault) (all : Failure F → Failure ListingFault) → all Memory ≡ Memory → ((fault : F) → all (Fault fault) ≡ Fault (turn fault))
-    → (failure : Failure F) (result : Failure ListingFault) → Turns (λ fault turned. turned ≡ turn fault) failure result → result ≡ all failure
+pub turned_to : {F : Type 0} (turn : F → ListFault) (all : Failure F → Failure ListFault) → all Memory ≡ Memory → ((fault : F) → all (Fault fault) ≡ Fault (turn fault))
+    → (failure : Failure F) (result : Failure ListFault) → Turns (λ fault turned. turned ≡ turn fault) failure result → result ≡ all failure
 turned_to turn all memory faults Memory result is = is ∙ sym memory
 turned_to turn all memory faults (Fault fault) result is = is.2 ∙ ap (λ f. Fault f) is.1 ∙ sym (faults fault)

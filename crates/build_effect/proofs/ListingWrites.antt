@@ -1,12 +1,14 @@
 -- What a call that writes a listing answers, by the text that was made or not.
-use Rattle.std.proofs.Common.{◌≡◌, ℕ, ◌+◌, ◌<◌, suc, List, [], ◌∷◌, ◌++◌, length, drop, get_or, add-one, drop-cons, append_assoc, refl, sym, ap, ◌∙◌, Option, Some, None, Ok, Err}
+use Rattle.std.proofs.Common.{◌≡◌, ℕ, ◌+◌, ◌<◌, ◌≤◌, suc, Bool, true, false, List, [], ◌∷◌, ◌++◌, length, drop, get_or, add-one, drop-cons, append_assoc, refl, sym, ap, ◌∙◌, Option, Some, None, Ok, Err}
 use Rattle.std.specs.Prelude.{Result, Vec, OnOk, if◌then◌else◌}
 use Rattle.std.specs.Result.{is_ok}
 use Rattle.std.specs.List.{flat_map}
 use Rattle.std.specs.declared.alloc.Global.{Global}
+use Rattle.std.proofs.lemmas.Bool.{lt-ltb, le-ltb}
 use Rattle.std.proofs.lemmas.List.{at_drop_more}
 use Rattle.ninja_text.specs.Bytes.{space}
 use Rattle.ninja_text.specs.Escapes.{escaped}
+use Rattle.ninja_text.specs.Lines.{line_limit}
 use Rattle.ninja_text.specs.Failure.{Gives}
 use Rattle.ninja_text.specs.Counting.{Call}
 use Rattle.ninja_text.specs.declared.counting.Counted.{Counted}
@@ -14,7 +16,7 @@ use Rattle.ninja_text.specs.declared.failure.Failure.{Failure}
 use Rattle.ninja_text.specs.declared.failure.Failure.TheVariants.{Memory, Fault}
 use Rattle.dyndep_file.specs.Writing.{spaced}
 use Rattle.build_effect.specs.EdgeValue.{EdgeValue}
-use Rattle.build_effect.specs.ListingWriting.{edge_line, dyndep_line, restat_line, listing_text, first_too_long, LeavesListingWriter, WritesListingInTurn, AnswersTooLong, listing_text_unless, listing_text_or_fault}
+use Rattle.build_effect.specs.ListingWriting.{edge_line, dyndep_line, restat_line, listing_text, is_too_long, too_long_from, first_too_long, LeavesListingWriter, WritesListingInTurn, AnswersTooLong, listing_text_unless, listing_text_or_fault}
 use Rattle.build_effect.specs.declared.fault.ListingWriteFault.{ListingWriteFault}
 use Rattle.build_effect.specs.declared.fault.ListingWriteFault.TheVariants.{ListingTooLong, Io}
 
@@ -75,6 +77,19 @@ text_goes_on edges i e text new within is n so_far =
     let r = restat_line e.restat in
     let is_new : new ≡ text ++ ((edge_line e ++ d) ++ r) = n ∙ ap (λ y. y ++ r) (append_assoc text (edge_line e) d) ∙ append_assoc text (edge_line e ++ d) r in
     ap (λ x. x ++ rest) is_new ∙ append_assoc text ((edge_line e ++ d) ++ r) rest ∙ ap (λ xs. text ++ listing_text xs) (sym (drop_item edges i e within is)) ∙ so_far
+
+-- the edge at hand, in a search from the front in which no build line was too long
+module _ (edges : List EdgeValue) (i : ℕ) (e : EdgeValue) (within : i < length edges) (is : e ≡ get_or edges i e) (none : too_long_from 0 edges ≡ too_long_from i (drop i edges)) where
+  looked_at : (long : Bool) → is_too_long e ≡ long → too_long_from 0 edges ≡ if long then Some i else too_long_from (i + 1) (drop (i + 1) edges)
+  looked_at long said = none ∙ ap (too_long_from i) (drop_item edges i e within is) ∙ ap (λ b. if b then Some i else too_long_from (i + 1) (drop (i + 1) edges)) said
+
+  -- its build line is too long
+  pub too_long_here : line_limit < length (edge_line e) → listing_text_or_fault edges ≡ Err (ListingTooLong i)
+  too_long_here more = ap (λ o. listing_text_unless o edges) (looked_at true (lt-ltb line_limit (length (edge_line e)) more))
+
+  -- it is not
+  pub none_so_far : length (edge_line e) ≤ line_limit → too_long_from 0 edges ≡ too_long_from (i + 1) (drop (i + 1) edges)
+  none_so_far most = looked_at false (le-ltb line_limit (length (edge_line e)) most)
 
 -- one more path after a space
 pub spaced_goes_on : (paths : List (List ℕ)) (i : ℕ) (path start text new : List ℕ) → i < length paths → path ≡ get_or paths i path → new ≡ (text ++ space ∷ []) ++ escaped path

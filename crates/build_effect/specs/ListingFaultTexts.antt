@@ -8,8 +8,8 @@ use Rattle.build_effect.specs.FaultTexts.{graph_fault_text}
 use Rattle.build_effect.specs.declared.fault.LineCause.{LineCause}
 use Rattle.build_effect.specs.declared.fault.LineCause.TheVariants.{LineTooLong, Truncated, Lexical, Form, BadPath}
 use Rattle.build_effect.specs.declared.fault.LineFault.{LineFault}
-use Rattle.build_effect.specs.declared.fault.ListingFault.{ListingFault}
-use Rattle.build_effect.specs.declared.fault.ListingFault.TheVariants.{AtLine, NoGraph}
+use Rattle.build_effect.specs.declared.fault.ListFault.{ListFault}
+use Rattle.build_effect.specs.declared.fault.ListFault.TheVariants.{AtLine, NoGraph}
 use Rattle.build_effect.specs.declared.fault.ListingWriteFault.{ListingWriteFault}
 use Rattle.build_effect.specs.declared.fault.ListingWriteFault.TheVariants.{ListingTooLong, Io}
 
@@ -27,7 +27,7 @@ listing_line_fault_text fault =
     codes "line " ++ decimal fault.line ++ codes ": " ++ line_cause_text fault.cause
 
 -- why a listing gave no graph
-abbrev pub listing_fault_text : ListingFault → Text
+abbrev pub listing_fault_text : ListFault → Text
 listing_fault_text (AtLine fault) = listing_line_fault_text fault
 listing_fault_text (NoGraph fault) = graph_fault_text fault
 

@@ -1,10 +1,9 @@
 -- What a reader of edge listings answers, by all bytes that it was fed, however they were cut into
 -- pieces.
-use Rattle.std.specs.Prelude.{◌≡◌, ◌⊎◌, List, Result, Ok, Err}
+use Rattle.std.specs.Prelude.{◌≡◌, ◌⊎◌, List, Some, Result, Ok, Err}
 use Rattle.ninja_text.specs.Bytes.{Bytes}
 use Rattle.ninja_text.specs.LineReading.{LinesRead}
 use Rattle.ninja_text.specs.FormatReading as lines
-use Rattle.ninja_text.specs.Failure.{ForFault}
 use Rattle.ninja_text.specs.declared.failure.Failure.{Failure}
 use Rattle.ninja_text.specs.declared.failure.Failure.TheVariants.{Memory, Fault}
 use Rattle.build_effect.specs.EdgeValue.{EdgeValue}
@@ -15,8 +14,8 @@ use Rattle.build_effect.specs.ListingReading.{listing_format, Lists, HasFaultyLi
 use Rattle.build_effect.specs.Faults.{IsGraphFault}
 use Rattle.build_effect.specs.declared.fault.LineCause.TheVariants.{LineTooLong}
 use Rattle.build_effect.specs.declared.fault.LineFault.{LineFault}
-use Rattle.build_effect.specs.declared.fault.ListingFault.{ListingFault}
-use Rattle.build_effect.specs.declared.fault.ListingFault.TheVariants.{AtLine, NoGraph}
+use Rattle.build_effect.specs.declared.fault.ListFault.{ListFault}
+use Rattle.build_effect.specs.declared.fault.ListFault.TheVariants.{AtLine, NoGraph}
 use Rattle.build_effect.specs.declared.listing.state.Binding.TheVariants.{Closed}
 
 -- Lines of these classes are a listing of the edges so far, and leave these bindings open.
@@ -24,11 +23,11 @@ abbrev pub LeadToEdges : List ListingClass → ListingValue → Type 0
 LeadToEdges classes value =
     IsListing classes value.edges × (value.binding ≡ open_from Closed classes)
 
--- a reader: the lines read, the edges so far, and what it refused with, if it did
+-- a reader: the lines read, the edges so far, and the error that it reported, if it did
 abbrev pub ListingReaderState : Type 0
 ListingReaderState = LinesRead ListingValue LineFault
 
--- The reader was fed these bytes in all, and has refused none.
+-- The reader was fed these bytes in all, and has reported no error.
 abbrev pub HasReadListing : Bytes → ListingReaderState → Type 0
 HasReadListing bytes r = lines.HasRead listing_format LeadToEdges bytes r
 
@@ -38,24 +37,25 @@ abbrev pub IsListingFaultIn : Bytes → LineFault → Type 0
 IsListingFaultIn bytes fault =
     HasFaultyLine bytes fault ⊎ (HasFaultyEnd bytes fault × (fault.cause ≡ LineTooLong))
 
--- Memory was refused, or the fault is in the bytes.
-abbrev pub IsListingFailureIn : Bytes → Failure LineFault → Type 0
-IsListingFailureIn bytes failure = ForFault (IsListingFaultIn bytes) failure
+-- What `feed` returns, and what the reader is then, by all bytes fed, this call's with them, to a
+-- reader that had failed at none: it has read them, or the fault is in them, or an allocation
+-- failed.
+abbrev pub FeedsListing : Bytes → Result Unit (Failure ListFault) → ListingReaderState → Type 0
+FeedsListing bytes (Ok u) new = HasReadListing bytes new
+FeedsListing bytes (Err (Fault (AtLine fault))) new =
+    (new.failed ≡ Some (Fault fault)) × IsListingFaultIn bytes fault
+FeedsListing bytes (Err (Fault (NoGraph fault))) new = ⊥
+FeedsListing bytes (Err Memory) new = new.failed ≡ Some Memory
 
--- What `feed` answers, and what the reader is then; by all bytes fed, this call's with them, to a
--- reader that had refused none.
-abbrev pub FeedsListing : Bytes → Result Unit (Failure LineFault) → ListingReaderState → Type 0
-FeedsListing bytes result new = lines.Reads HasReadListing IsListingFaultIn bytes result new
-
--- what a reader that refused answers at the end
-abbrev pub line_failure : Failure LineFault → Failure ListingFault
+-- what a reader that has failed returns
+abbrev pub line_failure : Failure LineFault → Failure ListFault
 line_failure Memory = Memory
 line_failure (Fault fault) = Fault (AtLine fault)
 
--- What `finish` answers; by all bytes fed to a reader that has refused none: the graph of the edges
--- listed, or the fault of the text's end, or why the edges listed are no graph, or memory was
--- refused.
-abbrev pub EndsListing : Bytes → Result (List EdgeValue) (Failure ListingFault) → Type 0
+-- What `finish` returns, by all bytes fed to a reader that has reported no error: the graph of the
+-- edges listed, or the fault of the text's end, or why the edges listed are not a graph, or an
+-- allocation failed.
+abbrev pub EndsListing : Bytes → Result (List EdgeValue) (Failure ListFault) → Type 0
 EndsListing bytes (Ok graph) = Lists bytes graph
 EndsListing bytes (Err (Fault (AtLine fault))) = HasFaultyEnd bytes fault
 EndsListing bytes (Err (Fault (NoGraph fault))) =

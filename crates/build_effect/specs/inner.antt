@@ -9,5 +9,4 @@ pub mod Extended
 pub mod ListingWalk
 pub mod ListingRows
 pub mod ReadLines
-pub mod ListingLengths
 pub mod ListingEnds

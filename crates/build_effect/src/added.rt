@@ -9,18 +9,18 @@ ghost use Rattle.build_effect.specs.inner.Makers.{maker_in};
 
 use crate::addition::Addition;
 use crate::fault::EffectFault;
-use crate::files::add_paths;
+use crate::files::{add_paths, table_key};
 use crate::makers::Makers;
 use indexmap::IndexSet;
 use ninja_text::{Failure, Path};
 use std::alloc::{AllocError, Global};
-use std::hash::BuildHasher;
+use table_keys::TableKey;
 
 /// E7: no added output is made by an edge of the graph, or added by an earlier statement or earlier
 /// in its own.
-pub(crate) fn check_added<S: BuildHasher + Copy>(
+pub(crate) fn check_added(
     alloc: Global,
-    makers: &Makers<'_, S>,
+    makers: &Makers<'_>,
     additions: &[Addition],
 ) -> Result<(), Failure<EffectFault>>
     ensures ok { OnOk result (AddsFresh (maker_in makers.now.table) additions.now) }
@@ -48,24 +48,23 @@ fn added_files<'t>(alloc: Global, additions: &'t [Addition]) -> Result<Vec<&'t P
 }
 
 /// The index of the first file that an edge makes or that is earlier in the list, if there is one.
-/// The files are hashed as those of the makers are.
-fn first_made<S: BuildHasher + Copy>(
+fn first_made(
     alloc: Global,
-    makers: &Makers<'_, S>,
+    makers: &Makers<'_>,
     files: &[&Path],
 ) -> Result<Option<usize>, AllocError>
     ensures made { IfOk result (FindsMadeIn (maker_in makers.now.table) (lists files.now)) }
     ensures within { IfOk result (λ found. IfSome found (λ k. k < length files.now)) }
 {
-    let mut seen = IndexSet::with_hasher(alloc, makers.hash_builder());
+    let mut seen = IndexSet::with_hasher(alloc, table_key(files));
     first_made_or_seen(makers, files, &mut seen)
 }
 
 /// What [`first_made`] answers, given an empty set for the files that were looked at.
-fn first_made_or_seen<'t, S: BuildHasher>(
-    makers: &Makers<'_, S>,
+fn first_made_or_seen<'t>(
+    makers: &Makers<'_>,
     files: &[&'t Path],
-    seen: &mut IndexSet<&'t Path, S>,
+    seen: &mut IndexSet<&'t Path, TableKey>,
 ) -> Result<Option<usize>, AllocError>
     requires { IsEmpty seen.old }
     ensures made { IfOk result (FindsMadeIn (maker_in makers.now.table) (lists files.now)) }

@@ -15,7 +15,6 @@ use crate::statement_edges::{check_mentioned, edges_of_statements, statements_of
 use dyndep_file::Statement;
 use ninja_text::{Failure, Path};
 use std::alloc::Global;
-use std::hash::BuildHasher;
 
 /// Statements without a fault, with canonical paths, and the index of the statement on each edge.
 #[derive(Drop)]
@@ -25,12 +24,11 @@ pub(crate) struct Checked {
 }
 
 /// All checks, in the order in which their faults are reported: E8, E5, E4, E6, E7.
-pub(crate) fn checked_statements<S: BuildHasher + Copy>(
+pub(crate) fn checked_statements(
     alloc: Global,
     edges: &[Edge],
     name: &Path,
     statements: &[Statement],
-    hash_builder: S,
 ) -> Result<Checked, Failure<EffectFault>>
     requires { IsGraph edges.now }
     ensures checked { IfOk result (λ checked. AreChecked edges.now name.now statements.now
@@ -38,7 +36,7 @@ pub(crate) fn checked_statements<S: BuildHasher + Copy>(
     ensures fault { IfErr result (ForFault (IsEffectFault edges.now name.now statements.now)) }
 {
     let additions = canonical_statements(alloc, statements)?;
-    let makers = Makers::of(alloc, edges, hash_builder)?;
+    let makers = Makers::of(alloc, edges)?;
     let statement_of = matched_statements(alloc, edges, name, &makers, &additions)?;
     Ok(Checked {
         additions,
@@ -47,11 +45,11 @@ pub(crate) fn checked_statements<S: BuildHasher + Copy>(
 }
 
 /// E5, E4, E6, E7: the index of the statement on each edge.
-fn matched_statements<S: BuildHasher + Copy>(
+fn matched_statements(
     alloc: Global,
     edges: &[Edge],
     name: &Path,
-    makers: &Makers<'_, S>,
+    makers: &Makers<'_>,
     additions: &[Addition],
 ) -> Result<Vec<Option<usize>>, Failure<EffectFault>>
     requires graph { IsGraph edges.now }

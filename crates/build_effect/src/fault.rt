@@ -165,17 +165,16 @@ impl fmt::Display for LineFault {
     }
 }
 
-/// Why an edge listing gave no graph. The file that E1 and E2 are about is lent by the fault's
-/// `path`.
+/// Why an edge listing gave no graph. [`GraphFault::path`] is the file that E1 and E2 are about.
 #[derive(Debug, Drop, Error)]
-pub enum ListingFault {
-    /// E3: a line is faulty, or the listing's end is.
+pub enum ListFault {
+    /// E3: a line is faulty, or the listing ends within a line.
     AtLine(LineFault),
-    /// E1, E2: the edges listed are no graph.
+    /// E1, E2: the edges listed are not a graph.
     NoGraph(GraphFault),
 }
 
-impl fmt::Display for ListingFault {
+impl fmt::Display for ListFault {
     ghost use Rattle.std.specs.Prelude.{Some};
     ghost use Rattle.build_effect.specs.ListingFaultTexts.{listing_fault_text};
 
@@ -183,8 +182,8 @@ impl fmt::Display for ListingFault {
 
     fn fmt<W: fmt::Write>(&self, f: &mut fmt::Formatter<W>) -> fmt::Result {
         match self {
-            ListingFault::AtLine(fault) => fmt::Display::fmt(fault, f),
-            ListingFault::NoGraph(fault) => fmt::Display::fmt(fault, f),
+            ListFault::AtLine(fault) => fmt::Display::fmt(fault, f),
+            ListFault::NoGraph(fault) => fmt::Display::fmt(fault, f),
         }
     }
 }

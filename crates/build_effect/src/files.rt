@@ -1,4 +1,4 @@
-//! Files of edges in one list, lent, and the first that is there twice.
+//! Lists of borrowed files, the key of a table of them, and the first file that a list repeats.
 ghost use Rattle.std.specs.Prelude.{◌≡◌, ◌++◌, IfOk, OnOk};
 ghost use Rattle.indexmap.specs.IndexSet.{IsEmpty};
 ghost use Rattle.build_effect.specs.Faults.{made_files};
@@ -9,7 +9,7 @@ use crate::edge::Edge;
 use indexmap::IndexSet;
 use ninja_text::Path;
 use std::alloc::{AllocError, Global};
-use std::hash::BuildHasher;
+use table_keys::{KeyDigest, TableKey};
 
 /// The files that the edges make: edge after edge, in each its outputs before its implicit ones.
 pub(crate) fn made_files<'t>(alloc: Global, edges: &'t [Edge]) -> Result<Vec<&'t Path>, AllocError>
@@ -33,23 +33,31 @@ pub(crate) fn add_paths<'t>(paths: &'t [Path], files: &mut Vec<&'t Path>) -> Res
     Ok(())
 }
 
+/// Returns the key for a table of these files, which is made of the files themselves.
+pub(crate) fn table_key(files: &[&Path]) -> TableKey {
+    let mut digest = KeyDigest::new();
+    for file in files {
+        digest.update(file.bytes());
+    }
+    digest.key()
+}
+
 /// The indexes of the first file that is in the list once more: where it was, and where it is
 /// again.
-pub(crate) fn first_repetition<S: BuildHasher + Copy>(
+pub(crate) fn first_repetition(
     alloc: Global,
     files: &[&Path],
-    hash_builder: S,
 ) -> Result<Option<(usize, usize)>, AllocError>
     ensures { IfOk result (FindsRepetition (lists files.now)) }
 {
-    let mut seen = IndexSet::with_hasher(alloc, hash_builder);
+    let mut seen = IndexSet::with_hasher(alloc, table_key(files));
     first_seen(files, &mut seen)
 }
 
 /// What [`first_repetition`] answers, given an empty set for the files that were looked at.
-fn first_seen<'t, S: BuildHasher>(
+fn first_seen<'t>(
     files: &[&'t Path],
-    seen: &mut IndexSet<&'t Path, S>,
+    seen: &mut IndexSet<&'t Path, TableKey>,
 ) -> Result<Option<(usize, usize)>, AllocError>
     requires { IsEmpty seen.old }
     ensures { IfOk result (FindsRepetition (lists files.now)) }

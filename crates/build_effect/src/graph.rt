@@ -9,7 +9,6 @@ use crate::fault::GraphFault;
 use crate::graph_checks::{check_dyndeps, check_made};
 use ninja_text::Failure;
 use std::alloc::Global;
-use std::hash::{BuildHasher, BuildHasherDefault, FoldHasher};
 use std::marker::Model;
 
 /// Build edges, by index. Each has an explicit output, no file is made twice, and each edge that
@@ -32,42 +31,29 @@ impl Model for Graph {
 }
 
 impl Graph {
-    /// The graph of these edges. The caller sees to it that each has an explicit output, without
-    /// which Ninja takes no build statement (Ninja 1.11 manual, "Build statements").
+    /// Returns the graph of these edges. Each edge must have an explicit output: Ninja has no build
+    /// statement without one (Ninja 1.11 manual, "Build statements").
     ///
-    /// E1 `ProducedTwice`: a file is made twice; the first that is made again is reported, over the
-    /// edges in order and in each over its outputs before its implicit outputs. Or E2
-    /// `DyndepNotInput`: an edge names a dyndep file that is not among its inputs of any kind
-    /// ("Dynamic dependencies"); the first such edge is reported. The edges are dropped then, and
-    /// where memory is refused.
+    /// # Errors
     ///
-    /// Paths are hashed with a fixed seed, so whoever chooses them can make them collide, and the
-    /// work is quadratic then. Where strangers choose paths, call [`Graph::new_with_hasher`].
+    /// - E1 `ProducedTwice`: a file is made twice. The first file that is made again is reported.
+    ///   Edges are searched in order, and in each edge the outputs before the implicit outputs.
+    /// - E2 `DyndepNotInput`: otherwise, an edge names a dyndep file that is not among its inputs of
+    ///   any kind ("Dynamic dependencies"). The first such edge is reported.
+    /// - `Memory`: an allocation fails.
+    ///
+    /// The edges are dropped after an error.
     pub fn new(alloc: Global, edges: Vec<Edge>) -> Result<Graph, Failure<GraphFault>>
         requires { All (λ e. e.outputs ≢ []) edges.items }
         ensures graph { IfOk result (λ graph. graph ≡ edges.items) }
         ensures fault { IfErr result (ForFault (IsGraphFault edges.items)) }
     {
-        Graph::new_with_hasher(alloc, edges, BuildHasherDefault::<FoldHasher>::new())
-    }
-
-    /// What [`Graph::new`] answers, with paths hashed by `hash_builder`: a `RandomState` where
-    /// strangers choose the paths of the edges.
-    pub fn new_with_hasher<S: BuildHasher + Copy>(
-        alloc: Global,
-        edges: Vec<Edge>,
-        hash_builder: S,
-    ) -> Result<Graph, Failure<GraphFault>>
-        requires { All (λ e. e.outputs ≢ []) edges.items }
-        ensures graph { IfOk result (λ graph. graph ≡ edges.items) }
-        ensures fault { IfErr result (ForFault (IsGraphFault edges.items)) }
-    {
-        check_made(alloc, edges.as_slice(), hash_builder)?;
+        check_made(alloc, edges.as_slice())?;
         check_dyndeps(alloc, edges.as_slice())?;
         Ok(Graph { edges })
     }
 
-    /// The edges, by index.
+    /// Returns the edges, by index.
     pub fn edges(&self) -> &[Edge]
         ensures edges { result.now ≡ self.now }
         ensures graph { IsGraph self.now }

@@ -10,19 +10,14 @@ use crate::fault::GraphFault;
 use crate::files::{first_repetition, made_files};
 use ninja_text::{Failure, Path};
 use std::alloc::{AllocError, Global};
-use std::hash::BuildHasher;
 
 /// E1: no file is made twice.
-pub(crate) fn check_made<S: BuildHasher + Copy>(
-    alloc: Global,
-    edges: &[Edge],
-    hash_builder: S,
-) -> Result<(), Failure<GraphFault>>
+pub(crate) fn check_made(alloc: Global, edges: &[Edge]) -> Result<(), Failure<GraphFault>>
     ensures ok { OnOk result (MadeOnce edges.now) }
     ensures fault { IfErr result (ForFault (IsGraphFault edges.now)) }
 {
     let files = made_files(alloc, edges)?;
-    match first_repetition(alloc, files.as_slice(), hash_builder)? {
+    match first_repetition(alloc, files.as_slice())? {
         None => Ok(()),
         Some(indices) => {
             let path = files[indices.1].copy(alloc)?;

@@ -39,9 +39,8 @@
 //! - Each file that an edge makes is put once into an `indexmap` table of its maker (`makers.rt`),
 //!   in which the edge of a statement, the maker of an input and a second maker of an added output
 //!   are found. So the work is linear in the files of the graph and of the statements.
-//! - The plain calls hash paths with a fixed seed. [`Graph::new_with_hasher`],
-//!   [`apply_with_hasher`], [`edge_order_with_hasher`] and [`ListingReader::finish_with_hasher`]
-//!   promise the same and take what builds the hashers, for paths that strangers choose.
+//! - Tables hash under a key of `table_keys` that is made of the files that they will hold, so that
+//!   nobody can choose paths that collide.
 //! - The checks are functions of their own, made in the order of their faults (`all_checks.rt`):
 //!   `canonical_statements` (E8), `edges_of_statements` (E5), `statements_of_edges` (E4),
 //!   `check_mentioned` (E6), `check_added` (E7). `edges_of_statements` and `statements_of_edges`
@@ -52,8 +51,7 @@
 //! - The law [`files_order`] puts two numberings together by `layered` of `dep_order`: that of the
 //!   graph with the added outputs alone, and within one level that of what is added.
 //! - The edits in `must-fail/` of `added.rt`, `extending.rt` and `statement_edges.rt` show the
-//!   clauses of [`apply`], and those of `makers.rt` and `needs.rt` that of [`edge_order`]. A plain
-//!   call has the clauses of the call with a hasher. [`GraphFault::path`] and [`Graph::edges`] have
+//!   clauses of [`apply`], and those of `makers.rt` and `needs.rt` that of [`edge_order`].  [`GraphFault::path`] and [`Graph::edges`] have
 //!   nothing else to lend. `faults_of_graphs_printed_alike` shows the clause by which each fault type
 //!   says how it is printed, and `edges_forgotten_at_the_end` and
 //!   `restat_of_a_listing_lost_at_a_piece_end` those of [`ListingReader`].
@@ -79,12 +77,12 @@ mod needs;
 mod statement_edges;
 
 pub use edge::Edge;
-pub use effect::{apply, apply_with_hasher};
-pub use fault::{EffectFault, GraphFault, LineCause, LineFault, ListingFault, ListingWriteFault};
+pub use effect::apply;
+pub use fault::{EffectFault, GraphFault, LineCause, LineFault, ListFault, ListingWriteFault};
 pub use graph::Graph;
 pub use laws::{
     any_order, checks, files_order, level_orders, listing_lines, listing_or_fault, one_effect,
     one_listing, one_listing_fault, written_listing,
 };
 pub use listing::{ListingReader, listing_write};
-pub use needs::{edge_order, edge_order_with_hasher};
+pub use needs::edge_order;

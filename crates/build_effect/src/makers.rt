@@ -3,34 +3,29 @@ ghost use Rattle.std.specs.Prelude.{◌≡◌, [], IfOk, OnOk};
 ghost use Rattle.build_effect.specs.inner.Makers.{maker_in, AreMakers, AreAdded};
 
 use crate::edge::Edge;
+use crate::files::{made_files, table_key};
 use indexmap::IndexMap;
 use ninja_text::Path;
 use std::alloc::{AllocError, Global};
-use std::hash::BuildHasher;
+use table_keys::TableKey;
 
 /// The edge that makes each file, by its index.
 #[derive(Drop)]
-pub(crate) struct Makers<'t, S: BuildHasher> {
-    table: IndexMap<&'t Path, usize, S>,
+pub(crate) struct Makers<'t> {
+    table: IndexMap<&'t Path, usize, TableKey>,
 }
 
-impl<'t, S: BuildHasher + Copy> Makers<'t, S> {
+impl<'t> Makers<'t> {
     /// The makers of the files that these edges make.
-    pub(crate) fn of(alloc: Global, edges: &'t [Edge], hash_builder: S) -> Result<Self, AllocError>
+    pub(crate) fn of(alloc: Global, edges: &'t [Edge]) -> Result<Self, AllocError>
         ensures { IfOk result (λ makers. AreMakers edges.now (maker_in makers.table)) }
     {
-        let mut table = IndexMap::with_hasher(alloc, hash_builder);
+        let files = made_files(alloc, edges)?;
+        let mut table = IndexMap::with_hasher(alloc, table_key(&files));
         add_edges(edges, &mut table)?;
         Ok(Makers { table })
     }
 
-    /// What builds the hashers of the files.
-    pub(crate) fn hash_builder(&self) -> S {
-        *self.table.hasher()
-    }
-}
-
-impl<S: BuildHasher> Makers<'_, S> {
     /// The edge that makes the file, if one does.
     pub(crate) fn maker_of(&self, file: &Path) -> Option<usize>
         ensures { result ≡ maker_in self.now.table file.now }
@@ -40,9 +35,9 @@ impl<S: BuildHasher> Makers<'_, S> {
 }
 
 /// Puts each edge into the empty table for the files that it makes.
-fn add_edges<'t, S: BuildHasher>(
+fn add_edges<'t>(
     edges: &'t [Edge],
-    makers: &mut IndexMap<&'t Path, usize, S>,
+    makers: &mut IndexMap<&'t Path, usize, TableKey>,
 ) -> Result<(), AllocError>
     requires { AreMakers [] (maker_in makers.old) }
     ensures { OnOk result (AreMakers edges.now (maker_in makers.new)) }
@@ -55,10 +50,10 @@ fn add_edges<'t, S: BuildHasher>(
 }
 
 /// Puts the edge into the table for these files.
-fn add_files<'t, S: BuildHasher>(
+fn add_files<'t>(
     files: &'t [Path],
     edge_index: usize,
-    makers: &mut IndexMap<&'t Path, usize, S>,
+    makers: &mut IndexMap<&'t Path, usize, TableKey>,
 ) -> Result<(), AllocError>
     ensures { OnOk result
         (AreAdded files.now edge_index (maker_in makers.old) (maker_in makers.new)) }

@@ -12,52 +12,33 @@ use crate::makers::Makers;
 use dep_order::{Digraph, Sorting, order};
 use ninja_text::Path;
 use std::alloc::{AllocError, Global};
-use std::hash::{BuildHasher, BuildHasherDefault, FoldHasher};
 
-/// The edges, by index, in an order in which they can run: each is after the makers of its
-/// inputs of all kinds, and of the edges that may come next the one with the smallest index does.
-/// Where there is no such order, the least cycle: each edge in it needs the next, and the last
-/// needs the first.
+/// Returns the indexes of all edges in an order in which they can run. Each edge comes after the
+/// edges that produce its inputs of all kinds, and the smallest index that may come next does.
 ///
-/// Paths are hashed with a fixed seed, so whoever chooses them can make them collide, and the
-/// work is quadratic then. Where strangers choose paths, call [`edge_order_with_hasher`].
+/// If there is no such order, returns the least cycle: each edge in it needs the next one, and the
+/// last edge needs the first.
 pub fn edge_order(alloc: Global, graph: &Graph) -> Result<Sorting, AllocError>
     ensures { IfOk result (IsSortingOf (length graph.now) (EdgeNeeds graph.now)) }
 {
-    edge_order_with_hasher(alloc, graph, BuildHasherDefault::<FoldHasher>::new())
-}
-
-/// What [`edge_order`] answers, with paths hashed by `hash_builder`: a `RandomState` where
-/// strangers choose the paths of the graph.
-pub fn edge_order_with_hasher<S: BuildHasher + Copy>(
-    alloc: Global,
-    graph: &Graph,
-    hash_builder: S,
-) -> Result<Sorting, AllocError>
-    ensures { IfOk result (IsSortingOf (length graph.now) (EdgeNeeds graph.now)) }
-{
-    let needs = needs_of(alloc, graph.edges(), hash_builder)?;
+    let needs = needs_of(alloc, graph.edges())?;
     let digraph = Digraph::new(needs);
     order(alloc, &digraph)
 }
 
 /// The makers of each edge's inputs.
-fn needs_of<S: BuildHasher + Copy>(
-    alloc: Global,
-    edges: &[Edge],
-    hash_builder: S,
-) -> Result<Vec<Vec<usize>>, AllocError>
+fn needs_of(alloc: Global, edges: &[Edge]) -> Result<Vec<Vec<usize>>, AllocError>
     ensures { IfOk result (λ needs. AreNeeds edges.now (rows needs.items)) }
 {
-    let makers = Makers::of(alloc, edges, hash_builder)?;
+    let makers = Makers::of(alloc, edges)?;
     needs_in(alloc, edges, &makers)
 }
 
 /// The makers of each edge's inputs, which the table has.
-fn needs_in<S: BuildHasher>(
+fn needs_in(
     alloc: Global,
     edges: &[Edge],
-    makers: &Makers<'_, S>,
+    makers: &Makers<'_>,
 ) -> Result<Vec<Vec<usize>>, AllocError>
     ensures { IfOk result
         (λ needs. rows needs.items ≡ map (makers_row (maker_in makers.now.table)) edges.now) }
@@ -70,11 +51,7 @@ fn needs_in<S: BuildHasher>(
 }
 
 /// The makers of the edge's inputs of all kinds.
-fn edge_needs<S: BuildHasher>(
-    alloc: Global,
-    edge: &Edge,
-    makers: &Makers<'_, S>,
-) -> Result<Vec<usize>, AllocError>
+fn edge_needs(alloc: Global, edge: &Edge, makers: &Makers<'_>) -> Result<Vec<usize>, AllocError>
     ensures { IfOk result (λ row. row.items ≡ makers_row (maker_in makers.now.table) edge.now) }
 {
     let mut row = Vec::new(alloc);
@@ -85,11 +62,7 @@ fn edge_needs<S: BuildHasher>(
 }
 
 /// Appends the makers of those files that an edge makes.
-fn add_makers<S: BuildHasher>(
-    files: &[Path],
-    makers: &Makers<'_, S>,
-    row: &mut Vec<usize>,
-) -> Result<(), AllocError>
+fn add_makers(files: &[Path], makers: &Makers<'_>, row: &mut Vec<usize>) -> Result<(), AllocError>
     ensures { OnOk result
         (row.new.items ≡ row.old.items ++ filter_map (maker_in makers.now.table) files.now) }
 {

@@ -12,16 +12,15 @@ use crate::graph_checks::first_output;
 use crate::makers::Makers;
 use ninja_text::{Failure, Path};
 use std::alloc::Global;
-use std::hash::BuildHasher;
 
 /// E5: the edge of each statement, which makes its output and names the file.
 ///
 /// Only the maker of the output has to be looked at, since no file is made twice.
-pub(crate) fn edges_of_statements<S: BuildHasher>(
+pub(crate) fn edges_of_statements(
     alloc: Global,
     edges: &[Edge],
     name: &Path,
-    makers: &Makers<'_, S>,
+    makers: &Makers<'_>,
     additions: &[Addition],
 ) -> Result<Vec<usize>, Failure<EffectFault>>
     requires makers { AreMakers edges.now (maker_in makers.now.table) }
@@ -44,12 +43,7 @@ pub(crate) fn edges_of_statements<S: BuildHasher>(
 }
 
 /// The edge that makes the output and names the file, if one does.
-fn bound_edge<S: BuildHasher>(
-    edges: &[Edge],
-    name: &Path,
-    makers: &Makers<'_, S>,
-    output: &Path,
-) -> Option<usize>
+fn bound_edge(edges: &[Edge], name: &Path, makers: &Makers<'_>, output: &Path) -> Option<usize>
     requires makers { AreMakers edges.now (maker_in makers.now.table) }
     requires made_once { MadeOnce edges.now }
     ensures { MatchOption result (IsUnboundOutput edges.now name.now output.now)

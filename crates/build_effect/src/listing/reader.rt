@@ -6,13 +6,12 @@ ghost use Rattle.build_effect.specs.inner.ListingRows.{ReadsText};
 ghost use Rattle.build_effect.specs.inner.ListingEnds.{GivesGraph};
 ghost use Rattle.build_effect.specs.ListingReaders.{line_failure};
 
-use crate::fault::{LineCause, LineFault, ListingFault};
+use crate::fault::{LineCause, LineFault, ListFault};
 use crate::graph::Graph;
 use crate::listing::rows::row_of;
 use crate::listing::state::{Binding, ListingState, take_row};
 use ninja_text::{CutFault, Failure, Line, LineReader, LineState};
 use std::alloc::Global;
-use std::hash::{BuildHasher, BuildHasherDefault, FoldHasher};
 use std::marker::Model;
 
 /// Reads an edge listing that comes in pieces: build lines with their bindings `dyndep` and
@@ -54,67 +53,57 @@ impl ListingReader {
         }
     }
 
-    /// Takes the next piece of the text, all of it.
+    /// Reads the next piece of the text, all of it.
     ///
-    /// E3, the first faulty line, is answered as soon as its end is there, and `LineTooLong` as
-    /// soon as 1,048,576 bytes hold no end. After a refusal, `Memory` included, the answer is the
-    /// same from then on.
-    pub fn feed(&mut self, piece: &[u8]) -> Result<(), Failure<LineFault>>
+    /// # Errors
+    ///
+    /// - E3, the first faulty line, is reported as soon as the line's end has been read. A line of
+    ///   which 1,048,576 bytes hold no end is reported at once.
+    /// - `Memory`: an allocation fails.
+    ///
+    /// After an error the reader returns the same error from then on.
+    pub fn feed(&mut self, piece: &[u8]) -> Result<(), Failure<ListFault>>
         ensures failed { (failure : Failure LineFault) → self.old.failed ≡ Some failure →
-            (result ≡ Err failure) × (self.new ≡ self.old) }
+            (result ≡ Err (line_failure failure)) × (self.new ≡ self.old) }
         // Whatever bytes it was fed before this piece.
         ensures all { (bytes : Bytes) → HasReadListing bytes self.old →
             FeedsListing (bytes ++ piece.now) result self.new }
     {
-        self.lines.feed(piece)
+        match self.lines.feed(piece) {
+            Ok(()) => Ok(()),
+            Err(failure) => Err(failure.map(ListFault::AtLine)),
+        }
     }
 
-    /// The graph of the edges listed, once all of the text was fed.
+    /// Returns the graph of the edges listed, once all of the text was fed.
     ///
-    /// E3 `Truncated` where the last line has no end; else E1 or E2 where the edges listed are no
-    /// graph. A reader that refused answers the same once more.
+    /// # Errors
     ///
-    /// Paths are hashed with a fixed seed, so whoever chooses them can make them collide, and the
-    /// work is quadratic then. Where strangers write the listing, call
-    /// [`ListingReader::finish_with_hasher`].
-    pub fn finish(self) -> Result<Graph, Failure<ListingFault>>
-        ensures failed { (failure : Failure LineFault) → self.failed ≡ Some failure →
-            result ≡ Err (line_failure failure) }
-        ensures all { (bytes : Bytes) → HasReadListing bytes self → EndsListing bytes result }
-    {
-        self.finish_with_hasher(BuildHasherDefault::<FoldHasher>::new())
-    }
-
-    /// What [`ListingReader::finish`] answers, with paths hashed by `hash_builder`: a `RandomState`
-    /// where strangers write the listing. Nothing is hashed before the end.
-    pub fn finish_with_hasher<S: BuildHasher + Copy>(
-        self,
-        hash_builder: S,
-    ) -> Result<Graph, Failure<ListingFault>>
+    /// - The error that `feed` reported, if it reported one.
+    /// - E3 `Truncated`: otherwise, the last line has no end.
+    /// - E1 or E2: otherwise, the edges listed are not a graph, as [`Graph::new`] reports it.
+    /// - `Memory`: an allocation fails.
+    pub fn finish(self) -> Result<Graph, Failure<ListFault>>
         ensures failed { (failure : Failure LineFault) → self.failed ≡ Some failure →
             result ≡ Err (line_failure failure) }
         ensures all { (bytes : Bytes) → HasReadListing bytes self → EndsListing bytes result }
     {
         let ListingReader { alloc, lines } = self;
         match lines.finish() {
-            Ok(end) => graph_of(alloc, end.0, hash_builder),
-            Err(failure) => Err(failure.map(ListingFault::AtLine)),
+            Ok(end) => graph_of(alloc, end.0),
+            Err(failure) => Err(failure.map(ListFault::AtLine)),
         }
     }
 }
 
-/// The graph of the edges listed, or why they are none.
-fn graph_of<S: BuildHasher + Copy>(
-    alloc: Global,
-    state: ListingState,
-    hash_builder: S,
-) -> Result<Graph, Failure<ListingFault>>
+/// Returns the graph of the edges listed.
+fn graph_of(alloc: Global, state: ListingState) -> Result<Graph, Failure<ListFault>>
     ensures { GivesGraph state.edges result }
 {
     let ListingState { edges, binding: _ } = state;
-    match Graph::new_with_hasher(alloc, edges, hash_builder) {
+    match Graph::new(alloc, edges) {
         Ok(graph) => Ok(graph),
-        Err(failure) => Err(failure.map(ListingFault::NoGraph)),
+        Err(failure) => Err(failure.map(ListFault::NoGraph)),
     }
 }
 

@@ -9,18 +9,43 @@ ghost use Rattle.build_effect.specs.ListingWriting.{marked_text, edge_line, dynd
 use crate::edge::Edge;
 use crate::fault::ListingWriteFault;
 use crate::graph::Graph;
-use crate::listing::lengths::text_len;
-use ninja_text::{Counted, Failure, Path, WriteCall, escape_into};
+use ninja_text::{Counted, Failure, LINE_LIMIT, Path, WriteCall, escape_into};
 use std::alloc::{AllocError, Global};
 
-/// Writes the edges of a graph as Ninja spells them (Ninja 1.11 manual, "Build statements"): for
-/// each its build line, and its bindings `dyndep` and `restat`.
+impl Graph {
+    /// Returns the edges as an edge listing (Ninja 1.11 manual, "Build statements"): for each edge
+    /// its build line, and then its bindings `dyndep` and `restat`. Paths are escaped.
+    ///
+    /// # Errors
+    ///
+    /// - E9 `ListingTooLong`: a build line has more than 1,048,576 bytes, its end included. The
+    ///   first such edge is reported.
+    /// - `Memory`: an allocation fails.
+    pub fn to_text(&self, alloc: Global) -> Result<Vec<u8>, Failure<ListingWriteFault>>
+        ensures { Gives (λ text. text.items) result (listing_text_or_fault self.now) }
+    {
+        let mut text = Vec::new(alloc);
+        for (edge_index, edge) in self.edges().iter().enumerate() {
+            let start = text.len();
+            push_line(&mut text, edge)?;
+            if text.len() - start > LINE_LIMIT {
+                return Err(Failure::Fault(ListingWriteFault::ListingTooLong { edge: edge_index }));
+            }
+            push_dyndep(&mut text, &edge.dyndep)?;
+            push_restat(&mut text, edge.restat)?;
+        }
+        Ok(text)
+    }
+}
+
+/// Writes the edges of a graph as an edge listing, as [`Graph::to_text`] returns it.
 ///
-/// Too long a build line is reported before the first byte, as is `Memory`: the writer is as it
-/// was then. After an `Io` exactly that many bytes went out, and they are a beginning of the text.
+/// # Errors
 ///
-/// The length of the text is counted first, and the text is made in one buffer of that length. Too
-/// long a build line is reported before this memory is asked for.
+/// - E9 `ListingTooLong`: a build line is too long. Nothing was written.
+/// - `Memory`: an allocation fails. Nothing was written.
+/// - Y3 `Io`: the writer failed. Exactly `written` bytes went out before, from the beginning of the
+///   text.
 pub fn listing_write<W: WriteCall>(
     alloc: Global,
     graph: &Graph,
@@ -34,32 +59,13 @@ pub fn listing_write<W: WriteCall>(
         (listing_text graph.now) result }
     ensures fault { AnswersTooLong (first_too_long graph.now) result }
 {
-    let text = text_of(alloc, graph.edges())?;
+    let text = graph.to_text(alloc)?;
     match out.write_text(text.as_slice()) {
         Ok(()) => Ok(()),
         Err(stopped) => Err(Failure::Fault(ListingWriteFault::Io {
             written: stopped.written,
         })),
     }
-}
-
-/// The text of the edges, or the first of them whose build line is too long.
-fn text_of(alloc: Global, edges: &[Edge]) -> Result<Vec<u8>, Failure<ListingWriteFault>>
-    ensures { Gives (λ text. text.items) result (listing_text_or_fault edges.now) }
-{
-    let len = match text_len(edges) {
-        Ok(len) => len,
-        Err(fault) => return Err(Failure::Fault(fault)),
-    };
-    // The only memory that is asked for: what is appended has just this length, so the vector never
-    // grows, and no growth of it can be refused.
-    let mut text = Vec::with_capacity(alloc, len)?;
-    for edge in edges {
-        push_line(&mut text, edge)?;
-        push_dyndep(&mut text, &edge.dyndep)?;
-        push_restat(&mut text, edge.restat)?;
-    }
-    Ok(text)
 }
 
 /// Appends the build line of an edge.

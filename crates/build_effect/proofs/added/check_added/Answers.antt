@@ -10,17 +10,17 @@ abbrev text_of : Bor (List ℕ) → List ℕ
 text_of text = text.now
 
 pub index-requires : goal.index-requires
-index-requires _ c =
+index-requires c =
     let within = subst (λ o. IfSome o (λ k. k < length c.as_slice.result.now)) c.in-Some.is c.in_ok-first_made.ensures.within in
     omega (arith, within, c.as_slice.ensures.len)
 
 pub returns-in-None-clause-ok : goal.returns-in-None-clause-ok
-returns-in-None-clause-ok _ c = λ g are.
+returns-in-None-clause-ok c = λ g are.
     let texts : map text_of c.as_slice.result.now ≡ added_outputs c.args.additions.now = ap (map text_of) c.as_slice.ensures.value ∙ c.in_ok-files.ensures in
     subst (λ xs. FindsMade g xs None) texts (subst (FindsMade g (map text_of c.as_slice.result.now)) c.in-None.is (c.in_ok-first_made.ensures.made g are))
 
 pub returns-clause-fault : goal.returns-clause-fault
-returns-clause-fault _ c = λ g are.
+returns-clause-fault c = λ g are.
     let k : ℕ = c.in-Some.file_index in
     let items = c.in_ok-files.files.items in
     let texts : map text_of c.as_slice.result.now ≡ added_outputs c.args.additions.now = ap (map text_of) c.as_slice.ensures.value ∙ c.in_ok-files.ensures in

@@ -14,7 +14,7 @@ abbrev text_of : Bor (List ℕ) → List ℕ
 text_of text = text.now
 
 pub returns-then-is_some-clause-made : goal.returns-then-is_some-clause-made
-returns-then-is_some-clause-made _ c = λ g are.
+returns-then-is_some-clause-made c = λ g are.
     let files = c.args.files.now in
     let i = c.loop-file_index.file_index in
     let maker = maker_in c.args.makers.now.table in
@@ -23,7 +23,7 @@ returns-then-is_some-clause-made _ c = λ g are.
     made_here g maker are (map text_of files) i c.loop-file_index.invariant.unmade (subst AllDiffer (map_take text_of i files) c.loop-file_index.invariant.differ) c.index-files-file_index.result.now some.0 at (sym c.maker_of.ensures ∙ some.1)
 
 pub returns-then-not-is_new-clause-made : goal.returns-then-not-is_new-clause-made
-returns-then-not-is_new-clause-made _ c = λ g are.
+returns-then-not-is_new-clause-made c = λ g are.
     let files = c.args.files.now in
     let i = c.loop-file_index.file_index in
     let h = c.in_ok-is_new.ensures in
@@ -33,7 +33,7 @@ returns-then-not-is_new-clause-made _ c = λ g are.
     repeated_here g (maker_in c.args.makers.now.table) are (map text_of files) i c.loop-file_index.invariant.unmade (subst AllDiffer (map_take text_of i files) c.loop-file_index.invariant.differ) repeated.0 repeated.1
 
 pub loop-file_index-preserved : goal.loop-file_index-preserved
-loop-file_index-preserved _ c =
+loop-file_index-preserved c =
     let files = c.args.files.now in
     let i = c.loop-file_index.file_index in
     let h = c.in_ok-is_new.ensures in
@@ -46,7 +46,7 @@ loop-file_index-preserved _ c =
     }
 
 pub returns-clause-made : goal.returns-clause-made
-returns-clause-made _ c = λ g are k file at before.
+returns-clause-made c = λ g are k file at before.
     let files = c.args.files.now in
     let i = c.loop-file_index.file_index in
     let within = slice_get_within (map text_of files) k file at in
@@ -54,14 +54,14 @@ returns-clause-made _ c = λ g are k file at before.
     (omega (arith, within, length-map files text_of, c.loop-file_index-test.false)) at before
 
 pub loop-file_index-init : goal.loop-file_index-init
-loop-file_index-init _ c = record {
+loop-file_index-init c = record {
   same = c.requires;
   differ = record { differ = λ i j x lt at again. cc };
   unmade = λ k file lt at. absurd (omega (arith, lt));
 }
 
 pub returns-then-is_some-clause-within : goal.returns-then-is_some-clause-within
-returns-then-is_some-clause-within _ c = c.loop-file_index-test.true
+returns-then-is_some-clause-within c = c.loop-file_index-test.true
 
 pub returns-then-not-is_new-clause-within : goal.returns-then-not-is_new-clause-within
-returns-then-not-is_new-clause-within _ c = c.loop-file_index-test.true
+returns-then-not-is_new-clause-within c = c.loop-file_index-test.true

@@ -4,7 +4,7 @@ use Rattle.ninja_text.specs.Firsts.{AllDiffer}
 use Rattle.build_effect.proofs.added.first_made_or_seen.Given as goal
 
 abbrev pub invariant-loop-file_index : goal.invariant-loop-file_index
-invariant-loop-file_index g l = record {
+invariant-loop-file_index l = record {
   same : l.seen.keys ≡ take l.file_index l.files;
   differ : AllDiffer (map (λ file. file.now) (take l.file_index l.files));
   unmade : (k : ℕ) (file : List ℕ) → k < l.file_index → slice_get (map (λ file. file.now) l.files) k ≡ Some file → maker_in l.makers.table file ≡ None;

@@ -10,7 +10,7 @@ use Rattle.build_effect.proofs.Reports.{reports_bad_path}
 use Rattle.build_effect.proofs.all_checks.checked_statements.Goals as goal
 
 pub returns-in_err-additions-clause-fault : goal.returns-in_err-additions-clause-fault
-returns-in_err-additions-clause-fault _ c =
+returns-in_err-additions-clause-fault c =
     let g : List EdgeValue = c.args.edges.now in
     let name : List ℕ = c.args.name.now in
     let ss : List StatementValue = c.args.statements.now in
@@ -18,7 +18,7 @@ returns-in_err-additions-clause-fault _ c =
     rw (p.1, p.2) (for_fault (IsBadStatement ss) (IsEffectFault g name ss) (λ fault h. reports_bad_path g name ss fault h) _ c.in_err-additions.ensures.fault)
 
 pub returns-in_err-statement_of-clause-fault : goal.returns-in_err-statement_of-clause-fault
-returns-in_err-statement_of-clause-fault _ c =
+returns-in_err-statement_of-clause-fault c =
     let g : List EdgeValue = c.args.edges.now in
     let name : List ℕ = c.args.name.now in
     let ss : List StatementValue = c.args.statements.now in
@@ -27,7 +27,7 @@ returns-in_err-statement_of-clause-fault _ c =
     (λ fault h. subst (λ xs. IsFaultOf g name xs fault) c.deref.ensures.value h ss c.in_ok-additions.ensures.canonical) _ c.in_err-statement_of.ensures.fault)
 
 pub returns-clause-checked : goal.returns-clause-checked
-returns-clause-checked _ c =
+returns-clause-checked c =
     let g : List EdgeValue = c.args.edges.now in
     record {
       canonical = c.in_ok-additions.ensures.canonical;

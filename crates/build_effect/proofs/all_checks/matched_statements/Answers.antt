@@ -11,7 +11,7 @@ use Rattle.build_effect.proofs.Reports.{reports_unbound, reports_repeated, repor
 use Rattle.build_effect.proofs.all_checks.matched_statements.Goals as goal
 
 pub returns-in_err-edge_of-clause-fault : goal.returns-in_err-edge_of-clause-fault
-returns-in_err-edge_of-clause-fault _ c =
+returns-in_err-edge_of-clause-fault c =
     let g : List EdgeValue = c.args.edges.now in
     let name : List ℕ = c.args.name.now in
     let additions : List StatementValue = c.args.additions.now in
@@ -19,16 +19,16 @@ returns-in_err-edge_of-clause-fault _ c =
     rw (p.1, p.2) (for_fault (IsFirstUnbound g name additions) (IsFaultOf g name additions) (reports_unbound g name additions) _ c.in_err-edge_of.ensures.fault)
 
 pub statements_of_edges-requires-clause-edges : goal.statements_of_edges-requires-clause-edges
-statements_of_edges-requires-clause-edges _ c =
+statements_of_edges-requires-clause-edges c =
     let g : List EdgeValue = c.args.edges.now in
     subst (All (λ edge. edge < length g)) (sym c.deref.ensures.value)
     (edges_within g c.args.name.now c.args.additions.now c.in_ok-edge_of.edge_of.items c.requires.graph.made_once c.in_ok-edge_of.ensures.edges)
 
 pub statements_of_edges-requires-clause-each : goal.statements_of_edges-requires-clause-each
-statements_of_edges-requires-clause-each _ c = ap length c.deref.ensures.value ∙ c.in_ok-edge_of.ensures.edges.count
+statements_of_edges-requires-clause-each c = ap length c.deref.ensures.value ∙ c.in_ok-edge_of.ensures.edges.count
 
 pub returns-in_err-statement_of-clause-fault : goal.returns-in_err-statement_of-clause-fault
-returns-in_err-statement_of-clause-fault _ c =
+returns-in_err-statement_of-clause-fault c =
     let g : List EdgeValue = c.args.edges.now in
     let name : List ℕ = c.args.name.now in
     let additions : List StatementValue = c.args.additions.now in
@@ -39,13 +39,13 @@ returns-in_err-statement_of-clause-fault _ c =
     (subst (λ ps. IsFirstRepeated ps additions fault) c.deref.ensures.value h)) _ c.in_err-statement_of.ensures.fault)
 
 pub check_mentioned-requires-clause-outputs : goal.check_mentioned-requires-clause-outputs
-check_mentioned-requires-clause-outputs _ c = have_outputs c.args.edges.now c.requires.graph
+check_mentioned-requires-clause-outputs c = have_outputs c.args.edges.now c.requires.graph
 
 pub check_mentioned-requires-clause-each : goal.check_mentioned-requires-clause-each
-check_mentioned-requires-clause-each _ c = ap length c.deref-2.ensures.value ∙ c.in_ok-statement_of.ensures.statements.as_many
+check_mentioned-requires-clause-each c = ap length c.deref-2.ensures.value ∙ c.in_ok-statement_of.ensures.statements.as_many
 
 pub returns-in_err-check_mentioned-clause-fault : goal.returns-in_err-check_mentioned-clause-fault
-returns-in_err-check_mentioned-clause-fault _ c =
+returns-in_err-check_mentioned-clause-fault c =
     let g : List EdgeValue = c.args.edges.now in
     let name : List ℕ = c.args.name.now in
     let additions : List StatementValue = c.args.additions.now in
@@ -57,7 +57,7 @@ returns-in_err-check_mentioned-clause-fault _ c =
     (λ fault h. reports_unmentioned g name additions edge_of c.requires.graph.made_once c.in_ok-edge_of.ensures.edges statement_of inverse fault (subst (λ o. IsFirstUnmentioned g name o fault) c.deref-2.ensures.value h)) _ c.in_err-check_mentioned.ensures.fault)
 
 pub returns-in_err-check_added-clause-fault : goal.returns-in_err-check_added-clause-fault
-returns-in_err-check_added-clause-fault _ c =
+returns-in_err-check_added-clause-fault c =
     let g : List EdgeValue = c.args.edges.now in
     let name : List ℕ = c.args.name.now in
     let additions : List StatementValue = c.args.additions.now in
@@ -71,7 +71,7 @@ returns-in_err-check_added-clause-fault _ c =
     (λ fault h. reports_made g name additions statement_of fault matched (h g c.requires.makers)) _ c.in_err-check_added.ensures.fault)
 
 pub returns-clause-matched : goal.returns-clause-matched
-returns-clause-matched _ c =
+returns-clause-matched c =
     let g : List EdgeValue = c.args.edges.now in
     let name : List ℕ = c.args.name.now in
     let edge_of : List ℕ = c.in_ok-edge_of.edge_of.items in
@@ -81,4 +81,4 @@ returns-clause-matched _ c =
     all_matched g name c.args.additions.now edge_of c.requires.graph.made_once c.in_ok-edge_of.ensures.edges statement_of inverse have
 
 pub returns-clause-fresh : goal.returns-clause-fresh
-returns-clause-fresh _ c = c.in_ok-check_added.ensures.ok c.args.edges.now c.requires.makers
+returns-clause-fresh c = c.in_ok-check_added.ensures.ok c.args.edges.now c.requires.makers

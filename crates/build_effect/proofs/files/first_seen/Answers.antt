@@ -7,7 +7,7 @@ abbrev text_of : Bor (List ℕ) → List ℕ
 text_of text = text.now
 
 pub returns-then-not-is_new : goal.returns-then-not-is_new
-returns-then-not-is_new g c =
+returns-then-not-is_new c =
     let h = c.in_ok-first.ensures in
     let stored = h.stored in
     let at = slice_get_read c.args.files.now _ c.loop-file_index.file_index c.index-files-file_index.result refl c.loop-file_index-test.true c.index-files-file_index.is in
@@ -16,7 +16,7 @@ returns-then-not-is_new g c =
     c.in_ok-first.first (sym c.if-not-is_new.true ∙ h.added) stored.0 stored.1 stored.2
 
 pub loop-file_index-preserved : goal.loop-file_index-preserved
-loop-file_index-preserved g c =
+loop-file_index-preserved c =
     let h = c.in_ok-first.ensures in
     let at = slice_get_read c.args.files.now _ c.loop-file_index.file_index c.index-files-file_index.result refl c.loop-file_index-test.true c.index-files-file_index.is in
     record {

@@ -15,7 +15,7 @@ repeated_within files all i j are repeated =
     omega (arith, within, ap length are, length-map files (λ (x : Bor (List ℕ)). x.now))
 
 pub index-requires : goal.index-requires
-index-requires _ c =
+index-requires c =
     let g = c.args.edges.now in
     let texts : map (λ (x : Bor (List ℕ)). x.now) c.as_slice.result.now ≡ made_files g = ap (map (λ x. x.now)) c.as_slice.ensures.value ∙ c.in_ok-files.ensures in
     let found = subst (λ xs. FindsRepetition xs c.in_ok-first_repetition.field-0) texts c.in_ok-first_repetition.ensures in
@@ -23,13 +23,13 @@ index-requires _ c =
     omega (arith, repeated_within c.in_ok-files.files.items (made_files g) c.in-Some.indices.0 c.in-Some.indices.1 c.in_ok-files.ensures repeated, c.in_ok-files.files.ok.0)
 
 pub returns-in-None-clause-ok : goal.returns-in-None-clause-ok
-returns-in-None-clause-ok _ c =
+returns-in-None-clause-ok c =
     let files : map (λ (x : Bor (List ℕ)). x.now) c.as_slice.result.now ≡ made_files c.args.edges.now = ap (map (λ x. x.now)) c.as_slice.ensures.value ∙ c.in_ok-files.ensures in
     let found = subst (λ xs. FindsRepetition xs c.in_ok-first_repetition.field-0) files c.in_ok-first_repetition.ensures in
     made_once c.args.edges.now (subst (FindsRepetition (made_files c.args.edges.now)) c.in-None.is found)
 
 pub returns-clause-fault : goal.returns-clause-fault
-returns-clause-fault _ c =
+returns-clause-fault c =
     let g = c.args.edges.now in
     let texts : map (λ (x : Bor (List ℕ)). x.now) c.as_slice.result.now ≡ made_files g = ap (map (λ x. x.now)) c.as_slice.ensures.value ∙ c.in_ok-files.ensures in
     let found = subst (λ xs. FindsRepetition xs c.in_ok-first_repetition.field-0) texts c.in_ok-first_repetition.ensures in

@@ -7,7 +7,7 @@ use Rattle.build_effect.proofs.MakerTables.{more_added, makers_next}
 use Rattle.build_effect.proofs.makers.add_edges.Goals as goal
 
 pub loop-edge_index-preserved : goal.loop-edge_index-preserved
-loop-edge_index-preserved g c =
+loop-edge_index-preserved c =
     let edges = c.args.edges.now in
     let i = c.loop-edge_index.edge_index in
     let edge : EdgeValue = c.index-edges-edge_index.result in
@@ -22,4 +22,4 @@ loop-edge_index-preserved g c =
     (more_added edge.outputs edge.implicit_outputs i before between after xs ys)
 
 pub returns : goal.returns
-returns g c = subst (λ es. AreMakers es (maker_in c.loop-edge_index.makers)) (take_all c.loop-edge_index.edge_index c.args.edges.now c.loop-edge_index-test.false) c.loop-edge_index.invariant
+returns c = subst (λ es. AreMakers es (maker_in c.loop-edge_index.makers)) (take_all c.loop-edge_index.edge_index c.args.edges.now c.loop-edge_index-test.false) c.loop-edge_index.invariant

@@ -3,4 +3,4 @@ use Rattle.build_effect.specs.inner.Makers.{maker_in, AreMakers}
 use Rattle.build_effect.proofs.makers.add_edges.Given as goal
 
 abbrev pub invariant-loop-edge_index : goal.invariant-loop-edge_index
-invariant-loop-edge_index g l = AreMakers (take l.edge_index l.edges) (maker_in l.makers)
+invariant-loop-edge_index l = AreMakers (take l.edge_index l.edges) (maker_in l.makers)

@@ -9,7 +9,7 @@ use Rattle.build_effect.proofs.needs.add_makers.Goals as goal
 use Rattle.build_effect.proofs.needs.add_makers.Goals.{in-Some+in_ok-push-in-Some, in-None}
 
 pub loop-file-preserved : goal.loop-file-preserved
-loop-file-preserved g c =
+loop-file-preserved c =
     let h = maker_in c.args.makers.now.table in
     let xs = c.args.files.now in
     let i = c.loop-file.file-index in
@@ -21,7 +21,7 @@ loop-file-preserved g c =
     ]
 
 pub loop-file-init : goal.loop-file-init
-loop-file-init g c = sym (append-nil c.args.row.now.items)
+loop-file-init c = sym (append-nil c.args.row.now.items)
 
 pub returns : goal.returns
-returns g c = c.loop-file.invariant ∙ ap (λ fs. c.args.row.now.items ++ filter_map (maker_in c.args.makers.now.table) fs) (take_all c.loop-file.file-index c.args.files.now c.loop-file-test.false)
+returns c = c.loop-file.invariant ∙ ap (λ fs. c.args.row.now.items ++ filter_map (maker_in c.args.makers.now.table) fs) (take_all c.loop-file.file-index c.args.files.now c.loop-file-test.false)

@@ -6,7 +6,7 @@ use Rattle.build_effect.proofs.EdgeSorting.{three_lists}
 use Rattle.build_effect.proofs.needs.edge_needs.Goals as goal
 
 pub returns : goal.returns
-returns _ c =
+returns c =
     let edge : EdgeValue = c.args.edge.now in
     let h = maker_in c.args.makers.now.table in
     let first : c.add_makers.new.row.items ≡ [] ++ filter_map h edge.inputs = c.in_ok-add_makers.ensures ∙ ap (λ l. l ++ filter_map h c.deref.result.now) c.new-row.ensures.items ∙ ap (filter_map h) (c.deref.ensures.value ∙ ap (λ (e : EdgeValue). e.inputs) c.edge.view_is) in

@@ -9,7 +9,7 @@ use Rattle.build_effect.proofs.EdgeSorting.{mapped_next}
 use Rattle.build_effect.proofs.needs.needs_in.Goals as goal
 
 pub loop-edge-preserved : goal.loop-edge-preserved
-loop-edge-preserved _ c =
+loop-edge-preserved c =
     let edges = c.args.edges.now in
     let i = c.loop-edge.edge-index in
     let edge : EdgeValue = c.edge-item.result in
@@ -17,7 +17,7 @@ loop-edge-preserved _ c =
     mapped_next (λ (row : Vec ℕ Global). row.items) (makers_row (maker_in c.args.makers.now.table)) edges i edge c.loop-edge.needs.items c.push.new.self.items c.in_ok-edge_needs.field-0 at c.loop-edge.invariant c.in_ok-push.ensures.items c.in_ok-edge_needs.ensures
 
 pub loop-edge-init : goal.loop-edge-init
-loop-edge-init _ c = ap rows c.in_ok-needs.ensures.items
+loop-edge-init c = ap rows c.in_ok-needs.ensures.items
 
 pub returns : goal.returns
-returns _ c = c.loop-edge.invariant ∙ ap (map (makers_row (maker_in c.args.makers.now.table))) (take_all c.loop-edge.edge-index c.args.edges.now c.loop-edge-test.false)
+returns c = c.loop-edge.invariant ∙ ap (map (makers_row (maker_in c.args.makers.now.table))) (take_all c.loop-edge.edge-index c.args.edges.now c.loop-edge-test.false)

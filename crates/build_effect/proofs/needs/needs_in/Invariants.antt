@@ -6,4 +6,4 @@ use Rattle.build_effect.specs.inner.Makers.{maker_in}
 use Rattle.build_effect.proofs.needs.needs_in.Given as goal
 
 abbrev pub invariant-loop-edge : goal.invariant-loop-edge
-invariant-loop-edge g l = rows l.needs.items ≡ map (λ edge. filter_map (maker_in l.makers.table) (inputs_of edge)) (take l.edge-index l.edges)
+invariant-loop-edge l = rows l.needs.items ≡ map (λ edge. filter_map (maker_in l.makers.table) (inputs_of edge)) (take l.edge-index l.edges)

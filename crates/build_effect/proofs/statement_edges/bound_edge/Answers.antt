@@ -8,12 +8,12 @@ use Rattle.build_effect.proofs.Bindings.{unbound_maker, no_maker}
 use Rattle.build_effect.proofs.statement_edges.bound_edge.Goals as goal
 
 pub bounds-edges-edge : goal.bounds-edges-edge
-bounds-edges-edge _ c =
+bounds-edges-edge c =
     let found = c.requires.makers.found c.args.output.now c.in-Some.edge (sym c.in-Some.ensures) in
     slice_get_within c.args.edges.now c.in-Some.edge found.1.0 found.1.1
 
 pub returns-then-names : goal.returns-then-names
-returns-then-names _ c =
+returns-then-names c =
     let g : List EdgeValue = c.args.edges.now in
     let i : ℕ = c.in-Some.edge in
     let e : EdgeValue = c.index-edges-edge.result in
@@ -22,7 +22,7 @@ returns-then-names _ c =
     (e, at, c.if-names.ensures, (found.0, subst (λ x. slice_get (made_by x) found.0 ≡ Some c.args.output.now) (same_some _ _ (sym found.1.1 ∙ at)) found.1.2))
 
 pub returns-else-names : goal.returns-else-names
-returns-else-names _ c =
+returns-else-names c =
     let g = c.args.edges.now in
     let maker = maker_in c.args.makers.now.table in
     let found = c.requires.makers.found c.args.output.now c.in-Some.edge (sym c.in-Some.ensures) in
@@ -31,5 +31,5 @@ returns-else-names _ c =
     (slice_get_read g _ c.in-Some.edge c.index-edges-edge.result refl within c.index-edges-edge.is) c.if-names.ensures
 
 pub returns-in-None : goal.returns-in-None
-returns-in-None _ c =
+returns-in-None c =
     no_maker c.args.edges.now (maker_in c.args.makers.now.table) c.args.name.now c.args.output.now c.requires.makers (sym c.in-None.ensures)

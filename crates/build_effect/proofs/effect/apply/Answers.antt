@@ -11,10 +11,10 @@ use Rattle.build_effect.specs.inner.Extended.{AreExtended}
 use Rattle.build_effect.specs.declared.fault.EffectFault.{EffectFault}
 use Rattle.build_effect.proofs.Failures.{for_fault}
 use Rattle.build_effect.proofs.Extensions.{is_effect, is_graph}
-use Rattle.build_effect.proofs.effect.apply_with_hasher.Goals as goal
+use Rattle.build_effect.proofs.effect.apply.Goals as goal
 
 pub returns-in_err-checked-clause-fault : goal.returns-in_err-checked-clause-fault
-returns-in_err-checked-clause-fault _ c =
+returns-in_err-checked-clause-fault c =
     let g : List EdgeValue = c.args.graph.now in
     let name : List ℕ = c.args.name.now in
     let ss : List StatementValue = c.args.dyndep.now in
@@ -23,7 +23,7 @@ returns-in_err-checked-clause-fault _ c =
     rw (p.1, p.2) (for_fault (IsEffectFault c.edges-old.result.now name c.deref.result.now) (IsEffectFault g name ss) (λ fault h. (subst (λ xs. IsEffectFault g name xs fault) same (subst (λ es. IsEffectFault es name c.deref.result.now fault) c.edges-old.ensures.edges h))) _ c.in_err-checked.ensures.fault)
 
 pub returns-in_err-checked-clause-no_effect : goal.returns-in_err-checked-clause-no_effect
-returns-in_err-checked-clause-no_effect _ c =
+returns-in_err-checked-clause-no_effect c =
     let g : List EdgeValue = c.args.graph.now in
     let name : List ℕ = c.args.name.now in
     let ss : List StatementValue = c.args.dyndep.now in
@@ -34,16 +34,16 @@ returns-in_err-checked-clause-no_effect _ c =
     (λ fault h new effect. c.checks.ensures.exclude g name ss fault c.edges-old.ensures.graph.made_once (subst (λ xs. IsEffectFault g name xs fault) same (subst (λ es. IsEffectFault es name c.deref.result.now fault) c.edges-old.ensures.edges h)) new effect) _ c.in_err-checked.ensures.fault)
 
 pub extended_edges-requires-clause-each : goal.extended_edges-requires-clause-each
-extended_edges-requires-clause-each _ c = ap length c.as_slice-2.ensures.value ∙ c.in_ok-checked.ensures.checked.matched.as_many
+extended_edges-requires-clause-each c = ap length c.as_slice-2.ensures.value ∙ c.in_ok-checked.ensures.checked.matched.as_many
 
 pub extended_edges-requires-clause-within : goal.extended_edges-requires-clause-within
-extended_edges-requires-clause-within _ c = λ i k is.
+extended_edges-requires-clause-within c = λ i k is.
     let additions : List StatementValue = c.in_ok-checked.checked.additions.items in
     let on = c.in_ok-checked.ensures.checked.matched.on i k (subst (λ o. statement_on o i ≡ Some k) c.as_slice-2.ensures.value is) in
     subst (λ xs. k < length xs) (sym c.as_slice.ensures.value) (slice_get_within additions k on.0 on.1)
 
 pub invariant_of-result : goal.invariant_of-result
-invariant_of-result _ c =
+invariant_of-result c =
     let g : List EdgeValue = c.args.graph.now in
     let name : List ℕ = c.args.name.now in
     let ss : List StatementValue = c.args.dyndep.now in
@@ -58,7 +58,7 @@ invariant_of-result _ c =
     is_graph g name ss additions statement_of new checked are c.edges-old.ensures.graph c.checks.ensures.suffice
 
 pub returns-clause-effect : goal.returns-clause-effect
-returns-clause-effect _ c =
+returns-clause-effect c =
     let g : List EdgeValue = c.args.graph.now in
     let name : List ℕ = c.args.name.now in
     let ss : List StatementValue = c.args.dyndep.now in

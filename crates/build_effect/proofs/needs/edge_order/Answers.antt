@@ -7,17 +7,17 @@ use Rattle.build_effect.specs.EdgeValue.{EdgeValue}
 use Rattle.build_effect.specs.Graphs.{EdgeNeeds}
 use Rattle.build_effect.specs.inner.Makers.{AreNeeds}
 use Rattle.build_effect.proofs.EdgeSorting.{sorting_of, are_nodes}
-use Rattle.build_effect.proofs.needs.edge_order_with_hasher.Goals as goal
+use Rattle.build_effect.proofs.needs.edge_order.Goals as goal
 
 pub new-digraph-requires : goal.new-digraph-requires
-new-digraph-requires _ c =
+new-digraph-requires c =
     let g : List EdgeValue = c.args.graph.now in
     let needs : List (List ℕ) = rows c.in_ok-needs.needs.items in
     let are : AreNeeds g needs = subst (λ es. AreNeeds es needs) c.edges.ensures.edges c.in_ok-needs.ensures in
     subst NeedsAreNodes (sym are.2) (are_nodes g are.0 c.edges.ensures.graph.made_once are.1)
 
 pub returns : goal.returns
-returns _ c =
+returns c =
     let g : List EdgeValue = c.args.graph.now in
     let needs : List (List ℕ) = rows c.in_ok-needs.needs.items in
     let are : AreNeeds g needs = subst (λ es. AreNeeds es needs) c.edges.ensures.edges c.in_ok-needs.ensures in

@@ -3,14 +3,14 @@ use Rattle.std.specs.Prelude.{All}
 use Rattle.build_effect.specs.EdgeValue.{EdgeValue}
 use Rattle.build_effect.specs.Graphs.{MadeOnce}
 use Rattle.build_effect.proofs.GraphParts.{all_at}
-use Rattle.build_effect.proofs.graph.Graph.new_with_hasher.Goals as goal
+use Rattle.build_effect.proofs.graph.Graph.new.Goals as goal
 
 pub check_dyndeps-requires-clause-made_once : goal.check_dyndeps-requires-clause-made_once
-check_dyndeps-requires-clause-made_once g c =
+check_dyndeps-requires-clause-made_once c =
     subst MadeOnce (sym c.as_slice-2.ensures.value) (subst MadeOnce c.as_slice.ensures.value c.in_ok-check_made.ensures.ok)
 
 pub invariant_of-result : goal.invariant_of-result
-invariant_of-result g c =
+invariant_of-result c =
     record {
       outputs = all_at (λ (e : EdgeValue). e.outputs ≢ []) c.args.edges.items c.requires;
       made_once = subst MadeOnce c.as_slice.ensures.value c.in_ok-check_made.ensures.ok;
@@ -18,4 +18,4 @@ invariant_of-result g c =
     }
 
 pub check_dyndeps-requires-clause-outputs : goal.check_dyndeps-requires-clause-outputs
-check_dyndeps-requires-clause-outputs g c = subst (All (λ e. e.outputs ≢ [])) (sym c.as_slice-2.ensures.value) c.requires
+check_dyndeps-requires-clause-outputs c = subst (All (λ e. e.outputs ≢ [])) (sym c.as_slice-2.ensures.value) c.requires

@@ -1,27 +1,27 @@
 use Rattle.std.proofs.Common.{◌≡◌, ◌∙◌, ap, sym, subst, refl, Err}
-use Rattle.build_effect.specs.declared.fault.ListingFault.TheVariants.{AtLine}
+use Rattle.build_effect.specs.declared.fault.ListFault.TheVariants.{AtLine}
 use Rattle.build_effect.specs.ListingReaders.{HasReadListing, EndsListing, line_failure}
 use Rattle.build_effect.proofs.ListingLemmas.{listed, ended, graph_ends, turned_to}
-use Rattle.build_effect.proofs.listing.reader.ListingReader.finish_with_hasher.Goals as goal
+use Rattle.build_effect.proofs.listing.reader.ListingReader.finish.Goals as goal
 
 pub returns-in-Ok-clause-all : goal.returns-in-Ok-clause-all
-returns-in-Ok-clause-all g c = λ bytes before.
+returns-in-Ok-clause-all c = λ bytes before.
     let has : HasReadListing bytes c.self.inside.lines = subst (HasReadListing bytes) (sym c.self.view_is) before in
     graph_ends bytes c.in-Ok.end.0.edges c.graph_of.result (listed bytes c.self.inside.lines c.in-Ok.end has (c.in-Ok.ensures.all bytes)) c.graph_of.ensures
 
 pub returns-in-Ok-clause-failed : goal.returns-in-Ok-clause-failed
-returns-in-Ok-clause-failed g c = λ failure failed.
+returns-in-Ok-clause-failed c = λ failure failed.
     let is = c.in-Ok.ensures.failed failure (ap (λ v. v.failed) c.self.view_is ∙ failed) in
     cc
 
 pub returns-in-Err-clause-all : goal.returns-in-Err-clause-all
-returns-in-Err-clause-all g c = λ bytes before.
+returns-in-Err-clause-all c = λ bytes before.
     let has : HasReadListing bytes c.self.inside.lines = subst (HasReadListing bytes) (sym c.self.view_is) before in
     let same : c.map.result ≡ line_failure c.in-Err.failure = turned_to AtLine line_failure refl (λ fault. refl) c.in-Err.failure _ c.map.ensures in
     subst (λ f. EndsListing bytes (Err f)) (sym same) (ended bytes c.self.inside.lines c.in-Err.failure has (c.in-Err.ensures.all bytes))
 
 pub returns-in-Err-clause-failed : goal.returns-in-Err-clause-failed
-returns-in-Err-clause-failed g c = λ failure failed.
+returns-in-Err-clause-failed c = λ failure failed.
     let same : c.map.result ≡ line_failure c.in-Err.failure = turned_to AtLine line_failure refl (λ fault. refl) c.in-Err.failure _ c.map.ensures in
     let is = c.in-Err.ensures.failed failure (ap (λ v. v.failed) c.self.view_is ∙ failed) in
     let first : c.in-Err.failure ≡ failure = cc in

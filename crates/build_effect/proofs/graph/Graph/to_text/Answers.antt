@@ -1,0 +1,49 @@
+use Rattle.std.proofs.Common.{refl, ◌≡◌, ◌∙◌, ◌+◌, ◌<◌, ◌≤◌, ◌++◌, List, ℕ, length, Ok, Err, ap, sym, subst, arith, length-append}
+use Rattle.std.proofs.lemmas.List.{append-nil, at_drop_all}
+use Rattle.ninja_text.specs.Lines.{line_limit}
+use Rattle.build_effect.specs.EdgeValue.{EdgeValue}
+use Rattle.build_effect.specs.ListingWriting.{edge_line, dyndep_line, restat_line, listing_text, too_long_from, listing_text_unless, listing_text_or_fault}
+use Rattle.build_effect.specs.declared.fault.ListingWriteFault.TheVariants.{ListingTooLong}
+use Rattle.build_effect.proofs.ListingWrites.{text_goes_on, too_long_here, none_so_far}
+use Rattle.build_effect.proofs.graph.Graph.to_text.Goals as goal
+
+pub loop-edge_index-init : goal.loop-edge_index-init
+loop-edge_index-init c = record { text = ap (λ t. t ++ listing_text c.edges-edge-items.result.now) c.new-text.ensures.items; none = refl }
+
+-- said here, so that an edit of the limit is refused soon
+pub returns-then-len-start-gt-LINE_LIMIT : goal.returns-then-len-start-gt-LINE_LIMIT
+returns-then-len-start-gt-LINE_LIMIT c =
+    let edges : List EdgeValue = c.edges-edge-items.result.now in
+    let e : EdgeValue = c.edge-item.result in
+    let i : ℕ = c.loop-edge_index.edge_index in
+    let lengths : length c.push_line.new.text.items ≡ length c.loop-edge_index.text.items + length (edge_line e) = ap length c.in_ok-push_line.ensures ∙ length-append c.loop-edge_index.text.items (edge_line e) in
+    let long : line_limit < length (edge_line e) = omega (arith, lengths, c.len.ensures, c.len-start.ensures, c.if-len-start-gt-LINE_LIMIT.true) in
+    subst (λ (es : List EdgeValue). listing_text_or_fault es ≡ Err (ListingTooLong i)) c.edges-edge-items.ensures.edges
+    (too_long_here edges i e c.loop-edge_index-test.true c.edge-item.is c.loop-edge_index.invariant.none long)
+
+pub loop-edge_index-preserved : goal.loop-edge_index-preserved
+loop-edge_index-preserved c =
+    let edges : List EdgeValue = c.edges-edge-items.result.now in
+    let e : EdgeValue = c.edge-item.result in
+    let i : ℕ = c.loop-edge_index.edge_index in
+    let before : List ℕ = c.loop-edge_index.text.items in
+    let lengths : length c.push_line.new.text.items ≡ length before + length (edge_line e) = ap length c.in_ok-push_line.ensures ∙ length-append before (edge_line e) in
+    let short : length (edge_line e) ≤ line_limit = omega (arith, lengths, c.len.ensures, c.len-start.ensures, c.if-len-start-gt-LINE_LIMIT.false) in
+    let bindings : c.push_restat.new.text.items ≡ ((before ++ edge_line e) ++ dyndep_line c.edge.inside.dyndep) ++ restat_line c.edge.inside.restat =
+    c.in_ok-push_restat.ensures ∙ ap (λ t. t ++ restat_line c.edge.inside.restat) (c.in_ok-push_dyndep.ensures ∙ ap (λ t. t ++ dyndep_line c.edge.inside.dyndep) c.in_ok-push_line.ensures) in
+    let added : c.push_restat.new.text.items ≡ ((before ++ edge_line e) ++ dyndep_line e.dyndep) ++ restat_line e.restat =
+    bindings ∙ ap (λ (v : EdgeValue). ((before ++ edge_line e) ++ dyndep_line v.dyndep) ++ restat_line v.restat) c.edge.view_is in
+    record {
+      text = text_goes_on edges i e before c.push_restat.new.text.items c.loop-edge_index-test.true c.edge-item.is added c.loop-edge_index.invariant.text;
+      none = none_so_far edges i e c.loop-edge_index-test.true c.edge-item.is c.loop-edge_index.invariant.none short;
+    }
+
+pub returns : goal.returns
+returns c =
+    let edges : List EdgeValue = c.edges-edge-items.result.now in
+    let text : List ℕ = c.loop-edge_index.text.items in
+    let i : ℕ = c.loop-edge_index.edge_index in
+    let same : text ≡ listing_text edges = sym (append-nil text) ∙ sym (at_drop_all (λ es. text ++ listing_text es) edges i c.loop-edge_index-test.false) ∙ c.loop-edge_index.invariant.text in
+    let none = c.loop-edge_index.invariant.none ∙ at_drop_all (too_long_from i) edges i c.loop-edge_index-test.false in
+    subst (λ (es : List EdgeValue). listing_text_or_fault es ≡ Ok text) c.edges-edge-items.ensures.edges
+    (subst (λ t. listing_text_or_fault edges ≡ Ok t) (sym same) (ap (λ o. listing_text_unless o edges) none))
