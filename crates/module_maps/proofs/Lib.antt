@@ -1,2 +1,5 @@
 pub mod Pushes
 pub mod MapRows
+pub mod LinesOnly
+pub mod GccTexts
+pub mod ClangTexts

@@ -1,15 +1,13 @@
 -- Module maps, and what every style of them keeps to.
-use Rattle.std.specs.Prelude.{◌≡◌, ℕ, List, ◌++◌, map, slice_get, Some, Result, Ok, IsTrue, IsUtf8, AllPairs}
+use Rattle.std.specs.Prelude.{◌≡◌, ◌≢◌, ℕ, List, ◌++◌, map, slice_get, Some, Result, Ok, Err, IsTrue, IsUtf8, AllPairs}
 use Rattle.std.specs.List.{All}
-use Rattle.std.specs.Ordering.{nat_cmp}
-use Rattle.std.specs.Cmp.Lexicographic.{slice_cmp}
-use Rattle.std.specs.declared.cmp.Ordering.TheVariants.{Less}
 use Rattle.ninja_text.specs.Bytes.{Text, PathText, Name, Precedes}
 use Rattle.ninja_text.specs.Paths.{IsPath}
 use Rattle.scan_docs.specs.Name.{is_name}
 use Rattle.module_maps.specs.Values.{ModuleMapValue}
 use Rattle.module_maps.specs.declared.module_map.MapEntry.{MapEntry}
 use Rattle.module_maps.specs.declared.fault.MapFault.{MapFault}
+use Rattle.module_maps.specs.declared.fault.MapFault.TheVariants.{BadMapLine}
 
 -- the pairs of a map, provided ones first
 abbrev pub pairs_of : ModuleMapValue → List (Name × PathText)
@@ -48,6 +46,11 @@ Written = ModuleMapValue → Result Text MapFault
 abbrev pub Entries : Type 0
 Entries = Text → Result (List MapEntry) MapFault
 
+-- why a map cannot be written: K1 or K2, a fact about the map, and not K4, which is about a text
+abbrev pub FaultsAreOfMaps : Written → Type 0
+FaultsAreOfMaps written = (m : ModuleMapValue) (line : ℕ) →
+    IsModuleMap m → written m ≢ Err (BadMapLine line)
+
 -- what was written for a map is read as what the style keeps of it
 abbrev pub ReadsWritten : Written → (ModuleMapValue → List MapEntry) → Entries → Type 0
 ReadsWritten written kept entries = (m : ModuleMapValue) (text : Text) →
@@ -65,14 +68,9 @@ pub record IsWrittenText (written : Written) (kept : ModuleMapValue → List Map
   pub is_written : written value ≡ Ok text
   pub is_kept : found ≡ kept value
 
--- no other text is read than those that are written for maps
-abbrev pub ReadsWrittenOnly : Written → (ModuleMapValue → List MapEntry) → Entries → Type 0
-ReadsWrittenOnly written kept entries = (text : Text) (found : List MapEntry) →
-    entries text ≡ Ok found → IsWrittenText written kept text found
-
--- What every style keeps to.
+-- What every style guarantees.
 pub record AreStyleLaws (written : Written) (kept : ModuleMapValue → List MapEntry)
     (entries : Entries) : Type 0 where
+  pub faults_of_maps : FaultsAreOfMaps written
   pub reads_back : ReadsWritten written kept entries
-  pub reads_only : ReadsWrittenOnly written kept entries
   pub keeps_pairs : KeepsPairs kept

@@ -2,6 +2,7 @@
 ghost use Rattle.std.specs.Prelude.{◌≡◌, ◌++◌, ◌-◌, map, length, slice_get, IfOk, OnOk};
 ghost use Rattle.std.specs.List.{flat_map};
 ghost use Rattle.ninja_text.specs.Failure.{Gives};
+ghost use Rattle.module_maps.specs.Maps.{IsWrittenText};
 ghost use Rattle.module_maps.specs.MapLines.{ended_line, behind, lines_of};
 ghost use Rattle.module_maps.specs.ClangMaps.{file_line, output_flag, output_path, output_text, clang_text, rises_behind, read_provided};
 
@@ -16,15 +17,16 @@ use ninja_text::{Failure, Path};
 use scan_docs::Name;
 use std::alloc::{AllocError, Global};
 
-/// The style of Clang, for a response file (Clang documentation, "Standard C++ Modules"): where a
-/// module is provided, the lines `-x c++-module` and `-fmodule-output=PATH`; then for each needed
-/// module `-fmodule-file=NAME=PATH`. A map keeps no name of the provided module, and fits where its
-/// paths need no quotes and at most one module is provided.
+/// The style of Clang, for a response file (Clang documentation, "Standard C++ Modules").
+///
+/// If the object provides a module, the map has the lines `-x c++-module` and `-fmodule-output=PATH`.
+/// For each needed module it has a line `-fmodule-file=NAME=PATH`. The name of the provided module is
+/// not kept. A map fits if no path needs quotes and at most one module is provided.
 pub struct Clang;
 
 impl MapStyle for Clang {
     ghost use Rattle.module_maps.specs.ClangMaps.{clang_written, clang_kept, clang_entries};
-    ghost use Rattle.module_maps.specs.map_laws.ClangLemmas.{clang-back, clang-only, clang-pairs};
+    ghost use Rattle.module_maps.specs.map_laws.ClangLemmas.{clang-faults, clang-back, clang-pairs};
 
     ghost written = { λ _ m. clang_written m };
 
@@ -32,9 +34,9 @@ impl MapStyle for Clang {
 
     ghost entries = { λ _ text. clang_entries text };
 
-    ghost reads_back = { λ s m text is e. clang-back m text is e };
+    ghost faults_of_maps = { λ s m line is. clang-faults m line };
 
-    ghost reads_only = { λ s text found e. clang-only text found e };
+    ghost reads_back = { λ s m text is e. clang-back m text is e };
 
     ghost keeps_pairs = { λ s m is. clang-pairs m };
 
@@ -64,7 +66,18 @@ impl MapStyle for Clang {
         }
     }
 
-    fn read(&self, alloc: Global, text: &[u8]) -> Result<Vec<MapEntry>, Failure<MapFault>> {
+    /// Reads the entries of a text.
+    ///
+    /// # Errors
+    ///
+    /// Returns K4 with the first bad line if no map is written as this text, or [`Failure::Memory`] if
+    /// an allocation fails.
+    fn read(&self, alloc: Global, text: &[u8]) -> Result<Vec<MapEntry>, Failure<MapFault>>
+        ensures entries { Gives (λ found. found.items) result (clang_entries text.now) }
+        // The text was written for a map of which these entries are kept.
+        ensures written { IfOk result (λ found.
+            IsWrittenText clang_written clang_kept text.now found.items) }
+    {
         match cut_line(text) {
             Some((first, rest)) => {
                 if first == b"-x c++-module".as_slice() {
@@ -78,7 +91,7 @@ impl MapStyle for Clang {
     }
 }
 
-/// The lines of needed modules.
+/// The form of the lines of needed modules.
 impl LineForm for Clang {
     ghost use Rattle.module_maps.specs.ClangMaps.{clang_form};
 
@@ -109,7 +122,7 @@ impl LineForm for Clang {
     }
 }
 
-/// The lines after the first, which says that a module is provided.
+/// Reads the lines after `-x c++-module`.
 fn read_provided(alloc: Global, text: &[u8]) -> Result<Vec<MapEntry>, Failure<MapFault>>
     ensures { Gives (λ found. found.items) result (read_provided (lines_of text.now)) }
 {
@@ -126,7 +139,7 @@ fn read_provided(alloc: Global, text: &[u8]) -> Result<Vec<MapEntry>, Failure<Ma
     }
 }
 
-/// The path of a provided module's line.
+/// Returns the path in the line of a provided module, if it is one.
 fn output_path(alloc: Global, line: &[u8]) -> Result<Option<Path>, AllocError>
     ensures { IfOk result (λ path. path ≡ output_path (behind output_flag line.now)) }
 {
@@ -136,7 +149,7 @@ fn output_path(alloc: Global, line: &[u8]) -> Result<Option<Path>, AllocError>
     }
 }
 
-/// Whether a name comes after that of the last entry, if it has one.
+/// Returns whether a name comes after the name of the last entry, if it has one.
 fn rises_behind(entries: &[MapEntry], name: &Name) -> bool
     ensures { result ≡ rises_behind (slice_get entries.now (length entries.now - 1)) name.now }
 {
@@ -149,7 +162,7 @@ fn rises_behind(entries: &[MapEntry], name: &Name) -> bool
     }
 }
 
-/// The lines of a map.
+/// Returns the text of a map.
 fn text_of(alloc: Global, map: &ModuleMap) -> Result<Vec<u8>, AllocError>
     ensures { IfOk result (λ text. text.items ≡ clang_text map.now) }
 {

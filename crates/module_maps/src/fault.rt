@@ -1,18 +1,18 @@
-//! Why a map is not written, or a text not read as one.
+//! Errors of module maps.
 
 use ninja_text::Path;
 use thiserror::Error;
 
-/// Why a map is not written, or a text not read as one.
+/// Why a map cannot be written, or a text cannot be read as a map.
 #[derive(Debug, Drop, Error)]
 pub enum MapFault {
-    /// This path cannot be in a map of the style.
+    /// The style cannot express this path.
     #[error("K1 MapPath")]
     MapPath { path: Path },
-    /// The object provides two modules, and a map of the style has one.
+    /// The object provides two modules, but a map of the style has at most one.
     #[error("K2 TwoProvided")]
     TwoProvided,
-    /// This line of the text, from 1, is not one that the style writes there.
+    /// The style does not write this line, counted from 1, at its position.
     #[error("K4 BadMapLine line {line}")]
     BadMapLine { line: u64 },
 }

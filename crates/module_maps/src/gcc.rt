@@ -1,7 +1,8 @@
 //! The maps of GCC.
 ghost use Rattle.std.specs.Prelude.{◌≡◌, ◌++◌, Ok, IfOk, OnOk};
 ghost use Rattle.std.specs.List.{flat_map};
-ghost use Rattle.module_maps.specs.Maps.{pairs_of};
+ghost use Rattle.ninja_text.specs.Failure.{Gives};
+ghost use Rattle.module_maps.specs.Maps.{IsWrittenText, pairs_of};
 ghost use Rattle.module_maps.specs.MapLines.{ended_line};
 ghost use Rattle.module_maps.specs.GccMaps.{gcc_line};
 ghost use Rattle.module_maps.specs.declared.module_map.MapEntry.{MapEntry};
@@ -14,14 +15,15 @@ use ninja_text::{Failure, Path};
 use scan_docs::Name;
 use std::alloc::{AllocError, Global};
 
-/// The style of GCC's module mapper files (GCC manual, "C++ Module Mapper"): for each module a line
-/// with its name, a space and its path. A map keeps all names, and fits where no path has a byte
-/// below 33, 127, or one of `'`, `"`, `\`.
+/// The style of GCC's module mapper files (GCC manual, "C++ Module Mapper").
+///
+/// The map has a line with name, space and path for each module. All names are kept. A map fits if no
+/// path has a byte below 33, 127, or one of `'`, `"`, `\`.
 pub struct Gcc;
 
 impl MapStyle for Gcc {
     ghost use Rattle.module_maps.specs.GccMaps.{gcc_written, gcc_kept, gcc_entries};
-    ghost use Rattle.module_maps.specs.map_laws.GccLemmas.{gcc-back, gcc-only, gcc-pairs};
+    ghost use Rattle.module_maps.specs.map_laws.GccLemmas.{gcc-faults, gcc-back, gcc-pairs};
 
     ghost written = { λ _ m. gcc_written m };
 
@@ -29,9 +31,9 @@ impl MapStyle for Gcc {
 
     ghost entries = { λ _ text. gcc_entries text };
 
-    ghost reads_back = { λ s m text is e. gcc-back m text is e };
+    ghost faults_of_maps = { λ s m line is. gcc-faults m line };
 
-    ghost reads_only = { λ s text found e. gcc-only text found e };
+    ghost reads_back = { λ s m text is e. gcc-back m text is e };
 
     ghost keeps_pairs = { λ s m is. gcc-pairs m };
 
@@ -56,7 +58,18 @@ impl MapStyle for Gcc {
         }
     }
 
-    fn read(&self, alloc: Global, text: &[u8]) -> Result<Vec<MapEntry>, Failure<MapFault>> {
+    /// Reads the entries of a text.
+    ///
+    /// # Errors
+    ///
+    /// Returns K4 with the first bad line if no map is written as this text, or [`Failure::Memory`] if
+    /// an allocation fails.
+    fn read(&self, alloc: Global, text: &[u8]) -> Result<Vec<MapEntry>, Failure<MapFault>>
+        ensures entries { Gives (λ found. found.items) result (gcc_entries text.now) }
+        // The text was written for a map of which these entries are kept.
+        ensures written { IfOk result (λ found.
+            IsWrittenText gcc_written gcc_kept text.now found.items) }
+    {
         read_lines(alloc, self, Vec::new(alloc), 1, text)
     }
 }
@@ -82,7 +95,7 @@ impl LineForm for Gcc {
     }
 }
 
-/// The lines of a map.
+/// Returns the text of a map.
 fn text_of(alloc: Global, map: &ModuleMap) -> Result<Vec<u8>, AllocError>
     ensures { IfOk result (λ text.
         text.items ≡ flat_map (λ pair. ended_line (gcc_line pair)) (pairs_of map.now)) }

@@ -1,5 +1,4 @@
-//! What the styles of module maps share, and what helps to write another: the paths that can be in
-//! a map, and how its lines are read.
+//! Helpers for styles of module maps: which paths a map can have, and how its lines are read.
 ghost use Rattle.std.specs.Prelude.{◌≡◌, ◌<◌, ◌≤◌, ◌==◌, ◌++◌, [], ◌∷◌, length, map, Some, None, IfOk, OnOk, IfSome, MatchOption, option_copied, position};
 ghost use Rattle.ninja_text.specs.Failure.{Gives};
 ghost use Rattle.std.specs.List.{sum_by};
@@ -16,10 +15,14 @@ use std::str;
 
 /// The form of a style's lines.
 pub trait LineForm {
-    /// How a line is read, without its end, after the entries of the lines before it.
+    /// How a line without its end is read, given the entries of the lines before it.
     ghost form: { Self → LineForm };
 
-    /// The entry of a line, if it is of the form. `AllocError`: memory was refused.
+    /// Returns the entry of a line, or `None` if the line does not have the form.
+    ///
+    /// # Errors
+    ///
+    /// Returns an error if an allocation fails.
     fn entry(
         &self,
         alloc: Global,
@@ -29,9 +32,13 @@ pub trait LineForm {
         ensures { IfOk result (λ entry. entry ≡ form self.now entries.now line.now) };
 }
 
-/// The entries that there are, and those of the lines of a text, which are numbered on from
-/// `number`, 3 at most: at most two lines are before them. Or K4 with the first
-/// line that is not of the form, or has no end. `Memory`: memory was refused.
+/// Returns the earlier entries and the entries of the lines of a text. The first line has this number,
+/// which is at most 3.
+///
+/// # Errors
+///
+/// Returns K4 with the first line that does not have the form or has no end, or [`Failure::Memory`] if
+/// an allocation fails.
 pub fn read_lines<F: LineForm>(
     alloc: Global,
     form: &F,
@@ -61,7 +68,7 @@ pub fn read_lines<F: LineForm>(
     }
 }
 
-/// The first line of a text, without its end, and what follows it.
+/// Returns the first line of a text, without its end, and the rest of the text.
 pub(crate) fn cut_line(text: &[u8]) -> Option<(&[u8], &[u8])>
     ensures lines { MatchOption result (lines_of text.now ≡ text.now ∷ [])
         (λ c. lines_of text.now ≡ c.0.now ∷ lines_of c.1.now) }
@@ -70,7 +77,7 @@ pub(crate) fn cut_line(text: &[u8]) -> Option<(&[u8], &[u8])>
     cut(text, b'\n')
 }
 
-/// What is before the first such byte, and what is after it.
+/// Splits a text at the first byte that is the mark.
 fn cut(text: &[u8], mark: u8) -> Option<(&[u8], &[u8])>
     ensures cut { MatchOption result (cut mark text.now ≡ None)
         (λ c. cut mark text.now ≡ Some (c.0.now, c.1.now)) }
@@ -89,8 +96,12 @@ fn index_of(text: &[u8], mark: u8) -> Option<usize>
     text.iter().position(|b| *b == mark)
 }
 
-/// The module in a text: a name, the first byte that is the mark, and a path of a map.
-/// `AllocError`: memory was refused.
+/// Returns the module in a text: a name, the first byte that is the mark, and a path. Returns `None` if
+/// the text does not have this form.
+///
+/// # Errors
+///
+/// Returns an error if an allocation fails.
 pub fn pair_in(alloc: Global, mark: u8, text: &[u8]) -> Result<Option<(Name, Path)>, AllocError>
     ensures { IfOk result (λ pair. pair ≡ pair_in mark text.now) }
 {
@@ -106,7 +117,6 @@ pub fn pair_in(alloc: Global, mark: u8, text: &[u8]) -> Result<Option<(Name, Pat
     }
 }
 
-/// The text as a name of a module.
 #[tactic(auto, unfolding(crate::specs::MapLines::name_in))]
 fn name_in(alloc: Global, text: &[u8]) -> Result<Option<Name>, AllocError>
     ensures { IfOk result (λ name. name ≡ name_in text.now) }
@@ -117,8 +127,12 @@ fn name_in(alloc: Global, text: &[u8]) -> Result<Option<Name>, AllocError>
     }
 }
 
-/// The text as a path of a map: the canonical text of a path, with no byte that needs quotes.
-/// `AllocError`: memory was refused.
+/// Returns the path in a text. Returns `None` if the text is not canonical or has a byte that needs
+/// quotes.
+///
+/// # Errors
+///
+/// Returns an error if an allocation fails.
 #[tactic(auto, unfolding(crate::specs::MapLines::path_in))]
 pub fn path_in(alloc: Global, text: &[u8]) -> Result<Option<Path>, AllocError>
     ensures { IfOk result (λ path. path ≡ path_in text.now) }
@@ -139,14 +153,14 @@ pub fn path_in(alloc: Global, text: &[u8]) -> Result<Option<Path>, AllocError>
     }
 }
 
-/// Whether a path can be in a map.
+/// Returns whether a map can have this path.
 fn is_fit(path: &[u8]) -> bool
     ensures { result ≡ is_fit path.now }
 {
     path.iter().all(|b| *b >= 33 && *b != 127 && *b != b'\'' && *b != b'"' && *b != b'\\')
 }
 
-/// The first path of a map that cannot be in it, since a byte of it needs quotes.
+/// Returns the first path with a byte that needs quotes.
 pub fn first_unfit(map: &ModuleMap) -> Option<&Path>
     ensures { option_copied result ≡ first_unfit (pairs_of map.now) }
 {
@@ -167,8 +181,8 @@ fn unfit_in(pairs: &[(Name, Path)]) -> Option<&Path>
     None
 }
 
-/// How many bytes the lines of modules have, each with that many besides its name and its path, or
-/// the greatest number where they have more.
+/// Returns the total length of the lines of modules, each with this number of bytes besides name and
+/// path, or `usize::MAX` if it is larger.
 pub(crate) fn lines_len(pairs: &[(Name, Path)], beside: usize) -> usize
     ensures { result ≡ capped (sum_by (line_len beside) pairs.now) }
 {
@@ -184,7 +198,11 @@ pub(crate) fn lines_len(pairs: &[(Name, Path)], beside: usize) -> usize
     len
 }
 
-/// Adds the entries of modules, with their names. `AllocError`: memory was refused.
+/// Appends the entries of modules, with their names.
+///
+/// # Errors
+///
+/// Returns an error if an allocation fails.
 pub fn push_named(
     alloc: Global,
     entries: &mut Vec<MapEntry>,
@@ -203,7 +221,11 @@ pub fn push_named(
     Ok(())
 }
 
-/// Adds the entries of modules, without their names. `AllocError`: memory was refused.
+/// Appends the entries of modules, without their names.
+///
+/// # Errors
+///
+/// Returns an error if an allocation fails.
 pub fn push_nameless(
     alloc: Global,
     entries: &mut Vec<MapEntry>,

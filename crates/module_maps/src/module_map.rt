@@ -7,14 +7,14 @@ use ninja_text::Path;
 use scan_docs::Name;
 use std::marker::Model;
 
-/// A module as a map has it: its path, and its name where the style keeps it.
+/// A module that was read from a map: its path, and its name if the style keeps it.
 #[derive(Drop)]
 pub struct MapEntry {
     pub name: Option<Name>,
     pub path: Path,
 }
 
-/// The modules that an object provides, and those that it needs, whose names rise.
+/// The modules that an object provides and needs. The names of the needed modules rise.
 #[derive(Drop)]
 pub struct ModuleMap {
     provided: Vec<(Name, Path)>,
@@ -36,8 +36,8 @@ impl Model for ModuleMap {
 }
 
 impl ModuleMap {
-    /// The map of these modules, or `None` exactly where the needed names do not rise strictly in
-    /// byte order.
+    /// Returns the map of these modules, or `None` if the names of the needed modules do not rise
+    /// strictly in byte order.
     pub fn new(provided: Vec<(Name, Path)>, needed: Vec<(Name, Path)>) -> Option<ModuleMap>
         ensures map { IfSome result
             (λ map. map ≡ record { provided = provided.items; needed = needed.items }) }
@@ -52,7 +52,7 @@ impl ModuleMap {
         Some(ModuleMap { provided, needed })
     }
 
-    /// The modules that the object provides, in order of provision.
+    /// Returns the modules that the object provides, in order of provision.
     pub fn provided(&self) -> &[(Name, Path)]
         ensures pairs { result.now ≡ self.now.provided }
         ensures map { IsModuleMap self.now }
@@ -60,7 +60,7 @@ impl ModuleMap {
         &self.provided
     }
 
-    /// The modules that it needs, in byte order of names.
+    /// Returns the modules that the object needs, in byte order of names.
     pub fn needed(&self) -> &[(Name, Path)]
         ensures pairs { result.now ≡ self.now.needed }
         ensures map { IsModuleMap self.now }
@@ -69,8 +69,8 @@ impl ModuleMap {
     }
 }
 
-/// Learns that the pairs are of names and paths. Each of their types promises so of a value that is
-/// looked at, but of the elements of a list nothing is known before.
+/// Exposes the invariants of each name and path. The prover knows the invariant of a value only after
+/// the value was used.
 fn learn_modules(pairs: &[(Name, Path)])
     ensures { All IsModulePair pairs.now }
 {
@@ -80,7 +80,7 @@ fn learn_modules(pairs: &[(Name, Path)])
     }
 }
 
-/// Whether the names rise strictly in byte order.
+/// Returns whether the names rise strictly in byte order.
 fn is_rising(pairs: &[(Name, Path)]) -> bool
     ensures { IsTrue result ↔ IsRising pairs.now }
 {

@@ -1,33 +1,24 @@
 -- The maps of Clang.
-use Rattle.std.proofs.Common.{◌≡◌, ℕ, ◌+◌, ◌-◌, ◌<◌, ◌==◌, zero, suc, Bool, true, false, not, cond, nat_lt, List, [], ◌∷◌, ◌++◌, length, map, Option, Some, None, Result, Ok, Err, refl, ap, ap₂, sym, subst, ◌∙◌, arith, append_assoc, append-nil, length-append, take, drop, slice_get, codes}
+use Rattle.std.proofs.Common.{◌≡◌, ◌≢◌, ℕ, ◌+◌, ◌-◌, ◌<◌, ◌==◌, zero, suc, Bool, true, false, not, cond, nat_lt, List, [], ◌∷◌, ◌++◌, length, map, Option, Some, None, Result, Ok, Err, refl, ap, sym, subst, ◌∙◌, arith, append_assoc, append-nil, length-append, slice_get}
 use Rattle.std.specs.Prelude.{⊤, bytes_eq}
-use Rattle.std.specs.Ordering.{nat_cmp, is_lt}
-use Rattle.std.specs.Cmp.Lexicographic.{slice_cmp}
-use Rattle.std.specs.declared.cmp.Ordering.{Ordering}
-use Rattle.std.specs.declared.cmp.Ordering.TheVariants.{Less, Equal, Greater}
-use Rattle.std.proofs.lemmas.Cmp.{nat_list_cmp_total}
-use Rattle.std.proofs.lemmas.List.Kept.{AllPairs-cons}
-use Rattle.std.proofs.lemmas.List.Splits.{join_with_byte-slice_split, slice_split_at}
-use Rattle.ninja_text.specs.Paths.{IsPath}
-use Rattle.std.specs.List.{join_with_byte, list_all, AllByRecursion}
+use Rattle.std.specs.Ordering.{is_lt}
+use Rattle.std.proofs.lemmas.List.Splits.{slice_split_at}
+use Rattle.std.specs.List.{list_all}
 use Rattle.std.proofs.Math.Seq.{get_or-append_seam}
-use Rattle.std.proofs.lemmas.List.Elements.{All-append, All-nil}
-use Rattle.std.proofs.lemmas.List.{take-append-drop}
+use Rattle.std.proofs.lemmas.List.Elements.{All-append, recursion_from_All}
 use Rattle.std.proofs.lemmas.Option.{slice_get_read}
-use Rattle.std.proofs.lemmas.Slice.Eq.{bytes_eq-Decides}
-use Rattle.ninja_text.specs.Bytes.{Precedes}
 use Rattle.module_maps.specs.Values.{ModuleMapValue}
-use Rattle.module_maps.specs.Maps.{IsModulePair, IsModuleMap, IsWrittenText, IsRising, AreEntriesOf, pairs_of}
-use Rattle.module_maps.specs.MapLines.{behind, pair_in, is_fit, first_unfit, named, nameless, is_line_end, lines_of, read_lines}
-use Rattle.module_maps.specs.ClangMaps.{module_flag, output_flag, file_flag, output_line, file_line, clang_text, clang_result, clang_written, clang_kept, rises_behind, file_entry, file_pair, output_path, clang_form, read_behind, read_provided, clang_read, clang_entries}
-use Rattle.module_maps.specs.map_laws.LineLemmas.{Pairs, AreModules, AreFit, Lacks, lines_text, ReadsEach, EachBehind, IsLineOf, lines-only, each-all, none-unfit, some-module, path-is, lines-back, each-fit, all-each, pair-back, path-back, pair-lacks, lacks, fit-lacks, named-pairs, some-line, pair-is}
+use Rattle.module_maps.specs.Maps.{IsModulePair, IsModuleMap, IsRising, AreEntriesOf, pairs_of}
+use Rattle.module_maps.specs.MapLines.{behind, is_fit, first_unfit, named, nameless, is_line_end, lines_of, read_lines}
+use Rattle.module_maps.specs.ClangMaps.{module_flag, output_flag, file_flag, output_line, file_line, clang_text, clang_result, clang_written, clang_kept, rises_behind, file_entry, output_path, clang_form, read_behind, read_provided, clang_read, clang_entries}
+use Rattle.module_maps.specs.map_laws.LineLemmas.{Pairs, AreModules, AreFit, Lacks, lines_text, ReadsEach, lines-back, each-fit, pair-back, path-back, pair-lacks, lacks, fit-lacks, named-pairs, some-line}
 use Rattle.module_maps.specs.declared.module_map.MapEntry.{MapEntry}
 use Rattle.module_maps.specs.declared.fault.MapFault.{MapFault}
-use Rattle.module_maps.specs.declared.fault.MapFault.TheVariants.{TwoProvided}
+use Rattle.module_maps.specs.declared.fault.MapFault.TheVariants.{TwoProvided, BadMapLine}
 
 -- ---- what was written is read
 
-last-entry : (entries : List MapEntry) (entry : MapEntry) →
+pub last-entry : (entries : List MapEntry) (entry : MapEntry) →
     slice_get (entries ++ entry ∷ []) (length (entries ++ entry ∷ []) - 1) ≡ Some entry
 last-entry entries entry =
     let all : List MapEntry = entries ++ entry ∷ [] in
@@ -38,7 +29,7 @@ last-entry entries entry =
     ∙ slice_get_read _ _ _ _ refl within (sym (get_or-append_seam entries entry [] entry))
 
 -- the name rises after the last of the entries
-abbrev RisesBehind : List MapEntry → List ℕ → Type 0
+abbrev pub RisesBehind : List MapEntry → List ℕ → Type 0
 RisesBehind entries name = rises_behind (slice_get entries (length entries - 1)) name ≡ true
 
 -- the first name rises after the last entry
@@ -86,7 +77,7 @@ files-each entries (x ∷ xs) modules fits rising begins =
     )
 
 -- how the lines after the first are read, if it is the flag, and if it is not
-abbrev read_behind_first : List ℕ → List (List ℕ) → Bool → Result (List MapEntry) MapFault
+abbrev pub read_behind_first : List ℕ → List (List ℕ) → Bool → Result (List MapEntry) MapFault
 read_behind_first first lines is_flag =
     cond is_flag (read_provided lines) (read_lines clang_form [] 1 (first ∷ lines))
 
@@ -132,7 +123,7 @@ files-back (x ∷ xs) modules fits rising =
     ∙ lines-back clang_form file_line named [] 1 (x ∷ xs) each
 
 -- the text of a provided module and of needed ones
-one-text : (path files : List ℕ) → ((path ++ 10 ∷ []) ++ []) ++ files ≡ path ++ 10 ∷ files
+pub one-text : (path files : List ℕ) → ((path ++ 10 ∷ []) ++ []) ++ files ≡ path ++ 10 ∷ files
 one-text path files =
     ap (λ t. t ++ files) (append-nil (path ++ 10 ∷ [])) ∙ append_assoc path (10 ∷ []) files
 
@@ -160,7 +151,7 @@ one-back x xs is fit modules fits rising =
     begins-behind (y ∷ ys) = refl
 
 -- the map of these modules
-abbrev map_with : Pairs → Pairs → ModuleMapValue
+abbrev pub map_with : Pairs → Pairs → ModuleMapValue
 map_with provided needed = record { provided = provided; needed = needed }
 
 text-back : (provided needed : Pairs) (text : List ℕ) → AreModules (provided ++ needed) →
@@ -186,7 +177,7 @@ pub clang-back : (m : ModuleMapValue) (text : List ℕ) → IsModuleMap m →
 clang-back m text is e = by (first_unfit (pairs_of m)) refl e
   where
     modules : AreModules (pairs_of m)
-    modules = all-each IsModulePair (pairs_of m)
+    modules = recursion_from_All IsModulePair (pairs_of m)
         (All-append IsModulePair m.provided m.needed is.provided is.needed)
 
     by : (unfit : Option (List ℕ)) → first_unfit (pairs_of m) ≡ unfit →
@@ -217,212 +208,14 @@ clang-pairs m = record {
   names = kept-names m.provided m.needed;
 }
 
--- ---- what is read was written
-
--- what follows a prefix
-behind-is : (prefix text rest : List ℕ) → behind prefix text ≡ Some rest →
-    text ≡ prefix ++ rest
-behind-is prefix text rest e = by (bytes_eq (take (length prefix) text) prefix) refl e
+-- why nothing is written is a fact about the map
+no-line : (m : ModuleMapValue) (unfit : Option (List ℕ)) (line : ℕ) → clang_result m unfit ≢ Err (BadMapLine line)
+no-line m (Some path) line e = absurd cc
+no-line m None line e = by (nat_lt 1 (length m.provided)) e
   where
-    by : (t : Bool) → bytes_eq (take (length prefix) text) prefix ≡ t →
-        cond t (Some (drop (length prefix) text)) None ≡ Some rest → text ≡ prefix ++ rest
-    by false is found = absurd cc
-    by true is found =
-        let front : take (length prefix) text ≡ prefix =
-        (bytes_eq-Decides (take (length prefix) text) prefix).0 is in
-        let back : drop (length prefix) text ≡ rest = cc in
-        sym (take-append-drop (length prefix) text) ∙ ap₂ (λ (a b : List ℕ). a ++ b) front back
+    by : (t : Bool) → cond t (Err TwoProvided) (Ok (clang_text m)) ≡ Err (BadMapLine line) → ⊥
+    by true e = absurd cc
+    by false e = absurd cc
 
--- a line that is read is that of a module which fits, and whose name rises
-abbrev IsFile : List MapEntry → List ℕ × List ℕ → Type 0
-IsFile entries x = IsModulePair x × (is_fit x.1 ≡ true) × RisesBehind entries x.0
-
--- the text is the line of such a module
-abbrev IsFileLine : List MapEntry → List ℕ → MapEntry → Type 0
-IsFileLine entries text e = IsLineOf file_line named IsFile entries text e
-
-file-only : (entries : List MapEntry) (text : List ℕ) (e : MapEntry) →
-    clang_form entries text ≡ Some e → IsFileLine entries text e
-file-only entries text e read = by (behind file_flag text) refl read
-  where
-    rising : (rest : List ℕ) (x : List ℕ × List ℕ) → behind file_flag text ≡ Some rest →
-        pair_in 61 rest ≡ Some x →
-        (t : Bool) → rises_behind (slice_get entries (length entries - 1)) x.0 ≡ t →
-        cond t (Some (named x)) None ≡ Some e → IsFileLine entries text e
-    rising rest x is pair false up found = absurd cc
-    rising rest x is pair true up found =
-        let facts = pair-is 61 rest x pair in
-        let same : named x ≡ e = cc in
-        let whole : text ≡ file_line x =
-        behind-is file_flag text rest is ∙ ap (λ t. file_flag ++ t) facts.0 in
-        (x, whole, sym same, (facts.1, facts.2, up))
-
-    paired : (rest : List ℕ) (o : Option (List ℕ × List ℕ)) →
-        behind file_flag text ≡ Some rest → pair_in 61 rest ≡ o →
-        file_entry entries o ≡ Some e → IsFileLine entries text e
-    paired rest None is pair found = absurd cc
-    paired rest (Some x) is pair found =
-        rising rest x is pair
-        (rises_behind (slice_get entries (length entries - 1)) x.0) refl found
-
-    by : (o : Option (List ℕ)) → behind file_flag text ≡ o →
-        file_entry entries (file_pair o) ≡ Some e → IsFileLine entries text e
-    by None is found = absurd cc
-    by (Some rest) is found = paired rest (pair_in 61 rest) is refl found
-
--- the names of modules that were read rise
-before : (a b : List ℕ) → is_lt (slice_cmp nat_cmp a b) ≡ true → Precedes a b
-before a b e = by (slice_cmp nat_cmp a b) e
-  where
-    by : (o : Ordering) → is_lt o ≡ true → o ≡ Less
-    by Less e = refl
-    by Equal e = absurd cc
-    by Greater e = absurd cc
-
-next-is : (entries : List MapEntry) (x y : List ℕ × List ℕ) →
-    IsFile (entries ++ named x ∷ []) y → Precedes x.0 y.0
-next-is entries x y is =
-    let behind_x : rises_behind (Some (named x)) y.0 ≡ true =
-    ap (λ o. rises_behind o y.0) (sym (last-entry entries (named x))) ∙ is.2 in
-    before x.0 y.0 behind_x
-
--- the name comes before all of these
-abbrev PrecedesAll : List ℕ → Pairs → Type 0
-PrecedesAll name xs = AllByRecursion (λ (y : List ℕ × List ℕ). Precedes name y.0) xs
-
-rest-rises : (first x : List ℕ × List ℕ) (entries : List MapEntry) (xs : Pairs) →
-    Precedes first.0 x.0 → EachBehind named IsFile (entries ++ named x ∷ []) xs →
-    PrecedesAll first.0 xs
-rest-rises first x entries [] less each = tt
-rest-rises first x entries (y ∷ ys) less each =
-    let next : Precedes first.0 y.0 =
-    nat_list_cmp_total.trans first.0 x.0 y.0 less (next-is entries x y each.0) in
-    (next, rest-rises first y (entries ++ named x ∷ []) ys next each.1)
-
-rises-from : (entries : List MapEntry) (x : List ℕ × List ℕ) (xs : Pairs) →
-    EachBehind named IsFile (entries ++ named x ∷ []) xs → PrecedesAll x.0 xs
-rises-from entries x [] each = tt
-rises-from entries x (y ∷ ys) each =
-    let next : Precedes x.0 y.0 = next-is entries x y each.0 in
-    (next, rest-rises x y (entries ++ named x ∷ []) ys next each.1)
-
-rising-only : (entries : List MapEntry) (xs : Pairs) → EachBehind named IsFile entries xs →
-    IsRising xs
-rising-only entries [] each = λ i j d less within. absurd (omega (arith, less, within))
-rising-only entries (x ∷ xs) each =
-    AllPairs-cons (λ (a b : List ℕ × List ℕ). Precedes a.0 b.0) x xs
-    (each-all (λ (y : List ℕ × List ℕ). Precedes x.0 y.0) xs (rises-from entries x xs each.1))
-    (rising-only (entries ++ named x ∷ []) xs each.1)
-
-modules-of : (entries : List MapEntry) (xs : Pairs) → EachBehind named IsFile entries xs →
-    AreModules xs × AreFit xs
-modules-of entries [] each = (tt, tt)
-modules-of entries (x ∷ xs) each =
-    let rest = modules-of (entries ++ named x ∷ []) xs each.1 in
-    ((each.0.0, rest.0), (each.0.1, rest.1))
-
--- the text is that of a map of which these entries are kept
-abbrev IsWritten : List ℕ → List MapEntry → Type 0
-IsWritten text found = IsWrittenText clang_written clang_kept text found
-
--- lines of needed modules were written for them
-files-only : (lines : List (List ℕ)) (found : List MapEntry) →
-    read_lines clang_form [] 1 lines ≡ Ok found → IsWritten (join_with_byte 10 lines) found
-files-only lines found e =
-    let w = lines-only clang_form file_line named IsFile file-only [] 1 lines found e in
-    let both = modules-of [] w.xs w.each in
-    let m : ModuleMapValue = map_with [] w.xs in
-    record {
-      value = m;
-      is_map = record {
-        provided = All-nil IsModulePair;
-        needed = each-all IsModulePair w.xs both.0;
-        rising = rising-only [] w.xs w.each;
-      };
-      is_written = ap (clang_result m) (none-unfit w.xs both.1) ∙ ap (λ t. Ok t) (sym w.text);
-      is_kept = w.all;
-    }
-
--- the text of a provided module's path, and of what follows its line
-abbrev provided_text : List ℕ → List ℕ → List ℕ
-provided_text path rest = module_flag ++ 10 ∷ (output_flag ++ path) ++ 10 ∷ rest
-
-provided-only : (path : List ℕ) (lines : List (List ℕ)) (found : List MapEntry) →
-    IsPath path → is_fit path ≡ true →
-    read_lines clang_form (record { name = None; path = path } ∷ []) 3 lines ≡ Ok found →
-    IsWritten (provided_text path (join_with_byte 10 lines)) found
-provided-only path lines found is fit e =
-    let x : List ℕ × List ℕ = (codes "A", path) in
-    let earlier : List MapEntry = nameless x ∷ [] in
-    let w = lines-only clang_form file_line named IsFile file-only earlier 3 lines found e in
-    let both = modules-of earlier w.xs w.each in
-    let m : ModuleMapValue = map_with (x ∷ []) w.xs in
-    let fits : first_unfit (x ∷ w.xs) ≡ None = none-unfit (x ∷ w.xs) (fit, both.1) in
-    let same : clang_text m ≡ provided_text path (join_with_byte 10 lines) =
-    ap (λ t. module_flag ++ 10 ∷ (output_flag ++ t)) (one-text path (lines_text file_line w.xs))
-    ∙ ap (provided_text path) (sym w.text) in
-    record {
-      value = m;
-      is_map = record {
-        provided = each-all IsModulePair (x ∷ []) (some-module path is, tt);
-        needed = each-all IsModulePair w.xs both.0;
-        rising = rising-only earlier w.xs w.each;
-      };
-      is_written = ap (clang_result m) fits ∙ ap (λ t. Ok t) same;
-      is_kept = w.all;
-    }
-
--- the line is that of this path, which can be in a map
-abbrev IsOutputLine : List ℕ → List ℕ → Type 0
-IsOutputLine line path = (line ≡ output_flag ++ path) × IsPath path × (is_fit path ≡ true)
-
-output-is : (line path : List ℕ) → output_path (behind output_flag line) ≡ Some path →
-    IsOutputLine line path
-output-is line path e = by (behind output_flag line) refl e
-  where
-    by : (o : Option (List ℕ)) → behind output_flag line ≡ o → output_path o ≡ Some path →
-        IsOutputLine line path
-    by None is found = absurd cc
-    by (Some rest) is found =
-        let facts = path-is rest path found in (
-          behind-is output_flag line rest is ∙ ap (λ t. output_flag ++ t) (sym facts.0),
-          subst IsPath (sym facts.0) facts.1,
-          subst (λ t. is_fit t ≡ true) (sym facts.0) facts.2,
-        )
-
-behind-only : (lines : List (List ℕ)) (found : List MapEntry) →
-    read_provided lines ≡ Ok found → IsWritten (module_flag ++ 10 ∷ join_with_byte 10 lines) found
-behind-only [] found e = absurd cc
-behind-only (last ∷ []) found e = absurd cc
-behind-only (line ∷ next ∷ lines) found e = by (output_path (behind output_flag line)) refl e
-  where
-    by : (o : Option (List ℕ)) → output_path (behind output_flag line) ≡ o →
-        read_behind o (next ∷ lines) ≡ Ok found →
-        IsWritten (module_flag ++ 10 ∷ join_with_byte 10 (line ∷ next ∷ lines)) found
-    by None is read = absurd cc
-    by (Some path) is read =
-        let facts = output-is line path is in
-        let rest : List ℕ = join_with_byte 10 (next ∷ lines) in
-        subst (λ t. IsWritten (module_flag ++ 10 ∷ t ++ 10 ∷ rest) found) (sym facts.0)
-        (provided-only path (next ∷ lines) found facts.1 facts.2 read)
-
-read-only : (lines : List (List ℕ)) (found : List MapEntry) → clang_read lines ≡ Ok found →
-    IsWritten (join_with_byte 10 lines) found
-read-only [] found e = files-only [] found e
-read-only (last ∷ []) found e = files-only (last ∷ []) found e
-read-only (first ∷ next ∷ lines) found e = by (bytes_eq first module_flag) refl e
-  where
-    by : (t : Bool) → bytes_eq first module_flag ≡ t →
-        read_behind_first first (next ∷ lines) t ≡ Ok found →
-        IsWritten (join_with_byte 10 (first ∷ next ∷ lines)) found
-    by false is read = files-only (first ∷ next ∷ lines) found read
-    by true is read =
-        let flag : first ≡ module_flag = (bytes_eq-Decides first module_flag).0 is in
-        subst (λ t. IsWritten (t ++ 10 ∷ join_with_byte 10 (next ∷ lines)) found) (sym flag)
-        (behind-only (next ∷ lines) found read)
-
-pub clang-only : (text : List ℕ) (found : List MapEntry) → clang_entries text ≡ Ok found →
-    IsWrittenText clang_written clang_kept text found
-clang-only text found e =
-    subst (λ t. IsWritten t found) (join_with_byte-slice_split 10 text)
-    (read-only (lines_of text) found e)
+pub clang-faults : (m : ModuleMapValue) (line : ℕ) → clang_written m ≢ Err (BadMapLine line)
+clang-faults m line = no-line m (first_unfit (pairs_of m)) line

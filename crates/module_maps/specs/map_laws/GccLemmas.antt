@@ -1,14 +1,14 @@
 -- The maps of GCC.
-use Rattle.std.proofs.Common.{◌≡◌, ℕ, ◌∷◌, [], ◌++◌, List, Option, Some, None, Ok, refl, ap, sym, ◌∙◌, true, map, arith, append-nil}
+use Rattle.std.proofs.Common.{◌≡◌, ◌≢◌, Err, ℕ, ◌∷◌, [], ◌++◌, List, Option, Some, None, Ok, refl, ap, sym, ◌∙◌, map}
 use Rattle.std.specs.Prelude.{option_map}
-use Rattle.std.proofs.lemmas.List.Elements.{All-append, All-nil}
-use Rattle.std.proofs.lemmas.List.Splits.{join_with_byte-slice_split}
+use Rattle.std.proofs.lemmas.List.Elements.{All-append, recursion_from_All}
 use Rattle.module_maps.specs.Values.{ModuleMapValue}
-use Rattle.module_maps.specs.Maps.{IsModulePair, IsModuleMap, IsWrittenText, AreEntriesOf, pairs_of}
-use Rattle.module_maps.specs.MapLines.{pair_in, is_fit, first_unfit, named, lines_of}
+use Rattle.module_maps.specs.Maps.{IsModulePair, IsModuleMap, AreEntriesOf, pairs_of}
+use Rattle.module_maps.specs.MapLines.{first_unfit, named}
 use Rattle.module_maps.specs.GccMaps.{gcc_line, gcc_text, gcc_form, gcc_written, gcc_kept, gcc_entries}
-use Rattle.module_maps.specs.map_laws.LineLemmas.{Pairs, AreModules, AreFit, lines_text, ReadsEach, lines-back, each-fit, all-each, pair-back, pair-lacks, named-pairs, pair-is, EachBehind, IsLineOf, lines-only, each-all, none-unfit}
+use Rattle.module_maps.specs.map_laws.LineLemmas.{Pairs, AreModules, AreFit, lines_text, ReadsEach, lines-back, each-fit, pair-back, pair-lacks, named-pairs}
 use Rattle.module_maps.specs.declared.module_map.MapEntry.{MapEntry}
+use Rattle.module_maps.specs.declared.fault.MapFault.TheVariants.{BadMapLine}
 
 -- each line is read as the module that it was written for
 gcc-each : (entries : List MapEntry) (pairs : Pairs) → AreModules pairs → AreFit pairs →
@@ -33,53 +33,17 @@ text-back pairs text None is modules e =
 pub gcc-back : (m : ModuleMapValue) (text : List ℕ) → IsModuleMap m → gcc_written m ≡ Ok text →
     gcc_entries text ≡ Ok (gcc_kept m)
 gcc-back m text is e =
-    let modules : AreModules (pairs_of m) = all-each IsModulePair (pairs_of m)
+    let modules : AreModules (pairs_of m) = recursion_from_All IsModulePair (pairs_of m)
     (All-append IsModulePair m.provided m.needed is.provided is.needed) in
     text-back (pairs_of m) text (first_unfit (pairs_of m)) refl modules e
 
 pub gcc-pairs : (m : ModuleMapValue) → AreEntriesOf (pairs_of m) (gcc_kept m)
 gcc-pairs m = named-pairs (pairs_of m)
 
--- a line that is read is that of a module which fits
-abbrev IsGccModule : List MapEntry → List ℕ × List ℕ → Type 0
-IsGccModule entries pair = IsModulePair pair × (is_fit pair.1 ≡ true)
+-- why nothing is written is a fact about the map
+no-line : (pairs : Pairs) (unfit : Option (List ℕ)) (line : ℕ) → gcc_text pairs unfit ≢ Err (BadMapLine line)
+no-line pairs None line e = absurd cc
+no-line pairs (Some path) line e = absurd cc
 
-line-only : (entries : List MapEntry) (text : List ℕ) (e : MapEntry) →
-    gcc_form entries text ≡ Some e → IsLineOf gcc_line named IsGccModule entries text e
-line-only entries text e read = by (pair_in 32 text) refl read
-  where
-    by : (o : Option (List ℕ × List ℕ)) → pair_in 32 text ≡ o → option_map named o ≡ Some e →
-        IsLineOf gcc_line named IsGccModule entries text e
-    by None is found = absurd cc
-    by (Some x) is found =
-        let facts = pair-is 32 text x is in
-        let same : named x ≡ e = cc in
-        (x, facts.0, sym same, (facts.1, facts.2))
-
-modules-of : (entries : List MapEntry) (xs : Pairs) → EachBehind named IsGccModule entries xs →
-    AreModules xs × AreFit xs
-modules-of entries [] each = (tt, tt)
-modules-of entries (x ∷ xs) each =
-    let rest = modules-of (entries ++ named x ∷ []) xs each.1 in
-    ((each.0.0, rest.0), (each.0.1, rest.1))
-
--- what is read was written
-pub gcc-only : (text : List ℕ) (found : List MapEntry) → gcc_entries text ≡ Ok found →
-    IsWrittenText gcc_written gcc_kept text found
-gcc-only text found e =
-    let w = lines-only gcc_form gcc_line named IsGccModule line-only [] 1 (lines_of text) found e in
-    let m : ModuleMapValue = record { provided = w.xs; needed = [] } in
-    let both = modules-of [] w.xs w.each in
-    let pairs : w.xs ++ [] ≡ w.xs = append-nil w.xs in
-    let same : lines_text gcc_line w.xs ≡ text = sym w.text ∙ join_with_byte-slice_split 10 text in
-    record {
-      value = m;
-      is_map = record {
-        provided = each-all IsModulePair w.xs both.0;
-        needed = All-nil IsModulePair;
-        rising = λ i j d less within. absurd (omega (arith, less, within));
-      };
-      is_written = ap (λ ps. gcc_text ps (first_unfit ps)) pairs
-          ∙ ap (gcc_text w.xs) (none-unfit w.xs both.1) ∙ ap (λ t. Ok t) same;
-      is_kept = w.all ∙ sym (ap (map named) pairs);
-    }
+pub gcc-faults : (m : ModuleMapValue) (line : ℕ) → gcc_written m ≢ Err (BadMapLine line)
+gcc-faults m line = no-line (pairs_of m) (first_unfit (pairs_of m)) line

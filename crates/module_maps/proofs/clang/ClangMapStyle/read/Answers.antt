@@ -1,15 +1,29 @@
-use Rattle.std.proofs.Common.{◌≡◌, ℕ, List, true, ap, sym, subst, ◌∙◌}
+use Rattle.std.proofs.Common.{rules, ◌≡◌, ℕ, List, true, ap, sym, subst, ◌∙◌}
 use Rattle.std.specs.Prelude.{bytes_eq}
 use Rattle.ninja_text.specs.Failure.{Gives}
 use Rattle.module_maps.specs.MapLines.{lines_of}
 use Rattle.module_maps.specs.ClangMaps.{module_flag, clang_read, clang_entries, read_provided}
 use Rattle.module_maps.specs.map_laws.ClangLemmas.{is-provided}
+use Rattle.module_maps.proofs.ClangTexts.{clang-read}
 use Rattle.module_maps.proofs.clang.ClangMapStyle.read.Goals as goal
 
-pub returns-then-eq : goal.returns-then-eq
-returns-then-eq c =
+pub returns-then-eq-clause-entries : goal.returns-then-eq-clause-entries
+returns-then-eq-clause-entries c =
     let first : List ℕ = c.in-Some.first.now in
     let rest : List ℕ = c.in-Some.rest.now in
     let flag : bytes_eq first module_flag ≡ true = ap (bytes_eq first) (sym c.as_slice.ensures) ∙ sym c.eq.ensures ∙ c.if-eq.true in
     let same : read_provided (lines_of rest) ≡ clang_entries c.args.text.now = sym (ap clang_read c.in-Some.ensures.lines ∙ is-provided first rest flag) in
     subst (Gives (λ found. found.items) c.read_provided.result) same c.read_provided.ensures
+
+pub returns-then-eq-clause-written : goal.returns-then-eq-clause-written
+returns-then-eq-clause-written c = clang-read c.args.text.now c.read_provided.result (returns-then-eq-clause-entries c)
+
+pub returns-else-eq-clause-written : goal.returns-else-eq-clause-written
+returns-else-eq-clause-written c =
+    let gives : Gives (λ found. found.items) c.read_lines.result (clang_entries c.args.text.now) = search rules in
+    clang-read c.args.text.now c.read_lines.result gives
+
+pub returns-in-None-clause-written : goal.returns-in-None-clause-written
+returns-in-None-clause-written c =
+    let gives : Gives (λ found. found.items) c.read_lines-in-None.result (clang_entries c.args.text.now) = search rules in
+    clang-read c.args.text.now c.read_lines-in-None.result gives

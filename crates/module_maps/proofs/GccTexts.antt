@@ -1,0 +1,67 @@
+-- The texts that are read as maps of GCC were written for maps.
+use Rattle.std.proofs.Common.{◌≡◌, ℕ, ◌∷◌, [], ◌++◌, List, Option, Some, None, Ok, refl, ap, sym, ◌∙◌, true, map, arith, append-nil}
+use Rattle.std.specs.Prelude.{option_map, Result, Err, IfOk, Vec}
+use Rattle.std.specs.declared.alloc.Global.{Global}
+use Rattle.ninja_text.specs.Failure.{Gives}
+use Rattle.ninja_text.specs.declared.failure.Failure.{Failure}
+use Rattle.std.proofs.lemmas.List.Elements.{All-nil, All-from_recursion}
+use Rattle.std.proofs.lemmas.List.Splits.{join_with_byte-slice_split}
+use Rattle.module_maps.specs.Values.{ModuleMapValue}
+use Rattle.module_maps.specs.Maps.{IsModulePair, IsWrittenText}
+use Rattle.module_maps.specs.MapLines.{pair_in, is_fit, first_unfit, named, lines_of}
+use Rattle.module_maps.specs.GccMaps.{gcc_line, gcc_text, gcc_form, gcc_written, gcc_kept, gcc_entries}
+use Rattle.module_maps.specs.map_laws.LineLemmas.{Pairs, AreModules, AreFit, lines_text}
+use Rattle.module_maps.proofs.LinesOnly.{pair-is, EachBehind, IsLineOf, lines-only, none-unfit}
+use Rattle.module_maps.specs.declared.module_map.MapEntry.{MapEntry}
+use Rattle.module_maps.specs.declared.fault.MapFault.{MapFault}
+
+-- a line that is read is that of a module which fits
+abbrev IsGccModule : List MapEntry → List ℕ × List ℕ → Type 0
+IsGccModule entries pair = IsModulePair pair × (is_fit pair.1 ≡ true)
+
+line-only : (entries : List MapEntry) (text : List ℕ) (e : MapEntry) →
+    gcc_form entries text ≡ Some e → IsLineOf gcc_line named IsGccModule entries text e
+line-only entries text e read = by (pair_in 32 text) refl read
+  where
+    by : (o : Option (List ℕ × List ℕ)) → pair_in 32 text ≡ o → option_map named o ≡ Some e →
+        IsLineOf gcc_line named IsGccModule entries text e
+    by None is found = absurd cc
+    by (Some x) is found =
+        let facts = pair-is 32 text x is in
+        let same : named x ≡ e = cc in
+        (x, facts.0, sym same, (facts.1, facts.2))
+
+modules-of : (entries : List MapEntry) (xs : Pairs) → EachBehind named IsGccModule entries xs →
+    AreModules xs × AreFit xs
+modules-of entries [] each = (tt, tt)
+modules-of entries (x ∷ xs) each =
+    let rest = modules-of (entries ++ named x ∷ []) xs each.1 in
+    ((each.0.0, rest.0), (each.0.1, rest.1))
+
+-- what is read was written
+pub gcc-only : (text : List ℕ) (found : List MapEntry) → gcc_entries text ≡ Ok found →
+    IsWrittenText gcc_written gcc_kept text found
+gcc-only text found e =
+    let w = lines-only gcc_form gcc_line named IsGccModule line-only [] 1 (lines_of text) found e in
+    let m : ModuleMapValue = record { provided = w.xs; needed = [] } in
+    let both = modules-of [] w.xs w.each in
+    let pairs : w.xs ++ [] ≡ w.xs = append-nil w.xs in
+    let same : lines_text gcc_line w.xs ≡ text = sym w.text ∙ join_with_byte-slice_split 10 text in
+    record {
+      value = m;
+      is_map = record {
+        provided = All-from_recursion IsModulePair w.xs both.0;
+        needed = All-nil IsModulePair;
+        rising = λ i j d less within. absurd (omega (arith, less, within));
+      };
+      is_written = ap (λ ps. gcc_text ps (first_unfit ps)) pairs
+          ∙ ap (gcc_text w.xs) (none-unfit w.xs both.1) ∙ ap (λ t. Ok t) same;
+      is_kept = w.all ∙ sym (ap (map named) pairs);
+    }
+
+-- so what the style reads was written
+pub gcc-read : (text : List ℕ) (result : Result (Vec MapEntry Global) (Failure MapFault)) →
+    Gives (λ found. found.items) result (gcc_entries text) →
+    IfOk result (λ found. IsWrittenText gcc_written gcc_kept text found.items)
+gcc-read text (Ok found) gives = gcc-only text found.items gives
+gcc-read text (Err failure) gives = tt
