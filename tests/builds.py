@@ -83,11 +83,10 @@ class Folder(unittest.TestCase):
         if form:
             self.generate(form)
 
-    def generate(self, form):
-        """Writes the manifest of the project in this folder."""
-        with open("targets", encoding="utf-8") as targets:
-            command = [sys.executable, TOP / "examples/generate", form]
-            subprocess.run(command, stdin=targets, env=self.environment, check=True)
+    def generate(self, form, listed="targets"):
+        """Writes the manifest of a project into this folder."""
+        command = [sys.executable, TOP / "examples/generate", form, listed]
+        self.assertEqual(output_of(*command, env=self.environment), (0, ""))
 
     def ninja(self, *words):
         """A run of Ninja: its status and its log."""
@@ -155,8 +154,8 @@ class Built:
         self.makes(EXAMPLES[self.example].prints)
         self.idle()
 
-    def generate(self, form=""):
-        super().generate(form or self.form)
+    def generate(self, form="", listed="targets"):
+        super().generate(form or self.form, listed)
 
     def restore(self, name):
         shutil.copy(TOP / "examples" / self.example / name, name)
@@ -174,7 +173,8 @@ class Built:
             return [tool("gcc"), *"-std=c++20 -fmodules-ts -fmodule-mapper=hand.map -x c++".split(), *result]
         file_of = {it: f"bmi/{target_of[it]}/{it.replace(':', '-')}.pcm" for it in target_of}
         provided = ["-x", "c++-module", f"-fmodule-output={file_of[source.module]}"] if source.module else []
-        return [tool("clang"), "-std=c++20", *provided, *(f"-fmodule-file={it}={file_of[it]}" for it in source.needs), *result]
+        # which warnings there are is in a module's file
+        return [tool("clang"), "-std=c++20", "-Wno-unused-command-line-argument", *provided, *(f"-fmodule-file={it}={file_of[it]}" for it in source.needs), *result]
 
     def test_objects_and_module_files_are_those_of_a_build_ordered_by_hand(self):
         """Clang 19 writes one of several texts for some module files, by the addresses that it gets. So this is tried some
@@ -404,7 +404,7 @@ class StdWithClang(ImportsStd, Folder):
         self.copy("std", "clang")
         page = (TOP / "docs/GUIDE.md").read_text()
         section = re.search(r"^### `import std;`\n.*?^### ", page, re.M | re.S)[0]
-        targets, manifest = re.findall("^```\n(.*?)^```$", section, re.M | re.S)
+        targets, manifest = [text for kind, text in re.findall("^```(.*)\n((?s:.*?))^```$", section, re.M) if not kind]
         self.assertIn(targets, Path("targets").read_text())
         # the page has the folder of Debian's libc++-19-dev
         manifest = manifest.replace("/usr/lib/llvm-19/share/libc++/v1", os.path.dirname(self.modules[0]))
@@ -457,122 +457,19 @@ class WithClang(Folder):
         status, text = self.call("one", "all.ddi", "bmi/app", ".pcm")
         self.assertEqual((status, sorted(text.splitlines())), (0, sorted(Path("dd/app.dd").read_text().splitlines())))
 
-    # The traps that docs/GUIDE.md speaks of, each by the manifest that falls into it.
-
-    def test_maps_that_are_no_order_only_inputs(self):
-        """One new import compiles all sources."""
-        self.copy("single", "clang")
-        edit("build.ninja", r"^(build obj.*) \|\| (dd.app.dd) (.*)", r"\1 | \3 || \2")
-        self.ninja()
-        edit("src/main.cpp", r"\A", "import units;\n")
-        self.ninja()
-        self.compiled(*(it.name for it in EXAMPLES["single"].sources))
-
-    def test_without_no_module_file_deps_a_turned_import_is_a_false_cycle(self):
-        if version("clang") >= (20,):
-            self.skipTest("Clang 16 to 19: not there")
-        self.copy("single", "clang")
-        edit("build.ninja", "-fno-module-file-deps", "")
-        self.ninja()
-        edit("src/point.cppm", r"^import units;|scaled(\(.\))", r"\1")
-        edit("src/units.cppm", "^(export module units;)", r"\1\nimport geometry;")
-        self.assertEqual(self.ninja()[0], 1)
-        self.assertIn("dependency cycle: bmi/app/geometry.pcm", self.log)
-
-    def test_without_the_phonies_of_its_libraries_an_object_is_taken_for_made(self):
-        self.copy("libs", "clang")
-        self.ninja()
-        edit("build.ninja", r"^(build obj.app.*) \| dd.base.loaded dd.math.loaded \|\|", r"\1 ||")
-        self.ninja()
-        os.remove("obj/base/src/base/number.cppm.o")
-        self.assertEqual(self.ninja("obj/app/src/app/main.cpp.o"), (0, "ninja: no work to do.\n"))
-
-    def test_with_the_phonies_of_its_libraries_one_step_misses_users(self):
-        self.copy("libs", "project")
-        edit("build.ninja", r"^(build obj.math.*) \|\|", r"\1 | dd/base.loaded ||")
-        edit("build.ninja", r"^(build obj.app.*) \|\|", r"\1 | dd/base.loaded dd/math.loaded ||")
-        with open("build.ninja", "a", encoding="utf-8") as file:
-            file.write("build dd/base.loaded: phony || obj/base/src/base/number.cppm.o\n"
-                       "build dd/math.loaded: phony || obj/math/src/math/sum.cppm.o\n")
-        self.ninja()
-        touch("src/math/detail.cppm")
-        self.ninja()
-        self.compiled("src/math/detail.cppm")
-
-    def test_a_collation_without_the_infos_of_its_libraries_as_inputs(self):
-        self.copy("libs", "clang")
-        edit("build.ninja", r"^(build dd.app.dd.*) dd.base.info.json dd.math.info.json", r"\1")
-        self.assertEqual(self.ninja("dd/app.dd")[0], 1)
-        self.assertIn("dyncollate: cannot read dd/base.info.json", self.log.splitlines())
-
-    def scan(self, source, language):
-        """A run of the scanner on a source."""
-        Path("a.cpp").write_text(source)
-        compiling = [tool("clang"), "-std=c++20", "-x", language, "-c", "a.cpp", "-o", "a.o"]
-        return subprocess.run([tool("scanner"), "-format=p1689", "--", *compiling], capture_output=True, text=True, check=False)
-
-    def test_a_scanner_that_fails(self):
-        """It leaves a document that is accepted, and has no rule."""
-        scanned = self.scan('#include "none.h"\nimport units;\n', "c++")
-        self.assertNotEqual(scanned.returncode, 0)
-        Path("broken.ddi").write_text(scanned.stdout)
-        self.assertEqual(self.call("one", "broken.ddi", "bmi", ".pcm"), (0, "ninja_dyndep_version = 1\n"))
-        Path("empty.ddi").write_text("")
-        self.assertEqual(self.call("one", "empty.ddi", "bmi", ".pcm"), (1, "dyncollate: scan 0: S1 NotJson document\n"))
-
-    def test_a_space_in_the_path_of_a_module_file(self):
-        target_of_one_module("A", "my mods", "clang")
-        self.assertEqual(self.call("collate", "t.target.json"), (1, "dyncollate: K1 MapPath my mods/A.pcm\n"))
-
-    def test_a_name_that_the_scanner_cannot_take(self):
-        """The rule of a module `ñ` has no member `provides`."""
-        if version("scanner") < (19,) or version("scanner") >= (20,):
-            self.skipTest("clang-tools-19: not there")
-        scanned = self.scan("export module ñ;\n", "c++-module")
-        self.assertEqual(re.findall("primary|provides", scanned.stdout), ["primary"])
-
-    def test_import_std(self):
-        self.copy("single", "clang")
-        edit("src/main.cpp", r"\A", "import std;\n")
-        self.reports("M5 ModuleUnknown std in obj/app/src/main.cpp.o")
-
-
-def target_of_one_module(name, folder, style):
-    """Writes the document of a target whose one object provides a module of this name."""
-    rule = {"primary-output": "a.o", "provides": [{"logical-name": name}]}
-    Path("a.ddi").write_text(json.dumps({"version": 1, "rules": [rule]}, ensure_ascii=False))
-    Path("t.target.json").write_text(json.dumps(
-        {"version": 1, "target": "t", "module-dir": folder, "module-ext": ".pcm" if style == "clang" else ".gcm",
-         "scans": ["a.ddi"], "dyndep": "t.dd", "info": "t.json", "map": style}))
-
-
-class WithGcc(Folder):
-    tools = ["ninja", "clang", "scanner", "gcc"]
-
-    def test_without_mno_modules_ninja_refuses_the_depfile(self):
-        self.copy("single", "gcc")
-        edit("build.ninja", "-Mno-modules", "")
-        self.assertEqual(self.ninja()[0], 1)
-        self.assertIn("inputs may not also have inputs", self.log)
-
-    def test_a_name_that_gcc_12_cannot_take_is_collated(self):
-        if version("gcc")[0] != 12:
-            self.skipTest("g++-12: not there")
-        target_of_one_module("ñ", "", "gcc")
-        self.assertEqual(self.call("collate", "t.target.json"), (0, ""))
-        self.assertEqual(Path("a.o.modmap").read_text(), "ñ ñ.gcm\n")
-        Path("name.cppm").write_text("export module ñ;\n")
-        compiling = [tool("gcc"), *"-std=c++20 -fmodules-ts -fmodule-mapper=a.o.modmap -x c++ -c name.cppm -o a.o".split()]
-        self.assertEqual(output_of(*compiling)[0], 1)
-
 
 class Guide(Folder):
     tools = []
+    page = (TOP / "docs/GUIDE.md").read_text()
 
     def test_its_manifests_are_those_of_generate(self):
         """The lines that docs/GUIDE.md quotes are in what examples/generate writes, where the tools have their usual names."""
+        os.mkdir("bin")
+        for it in "clang++", "g++", "clang-scan-deps", "dyncollate":
+            os.symlink(shutil.which("true"), f"bin/{it}")
         for it in ("DYNCOLLATE", *map(str.upper, TOOLS)):
             self.environment.pop(it, None)
+        self.environment["PATH"] = f"{os.getcwd()}/bin"
         written, top = set(), os.getcwd()
         for example in BUILT:
             for form in BUILT[example][1]:
@@ -580,10 +477,66 @@ class Guide(Folder):
                 written |= set(Path("build.ninja").read_text().splitlines())
                 os.chdir(top)
                 shutil.rmtree(example)
-        page = (TOP / "docs/GUIDE.md").read_text()
-        quoted = "".join(re.findall("^```ninja\n(.*?)^```$", page, re.M | re.S)).splitlines()
+        quoted = "".join(re.findall("^```ninja\n(.*?)^```$", self.page, re.M | re.S)).splitlines()
         self.assertTrue(quoted)
         self.assertEqual([it for it in quoted if it not in written], [])
+
+    def test_it_quotes_the_list_of_an_example(self):
+        self.assertTrue(f"```\n{(TOP / 'examples/libs/targets').read_text()}```\n" in self.page)
+
+    def test_its_packages_are_those_that_are_installed_for_the_tests(self):
+        packages = re.search(r"^    apt-get install (.*)", self.page, re.M)[1].split()
+        self.assertEqual([it for it in packages if it not in re.split(r"[\s;]+", (TOP / ".ci/run").read_text())], [])
+
+
+class GuideCommands(Folder):
+    """The commands in docs/GUIDE.md, as they are printed, with Debian's names of the tools and the program in PATH."""
+
+    def setUp(self):
+        missing = [it for it in ("ninja", "clang++-19", "clang-scan-deps-19", "g++-12") if not shutil.which(it)]
+        if missing:
+            self.skipTest(f"{', '.join(missing)}: not there")
+        super().setUp()
+        shutil.copytree(TOP / "examples", "examples", ignore=shutil.ignore_patterns("build", "dd", "scan", "obj", "bmi"))
+        os.mkdir("bin")
+        os.symlink(program.PROGRAM, "bin/dyncollate")
+        self.environment = {name: text for name, text in os.environ.items() if name not in ("DYNCOLLATE", *map(str.upper, TOOLS))}
+        self.environment["PATH"] = f"{os.getcwd()}/bin:{os.environ['PATH']}"
+
+    def commands(self, title):
+        """The commands of a section."""
+        section = re.search(rf"^##+ {re.escape(title)}\n(.*?)(?=^##|\Z)", Guide.page, re.M | re.S)[1]
+        return [re.sub("^ {3}(?=.)", "", it, flags=re.M) if it.startswith("   ") else it
+                for it in re.findall("^ *```sh\n(.*?)^ *```$", section, re.M | re.S)]
+
+    def prints(self, *commands):
+        """The commands succeed, one after the other in one shell, and print this at last."""
+        status, out = output_of("bash", "-ec", "\n".join(commands), env=self.environment)
+        self.assertEqual(status, 0, out)
+        return out.splitlines()
+
+    def test_a_build(self):
+        self.assertEqual(self.prints(*self.commands("Manifests that work"))[-1], "42")
+
+    def test_import_std(self):
+        if not standard_modules("clang++-19", "-stdlib=libc++", "-print-file-name=libc++.modules.json"):
+            self.skipTest("libc++-19-dev: not there")
+        names = self.commands("Manifests that work")[0].splitlines()[0]
+        self.assertEqual(self.prints(names, *self.commands("`import std;`"))[-2:], ["one 2", "two 1"])
+
+    def test_a_build_that_fails(self):
+        """What it says about finding files, and the order of all edges, or their cycle."""
+        names = self.commands("Manifests that work")[0].splitlines()[0]
+        self.prints(names, "cd examples/libs", "../generate project targets", "ninja")
+        os.chdir("examples/libs")
+        find, whole = self.commands("My build fails: what now")
+        self.assertEqual(self.prints(find), ["scan/math/src/math/detail.cppm.ddi", "dd/app.target.json"])
+        order = self.prints(whole)
+        objects = [it for it in order if it.endswith(".o")]
+        self.assertEqual(objects, [f"obj/{it}.o" for it in (
+            "base/src/base/number.cppm", "base/src/base/number.cpp", "math/src/math/detail.cppm", "math/src/math/sum.cppm",
+            "math/src/math/sum.cpp", "app/src/app/main.cpp")])
+        self.assertEqual(self.prints(names, *self.commands("A dependency cycle that stays"))[-1].split()[0], "[16/16]")
 
 
 # ---- dyndep files, as Ninja and the program take them

@@ -1,0 +1,313 @@
+"""What examples/generate says of a faulty list, and builds of projects that need more of it than the examples do."""
+import json
+import os
+import re
+import shutil
+import subprocess
+import sys
+from pathlib import Path
+
+from tests.builds import TOP, Folder, edit, touch
+from tests.tools import of_versions, output_of, tool
+
+GENERATE = TOP / "examples/generate"
+
+# Why a list is wrong, the list, and what is said of it.
+FAULTY = [
+    ("a misspelt kind", "libary a a.cpp", "line 1 of the list: there is no kind libary"),
+    ("a kind alone", "# a comment\n\nlibrary", "line 3 of the list: a library needs a name of letters, digits, and _ . + -"),
+    ("a name with a space", "program 'a b' a.cpp", "line 1 of the list: a program needs a name of letters, digits, and _ . + -"),
+    ("a quote that is not closed", "program a 'a.cpp", "line 1 of the list: No closing quotation"),
+    ("no source", "library a -DA", "line 1 of the list: a has no source"),
+    ("a repeated target", "library a a.cpp\nlibrary a b.cpp", "line 2 of the list: there are two of a"),
+    ("a repeated source", "library a a.cpp ./x/../a.cpp", "line 1 of the list: a has one source twice"),
+    ("an unknown library", "program a a.cpp -- b", "a links b, which is no library"),
+    ("a program that is linked", "program a a.cpp -- b\nprogram b b.cpp", "a links b, which is no library"),
+    ("a cycle of targets", "library a a.cpp -- b\nlibrary b b.cpp -- c\nlibrary c c.cpp -- a",
+     "targets link each other in a cycle: a -> b -> c -> a"),
+    ("a target that links itself", "library a a.cpp -- a", "targets link each other in a cycle: a -> a"),
+]
+
+
+class Lists(Folder):
+    tools = []
+    seconds = 1
+
+    def setUp(self):
+        super().setUp()
+        self.environment |= {name: "true" for name in ("CLANG", "GCC", "SCANNER", "DYNCOLLATE")}
+
+    def says(self, *words):
+        """What the script prints on standard error, which is a line or nothing, and its status."""
+        ran = subprocess.run([sys.executable, GENERATE, *words], env=self.environment, capture_output=True, text=True, check=False)
+        self.assertLessEqual(ran.stderr.count("\n"), 1, ran.stderr)
+        self.printed = ran.stdout
+        return ran.returncode, ran.stderr
+
+    def test_faulty_lists(self):
+        for why, text, said in FAULTY:
+            with self.subTest(why):
+                Path("targets").write_text(text + "\n")
+                self.assertEqual(self.says("clang", "targets"), (1, f"generate: {said}\n"))
+                self.assertEqual(os.listdir(), ["targets"], "nothing was written")
+
+    def test_a_list_that_is_not_there(self):
+        self.assertEqual(self.says("clang", "none"), (1, "generate: none: No such file or directory\n"))
+
+    def test_a_missing_tool(self):
+        Path("targets").write_text("program a a.cpp\n")
+        for name in ("CLANG", "GCC", "SCANNER", "DYNCOLLATE"):
+            self.environment |= {name: "./none -x"}
+            said = f"generate: ./none -x is not there; the environment variable {name} may name another\n"
+            self.assertEqual(self.says("gcc", "targets"), (1, said))
+            self.environment |= {name: "true"}
+
+    def test_words(self):
+        self.assertEqual(self.says("--help"), (0, ""))
+        self.assertIn("generate clang|gcc|project [LIST]", self.printed)
+        usage = "generate: usage: generate clang|gcc|project [LIST]; --help says more\n"
+        for words in [], ["clang", "a", "b"], ["msvc"]:
+            self.assertEqual(self.says(*words), (1, usage))
+
+    def test_each_linked_library_is_looked_at_once(self):
+        """Of 40 layers of two libraries, each linking both of the layer below: 2 ** 40 ways lead down."""
+        layers = [f"library {side}{number} {side}.cpp -- {f'l{number - 1} r{number - 1}' if number else ''}"
+                  for number in range(40) for side in "lr"]
+        Path("targets").write_text("\n".join(layers))
+        self.assertEqual(self.says("clang", "targets"), (0, ""))
+        document = json.loads(Path("dd/l39.target.json").read_text())
+        self.assertEqual(document["linked"], [f"dd/{side}{number}.info.json" for number in range(39) for side in "lr"])
+
+    def test_a_list_from_standard_input(self):
+        """The manifest does not write itself again then."""
+        subprocess.run([GENERATE, "clang"], input="program a a.cpp\n", text=True, env=self.environment, check=True)
+        self.assertNotIn("build build.ninja", Path("build.ninja").read_text())
+
+
+# ---- builds out of source
+
+class OutOfSource:
+    """What each form of manifest is tested for in a folder below the project's."""
+    form, tools = "clang", ["ninja", "clang", "scanner"]
+    partition = "export module sum:detail;\nimport number;\nexport Number twice(Number number) { return plus(number, number); }\n"
+
+    def begin(self, example="libs"):
+        self.copy(example)
+        os.mkdir("build")
+        os.chdir("build")
+        self.generate(self.form, "../targets")
+
+    def test_a_project(self):
+        self.begin()
+        self.makes("42")
+        self.compiled(*(f"../src/{it}" for it in ("app/main.cpp", "base/number.cpp", "base/number.cppm", "math/detail.cppm",
+                                                  "math/sum.cpp", "math/sum.cppm")))
+        self.idle()
+        touch("../src/math/detail.cppm")
+        self.compiles("../src/math/detail.cppm", "../src/math/sum.cppm", "../src/math/sum.cpp", "../src/app/main.cpp")
+
+    def test_a_source_that_is_not_below_the_list(self):
+        self.copy("libs")
+        os.rename("src", "../src")
+        edit("targets", "src/", "../src/")
+        self.generate(self.form)
+        self.makes("42")
+        self.assertTrue(os.path.exists("obj/app/__/src/app/main.cpp.o"))
+        self.idle()
+
+    def test_an_import_is_turned_round(self):
+        """Between modules of a library; one is a partition in a `.cpp`. Then back."""
+        self.begin()
+        os.rename("../src/math/detail.cppm", "../src/math/detail.cpp")
+        edit("../targets", "detail.cppm", "detail.cpp")
+        Path("../src/math/extra.cpp").write_text("export module sum:extra;\nexport import :detail;\n")
+        edit("../targets", "(src/math/detail.cpp)", r"\1 src/math/extra.cpp")
+        edit("../src/math/sum.cppm", "(export import :detail;)", r"\1\nexport import :extra;")
+        self.makes("42")
+        self.idle()
+        before = {name: Path("../src/math", name).read_text() for name in ("detail.cpp", "extra.cpp")}
+        edit("../src/math/extra.cpp", "export import :detail;", "export constexpr int one = 1;")
+        edit("../src/math/detail.cpp", "(import number;)", r"\1\nimport :extra;")
+        for turned in range(2):
+            self.makes("42")
+            self.compiled(*(f"../src/{it}" for it in ("math/detail.cpp", "math/extra.cpp", "math/sum.cpp", "math/sum.cppm",
+                                                      "app/main.cpp")))
+            self.idle()
+            for name in before:
+                Path("../src/math", name).write_text(before[name])
+
+    def test_the_list_has_changed(self):
+        """Ninja writes the manifest again, and compiles what is new."""
+        self.begin()
+        self.makes("42")
+        Path("../src/app/more.cpp").write_text("int more() { return 1; }\n")
+        edit("../targets", "(program app)", r"\1 src/app/more.cpp")
+        self.makes("42")
+        self.assertEqual(self.steps("GENERATE"), ["../targets"])
+        self.compiled("../src/app/more.cpp")
+        self.idle()
+        touch("../targets")
+        self.ninja()
+        self.assertEqual((self.status, len(re.findall(r"^\[", self.log, re.M))), (0, 1), "it writes the same, and all else stays")
+        self.idle()
+        with open("../targets", "a", encoding="utf-8") as file:
+            file.write("libary\n")
+        self.fails()
+        self.assertIn("generate: line 5 of the list: there is no kind libary", self.log.splitlines())
+        edit("../targets", "^libary\n", "")
+        self.makes("42")
+
+
+class OutOfSourceWithClang(OutOfSource, Folder):
+    pass
+
+
+class OutOfSourceInAProject(OutOfSource, Folder):
+    form = "project"
+
+
+class OutOfSourceWithGcc(OutOfSource, Folder):
+    form, tools = "gcc", ["ninja", "clang", "scanner", "gcc"]
+
+
+class OutOfSourceWithNewerGcc(OutOfSource, Folder):
+    """GCC 14 to 16 write module files and the map into the depfile."""
+    form = "gcc"
+
+    def setUp(self):
+        super().setUp()
+        found = [it for it in of_versions("g++", 16, 15, 14) if shutil.which(it) and it != "g++"]
+        if not found:
+            self.skipTest("g++-14: not there")
+        self.environment["GCC"] = found[0]
+
+    def test_a_new_import(self):
+        """The source alone is compiled."""
+        self.copy("single", self.form)
+        self.makes("600")
+        edit("src/main.cpp", r"\A", "import units;\n")
+        self.compiles("src/main.cpp")
+
+
+# ---- projects that need more than the examples do
+
+class WithClang(Folder):
+    tools = ["ninja", "clang", "scanner"]
+    form = "clang"
+
+    def project(self, **files):
+        """Writes the list and the sources of a project, by names in which `__` is a slash and `_` a dot."""
+        for name, text in files.items():
+            name = name.replace("__", "/").replace("_", ".")
+            Path(name).parent.mkdir(parents=True, exist_ok=True)
+            Path(name).write_text(text)
+
+    def test_flags_and_include_folders_of_a_target(self):
+        self.project(targets="""program app src/main.cpp -DANSWER=40 '-DTEXT="a $b"' -- one two
+                                library one src/one.cppm -DANSWER=1 -Iinc/one
+                                library two src/two.cppm -Iinc/two\n""",
+                     inc__one__own_h="#define OWN 0\n", inc__two__own_h="#define OWN 1\n",
+                     src__one_cppm='module;\n#include "own.h"\nexport module one;\nexport int one() { return ANSWER + OWN; }\n',
+                     src__two_cppm='module;\n#include "own.h"\nexport module two;\n#ifdef ANSWER\n#error\n#endif\n'
+                                   'export int two() { return OWN; }\n',
+                     src__main_cpp='#include <cstdio>\nimport one;\nimport two;\n'
+                                   'int main() { printf("%s %d\\n", TEXT, ANSWER + one() + two()); }\n')
+        os.mkdir("build")
+        os.chdir("build")
+        self.generate(self.form, "../targets")
+        self.makes("a $b 42")
+        self.idle()
+
+    def test_a_generated_header(self):
+        """It is there before the sources of the targets that name it, or a library that does, are scanned."""
+        self.project(targets="header number.h make.sh number\nprogram app main.cpp -- math\nlibrary math math.cppm -- number.h\n",
+                     make_sh='echo "#define NUMBER $(cat "$1")"\n', number="41\n",
+                     math_cppm='module;\n#include "number.h"\nexport module math;\nexport int number() { return NUMBER; }\n',
+                     main_cpp='#include "number.h"\n#include <cstdio>\nimport math;\n'
+                              'int main() { printf("%d %d\\n", NUMBER, number()); }\n')
+        self.generate(self.form)
+        self.makes("41 41")
+        self.idle()
+        Path("number").write_text("42\n")
+        self.makes("42 42")
+        self.assertEqual(self.steps("HEADER"), ["gen/number.h"])
+        self.idle()
+
+    def test_names_that_are_escaped(self):
+        """In Ninja's files, in commands, in scan documents, maps and depfiles."""
+        self.project(targets="program app 'src/main $1 it.cpp' 'src/a:b c$.cppm' \"-DSAYS='x'\" -- math\n"
+                             "library math 'my math/m 1.cppm' '-Imy inc'\n")
+        Path("src").mkdir()
+        Path("my math").mkdir()
+        Path("my inc").mkdir()
+        Path("my inc/n.h").write_text("#define N 20\n")
+        Path("src/a:b c$.cppm").write_text("export module a;\nimport m;\nexport int a() { return m() + 1; }\n")
+        Path("my math/m 1.cppm").write_text('module;\n#include "n.h"\nexport module m;\nexport int m() { return N; }\n')
+        Path("src/main $1 it.cpp").write_text('#include <cstdio>\nimport a;\nint main() { printf("%d%c\\n", a(), SAYS); }\n')
+        self.generate(self.form)
+        self.makes("21x")
+        self.idle()
+        Path("my inc/n.h").write_text("#define N 30\n")
+        self.makes("31x")
+        self.idle()
+        touch("my math/m 1.cppm")
+        self.compiles("'my math/m 1.cppm'", "'src/a:b c$.cppm'", "'src/main $1 it.cpp'")
+
+    def test_compilation_commands(self):
+        """They name the compiler and the map, so that each source can be compiled by itself once all were."""
+        self.copy("libs", self.form)
+        self.ninja()
+        commands = json.loads(Path("compile_commands.json").read_text())
+        self.assertEqual(len(commands), 6)
+        for one in commands:
+            self.assertEqual(output_of(*one["arguments"], "-fsyntax-only", cwd=one["directory"]), (0, ""))
+
+    def test_clangd_finds_modules(self):
+        clangd = next(filter(shutil.which, of_versions("clangd", *re.findall(r"\d+", tool("clang"))[:1])), None)
+        if not clangd or output_of(clangd, "--version")[1].count(version_text("clang")) == 0:
+            self.skipTest("clangd of the version of Clang: not there")
+        self.copy("libs", self.form)
+        self.ninja()
+        status, log = output_of(clangd, "--check=src/app/main.cpp", env=self.environment)
+        self.assertEqual((status, re.findall("^E.*(?:error|Error|not found).*", log, re.M)), (0, []), log)
+
+
+def version_text(name):
+    return re.search(r"\d+\.\d+\.\d+", output_of(tool(name), "--version")[1])[0]
+
+
+class WithGcc(WithClang):
+    form, tools = "gcc", ["ninja", "clang", "scanner", "gcc"]
+
+    def test_clangd_finds_modules(self):
+        """It cannot read GCC's module files."""
+        self.skipTest("this is for Clang")
+
+
+# ---- the repository
+
+class Repository(Folder):
+    tools = ["ninja", "clang", "scanner"]
+
+    def test_what_the_examples_write_is_ignored(self):
+        """So ./release, which takes a tree that is as committed, does not stop at it."""
+        if not shutil.which("git"):
+            self.skipTest("git: not there")
+        shutil.copytree(TOP / "examples", "examples", ignore=lambda folder, names: [
+            it for it in names if output_of("git", "check-ignore", "-q", Path(folder, it), cwd=TOP)[0] == 0])
+        shutil.copy(TOP / ".gitignore", ".")
+        for words in ["init", "-q"], ["add", "."], ["-c", "user.name=a", "-c", "user.email=a@b", "commit", "-qm", "all"]:
+            subprocess.run(["git", *words], check=True)
+        top = os.getcwd()
+        for example in "single", "libs", "hello":
+            for below in ".", "build":
+                os.chdir(Path(top, "examples", example))
+                os.makedirs(below, exist_ok=True)
+                os.chdir(below)
+                if example != "hello":
+                    self.generate("project" if example == "libs" else "clang", os.path.relpath("../targets" if below == "build" else "targets"))
+                elif below == "build":
+                    continue
+                self.assertEqual(self.ninja()[0], 0, self.log)
+        os.chdir(top)
+        self.assertEqual(output_of("git", "status", "--porcelain"), (0, ""))
