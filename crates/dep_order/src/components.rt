@@ -12,7 +12,8 @@ use crate::marking::mark_row;
 use crate::rows::row_of;
 use std::alloc::{AllocError, Global};
 
-/// A number for each node: nodes have the same where each leads to the other.
+/// Returns the number of the component of each node. Two nodes have the same number if and only if each
+/// leads to the other.
 pub fn components_of(
     alloc: Global,
     needs: &[&[usize]],
@@ -30,8 +31,8 @@ pub fn components_of(
     Ok(components)
 }
 
-/// Gives the number to the root and to all that users lead to from it, except for the nodes that
-/// have one.
+/// Gives the number to the root, and to each node without a number that leads to it through such
+/// nodes.
 fn add_component(
     alloc: Global,
     users: &[&[usize]],
@@ -54,7 +55,7 @@ fn add_component(
     Ok(())
 }
 
-/// Whether a node of the row shares the node's component.
+/// Returns whether a node of the row is in the node's component.
 pub fn shares_component(row: &[usize], components: &[Option<usize>], node: usize) -> bool
     requires row { All (λ other. other < length components.now) row.now }
     requires node { node < length components.now }

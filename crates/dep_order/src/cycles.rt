@@ -1,5 +1,5 @@
-//! The least cycle: its first node by a search or by components, its length by levels, and its
-//! nodes one by one.
+//! Finds the least cycle: first its first node, by a search or by components, then its length, by
+//! levels, then its nodes one by one.
 ghost use Rattle.std.specs.Prelude.{◌<◌, ◌≤◌, All, IfOk, length, Some};
 ghost use Rattle.dep_order.specs.Numbers.{Numbers};
 ghost use Rattle.dep_order.specs.Needs.{NodeNeeds, NeedsAreNodes, needs_of};
@@ -14,7 +14,7 @@ use crate::levels::steps_from;
 use crate::rows::row_of;
 use std::alloc::{AllocError, Global};
 
-/// The least cycle of a digraph that has one.
+/// Returns the least cycle of a digraph with a cycle.
 pub fn least_cycle(
     alloc: Global,
     needs: &[&[usize]],
@@ -25,13 +25,12 @@ pub fn least_cycle(
     requires cycle { HasCycle (NodeNeeds (lists needs.now)) }
     ensures { IfOk result (λ cycle. IsLeastCycle (NodeNeeds (lists needs.now)) cycle.items) }
 {
-    // where many nodes lie on cycles the first suspect mostly does, and one search saves the
-    // components
+    // If many nodes are on cycles, the first suspect usually is, and one search is enough.
     let suspect = first_suspect(needs, users);
     if let Some(cycle) = cycle_through(alloc, needs, users, suspect)? {
         return Ok(cycle);
     }
-    // else it is from the first node that needs one of its component
+    // Otherwise the cycle begins at the first node that needs a node of its own component.
     let components = components_of(alloc, needs, users)?;
     for first in 0..needs.len() {
         if shares_component(row_of(needs, first), components.as_slice(), first) {
@@ -44,7 +43,7 @@ pub fn least_cycle(
     unreachable!()
 }
 
-/// The first node that needs a node and that a node needs: no cycle has a lower one.
+/// Returns the first node that has both needs and users. No cycle contains a lower one.
 fn first_suspect(needs: &[&[usize]], users: &[&[usize]]) -> usize
     requires nodes { NeedsAreNodes (lists needs.now) }
     requires users { AreUsers (lists needs.now) (lists users.now) }
@@ -62,7 +61,7 @@ fn first_suspect(needs: &[&[usize]], users: &[&[usize]]) -> usize
     unreachable!()
 }
 
-/// The least cycle that begins with the first node, if any does.
+/// Returns the least cycle that begins with this node, if there is one.
 fn cycle_through(
     alloc: Global,
     needs: &[&[usize]],
@@ -84,7 +83,7 @@ fn cycle_through(
     }
 }
 
-/// The fewest steps that a node of the row is away.
+/// Returns the smallest distance of a node of the row.
 fn fewest(row: &[usize], steps: &[Option<usize>]) -> Option<usize>
     requires { All (λ node. node < length steps.now) row.now }
     ensures { IsFewest row.now steps.now result }
@@ -101,7 +100,8 @@ fn fewest(row: &[usize], steps: &[Option<usize>]) -> Option<usize>
     best
 }
 
-/// The least cycle from the first node on whose second node is so many steps away from it.
+/// Returns the least of the shortest cycles that begin with this node. `count` is the distance of its
+/// second node.
 fn cycle_from(
     alloc: Global,
     needs: &[&[usize]],
@@ -128,7 +128,7 @@ fn cycle_from(
     Ok(cycle)
 }
 
-/// The least node of the row that is so many steps away, where one is.
+/// Returns the least node of the row at this distance. There has to be one.
 fn least_at(row: &[usize], steps: &[Option<usize>], count: usize) -> usize
     requires nodes { All (λ node. node < length steps.now) row.now }
     requires some { SomeIsAway row.now steps.now count }

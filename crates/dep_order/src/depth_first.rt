@@ -1,4 +1,4 @@
-//! The order in which a search in depth leaves the nodes.
+//! Depth-first search.
 ghost use Rattle.std.specs.Prelude.{◌≡◌, ◌<◌, All, IfOk, OnOk, length, true, []};
 ghost use Rattle.dep_order.specs.Needs.{NeedsAreNodes};
 ghost use Rattle.dep_order.specs.inner.Postorders.{IsPostorder, IsInDepth, IsFirstUnseen, SeesMore, is_seen};
@@ -7,7 +7,7 @@ ghost use Rattle.dep_order.specs.Rows.{lists};
 use crate::rows::row_of;
 use std::alloc::{AllocError, Global};
 
-/// The nodes in postorder, as a search in depth along needs leaves them.
+/// Returns the nodes in the postorder of a depth-first search along needs.
 pub fn postorder_of(alloc: Global, needs: &[&[usize]]) -> Result<Vec<usize>, AllocError>
     requires { NeedsAreNodes (lists needs.now) }
     ensures { IfOk result (λ postorder. IsPostorder (lists needs.now) postorder.items) }
@@ -21,7 +21,7 @@ pub fn postorder_of(alloc: Global, needs: &[&[usize]]) -> Result<Vec<usize>, All
     Ok(left)
 }
 
-/// Searches in depth from the root, where it isn't seen yet, and adds each node as it is left.
+/// Searches from the root unless it was seen before, and appends each node when the search leaves it.
 fn search_from(
     alloc: Global,
     needs: &[&[usize]],
@@ -63,7 +63,7 @@ fn search_from(
     Ok(())
 }
 
-/// The first index of the row from this one on whose node isn't seen.
+/// Returns the first index, from this one on, at which the row has a node that was not seen.
 fn first_unseen(row: &[usize], from: usize, seen: &[bool]) -> Option<usize>
     requires { All (λ node. node < length seen.now) row.now }
     ensures { IsFirstUnseen row.now seen.now from result }

@@ -1,12 +1,12 @@
-//! Laws of orders and cycles: functions that do nothing, and whose contracts callers' proofs may
-//! cite.
+//! Laws about orders and cycles. A law is the contract of a function that does nothing; callers call it
+//! to use the law in a proof.
 ghost use Rattle.std.specs.Prelude.{◌≡◌, ℕ, List, length};
 ghost use Rattle.dep_order.specs.Numbers.{Numbers};
 ghost use Rattle.dep_order.specs.Needs.{NodeNeeds, NeedsAreNodes, IsOrderable};
 ghost use Rattle.dep_order.specs.Orders.{IsLeastOrder};
 ghost use Rattle.dep_order.specs.Cycles.{IsCycle, IsLeastCycle};
 
-/// At most one list is the order by smallest numbers, and at most one is the least cycle.
+/// A digraph has at most one order by smallest numbers, and at most one least cycle.
 pub fn one_answer()
     ensures order { (graph : List Numbers) (a b : Numbers)
         → IsLeastOrder (length graph) (NodeNeeds graph) a
@@ -18,7 +18,7 @@ pub fn one_answer()
         → a ≡ b }
 {}
 
-/// What is orderable has no cycle, and what has no cycle is orderable.
+/// A digraph can be ordered if and only if it has no cycle.
 pub fn orderable_without_cycle()
     ensures no_cycle { (graph : List Numbers) (cycle : Numbers)
         → IsOrderable (length graph) (NodeNeeds graph)

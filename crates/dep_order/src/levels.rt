@@ -1,4 +1,4 @@
-//! How many steps lead from a node to each other, found by levels.
+//! Breadth-first search: the distances from a node.
 ghost use Rattle.std.specs.Prelude.{◌≡◌, ◌<◌, All, IfOk, length};
 ghost use Rattle.dep_order.specs.Needs.{NodeNeeds, NeedsAreNodes};
 ghost use Rattle.dep_order.specs.Rows.{lists};
@@ -8,7 +8,7 @@ use crate::marking::mark_row;
 use crate::rows::row_of;
 use std::alloc::{AllocError, Global};
 
-/// The fewest steps from the start to each node; each node leads to those of its list.
+/// Returns the distance from the start to each node. Each node leads to the nodes of its list.
 pub fn steps_from(
     alloc: Global,
     slices: &[&[usize]],
@@ -30,7 +30,7 @@ pub fn steps_from(
     Ok(steps)
 }
 
-/// The nodes that the frontier leads to and that no steps led to: they are now so many steps away.
+/// Returns the nodes to which the frontier leads and which had no distance. Their distance is `count`.
 fn advance(
     alloc: Global,
     slices: &[&[usize]],

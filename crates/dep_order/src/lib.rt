@@ -1,57 +1,53 @@
-//! Digraphs of what needs what: nodes in order, the least cycle where there is no order, and what a
-//! node reaches.
+//! Digraphs of dependencies: a topological order, the least cycle if there is no order, and what is
+//! reachable from a node.
 //!
-//! Nodes are numbered from 0. `order` answers all nodes, each after what it needs, by smallest
-//! numbers, or the least cycle; `reach` answers what chains of needs lead to, and `Reaching`
-//! the same from one node after the other. One clause says all of each: `IsSortingOf` of
-//! `specs/Sortings.antt`, which rests on `specs/Orders.antt` and `specs/Cycles.antt`, and
-//! `IsReach` and `AreReached` of `specs/Needs.antt`. The only error is that memory was refused. The
-//! module `laws` has the laws of these definitions: there is at most one order and one least cycle,
-//! and an order exactly where there is no cycle.
-//!
-//! The definitions speak of any relation between numbered things. A caller with needs of its own
-//! makes the digraph of the same needs, and carries the answer over with the lemmas of
-//! `proofs/ForCallers.antt`.
+//! Nodes are numbered from 0. [`order`] returns all nodes, each after what it needs, by smallest
+//! numbers, or the least cycle. [`reach`] returns all nodes to which chains of needs lead, and
+//! [`Reaching`] does so for one node after the other. Each has one clause that says all:
+//! `IsSortingOf` (`specs/Sortings.antt`, with `specs/Orders.antt` and `specs/Cycles.antt`), and
+//! `IsReach` and `AreReached` (`specs/Needs.antt`). The only error is a failed allocation. The module
+//! [`laws`] proves that there is at most one order and at most one least cycle, and that there is an
+//! order if and only if there is no cycle.
 //!
 //! # How it works
 //!
-//! - `users_of` reads the needs backwards, by a counting sort into one flat list. `order_ready`
-//!   counts the missing needs of each node and keeps the ready ones in an ordered set.
-//! - Where not all are in order, one search from the first node that has needs and users tries
-//!   whether it lies on a cycle; then it is the least that does. Where it does not, `components_of`
-//!   numbers the strongly connected components: a search in depth with a path of its own gives a
-//!   postorder (`depth_first.rt`), and from its end on each root takes what leads to it. The least
-//!   node that needs a node of its own component is the least on any cycle.
-//! - From that node `steps_from` finds by levels how far each node is from it, along users;
-//!   `cycle_from` then takes at each step the least node that is one step nearer.
-//! - `Reaching` keeps the nodes that it finds in a sparse set, so that a search costs what it
-//!   finds, and nothing has to be cleared before the next.
-//! - What only the clauses of these private functions speak of is defined below `specs/inner`:
-//!   users, spans, marks, steps and so on.
+//! - `users_of` reverses the needs, by a counting sort into one vector. `order_ready` counts the
+//!   missing needs of each node and keeps the nodes that are ready in an ordered set.
+//! - If nodes are left over, one search tests whether the first node with needs and users is on a
+//!   cycle; then it is the least such node. If it is not, `components_of` numbers the strongly
+//!   connected components: a depth-first search with a stack of its own gives a postorder, and from
+//!   its end on each root takes the nodes that lead to it. The least node that needs a node of its
+//!   own component is the least node on any cycle.
+//! - `steps_from` finds the distance of each node from that node by a breadth-first search along
+//!   users. `cycle_from` then takes the least node that is one step nearer, at each step.
+//! - `Reaching` keeps the nodes that it finds in a sparse set, so that nothing has to be cleared
+//!   between two searches.
 //!
-//! Work grows linearly with the nodes and needs, except for a logarithm in ordering nodes, and no
-//! call recurses. The crate depends on `std` alone.
+//! Work grows linearly with the nodes and needs, except for a logarithm in ordering nodes. No function
+//! is recursive. The crate depends on std alone. Definitions that only private contracts use are in
+//! `specs/inner/`.
 //!
-//! `must-fail/` has a wrong body of each public function but of the laws, which have none.
+//! `must-fail/` has a wrong body of each public function, except for laws, which have no body.
 //!
-//! # Needs of a caller's own
+//! # Dependencies between other things
 //!
-//! A caller makes the digraph so that `NodeNeeds` holds of it exactly where its own relation does
-//! (`rows_are_nodes` of `proofs/ForCallers.antt` gives what `Digraph::new` requires), calls
-//! `order`, and carries the clause over by `sorting_same`, to which it gives that the one relation
-//! holds where the other does. That file has all that other crates cite:
+//! The definitions speak of any relation between numbered things. A caller with a relation of its own
+//! builds the digraph so that `NodeNeeds` holds if and only if the relation does, calls [`order`], and
+//! transfers the clause with `sorting_same` of `proofs/ForCallers.antt`. That file has all lemmas for
+//! other crates:
 //!
+//! - `rows_are_nodes`: what `Digraph::new` requires;
 //! - `sorting_same`, `orderable_same`, `order_same`, `least_cycle_same`, `cycle_same`,
-//!   `chain_same`, `reaches_same`: the same of needs that hold of the same things;
-//! - `no_cycle`, `orderable_or_cycle`: what is orderable has no cycle, and a digraph is orderable
-//!   or has one;
-//! - `least_is_short`, `no_cycle_without_least`: the least cycle has no more things than there are,
-//!   and where there is no least cycle there is none;
-//! - `orderable`, `AreWithin`, `within`: what has an order is orderable, where needs are among the
-//!   things, as a digraph's are;
-//! - `layered`: numbers that put needed things lower or level, and inner numbers for those that are
-//!   level, make needs orderable;
-//! - `one_order`, `one_cycle`: at most one list each.
+//!   `chain_same`, `reaches_same`: equal relations have equal results;
+//! - `no_cycle`, `orderable_or_cycle`: an orderable digraph has no cycle, and a digraph is orderable
+//!   or has a cycle;
+//! - `least_is_short`, `no_cycle_without_least`: the least cycle is no longer than the number of
+//!   things, and without a least cycle there is no cycle;
+//! - `orderable`, `AreWithin`, `within`: things with an order are orderable, if all needs are among
+//!   the things, as in a digraph;
+//! - `layered`: numbers that put needed things lower or level, and inner numbers for level things,
+//!   make needs orderable;
+//! - `one_order`, `one_cycle`: there is at most one of each.
 #![tactic(auto)]
 
 mod components;
@@ -78,7 +74,7 @@ use std::alloc::{AllocError, Global};
 use std::marker::Model;
 use users::users_of;
 
-/// What each node needs. A contract sees it as the list of the nodes' lists of needs.
+/// A digraph: the nodes that each node needs. Its view is the list of these lists.
 #[derive(Drop)]
 pub struct Digraph {
     needs: Vec<Vec<usize>>,
@@ -98,9 +94,9 @@ impl Model for Digraph {
 }
 
 impl Digraph {
-    /// The digraph in which node i needs the nodes that are listed at i. A list may be in any order
-    /// and name a node more than once, and a node may need itself; each number in a list has to be
-    /// that of a node.
+    /// Returns the digraph in which node i needs the nodes of list i. A list may be in any order and
+    /// contain a node more than once, and a node may need itself. Each number in a list has to be that
+    /// of a node.
     pub fn new(needs: Vec<Vec<usize>>) -> Digraph
         requires { NeedsAreNodes (rows needs.items) }
         ensures { result ≡ rows needs.items }
@@ -108,14 +104,14 @@ impl Digraph {
         Digraph { needs }
     }
 
-    /// How many nodes there are.
+    /// Returns the number of nodes.
     fn len(&self) -> usize
         ensures { result ≡ length self.now }
     {
         self.needs.len()
     }
 
-    /// What a node needs.
+    /// Returns what a node needs.
     fn needs_of(&self, node: usize) -> &[usize]
         requires { node < length self.now }
         ensures needs { result.now ≡ needs_of self.now node }
@@ -125,20 +121,22 @@ impl Digraph {
     }
 }
 
-/// The nodes of a digraph in order, or a cycle where they have none.
+/// The nodes of a digraph in order, or a cycle if they have no order.
 #[derive(Debug, PartialEq, Eq, Drop)]
 pub enum Sorting {
-    /// All nodes, each once and after all that it needs. At each index is the smallest number that
-    /// may be there.
+    /// All nodes, each once and after all that it needs. Each index has the smallest possible number.
     Order(Vec<usize>),
-    /// A cycle: each node needs the next, and the last needs the first. The first is the least
-    /// number on any cycle, no cycle through it is shorter, and of those that are as short this
-    /// list is least.
+    /// A cycle: each node needs the next, and the last needs the first. It begins with the
+    /// lowest-numbered node that is on any cycle. It is a shortest cycle through that node, and of
+    /// equally short ones the lexicographically first list.
     Cycle(Vec<usize>),
 }
 
-/// The order by smallest numbers, or the least cycle where the needs have no order. The only error
-/// is that memory was refused.
+/// Returns the order by smallest numbers, or the least cycle if there is no order.
+///
+/// # Errors
+///
+/// Returns an error if an allocation fails.
 pub fn order(alloc: Global, graph: &Digraph) -> Result<Sorting, AllocError>
     ensures { IfOk result (IsSortingOf (length graph.now) (NodeNeeds graph.now)) }
 {
@@ -154,8 +152,11 @@ pub fn order(alloc: Global, graph: &Digraph) -> Result<Sorting, AllocError>
     Ok(Sorting::Cycle(cycle))
 }
 
-/// The node itself and all that chains of needs lead to from it, in rising order. The only error is
-/// that memory was refused.
+/// Returns the node and all nodes to which chains of needs lead from it, in rising order.
+///
+/// # Errors
+///
+/// Returns an error if an allocation fails.
 pub fn reach(alloc: Global, graph: &Digraph, from: usize) -> Result<Vec<usize>, AllocError>
     requires { from < length graph.now }
     ensures { IfOk result (λ reached. IsReach (NodeNeeds graph.now) from reached.items) }

@@ -1,11 +1,10 @@
-//! Numbers given to nodes, as a search finds them.
+//! Marks the nodes that a search finds.
 ghost use Rattle.std.specs.Prelude.{◌<◌, All, OnOk, length};
 ghost use Rattle.dep_order.specs.inner.Marks.{AreMarked};
 
 use std::alloc::AllocError;
 
-/// Gives the mark to each node of the row that has none, and puts these nodes after those that come
-/// next.
+/// Gives the mark to each node of the row that has none, and appends these nodes to `next`.
 pub fn mark_row(
     row: &[usize],
     mark: usize,

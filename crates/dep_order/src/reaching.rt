@@ -1,4 +1,4 @@
-//! What nodes reach, one after the other.
+//! Reachability, from one node after the other.
 ghost use Rattle.std.specs.Prelude.{◌≡◌, ◌<◌, All, IfOk, OnOk, length};
 ghost use Rattle.dep_order.specs.Needs.{NodeNeeds, AreReached};
 ghost use Rattle.dep_order.specs.inner.Found.{AreFound, IsRowFound};
@@ -7,16 +7,15 @@ use crate::Digraph;
 use std::alloc::{AllocError, Global};
 use std::marker::Model;
 
-/// A search for what nodes of a digraph reach. It keeps its workspace from one node to the next, so
-/// that the work for a node grows with what it reaches and what that needs, and not with the
-/// digraph. A contract sees it as the digraph.
+/// A search for the nodes that are reachable from nodes of a digraph. It reuses its workspace, so the
+/// work for a node grows with the nodes it reaches and their needs, and not with the digraph. Its view
+/// is the digraph.
 #[derive(Drop)]
 pub struct Reaching<'g> {
     graph: &'g Digraph,
-    /// The index of each node among those that are found. A node is found where it is at its index,
-    /// so what an earlier search left need not be cleared (P. Briggs and L. Torczon, An
-    /// efficient representation for sparse sets, ACM Letters on Programming Languages and Systems
-    /// 2, 1993).
+    /// The index of each node among the found nodes. A node is found if it is at its index, so an
+    /// earlier search leaves nothing to be cleared (P. Briggs and L. Torczon, An efficient
+    /// representation for sparse sets, ACM Letters on Programming Languages and Systems 2, 1993).
     indexes: Vec<usize>,
 }
 
@@ -32,7 +31,11 @@ impl<'g> Model for Reaching<'g> {
 }
 
 impl<'g> Reaching<'g> {
-    /// A search in the digraph. The only error is that memory was refused.
+    /// Returns a search in the digraph.
+    ///
+    /// # Errors
+    ///
+    /// Returns an error if an allocation fails.
     pub fn new(alloc: Global, graph: &'g Digraph) -> Result<Reaching<'g>, AllocError>
         ensures { IfOk result (λ reaching. reaching ≡ graph.now) }
     {
@@ -40,8 +43,12 @@ impl<'g> Reaching<'g> {
         Ok(Reaching { graph, indexes })
     }
 
-    /// The node itself and all that chains of needs lead to from it, each once, in no set order.
-    /// The only error is that memory was refused, and the search may continue after it.
+    /// Returns the node and all nodes to which chains of needs lead from it, each once, in no
+    /// particular order.
+    ///
+    /// # Errors
+    ///
+    /// Returns an error if an allocation fails. The search can be used again afterwards.
     pub fn from(&mut self, alloc: Global, node: usize) -> Result<Vec<usize>, AllocError>
         requires { node < length self.old }
         ensures same { self.new ≡ self.old }
@@ -63,7 +70,7 @@ impl<'g> Reaching<'g> {
     }
 }
 
-/// Puts the nodes of the row that aren't found yet after those that are.
+/// Appends the nodes of the row that are not found yet.
 fn find_row(
     row: &[usize],
     indexes: &mut Vec<usize>,

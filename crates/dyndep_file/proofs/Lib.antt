@@ -1,7 +1,6 @@
 pub mod Positions
 pub mod Parts
 pub mod WriteFaultLemmas
-mod ReaderRows
 mod CallRows
 pub mod Runs
 pub mod EndLemmas
@@ -19,4 +18,3 @@ pub mod WrittenLine
 pub mod WrittenText
 pub mod WrittenOnly
 pub mod TextLemmas
-mod WrittenRows

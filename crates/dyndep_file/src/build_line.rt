@@ -1,5 +1,4 @@
-//! A build line's tokens after its keyword, from the left to the right: the statement that they
-//! name, or the fault of the first that may not be where it is.
+//! Parses the tokens of a build line after its keyword, from left to right.
 ghost use Rattle.std.specs.Prelude.{◌≡◌, [], ◌∷◌, codes, IfOk};
 ghost use Rattle.ninja_text.specs.Tokens.{value_of};
 ghost use Rattle.ninja_text.specs.TokenViews.{seen_token};
@@ -14,7 +13,7 @@ use crate::statement::Statement;
 use ninja_text::{Failure, Token, TokenKind, Words};
 use std::alloc::{AllocError, Global};
 
-/// The statement that the tokens name.
+/// Returns the statement of a build line, or the error of the first token that must not be where it is.
 pub(crate) fn statement(alloc: Global, words: Words<'_>) -> Result<Statement, Failure<LineFault>>
     ensures { TakesOr (output_fault (symbols_left words.entry))
         (λ statement. IsNamed (symbols_left words.entry) statement) result }
@@ -32,7 +31,7 @@ pub(crate) fn statement(alloc: Global, words: Words<'_>) -> Result<Statement, Fa
     })
 }
 
-/// The explicit output: a word.
+/// Parses the explicit output.
 fn output(alloc: Global, words: &mut Words<'_>) -> Result<Vec<u8>, Failure<LineFault>>
     ensures { TakesOr (output_fault (symbols_left words.old)) (λ output.
         TakesOutput (symbols_left words.old) output.items (symbols_left words.new)) result }
@@ -48,7 +47,7 @@ fn output(alloc: Global, words: &mut Words<'_>) -> Result<Vec<u8>, Failure<LineF
     }
 }
 
-/// The implicit outputs, which `|` begins, and the `:` before the rule.
+/// Parses the implicit outputs after `|`, if there are any, and the `:`.
 fn implicit_outputs(
     alloc: Global,
     words: &mut Words<'_>,
@@ -70,7 +69,7 @@ fn implicit_outputs(
     Err(Failure::Fault(fault))
 }
 
-/// What the words stand for up to the `:`, which is taken too.
+/// Returns the values of the words up to the `:`, and takes the `:`.
 fn words_to_colon(alloc: Global, words: &mut Words<'_>) -> Result<Vec<Vec<u8>>, Failure<LineFault>>
     ensures { TakesOr (implicit_outputs_fault (symbols_left words.old)) (λ outputs.
         TakesWords (symbols_left words.old) (texts outputs.items)
@@ -93,7 +92,7 @@ fn words_to_colon(alloc: Global, words: &mut Words<'_>) -> Result<Vec<Vec<u8>>, 
     Err(Failure::Fault(LineFault::BadLine))
 }
 
-/// The rule: the keyword `dyndep`.
+/// Parses the rule, which is the keyword `dyndep`.
 fn rule(words: &mut Words<'_>) -> Result<(), Failure<LineFault>>
     ensures { TakesOr (rule_fault (symbols_left words.old)) (λ _.
         symbols_left words.old ≡ WordSymbol (codes "dyndep") ∷ symbols_left words.new) result }
@@ -107,7 +106,7 @@ fn rule(words: &mut Words<'_>) -> Result<(), Failure<LineFault>>
     Ok(())
 }
 
-/// The implicit inputs, which `|` begins.
+/// Parses the implicit inputs after `|`, if there are any.
 fn implicit_inputs(alloc: Global, words: Words<'_>) -> Result<Vec<Vec<u8>>, Failure<LineFault>>
     ensures { TakesOr (after_rule_fault (symbols_left words.entry)) (λ inputs.
         TakesInputs (symbols_left words.entry) (texts inputs.items)) result }
@@ -126,7 +125,7 @@ fn implicit_inputs(alloc: Global, words: Words<'_>) -> Result<Vec<Vec<u8>>, Fail
     Err(Failure::Fault(fault))
 }
 
-/// What the words stand for up to the end.
+/// Returns the values of the words up to the end of the line.
 fn words_to_end(alloc: Global, words: Words<'_>) -> Result<Vec<Vec<u8>>, Failure<LineFault>>
     ensures { TakesOr (implicit_inputs_fault (symbols_left words.entry)) (λ inputs.
         TakesWords (symbols_left words.entry) (texts inputs.items) []) result }
@@ -147,21 +146,21 @@ fn words_to_end(alloc: Global, words: Words<'_>) -> Result<Vec<Vec<u8>>, Failure
     Ok(values)
 }
 
-/// Whether a token is the word of just these bytes.
+/// Returns whether a token is this keyword, without escapes.
 pub(crate) fn is_keyword(token: Token<'_>, keyword: &[u8]) -> bool
     ensures { result ≡ is_this_word keyword.now (symbol_of (seen_token token.entry)) }
 {
     token.kind() == TokenKind::Word && is_same(token.raw(), keyword)
 }
 
-/// Whether two slices hold the same bytes.
+/// Returns whether two slices have the same bytes.
 pub(crate) fn is_same(bytes: &[u8], other: &[u8]) -> bool
     ensures { result ≡ same_bytes bytes.now other.now }
 {
     bytes == other
 }
 
-/// What a word stands for. One without `$` stands for its own bytes.
+/// Returns the value of a word.
 fn value(alloc: Global, token: Token<'_>) -> Result<Vec<u8>, AllocError>
     ensures { IfOk result (λ bytes. bytes.items ≡ value_of (seen_token token.entry).raw) }
 {

@@ -1,4 +1,4 @@
-//! What can be wrong with a dyndep file.
+//! Errors of dyndep files.
 
 ghost use Rattle.std.specs.Prelude.{◌≡◌, MatchResult};
 ghost use Rattle.ninja_text.specs.FaultTexts.{lex_fault_text};
@@ -8,47 +8,47 @@ use ninja_text::LexFault;
 use std::fmt;
 use thiserror::Error;
 
-/// What is wrong with a line of a dyndep file (Ninja 1.11 manual, "Dyndep file reference" and
+/// An error in a line of a dyndep file (Ninja 1.11 manual, "Dyndep file reference" and
 /// "Lexical syntax").
 #[derive(Clone, Copy, Debug, PartialEq, Eq, Error)]
 pub enum LineFault {
-    /// The first 1,048,576 bytes of the line hold no end.
+    /// The first 1,048,576 bytes of the line contain no end.
     LineTooLong,
-    /// The file ends within a line.
+    /// The file ends in the middle of a line.
     Truncated,
-    /// A byte or a `$` that the lexical syntax does not allow; N7 to N10.
+    /// A lexical error, N7 to N10.
     Lexical(LexFault),
-    /// A line that is neither a comment nor blank comes before the version line, or no version line
-    /// comes at all.
+    /// A line that is neither a comment nor blank precedes the version line, or there is no version
+    /// line.
     NoVersion,
-    /// The version is neither `1` nor `1.0`, or continues as another number would.
+    /// The version is neither `1` nor `1.0`.
     BadVersion,
     /// A second version line.
     SecondVersion,
-    /// An indented line under no statement: no build line comes before it, or a blank line or a
-    /// binding came in between.
+    /// An indented line without a statement: no build line precedes it, or a blank line or a binding is
+    /// in between.
     Indent,
-    /// The line is neither a version line, a build line, a binding, a comment nor blank, or it is a
-    /// build line that breaks off or has a `|` or `:` where none may be.
+    /// The line is not a version line, a build line, a binding, a comment or blank, or it is a build
+    /// line that is incomplete or has a misplaced `|` or `:`.
     BadLine,
     /// No explicit output follows `build`.
     NoOutput,
     /// A second explicit output.
     SecondOutput,
-    /// The rule is not `dyndep`, or there is none.
+    /// The rule is not `dyndep`, or it is missing.
     BadRule,
-    /// An explicit input, which a dyndep file may not have.
+    /// An explicit input. Dyndep files cannot have any.
     ExplicitInput,
-    /// `||`, which begins order-only inputs; a dyndep file may not have any.
+    /// `||` and order-only inputs. Dyndep files cannot have any.
     OrderOnly,
-    /// `|@`, which begins validations; a dyndep file may not have any.
+    /// `|@` and validations. Dyndep files cannot have any.
     Validation,
-    /// An indented line under a statement that is no assignment to `restat`.
+    /// An indented line of a statement that does not assign to `restat`.
     BadBinding,
 }
 
 impl LineFault {
-    /// The code and the name, as they are printed, or the lexical fault, which has its own.
+    /// Returns the code and the name, or the lexical error, which is printed as itself.
     fn name(self) -> Result<&'static str, LexFault>
         ensures { MatchResult result
             (λ name. name.now ≡ line_fault_text self)
@@ -89,14 +89,13 @@ impl fmt::Display for LineFault {
     }
 }
 
-/// Why a dyndep file was not read.
+/// Why a dyndep file cannot be read.
 #[derive(Clone, Copy, Debug, PartialEq, Eq, Error)]
 pub enum ReadFault {
-    /// The first faulty line, or the end of the file, and what is wrong there. Lines are counted
-    /// from 1, and a line with continuations has the number of its first one.
+    /// The error of the first faulty line, or of the end of the file. Lines are counted from 1. A line
+    /// with continuations has the number of its first physical line.
     AtLine { line: u64, fault: LineFault },
-    /// A call of the reader answered an error, or 2^64 - 1 bytes were read and neither an end nor a
-    /// fault came.
+    /// A call of the reader failed, or 2^64 - 1 bytes were read without reaching the end.
     Io,
 }
 
@@ -114,17 +113,17 @@ impl fmt::Display for ReadFault {
     }
 }
 
-/// Why a list of statements was not written. The first statement with a fault counts, and in it a
-/// path before the line.
+/// Why a list of statements cannot be written. The first statement with an error is reported; in a
+/// statement, paths precede the line.
 #[derive(Clone, Copy, Debug, PartialEq, Eq, Error)]
 pub enum WriteFault {
-    /// A path is empty or holds `|`, NUL, CR or LF, which no spelling stands for. Paths are counted
-    /// from 0: the output, the implicit outputs, the implicit inputs.
+    /// A path is empty or contains `|`, NUL, CR or LF, which cannot be escaped. Paths are counted from
+    /// 0: the output, the implicit outputs, the implicit inputs.
     Unwritable { statement: usize, path: usize },
-    /// The build line has more than 1,048,576 bytes, its end included.
+    /// The build line has more than 1,048,576 bytes, including its end.
     StatementTooLong { statement: usize },
-    /// A call of the writer answered an error or took no byte. This many bytes went out before,
-    /// from the text's beginning.
+    /// A call of the writer failed or took no byte. The first `written` bytes of the text had been
+    /// written before.
     Io { written: u128 },
 }
 

@@ -1,4 +1,4 @@
-//! Reading a dyndep file from any `Read`.
+//! Reads a dyndep file from any reader.
 ghost use Rattle.std.specs.Prelude.{[], MatchResult};
 ghost use Rattle.dyndep_file.specs.Reader.{HasReadDyndep};
 ghost use Rattle.dyndep_file.specs.ReadingAll.{Answer, IsReadFrom};
@@ -10,12 +10,13 @@ use crate::statement::Dyndep;
 use ninja_text::{Counted, Failure, ReadCall};
 use std::alloc::Global;
 
-/// Reads a dyndep file up to the reader's end, at most 4,096 bytes a call.
+/// Reads a dyndep file up to the reader's end, at most 4,096 bytes per call.
 ///
-/// `Io` where a call of the reader answered an error, or 2^64 - 1 bytes were read and neither an
-/// end nor a fault came. Any other answer is that of a [`DyndepReader`] for the bytes read,
-/// `finish`'s only at the reader's end. After the end, an error or the first refusal no call is
-/// made.
+/// # Errors
+///
+/// Returns `Io` if a call of the reader fails, or if 2^64 - 1 bytes were read without reaching the
+/// end. Returns the other errors as [`DyndepReader`] does. After the end or an error the reader is not
+/// called again.
 pub fn read_all<R: ReadCall>(
     alloc: Global,
     input: &mut Counted<R>,
@@ -27,13 +28,13 @@ pub fn read_all<R: ReadCall>(
     reader.finish()
 }
 
-/// Feeds a new reader all bytes up to the input's end.
+/// Feeds a new reader all bytes of the input.
 fn feed_all<R: ReadCall>(
     input: &mut Counted<R>,
     reader: &mut DyndepReader,
 ) -> Result<(), Failure<ReadFault>>
     requires { HasReadDyndep [] reader.old }
-    // After the end, the answer of the whole is whatever `finish` answers then.
+    // At the end, the result is the one that `finish` returns.
     ensures { MatchResult result
         (λ _. (answer : Answer) → AnswersAtEnd reader.new answer →
         IsReadFrom R.remaining R.reads input.old input.new answer)

@@ -1,4 +1,5 @@
-//! What holds of the definitions themselves: each law is the contract of a call that does nothing.
+//! Laws about the definitions. A law is the contract of a function that does nothing; callers call it
+//! to use the law in a proof.
 ghost use Rattle.std.specs.Prelude.{◌≡◌, ◌↔◌, List, All, None};
 ghost use Rattle.dyndep_file.specs.StatementValue.{StatementValue};
 ghost use Rattle.dyndep_file.specs.Writing.{dyndep_text};
@@ -11,47 +12,46 @@ pub fn one_list()
     ensures { OneList }
 {}
 
-/// A text has a list of statements or a fault, and not both.
+/// A text has either a list of statements or an error.
 pub fn list_or_fault()
     ensures not_both { NotBoth }
     ensures one_of_both { OneOfBoth }
 {}
 
-/// A text has at most one fault, at one line.
+/// A text has at most one error, at one line.
 pub fn one_fault()
     ensures { OneReadFault }
 {}
 
-/// A reader that continues was fed no faulty line, and no line that is too long.
+/// A reader without an error was fed no faulty line, and no line that is too long.
 pub fn unrefused()
     ensures { GoesOnUnrefused }
 {}
 
-/// A fault in the bytes so far, as `feed` answers it, is the fault of every text that begins with
-/// them.
+/// An error that `feed` returns is the error of every text that begins with the bytes fed so far.
 pub fn fault_stays()
     ensures { FaultStays }
 {}
 
-/// Statements whose paths all have spellings have no fault but a build line that is too long; so
-/// has each such statement.
+/// If all paths of the statements can be escaped, the only possible error is a build line that is too
+/// long. The same holds for one statement.
 pub fn long_lines()
     ensures lists { OnlyTooLong }
     ensures statements { TooLongIfWritable }
 {}
 
-/// The fault of a statement after some without a fault is that of the list, whatever comes after.
+/// If the first statements have no error and the next one has, its error is that of the list.
 pub fn first_fault()
     ensures { FirstFault }
 {}
 
-/// The grammar relates the text of statements that can be written to them, and to no other list.
+/// The text of statements that can be written stands for these statements and for no other list.
 pub fn written_text()
     ensures { (statements : List StatementValue) →
         All CanBeWritten statements → StandsForOnly (dyndep_text statements) statements }
 {}
 
-/// A list of statements has no fault exactly where each of them can be written.
+/// A list of statements has no error if and only if each of them can be written.
 pub fn writable_statements()
     ensures { (statements : List StatementValue) →
         write_fault statements ≡ None ↔ All CanBeWritten statements }

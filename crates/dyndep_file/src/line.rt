@@ -1,4 +1,4 @@
-//! One line of a dyndep file: which row of the table of lines it is in.
+//! Reads one line of a dyndep file.
 ghost use Rattle.std.specs.Prelude.{◌≡◌, ◌==◌, ◌&&◌, codes};
 ghost use Rattle.ninja_text.specs.LineViews.{seen_line};
 ghost use Rattle.ninja_text.specs.TokenViews.{seen_token};
@@ -13,7 +13,7 @@ use crate::progress::{Progress, blank_line, build_line, indented_line, version_o
 use ninja_text::{Failure, Line, Token, assignment, words};
 use std::alloc::Global;
 
-/// Reads a line. What a refused line leaves of the progress is of no use.
+/// Reads a line. After an error the progress is of no use.
 pub(crate) fn read_line(
     alloc: Global,
     progress: &mut Progress,
@@ -29,7 +29,7 @@ pub(crate) fn read_line(
     }))
 }
 
-/// Reads a line's text, by its tokens where it is no comment.
+/// Reads the text of a line that is not a comment.
 fn read_text(
     alloc: Global,
     progress: &mut Progress,
@@ -61,7 +61,7 @@ fn read_text(
     }
 }
 
-/// Whether a line whose first token this is is a build line.
+/// Returns whether a line with this first token is a build line.
 fn begins_build_line(first: Token<'_>) -> bool
     ensures { result ≡ ((seen_token first.entry).start == 0)
         && is_this_word (codes "build") (symbol_of (seen_token first.entry)) }
@@ -69,7 +69,7 @@ fn begins_build_line(first: Token<'_>) -> bool
     first.start() == 0 && is_keyword(first, b"build")
 }
 
-/// Whether a line's text is indented.
+/// Returns whether the text of a line is indented.
 fn begins_with_space(text: &[u8]) -> bool
     ensures { result ≡ begins_with_space text.now }
 {

@@ -1,5 +1,4 @@
-//! The statements of the lines so far, and what a line of each kind does to them: the table of
-//! lines, row by row.
+//! The statements so far, and the effect of each kind of line.
 ghost use Rattle.std.specs.Prelude.{◌≡◌, codes, is_some, option_map, IfOk, Some};
 ghost use Rattle.ninja_text.specs.Tokens.{value_of};
 ghost use Rattle.ninja_text.specs.AssignmentViews.{seen_assignment};
@@ -16,18 +15,18 @@ use ninja_text::{Assignment, Failure, Words};
 use std::alloc::{AllocError, Global};
 use std::marker::Model;
 
-/// What comes before a line, and so which lines may come next.
+/// The stage of a file: which lines are allowed next.
 #[derive(Clone, Copy)]
 pub(crate) enum Stage {
-    /// No version line has come.
+    /// No version line was read.
     BeforeVersion,
-    /// A binding would belong to no statement.
+    /// A binding is not allowed.
     NoneOpen,
-    /// A binding would belong to the last statement.
+    /// A binding belongs to the last statement.
     Open,
 }
 
-/// The statements so far, and the stage of the file.
+/// The statements so far and the stage of the file.
 #[derive(Drop)]
 pub(crate) struct Progress {
     pub(crate) stage: Stage,
@@ -42,7 +41,7 @@ impl Model for Progress {
     ghost view = { λ p. record { stage = p.stage; statements = p.statements.items } };
 }
 
-/// A blank line: it closes the open statement.
+/// A blank line closes the open statement.
 pub(crate) fn blank_line(progress: &mut Progress)
     ensures { step progress.old.stage progress.old.statements Blank
         ≡ Some progress.new }
@@ -53,7 +52,8 @@ pub(crate) fn blank_line(progress: &mut Progress)
     }
 }
 
-/// An indented line: an assignment to `restat` sets the open statement's flag and closes it.
+/// An indented line sets the flag of the open statement if it assigns to `restat`, and closes the
+/// statement.
 pub(crate) fn indented_line(
     alloc: Global,
     progress: &mut Progress,
@@ -80,7 +80,7 @@ pub(crate) fn indented_line(
     Ok(())
 }
 
-/// A build line, by the tokens after its keyword: it opens a statement.
+/// A build line opens a statement. These are the tokens after its keyword.
 pub(crate) fn build_line(
     alloc: Global,
     progress: &mut Progress,
@@ -100,7 +100,7 @@ pub(crate) fn build_line(
     Ok(())
 }
 
-/// A line that is neither indented nor a build line: a version line, or one that may come nowhere.
+/// A line that is neither indented nor a build line is a version line, or it is not allowed.
 pub(crate) fn version_or_other_line(
     alloc: Global,
     progress: &mut Progress,
@@ -120,7 +120,7 @@ pub(crate) fn version_or_other_line(
     version_line(alloc, progress, version)
 }
 
-/// A version line: it comes once, before all statements, and its value is `1` or `1.0`.
+/// A version line is allowed once, before all statements, with the value `1` or `1.0`.
 fn version_line(
     alloc: Global,
     progress: &mut Progress,
@@ -142,7 +142,7 @@ fn version_line(
     Ok(())
 }
 
-/// The fault of a line that may come nowhere.
+/// Returns the error of a line that is not allowed at this stage.
 fn other_line(stage: Stage) -> LineFault
     ensures { result ≡ other_fault stage }
 {
@@ -152,7 +152,7 @@ fn other_line(stage: Stage) -> LineFault
     }
 }
 
-/// The assignment, if it is to this name.
+/// Returns the assignment if it assigns to this name.
 fn named<'a>(assignment: Option<Assignment<'a>>, name: &[u8]) -> Option<Assignment<'a>>
     ensures { option_map seen_assignment result
         ≡ with_name name.now (option_map seen_assignment assignment.entry) }
@@ -163,7 +163,7 @@ fn named<'a>(assignment: Option<Assignment<'a>>, name: &[u8]) -> Option<Assignme
     }
 }
 
-/// What is assigned.
+/// Returns the assigned value.
 fn value(alloc: Global, assignment: Assignment<'_>) -> Result<Vec<u8>, AllocError>
     ensures { IfOk result (λ value.
         value.items ≡ value_of (seen_assignment assignment.entry).raw_value) }
@@ -173,7 +173,7 @@ fn value(alloc: Global, assignment: Assignment<'_>) -> Result<Vec<u8>, AllocErro
     Ok(value)
 }
 
-/// Whether a version is `1` or `1.0`, and then no more of a number.
+/// Returns whether a version is the number `1` or `1.0`. Other text may follow.
 fn is_version_one(value: &[u8]) -> bool
     ensures { result ≡ is_version_one value.now }
 {
@@ -184,8 +184,7 @@ fn is_version_one(value: &[u8]) -> bool
     }
 }
 
-/// Whether a number ends before these bytes: no digit comes next and, where dots are refused, no
-/// `.`.
+/// Returns whether a number ends before these bytes: no digit follows and, with `dots`, no `.`.
 fn ends_number(dots: bool, rest: &[u8]) -> bool
     ensures { result ≡ ends_number dots rest.now }
 {

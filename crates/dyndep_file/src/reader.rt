@@ -1,5 +1,4 @@
-//! The reader of dyndep files that come in pieces: lines are read one by one into the statements so
-//! far.
+//! Reads dyndep files that arrive in pieces, line by line.
 ghost use Rattle.std.specs.Prelude.{◌≡◌, ◌++◌, [], Some};
 
 use crate::fault::{LineFault, ReadFault};
@@ -10,10 +9,10 @@ use ninja_text::{CutFault, Failure, Line, LineReader, LineState};
 use std::alloc::Global;
 use std::marker::Model;
 
-/// Reads a dyndep file that comes in pieces (Ninja 1.11 manual, "Dyndep file reference").
+/// Reads a dyndep file that arrives in pieces (Ninja 1.11 manual, "Dyndep file reference").
 ///
-/// A piece may end anywhere, within a continuation or between CR and LF too: the answer is that for
-/// the whole text.
+/// A piece may end anywhere, also within a continuation or between CR and LF. The result is the same
+/// for all divisions of a text into pieces.
 #[derive(Drop)]
 pub struct DyndepReader {
     lines: LineReader<Progress, ReadFault>,
@@ -33,7 +32,7 @@ impl DyndepReader {
     ghost use Rattle.dyndep_file.specs.declared.fault.ReadFault.{ReadFault};
     ghost use Rattle.ninja_text.specs.declared.failure.Failure.{Failure};
 
-    /// A reader that was fed nothing. It takes no memory yet.
+    /// Returns a reader that has read nothing. It does not allocate.
     pub fn new(alloc: Global) -> DyndepReader
         ensures { HasReadDyndep [] result }
     {
@@ -46,11 +45,13 @@ impl DyndepReader {
         }
     }
 
-    /// Takes the next piece of the text, all of it.
+    /// Reads the next piece of the text, all of it.
     ///
-    /// The first faulty line is answered as soon as its end is there, and `LineTooLong` as soon as
-    /// 1,048,576 bytes hold no end; `Io` never. After a refusal, `Memory` included, the
-    /// answer is the same from then on.
+    /// # Errors
+    ///
+    /// Returns the error of the first faulty line as soon as the line is complete, `LineTooLong` as
+    /// soon as 1,048,576 bytes contain no end of a line, or [`Failure::Memory`] if an allocation fails.
+    /// It never returns `Io`. After an error every later call returns the same error.
     pub fn feed(&mut self, piece: &[u8]) -> Result<(), Failure<ReadFault>>
         ensures failed { (failure : Failure ReadFault) → self.old.failed ≡ Some failure →
             (result ≡ Err failure) × (self.new ≡ self.old) }
@@ -61,10 +62,12 @@ impl DyndepReader {
         self.lines.feed(piece)
     }
 
-    /// The statements of the text, once all of it was fed.
+    /// Returns the statements of the text.
     ///
-    /// `Truncated` where the last line has no end, and `NoVersion` where no version line came. A
-    /// reader that refused answers the same once more.
+    /// # Errors
+    ///
+    /// Returns the error of an earlier `feed` again, `Truncated` if the last line has no end, or
+    /// `NoVersion` if there was no version line.
     pub fn finish(self) -> Result<Dyndep, Failure<ReadFault>>
         ensures failed { (failure : Failure ReadFault) → self.failed ≡ Some failure →
             result ≡ Err failure }

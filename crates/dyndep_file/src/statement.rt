@@ -4,10 +4,10 @@ use std::marker::Model;
 /// What a dyndep file adds to one build statement of the manifest (Ninja 1.11 manual, "Dyndep file
 /// reference").
 ///
-/// A path is the bytes that its spelling stands for, without escapes. It need not be canonical.
+/// Paths are without escapes. They need not be canonical.
 #[derive(Debug, Drop)]
 pub struct Statement {
-    /// The explicit output, by which the build statement is found.
+    /// The explicit output, which identifies the build statement.
     pub output: Vec<u8>,
     /// The implicit outputs that are added.
     pub implicit_outputs: Vec<Vec<u8>>,
@@ -31,7 +31,7 @@ impl Model for Statement {
     } };
 }
 
-/// A [`Statement`] whose paths are lent, so that it is written without a copy of them.
+/// A [`Statement`] with borrowed paths.
 #[derive(Drop)]
 pub struct LentStatement<'a> {
     pub output: &'a [u8],

@@ -1,5 +1,5 @@
-//! The text of a dyndep file, made statement by statement.
-ghost use Rattle.std.specs.Prelude.{◌≡◌, ◌++◌, List, [], ◌∷◌, not, position, All, IfOk, OnOk, IfErr, None, Some};
+//! Builds the text of a dyndep file, statement by statement.
+ghost use Rattle.std.specs.Prelude.{◌≡◌, ◌++◌, List, [], ◌∷◌, not, position, All, IfOk, OnOk, OnErr, IfErr, None, Some};
 ghost use Rattle.ninja_text.specs.Failure.{Gives, ForFault};
 ghost use Rattle.ninja_text.specs.Escapes.{is_writable, IsWritable};
 ghost use Rattle.dyndep_file.specs.StatementValue.{StatementValue};
@@ -20,13 +20,16 @@ const VERSION_LINE: &[u8] = b"ninja_dyndep_version = 1\n";
 const BINDING_LINE: &[u8] = b"  restat = 1\n";
 
 /// The text of a dyndep file, to which statements are added one after another (Ninja 1.11 manual,
-/// "Dyndep file reference"): the version line, and for each statement its build line and, where its
-/// flag is set, a `restat` binding. Lines end in LF, and paths are escaped.
+/// "Dyndep file reference"). It has the version line, and for each statement the build line and, if
+/// the flag is set, a `restat` binding. Lines end in LF, and paths are escaped.
 #[derive(Drop)]
 pub struct DyndepText {
     text: Vec<u8>,
-    /// How many statements were added.
+    /// The number of statements.
     count: usize,
+    /// The lines of the statement that is being added. They are appended as a whole, so that the text
+    /// is unchanged after an error.
+    lines: Vec<u8>,
 }
 
 impl Model for DyndepText {
@@ -38,25 +41,37 @@ impl Model for DyndepText {
 }
 
 impl DyndepText {
-    /// The text of no statements: the version line.
+    /// Returns the text without statements: the version line.
+    ///
+    /// # Errors
+    ///
+    /// Returns an error if an allocation fails.
     pub fn new(alloc: Global) -> Result<DyndepText, AllocError>
         ensures { IfOk result (IsTextOf []) }
     {
         let mut text = Vec::new(alloc);
         text.extend_from_slice(VERSION_LINE)?;
-        Ok(DyndepText { text, count: 0 })
+        Ok(DyndepText {
+            text,
+            count: 0,
+            lines: Vec::new(alloc),
+        })
     }
 
     /// Adds the lines of a statement.
     ///
-    /// Y1 `Unwritable`: a path has no spelling; else Y2 `StatementTooLong`: the build line has more
-    /// than 1,048,576 bytes, its end included. Nothing is promised of the text after an error.
+    /// # Errors
+    ///
+    /// Returns Y1 `Unwritable` if a path cannot be escaped. Otherwise returns Y2 `StatementTooLong` if
+    /// the build line has more than 1,048,576 bytes, including its end. Returns [`Failure::Memory`] if
+    /// an allocation fails. After an error the text is unchanged, and other statements can be added.
     pub fn add(&mut self, statement: &LentStatement<'_>) -> Result<(), Failure<WriteFault>>
         // Whatever statements were added before this one.
         ensures added { OnOk result ((statements : List StatementValue) →
             IsTextOf statements self.old → IsTextOf (statements ++ statement.now ∷ []) self.new) }
         ensures fault { IfErr result (ForFault (λ fault.
             statement_fault self.old.count statement.now ≡ Some fault)) }
+        ensures unchanged { OnErr result (self.new ≡ self.old) }
     {
         if let Some(path) = unwritable_path(statement) {
             return Err(Failure::Fault(WriteFault::Unwritable {
@@ -67,30 +82,35 @@ impl DyndepText {
         self.add_writable(statement)
     }
 
-    /// The same of a statement whose paths have spellings: no path is looked at for it, and Y2 alone
-    /// is left.
+    /// Adds the lines of a statement whose paths can all be escaped. It does not check the paths.
+    ///
+    /// # Errors
+    ///
+    /// Returns Y2 `StatementTooLong` or [`Failure::Memory`], as [`add`](DyndepText::add) does. After an
+    /// error the text is unchanged.
     pub fn add_writable(&mut self, statement: &LentStatement<'_>) -> Result<(), Failure<WriteFault>>
         requires { All IsWritable (paths_of statement.now) }
         ensures added { OnOk result ((statements : List StatementValue) →
             IsTextOf statements self.old → IsTextOf (statements ++ statement.now ∷ []) self.new) }
         ensures fault { IfErr result (ForFault (λ fault.
             statement_fault self.old.count statement.now ≡ Some fault)) }
+        ensures unchanged { OnErr result (self.new ≡ self.old) }
     {
-        let start = self.text.len();
-        push_build_line(statement, &mut self.text)?;
-        if self.text.len() - start > LINE_LIMIT {
+        self.lines.clear();
+        push_build_line(statement, &mut self.lines)?;
+        if self.lines.len() > LINE_LIMIT {
             return Err(Failure::Fault(WriteFault::StatementTooLong {
                 statement: self.count,
             }));
         }
-        push_binding(statement, &mut self.text)?;
-        // no text has so many statements that this stops
+        push_binding(statement, &mut self.lines)?;
+        self.text.extend_from_slice(&self.lines)?;
+        // A text cannot have enough statements to saturate the count.
         self.count = self.count.saturating_add(1);
         Ok(())
     }
 
-    /// Adds the lines of a statement that has its own paths, which are lent here in the place of
-    /// what was lent before.
+    /// Adds the lines of a statement that owns its paths. The two vectors are reused to borrow them.
     fn add_lent<'p>(
         &mut self,
         statement: &'p Statement,
@@ -112,7 +132,7 @@ impl DyndepText {
         })
     }
 
-    /// The text, which the grammar relates to the statements that were added, and to no others.
+    /// Returns the text. It stands for the statements that were added, and for no others.
     pub fn finish(self) -> Vec<u8>
         ensures { (statements : List StatementValue) →
             IsTextOf statements self → IsFinished statements result.items }
@@ -122,12 +142,16 @@ impl DyndepText {
 }
 
 impl Dyndep {
-    /// The text of the statements, as [`DyndepText`] makes it; or the fault of the first statement
-    /// that has one, unless memory is refused before.
+    /// Returns the text of the statements, as [`DyndepText`] builds it.
+    ///
+    /// # Errors
+    ///
+    /// Returns the error of the first statement that has one, or [`Failure::Memory`] if an allocation
+    /// fails.
     pub fn to_text(&self, alloc: Global) -> Result<Vec<u8>, Failure<WriteFault>>
         ensures text { Gives (λ text. text.items) result (text_or_fault self.now) }
         ensures unfaulted { IfOk result (λ _. write_fault self.now ≡ None) }
-        // The grammar relates the text to these statements, and to no others.
+        // The text stands for these statements, and for no others.
         ensures meaning { IfOk result (λ text. StandsForOnly text.items self.now) }
     {
         let mut text = DyndepText::new(alloc)?;
@@ -140,7 +164,7 @@ impl Dyndep {
     }
 }
 
-/// Lends the bytes of the paths, in the place of what was lent before.
+/// Replaces the contents of the vector with the borrowed paths.
 fn lend<'p>(paths: &'p [Vec<u8>], lent: &mut Vec<&'p [u8]>) -> Result<(), AllocError>
     ensures { OnOk result (lent_texts lent.new.items ≡ texts paths.now) }
 {
@@ -151,7 +175,7 @@ fn lend<'p>(paths: &'p [Vec<u8>], lent: &mut Vec<&'p [u8]>) -> Result<(), AllocE
     Ok(())
 }
 
-/// The index of the first path that has no spelling.
+/// Returns the index of the first path of a statement that cannot be escaped.
 fn unwritable_path(statement: &LentStatement<'_>) -> Option<usize>
     ensures { result ≡ position (λ path. not (is_writable path)) (paths_of statement.now) }
 {
@@ -165,7 +189,7 @@ fn unwritable_path(statement: &LentStatement<'_>) -> Option<usize>
     Some(1 + statement.implicit_outputs.len() + index)
 }
 
-/// The index of the first path that has no spelling.
+/// Returns the index of the first path that cannot be escaped.
 fn first_unwritable(paths: &[&[u8]]) -> Option<usize>
     ensures { result ≡ position (λ path. not (is_writable path)) (lent_texts paths.now) }
 {
@@ -190,7 +214,7 @@ fn push_build_line(statement: &LentStatement<'_>, text: &mut Vec<u8>) -> Result<
     text.extend_from_slice(b"\n")
 }
 
-/// Appends the line of the binding, where the flag is set.
+/// Appends the line of the binding if the flag is set.
 fn push_binding(statement: &LentStatement<'_>, text: &mut Vec<u8>) -> Result<(), AllocError>
     ensures { OnOk result (text.new.items ≡ text.old.items ++ binding_line statement.now) }
 {

@@ -1,4 +1,4 @@
-//! The writer of dyndep files.
+//! Writes dyndep files.
 ghost use Rattle.std.specs.Prelude.{MatchResult, OnOk};
 ghost use Rattle.ninja_text.specs.Counting.{held, IsWritten};
 ghost use Rattle.dyndep_file.specs.Reading.{StandsForOnly};
@@ -12,10 +12,13 @@ use std::alloc::Global;
 
 /// Writes the text of a dyndep file.
 ///
-/// A path without a spelling and too long a build line are reported before the first byte, as is
-/// `Memory`: the writer is as it was then. After an `Io` exactly that many bytes went out, and
-/// they are a beginning of the text. Each call of the writer is given what is left of the text, and
-/// after a call that failed none is made.
+/// Each call of the writer gets what is left of the text.
+///
+/// # Errors
+///
+/// Returns Y1 or Y2 if a statement cannot be written, or [`Failure::Memory`] if an allocation fails.
+/// Nothing is written then. Returns `Io` after the first failed call; exactly the first `written` bytes
+/// of the text were written.
 pub fn write<W: WriteCall>(
     alloc: Global,
     dyndep: &Dyndep,
@@ -27,7 +30,7 @@ pub fn write<W: WriteCall>(
     ensures calls { WritesInTurn W.writes (held out.old) (held out.new)
         (dyndep_text dyndep.now) result }
     ensures fault { AnswersWriteFault (write_fault dyndep.now) result }
-    // The grammar relates the text to these statements, and to no others.
+    // The text stands for these statements, and for no others.
     ensures meaning { OnOk result (StandsForOnly (dyndep_text dyndep.now) dyndep.now) }
 {
     let text = match dyndep.to_text(alloc) {
