@@ -11,7 +11,7 @@ use Rattle.module_table.specs.Sound.{IsSound}
 use Rattle.module_table.specs.Added.{required_of, RequiredFiles, AllRequired, OneFile}
 use Rattle.collate_core.specs.Statements.{module_files}
 use Rattle.collate_core.specs.Headline.{Modules, with_modules}
-use Rattle.collate_core.specs.Builds.{IsMaker, IsReader, RequiresFile, ProvidesFile, IsRunOrder, HasNoRace, HasReason, needed, required, added, HasNoFalseWait}
+use Rattle.collate_core.specs.Builds.{IsMaker, IsReader, RequiresFile, ProvidesFile, IsRunOrder, HasNoRace, HasReason, required, listed, HasNoFalseWait}
 use Rattle.collate_core.proofs.ByIndex.{element_at, same_some, from_map, to_map, in_append, in_first, in_second}
 use Rattle.collate_core.proofs.LinkedLemmas.{index_of}
 
@@ -197,20 +197,20 @@ module _ (required_files : RequiredFiles) (all_required : AllRequired) (one_file
   no_false_wait i maker = (by_reason, holds)
     where
       by_maker : (file : List ℕ) → IsReader g i file → IsMaker g maker file ⊎ ProvidesFile tables g maker file → HasReason tables g new i maker
-      by_maker file reader (inl old) = needed (needs_by g i maker file reader old)
-      by_maker file reader (inr provides) = added {file = file} reader provides
+      by_maker file reader (inl old) = inl (needs_by g i maker file reader old)
+      by_maker file reader (inr provides) = inr (listed {file = file} reader provides)
 
       by_reader : (file : List ℕ) → IsMaker new maker file → IsReader g i file ⊎ RequiresFile tables g i file → HasReason tables g new i maker
       by_reader file makes (inl reader) = by_maker file reader (maker_from maker file makes)
-      by_reader file makes (inr requires) = required {file = file} requires makes
+      by_reader file makes (inr requires) = inr (required {file = file} requires makes)
 
       by_reason : EdgeNeeds new i maker → HasReason tables g new i maker
       by_reason (e, file, j, here, reads, makes) = by_reader file (j, makes) (reader_from i file (e, here, reads))
 
       holds : HasReason tables g new i maker → EdgeNeeds new i maker
-      holds (needed (e, file, j, here, reads, makes)) = needs_by new i maker file (keeps_reader i file (e, here, reads)) (keeps_maker maker file (j, makes))
-      holds (required {file} requires makes) = needs_by new i maker file (reads_required i file requires) makes
-      holds (added {file} reader provides) = needs_by new i maker file (keeps_reader i file reader) (made maker file provides)
+      holds (inl (e, file, j, here, reads, makes)) = needs_by new i maker file (keeps_reader i file (e, here, reads)) (keeps_maker maker file (j, makes))
+      holds (inr (required {file} requires makes)) = needs_by new i maker file (reads_required i file requires) makes
+      holds (inr (listed {file} reader provides)) = needs_by new i maker file (keeps_reader i file reader) (made maker file provides)
 
 -- the order by smallest numbers is one in which the edges can run
 pub least_order_runs : (g : List EdgeValue) (order : List ℕ) → IsLeastOrder (length g) (EdgeNeeds g) order → IsRunOrder g order

@@ -1,5 +1,5 @@
 -- What edges wait for, on a small build whose answers are known.
-use Rattle.std.proofs.Common.{◌≡◌, ℕ, zero, suc, ◌<◌, List, [], ◌∷◌, Some, None, codes, refl, ap, subst, sym, ◌∙◌, arith, slice_get, Contains, bytes_eq, false, true≢false}
+use Rattle.std.proofs.Common.{◌≡◌, ℕ, zero, suc, ◌<◌, List, [], ◌∷◌, Some, None, codes, refl, ap, subst, sym, ◌∙◌, inl, inr, arith, slice_get, Contains, bytes_eq, false, true≢false}
 use Rattle.std.proofs.lemmas.Slice.Eq.{bytes_eq-Decides}
 use Rattle.scan_docs.specs.Scan.{RuleValue}
 use Rattle.build_effect.specs.EdgeValue.{EdgeValue}
@@ -7,7 +7,7 @@ use Rattle.build_effect.specs.Graphs.{Makes, HasInput, EdgeNeeds, made_by}
 use Rattle.module_table.specs.TableValue.{TableValue}
 use Rattle.module_table.specs.Modules.{Provides, Requires}
 use Rattle.module_table.specs.declared.fault.Maker.TheVariants.{Object}
-use Rattle.collate_core.specs.Builds.{IsMaker, IsReader, IsEdgeOf, RequiresFile, ProvidesFile, ComesAfter, IsRunOrder, HasNoRace, HasReason, needed, required, added, HasNoFalseWait}
+use Rattle.collate_core.specs.Builds.{IsMaker, IsReader, IsEdgeOf, RequiresFile, ProvidesFile, ComesAfter, IsRunOrder, HasNoRace, HasReason, required, listed, HasNoFalseWait, HasNoFalseCycle}
 use Rattle.collate_core.proofs.ByIndex.{same_some}
 use Rattle.collate_core.proofs.LinkedLemmas.{index_of, contained}
 
@@ -56,11 +56,11 @@ b_provides = (two_objects, 1, 0, codes "B", contained tables 0 two_objects refl,
 
 -- `a.o` waits for `b.o`, which makes the file of the module that it requires
 a_for_b : HasReason tables before after 0 1
-a_for_b = required {file = codes "B.bmi"} a_requires (1, (_, refl, refl))
+a_for_b = inr (required {file = codes "B.bmi"} a_requires (1, (_, refl, refl)))
 
 -- the copy waits for `b.o`, since it read its module's file all along
 copy_for_b : HasReason tables before after 2 1
-copy_for_b = added {file = codes "B.bmi"} (_, refl, (0, refl)) b_provides
+copy_for_b = inr (listed {file = codes "B.bmi"} (_, refl, (0, refl)) b_provides)
 
 -- two texts that differ are not both one file
 differ : (x y file : List ℕ) → bytes_eq x y ≡ false → x ≡ file → y ≡ file → ⊥
@@ -93,9 +93,9 @@ b_makes file maker = let makes : Makes (edge (codes "b.o") [] (codes "b.cpp") []
 
 -- `b.o` has no reason to wait for `a.o`, whatever comes after
 b_not_for_a : (new : List EdgeValue) → HasReason tables before new 1 0 → ⊥
-b_not_for_a new (needed (e, file, j, here, reads, makes)) =
+b_not_for_a new (inl (e, file, j, here, reads, makes)) =
     differ (codes "b.cpp") (codes "a.o") file refl (b_reads file (e, here, reads)) (a_makes file (j, makes))
-b_not_for_a new (required {file} (t, o, name, inside, is_edge, requires, provided) makes) = at o is_edge requires (one_of two_objects t (index_of tables t inside).0 (index_of tables t inside).1)
+b_not_for_a new (inr (required {file} (t, o, name, inside, is_edge, requires, provided) makes)) = at o is_edge requires (one_of two_objects t (index_of tables t inside).0 (index_of tables t inside).1)
   where
     at : (o : ℕ) → IsEdgeOf before 1 t o → Requires t o name → two_objects ≡ t → ⊥
     at zero edge_at requires same =
@@ -109,7 +109,7 @@ b_not_for_a new (required {file} (t, o, name, inside, is_edge, requires, provide
     at (suc (suc o)) edge_at requires same =
         let mine : IsEdgeOf before 1 two_objects (suc (suc o)) = subst (λ (u : TableValue). IsEdgeOf before 1 u (suc (suc o))) (sym same) edge_at in
         nothing mine.0 mine.1
-b_not_for_a new (added {file} reader (t, o, k, name, inside, is_edge, provides)) = at o is_edge provides (one_of two_objects t (index_of tables t inside).0 (index_of tables t inside).1)
+b_not_for_a new (inr (listed {file} reader (t, o, k, name, inside, is_edge, provides))) = at o is_edge provides (one_of two_objects t (index_of tables t inside).0 (index_of tables t inside).1)
   where
     at : (o : ℕ) → IsEdgeOf before 0 t o → Provides t o k name file → two_objects ≡ t → ⊥
     at zero edge_at provides same =
@@ -130,12 +130,16 @@ b_not_for_a new (added {file} reader (t, o, k, name, inside, is_edge, provides))
 false_wait : HasNoFalseWait tables before (with_inputs (codes "B.bmi" ∷ []) (codes "A.bmi" ∷ [])) → ⊥
 false_wait h = b_not_for_a _ ((h 1 0).0 (_, codes "A.bmi", 1, refl, (1, refl), (_, refl, refl)))
 
+-- and closes a false cycle
+false_cycle : HasNoFalseCycle tables before (with_inputs (codes "B.bmi" ∷ []) (codes "A.bmi" ∷ [])) → ⊥
+false_cycle h = b_not_for_a _ (h.steps (0 ∷ 1 ∷ []) ((_, codes "B.bmi", 1, refl, (1, refl), (_, refl, refl)), (_, codes "A.bmi", 1, refl, (1, refl), (_, refl, refl)))).1
+
 -- and one too few leaves `a.o` without a wait that it has a reason for
 a_reads : (file : List ℕ) → IsReader (with_inputs [] []) 0 file → codes "a.cpp" ≡ file
 a_reads file reader = let reads : HasInput (edge (codes "a.o") (codes "A.bmi" ∷ []) (codes "a.cpp") []) file = reads_of (with_inputs [] []) 0 _ file refl reader in one_of (codes "a.cpp") file reads.0 reads.1
 
 too_few : HasNoFalseWait tables before (with_inputs [] []) → ⊥
-too_few h = by ((h 0 1).1 (required {file = codes "B.bmi"} a_requires (1, (_, refl, refl))))
+too_few h = by ((h 0 1).1 (inr (required {file = codes "B.bmi"} a_requires (1, (_, refl, refl)))))
   where
     by : EdgeNeeds (with_inputs [] []) 0 1 → ⊥
     by (e, file, j, here, reads, makes) = either j (makes_of (with_inputs [] []) 1 _ file refl (j, makes)) (a_reads file (e, here, reads))

@@ -23,6 +23,7 @@ pub mod ProjectOutcomes
 pub mod OneProjectRefusal
 pub mod Rows
 pub mod BuildLemmas
+pub mod EdgeCycles
 pub mod TargetBuilds
 pub mod ProjectBuilds
 pub mod Examples

@@ -1,4 +1,5 @@
--- No race and no false wait after the dyndep file of a target, and after those of a project.
+-- No race, no false wait, no false rebuild and no false cycle after the dyndep file of a target, and
+-- after those of a project.
 use Rattle.std.specs.Prelude.{◌≡◌, ℕ, ◌<◌, List, [], ◌∷◌, length, slice_get, Option, Contains}
 use Rattle.std.specs.List.{filter_map}
 use Rattle.ninja_text.specs.Bytes.{PathText}
@@ -17,7 +18,7 @@ use Rattle.collate_core.specs.Headline.{IsHeadline}
 use Rattle.collate_core.specs.Rehearsal.{HasEffect}
 use Rattle.collate_core.specs.Projects.{CollatesProject, project_tables}
 use Rattle.collate_core.specs.ProjectOrders.{dyndep_files}
-use Rattle.collate_core.specs.Builds.{IsMaker, RequiresFile, IsRunOrder, HasNoRace, HasNoFalseWait}
+use Rattle.collate_core.specs.Builds.{IsMaker, RequiresFile, IsRunOrder, HasNoRace, HasNoFalseWait, HasNoFalseRebuild, HasNoFalseCycle}
 
 -- ---- after a target
 
@@ -41,6 +42,18 @@ abbrev pub TargetHasNoFalseWait : Type 0
 TargetHasNoFalseWait =
     (target : TargetValue) (g new : List EdgeValue) → IsAfterTarget target g new →
     HasNoFalseWait (table_of target ∷ []) g new
+
+-- there is no false rebuild after it
+abbrev pub TargetHasNoFalseRebuild : Type 0
+TargetHasNoFalseRebuild =
+    (target : TargetValue) (g new : List EdgeValue) → IsAfterTarget target g new →
+    HasNoFalseRebuild (table_of target ∷ []) g new
+
+-- there is no false cycle after it
+abbrev pub TargetHasNoFalseCycle : Type 0
+TargetHasNoFalseCycle =
+    (target : TargetValue) (g new : List EdgeValue) → IsAfterTarget target g new →
+    HasNoFalseCycle (table_of target ∷ []) g new
 
 -- ---- after targets of a project
 
@@ -83,6 +96,20 @@ ProjectHasNoFalseWait =
     (targets : List ProjectTargetValue) (outs : List CollatedValue) (applied : Numbers)
     (g new : List EdgeValue) → IsAfterProject targets outs applied g new →
     HasNoFalseWait (tables_of targets outs applied) g new
+
+-- there is no false rebuild after the dyndep files of targets of a project
+abbrev pub ProjectHasNoFalseRebuild : Type 0
+ProjectHasNoFalseRebuild =
+    (targets : List ProjectTargetValue) (outs : List CollatedValue) (applied : Numbers)
+    (g new : List EdgeValue) → IsAfterProject targets outs applied g new →
+    HasNoFalseRebuild (tables_of targets outs applied) g new
+
+-- there is no false cycle after the dyndep files of targets of a project
+abbrev pub ProjectHasNoFalseCycle : Type 0
+ProjectHasNoFalseCycle =
+    (targets : List ProjectTargetValue) (outs : List CollatedValue) (applied : Numbers)
+    (g new : List EdgeValue) → IsAfterProject targets outs applied g new →
+    HasNoFalseCycle (tables_of targets outs applied) g new
 
 -- what `edge_order` answers is an order in which the edges can run
 abbrev pub LeastOrderRuns : Type 0

@@ -1,8 +1,10 @@
--- What the edges of a build wait for: those makers that they have to, so that there is no race, and
--- no others, so that there is no false wait.
-use Rattle.std.specs.Prelude.{◌≡◌, ◌↔◌, ℕ, ◌<◌, List, length, take, slice_get, Some, Contains}
+-- What the edges of a build wait for: the makers that they have to, so that there is no race, and no
+-- others, so that there is no false wait, no false rebuild and no false cycle.
+use Rattle.std.specs.Prelude.{◌≡◌, ◌↔◌, ◌⊎◌, ℕ, ◌<◌, List, [], ◌∷◌, length, map, take, slice_get, Some, Contains}
 use Rattle.ninja_text.specs.Bytes.{PathText, Name}
 use Rattle.dep_order.specs.Numbers.{Numbers}
+use Rattle.dep_order.specs.Needs.{IsChain, IsOrderable}
+use Rattle.dep_order.specs.Cycles.{IsCycle}
 use Rattle.scan_docs.specs.Scan.{RuleValue}
 use Rattle.build_effect.specs.EdgeValue.{EdgeValue}
 use Rattle.build_effect.specs.Graphs.{HasInput, MakesAt, EdgeNeeds}
@@ -60,21 +62,65 @@ pub record HasNoRace (tables : List TableValue) (g new : List EdgeValue) : Type 
   pub after_makers : (order : Numbers) (i maker : ℕ) (file : PathText) → IsRunOrder new order →
       RequiresFile tables g i file → IsMaker new maker file → ComesAfter order i maker
 
--- ---- no false wait
+-- ---- imports
 
--- Why edge i waits for another edge after the effect.
-pub data HasReason (tables : List TableValue) (g new : List EdgeValue) (i maker : ℕ) : Type 0 where
-  -- it needed that edge before
-  needed : EdgeNeeds g i maker → HasReason tables g new i maker
-  -- that edge makes the file of a module which the object of edge i requires
+-- Edge i imports from another edge, through the file of a module.
+pub data Imports (tables : List TableValue) (g new : List EdgeValue) (i maker : ℕ) : Type 0 where
+  -- the object of edge i requires a module whose file the other edge makes
   required : {file : PathText} → RequiresFile tables g i file → IsMaker new maker file →
-      HasReason tables g new i maker
-  -- edge i read a file all along that the other edge now makes, since it is the file of a module
-  -- which the object of that edge provides
-  added : {file : PathText} → IsReader g i file → ProvidesFile tables g maker file →
-      HasReason tables g new i maker
+      Imports tables g new i maker
+  -- edge i lists the file as an input of its own, and the object of the other edge provides the
+  -- module
+  listed : {file : PathText} → IsReader g i file → ProvidesFile tables g maker file →
+      Imports tables g new i maker
+
+-- Why edge i needs another edge after the effect: it needed that edge before, or imports from it.
+abbrev pub HasReason : List TableValue → List EdgeValue → List EdgeValue → ℕ → ℕ → Type 0
+HasReason tables g new i maker = EdgeNeeds g i maker ⊎ Imports tables g new i maker
+
+-- ---- no false wait
 
 -- No false wait: after the effect an edge needs exactly those for which it has a reason.
 abbrev pub HasNoFalseWait : List TableValue → List EdgeValue → List EdgeValue → Type 0
 HasNoFalseWait tables g new =
     (i maker : ℕ) → EdgeNeeds new i maker ↔ HasReason tables g new i maker
+
+-- ---- no false rebuild
+
+-- a chain leads from edge i to another edge: each edge of it needs the next
+abbrev pub HasChain : (ℕ → ℕ → Type 0) → ℕ → ℕ → Type 0
+HasChain Needs i other = (between : Numbers) × IsChain Needs (i ∷ between) other
+
+-- after the effect, a chain of needs leads from one edge to another if and only if a chain of
+-- earlier needs and of imports does
+abbrev pub HasSameChains : List TableValue → List EdgeValue → List EdgeValue → Type 0
+HasSameChains tables g new =
+    (i other : ℕ) → HasChain (EdgeNeeds new) i other ↔ HasChain (HasReason tables g new) i other
+
+-- the edge without its order-only inputs
+abbrev pub without_order_only : EdgeValue → EdgeValue
+without_order_only e = record e { order_only = [] }
+
+-- the edges with those inputs that make Ninja run an edge again after a change
+abbrev pub rebuild_graph : List EdgeValue → List EdgeValue
+rebuild_graph g = map without_order_only g
+
+-- No false rebuild. After a change Ninja runs again what it ran before, and what imports it,
+-- directly or through others.
+pub record HasNoFalseRebuild (tables : List TableValue) (g new : List EdgeValue) : Type 0 where
+  -- an edge waits for what it waited for, and for what it imports, directly or through others
+  pub waits : HasSameChains tables g new
+  -- order-only inputs make no edge run again: without them, too, the chains are the same
+  pub rebuilds : HasSameChains tables (rebuild_graph g) (rebuild_graph new)
+
+-- ---- no false cycle
+
+-- No false cycle.
+pub record HasNoFalseCycle (tables : List TableValue) (g new : List EdgeValue) : Type 0 where
+  -- every step of a cycle after the effect, and so of the least one, was a need before or is an
+  -- import
+  pub steps : (cycle : Numbers) → IsCycle (EdgeNeeds new) cycle →
+      IsCycle (HasReason tables g new) cycle
+  -- if earlier needs and imports have no cycle, the edges can be ordered
+  pub none : ((cycle : Numbers) → IsCycle (HasReason tables g new) cycle → ⊥) →
+      IsOrderable (length new) (EdgeNeeds new)

@@ -13,11 +13,10 @@ use Rattle.module_table.specs.Sound.{IsSound, PrivateAreProvided}
 use Rattle.module_table.specs.declared.fault.TableFault.{TableFault}
 use Rattle.scan_docs.specs.Values.{rules_of, info_of}
 use Rattle.collate_core.specs.Values.{TargetValue}
-use Rattle.collate_core.specs.declared.table.TheConstants.{RULE_LIMIT}
 
 -- the most rules of a target
 abbrev pub rule_limit : ℕ
-rule_limit = RULE_LIMIT
+rule_limit = 65536
 
 -- the rules of scan documents, one document after another
 abbrev pub all_rules : SettingValue → List Text → List RuleValue

@@ -75,8 +75,8 @@ fn rehearsed<S: BuildHasher + Copy>(
         Ok(new) => Ok(new),
         Err(Failure::Memory) => Err(Failure::Memory),
         Err(Failure::Fault(fault)) => match fault {
-            RehearseFault::Effect { fault } => Err(Failure::Fault(fault)),
-            RehearseFault::Read { fault: _ } => unreachable!(),
+            RehearseFault::Effect(fault) => Err(Failure::Fault(fault)),
+            RehearseFault::Read(_) => unreachable!(),
         },
     }
 }

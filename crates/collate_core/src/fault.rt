@@ -77,8 +77,8 @@ pub(crate) fn refusal_alone(failure: Failure<RefusedTarget>) -> Failure<Refusal>
 pub enum RehearseFault {
     /// The text is no dyndep file.
     #[error(transparent)]
-    Read { fault: ReadFault },
+    Read(ReadFault),
     /// Its statements have no effect on the graph.
     #[error(transparent)]
-    Effect { fault: EffectFault },
+    Effect(EffectFault),
 }

@@ -1,6 +1,6 @@
 //! Laws of collated targets and projects, and of the builds that they are part of: each is the
 //! contract of a call that does nothing, or only calls other laws.
-ghost use Rattle.collate_core.specs.BuildLaws.{TargetHasNoRace, ProjectHasNoRace, ProjectMakesAll, LeastOrderRuns, TargetHasNoFalseWait, ProjectHasNoFalseWait};
+ghost use Rattle.collate_core.specs.BuildLaws.{TargetHasNoRace, ProjectHasNoRace, ProjectMakesAll, LeastOrderRuns, TargetHasNoFalseWait, ProjectHasNoFalseWait, TargetHasNoFalseRebuild, ProjectHasNoFalseRebuild, TargetHasNoFalseCycle, ProjectHasNoFalseCycle};
 ghost use Rattle.collate_core.specs.Laws.{HeadlineHolds, CollatedIsNotRefused, OneRefusal, ProjectIsNotRefused, OneProjectRefusal, ProjectOrders, ProjectNumbered, ProjectEndOrderable, ProjectNeeds, ProjectMaps};
 
 use build_effect::{any_order, files_order, one_effect};
@@ -77,6 +77,32 @@ pub fn no_race()
 pub fn no_false_wait()
     ensures target { TargetHasNoFalseWait }
     ensures project { ProjectHasNoFalseWait }
+{
+    added_files();
+    project_orders();
+}
+
+/// No false rebuild, under the same premises: after the effect a chain of needs leads from one edge
+/// to another if and only if a chain of earlier needs and of imports does. The same holds if
+/// order-only inputs do not count, as they do not when Ninja decides what to run again. So after a
+/// change Ninja runs what it ran before, and what imports it, directly or through others.
+///
+/// An edge imports from another edge if its object requires a module whose file the other makes, or
+/// if it lists such a file as an input of its own, and the object of the other provides the module.
+pub fn no_false_rebuild()
+    ensures target { TargetHasNoFalseRebuild }
+    ensures project { ProjectHasNoFalseRebuild }
+{
+    added_files();
+    project_orders();
+}
+
+/// No false cycle, under the same premises: if the edges cannot be ordered after the effect, every
+/// step of the least cycle, as of every other, was a need before or is an import. So if earlier
+/// needs and imports have no cycle, the edges can be ordered.
+pub fn no_false_cycle()
+    ensures target { TargetHasNoFalseCycle }
+    ensures project { ProjectHasNoFalseCycle }
 {
     added_files();
     project_orders();

@@ -75,7 +75,10 @@ pub use collating::{
     collate_or_refused, collate_with_hasher,
 };
 pub use fault::{Refusal, RefusedTarget, RehearseFault};
-pub use laws::{headline, no_false_wait, no_race, one_outcome, project_maps, project_orders};
+pub use laws::{
+    headline, no_false_cycle, no_false_rebuild, no_false_wait, no_race, one_outcome, project_maps,
+    project_orders,
+};
 pub use module_maps::{Clang, Gcc, MapEntry, MapFault, MapStyle, ModuleMap};
 pub use projects::{ProjectOut, ProjectTarget, project, project_or_refused, project_with_hasher};
 pub use rehearsal::{rehearse, rehearse_with_hasher};

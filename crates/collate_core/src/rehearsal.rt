@@ -49,10 +49,10 @@ pub fn rehearse_with_hasher<S: BuildHasher + Copy>(
     laws::list_or_fault();
     match read_pieces(alloc, text, cuts) {
         Ok(dyndep) => apply_with_hasher(alloc, graph, name, &dyndep, hash_builder).map_err(
-            |failure| failure.map(|fault| RehearseFault::Effect { fault }),
+            |failure| failure.map(|fault| RehearseFault::Effect(fault)),
         ),
         Err(Failure::Memory) => Err(Failure::Memory),
-        Err(Failure::Fault(fault)) => Err(Failure::Fault(RehearseFault::Read { fault })),
+        Err(Failure::Fault(fault)) => Err(Failure::Fault(RehearseFault::Read(fault))),
     }
 }
 

@@ -1,0 +1,18 @@
+use Rattle.std.proofs.Common.{[], ◌∷◌}
+use Rattle.collate_core.proofs.EdgeCycles.{no_false_rebuild}
+use Rattle.collate_core.proofs.TargetBuilds.{gained_after_target}
+use Rattle.collate_core.proofs.ProjectBuilds.{gained_after_project}
+use Rattle.collate_core.specs.Documents.{table_of}
+use Rattle.collate_core.specs.BuildLaws.{tables_of}
+use Rattle.collate_core.proofs.laws.no_false_rebuild.Goals as goal
+
+pub returns-clause-target : goal.returns-clause-target
+returns-clause-target c = λ target g new after.
+    let laws = c.added_files.ensures in
+    no_false_rebuild laws.required laws.all_required laws.one_file (table_of target ∷ []) g new (gained_after_target target g new after)
+
+pub returns-clause-project : goal.returns-clause-project
+returns-clause-project c = λ targets outs applied g new after.
+    let laws = c.added_files.ensures in
+    let orders = c.project_orders.ensures.orders after.style targets outs after.project in
+    no_false_rebuild laws.required laws.all_required laws.one_file (tables_of targets outs applied) g new (gained_after_project targets outs orders applied g new after)
