@@ -8,12 +8,11 @@ ghost use Rattle.collate_core.specs.Rehearsal.{HasEffect, LacksEffect, IsOrdered
 
 use crate::collated::Collated;
 use crate::fault::RehearseFault;
-use crate::rehearsal::rehearse_with_hasher;
-use build_effect::{EffectFault, Graph, edge_order_with_hasher, level_orders, one_effect};
+use crate::rehearsal::rehearse;
+use build_effect::{EffectFault, Graph, edge_order, level_orders, one_effect};
 use dep_order::Sorting;
 use ninja_text::{Failure, Path};
 use std::alloc::Global;
-use std::hash::{BuildHasher, BuildHasherDefault, FoldHasher};
 
 /// The order of the edges of the graph after the effect of the collated target's dyndep file, which
 /// has that name, or the least cycle; or why the file has no effect on the graph.
@@ -33,45 +32,25 @@ pub fn check_edges(
     ensures ordered { IfOk result (IsOrderedAt collated.now name.now graph.now) }
     ensures fault { IfErr result (ForFault (LacksEffect collated.now.dyndep name.now graph.now)) }
 {
-    let unkeyed: BuildHasherDefault<FoldHasher> = BuildHasherDefault::new();
-    check_edges_with_hasher(alloc, collated, name, graph, unkeyed)
-}
-
-/// The same, with tables that hash by `hash_builder`, as
-/// [`rehearse_with_hasher`](crate::rehearse_with_hasher) has them.
-pub fn check_edges_with_hasher<S: BuildHasher + Copy>(
-    alloc: Global,
-    collated: &Collated,
-    name: &Path,
-    graph: &Graph,
-    hash_builder: S,
-) -> Result<Sorting, Failure<EffectFault>>
-    ensures sorted { IfOk result (λ sorting.
-        (new : List EdgeValue) × HasEffect collated.now.dyndep name.now graph.now new
-        × IsSortingOf (length new) (EdgeNeeds new) sorting) }
-    ensures ordered { IfOk result (IsOrderedAt collated.now name.now graph.now) }
-    ensures fault { IfErr result (ForFault (LacksEffect collated.now.dyndep name.now graph.now)) }
-{
     one_effect();
     level_orders();
-    let new = rehearsed(alloc, collated, name, graph, hash_builder)?;
-    let sorting = edge_order_with_hasher(alloc, &new, hash_builder)?;
+    let new = rehearsed(alloc, collated, name, graph)?;
+    let sorting = edge_order(alloc, &new)?;
     Ok(sorting)
 }
 
 /// The graph after the effect of the collated target's dyndep file. Its text stands for statements,
 /// so that it is always read.
-fn rehearsed<S: BuildHasher + Copy>(
+fn rehearsed(
     alloc: Global,
     collated: &Collated,
     name: &Path,
     graph: &Graph,
-    hash_builder: S,
 ) -> Result<Graph, Failure<EffectFault>>
     ensures effect { IfOk result (HasEffect collated.now.dyndep name.now graph.now) }
     ensures fault { IfErr result (ForFault (LacksEffect collated.now.dyndep name.now graph.now)) }
 {
-    match rehearse_with_hasher(alloc, collated.dyndep(), name, graph, &[], hash_builder) {
+    match rehearse(alloc, collated.dyndep(), name, graph, &[]) {
         Ok(new) => Ok(new),
         Err(Failure::Memory) => Err(Failure::Memory),
         Err(Failure::Fault(fault)) => match fault {

@@ -27,7 +27,6 @@ use ninja_text::{Failure, Path};
 use scan_docs::Info;
 use scan_docs::laws::info_again;
 use std::alloc::{AllocError, Global};
-use std::hash::{BuildHasher, BuildHasherDefault, FoldHasher};
 
 /// Collates a target: its documents make a table, and the objects of the table make the dyndep
 /// file, the info and, with a style, a map for each object (P1689R5 for the scan documents, the
@@ -48,34 +47,15 @@ pub fn collate<M: MapStyle>(
     ensures refused { IfErr result (ForFault (IsRefusal target.now
         (option_map M.written (option_copied style.entry)))) }
 {
-    let unkeyed: BuildHasherDefault<FoldHasher> = BuildHasherDefault::new();
-    collate_with_hasher(alloc, target, style, unkeyed)
-}
-
-/// The same, with tables that hash by `hash_builder`: with a `RandomState` no one who chooses names
-/// of modules, files and targets can make them collide.
-pub fn collate_with_hasher<M: MapStyle, S: BuildHasher + Copy>(
-    alloc: Global,
-    target: &Target<'_>,
-    style: Option<&M>,
-    hash_builder: S,
-) -> Result<Collated, Failure<Refusal>>
-    ensures collated { IfOk result
-        (Collates target.now (option_map M.written (option_copied style.entry))) }
-    ensures headline { IfOk result (IsHeadline target.now) }
-    ensures refused { IfErr result (ForFault (IsRefusal target.now
-        (option_map M.written (option_copied style.entry)))) }
-{
-    collate_or_refused(alloc, target, style, hash_builder).map_err(refusal_alone)
+    collate_or_refused(alloc, target, style).map_err(refusal_alone)
 }
 
 /// The same, and with a refusal what was read of the target is answered: a caller who names the
 /// objects and infos of the refusal reads no document twice.
-pub fn collate_or_refused<M: MapStyle, S: BuildHasher + Copy>(
+pub fn collate_or_refused<M: MapStyle>(
     alloc: Global,
     target: &Target<'_>,
     style: Option<&M>,
-    hash_builder: S,
 ) -> Result<Collated, Failure<RefusedTarget>>
     ensures collated { IfOk result
         (Collates target.now (option_map M.written (option_copied style.entry))) }
@@ -85,16 +65,15 @@ pub fn collate_or_refused<M: MapStyle, S: BuildHasher + Copy>(
     ensures read { IfErr result (ForFault (λ refused. WasRead target.now refused.refusal
         (table_with refused.objects.items refused.infos.items))) }
 {
-    collate_known(alloc, target, None, style, hash_builder)
+    collate_known(alloc, target, None, style)
 }
 
 /// The same, where it may be known before what the infos are read as.
-pub(crate) fn collate_known<M: MapStyle, S: BuildHasher + Copy>(
+pub(crate) fn collate_known<M: MapStyle>(
     alloc: Global,
     target: &Target<'_>,
     known: Option<Vec<Info>>,
     style: Option<&M>,
-    hash_builder: S,
 ) -> Result<Collated, Failure<RefusedTarget>>
     requires { IfSome known (λ infos. AreReadAs target.now.infos infos.items) }
     ensures collated { IfOk result
@@ -105,15 +84,15 @@ pub(crate) fn collate_known<M: MapStyle, S: BuildHasher + Copy>(
     ensures read { IfErr result (ForFault (λ refused. WasRead target.now refused.refusal
         (table_with refused.objects.items refused.infos.items))) }
 {
-    let table = table_of(alloc, target, known, hash_builder)?;
-    let collated = collated_of(alloc, target, &table, style, hash_builder);
+    let table = table_of(alloc, target, known)?;
+    let collated = collated_of(alloc, target, &table, style);
     with_table(collated, table)
 }
 
 /// What was collated, or its failure with what was read of the target, which has this table.
-fn with_table<S: BuildHasher + Copy>(
+fn with_table(
     collated: Result<Collated, Failure<Refusal>>,
-    table: Table<S>,
+    table: Table,
 ) -> Result<Collated, Failure<RefusedTarget>>
     ensures { MatchResult collated (λ collated. result ≡ Ok collated)
         (λ failure. IsErrAnd result (Turns (IsReadFrom table) failure)) }
@@ -131,12 +110,11 @@ fn with_table<S: BuildHasher + Copy>(
 }
 
 /// What a target collates to whose documents have this table.
-fn collated_of<M: MapStyle, S: BuildHasher + Copy>(
+fn collated_of<M: MapStyle>(
     alloc: Global,
     target: &Target<'_>,
-    table: &Table<S>,
+    table: &Table,
     style: Option<&M>,
-    hash_builder: S,
 ) -> Result<Collated, Failure<Refusal>>
     requires table { table.now ≡ table_of target.now }
     requires resolved { IsResolved target.now }
@@ -150,15 +128,15 @@ fn collated_of<M: MapStyle, S: BuildHasher + Copy>(
     headline();
     added_files();
     let (text, maps) = dyndep_and_maps(alloc, table, style)?;
-    let info = info_text_of(alloc, target.name, target.kept, table, hash_builder)?;
+    let info = info_text_of(alloc, target.name, target.kept, table)?;
     let objects = objects_of(alloc, table)?;
     Ok(Collated::new(text, info, objects, maps))
 }
 
 /// The text of the dyndep file of a table's objects and, with a style, their maps.
-fn dyndep_and_maps<M: MapStyle, S: BuildHasher>(
+fn dyndep_and_maps<M: MapStyle>(
     alloc: Global,
-    table: &Table<S>,
+    table: &Table,
     style: Option<&M>,
 ) -> Result<(Vec<u8>, Vec<Vec<u8>>), Failure<Refusal>>
     ensures text { IfOk result
@@ -184,28 +162,14 @@ pub fn collate_dyndep(alloc: Global, target: &Target<'_>) -> Result<Vec<u8>, Fai
     ensures dyndep { IfOk result (λ text. IsDyndepOf target.now text.items) }
     ensures refused { IfErr result (ForFault (IsRefusal target.now None)) }
 {
-    let unkeyed: BuildHasherDefault<FoldHasher> = BuildHasherDefault::new();
-    collate_dyndep_with_hasher(alloc, target, unkeyed)
-}
-
-/// The same, with tables that hash by `hash_builder`, as those of [`collate_with_hasher`] do.
-pub fn collate_dyndep_with_hasher<S: BuildHasher + Copy>(
-    alloc: Global,
-    target: &Target<'_>,
-    hash_builder: S,
-) -> Result<Vec<u8>, Failure<Refusal>>
-    ensures dyndep { IfOk result (λ text. IsDyndepOf target.now text.items) }
-    ensures refused { IfErr result (ForFault (IsRefusal target.now None)) }
-{
-    collate_dyndep_or_refused(alloc, target, hash_builder).map_err(refusal_alone)
+    collate_dyndep_or_refused(alloc, target).map_err(refusal_alone)
 }
 
 /// The same, and with a refusal what was read of the target is answered, as
 /// [`collate_or_refused`] does.
-pub fn collate_dyndep_or_refused<S: BuildHasher + Copy>(
+pub fn collate_dyndep_or_refused(
     alloc: Global,
     target: &Target<'_>,
-    hash_builder: S,
 ) -> Result<Vec<u8>, Failure<RefusedTarget>>
     ensures dyndep { IfOk result (λ text. IsDyndepOf target.now text.items) }
     ensures refused { IfErr result
@@ -218,7 +182,7 @@ pub fn collate_dyndep_or_refused<S: BuildHasher + Copy>(
     info_again();
     // The contract speaks of the info too, though it is not written: its name is accepted.
     let _ = target.name.text();
-    let table = table_of(alloc, target, None, hash_builder)?;
+    let table = table_of(alloc, target, None)?;
     let resolved = table.into_resolved();
     match text_of(alloc, &resolved) {
         Ok(dyndep) => Ok(dyndep),
@@ -227,7 +191,7 @@ pub fn collate_dyndep_or_refused<S: BuildHasher + Copy>(
 }
 
 /// The objects of a table.
-fn objects_of<S: BuildHasher>(alloc: Global, table: &Table<S>) -> Result<Vec<Path>, AllocError>
+fn objects_of(alloc: Global, table: &Table) -> Result<Vec<Path>, AllocError>
     ensures { IfOk result (λ objects. objects.items ≡ map (λ rule. rule.object) table.now.objects) }
 {
     let mut objects = Vec::new(alloc);

@@ -10,15 +10,14 @@ use module_table::{Table, added_files};
 use ninja_text::Path;
 use scan_docs::{LentInfo, LentModule, Name, Rule, TargetName, lent_info_write};
 use std::alloc::{AllocError, Global};
-use std::hash::BuildHasher;
+use table_keys::{KeyDigest, TableKey};
 
 /// The text of the info of a target of this name, which keeps these modules to itself.
-pub(crate) fn info_text_of<S: BuildHasher + Copy>(
+pub(crate) fn info_text_of(
     alloc: Global,
     name: &TargetName,
     kept: &[Name],
-    table: &Table<S>,
-    hash_builder: S,
+    table: &Table,
 ) -> Result<Vec<u8>, AllocError>
     requires { IsTableText table.now }
     ensures text { IfOk result
@@ -26,16 +25,27 @@ pub(crate) fn info_text_of<S: BuildHasher + Copy>(
     ensures reads_back { IfOk result
         (λ text. ReadsBack (info_of_table name.now kept.now table.now) text.items) }
 {
-    let mut set = IndexSet::with_hasher(alloc, hash_builder);
+    let mut set = IndexSet::with_hasher(alloc, key_of(kept));
     add_names(alloc, kept, &mut set)?;
     text_with(alloc, name, &set, table)
 }
 
+/// The key of the set of these names. It is made of the names, so whoever chooses them cannot choose
+/// the key as well.
+fn key_of(names: &[Name]) -> TableKey {
+    let mut digest = KeyDigest::new();
+    for name in names {
+        digest.update(name.bytes());
+        digest.update(b"\n".as_slice());
+    }
+    digest.key()
+}
+
 /// Copies the names into the empty set, which each module is looked up in.
-fn add_names<S: BuildHasher>(
+fn add_names(
     alloc: Global,
     names: &[Name],
-    set: &mut IndexSet<Name, S>,
+    set: &mut IndexSet<Name, TableKey>,
 ) -> Result<(), AllocError>
     requires { set.old.keys ≡ [] }
     ensures { OnOk result
@@ -48,11 +58,11 @@ fn add_names<S: BuildHasher>(
 }
 
 /// The text of the info of a target of this name, which keeps the modules of the set to itself.
-fn text_with<S: BuildHasher>(
+fn text_with(
     alloc: Global,
     name: &TargetName,
-    kept: &IndexSet<Name, S>,
-    table: &Table<S>,
+    kept: &IndexSet<Name, TableKey>,
+    table: &Table,
 ) -> Result<Vec<u8>, AllocError>
     requires { IsTableText table.now }
     ensures text { IfOk result
@@ -75,8 +85,8 @@ fn text_with<S: BuildHasher>(
 }
 
 /// Appends the modules that an object provides, which requires these.
-fn add_modules<'t, S: BuildHasher>(
-    kept: &IndexSet<Name, S>,
+fn add_modules<'t>(
+    kept: &IndexSet<Name, TableKey>,
     rule: &'t Rule,
     required: &'t [(Name, Path)],
     modules: &mut Vec<LentModule<'t>>,

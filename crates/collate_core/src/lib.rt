@@ -68,19 +68,16 @@ mod statements;
 mod table;
 mod target;
 
-pub use check::{check_edges, check_edges_with_hasher};
+pub use check::check_edges;
 pub use collated::{Collated, CollatedParts};
-pub use collating::{
-    collate, collate_dyndep, collate_dyndep_or_refused, collate_dyndep_with_hasher,
-    collate_or_refused, collate_with_hasher,
-};
+pub use collating::{collate, collate_dyndep, collate_dyndep_or_refused, collate_or_refused};
 pub use fault::{Refusal, RefusedTarget, RehearseFault};
 pub use laws::{
     headline, no_false_cycle, no_false_rebuild, no_false_wait, no_race, one_outcome, project_maps,
     project_orders,
 };
 pub use module_maps::{Clang, Gcc, MapEntry, MapFault, MapStyle, ModuleMap};
-pub use projects::{ProjectOut, ProjectTarget, project, project_or_refused, project_with_hasher};
-pub use rehearsal::{rehearse, rehearse_with_hasher};
+pub use projects::{ProjectOut, ProjectTarget, project, project_or_refused};
+pub use rehearsal::rehearse;
 pub use table::RULE_LIMIT;
 pub use target::Target;

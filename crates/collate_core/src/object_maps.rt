@@ -15,12 +15,11 @@ use module_table::{Needs, Table};
 use ninja_text::{Failure, Path};
 use scan_docs::Name;
 use std::alloc::{AllocError, Global};
-use std::hash::BuildHasher;
 
 /// With a style, the text of each object's map, or the first that is refused; without one, none.
-pub(crate) fn maps_of<M: MapStyle, S: BuildHasher>(
+pub(crate) fn maps_of<M: MapStyle>(
     alloc: Global,
-    table: &Table<S>,
+    table: &Table,
     style: Option<&M>,
 ) -> Result<Vec<Vec<u8>>, Failure<Refusal>>
     ensures maps { IfOk result (λ maps.
@@ -39,9 +38,9 @@ pub(crate) fn maps_of<M: MapStyle, S: BuildHasher>(
 }
 
 /// The text of each object's map, or the first that is refused.
-fn map_texts<M: MapStyle, S: BuildHasher>(
+fn map_texts<M: MapStyle>(
     alloc: Global,
-    table: &Table<S>,
+    table: &Table,
     needs: &mut Needs<'_>,
     style: &M,
 ) -> Result<Vec<Vec<u8>>, Failure<Refusal>>
@@ -59,9 +58,9 @@ fn map_texts<M: MapStyle, S: BuildHasher>(
 }
 
 /// The text of an object's map.
-fn text_of<M: MapStyle, S: BuildHasher>(
+fn text_of<M: MapStyle>(
     alloc: Global,
-    table: &Table<S>,
+    table: &Table,
     needs: &mut Needs<'_>,
     object: usize,
     style: &M,
@@ -80,9 +79,9 @@ fn text_of<M: MapStyle, S: BuildHasher>(
 }
 
 /// The map of an object.
-fn map_of<S: BuildHasher>(
+fn map_of(
     alloc: Global,
-    table: &Table<S>,
+    table: &Table,
     needs: &mut Needs<'_>,
     object: usize,
 ) -> Result<ModuleMap, AllocError>

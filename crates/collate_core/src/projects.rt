@@ -20,7 +20,6 @@ use module_maps::MapStyle;
 use ninja_text::Failure;
 use scan_docs::{Info, Name, Setting, TargetName};
 use std::alloc::{AllocError, Global};
-use std::hash::{BuildHasher, BuildHasherDefault, FoldHasher};
 use std::marker::Model;
 
 /// A target of a project to collate: a [`Target`](crate::Target) that links earlier ones by index in
@@ -88,38 +87,7 @@ pub fn project<M: MapStyle>(
         IsProjectRefusal (option_map M.written (option_copied style.entry))
         targets.now refused.0 refused.1)) }
 {
-    let unkeyed: BuildHasherDefault<FoldHasher> = BuildHasherDefault::new();
-    project_with_hasher(alloc, targets, style, unkeyed)
-}
-
-/// The same, with tables that hash by `hash_builder`, as
-/// [`collate_with_hasher`](crate::collate_with_hasher) has them.
-pub fn project_with_hasher<M: MapStyle, S: BuildHasher + Copy>(
-    alloc: Global,
-    targets: &[ProjectTarget<'_>],
-    style: Option<&M>,
-    hash_builder: S,
-) -> Result<ProjectOut, Failure<(usize, Refusal)>>
-    ensures collated { IfOk result (λ out.
-        CollatesProject (option_map M.written (option_copied style.entry))
-        targets.now out.targets.items) }
-    // the dyndep files may be applied in any order, and all orders end alike
-    ensures orders { IfOk result (λ out. AllOrders (project_tables targets.now out.targets.items)) }
-    // one numbering of all objects puts the maker of each required file below its user
-    ensures numbered { IfOk result (λ out.
-        IsProjectOrdered targets.now (project_tables targets.now out.targets.items)) }
-    // the style reads in each object's map what the object provides and needs in the project
-    ensures maps { IfOk result (λ out. IfSome (option_copied style.entry) (λ s.
-        MapsReadBack (M.entries s) targets.now
-        (project_tables targets.now out.targets.items) out.targets.items)) }
-    // the graph after all dyndep files can be ordered
-    ensures orderable { IfOk result
-        (λ out. EndIsOrderable (project_tables targets.now out.targets.items)) }
-    ensures refused { IfErr result (ForFault (λ refused.
-        IsProjectRefusal (option_map M.written (option_copied style.entry))
-        targets.now refused.0 refused.1)) }
-{
-    match project_or_refused(alloc, targets, style, hash_builder) {
+    match project_or_refused(alloc, targets, style) {
         Ok(out) => Ok(out),
         Err(Failure::Memory) => Err(Failure::Memory),
         Err(Failure::Fault((index, target))) => Err(Failure::Fault((index, target.refusal))),
@@ -128,11 +96,10 @@ pub fn project_with_hasher<M: MapStyle, S: BuildHasher + Copy>(
 
 /// The same, and with a refusal what was read of its target is answered, as
 /// [`collate_or_refused`](crate::collate_or_refused) does.
-pub fn project_or_refused<M: MapStyle, S: BuildHasher + Copy>(
+pub fn project_or_refused<M: MapStyle>(
     alloc: Global,
     targets: &[ProjectTarget<'_>],
     style: Option<&M>,
-    hash_builder: S,
 ) -> Result<ProjectOut, Failure<(usize, RefusedTarget)>>
     ensures collated { IfOk result (λ out.
         CollatesProject (option_map M.written (option_copied style.entry))
@@ -160,16 +127,15 @@ pub fn project_or_refused<M: MapStyle, S: BuildHasher + Copy>(
     project_orders();
     project_maps();
     let mut outs = Vec::new(alloc);
-    add_outs(alloc, targets, style, hash_builder, &mut outs)?;
+    add_outs(alloc, targets, style, &mut outs)?;
     Ok(ProjectOut { targets: outs })
 }
 
 /// Collates the targets in order into the empty list, up to the first that is refused.
-fn add_outs<M: MapStyle, S: BuildHasher + Copy>(
+fn add_outs<M: MapStyle>(
     alloc: Global,
     targets: &[ProjectTarget<'_>],
     style: Option<&M>,
-    hash_builder: S,
     outs: &mut Vec<Collated>,
 ) -> Result<(), Failure<(usize, RefusedTarget)>>
     requires { outs.old.items ≡ [] }
@@ -192,7 +158,6 @@ fn add_outs<M: MapStyle, S: BuildHasher + Copy>(
             outs.as_slice(),
             known.as_slice(),
             style,
-            hash_builder,
         ) {
             Ok(out) => add_known(alloc, out, outs, &mut known)?,
             Err(failure) => return Err(of_target(index, failure)),
@@ -239,13 +204,12 @@ fn infos_of<'a>(
 
 /// Collates a target with the infos that the targets which it links wrote, all of which are to be
 /// among those given. What these infos are read as is known.
-fn collate_linked<M: MapStyle, S: BuildHasher + Copy>(
+fn collate_linked<M: MapStyle>(
     alloc: Global,
     target: &ProjectTarget<'_>,
     outs: &[Collated],
     known: &[Option<Info>],
     style: Option<&M>,
-    hash_builder: S,
 ) -> Result<Collated, Failure<RefusedTarget>>
     requires { AreKnown outs.now known.now }
     ensures collated { IfOk result (CollatesLinked
@@ -269,5 +233,5 @@ fn collate_linked<M: MapStyle, S: BuildHasher + Copy>(
         kept: target.kept,
     };
     let known = known_of(alloc, target.linked, known)?;
-    collate_known(alloc, &with_infos, known, style, hash_builder)
+    collate_known(alloc, &with_infos, known, style)
 }

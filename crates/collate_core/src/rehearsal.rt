@@ -6,11 +6,10 @@ ghost use Rattle.dyndep_file.specs.Reader.{HasReadDyndep};
 ghost use Rattle.collate_core.specs.Rehearsal.{HasEffect, IsReadFaultOf, IsRehearseFault};
 
 use crate::fault::RehearseFault;
-use build_effect::{Graph, apply_with_hasher};
+use build_effect::{Graph, apply};
 use dyndep_file::{Dyndep, DyndepReader, ReadFault, laws};
 use ninja_text::{Failure, Path};
 use std::alloc::Global;
-use std::hash::{BuildHasher, BuildHasherDefault, FoldHasher};
 
 /// Feeds a text to the reader of dyndep files in pieces of these lengths, and applies what it reads
 /// to a graph as the dyndep file of that name (Ninja 1.11 manual, "Dynamic dependencies"). A length
@@ -28,27 +27,10 @@ pub fn rehearse(
     ensures effect { IfOk result (HasEffect text.now name.now graph.now) }
     ensures fault { IfErr result (ForFault (IsRehearseFault text.now name.now graph.now)) }
 {
-    let unkeyed: BuildHasherDefault<FoldHasher> = BuildHasherDefault::new();
-    rehearse_with_hasher(alloc, text, name, graph, cuts, unkeyed)
-}
-
-/// The same, with tables that hash by `hash_builder`: with a `RandomState` no one who chooses paths
-/// can make them collide.
-pub fn rehearse_with_hasher<S: BuildHasher + Copy>(
-    alloc: Global,
-    text: &[u8],
-    name: &Path,
-    graph: &Graph,
-    cuts: &[usize],
-    hash_builder: S,
-) -> Result<Graph, Failure<RehearseFault>>
-    ensures effect { IfOk result (HasEffect text.now name.now graph.now) }
-    ensures fault { IfErr result (ForFault (IsRehearseFault text.now name.now graph.now)) }
-{
     laws::one_list();
     laws::list_or_fault();
     match read_pieces(alloc, text, cuts) {
-        Ok(dyndep) => apply_with_hasher(alloc, graph, name, &dyndep, hash_builder).map_err(
+        Ok(dyndep) => apply(alloc, graph, name, &dyndep).map_err(
             |failure| failure.map(|fault| RehearseFault::Effect(fault)),
         ),
         Err(Failure::Memory) => Err(Failure::Memory),

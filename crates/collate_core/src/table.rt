@@ -15,19 +15,17 @@ use module_table::{RefusedTable, Table};
 use ninja_text::Failure;
 use scan_docs::{DocFault, Info, Place, Rule, Setting, info_read, scan};
 use std::alloc::Global;
-use std::hash::BuildHasher;
 
 /// The most rules of a target.
 pub const RULE_LIMIT: usize = 65536;
 
 /// The table of the target's documents, or the fault of the first that is faulty, or of the table.
 /// What the infos are read as may be known before.
-pub(crate) fn table_of<S: BuildHasher + Copy>(
+pub(crate) fn table_of(
     alloc: Global,
     target: &Target<'_>,
     known: Option<Vec<Info>>,
-    hash_builder: S,
-) -> Result<Table<S>, Failure<RefusedTarget>>
+) -> Result<Table, Failure<RefusedTarget>>
     requires { IfSome known (λ infos. AreReadAs target.now.infos infos.items) }
     ensures table { IfOk result (λ table. table ≡ table_of target.now) }
     ensures resolved { OnOk result (IsResolved target.now) }
@@ -42,7 +40,7 @@ pub(crate) fn table_of<S: BuildHasher + Copy>(
         Ok(read) => read,
         Err(failure) => return Err(nothing_read(alloc, failure)),
     };
-    Table::build_or_refused(alloc, objects, infos, target.kept, hash_builder).map_err(of_table)
+    Table::build_or_refused(alloc, objects, infos, target.kept).map_err(of_table)
 }
 
 /// The failure of a target whose table has a fault, with what was read of it.

@@ -1,11 +1,35 @@
+use Rattle.std.proofs.Common.{◌≡◌, ℕ, List, length, subst}
+use Rattle.dep_order.specs.Needs.{IsOrderable}
+use Rattle.dep_order.specs.Sortings.{IsSortingOf}
+use Rattle.dep_order.specs.declared.Sorting.{Sorting}
+use Rattle.dep_order.specs.declared.Sorting.TheVariants.{Order, Cycle}
+use Rattle.dyndep_file.specs.Reading.{StandsFor}
+use Rattle.build_effect.specs.EdgeValue.{EdgeValue}
+use Rattle.build_effect.specs.Graphs.{EdgeNeeds}
+use Rattle.build_effect.specs.Effect.{Effect, Extends}
+use Rattle.collate_core.specs.Rehearsal.{IsOrder}
+use Rattle.collate_core.specs.ProjectOrders.{dyndep_file}
+use Rattle.collate_core.proofs.HeadlineLemmas.{are_canonical}
 use Rattle.collate_core.proofs.check.check_edges.Goals as goal
 
--- said here, so that a body which does something else is refused soon
+-- of needs that are orderable a sorting is an order
+ordered : (count : ℕ) (Needs : ℕ → ℕ → Type 0) → IsOrderable count Needs → (sorting : Sorting) → IsSortingOf count Needs sorting → IsOrder sorting
+ordered count Needs orderable (Order order) h = tt
+ordered count Needs orderable (Cycle cycle) h = absurd (h.0 orderable)
+
+-- said here, so that the order of another graph is refused soon
 pub returns-clause-sorted : goal.returns-clause-sorted
-returns-clause-sorted c = c.check_edges_with_hasher.ensures.sorted
+returns-clause-sorted c = (c.in_ok-new.new, c.in_ok-new.ensures.effect, c.in_ok-sorting.ensures)
 
 pub returns-clause-ordered : goal.returns-clause-ordered
-returns-clause-ordered c = c.check_edges_with_hasher.ensures.ordered
-
-pub returns-clause-fault : goal.returns-clause-fault
-returns-clause-fault c = c.check_edges_with_hasher.ensures.fault
+returns-clause-ordered c = λ statements text meets level.
+    let old : List EdgeValue = c.args.graph.now in
+    let new : List EdgeValue = c.in_ok-new.new in
+    let found = c.in_ok-new.ensures.effect in
+    let here : StandsFor c.args.collated.now.dyndep found.0 = found.1.stands in
+    let same : found.0 ≡ statements = text.dyndep.only found.0 here in
+    let effect : Effect old c.args.name.now statements new = subst (λ xs. Effect old c.args.name.now xs new) same found.2.effect in
+    let gives : Extends old c.args.name.now statements new = c.one_effect.ensures.gives old new c.args.name.now statements statements (are_canonical statements text.canonical) effect in
+    let orderable : IsOrderable (length new) (EdgeNeeds new) =
+    c.level_orders.ensures (dyndep_file c.args.name.now statements) old level.outputs new level.ranks meets gives level.has_outputs level.level text.orderable in
+    ordered (length new) (EdgeNeeds new) orderable c.in_ok-sorting.sorting c.in_ok-sorting.ensures

@@ -19,12 +19,12 @@ use Rattle.collate_core.proofs.Writing.{has_paths}
 use Rattle.collate_core.proofs.collating.collate_dyndep_or_refused.Goals as goal
 
 pub returns-in_err-table-clause-refused : goal.returns-in_err-table-clause-refused
-returns-in_err-table-clause-refused g c =
+returns-in_err-table-clause-refused c =
     let p = err_from_is_err_and c.from_residual.result c.from_residual.ensures.1 in
     rw (p.1, p.2) (any_style c.args.target.now None _ c.in_err-table.ensures.refused)
 
 pub returns-clause-refused : goal.returns-clause-refused
-returns-clause-refused g c =
+returns-clause-refused c =
     let target : TargetValue = c.args.target.now in
     let table = c.in_ok-table.ensures in
     let refused = texts_refused target None c.in_ok-table.table table.table table.resolved _
@@ -33,7 +33,7 @@ returns-clause-refused g c =
     (λ refusal refused same h. subst (IsRefusal target None) (sym same) h) c.in-Err.failure c.nothing_read.result c.nothing_read.ensures refused
 
 pub returns-clause-read : goal.returns-clause-read
-returns-clause-read g c =
+returns-clause-read c =
     let target : TargetValue = c.args.target.now in
     let statements : List StatementValue = statements_of c.into_resolved-resolved.result in
     turned (λ refusal (refused : RefusedTarget). refused.refusal ≡ refusal) (IsWriteRefusal statements) (λ (refused : RefusedTarget). WasRead target refused.refusal (table_with refused.objects.items refused.infos.items))
@@ -41,7 +41,7 @@ returns-clause-read g c =
 
 -- what the target collates to has the text, and the info that is not written
 pub returns-in-Ok-clause-dyndep : goal.returns-in-Ok-clause-dyndep
-returns-in-Ok-clause-dyndep g c =
+returns-in-Ok-clause-dyndep c =
     let target : TargetValue = c.args.target.now in
     let t : TableValue = c.in_ok-table.table in
     let table = c.in_ok-table.ensures in

@@ -7,7 +7,7 @@ use Rattle.collate_core.proofs.LoopLemmas.{map_push}
 use Rattle.collate_core.proofs.collating.objects_of.Goals as goal
 
 pub loop-rule-preserved : goal.loop-rule-preserved
-loop-rule-preserved g c =
+loop-rule-preserved c =
     let rules = c.objects-rule-items.result.now in
     let i = c.loop-rule.rule-index in
     let rule : RuleValue = c.rule-item.result in
@@ -15,6 +15,6 @@ loop-rule-preserved g c =
     ∙ ap (map (λ (r : RuleValue). r.object)) (sym (take_next rules i rule (slice_get_read rules _ i rule refl c.loop-rule-test.true c.rule-item.is)))
 
 pub returns : goal.returns
-returns g c =
+returns c =
     c.loop-rule.invariant
     ∙ ap (map (λ (rule : RuleValue). rule.object)) (take_all c.loop-rule.rule-index c.objects-rule-items.result.now c.loop-rule-test.false ∙ c.objects-rule-items.ensures.objects)

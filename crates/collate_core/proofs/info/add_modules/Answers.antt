@@ -7,7 +7,7 @@ use Rattle.collate_core.proofs.info.add_modules.Goals as goal
 
 -- said here, so that a body which does something else is refused soon
 pub loop-pair-preserved : goal.loop-pair-preserved
-loop-pair-preserved g c =
+loop-pair-preserved c =
     let pairs : List (List ℕ × List ℕ) = c.deref-pair-items.result.now in
     let i : ℕ = c.loop-pair.pair-index in
     let pair : List ℕ × List ℕ = c.pair-item.result in

@@ -7,10 +7,10 @@ use Rattle.collate_core.proofs.PrivateNames.{one_more_name}
 use Rattle.collate_core.proofs.info.add_names.Goals as goal
 
 pub loop-name-init : goal.loop-name-init
-loop-name-init g c = λ name. ap (λ (keys : List (List ℕ)). is_private_name keys name) c.requires
+loop-name-init c = λ name. ap (λ (keys : List (List ℕ)). is_private_name keys name) c.requires
 
 pub loop-name-preserved : goal.loop-name-preserved
-loop-name-preserved g c = λ name.
+loop-name-preserved c = λ name.
     let names : List (List ℕ) = c.args.names.now in
     let i : ℕ = c.loop-name.name-index in
     let here : slice_get names i ≡ Some c.name-item.result = slice_get_read names _ i _ refl c.loop-name-test.true c.name-item.is in
@@ -18,5 +18,5 @@ loop-name-preserved g c = λ name.
     ∙ one_more_name names c.loop-name.set.keys i c.in_ok-copy.field-0 (here ∙ ap (λ (n : List ℕ). Some n) (sym c.in_ok-copy.ensures)) c.loop-name.invariant name
 
 pub returns : goal.returns
-returns g c = λ name.
+returns c = λ name.
     c.loop-name.invariant name ∙ ap (λ (names : List (List ℕ)). is_private_name names name) (take_all c.loop-name.name-index c.args.names.now c.loop-name-test.false)

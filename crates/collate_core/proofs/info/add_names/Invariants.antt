@@ -4,4 +4,4 @@ use Rattle.collate_core.proofs.info.add_names.Given as goal
 
 -- the set has the names so far
 abbrev pub invariant-loop-name : goal.invariant-loop-name
-invariant-loop-name g l = (name : List ℕ) → is_private_name l.set.keys name ≡ is_private_name (take l.name-index l.names) name
+invariant-loop-name l = (name : List ℕ) → is_private_name l.set.keys name ≡ is_private_name (take l.name-index l.names) name

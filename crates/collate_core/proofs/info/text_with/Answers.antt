@@ -20,7 +20,7 @@ written name kept t done objects modules same all is =
     (is ∙ all_modules kept t done (subst (λ (os : List RuleValue). length os ≤ done) same all))
 
 pub loop-index-preserved : goal.loop-index-preserved
-loop-index-preserved g c =
+loop-index-preserved c =
     let t : TableValue = c.args.table.now in
     let index : ℕ = c.loop-index.index in
     let rule : RuleValue = c.index-objects-index.result in
@@ -28,16 +28,16 @@ loop-index-preserved g c =
     c.in_ok-add_modules.ensures ∙ more_modules c.args.kept.now.keys t index rule c.required-required.result.now c.loop-index.modules.items here (c.required-required.ensures rule here) c.loop-index.invariant
 
 pub lent_info_write-requires : goal.lent_info_write-requires
-lent_info_write-requires g c =
+lent_info_write-requires c =
     let same = written c.args.name.now c.args.kept.now.keys c.args.table.now c.loop-index.index _ c.loop-index.modules.items c.objects-objects.ensures.objects c.loop-index-test.false c.loop-index.invariant in
     subst IsInfoText (sym same) (info_is_text c.args.table.now c.requires c.added_files.ensures.required c.args.name.now c.args.kept.now.keys)
 
 pub returns-clause-text : goal.returns-clause-text
-returns-clause-text g c =
+returns-clause-text c =
     let same = written c.args.name.now c.args.kept.now.keys c.args.table.now c.loop-index.index _ c.loop-index.modules.items c.objects-objects.ensures.objects c.loop-index-test.false c.loop-index.invariant in
     subst (λ (info : InfoValue). IfOk c.lent_info_write.result (λ text. text.items ≡ info_text info)) same c.lent_info_write.ensures.text
 
 pub returns-clause-reads_back : goal.returns-clause-reads_back
-returns-clause-reads_back g c =
+returns-clause-reads_back c =
     let same = written c.args.name.now c.args.kept.now.keys c.args.table.now c.loop-index.index _ c.loop-index.modules.items c.objects-objects.ensures.objects c.loop-index-test.false c.loop-index.invariant in
     subst (λ (info : InfoValue). IfOk c.lent_info_write.result (λ text. ReadsBack info text.items)) same c.lent_info_write.ensures.reads_back

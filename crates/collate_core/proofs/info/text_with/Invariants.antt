@@ -6,4 +6,4 @@ use Rattle.collate_core.proofs.info.text_with.Given as goal
 
 -- the modules of the objects so far
 abbrev pub invariant-loop-index : goal.invariant-loop-index
-invariant-loop-index g l = l.modules.items ≡ flat_map (modules_of l.kept.keys) (take l.index (tasks_of l.table))
+invariant-loop-index l = l.modules.items ≡ flat_map (modules_of l.kept.keys) (take l.index (tasks_of l.table))

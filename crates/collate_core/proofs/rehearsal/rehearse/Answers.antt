@@ -1,8 +1,51 @@
+use Rattle.std.proofs.Common.{rules, ℕ, List, IfOk, IfErr, subst, sym}
+use Rattle.std.proofs.lemmas.Result.{IfOk-weaker, IfErr-weaker}
+use Rattle.ninja_text.specs.Failure.{ForFault}
+use Rattle.ninja_text.specs.declared.failure.Failure.{Failure}
+use Rattle.ninja_text.specs.declared.failure.Failure.TheVariants.{Memory, Fault}
+use Rattle.dyndep_file.specs.StatementValue.{StatementValue}
+use Rattle.dyndep_file.specs.Reading.{StandsFor, StandsForOnly}
+use Rattle.dyndep_file.specs.Laws.{OneList, NotBoth}
+use Rattle.dyndep_file.specs.declared.fault.ReadFault.{ReadFault}
+use Rattle.dyndep_file.specs.declared.fault.ReadFault.TheVariants.{AtLine, Io}
+use Rattle.build_effect.specs.EdgeValue.{EdgeValue}
+use Rattle.build_effect.specs.Effect.{OnlyEffect}
+use Rattle.collate_core.specs.Rehearsal.{HasEffect, IsWithoutEffect, IsReadFaultOf, IsRehearseFault}
+use Rattle.collate_core.specs.inner.Parts.{ForEffect}
+use Rattle.collate_core.specs.declared.fault.RehearseFault.{RehearseFault}
+use Rattle.collate_core.specs.declared.fault.RehearseFault.TheVariants.{Read, Effect}
 use Rattle.collate_core.proofs.rehearsal.rehearse.Goals as goal
 
--- said here, so that a body which does something else is refused soon
-pub returns-clause-effect : goal.returns-clause-effect
-returns-clause-effect c = c.rehearse_with_hasher.ensures.effect
+only : OneList → (text : List ℕ) (statements : List StatementValue) → StandsFor text statements → StandsForOnly text statements
+only one text statements h = record { stands = h; only = λ others k. one text others statements k h }
 
-pub returns-clause-fault : goal.returns-clause-fault
-returns-clause-fault c = c.rehearse_with_hasher.ensures.fault
+none : NotBoth → (text : List ℕ) (fault : ReadFault) → IsReadFaultOf text fault → (statements : List StatementValue) → StandsFor text statements → ⊥
+none not_both text (AtLine line fault) reported statements h = not_both text statements (record { line = line; fault = fault }) h reported
+none not_both text Io reported statements h = reported
+
+lacks : (text name : List ℕ) (old : List EdgeValue) (statements : List StatementValue) → StandsForOnly text statements → (failure : Failure RehearseFault) →
+    ForFault (ForEffect (IsWithoutEffect old name statements)) failure → ForFault (IsRehearseFault text name old) failure
+lacks text name old statements stands Memory h = tt
+lacks text name old statements stands (Fault (Effect fault)) h = (statements, stands, h)
+lacks text name old statements stands (Fault (Read fault)) h = absurd h
+
+pub returns-in-Ok-clause-effect : goal.returns-in-Ok-clause-effect
+returns-in-Ok-clause-effect c =
+    let statements : List StatementValue = c.in-Ok.dyndep in
+    let effect : IfOk c.map_err.result (OnlyEffect c.args.graph.now c.args.name.now statements) = search rules in
+    IfOk-weaker c.map_err.result (OnlyEffect c.args.graph.now c.args.name.now statements) (HasEffect c.args.text.now c.args.name.now c.args.graph.now)
+    (λ new h. (statements, only c.one_list.ensures c.args.text.now statements c.in-Ok.ensures.read, h))
+    effect
+
+pub returns-in-Ok-clause-fault : goal.returns-in-Ok-clause-fault
+returns-in-Ok-clause-fault c =
+    let statements : List StatementValue = c.in-Ok.dyndep in
+    let fault : IfErr c.map_err.result (ForFault (ForEffect (IsWithoutEffect c.args.graph.now c.args.name.now statements))) = search rules in
+    IfErr-weaker c.map_err.result (ForFault (ForEffect (IsWithoutEffect c.args.graph.now c.args.name.now statements))) (ForFault (IsRehearseFault c.args.text.now c.args.name.now c.args.graph.now))
+    (lacks c.args.text.now c.args.name.now c.args.graph.now statements (only c.one_list.ensures c.args.text.now statements c.in-Ok.ensures.read))
+    fault
+
+pub returns-in-Err-Fault-clause-fault : goal.returns-in-Err-Fault-clause-fault
+returns-in-Err-Fault-clause-fault c =
+    let reported = subst (ForFault (IsReadFaultOf c.args.text.now)) c.in-Err-Fault.field-0-is c.in-Err-Fault.ensures.refused in
+    (subst (IsReadFaultOf c.args.text.now) (sym c.in-Err-Fault.fault-is) reported, none c.list_or_fault.ensures.not_both c.args.text.now c.in-Err-Fault.fault reported)
