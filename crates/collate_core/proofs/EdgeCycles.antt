@@ -92,12 +92,17 @@ those P decide (suc n) = by (those P decide n) (decide n)
 
     by : (row : List ℕ) × AreThose P n row → Decided (P n) → (row : List ℕ) × AreThose P (suc n) row
     by (row, are) (inl holds) = (n ∷ row, ((λ k inside. let at = index_of (n ∷ row) k inside in from row holds are k at.0 at.1), to row are))
-    by (row, are) (inr not) =
-        (row, ((λ k inside. let known = are.0 k inside in (known.0, omega (arith, known.1))), (λ k p less.
-        elim (cases_lt k n) [
-          | inl below ↦ are.1 k p below
-          | inr above ↦ let same : k ≡ n = omega (arith, less, above) in absurd (not (subst P same p))
-        ])))
+    by (row, are) (inr not) = (
+      row,
+      (
+        (λ k inside. let known = are.0 k inside in (known.0, omega (arith, known.1))),
+        (λ k p less.
+            elim (cases_lt k n) [
+              | inl below ↦ are.1 k p below
+              | inr above ↦ let same : k ≡ n = omega (arith, less, above) in absurd (not (subst P same p))
+            ]),
+      ),
+    )
 
 -- a node that needs anything has a row
 row_there : (rows : List (List ℕ)) (i k : ℕ) → k < length (get_or rows i []) → slice_get rows i ≡ Some (get_or rows i [])

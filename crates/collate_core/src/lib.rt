@@ -19,13 +19,13 @@
 //!   files may be applied in any order (`ProjectOrders.antt`), and the maps have what each object
 //!   needs over the whole project (`ProjectNeeds.antt`).
 //!
-//! - The laws [`no_race`] and [`no_false_wait`] say what these files mean for a build
-//!   (`specs/Builds.antt`, `specs/BuildLaws.antt`): in every order in which the edges can run, the
-//!   edge of an object comes after the makers of the files of the modules that the object requires;
-//!   and an edge needs what it needed before, these makers, those of added files that it read, and
-//!   nothing else.
+//! - The laws [`no_race`], [`no_false_wait`], [`no_false_rebuild`] and [`no_false_cycle`] say what
+//!   these files mean for a build (`specs/Builds.antt`, `specs/BuildLaws.antt`): in every order in
+//!   which the edges can run, the edge of an object comes after the makers of the files of the
+//!   modules that the object requires; and an edge needs what it needed before and what it imports,
+//!   and nothing else, directly, in a chain or in a cycle.
 //!
-//! The two laws speak of the definitions, so that no body can break them; they are true of what is
+//! The laws speak of the definitions, so that no body can break them; they are true of what is
 //! built since the calls keep to these definitions. The prover refuses the bodies that would make a
 //! race, as `required_module_left_out`, `nothing_applied` and `order_of_the_graph_before` in
 //! `must-fail/`, and in `build_effect` `implicit_output_is_no_output` and
@@ -47,9 +47,8 @@
 //! [`CollatedParts`] are its texts, given up to be written.
 //!
 //! `must-fail/` has a wrong body of each public function but of the laws, which have none, and of
-//! those that only pass on another's answer, whose clauses they have: the calls without a hasher,
-//! and of [`collate_or_refused`], [`collate_dyndep_or_refused`] and [`project_or_refused`] those
-//! that answer the refusal alone. `info_lent_as_dyndep` and `no_maps_lent` show the clauses by
+//! those that only pass on another's answer, whose clauses they have: of [`collate_or_refused`],
+//! [`collate_dyndep_or_refused`] and [`project_or_refused`] those that answer the refusal alone. `info_lent_as_dyndep` and `no_maps_lent` show the clauses by
 //! which a [`Collated`] lends its parts and gives them up.
 #![tactic(auto)]
 

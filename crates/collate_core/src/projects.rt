@@ -152,13 +152,7 @@ fn add_outs<M: MapStyle>(
 {
     let mut known = Vec::new(alloc);
     for (index, target) in targets.iter().enumerate() {
-        match collate_linked(
-            alloc,
-            target,
-            outs.as_slice(),
-            known.as_slice(),
-            style,
-        ) {
+        match collate_linked(alloc, target, outs.as_slice(), known.as_slice(), style) {
             Ok(out) => add_known(alloc, out, outs, &mut known)?,
             Err(failure) => return Err(of_target(index, failure)),
         }

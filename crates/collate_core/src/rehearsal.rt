@@ -30,9 +30,9 @@ pub fn rehearse(
     laws::one_list();
     laws::list_or_fault();
     match read_pieces(alloc, text, cuts) {
-        Ok(dyndep) => apply(alloc, graph, name, &dyndep).map_err(
-            |failure| failure.map(|fault| RehearseFault::Effect(fault)),
-        ),
+        Ok(dyndep) => apply(alloc, graph, name, &dyndep).map_err(|failure| failure.map(
+            |fault| RehearseFault::Effect(fault),
+        )),
         Err(Failure::Memory) => Err(Failure::Memory),
         Err(Failure::Fault(fault)) => Err(Failure::Fault(RehearseFault::Read(fault))),
     }
