@@ -25,7 +25,7 @@ returns-clause-maps g c =
     maps_of_style (option_copied c.args.style) g.M.MapStyle.written g.M.MapStyle.kept g.M.MapStyle.entries
     (λ s. record {
       reads_back = λ m text is e. g.met.M.MapStyle.reads_back s m text is e;
-      reads_only = λ text found e. g.met.M.MapStyle.reads_only s text found e;
+      faults_of_maps = λ m line is. g.met.M.MapStyle.faults_of_maps s m line is;
       keeps_pairs = λ m is. g.met.M.MapStyle.keeps_pairs s m is;
     })
     c.project_maps.ensures.maps c.args.targets.now c.add_outs.new.outs.items c.in_ok-add_outs.ensures.collated
