@@ -1,0 +1,406 @@
+"""Builds small projects with CMake, each with CMake's step and with dyncollate, and compares the edges and what is compiled.
+
+This needs CMake 3.28 or newer, which CMAKE may name, Ninja, and a compiler that CMake can scan: Clang 16 or newer with
+clang-scan-deps, or GCC 14 or newer. The tests whose tools are missing are skipped.
+"""
+import functools
+import os
+import re
+import shutil
+import tempfile
+import unittest
+from pathlib import Path
+
+from tests import program
+from tests.cmake import adapter, put, statements
+from tests.tools import of_versions, output_of, tool
+
+# The value that CMake asks for before it supports `import std`, by its version.
+IMPORT_STD = {(3, 30): "0e5b6991-d74f-4b3d-a41c-cf096e0b2508", (3, 31): "0e5b6991-d74f-4b3d-a41c-cf096e0b2508",
+              (4, 3): "451f2fe2-a8a2-47c3-bc32-94786d8fc91b"}
+HEAD = "cmake_minimum_required(VERSION 3.28)\nproject(p CXX)\nset(CMAKE_CXX_STANDARD 20)\n"
+
+# A library with a partition, an implementation and a private module; two that link it, of which one does not pass that on; and
+# two programs. `far` imports from `base` only through `hidden`.
+PROJECT = {
+    "CMakeLists.txt": HEAD + """set(CMAKE_POSITION_INDEPENDENT_CODE ON)
+add_library(base STATIC base.cpp)
+target_sources(base PUBLIC FILE_SET CXX_MODULES FILES b0.cppm b0p.cppm b1.cppm b2.cppm
+               PRIVATE FILE_SET own TYPE CXX_MODULES FILES own.cppm)
+add_library(mid STATIC)
+target_sources(mid PUBLIC FILE_SET CXX_MODULES FILES m0.cppm m1.cppm)
+target_link_libraries(mid PUBLIC base)
+add_library(hidden SHARED)
+target_sources(hidden PUBLIC FILE_SET CXX_MODULES FILES h0.cppm)
+target_link_libraries(hidden PRIVATE base)
+add_executable(app main.cpp u1.cpp u2.cpp)
+target_link_libraries(app PRIVATE mid)
+add_executable(far far.cpp)
+target_link_libraries(far PRIVATE hidden)
+""",
+    "b0p.cppm": "export module b0:p;\nexport inline int fb0p() { return 1; }\n",
+    "b0.cppm": "export module b0;\nexport import :p;\nexport inline int fb0() { return 1; }\n",
+    "b1.cppm": "export module b1;\nimport b0;\nexport inline int fb1() { return 1; }\n",
+    "b2.cppm": "export module b2;\nexport int fb2();\n",
+    "own.cppm": "export module own;\nexport inline int fown() { return 1; }\n",
+    "base.cpp": "module b2;\nimport own;\nint fb2() { return fown(); }\n",
+    "m0.cppm": "export module m0;\nimport b1;\nexport inline int fm0() { return fb1(); }\n",
+    "m1.cppm": "export module m1;\nexport inline int fm1() { return 1; }\n",
+    "h0.cppm": "export module h0;\nimport b1;\nexport inline int fh0() { return fb1(); }\n",
+    "main.cpp": "int u1(); int u2();\nint main() { return u1() - u2(); }\n",
+    "u1.cpp": "import m0;\nint u1() { return fm0(); }\n",
+    "u2.cpp": "import m1;\nint u2() { return fm1(); }\n",
+    "far.cpp": "import h0;\nint main() { return fh0() - 1; }\n",
+}
+# A package with two libraries, and a project that finds it.
+PACKAGE = {
+    "CMakeLists.txt": HEAD + """add_library(letters STATIC)
+target_sources(letters PUBLIC FILE_SET CXX_MODULES BASE_DIRS src FILES src/sub/letters.cppm)
+add_library(words STATIC words.cpp)
+target_sources(words PUBLIC FILE_SET CXX_MODULES FILES words.cppm part.cppm PRIVATE FILE_SET own TYPE CXX_MODULES FILES own.cppm)
+target_link_libraries(words PUBLIC letters)
+foreach(name letters words)
+  target_compile_features(${name} PUBLIC cxx_std_20)
+endforeach()
+install(TARGETS words letters EXPORT words FILE_SET CXX_MODULES DESTINATION lib/src
+        CXX_MODULES_BMI DESTINATION lib/bmi PERMISSIONS OWNER_READ GROUP_READ)
+install(EXPORT words NAMESPACE w:: DESTINATION lib/cmake/words CXX_MODULES_DIRECTORY modules FILE words-config.cmake)
+export(EXPORT words NAMESPACE w:: CXX_MODULES_DIRECTORY modules FILE ${CMAKE_CURRENT_BINARY_DIR}/words-config.cmake)
+""",
+    "src/sub/letters.cppm": "export module letters;\nexport inline int letters() { return 1; }\n",
+    "part.cppm": "export module words:part;\nimport letters;\nexport inline int part() { return letters(); }\n",
+    "words.cppm": "export module words;\nexport import :part;\nexport int words();\n",
+    "own.cppm": "export module own;\nexport inline int own() { return 2; }\n",
+    "words.cpp": "module words;\nimport own;\nint words() { return own(); }\n",
+}
+FINDS = {
+    "CMakeLists.txt": HEAD + """find_package(words REQUIRED)
+add_library(mid STATIC)
+target_sources(mid PUBLIC FILE_SET CXX_MODULES FILES mid.cppm)
+target_link_libraries(mid PRIVATE w::words)
+add_executable(app main.cpp)
+target_link_libraries(app PRIVATE mid)
+""",
+    "mid.cppm": "export module mid;\nimport words;\nexport inline int mid() { return part() + words(); }\n",
+    "main.cpp": "import mid;\nint main() { return mid() - 3; }\n",
+}
+# A library that imports the standard library, and a program that links only this library.
+STD = {
+    "CMakeLists.txt": """cmake_minimum_required(VERSION 3.30)
+set(CMAKE_EXPERIMENTAL_CXX_IMPORT_STD @VALUE@)
+project(p CXX)
+set(CMAKE_CXX_STANDARD 23)
+add_library(words STATIC words.cpp)
+target_sources(words PUBLIC FILE_SET CXX_MODULES FILES words.cppm)
+set_target_properties(words PROPERTIES CXX_MODULE_STD ON)
+add_executable(app main.cpp)
+target_link_libraries(app PRIVATE words)
+""",
+    "words.cppm": "export module words;\nimport std;\nexport std::size_t words();\n",
+    "words.cpp": "module words;\nimport std;\nstd::size_t words() { return std::string(2, 'a').size(); }\n",
+    "main.cpp": "import words;\nint main() { return words() == 2 ? 0 : 1; }\n",
+}
+
+
+@functools.lru_cache(None)
+def cmake():
+    """Returns the path of a CMake that supports modules, or None."""
+    name = shutil.which(os.environ.get("CMAKE", "cmake"))
+    return name if name and cmake_version(name) >= (3, 28) else None
+
+
+@functools.lru_cache(None)
+def cmake_version(name):
+    return tuple(map(int, re.search(r"(\d+)\.(\d+)", output_of(name, "--version")[1]).groups()))
+
+
+@functools.lru_cache(None)
+def gcc():
+    """Returns the path of a GCC that scans, or None."""
+    found = [shutil.which(it) for it in ([os.environ["GCC"]] if "GCC" in os.environ else of_versions("g++", 14, 15, 16))]
+    return next((it for it in found if it and int(output_of(it, "-dumpversion")[1].split(".")[0]) >= 14), None)
+
+
+def clang():
+    """Returns the path of a Clang that has its scanner, or None."""
+    return tool("scanner") and tool("clang")
+
+
+def without_hashes(text):
+    """Removes what differs from build to build: a part of the folder names of imported targets."""
+    return re.sub(r"@synth_[0-9a-f]+", "@synth", str(text))
+
+
+class Tree:
+    """A project and its build folder. A run of Ninja leaves in `status` and `log` how it ended."""
+
+    def __init__(self, top, files, compiler, generator, *options):
+        self.top, self.build = top, top / "build"
+        self.configuring = [cmake(), "-G", generator, "-S", top, "-B", self.build, f"-DCMAKE_CXX_COMPILER={compiler}",
+                            f"-DCMAKE_MAKE_PROGRAM={tool('ninja')}", *options]
+        for name, text in files.items():
+            put(top / name, text)
+        self.configure()
+
+    def configure(self):
+        status, log = output_of(*self.configuring)
+        assert not status, log
+
+    def ninja(self, *words):
+        self.status, self.log = output_of(tool("ninja"), "-C", self.build, "-j2", *words)
+
+    def steps(self, description):
+        """What the last run did of a kind of step."""
+        return sorted(re.findall(rf"^\[\d+/\d+\] {description} '?(.*?)'?$", without_hashes(self.log), re.M))
+
+    def compiled(self):
+        return self.steps("Building CXX object")
+
+    def edges(self):
+        """The statements of all dyndep files."""
+        found = {it.relative_to(self.build): it.read_text() for it in self.build.rglob("CXX.dd")}
+        return {without_hashes(name): statements(without_hashes(text)) for name, text in found.items()}
+
+
+class Builds(unittest.TestCase):
+    """A project in two folders: `trees[0]` is built with CMake's step, `trees[1]` with dyncollate."""
+    # a function that returns the compiler or None, and the package that has it
+    compiler = package = None
+    seconds = 60
+
+    def setUp(self):
+        if not program.is_there():
+            self.fail("there is no program to be tested; ./build makes it")
+        for found, name in ((cmake(), "CMake 3.28 or newer"), (tool("ninja"), "ninja-build"), (self.compiler(), self.package)):
+            if not found:
+                self.skipTest(f"{name}: not there")
+        folder = tempfile.TemporaryDirectory(prefix="dyncollate-")
+        self.addCleanup(folder.cleanup)
+        self.folder = Path(folder.name)
+
+    def lay(self, files, *options, generator="Ninja", folder="project"):
+        tops = [self.folder / it / folder for it in ("cmakes", "ours")]
+        self.trees = [Tree(it, files, self.compiler(), generator, *options) for it in tops]
+        self.adopt()
+
+    def adopt(self):
+        status, said = adapter("adopt", str(self.trees[1].build))
+        self.assertEqual(status, 0, said)
+
+    def run_both(self, *words):
+        for tree in self.trees:
+            tree.ninja(*words)
+
+    def builds(self, *sources):
+        """Both builds end well, with the same edges, and compile exactly these sources."""
+        self.run_both()
+        for tree in self.trees:
+            self.assertEqual(tree.status, 0, tree.log)
+            self.assertEqual(sorted(map(os.path.basename, tree.compiled())), sorted(f"{it}.o" for it in sources), tree.log)
+        self.same_edges()
+        self.idle()
+
+    def same_edges(self):
+        cmakes, ours = self.trees
+        self.assertEqual(ours.edges(), cmakes.edges())
+        self.assertEqual(ours.compiled(), cmakes.compiled(), ours.log)
+
+    def is_clang(self):
+        return "clang" in self.compiler()
+
+    def idle(self):
+        self.run_both()
+        for tree in self.trees:
+            self.assertIn("ninja: no work to do.", tree.log)
+
+    def both_fail(self, line):
+        """Both builds fail, and that by dyncollate with this line."""
+        self.run_both()
+        self.assertTrue(all(tree.status for tree in self.trees))
+        self.assertIn(f"dyncollate: {line}", self.trees[1].log.splitlines())
+
+    def each(self, change):
+        for tree in self.trees:
+            change(tree)
+
+    def edit(self, name, pattern, replacement):
+        for tree in self.trees:
+            text, count = re.subn(pattern, replacement, (tree.top / name).read_text(), flags=re.M)
+            assert count, f"{name} has no {pattern}"
+            put(tree.top / name, text)
+
+    def touch(self, name):
+        self.each(lambda tree: os.utime(tree.top / name))
+
+    def remove(self, name):
+        self.each(lambda tree: os.remove(tree.build / name))
+
+
+class Edits:
+    """A project from scratch and after an edit of each kind."""
+    base = ["b0.cppm", "b0p.cppm", "b1.cppm", "b2.cppm", "own.cppm", "base.cpp"]
+    users = ["m0.cppm", "h0.cppm", "u1.cpp", "far.cpp"]
+    others = ["m1.cppm", "main.cpp", "u2.cpp"]
+
+    def setUp(self):
+        super().setUp()
+        self.lay(PROJECT)
+        self.builds(*self.base, *self.users, *self.others)
+
+    def test_touched_sources(self):
+        for source, users in (("b0.cppm", ["b1.cppm", *self.users]), ("b0p.cppm", ["b0.cppm", "b1.cppm", *self.users]),
+                              ("m1.cppm", ["u2.cpp"]), ("own.cppm", ["base.cpp"]), ("base.cpp", []), ("h0.cppm", ["far.cpp"])):
+            with self.subTest(source):
+                self.touch(source)
+                self.builds(source, *users)
+
+    def test_changed_imports(self):
+        self.edit("u2.cpp", r"^import m1;", r"import m1;\nimport b2;")
+        self.builds("u2.cpp")
+        self.edit("u2.cpp", r"^import b2;\n", "")
+        self.builds("u2.cpp")
+        self.edit("m1.cppm", r"^(export module m1;)", r"\1\nimport b2;")
+        self.builds("m1.cppm", "u2.cpp")
+
+    def test_an_import_that_is_turned_round(self):
+        self.edit("b1.cppm", "^import b0;", "import b2;")
+        self.builds("b1.cppm", *self.users)
+        self.edit("b0.cppm", "^(export import :p;)", r"\1\nimport b1;")
+        self.builds("b0.cppm")
+
+    def test_a_cycle(self):
+        self.edit("b0.cppm", "^(export import :p;)", r"\1\nimport b1;")
+        folder = "CMakeFiles/base.dir"
+        self.both_fail(f"M8 ImportCycle {folder}/b0.cppm.o -> {folder}/b1.cppm.o")
+        self.edit("b0.cppm", r"^import b1;\n", "")
+        self.builds("b0.cppm", "b1.cppm", *self.users)
+
+    def test_an_import_two_targets_away(self):
+        """It is in the map of `far`, which links neither of the two modules' targets."""
+        self.edit("b1.cppm", "^(export module b1;)", r"\1\nimport b2;")
+        self.builds("b1.cppm", *self.users)
+
+    def test_an_import_of_a_private_module(self):
+        self.edit("u1.cpp", r"^(import m0;)", r"\1\nimport own;")
+        self.both_fail("M9 ModulePrivate own of CMakeFiles/base.dir in object CMakeFiles/app.dir/u1.cpp.o")
+        self.edit("u1.cpp", r"^import own;\n", "")
+        self.builds("u1.cpp")
+
+    def test_a_renamed_module(self):
+        self.edit("m1.cppm", "module m1;", "module m9;")
+        self.both_fail("M5 ModuleUnknown m1 in CMakeFiles/app.dir/u2.cpp.o")
+        self.edit("u2.cpp", "import m1;", "import m9;")
+        self.run_both()
+        self.same_edges()
+
+    def test_a_new_source(self):
+        """Ninja runs CMake again, and the build is still adopted."""
+        self.each(lambda tree: put(tree.top / "b3.cppm", "export module b3;\nimport b0;\n"))
+        self.edit("CMakeLists.txt", r"b2\.cppm", "b2.cppm b3.cppm")
+        self.builds("b3.cppm")
+        self.assertIn("--in-place-of", (self.trees[1].build / "CMakeFiles/rules.ninja").read_text())
+
+    def test_lost_files(self):
+        for name, sources in (("base.dir/b2.cppm.o", ["b2.cppm", "base.cpp"]), ("app.dir/u1.cpp.o.modmap", ["u1.cpp"]),
+                              ("base.dir/CXXModules.json", []), ("mid.dir/CXX.dd", []),
+                              (f"base.dir/b0{'.pcm' if self.is_clang() else '.gcm'}", None)):
+            with self.subTest(name):
+                self.remove(f"CMakeFiles/{name}")
+                self.run_both()
+                self.same_edges()
+                if sources is not None:
+                    self.assertEqual(sorted(map(os.path.basename, self.trees[1].compiled())), [f"{it}.o" for it in sources])
+                self.idle()
+
+    def test_restored(self):
+        """The Ninja files are CMake's again, and the build is well with either step after the other."""
+        ours = self.trees[1]
+        ours.configure()
+        cmakes = {it: it.read_bytes() for it in ours.build.rglob("*.ninja")}
+        self.adopt()
+        self.assertNotEqual({it: it.read_bytes() for it in cmakes}, cmakes)
+        self.assertEqual(adapter("restore", str(ours.build)), (0, ""))
+        self.assertEqual({it: it.read_bytes() for it in cmakes}, cmakes)
+        for change in lambda: None, self.adopt:
+            change()
+            ours.ninja()
+            self.assertEqual(ours.status, 0, ours.log)
+            self.assertEqual(len(ours.steps("Generating CXX dyndep file")), 5)
+            self.assertEqual(ours.edges(), self.trees[0].edges())
+            self.idle()
+
+
+class Others:
+    """Other projects and generators."""
+
+    def exported(self, tree):
+        """The mode of each file that was exported or installed, and the lines of those for CMake, which have no certain order."""
+        files = [it for folder in ("installed", "build/modules") for it in (tree.top / folder).rglob("*") if it.is_file()]
+        self.assertGreater(len(files), 15)
+        return {str(it.relative_to(tree.top)): (it.stat().st_mode, it.suffix == ".cmake" and
+                                                sorted(it.read_text().replace(str(tree.top), "").splitlines()))
+                for it in files if not it.name.endswith(".modules.json")}
+
+    def test_an_installed_package(self):
+        """What is exported and installed is what CMake's step exports and installs; another project finds it."""
+        self.lay(PACKAGE)
+        self.builds("letters.cppm", "part.cppm", "words.cppm", "own.cppm", "words.cpp")
+        for tree in self.trees:
+            self.assertEqual(output_of(cmake(), "--install", tree.build, "--prefix", tree.top / "installed")[0], 0)
+        self.assertEqual(*map(self.exported, self.trees))
+        installed = self.trees[1].top / "installed"
+        self.lay(FINDS, f"-DCMAKE_PREFIX_PATH={installed}", folder="user")
+        self.run_both()
+        for tree in self.trees:
+            self.assertEqual((tree.status, len(tree.compiled())), (0, 5), tree.log)
+            self.assertEqual(output_of(tree.build / "app"), (0, ""))
+        self.same_edges()
+        self.idle()
+        os.utime(installed / "lib/src/part.cppm")
+        self.run_both()
+        self.same_edges()
+        self.assertEqual([tree.status for tree in self.trees], [0, 0])
+        self.idle()
+
+    def test_import_std(self):
+        """The target that CMake makes of the standard library's modules is linked through `words`."""
+        value = IMPORT_STD.get(cmake_version(cmake()))
+        name, *flags = ("libc++.modules.json", "-stdlib=libc++") if self.is_clang() else ("libstdc++.modules.json",)
+        listed = output_of(self.compiler(), *flags, f"-print-file-name={name}")[1].strip()
+        if not value or not os.path.isfile(listed):
+            self.skipTest(f"CMake 3.30, 3.31 or 4.3, or {name}: not there")
+        files = {name: text.replace("@VALUE@", value) for name, text in STD.items()}
+        self.lay(files, f"-DCMAKE_CXX_FLAGS={' '.join(flags)}")
+        self.run_both()
+        for tree in self.trees:
+            self.assertEqual(tree.status, 0, tree.log)
+            self.assertEqual(output_of(tree.build / "app"), (0, ""))
+        self.same_edges()
+        self.touch("words.cppm")
+        self.builds("words.cppm", "words.cpp", "main.cpp")
+
+    def test_several_configurations(self):
+        self.lay(PROJECT, generator="Ninja Multi-Config")
+        for name in "Debug", "Release":
+            self.run_both("-f", f"build-{name}.ninja")
+            for tree in self.trees:
+                self.assertEqual(tree.status, 0, tree.log)
+            self.same_edges()
+        self.touch("b0.cppm")
+        self.builds("b0.cppm", "b1.cppm", *Edits.users)
+
+
+class EditsWithClang(Edits, Builds):
+    compiler, package = staticmethod(clang), "clang-19 or clang-tools-19"
+
+
+class EditsWithGcc(Edits, Builds):
+    compiler, package = staticmethod(gcc), "g++-14"
+
+
+class OthersWithClang(Others, Builds):
+    compiler, package = staticmethod(clang), "clang-19 or clang-tools-19"
+
+
+class OthersWithGcc(Others, Builds):
+    compiler, package = staticmethod(gcc), "g++-14"
