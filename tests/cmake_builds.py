@@ -178,7 +178,7 @@ class Builds(unittest.TestCase):
         self.addCleanup(folder.cleanup)
         self.folder = Path(folder.name)
 
-    def lay(self, files, *options, generator="Ninja", folder="project"):
+    def lay(self, files, *options, generator="Ninja", folder="a project"):
         tops = [self.folder / it / folder for it in ("cmakes", "ours")]
         self.trees = [Tree(it, files, self.compiler(), generator, *options) for it in tops]
         self.adopt()
