@@ -365,12 +365,13 @@ for one, (changes, forms) in BUILT.items():
 # ---- import std
 
 def standard_modules(compiler, *asked):
-    """The sources of the standard library's modules, where a compiler has a list of them."""
+    """The sources of the standard library's modules, where a compiler has a list of them, and they are there."""
     listed = output_of(compiler, *asked)[1].strip() if compiler else ""
     if not os.path.isfile(listed):
         return None
     modules = json.loads(Path(listed).read_text())["modules"]
-    return [os.path.realpath(os.path.join(os.path.dirname(listed), it["source-path"])) for it in modules]
+    found = [os.path.realpath(os.path.join(os.path.dirname(listed), it["source-path"])) for it in modules]
+    return found if all(map(os.path.isfile, found)) else None
 
 
 class ImportsStd:
@@ -544,7 +545,8 @@ class GuideCommands(Folder):
 PARTS = "d/" * 60
 V = "ninja_dyndep_version = 1\n"
 
-# Who takes a dyndep file, why it is looked at, and its text. The edge of `o` names it, and an edge makes `n`.
+# Who takes a dyndep file, why it is looked at, and its text. The edge of `o` names it, and an edge makes `n`. What only Ninja 1.11
+# does not take has that version.
 READERS = [
     ("both", "one statement", V + "build o: dyndep | in\n"),
     ("both", "lines that end in CR LF", "ninja_dyndep_version = 1\r\nbuild o: dyndep | in\r\n"),
@@ -562,7 +564,7 @@ READERS = [
     ("dyncollate", "no statement for an output that names it", V),
     ("dyncollate", "an output that does not name it", V + "build o: dyndep\nbuild p: dyndep\n"),
     ("dyncollate", "an added output that is already made", V + "build o | n: dyndep\n"),
-    ("dyncollate", "a path of 61 components", V + f"build o: dyndep | {PARTS}x\n"),
+    ("1.11", "a path of 61 components", V + f"build o: dyndep | {PARTS}x\n"),
     ("dyncollate", "a NUL in a comment", V + "# a\0b\nbuild o: dyndep\n"),
 ]
 
@@ -581,4 +583,6 @@ class Readers(Folder):
                 Path("t.dd").write_bytes(text.encode())
                 Path("o").unlink(missing_ok=True)
                 taken = self.ninja()[0] == 0, self.call("show", "t.dd")[0] == 0
+                if who == "1.11":
+                    who = "dyncollate" if version("ninja") < (1, 12) else "both"
                 self.assertEqual(taken, (who in ("both", "ninja"), who in ("both", "dyncollate")), "by Ninja and by dyncollate")

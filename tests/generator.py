@@ -62,6 +62,18 @@ class Lists(Folder):
             self.assertEqual(self.says("gcc", "targets"), (1, said))
             self.environment |= {name: "true"}
 
+    def test_a_compiler_without_the_modules_of_the_standard_library(self):
+        """It prints the name of the list as it is asked, or the list names what is not there."""
+        Path("targets").write_text("standard std\n")
+        Path("list.json").write_text('{"modules":[{"logical-name":"std","source-path":"none/std.cppm"}]}')
+        top = os.path.realpath(".")
+        for printed, said in [("libc++.modules.json", "./compiler has no libc++.modules.json"),
+                              (f"{top}/list.json", f"{top}/list.json names {top}/none/std.cppm, which is not there")]:
+            Path("compiler").write_text(f"#!/bin/sh\necho {printed}\n")
+            Path("compiler").chmod(0o755)
+            self.environment["CLANG"] = "./compiler"
+            self.assertEqual(self.says("clang", "targets"), (1, f"generate: line 1 of the list: {said}\n"))
+
     def test_words(self):
         self.assertEqual(self.says("--help"), (0, ""))
         self.assertIn("generate clang|gcc|project [LIST]", self.printed)

@@ -9,6 +9,7 @@ import unittest
 from pathlib import Path
 
 from tests.builds import EXAMPLES, Folder, edit, touch
+from tests.cmake import cmake
 from tests.tools import output_of, tool, version
 
 USERS = ["src/point.cppm", "src/geometry.cppm", "src/shapes.cppm", "src/geometry.cpp", "src/main.cpp"]
@@ -208,6 +209,75 @@ class WithGcc(Folder):
         Path("name.cppm").write_text("export module ñ;\n")
         compiling = [tool("gcc"), *"-std=c++20 -fmodules-ts -fmodule-mapper=a.o.modmap -x c++ -c name.cppm -o a.o".split()]
         self.assertEqual(output_of(*compiling)[0], 1)
+
+
+LISTS = """cmake_minimum_required(VERSION 3.28)
+project(p CXX)
+set(CMAKE_CXX_STANDARD 20)
+add_executable(app main.cpp)
+target_sources(app PRIVATE FILE_SET modules TYPE CXX_MODULES FILES a.cppm b.cppm)
+"""
+A = "export module a;\n%sexport int a() { return 1; }\n"
+B = "export module b;\n%sexport int b() { return 41; }\n"
+
+
+class CMake(Folder):
+    """A build of CMake's own, without dyncollate, falls into the same trap."""
+    tools = ["ninja", "clang", "scanner"]
+
+    def configure(self, compiler, *words):
+        if not cmake():
+            self.skipTest("CMake 3.28 or newer: not there")
+        given = [f"-DCMAKE_CXX_COMPILER={compiler}", f"-DCMAKE_CXX_COMPILER_CLANG_SCAN_DEPS={tool('scanner')}",
+                 f"-DCMAKE_MAKE_PROGRAM={tool('ninja')}", *words]
+        status, log = output_of(cmake(), "-G", "Ninja", *given, ".", env=self.environment)
+        self.assertEqual(status, 0, log)
+
+    def write(self, a="import b;\n", b=""):
+        Path("a.cppm").write_text(A % a)
+        Path("b.cppm").write_text(B % b)
+
+    def turned(self):
+        """Builds a project, and turns its import round."""
+        self.write()
+        self.makes("42")
+        self.write("", "import a;\n")
+
+    def begin(self, compiler, *words):
+        Path("CMakeLists.txt").write_text(LISTS)
+        Path("main.cpp").write_text('#include <cstdio>\nimport a;\nimport b;\nint main() { printf("%d\\n", a() + b()); }\n')
+        self.write()
+        self.configure(compiler, *words)
+        self.turned()
+
+    def stays(self):
+        """The cycle stays after a clean, and ends when Ninja forgets."""
+        for words in [], ["-t", "clean"], []:
+            self.ninja(*words)
+            self.assertEqual((self.status, "dependency cycle" in self.log), (not words, not words), self.log)
+        os.remove(".ninja_deps")
+        os.remove(".ninja_log")
+        self.makes("42")
+
+    def test_with_clang(self):
+        """The way out that lasts is the flag."""
+        if version("clang") >= (20,):
+            self.skipTest("Clang 16 to 19: not there")
+        self.begin(tool("clang"))
+        self.stays()
+        self.configure(tool("clang"), "-DCMAKE_CXX_FLAGS=-fno-module-file-deps -Wno-unused-command-line-argument")
+        self.ninja("-t", "clean")
+        os.remove(".ninja_deps")
+        os.remove(".ninja_log")
+        self.turned()
+        self.makes("42")
+
+    def test_with_gcc(self):
+        newer = next((it for it in ("g++-16", "g++-15", "g++-14") if shutil.which(it)), None)
+        if not newer:
+            self.skipTest("g++-14: not there")
+        self.begin(newer)
+        self.stays()
 
 
 class Documents(Folder):
