@@ -9,7 +9,7 @@ import unittest
 from pathlib import Path
 
 from tests.builds import EXAMPLES, Folder, edit, touch
-from tests.cmake import cmake
+from tests.cmake_builds import cmake
 from tests.tools import output_of, tool, version
 
 USERS = ["src/point.cppm", "src/geometry.cppm", "src/shapes.cppm", "src/geometry.cpp", "src/main.cpp"]
