@@ -15,7 +15,6 @@ pub mod InfoTrees
 pub mod InfoTexts
 pub mod Sending
 pub mod Outcome
-pub mod SharedNames
 pub mod AllNames
 pub mod PathTexts
 pub mod Examples

@@ -12,7 +12,7 @@ use Rattle.scan_docs.specs.Scan.{SettingValue, RuleValue, object_of, module_file
 use Rattle.scan_docs.specs.Info.{ModuleValue, InfoValue, has_visibility, privacy, IsRequirement, IsModule, IsInfo}
 use Rattle.scan_docs.specs.Target.{TargetDocumentValue, IsTarget, build_dir}
 use Rattle.scan_docs.specs.Project.{ProjectValue, IsProject}
-use Rattle.scan_docs.specs.Values.{tree_of, accepted_path, provided_in, rule_in, rules_in, requirement_in, module_in, info_in, setting_of, target_in, project_in}
+use Rattle.scan_docs.specs.Values.{tree_of, accepted_path, provided_in, rule_in, rules_in, requirement_in, module_in, info_in, target_setting, target_in, project_in}
 
 pub tree_is : (bytes : List ℕ) (d : Data) → IsTree bytes d → d ≡ tree_of bytes
 tree_is bytes d h = sym (ap (λ (o : Option Data). unwrap_or o null) h.1)
@@ -75,7 +75,7 @@ together : (f : List ℕ → SettingValue → List (List ℕ) → List (List ℕ
     ≡ f y.target y.setting y.scans y.linked y.kept y.dyndep y.dyndep_path y.info y.map_form y.edges y.restat
 together f x y target setting scans linked kept dyndep dyndep_path info map_form edges restat = cc
 
-setting_is : (d : Data) (s : SettingValue) → text m.ModuleDir d ≡ Some s.module_dir → text m.ModuleExt d ≡ Some s.module_ext → build_dir d ≡ s.build_dir → s ≡ setting_of d
+setting_is : (d : Data) (s : SettingValue) → text m.ModuleDir d ≡ Some s.module_dir → text m.ModuleExt d ≡ Some s.module_ext → build_dir d ≡ s.build_dir → s ≡ target_setting d
 setting_is d s module_dir module_ext directory =
     ap₂ (λ (a : List ℕ × List ℕ) b. record { module_dir = a.0; module_ext = a.1; build_dir = b })
     (ap₂ (λ a b. (a, b)) (some_is (text m.ModuleDir d) s.module_dir [] module_dir) (some_is (text m.ModuleExt d) s.module_ext [] module_ext))

@@ -73,8 +73,8 @@ info_of bytes = info_in (tree_of bytes)
 -- ---- target documents
 
 -- where a target's modules are compiled to, and where Ninja runs
-abbrev pub setting_of : Data → SettingValue
-setting_of d = record {
+abbrev pub target_setting : Data → SettingValue
+target_setting d = record {
   module_dir = text_of m.ModuleDir d;
   module_ext = text_of m.ModuleExt d;
   build_dir = build_dir d;
@@ -84,7 +84,7 @@ setting_of d = record {
 abbrev pub target_in : Data → TargetDocumentValue
 target_in d = record {
   target = text_of m.Target d;
-  setting = setting_of d;
+  setting = target_setting d;
   scans = texts_of m.Scans d;
   linked = texts_of m.Linked d;
   kept = texts_of m.Private d;

@@ -1,11 +1,12 @@
 //! Info documents: what a target tells the targets that link it.
 
 ghost use Rattle.std.specs.Prelude.{◌≡◌, map, Some, Ok, IfOk, IfErr};
-ghost use Rattle.std.specs.List.{AllZip};
+ghost use Rattle.std.specs.List.{AllZip, flat_map};
 ghost use Rattle.ninja_text.specs.Failure.{ForFault};
 ghost use Rattle.ninja_text.specs.Paths.{path_of};
 ghost use Rattle.serde_json.specs.View.{view};
 ghost use Rattle.scan_docs.specs.inner.Reading.{Answers};
+ghost use Rattle.scan_docs.specs.inner.SharedNames.{module_names};
 ghost use Rattle.scan_docs.specs.Document.{IsAccepted, IsRefused, HasOneAnswer};
 ghost use Rattle.scan_docs.specs.Shape.{text};
 ghost use Rattle.scan_docs.specs.Scan.{IsText};
@@ -18,14 +19,14 @@ ghost use Rattle.scan_docs.specs.declared.member.Member.TheVariants as m;
 use crate::document::{read_tree, read_version};
 use crate::fault::{DocFault, Place, bad_shape, path_at};
 use crate::member::Member;
-use crate::name::Name;
-use crate::rule::read_name;
+use crate::name::{Name, SharedNames};
+use crate::rule::read_shared_name;
 use crate::shape;
 use crate::target_document::read_target_name;
 use crate::target_name::TargetName;
 use ninja_text::{Failure, Path};
 use serde_json::Value;
-use std::alloc::Global;
+use std::alloc::{AllocError, Global};
 use std::marker::Model;
 
 /// A module that a target provides: its file, the modules that it requires, each with the file that
@@ -100,16 +101,31 @@ fn read_all_modules(
     ensures { Answers (all_module_checks with_visibility (map view values.now))
         (λ found. AllZip (IsModule with_visibility) (map view values.now) found.items) result }
 {
+    let mut names = SharedNames::new(names_of_modules(alloc, values)?)?;
     let mut found = Vec::with_capacity(alloc, values.len())?;
     for (index, value) in values.iter().enumerate() {
-        let entry = read_module(alloc, with_visibility, index, value)?;
+        let entry = read_module(alloc, &mut names, with_visibility, index, value)?;
         found.push(entry)?;
     }
     Ok(found)
 }
 
+/// The names of modules and of those that they require, in the order in which they are read.
+fn names_of_modules(alloc: Global, modules: &[Value]) -> Result<Vec<u8>, AllocError>
+    ensures { IfOk result (λ names. names.items ≡ flat_map module_names (map view modules.now)) }
+{
+    let mut names = Vec::new(alloc);
+    for module in modules {
+        shape::push_text(&mut names, module, Member::Name)?;
+        let required = shape::entries_or_none(module, Member::Requires);
+        shape::push_texts(&mut names, required, Member::Name)?;
+    }
+    Ok(names)
+}
+
 fn read_module(
     alloc: Global,
+    names: &mut SharedNames,
     with_visibility: bool,
     index: usize,
     value: &Value,
@@ -121,8 +137,8 @@ fn read_module(
     let (name, path) = read_entry_texts(place, value)?;
     let requirements = shape::required_entries(value, Member::Requires, place)?;
     let is_private = read_visibility(with_visibility, place, value)?;
-    let (name, file) = read_named_file(alloc, place, name, path)?;
-    let required = read_all_requirements(alloc, index, requirements)?;
+    let (name, file) = read_named_file(alloc, names, place, name, path)?;
+    let required = read_all_requirements(alloc, names, index, requirements)?;
     Ok(InfoModule {
         name,
         file,
@@ -170,6 +186,7 @@ fn read_visibility(
 #[tactic(auto, unfolding(crate::specs::InfoChecks::named_file_checks))]
 fn read_named_file(
     alloc: Global,
+    names: &mut SharedNames,
     place: Place,
     name: &str,
     path: &str,
@@ -177,7 +194,7 @@ fn read_named_file(
     ensures { Answers (named_file_checks place name.now path.now)
         (λ found. (found.0 ≡ name.now) × (path_of path.now ≡ Ok found.1) × IsText found.1) result }
 {
-    let name = read_name(alloc, name, place)?;
+    let name = read_shared_name(alloc, names, name, place)?;
     let file = path_at(place, Path::of(alloc, path.as_bytes()))?;
     Ok((name, file))
 }
@@ -185,6 +202,7 @@ fn read_named_file(
 #[tactic(auto, unfolding(crate::specs::InfoChecks::all_requirement_checks))]
 fn read_all_requirements(
     alloc: Global,
+    names: &mut SharedNames,
     index: usize,
     values: &[Value],
 ) -> Result<Vec<(Name, Path)>, Failure<DocFault>>
@@ -197,7 +215,7 @@ fn read_all_requirements(
             number: index,
             entry,
         };
-        let pair = read_requirement(alloc, place, value)?;
+        let pair = read_requirement(alloc, names, place, value)?;
         found.push(pair)?;
     }
     Ok(found)
@@ -206,6 +224,7 @@ fn read_all_requirements(
 #[tactic(auto, unfolding(crate::specs::InfoChecks::requirement_checks), using(crate::proofs::Each::failure_of_both))]
 fn read_requirement(
     alloc: Global,
+    names: &mut SharedNames,
     place: Place,
     value: &Value,
 ) -> Result<(Name, Path), Failure<DocFault>>
@@ -213,5 +232,5 @@ fn read_requirement(
         (IsRequirement (view value.now)) result }
 {
     let (name, path) = read_entry_texts(place, value)?;
-    read_named_file(alloc, place, name, path)
+    read_named_file(alloc, names, place, name, path)
 }

@@ -3,21 +3,22 @@
 //!
 //! - [`scan`] reads the rules of a scan document, [`info_read`] what a target tells the targets
 //!   that link it, [`spec_read`] what a target is made of, and [`project_read`] which target
-//!   documents a project has. Each answers what the document means exactly where all checks hold,
-//!   and otherwise the refusal of the first check that fails. The checks are lists in
-//!   `specs/ScanChecks.antt`, `specs/InfoChecks.antt`, `specs/TargetChecks.antt` and
-//!   `specs/ProjectChecks.antt`, the meanings in `specs/Scan.antt`, `specs/Info.antt`,
-//!   `specs/Target.antt` and `specs/Project.antt`; `specs/Document.antt` puts them together.
-//!   `specs/Values.antt` gives the meaning as a function of the bytes.
+//!   documents a project has. Each returns what the document means if all checks hold, and otherwise
+//!   the fault of the first check that fails. The checks are lists in `specs/ScanChecks.antt`,
+//!   `specs/InfoChecks.antt`, `specs/TargetChecks.antt` and `specs/ProjectChecks.antt`. The meanings
+//!   are in `specs/Scan.antt`, `specs/Info.antt`, `specs/Target.antt` and `specs/Project.antt`;
+//!   `specs/Document.antt` puts them together. `specs/Values.antt` gives the meaning as a function
+//!   of the bytes.
 //! - `document` makes a tree of a document's bytes by `serde_json` and reads its version, and
-//!   `shape` asks the tree for members of a type. `rule` reads rules whose names the tree lends, and
-//!   `lent_rule` gives them names of their own. The tree is dropped once the value is made.
-//! - [`laws`] proves of all bytes that they have one answer at most, and that the value of an
-//!   accepted document is that of the function.
-//! - [`info_write`] gives the one text of an info (`specs/InfoText.antt`), which is read as the
-//!   same info; [`lent_info_write`] the same of an info whose parts are lent. The law
+//!   `shape` returns members of the tree that have a type. The names of a scan document or an info
+//!   document share one string (`SharedNames` in `name`), which is collected from the tree first.
+//!   The tree is dropped once the value is made.
+//! - [`laws`] proves that all bytes have one result at most, and that the value of an accepted
+//!   document is the value of the function.
+//! - [`info_write`] returns the one text of an info (`specs/InfoText.antt`), which is read as the
+//!   same info. [`lent_info_write`] does so for an info whose parts are borrowed. The law
 //!   [`laws::info_again`] says so of the text of every sound info (`specs/Sound.antt`).
-//! - [`Name`] and [`TargetName`] hold texts that are names (`specs/Name.antt`).
+//! - [`Name`] and [`TargetName`] hold strings that are names (`specs/Name.antt`).
 //! - [`DocFault`], [`Place`] and [`Member`] print themselves (`specs/FaultTexts.antt`,
 //!   `specs/Place.antt`, `specs/Member.antt`).
 //!
@@ -26,11 +27,11 @@
 //! the tokens of the text, what they are parsed as, and that the text is UTF-8, each in a file of
 //! `proofs/`.
 //!
-//! `must-fail/` has a wrong body of each public function but of the laws, which have none.
-//! `name_bytes_of_another` has the clause of [`Name::text`] and [`TargetName::text`] too,
-//! `name_copy_of_another` that of [`TargetName::copy`], `first_module_written_for_each` that of
-//! both calls that write an info. `path_fault_not_printed` stands for the texts of [`Place`] and
-//! [`Member`], whose clauses are of its form.
+//! `must-fail/` has a wrong body for each public function except the laws, which have no bodies.
+//! The clause that refuses `name_bytes_of_another` is also that of [`Name::text`] and
+//! [`TargetName::text`]. `name_copy_of_another` also stands for the copies of [`TargetName`],
+//! `first_module_written_for_each` for both functions that write an info, and
+//! `indexes_of_a_place_swapped` for the texts of [`DocFault`] and [`Member`].
 #![tactic(auto)]
 
 mod document;
@@ -38,7 +39,6 @@ mod fault;
 mod info;
 mod info_text;
 pub mod laws;
-mod lent_rule;
 mod map_form;
 mod member;
 mod name;

@@ -1,10 +1,9 @@
 //! Names of modules.
 
-ghost use Rattle.std.specs.Prelude.{◌≡◌, ◌==◌, ◌&&◌, IfOk, OnOk, IsTrue, IsUtf8, length, drop, nat_le, count_by};
+ghost use Rattle.std.specs.Prelude.{◌≡◌, ◌==◌, ◌&&◌, IfOk, IsTrue, IsUtf8, nat_le, count_by};
 ghost use Rattle.std.specs.Option.{SomeIff};
 ghost use Rattle.std.specs.List.{list_all, slice_split};
 ghost use Rattle.scan_docs.specs.Name.{is_name, is_name_byte, is_separator, is_not_empty, IsName};
-ghost use Rattle.scan_docs.specs.inner.SharedNames.{IsFront};
 
 use std::alloc::{AllocError, Global};
 use std::cmp::Ordering;
@@ -119,45 +118,36 @@ impl Clone for Name {
     }
 }
 
-/// A text from whose front names are taken, which share it. A contract sees what is left of it.
+/// The names of a document, one after the other in one string. A name that is made of it shares
+/// that string, so the names of a document need one allocation.
 #[derive(Drop)]
-pub(crate) struct SharedText {
+pub(crate) struct SharedNames {
     text: RcSlice<u8>,
+    /// The names before this offset are made.
     start: usize,
 }
 
-impl Model for SharedText {
-    ghost use Rattle.std.specs.Prelude.{◌≤◌, length, drop};
-    ghost use Rattle.std.specs.Rc.{rc_slice_items};
-    ghost use Rattle.ninja_text.specs.Bytes.{Bytes};
-
-    ghost Value = { Bytes };
-
-    ghost view = { λ s. drop s.start (rc_slice_items s.text) };
-
-    ghost invariant = { λ s. s.start ≤ length (rc_slice_items s.text) };
-}
-
-impl SharedText {
-    pub(crate) fn new(text: Vec<u8>) -> Result<SharedText, AllocError>
-        ensures { IfOk result (λ shared. shared ≡ text.items) }
-    {
+impl SharedNames {
+    pub(crate) fn new(text: Vec<u8>) -> Result<SharedNames, AllocError> {
         let text = RcSlice::from_vec(text)?;
-        Ok(SharedText { text, start: 0 })
+        Ok(SharedNames { text, start: 0 })
     }
 
-    /// The name of this text, which is in front.
-    pub(crate) fn take(&mut self, text: &str) -> Result<Name, AllocError>
-        requires name { IsName text.now }
-        requires front { IsFront text.now self.old }
-        ensures name { IfOk result (λ name. name ≡ text.now) }
-        ensures left { OnOk result (self.new ≡ drop (length text.now) self.old) }
+    /// Returns the name of a string. It shares the string of the names if it is the next of them.
+    pub(crate) fn make(&mut self, alloc: Global, text: &str) -> Result<Name, AllocError>
+        requires { IsName text.now }
+        ensures { IfOk result (λ name. name ≡ text.now) }
     {
-        let shared = self.text.clone()?;
         let start = self.start;
-        let end = start + text.len();
-        self.start = end;
-        Ok(Name { shared, start, end })
+        let end = start.saturating_add(text.len());
+        match self.text.as_slice().get(start..end) {
+            Some(next) if next == text.as_bytes() => {
+                let shared = self.text.clone()?;
+                self.start = end;
+                Ok(Name { shared, start, end })
+            }
+            _ => Name::with_own_text(alloc, text.as_bytes()),
+        }
     }
 }
 

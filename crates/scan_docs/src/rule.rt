@@ -7,7 +7,6 @@ ghost use Rattle.serde_json.specs.Data.{Data};
 ghost use Rattle.serde_json.specs.View.{view};
 ghost use Rattle.scan_docs.specs.Check.{◌otherwise◌};
 ghost use Rattle.scan_docs.specs.inner.Reading.{Answers, Tests, AnswersPath};
-ghost use Rattle.scan_docs.specs.inner.SharedNames.{lent_pairs, lent_names};
 ghost use Rattle.scan_docs.specs.Shape.{text, entries_of, given};
 ghost use Rattle.scan_docs.specs.Name.{is_name, IsName};
 ghost use Rattle.scan_docs.specs.Scan.{IsText, object_of, file_from, names_header, made_file, dashed, IsProvidedModule, IsRequired, IsRule};
@@ -15,9 +14,8 @@ ghost use Rattle.scan_docs.specs.ScanChecks.{rule_shape_checks, object_checks, c
 ghost use Rattle.scan_docs.specs.declared.member.Member.TheVariants as m;
 
 use crate::fault::{DocFault, Place, bad_shape, path_at};
-use crate::lent_rule::LentRule;
 use crate::member::Member;
-use crate::name::{Name, is_name};
+use crate::name::{Name, SharedNames, is_name};
 use crate::scan_document::COUNT_LIMIT;
 use crate::setting::Setting;
 use crate::shape;
@@ -57,20 +55,21 @@ struct RuleMembers<'v> {
 }
 
 #[tactic(auto, unfolding(crate::specs::ScanChecks::rule_checks), using(crate::proofs::Each::failure_of_both))]
-pub(crate) fn read_rule<'v>(
+pub(crate) fn read_rule(
     alloc: Global,
+    names: &mut SharedNames,
     setting: &Setting,
     rule: usize,
-    value: &'v Value,
-) -> Result<LentRule<'v>, Failure<DocFault>>
+    value: &Value,
+) -> Result<Rule, Failure<DocFault>>
     ensures { Answers (rule_checks setting.now rule (view value.now))
         (IsRule setting.now (view value.now)) result }
 {
     let place = Place::Rule { rule };
     let members = read_members(place, value)?;
     let object = read_object(alloc, setting, place, members)?;
-    let (provided, required) = read_modules(alloc, setting, rule, members)?;
-    Ok(LentRule {
+    let (provided, required) = read_modules(alloc, names, setting, rule, members)?;
+    Ok(Rule {
         object,
         provided,
         required,
@@ -103,12 +102,13 @@ fn read_object(
 }
 
 /// The modules that the rule's source provides and requires, of which there may be too many.
-fn read_modules<'v>(
+fn read_modules(
     alloc: Global,
+    names: &mut SharedNames,
     setting: &Setting,
     rule: usize,
-    members: RuleMembers<'v>,
-) -> Result<(Vec<(&'v str, Path)>, Vec<&'v str>), Failure<DocFault>>
+    members: RuleMembers<'_>,
+) -> Result<(Vec<(Name, Path)>, Vec<Name>), Failure<DocFault>>
     ensures { Answers (count_checks (Place.Rule rule) (map view members.entry.provided.now)
         (map view members.entry.required.now)
         ++ (all_provided_checks setting.now (option_copied members.entry.work_directory) rule
@@ -117,9 +117,9 @@ fn read_modules<'v>(
         (λ found. AllZip
         (IsProvidedModule setting.now (option_copied members.entry.work_directory))
         (map view members.entry.provided.now)
-        (lent_pairs found.0.items)
+        found.0.items
         × AllZip IsRequired (map view members.entry.required.now)
-        (lent_names found.1.items)) result }
+        found.1.items) result }
 {
     if members.provided.len() > COUNT_LIMIT || members.required.len() > COUNT_LIMIT {
         return Err(Failure::Fault(DocFault::TooLarge {
@@ -127,8 +127,8 @@ fn read_modules<'v>(
         }));
     }
     let work = members.work_directory;
-    let provided = read_all_provided(alloc, setting, work, rule, members.provided)?;
-    let required = read_all_required(alloc, rule, members.required)?;
+    let provided = read_all_provided(alloc, names, setting, work, rule, members.provided)?;
+    let required = read_all_required(alloc, names, rule, members.required)?;
     Ok((provided, required))
 }
 
@@ -154,50 +154,51 @@ fn read_members<'v>(place: Place, rule: &'v Value) -> Result<RuleMembers<'v>, Fa
 }
 
 #[tactic(auto, unfolding(crate::specs::ScanChecks::all_provided_checks))]
-fn read_all_provided<'v>(
+fn read_all_provided(
     alloc: Global,
+    names: &mut SharedNames,
     setting: &Setting,
     work: Option<&str>,
     rule: usize,
-    entries: &'v [Value],
-) -> Result<Vec<(&'v str, Path)>, Failure<DocFault>>
+    entries: &[Value],
+) -> Result<Vec<(Name, Path)>, Failure<DocFault>>
     ensures { Answers
         (all_provided_checks setting.now (option_copied work.entry) rule (map view entries.now))
         (λ found. AllZip (IsProvidedModule setting.now (option_copied work.entry))
-        (map view entries.now) (lent_pairs found.items)) result }
+        (map view entries.now) found.items) result }
 {
     let mut found = Vec::with_capacity(alloc, entries.len())?;
     for (entry, value) in entries.iter().enumerate() {
         let place = Place::Provides { rule, entry };
-        let pair = read_provided(alloc, setting, work, place, value)?;
+        let pair = read_provided(alloc, names, setting, work, place, value)?;
         found.push(pair)?;
     }
     Ok(found)
 }
 
 #[tactic(auto, unfolding(crate::specs::ScanChecks::provided_checks))]
-fn read_provided<'v>(
+fn read_provided(
     alloc: Global,
+    names: &mut SharedNames,
     setting: &Setting,
     work: Option<&str>,
     place: Place,
-    entry: &'v Value,
-) -> Result<(&'v str, Path), Failure<DocFault>>
+    entry: &Value,
+) -> Result<(Name, Path), Failure<DocFault>>
     ensures { Answers
         (provided_checks setting.now (option_copied work.entry) place (view entry.now))
-        (λ found. IsProvidedModule setting.now (option_copied work.entry) (view entry.now)
-        (found.0.now, found.1)) result }
+        (IsProvidedModule setting.now (option_copied work.entry) (view entry.now)) result }
 {
     shape::check_object(entry, Member::Entry, place)?;
-    let name = shape::required_text(entry, Member::LogicalName, place)?;
-    let file = shape::text(entry, Member::CompiledModulePath, place)?;
+    let text = shape::required_text(entry, Member::LogicalName, place)?;
+    let path = shape::text(entry, Member::CompiledModulePath, place)?;
     let unique = shape::flag(entry, Member::UniqueOnSourcePath, place)?;
     let _ = shape::flag(entry, Member::IsInterface, place)?;
     if unique == Some(true) {
         return Err(Failure::Fault(DocFault::HeaderUnit { place }));
     }
-    let name = accepted_name(name, place)?;
-    let file = read_file(alloc, setting, work, place, name, file)?;
+    let name = read_shared_name(alloc, names, text, place)?;
+    let file = read_file(alloc, setting, work, place, text, path)?;
     Ok((name, file))
 }
 
@@ -223,28 +224,33 @@ fn read_file(
 }
 
 #[tactic(auto, unfolding(crate::specs::ScanChecks::all_required_checks))]
-fn read_all_required<'v>(
+fn read_all_required(
     alloc: Global,
+    names: &mut SharedNames,
     rule: usize,
-    entries: &'v [Value],
-) -> Result<Vec<&'v str>, Failure<DocFault>>
+    entries: &[Value],
+) -> Result<Vec<Name>, Failure<DocFault>>
     ensures { Answers (all_required_checks rule (map view entries.now))
-        (λ found. AllZip IsRequired (map view entries.now)
-        (lent_names found.items)) result }
+        (λ found. AllZip IsRequired (map view entries.now) found.items) result }
 {
     let mut found = Vec::with_capacity(alloc, entries.len())?;
     for (entry, value) in entries.iter().enumerate() {
         let place = Place::Requires { rule, entry };
-        let name = read_required(place, value)?;
+        let name = read_required(alloc, names, place, value)?;
         found.push(name)?;
     }
     Ok(found)
 }
 
 #[tactic(auto, unfolding(crate::specs::ScanChecks::required_checks))]
-fn read_required<'v>(place: Place, entry: &'v Value) -> Result<&'v str, Failure<DocFault>>
+fn read_required(
+    alloc: Global,
+    names: &mut SharedNames,
+    place: Place,
+    entry: &Value,
+) -> Result<Name, Failure<DocFault>>
     ensures { Answers (required_checks place (view entry.now))
-        (λ name. IsRequired (view entry.now) name.now) result }
+        (λ name. IsRequired (view entry.now) name) result }
 {
     shape::check_object(entry, Member::Entry, place)?;
     let name = shape::required_text(entry, Member::LogicalName, place)?;
@@ -253,7 +259,7 @@ fn read_required<'v>(place: Place, entry: &'v Value) -> Result<&'v str, Failure<
     if unique == Some(true) || header {
         return Err(Failure::Fault(DocFault::HeaderUnit { place }));
     }
-    accepted_name(name, place)
+    read_shared_name(alloc, names, name, place)
 }
 
 /// Whether a requirement is looked up as a header.
@@ -280,6 +286,20 @@ fn accepted_name(text: &str, place: Place) -> Result<&str, Failure<DocFault>>
         return Err(Failure::Fault(DocFault::BadName { place }));
     }
     Ok(text)
+}
+
+/// The name of a module, which has to be accepted, made of the names of its document.
+pub(crate) fn read_shared_name(
+    alloc: Global,
+    names: &mut SharedNames,
+    text: &str,
+    place: Place,
+) -> Result<Name, Failure<DocFault>>
+    ensures { Tests (is_name text.now otherwise DocFault.BadName place)
+        (λ name. (name ≡ text.now) × IsName name) result }
+{
+    let text = accepted_name(text, place)?;
+    Ok(names.make(alloc, text)?)
 }
 
 /// The name of a module, which has to be accepted.

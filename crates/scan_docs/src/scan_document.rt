@@ -1,10 +1,11 @@
 //! Scan documents (P1689R5).
 
 ghost use Rattle.std.specs.Prelude.{◌≡◌, map, IfOk, IfErr};
-ghost use Rattle.std.specs.List.{AllZip, All};
+ghost use Rattle.std.specs.List.{AllZip, All, flat_map};
 ghost use Rattle.ninja_text.specs.Failure.{ForFault};
 ghost use Rattle.serde_json.specs.View.{view};
 ghost use Rattle.scan_docs.specs.inner.Reading.{Answers};
+ghost use Rattle.scan_docs.specs.inner.SharedNames.{rule_names};
 ghost use Rattle.scan_docs.specs.Document.{IsAccepted, IsRefused, HasOneAnswer};
 ghost use Rattle.scan_docs.specs.Scan.{IsRule, AreRules, IsRuleText};
 ghost use Rattle.scan_docs.specs.ScanChecks.{all_rule_checks, scan_checks};
@@ -12,14 +13,14 @@ ghost use Rattle.scan_docs.specs.Values.{rules_of};
 
 use crate::document::{read_tree, read_version};
 use crate::fault::{DocFault, Place};
-use crate::lent_rule::{push_names, with_names};
 use crate::member::Member;
+use crate::name::SharedNames;
 use crate::rule::{Rule, read_rule};
 use crate::setting::Setting;
 use crate::shape;
 use ninja_text::Failure;
 use serde_json::Value;
-use std::alloc::Global;
+use std::alloc::{AllocError, Global};
 
 /// The most rules of a document, and entries of one of a rule's lists.
 pub const COUNT_LIMIT: usize = 65536;
@@ -70,13 +71,25 @@ fn read_all_rules(
     ensures { Answers (all_rule_checks setting.now (map view rules.now))
         (λ found. AllZip (IsRule setting.now) (map view rules.now) found.items) result }
 {
-    let mut lent = Vec::with_capacity(alloc, rules.len())?;
-    let mut names = Vec::new(alloc);
+    let mut names = SharedNames::new(names_of_rules(alloc, rules)?)?;
+    let mut found = Vec::with_capacity(alloc, rules.len())?;
     for (index, value) in rules.iter().enumerate() {
-        let rule = read_rule(alloc, setting, index, value)?;
-        push_names(&rule, &mut names)?;
-        lent.push(rule)?;
+        let rule = read_rule(alloc, &mut names, setting, index, value)?;
+        found.push(rule)?;
     }
-    let rules = with_names(alloc, lent, names)?;
-    Ok(rules)
+    Ok(found)
+}
+
+/// The names of the modules that rules provide and require, in the order in which they are read.
+fn names_of_rules(alloc: Global, rules: &[Value]) -> Result<Vec<u8>, AllocError>
+    ensures { IfOk result (λ names. names.items ≡ flat_map rule_names (map view rules.now)) }
+{
+    let mut names = Vec::new(alloc);
+    for rule in rules {
+        let provided = shape::entries_or_none(rule, Member::Provides);
+        shape::push_texts(&mut names, provided, Member::LogicalName)?;
+        let required = shape::entries_or_none(rule, Member::Requires);
+        shape::push_texts(&mut names, required, Member::LogicalName)?;
+    }
+    Ok(names)
 }

@@ -1,11 +1,12 @@
 //! Members of an object, by the shape that they should have.
 
-ghost use Rattle.std.specs.Prelude.{◌≡◌, Some, map, option_map, option_copied, is_some, IfOk, string_bytes};
+ghost use Rattle.std.specs.Prelude.{◌≡◌, ◌++◌, Some, map, option_map, option_copied, is_some, IfOk, OnOk, string_bytes};
+ghost use Rattle.std.specs.List.{flat_map};
 ghost use Rattle.serde_json.specs.View.{view};
 ghost use Rattle.scan_docs.specs.Check.{shape_check};
 ghost use Rattle.scan_docs.specs.inner.Reading.{Tests};
 ghost use Rattle.serde_json.specs.Find.{as_array};
-ghost use Rattle.scan_docs.specs.Shape.{elements, given, text, entries, entries_of, flag, fits, is_object, texts, texts_of, all_texts};
+ghost use Rattle.scan_docs.specs.Shape.{elements, given, text, text_of, entries, entries_of, flag, fits, is_object, texts, texts_of, all_texts};
 
 use crate::fault::{DocFault, Place, bad_shape};
 use crate::member::Member;
@@ -195,4 +196,41 @@ fn copy_texts(alloc: Global, values: &[Value]) -> Result<Option<Vec<String>>, Al
         found.push(copy)?;
     }
     Ok(Some(found))
+}
+
+/// Appends the member's text, if it has one.
+pub(crate) fn push_text(
+    texts: &mut Vec<u8>,
+    object: &Value,
+    member: Member,
+) -> Result<(), AllocError>
+    ensures { OnOk result
+        (texts.new.items ≡ texts.old.items ++ text_of member (view object.now)) }
+{
+    match given(object, member).and_then(Value::as_str) {
+        Some(text) => texts.extend_from_slice(text.as_bytes()),
+        None => Ok(()),
+    }
+}
+
+/// The member's entries, or none if it is no array.
+pub(crate) fn entries_or_none<'v>(object: &'v Value, member: Member) -> &'v [Value]
+    ensures { map view result.now ≡ entries_of member (view object.now) }
+{
+    given(object, member).and_then(elements).unwrap_or(&[])
+}
+
+/// Appends the text of the member of each object.
+pub(crate) fn push_texts(
+    texts: &mut Vec<u8>,
+    objects: &[Value],
+    member: Member,
+) -> Result<(), AllocError>
+    ensures { OnOk result (texts.new.items
+        ≡ texts.old.items ++ flat_map (text_of member) (map view objects.now)) }
+{
+    for object in objects {
+        push_text(texts, object, member)?;
+    }
+    Ok(())
 }

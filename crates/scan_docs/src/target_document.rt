@@ -203,7 +203,7 @@ fn read_names(alloc: Global, texts: &[String]) -> Result<Vec<Name>, Failure<DocF
     Ok(names)
 }
 
-/// The member `dyndep`, as it stands and as a path, which has to be one as Ninja sees it.
+/// The member `dyndep` and its path, which has to be one as Ninja sees it.
 #[tactic(auto, unfolding(crate::specs::TargetChecks::dyndep_checks))]
 fn read_dyndep(
     alloc: Global,

@@ -1,31 +1,17 @@
--- The text that the names of a document share.
-use Rattle.std.specs.Prelude.{◌≡◌, List, ◌++◌, map}
-use Rattle.std.specs.Borrow.{Bor}
+-- The strings that the names of a document share.
+use Rattle.std.specs.Prelude.{◌++◌}
 use Rattle.std.specs.List.{flat_map}
-use Rattle.ninja_text.specs.Bytes.{Bytes, PathText, Name}
-use Rattle.scan_docs.specs.Scan.{RuleValue}
+use Rattle.ninja_text.specs.Bytes.{Bytes}
+use Rattle.serde_json.specs.Data.{Data}
+use Rattle.scan_docs.specs.declared.member.Member.TheVariants as m
+use Rattle.scan_docs.specs.Shape.{text_of, entries_of}
 
--- the names that are lent
-abbrev pub lent_names : List (Bor Name) → List Name
-lent_names names = map (λ name. name.now) names
+-- the names of a module of an info, and of the modules that it requires
+abbrev pub module_names : Data → Bytes
+module_names d = text_of m.Name d ++ flat_map (text_of m.Name) (entries_of m.Requires d)
 
--- the provided modules whose names are lent
-abbrev pub lent_pairs : List (Bor Name × PathText) → List (Name × PathText)
-lent_pairs pairs = map (λ pair. (pair.0.now, pair.1)) pairs
-
--- names, one after the other
-abbrev pub required_text : List Name → Bytes
-required_text names = flat_map (λ name. name) names
-
--- those of provided modules
-abbrev pub provided_text : List (Name × PathText) → Bytes
-provided_text pairs = flat_map (λ pair. pair.0) pairs
-
--- those of a rule
-abbrev pub names_text : RuleValue → Bytes
-names_text rule = provided_text rule.provided ++ required_text rule.required
-
--- the text begins with this one
-pub record IsFront (front all : Bytes) : Type 0 where
-  pub others : Bytes
-  pub parts : all ≡ front ++ others
+-- the names of the modules that a rule provides and requires
+abbrev pub rule_names : Data → Bytes
+rule_names d =
+    flat_map (text_of m.LogicalName) (entries_of m.Provides d)
+    ++ flat_map (text_of m.LogicalName) (entries_of m.Requires d)

@@ -1,33 +1,21 @@
-use Rattle.std.proofs.Common.{append-nil, refl}
 use Rattle.std.proofs.lemmas.Result.{err_from_is_err_and}
-use Rattle.std.proofs.lemmas.Grind.{flat_map-append}
 use Rattle.serde_json.specs.View.{view}
 use Rattle.scan_docs.specs.Scan.{IsRule}
 use Rattle.scan_docs.specs.ScanChecks.{rule_checks}
 use Rattle.scan_docs.specs.ScanChecks.{all_rule_checks}
 use Rattle.scan_docs.proofs.Each.{one_more, refused_at, all_read}
-use Rattle.scan_docs.proofs.PathTexts.{rules_text}
 use Rattle.scan_docs.proofs.scan_document.read_all_rules.Goals as goal
 
 pub returns-in_err-rule : goal.returns-in_err-rule
 unfolding all_rule_checks
 returns-in_err-rule c =
     let p = err_from_is_err_and c.from_residual-in_err-rule.result c.from_residual-in_err-rule.ensures.1 in
-    rw (p.1, p.2) (λ ne. refused_at view (rule_checks c.args.setting.now) (IsRule c.args.setting.now) c.args.rules.now c.loop-index.index c.index-rules-index.result _ c.loop-index.lent.items c.loop-index-test.true c.index-rules-index.is (c.in_err-rule.ensures ne) c.loop-index.invariant.0)
+    rw (p.1, p.2) (λ ne. refused_at view (rule_checks c.args.setting.now) (IsRule c.args.setting.now) c.args.rules.now c.loop-index.index c.index-rules-index.result _ c.loop-index.found.items c.loop-index-test.true c.index-rules-index.is (c.in_err-rule.ensures ne) c.loop-index.invariant)
 
 pub loop-index-preserved : goal.loop-index-preserved
 loop-index-preserved c =
-    rw c.in_ok-push.ensures.items (
-      one_more view (rule_checks c.args.setting.now) (IsRule c.args.setting.now) c.args.rules.now c.loop-index.index c.index-rules-index.result c.in_ok-rule.rule c.loop-index.lent.items c.loop-index-test.true c.index-rules-index.is c.in_ok-rule.ensures.0 c.in_ok-rule.ensures.1 c.loop-index.invariant.0,
-      rw (c.in_ok-push_names.ensures, c.loop-index.invariant.1, flat_map-append, append-nil) refl,
-    )
-
-pub with_names-requires-clause-text : goal.with_names-requires-clause-text
-with_names-requires-clause-text c =
-    let read = all_read view (rule_checks c.args.setting.now) (IsRule c.args.setting.now) c.args.rules.now c.loop-index.index c.loop-index.lent.items c.loop-index-test.false c.loop-index.invariant.0 in
-    rules_text c.args.setting.now _ _ read.1
+    rw c.in_ok-push.ensures.items (one_more view (rule_checks c.args.setting.now) (IsRule c.args.setting.now) c.args.rules.now c.loop-index.index c.index-rules-index.result c.in_ok-rule.rule c.loop-index.found.items c.loop-index-test.true c.index-rules-index.is c.in_ok-rule.ensures.0 c.in_ok-rule.ensures.1 c.loop-index.invariant)
 
 pub returns : goal.returns
 unfolding all_rule_checks
-returns c =
-    rw c.in_ok-rules.ensures (all_read view (rule_checks c.args.setting.now) (IsRule c.args.setting.now) c.args.rules.now c.loop-index.index c.loop-index.lent.items c.loop-index-test.false c.loop-index.invariant.0)
+returns c = all_read view (rule_checks c.args.setting.now) (IsRule c.args.setting.now) c.args.rules.now c.loop-index.index c.loop-index.found.items c.loop-index-test.false c.loop-index.invariant
