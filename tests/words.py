@@ -5,6 +5,8 @@
 TURNS has what is not written, and what is written instead. Code in a text is passed over.
 """
 import re
+import shutil
+import subprocess
 import unittest
 from pathlib import Path
 
@@ -32,6 +34,8 @@ TURNS = [
     (r"at\s+hand", "available, here", "the line at hand", "the line that is lent"),
     (r"owes?|owed", "has to", "what a style owes", "what a style has to prove"),
 ]
+# The commit after which subjects are checked.
+CHECKED_SINCE = "dfbbbcd"
 FOUND = [(re.compile(rf"\b(?:{turn})\b"), instead) for turn, instead, _, _ in TURNS]
 CODE = re.compile(r"^```[^`]*^```$|^(?: {4}|\t)[^\n]*$|`[^`]*`|^\.Dl [^\n]*$|\]\([^)]*\)", re.M)
 
@@ -72,6 +76,15 @@ class Words(unittest.TestCase):
         for path in sources:
             with self.subTest(path.relative_to(TOP).as_posix()):
                 self.assertEqual(list(wrong(documented(path))), [])
+
+    def test_subjects(self):
+        """The subject of a commit has at most 72 columns. Older commits than this check are passed over."""
+        if not shutil.which("git") or not (TOP / ".git").exists():
+            self.skipTest("no git checkout")
+        asked = subprocess.run(["git", "log", "--format=%s", f"{CHECKED_SINCE}..HEAD"], cwd=TOP, capture_output=True, text=True, check=False)
+        if asked.returncode:
+            self.skipTest(f"the checkout does not reach back to {CHECKED_SINCE}")
+        self.assertEqual([subject for subject in asked.stdout.splitlines() if len(subject) > 72], [])
 
 
 if __name__ == "__main__":
