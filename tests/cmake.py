@@ -123,6 +123,8 @@ RULES = """rule CXX_DYNDEP__app_
   restat = 1
 rule CXX_DYNDEP__lib_
   command = "/opt/a cmake/bin/cmake" -E cmake_ninja_dyndep --tdi="a $$dir/CXXDependInfo.json" --lang=CXX --modmapfmt=gcc --dd=$out @$out.rsp
+rule CXX_DYNDEP__not_scanned_
+  command = /usr/bin/cmake -E cmake_ninja_dyndep --tdi=CMakeFiles/x.dir/CXXDependInfo.json --lang=CXX --modmapfmt=gcc --dd=$out @$out.rsp
 rule RERUN_CMAKE
   command = /usr/bin/cmake --regenerate-during-build -S/src -B/build
   generator = 1
@@ -158,7 +160,7 @@ class NinjaFiles(Case):
         self.assertEqual(self.found(), found)
 
     def adopt(self, build="b", said=""):
-        self.assertEqual(adapter("adopt", build), (0, f"{said}dyncollate-cmake: 2 steps of {build} call {program.PROGRAM}\n"))
+        self.assertEqual(adapter("adopt", build), (0, f"dyncollate-cmake: 2 targets of {build} are collated by {program.PROGRAM}\n{said}"))
 
     def test_adopt_and_restore(self):
         """Only what calls CMake's step for C++, or CMake itself, is changed. Both commands can be repeated."""
@@ -167,7 +169,7 @@ class NinjaFiles(Case):
         self.adopt()
         self.assertEqual(self.found(), once)
         lines = [(old, new) for name in once for old, new in zip(self.texts[name].splitlines(), once[name].splitlines()) if old != new]
-        self.assertEqual(len(lines), 4)
+        self.assertEqual(len(lines), 5)
         for old, new in lines:
             command = old.partition(" = ")[2]
             self.assertTrue(new.endswith(f" --in-place-of {command}") or f" = {command} && " in new, new)
@@ -221,7 +223,11 @@ class NinjaFiles(Case):
 
     def test_no_step(self):
         self.lay("b", "rule x\n" + FORTRAN)
-        self.fails("b has no step that collates C++ modules", "adopt", "b")
+        self.fails("b has no target whose sources are scanned for C++ modules", "adopt", "b")
+        self.lay("b", RULES)
+        for name in Path("b").rglob("CXXDependInfo.json"):
+            os.remove(name)
+        self.fails("b has no target whose sources are scanned for C++ modules", "adopt", "b")
 
     def test_no_ninja_files(self):
         for command in "adopt", "restore":
@@ -248,7 +254,7 @@ class NinjaFiles(Case):
             put(name, "#!/bin/sh\n")
             os.chmod(name, 0o755)
             called = output_of(sys.executable, "bin/dyncollate-cmake", "adopt", "b", env=environment | {"PATH": path})
-            self.assertEqual(called, (0, f"dyncollate-cmake: 2 steps of b call {os.getcwd()}/{name}\n"))
+            self.assertEqual(called, (0, f"dyncollate-cmake: 2 targets of b are collated by {os.getcwd()}/{name}\n"))
             os.remove(name)
 
     def test_usage(self):

@@ -20,8 +20,8 @@ IMPORT_STD = {(3, 30): "0e5b6991-d74f-4b3d-a41c-cf096e0b2508", (3, 31): "0e5b699
               (4, 3): "451f2fe2-a8a2-47c3-bc32-94786d8fc91b"}
 HEAD = "cmake_minimum_required(VERSION 3.28)\nproject(p CXX)\nset(CMAKE_CXX_STANDARD 20)\n"
 
-# A library with a partition, an implementation and a private module; two that link it, of which one does not pass that on; and
-# two programs. `far` imports from `base` only through `hidden`.
+# A library with a partition, an implementation and a private module; two that link it, of which one does not pass that on; one
+# that is not scanned; and two programs. `far` imports from `base` only through `hidden`.
 PROJECT = {
     "CMakeLists.txt": HEAD + """set(CMAKE_POSITION_INDEPENDENT_CODE ON)
 add_library(base STATIC base.cpp)
@@ -33,8 +33,10 @@ target_link_libraries(mid PUBLIC base)
 add_library(hidden SHARED)
 target_sources(hidden PUBLIC FILE_SET CXX_MODULES FILES h0.cppm)
 target_link_libraries(hidden PRIVATE base)
+add_library(plain STATIC plain.cpp)
+set_target_properties(plain PROPERTIES CXX_SCAN_FOR_MODULES OFF)
 add_executable(app main.cpp u1.cpp u2.cpp)
-target_link_libraries(app PRIVATE mid)
+target_link_libraries(app PRIVATE mid plain)
 add_executable(far far.cpp)
 target_link_libraries(far PRIVATE hidden)
 """,
@@ -47,7 +49,8 @@ target_link_libraries(far PRIVATE hidden)
     "m0.cppm": "export module m0;\nimport b1;\nexport inline int fm0() { return fb1(); }\n",
     "m1.cppm": "export module m1;\nexport inline int fm1() { return 1; }\n",
     "h0.cppm": "export module h0;\nimport b1;\nexport inline int fh0() { return fb1(); }\n",
-    "main.cpp": "int u1(); int u2();\nint main() { return u1() - u2(); }\n",
+    "plain.cpp": "int plain() { return 0; }\n",
+    "main.cpp": "int u1(); int u2(); int plain();\nint main() { return plain() + u1() - u2(); }\n",
     "u1.cpp": "import m0;\nint u1() { return fm0(); }\n",
     "u2.cpp": "import m1;\nint u2() { return fm1(); }\n",
     "far.cpp": "import h0;\nint main() { return fh0() - 1; }\n",
@@ -240,7 +243,7 @@ class Edits:
     """A project from scratch and after an edit of each kind."""
     base = ["b0.cppm", "b0p.cppm", "b1.cppm", "b2.cppm", "own.cppm", "base.cpp"]
     users = ["m0.cppm", "h0.cppm", "u1.cpp", "far.cpp"]
-    others = ["m1.cppm", "main.cpp", "u2.cpp"]
+    others = ["m1.cppm", "main.cpp", "u2.cpp", "plain.cpp"]
 
     def setUp(self):
         super().setUp()
