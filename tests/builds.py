@@ -450,6 +450,8 @@ class WithClang(Folder):
 
     def test_a_scan_by_the_compilation_database(self):
         """It says the same as those of each source."""
+        if version("scanner") < (17,):
+            self.skipTest("a scanner that reads response files in a database: not there")
         self.copy("single", "clang")
         self.ninja()
         scanned = subprocess.run([tool("scanner"), "-format=p1689", "-compilation-database=compile_commands.json"],

@@ -8,7 +8,7 @@ import sys
 from pathlib import Path
 
 from tests.builds import TOP, Folder, edit, touch
-from tests.tools import of_versions, output_of, tool
+from tests.tools import of_versions, output_of, tool, version
 
 GENERATE = TOP / "examples/generate"
 
@@ -207,6 +207,25 @@ class WithClang(Folder):
     tools = ["ninja", "clang", "scanner"]
     form = "clang"
 
+    def test_an_info_that_stays_the_same(self):
+        """The targets that link it are not collated. The step is done, and has nothing to do in the next run."""
+        self.copy("libs", self.form)
+        self.makes("42")
+        edit("src/math/sum.cpp", "^module sum;", r"\g<0>\nimport number;")
+        self.ninja()
+        self.compiled("src/math/sum.cpp")
+        collated = self.steps("COLLATE")
+        self.idle()
+        if not self.leaves_files_alone():
+            self.skipTest("a program that takes `restat`: not there")
+        self.assertEqual(collated, ["dd/math.target.json"])
+
+    def leaves_files_alone(self):
+        """Whether the program leaves an info alone that has the right bytes."""
+        before = os.stat("dd/app.info.json")
+        self.assertEqual(self.call("collate", "dd/app.target.json"), (0, ""))
+        return os.path.samestat(os.stat("dd/app.info.json"), before)
+
     def project(self, **files):
         """Writes the list and the sources of a project, by names in which `__` is a slash and `_` a dot."""
         for name, text in files.items():
@@ -243,6 +262,9 @@ class WithClang(Folder):
         Path("number").write_text("42\n")
         self.makes("42 42")
         self.assertEqual(self.steps("HEADER"), ["gen/number.h"])
+        if version("ninja") < (1, 11):
+            # it scans once more
+            self.ninja()
         self.idle()
 
     def test_names_that_are_escaped(self):
