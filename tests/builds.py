@@ -174,7 +174,8 @@ class Built:
         file_of = {it: f"bmi/{target_of[it]}/{it.replace(':', '-')}.pcm" for it in target_of}
         provided = ["-x", "c++-module", f"-fmodule-output={file_of[source.module]}"] if source.module else []
         # which warnings there are is in a module's file
-        return [tool("clang"), "-std=c++20", "-Wno-unused-command-line-argument", *provided, *(f"-fmodule-file={it}={file_of[it]}" for it in source.needs), *result]
+        found = [f"-fmodule-file={it}={file_of[it]}" for it in source.needs]
+        return [tool("clang"), "-std=c++20", "-Wno-unused-command-line-argument", *provided, *found, *result]
 
     def test_objects_and_module_files_are_those_of_a_build_ordered_by_hand(self):
         """Clang 19 writes one of several texts for some module files, by the addresses that it gets. So this is tried some
@@ -503,7 +504,8 @@ class GuideCommands(Folder):
         shutil.copytree(TOP / "examples", "examples", ignore=shutil.ignore_patterns("build", "dd", "scan", "obj", "bmi"))
         os.mkdir("bin")
         os.symlink(program.PROGRAM, "bin/dyncollate")
-        self.environment = {name: text for name, text in os.environ.items() if name not in ("DYNCOLLATE", *map(str.upper, TOOLS))}
+        named = ("DYNCOLLATE", *map(str.upper, TOOLS))
+        self.environment = {name: text for name, text in os.environ.items() if name not in named}
         self.environment["PATH"] = f"{os.getcwd()}/bin:{os.environ['PATH']}"
 
     def commands(self, title):
@@ -547,8 +549,8 @@ class GuideCommands(Folder):
 PARTS = "d/" * 60
 V = "ninja_dyndep_version = 1\n"
 
-# Who takes a dyndep file, why it is looked at, and its text. The edge of `o` names it, and an edge makes `n`. What only Ninja 1.11
-# does not take has that version.
+# Who takes a dyndep file, why it is looked at, and its text. The edge of `o` names it, and an edge makes `n`. Where Ninja 1.11
+# does not take what later versions do, that is 1.11.
 READERS = [
     ("both", "one statement", V + "build o: dyndep | in\n"),
     ("both", "lines that end in CR LF", "ninja_dyndep_version = 1\r\nbuild o: dyndep | in\r\n"),

@@ -16,7 +16,8 @@ GENERATE = TOP / "examples/generate"
 FAULTY = [
     ("a misspelt kind", "libary a a.cpp", "line 1 of the list: there is no kind libary"),
     ("a kind alone", "# a comment\n\nlibrary", "line 3 of the list: a library needs a name of letters, digits, and _ . + -"),
-    ("a name with a space", "program 'a b' a.cpp", "line 1 of the list: a program needs a name of letters, digits, and _ . + -"),
+    ("a name with a space", "program 'a b' a.cpp",
+     "line 1 of the list: a program needs a name of letters, digits, and _ . + -"),
     ("a quote that is not closed", "program a 'a.cpp", "line 1 of the list: No closing quotation"),
     ("no source", "library a -DA", "line 1 of the list: a has no source"),
     ("a repeated target", "library a a.cpp\nlibrary a b.cpp", "line 2 of the list: there are two of a"),
@@ -39,7 +40,8 @@ class Lists(Folder):
 
     def says(self, *words):
         """What the script prints on standard error, which is a line or nothing, and its status."""
-        ran = subprocess.run([sys.executable, GENERATE, *words], env=self.environment, capture_output=True, text=True, check=False)
+        ran = subprocess.run([sys.executable, GENERATE, *words], env=self.environment, capture_output=True, text=True,
+                             check=False)
         self.assertLessEqual(ran.stderr.count("\n"), 1, ran.stderr)
         self.printed = ran.stdout
         return ran.returncode, ran.stderr
@@ -101,7 +103,6 @@ class Lists(Folder):
 class OutOfSource:
     """What each form of manifest is tested for in a folder below the project's."""
     form, tools = "clang", ["ninja", "clang", "scanner"]
-    partition = "export module sum:detail;\nimport number;\nexport Number twice(Number number) { return plus(number, number); }\n"
 
     def begin(self, example="libs"):
         self.copy(example)
@@ -160,7 +161,7 @@ class OutOfSource:
         self.idle()
         touch("../targets")
         self.ninja()
-        self.assertEqual((self.status, len(re.findall(r"^\[", self.log, re.M))), (0, 1), "it writes the same, and all else stays")
+        self.assertEqual((self.status, len(re.findall(r"^\[", self.log, re.M))), (0, 1), "the same is written, all else stays")
         self.idle()
         with open("../targets", "a", encoding="utf-8") as file:
             file.write("libary\n")
@@ -251,7 +252,8 @@ class WithClang(Folder):
 
     def test_a_generated_header(self):
         """It is there before the sources of the targets that name it, or a library that does, are scanned."""
-        self.project(targets="header number.h make.sh number\nprogram app main.cpp -- math\nlibrary math math.cppm -- number.h\n",
+        self.project(targets="header number.h make.sh number\nprogram app main.cpp -- math\n"
+                             "library math math.cppm -- number.h\n",
                      make_sh='echo "#define NUMBER $(cat "$1")"\n', number="41\n",
                      math_cppm='module;\n#include "number.h"\nexport module math;\nexport int number() { return NUMBER; }\n',
                      main_cpp='#include "number.h"\n#include <cstdio>\nimport math;\n'
@@ -327,21 +329,23 @@ class Repository(Folder):
         """So ./release, which takes a tree that is as committed, does not stop at it."""
         if not shutil.which("git"):
             self.skipTest("git: not there")
+        # without what git tells a hook of the repository that it is called in
+        environment = {name: text for name, text in os.environ.items() if not name.startswith("GIT_")}
+
+        def git(*words, **given):
+            return output_of("git", *words, env=environment, **given)
         shutil.copytree(TOP / "examples", "examples", ignore=lambda folder, names: [
-            it for it in names if output_of("git", "check-ignore", "-q", Path(folder, it), cwd=TOP)[0] == 0])
+            it for it in names if git("check-ignore", "-q", Path(folder, it), cwd=TOP)[0] == 0])
         shutil.copy(TOP / ".gitignore", ".")
         for words in ["init", "-q"], ["add", "."], ["-c", "user.name=a", "-c", "user.email=a@b", "commit", "-qm", "all"]:
-            subprocess.run(["git", *words], check=True)
+            self.assertEqual(git(*words), (0, ""))
         top = os.getcwd()
-        for example in "single", "libs", "hello":
-            for below in ".", "build":
-                os.chdir(Path(top, "examples", example))
-                os.makedirs(below, exist_ok=True)
-                os.chdir(below)
-                if example != "hello":
-                    self.generate("project" if example == "libs" else "clang", os.path.relpath("../targets" if below == "build" else "targets"))
-                elif below == "build":
-                    continue
-                self.assertEqual(self.ninja()[0], 0, self.log)
-        os.chdir(top)
-        self.assertEqual(output_of("git", "status", "--porcelain"), (0, ""))
+        for folder, form, listed in [("single", "clang", "targets"), ("single/build", "clang", "../targets"),
+                                     ("libs", "project", "targets"), ("hello", "", "")]:
+            os.makedirs(f"examples/{folder}", exist_ok=True)
+            os.chdir(f"examples/{folder}")
+            if form:
+                self.generate(form, listed)
+            self.assertEqual(self.ninja()[0], 0, self.log)
+            os.chdir(top)
+        self.assertEqual(git("status", "--porcelain"), (0, ""))

@@ -1,5 +1,5 @@
-"""Compares docs/target.schema.json and docs/project.schema.json with the rows: a document that is rejected for what it says itself
-is not valid, and one that is accepted is. Python's `jsonschema` is needed, as Debian has it in python3-jsonschema."""
+"""Compares docs/target.schema.json and docs/project.schema.json with the rows: a document that is rejected for what it says
+itself is not valid, and one that is accepted is. Python's `jsonschema` is needed, as Debian has it in python3-jsonschema."""
 import json
 import os
 import re
@@ -19,8 +19,8 @@ BEYOND = {"S2 BadVersion: version b'1.0'", "S2 BadVersion: version b'1e0'", "S3 
 
 
 def documents(row):
-    """The target and project documents of a row that are known to be accepted or rejected: the kind, the text, and which. Whether
-    a text is JSON, and how long it may be, is no matter of a schema."""
+    """The target and project documents of a row that are known to be accepted or rejected: the kind, the text, and which.
+    Whether a text is JSON, and how long it may be, is no matter of a schema."""
     files, line = row.texts(), (row.line or b"").decode(errors="replace")
     kind = {"collate": "target", "project": "project"}.get("".join(row.words[:1]))
     if len(row.words) != 2 or not kind or row.words[1] not in files or re.search("S1 NotJson|S8 TooLarge", line):
@@ -57,7 +57,8 @@ class Schemas(unittest.TestCase):
     def test_documents_of_the_pages(self):
         """Those that GUIDE and the manual show are valid."""
         pages = [(DOCS / it).read_text() for it in ("GUIDE.md", "dyncollate.1")]
-        shown = [json.loads(it) for page in pages for it in re.findall(r'^ *(\{"version":1,\s*"target.*?\})$', page, re.M | re.S)]
+        texts = [it for page in pages for it in re.findall(r'^ *(\{"version":1,\s*"target.*?\})$', page, re.M | re.S)]
+        shown = [json.loads(it) for it in texts]
         for document in shown:
             self.assertTrue(self.valid["project" if "targets" in document else "target"](document), document)
         self.assertGreaterEqual(len(shown), 4)

@@ -113,7 +113,7 @@ class Manifests(Folder):
         self.assertIn("dyncollate: cannot read dd/base.info.json", self.log.splitlines())
 
     def test_cleandead(self):
-        """Ninja 1.11 deletes all module files, and the next run makes them again. From 1.12 on it reads dyndep files for that."""
+        """Ninja 1.11 deletes all module files, and the next run makes them again. From 1.12 on it reads dyndep files first."""
         self.copy("libs", "clang")
         self.makes("42")
         modules = sorted(Path("bmi").rglob("*.pcm"))
@@ -125,8 +125,8 @@ class Manifests(Folder):
         self.idle()
 
     def test_the_deps_lost_and_the_log_not(self):
-        """Ninja 1.11 compiles importers before their module, which ends well, with the old program. From 1.12 on Ninja ends by a
-        signal, run after run. The way out: the log is deleted, too."""
+        """Ninja 1.11 compiles importers before their module, which ends well, with the old program. From 1.12 on Ninja ends
+        by a signal, run after run. The way out: the log is deleted, too."""
         self.copy("single", "clang")
         self.makes("600")
         os.remove(".ninja_deps")
@@ -159,7 +159,8 @@ class Flags(Folder):
         Path("b.cpp").write_text("import a;\n")
         Path("map").write_text("a a.gcm\n")
         self.assertEqual(output_of(compiler, "-std=c++20", *words, *module, "-c", "a.cppm", "-o", "a.o")[0], 0)
-        importing = [compiler, *words, *([] if "-fmodules-ts" in words else ["-fmodule-file=a=a.pcm"]), "-c", "b.cpp", "-o", "b.o"]
+        found = [] if "-fmodules-ts" in words else ["-fmodule-file=a=a.pcm"]
+        importing = [compiler, *words, *found, "-c", "b.cpp", "-o", "b.o"]
         self.assertEqual([output_of(*importing, f"-std=c++{it}")[0] for it in ("20", "2b")], [0, 1])
 
     def test_with_clang(self):
@@ -328,11 +329,13 @@ class Documents(Folder):
 
     def test_header_units(self):
         """As GCC 14.2, 15.3 and 16.2 wrote them with `-fdeps-format=p1689r5`, and as P1689R5 says."""
-        Path("gcc.ddi").write_text('{"rules":[{"primary-output":"u.o","requires":[{"logical-name":"./h.h"}]}],"version":0,"revision":0}')
+        Path("gcc.ddi").write_text('{"rules":[{"primary-output":"u.o","requires":[{"logical-name":"./h.h"}]}],'
+                                   '"version":0,"revision":0}')
         self.assertEqual(self.call("one", "gcc.ddi", "bmi", ".gcm"), (1, "dyncollate: scan 0: S6 BadName rule 0 requires 0\n"))
         Path("marked.ddi").write_text('{"version":1,"rules":[{"primary-output":"u.o","requires":[{"logical-name":"./h.h",'
                                      '"lookup-method":"include-quote","unique-on-source-path":true}]}]}')
-        self.assertEqual(self.call("one", "marked.ddi", "bmi", ".pcm"), (1, "dyncollate: scan 0: S5 HeaderUnit rule 0 requires 0\n"))
+        self.assertEqual(self.call("one", "marked.ddi", "bmi", ".pcm"),
+                         (1, "dyncollate: scan 0: S5 HeaderUnit rule 0 requires 0\n"))
 
     def test_a_scan_document_names_any_path(self):
         """Its map is written there."""
