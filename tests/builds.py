@@ -520,18 +520,20 @@ class GuideCommands(Folder):
         self.assertEqual(status, 0, out)
         return out.splitlines()
 
+    def test_hello(self):
+        self.assertEqual(self.prints(*self.commands("Tools"), *self.commands("An example"))[-1], "hello")
+
     def test_a_build(self):
-        self.assertEqual(self.prints(*self.commands("Manifests that work"))[-1], "42")
+        self.assertEqual(self.prints(*self.commands("Tools"), *self.commands("Manifests that work"))[-1], "42")
 
     def test_import_std(self):
         if not standard_modules("clang++-19", "-stdlib=libc++", "-print-file-name=libc++.modules.json"):
             self.skipTest("libc++-19-dev: not there")
-        names = self.commands("Manifests that work")[0].splitlines()[0]
-        self.assertEqual(self.prints(names, *self.commands("`import std;`"))[-2:], ["one 2", "two 1"])
+        self.assertEqual(self.prints(*self.commands("Tools"), *self.commands("`import std;`"))[-2:], ["one 2", "two 1"])
 
     def test_a_build_that_fails(self):
         """What it says about finding files, and the order of all edges, or their cycle."""
-        names = self.commands("Manifests that work")[0].splitlines()[0]
+        names = self.commands("Tools")[0]
         self.prints(names, "cd examples/libs", "../generate project targets", "ninja")
         os.chdir("examples/libs")
         find, whole = self.commands("My build fails: what now")

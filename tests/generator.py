@@ -53,8 +53,11 @@ class Lists(Folder):
                 self.assertEqual(self.says("clang", "targets"), (1, f"generate: {said}\n"))
                 self.assertEqual(os.listdir(), ["targets"], "nothing was written")
 
-    def test_a_list_that_is_not_there(self):
+    def test_a_list_that_cannot_be_read(self):
         self.assertEqual(self.says("clang", "none"), (1, "generate: none: No such file or directory\n"))
+        Path("targets").write_bytes(b"program \xff a.cpp\n")
+        status, said = self.says("clang", "targets")
+        self.assertEqual((status, said[:len("generate: 'utf-8'")]), (1, "generate: 'utf-8'"))
 
     def test_a_missing_tool(self):
         Path("targets").write_text("program a a.cpp\n")
