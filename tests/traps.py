@@ -172,6 +172,26 @@ class Flags(Folder):
         self.rejects(tool("gcc"), [], "-x", "c++", "-fmodules-ts", "-fmodule-mapper=map")
 
 
+class Prebuilt(Folder):
+    tools = ["clang"]
+    seconds = 1
+
+    def test_an_info_file_by_hand(self):
+        """It makes a module that another build compiled known to the collation and, by the map, to the compiler."""
+        os.mkdir("lib")
+        Path("lib/pre.cppm").write_text("export module pre;\nexport int one();\n")
+        Path("main.cpp").write_text("import pre;\nint main() { return one(); }\n")
+        made = "-std=c++20 -x c++-module -fmodule-output=lib/pre.pcm -c lib/pre.cppm -o lib/pre.o".split()
+        self.assertEqual(output_of(tool("clang"), *made), (0, ""))
+        Path("pre.info.json").write_text(json.dumps({"version": 2, "target": "pre", "modules": [
+            {"name": "pre", "bmi": "lib/pre.pcm", "requires": [], "visibility": "public"}]}))
+        target_of_one_module(linked=["pre.info.json"])
+        Path("a.ddi").write_text('{"version":1,"rules":[{"primary-output":"main.o","requires":[{"logical-name":"pre"}]}]}')
+        self.assertEqual(self.call("collate", "t.target.json"), (0, ""))
+        self.assertIn("build main.o: dyndep | lib/pre.pcm\n", Path("t.dd").read_text())
+        self.assertEqual(output_of(tool("clang"), "-std=c++20", "@main.o.modmap", "-c", "main.cpp", "-o", "main.o"), (0, ""))
+
+
 class Scanner(Folder):
     tools = ["clang", "scanner"]
     seconds = 2
