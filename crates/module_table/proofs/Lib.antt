@@ -26,5 +26,6 @@ pub mod RequiredPairs
 pub mod PairLists
 pub mod OneReported
 pub mod PartLemmas
+pub mod RowLemmas
 pub mod PoolLemmas
 pub mod ForCallers

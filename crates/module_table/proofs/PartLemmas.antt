@@ -1,26 +1,26 @@
--- A sound table with a part of the infos stands for the one with all.
-use Rattle.std.proofs.Common.{◌≡◌, ◌↔◌, ℕ, zero, suc, ◌+◌, ◌<◌, ◌⊎◌, Bool, true, false, List, [], ◌∷◌, ◌++◌, length, map, Option, Some, IsTrue, ◌||◌, refl, ap, ap₂, subst, sym, ◌∙◌, inl, inr, arith, slice_get, Contains, find, bytes_eq}
+-- A sound table with a part of the info files stands for the one with all.
+use Rattle.std.proofs.Common.{◌≡◌, ◌↔◌, ℕ, suc, ◌+◌, ◌<◌, ◌⊎◌, true, false, List, [], ◌∷◌, length, map, Option, Some, refl, ap, ap₂, subst, sym, ◌∙◌, inl, inr, arith, slice_get, Contains}
 use Rattle.std.specs.Option.{option_map}
 use Rattle.std.specs.List.{flat_map, enumerate_from, filter_map, cons_option}
 use Rattle.scan_docs.specs.Scan.{RuleValue}
 use Rattle.scan_docs.specs.Info.{InfoValue, ModuleValue}
 use Rattle.module_table.specs.TableValue.{TableValue, table_with}
-use Rattle.module_table.specs.Modules.{Provides, Requires, InfoProvides, InfoRequires, IsProvided, IsProvidedBy, IsInfoProvided, Provision, provisions, object_provisions, info_provisions}
-use Rattle.module_table.specs.Faults.{Claim, claims, own_claims, module_claims, Collides, HasPrivate}
+use Rattle.module_table.specs.Modules.{Provides, Requires, InfoRequires, IsProvided, IsProvidedBy, IsInfoProvided, Provision, provisions, object_provisions, info_provisions}
+use Rattle.module_table.specs.Faults.{Claim, claims, own_claims, Collides, HasPrivate}
 use Rattle.module_table.specs.Sound.{IsSound}
 use Rattle.module_table.specs.Needed.{LeadsTo, Leads, IsNeeded}
 use Rattle.module_table.specs.Added.{first_mentions, file_of, pair_of, required_of, tasks_of}
-use Rattle.module_table.specs.Parts.{HasModule, IsAlike, IsPartOf, KeepsRequired, InfosApart, OwnApart, AreClosed, IsEnough, PartIsSound, PartHasTasks, PartIsNeeded}
+use Rattle.module_table.specs.Parts.{HasModule, KeepsRequired, IsEnough, PartIsSound, PartHasTasks, PartIsNeeded}
 use Rattle.module_table.specs.inner.Views.{names_of}
 use Rattle.module_table.specs.declared.fault.Maker.{Maker}
 use Rattle.module_table.specs.declared.fault.Maker.TheVariants.{Object, Info}
 use Rattle.ninja_text.specs.Firsts.{AllDiffer}
-use Rattle.module_table.proofs.Places.{one_file, offset, object_provision, info_provision, provision_by}
+use Rattle.module_table.proofs.Places.{one_file, offset, provision_by}
 use Rattle.module_table.proofs.Required.{contained, from_numbered, from_mentions}
 use Rattle.module_table.proofs.ReportLemmas.{from_append_at}
-use Rattle.module_table.proofs.ModulePlaces.{one_at, one_entry}
+use Rattle.module_table.proofs.ModulePlaces.{one_entry}
 use Rattle.module_table.proofs.Found.{named_found}
-use Rattle.ninja_text.proofs.ForCallers.{same_some, to_map, from_map, in_first, in_second}
+use Rattle.ninja_text.proofs.ForCallers.{to_map, from_map, in_first, in_second}
 
 -- ---- lists
 
@@ -50,7 +50,7 @@ module _ (t : TableValue) where
   abbrev own_modules : List Provision
   own_modules = flat_map object_provisions (enumerate_from 0 t.objects)
 
-  -- an object's, which is at its place whatever the infos are
+  -- an object's, which is at its place whatever the info files are
   abbrev IsOwnAt : ℕ → Provision → Type 0
   IsOwnAt k p = (o : ℕ) × (j : ℕ) × (rule : RuleValue) × (slice_get t.objects o ≡ Some rule) × (slice_get rule.provided j ≡ Some (p.name, p.file)) × (slice_get own_modules k ≡ Some p)
 

@@ -1,5 +1,5 @@
 -- Where modules are in the lists of all modules and all files.
-use Rattle.std.proofs.Common.{⊎_elim, ◌≡◌, ℕ, zero, suc, ◌+◌, ◌<◌, ◌⊎◌, Bool, true, false, List, [], ◌∷◌, ◌++◌, length, map, Some, ◌||◌, IsTrue, refl, ap, subst, sym, ◌∙◌, inl, inr, arith, slice_get}
+use Rattle.std.proofs.Common.{⊎_elim, ◌≡◌, ℕ, zero, suc, ◌+◌, ◌<◌, ◌⊎◌, Bool, true, false, List, [], ◌∷◌, length, map, Some, ◌||◌, IsTrue, refl, ap, subst, sym, ◌∙◌, inl, inr, arith, slice_get}
 use Rattle.std.specs.List.{flat_map, enumerate_from}
 use Rattle.scan_docs.specs.Scan.{RuleValue}
 use Rattle.scan_docs.specs.Info.{InfoValue, ModuleValue}

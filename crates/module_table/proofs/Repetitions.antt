@@ -1,11 +1,10 @@
 -- Lists in which all differ, and the first repetition in a list.
-use Rattle.std.proofs.Common.{◌≡◌, ℕ, zero, suc, ◌+◌, ◌<◌, ◌≤◌, ◌⊎◌, Bool, true, false, List, [], ◌∷◌, ◌++◌, length, map, take, get_or, Option, Some, refl, ap, subst, sym, ◌∙◌, inl, inr, ⊎_elim, arith, slice_get, true≢false, bytes_eq, append_assoc, append-nil, not, cond, None, IfSome, IfNone, is_some, position}
+use Rattle.std.proofs.Common.{◌≡◌, ℕ, zero, suc, ◌+◌, ◌≤◌, true, false, List, [], ◌∷◌, ◌++◌, length, map, take, get_or, Option, Some, refl, ap, subst, sym, ◌∙◌, arith, slice_get, bytes_eq, append_assoc, append-nil, not, cond, None, IfSome, IfNone, is_some, position}
 use Rattle.std.specs.List.{list_any, flat_map, enumerate_from}
 use Rattle.std.proofs.lemmas.Grind.{flat_map-append}
 use Rattle.std.specs.Cmp.Lexicographic.{bytes_decides}
-use Rattle.std.proofs.lemmas.List.{take_more, take_all, map-append}
-use Rattle.std.proofs.lemmas.List.Folds.{list_any_at}
-use Rattle.std.proofs.lemmas.Option.{slice_get_within, get_or_from_slice_get, slice_get-get_or}
+use Rattle.std.proofs.lemmas.List.{take_all, map-append}
+use Rattle.std.proofs.lemmas.Option.{slice_get-get_or}
 use Rattle.std.proofs.lemmas.List.Quantifiers.{position-Some}
 use Rattle.ninja_text.specs.Firsts.{AllDiffer, RepeatsFirst, IsFirstRepetition}
 use Rattle.ninja_text.proofs.ForCallers.{from_take, in_take, take_next, differ_push, not_among, found_if, new_if, same_some, to_map, from_map}

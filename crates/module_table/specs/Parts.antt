@@ -1,17 +1,17 @@
 -- A table of a part of what a target links: all linked targets by name, each with only some of its
 -- modules. If the part is enough (`IsEnough`), what holds of its table holds of the table of the
 -- whole.
-use Rattle.std.specs.Prelude.{◌≡◌, ◌⊎◌, ◌↔◌, ℕ, true, List, map, slice_get, get_or, Option, Some, None, Contains}
+use Rattle.std.specs.Prelude.{◌≡◌, ◌⊎◌, ◌↔◌, ◌++◌, ◌∷◌, [], ℕ, true, List, map, slice_get, get_or, Option, Some, None, Contains}
 use Rattle.ninja_text.specs.Bytes.{PathText, Name}
 use Rattle.dep_order.specs.Numbers.{Numbers}
 use Rattle.scan_docs.specs.Scan.{RuleValue}
 use Rattle.scan_docs.specs.Info.{InfoValue, ModuleValue}
-use Rattle.module_table.specs.TableValue.{TableValue, table_with}
+use Rattle.module_table.specs.TableValue.{table_with}
 use Rattle.module_table.specs.Sound.{IsSound}
 use Rattle.module_table.specs.Added.{tasks_of}
 use Rattle.module_table.specs.Needed.{IsNeeded}
 
--- info i has the module m at index j
+-- info file i has the module m at index j
 abbrev pub HasModule : List InfoValue → ℕ → ℕ → ModuleValue → Type 0
 HasModule infos i j m = (value : InfoValue) × (slice_get infos i ≡ Some value)
     × (slice_get value.modules j ≡ Some m)
@@ -36,12 +36,12 @@ abbrev pub KeepsRequired : List InfoValue → List InfoValue → Type 0
 KeepsRequired part infos = (i j : ℕ) (m : ModuleValue) → HasModule part i j m
     → (k : ℕ) × HasModule infos i k m
 
--- no two modules of the infos have the same name or the same file
+-- no two modules of the info files have the same name or the same file
 abbrev pub InfosApart : List InfoValue → Type 0
 InfosApart infos = (i j k l : ℕ) (a b : ModuleValue) → HasModule infos i j a
     → HasModule infos k l b → (a.name ≡ b.name) ⊎ (a.file ≡ b.file) → (i ≡ k) × (j ≡ l)
 
--- no object provides the name or the file of a module of the infos, and no object is such a file
+-- no object provides the name or the file of a module of the info files, or is such a file
 pub record OwnApart (objects : List RuleValue) (infos : List InfoValue) : Type 0 where
   pub names : (o j i k : ℕ) (rule : RuleValue) (name : Name) (file : PathText) (m : ModuleValue)
       → slice_get objects o ≡ Some rule → slice_get rule.provided j ≡ Some (name, file)
@@ -52,15 +52,15 @@ pub record OwnApart (objects : List RuleValue) (infos : List InfoValue) : Type 0
   pub paths : (o i k : ℕ) (rule : RuleValue) (m : ModuleValue)
       → slice_get objects o ≡ Some rule → HasModule infos i k m → rule.object ≡ m.file → ⊥
 
--- If a module of the infos requires a name with a file, a module of the infos has this name and this
--- file. It is private only if both are of the same info.
+-- If a module of the info files requires a name with a file, a module of the info files has this name
+-- and this file. It is private only if both are of the same info file.
 abbrev pub AreClosed : List InfoValue → Type 0
 AreClosed infos = (i j : ℕ) (m : ModuleValue) (name : Name) (file : PathText)
     → HasModule infos i j m → Contains m.required (name, file)
     → (k : ℕ) × (l : ℕ) × (w : ModuleValue) × HasModule infos k l w × (w.name ≡ name)
     × (w.file ≡ file) × (w.is_private ≡ true → k ≡ i)
 
--- The part has enough of the infos for a table of these objects.
+-- The part has enough of the info files for a table of these objects.
 pub record IsEnough (objects : List RuleValue) (part infos : List InfoValue) : Type 0 where
   pub is_part : IsPartOf part infos
   pub infos_apart : InfosApart infos
@@ -87,7 +87,11 @@ PartIsNeeded = (objects : List RuleValue) (part infos : List InfoValue) →
     IsNeeded (table_with objects part) object name file
     ↔ IsNeeded (table_with objects infos) object name file
 
--- the infos at these indexes of what is known
+-- the info files at these indexes of what is known
 abbrev pub AreLinked : List (Option InfoValue) → Numbers → List InfoValue → Type 0
 AreLinked known linked infos =
     map (λ info. Some info) infos ≡ map (λ k. get_or known k None) linked
+
+-- the info file was added, or None in its place
+abbrev pub IsAdded : List (Option InfoValue) → Option InfoValue → List (Option InfoValue) → Type 0
+IsAdded known info new = (new ≡ known ++ info ∷ []) ⊎ (new ≡ known ++ None ∷ [])

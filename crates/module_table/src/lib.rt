@@ -21,6 +21,9 @@
 //! (`specs/Modules.antt`); that the code works with indexes of modules does not show in them. What
 //! private clauses speak of is below `specs/inner/`.
 //!
+//! A [`Pool`] has the info files of a project's targets. [`Pool::part`] returns the part of the linked
+//! ones that a target's table needs, so that a target does not take the time of all that it links.
+//!
 //! [`TableFault::name`] answers the code and the name of a fault, and a fault is printed so
 //! (`specs/FaultNames.antt`).
 //!
@@ -41,6 +44,11 @@
 //!   it requires.
 //! - `needed.rt`: [`Needs`] asks `Reaching` of `dep_order` in that graph, and sorts what it finds
 //!   by the ranks of the names, which are given once (`ranks.rt`).
+//!
+//! - `pool.rt`: a pool lists the modules of its info files by name and by file (`rows.rt`), and for
+//!   each info file the others that it requires modules of or shares names and files with
+//!   (`related.rt`). By these numbers it finds out whether a part of the linked modules is enough
+//!   (`fit.rt`), picks the part (`picking.rt`) and copies it (`copies.rt`).
 //!
 //! That one list at most has exactly the pairs of a relation is in `proofs/ForCallers.antt`, which
 //! alone of the proofs is cited by other crates.
@@ -65,6 +73,7 @@ mod laws;
 mod modules;
 mod needed;
 mod pairs;
+mod pool;
 mod ranks;
 mod requirements;
 mod resolved;
@@ -73,5 +82,6 @@ mod table;
 pub use fault::{Maker, RefusedTable, TableFault};
 pub use laws::{added_files, one_fault, parts, sound_tables};
 pub use needed::Needs;
+pub use pool::Pool;
 pub use resolved::Resolved;
 pub use table::Table;

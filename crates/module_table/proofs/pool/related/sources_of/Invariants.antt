@@ -1,0 +1,7 @@
+use Rattle.std.proofs.Common.{◌++◌, ◌∷◌, [], ℕ, List, Some, length}
+use Rattle.scan_docs.specs.Info.{ModuleValue}
+use Rattle.module_table.specs.inner.Pools.{Has, Below, IsSource}
+use Rattle.module_table.proofs.pool.related.sources_of.Given as goal
+
+abbrev pub invariant-loop-module : goal.invariant-loop-module
+invariant-loop-module l = Below (λ (m : ModuleValue). (pair : List ℕ × List ℕ) → Has m.required pair → (k : ℕ) × Has l.sources.items k × IsSource (l.infos ++ Some l.info ∷ []) (length l.infos) pair k) l.info.modules l.module-index

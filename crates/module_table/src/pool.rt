@@ -1,0 +1,142 @@
+//! The info files of a project, and the part of the linked ones that a target's table needs.
+ghost use Rattle.std.specs.Prelude.{◌≡◌, [], List, IfOk, IfSome, IfNone, IsTrue, None, Some, get_or};
+ghost use Rattle.scan_docs.specs.Info.{InfoValue};
+ghost use Rattle.module_table.specs.Parts.{AreLinked, IsAdded, IsEnough, KeepsRequired};
+
+use copies::part_of;
+use fit::{are_apart, are_fit, places_of};
+use related::Related;
+use rows::{FileRows, NameRows};
+use scan_docs::{Info, Rule};
+use std::alloc::{AllocError, Global};
+use std::marker::Model;
+use table_keys::TableKey;
+
+mod copies;
+mod fit;
+mod picking;
+mod related;
+mod rows;
+
+/// The info files of a project's targets, by index. A contract sees them as a list, with `None` in
+/// place of each info file that is not known.
+///
+/// A target that links many targets needs few of their modules. [`Pool::part`] returns these
+/// modules, so the work for a target grows with its own rules and with the number of its links. It
+/// does not grow with the modules of the linked targets.
+#[derive(Drop)]
+pub struct Pool {
+    infos: Vec<Option<Info>>,
+    /// The modules of each name.
+    names: NameRows,
+    /// The modules of each file.
+    files: FileRows,
+    /// The relations of each info file to others.
+    related: Vec<Related>,
+    key: TableKey,
+}
+
+impl Model for Pool {
+    ghost use Rattle.std.specs.Prelude.{List, Option};
+    ghost use Rattle.scan_docs.specs.Info.{InfoValue};
+    ghost use Rattle.module_table.specs.inner.Pools.{IsPool};
+
+    ghost Value = { List (Option InfoValue) };
+
+    ghost view = { λ p. p.infos.items };
+
+    ghost invariant = { λ p. IsPool p.infos.items p.names.names.keys p.names.rows.items
+        p.files.files.keys p.files.rows.items p.related.items };
+}
+
+impl Pool {
+    /// Returns an empty pool. Names and files are hashed under the key.
+    pub fn new(alloc: Global, key: TableKey) -> Pool
+        ensures { result ≡ [] }
+    {
+        Pool {
+            infos: Vec::new(alloc),
+            names: NameRows::new(alloc, key),
+            files: FileRows::new(alloc, key),
+            related: Vec::new(alloc),
+            key,
+        }
+    }
+
+    /// Adds the info file of the next target. `None` is added in its place if the pool has 64 modules
+    /// of one of its names or files, or if it has no module that a module of the info file requires.
+    pub fn push(self, alloc: Global, info: Option<Info>) -> Result<Pool, AllocError>
+        ensures { IfOk result (λ pool. IsAdded self info pool) }
+    {
+        let Pool {
+            mut infos,
+            mut names,
+            mut files,
+            mut related,
+            key,
+        } = self;
+        let found = match &info {
+            Some(info) => Related::of(alloc, &infos, info, &mut names, &mut files)?,
+            None => None,
+        };
+        match found {
+            Some(relations) => {
+                infos.push(info)?;
+                related.push(relations)?;
+            }
+            None => {
+                infos.push(None)?;
+                related.push(Related::none(alloc))?;
+            }
+        }
+        Ok(Pool {
+            infos,
+            names,
+            files,
+            related,
+            key,
+        })
+    }
+
+    /// Returns the info file of that index, if it is known.
+    pub fn known(&self, number: usize) -> Option<&Info>
+        ensures found { IfSome result (λ info. get_or self.now number None ≡ Some info.now) }
+        ensures none { IfNone result (get_or self.now number None ≡ None) }
+    {
+        match self.infos.get(number) {
+            Some(Some(info)) => Some(info),
+            _ => None,
+        }
+    }
+
+    /// Returns a part of the linked info files that is enough for a table of these objects: all of
+    /// the files, each with only the modules that the objects require. If the part `keeps` what
+    /// modules require, it also has the modules that its own modules require.
+    ///
+    /// Returns `None` if an info file is not known or linked twice, if two linked modules have one
+    /// name or one file, if an object provides a name or is a file of a linked module, or if a
+    /// linked module requires a module that is not linked. Then the table of all linked modules
+    /// tells more.
+    pub fn part(
+        &self,
+        alloc: Global,
+        objects: &[Rule],
+        linked: &[usize],
+        keeps: bool,
+    ) -> Result<Option<Vec<Info>>, AllocError>
+        ensures { IfOk result (λ found. IfSome found (λ part. (infos : List InfoValue)
+            × AreLinked self.now linked.now infos × IsEnough objects.now part.items infos
+            × (IsTrue keeps → KeepsRequired part.items infos))) }
+    {
+        let Some(places) = places_of(alloc, linked, self.infos.len())? else {
+            return Ok(None);
+        };
+        if !are_fit(linked, &places, &self.related)
+            || !are_apart(&places, &self.names, &self.files, objects)
+        {
+            return Ok(None);
+        }
+        let picked = self.pick(alloc, objects, &places, linked.len(), keeps)?;
+        part_of(alloc, &self.infos, linked, &picked, keeps)
+    }
+}

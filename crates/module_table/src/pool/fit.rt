@@ -1,0 +1,124 @@
+//! Whether a part of the linked info files is enough for a target's table.
+ghost use Rattle.std.specs.Prelude.{◌≡◌, ℕ, IfOk, IfSome, IsTrue, slice_get, Some};
+ghost use Rattle.ninja_text.specs.Bytes.{PathText, Name};
+ghost use Rattle.scan_docs.specs.Scan.{RuleValue};
+ghost use Rattle.module_table.specs.inner.Pools.{Has, HasSource, HasClash, ArePlaces, IsLinked, AreFit, IsApart};
+
+use crate::pool::related::Related;
+use crate::pool::rows::{FileRows, NameRows};
+use scan_docs::Rule;
+use std::alloc::{AllocError, Global};
+
+/// Returns the index in `linked` of each linked info file, by the index of the info file. Returns
+/// `None` if an index is too high or if an info file is linked twice.
+pub(crate) fn places_of(
+    alloc: Global,
+    linked: &[usize],
+    count: usize,
+) -> Result<Option<Vec<Option<usize>>>, AllocError>
+    ensures { IfOk result (λ found. IfSome found (λ places. ArePlaces linked.now places.items)) }
+{
+    let mut places: Vec<Option<usize>> = vec![in alloc; None; count]?;
+    for (place, number) in linked.iter().enumerate() {
+        if *number >= count || places[*number].is_some() {
+            return Ok(None);
+        }
+        places[*number] = Some(place);
+    }
+    Ok(Some(places))
+}
+
+/// Returns whether the info file of that index is linked.
+fn is_linked(places: &[Option<usize>], number: usize) -> bool
+    ensures linked { IsTrue result → IsLinked places.now number }
+    ensures unlinked { IsLinked places.now number → IsTrue result }
+{
+    matches!(places.get(number), Some(Some(_)))
+}
+
+/// Returns whether the linked modules require only linked modules and share no name or file.
+pub(crate) fn are_fit(linked: &[usize], places: &[Option<usize>], related: &[Related]) -> bool
+    ensures { IsTrue result → AreFit linked.now places.now related.now }
+{
+    for number in linked {
+        if *number >= related.len() || !is_fit(places, &related[*number]) {
+            return false;
+        }
+    }
+    true
+}
+
+fn is_fit(places: &[Option<usize>], related: &Related) -> bool
+    ensures sources { IsTrue result
+        → (s : ℕ) → Has related.now.sources.items s → IsLinked places.now s }
+    ensures clashes { IsTrue result
+        → (c : ℕ) → Has related.now.clashes.items c → IsLinked places.now c → ⊥ }
+{
+    are_linked(places, &related.sources) && are_unlinked(places, &related.clashes)
+}
+
+fn are_linked(places: &[Option<usize>], numbers: &[usize]) -> bool
+    ensures { IsTrue result → (n : ℕ) → Has numbers.now n → IsLinked places.now n }
+{
+    for number in numbers {
+        if !is_linked(places, *number) {
+            return false;
+        }
+    }
+    true
+}
+
+fn are_unlinked(places: &[Option<usize>], numbers: &[usize]) -> bool
+    ensures { IsTrue result → (n : ℕ) → Has numbers.now n → IsLinked places.now n → ⊥ }
+{
+    for number in numbers {
+        if is_linked(places, *number) {
+            return false;
+        }
+    }
+    true
+}
+
+/// Returns whether no linked module has the path, a name or a file of an object.
+pub(crate) fn are_apart(
+    places: &[Option<usize>],
+    names: &NameRows,
+    files: &FileRows,
+    objects: &[Rule],
+) -> bool
+    ensures { IsTrue result → (o : ℕ) (rule : RuleValue) → slice_get objects.now o ≡ Some rule
+        → IsApart places.now names.now.names.keys names.now.rows.items files.now.files.keys
+        files.now.rows.items rule }
+{
+    for rule in objects {
+        if !is_apart(places, names, files, rule) {
+            return false;
+        }
+    }
+    true
+}
+
+fn is_apart(places: &[Option<usize>], names: &NameRows, files: &FileRows, rule: &Rule) -> bool
+    ensures { IsTrue result → IsApart places.now names.now.names.keys names.now.rows.items
+        files.now.files.keys files.now.rows.items rule.now }
+{
+    for pair in &rule.provided {
+        if !none_linked(places, names.of(&pair.0)) || !none_linked(places, files.of(&pair.1)) {
+            return false;
+        }
+    }
+    none_linked(places, files.of(&rule.object))
+}
+
+/// Returns whether no entry is of a linked info file.
+fn none_linked(places: &[Option<usize>], entries: &[(usize, usize)]) -> bool
+    ensures { IsTrue result
+        → (entry : ℕ × ℕ) → Has entries.now entry → IsLinked places.now entry.0 → ⊥ }
+{
+    for entry in entries {
+        if is_linked(places, entry.0) {
+            return false;
+        }
+    }
+    true
+}
