@@ -4,6 +4,7 @@ This needs CMake 3.28 or newer, which CMAKE may name, Ninja, and a compiler that
 clang-scan-deps, or GCC 14 or newer. The tests whose tools are missing are skipped.
 """
 import functools
+import json
 import os
 import re
 import shutil
@@ -346,7 +347,8 @@ class Others:
 
     def test_an_installed_package(self):
         """What is exported and installed is what CMake's step exports and installs; another project finds it."""
-        self.lay(PACKAGE)
+        # with CMake 4.3, Ninja links a program in each run if there is a space in the path of an installed library
+        self.lay(PACKAGE, folder="package")
         self.builds("letters.cppm", "part.cppm", "words.cppm", "own.cppm", "words.cpp")
         for tree in self.trees:
             self.assertEqual(output_of(cmake(), "--install", tree.build, "--prefix", tree.top / "installed")[0], 0)
@@ -369,9 +371,11 @@ class Others:
         """The target that CMake makes of the standard library's modules is linked through `words`."""
         value = IMPORT_STD.get(cmake_version(cmake()))
         name, *flags = ("libc++.modules.json", "-stdlib=libc++") if self.is_clang() else ("libstdc++.modules.json",)
-        listed = output_of(self.compiler(), *flags, f"-print-file-name={name}")[1].strip()
-        if not value or not os.path.isfile(listed):
-            self.skipTest(f"CMake 3.30, 3.31 or 4.3, or {name}: not there")
+        listed = Path(output_of(self.compiler(), *flags, f"-print-file-name={name}")[1].strip())
+        # Debian's libc++-21-dev names sources that are not there
+        sources = [listed.parent / it["source-path"] for it in json.loads(listed.read_text())["modules"]] if listed.is_file() else []
+        if not value or not sources or not all(map(os.path.isfile, sources)):
+            self.skipTest(f"CMake 3.30, 3.31 or 4.3, or {name} and its sources: not there")
         files = {name: text.replace("@VALUE@", value) for name, text in STD.items()}
         self.lay(files, f"-DCMAKE_CXX_FLAGS={' '.join(flags)}")
         self.run_both()
