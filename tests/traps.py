@@ -132,7 +132,7 @@ class Manifests(Folder):
         os.remove(".ninja_deps")
         Path("src/scale.h").write_text("#define SCALE 20\n")
         for _ in range(1 if version("ninja") < (1, 12) else 2):
-            self.ninja()
+            self.ninja("-j1")
             self.assertEqual(output_of("./app"), (0, "600\n"))
         if version("ninja") < (1, 12):
             compiled = re.findall("COMPILE (.*)", self.log)
