@@ -1,4 +1,4 @@
--- The checks of a document: a list in their order, and the refusal that it leads to.
+-- The checks of a document: a list in order, and the fault that it leads to.
 use Rattle.std.specs.Prelude.{ℕ, List, [], ◌∷◌, Bool, false, if◌then◌else◌, Option, Some, None, Result, Ok, Err}
 use Rattle.std.specs.List.{flat_map, enumerate_from}
 use Rattle.ninja_text.specs.Bytes.{PathText}
@@ -9,7 +9,7 @@ use Rattle.scan_docs.specs.declared.fault.DocFault.TheVariants.{BadShape, BadPat
 use Rattle.scan_docs.specs.declared.fault.Place.{Place}
 use Rattle.scan_docs.specs.declared.member.Member.{Member}
 
--- a condition, and the refusal where it is false
+-- a condition, and the fault if it is false
 pub record Check : Type 0 where
   pub holds : Bool
   pub refusal : DocFault
@@ -18,7 +18,7 @@ infix 5 ◌otherwise◌
 abbrev pub ◌otherwise◌ : Bool → DocFault → Check
 holds otherwise refusal = record { holds = holds; refusal = refusal }
 
--- the refusal of the first condition that is false, or none where all hold
+-- the fault of the first condition that is false, or none if all hold
 abbrev pub first_refusal : List Check → Option DocFault
 first_refusal [] = None
 first_refusal (c ∷ cs) = if c.holds then first_refusal cs else Some c.refusal
@@ -27,7 +27,7 @@ first_refusal (c ∷ cs) = if c.holds then first_refusal cs else Some c.refusal
 abbrev pub shape_check : Place → Member → Bool → Check
 shape_check place member holds = holds otherwise BadShape place member
 
--- the check of a path: none is left where it is accepted, and one that is false where it is refused
+-- the check of a path: none if the path is accepted, and one that is false if it is rejected
 abbrev pub path_checks : Place → Result PathText PathFault → List Check
 path_checks place (Ok path) = []
 path_checks place (Err fault) = (false otherwise BadPath place fault) ∷ []

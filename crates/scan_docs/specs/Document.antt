@@ -1,4 +1,4 @@
--- The bytes of a document, the tree that they are read as, and what becomes of them.
+-- The bytes of a document, the tree that they are read as, and the result of reading them.
 use Rattle.std.specs.Prelude.{◌≡◌, ℕ, ◌≤◌, ◌<◌, List, length, Some, None, IsUtf8}
 use Rattle.ninja_text.specs.Bytes.{Bytes}
 use Rattle.serde_json.specs.Data.{Data}
@@ -26,8 +26,8 @@ pub record IsAccepted {V : Type 0} (checks : Data → List Check) (means : Data 
   pub passes : first_refusal (checks tree) ≡ None
   pub meaning : means tree value
 
--- The bytes are too many, or else have no tree, or else this is the refusal of the first check that
--- is false.
+-- The bytes are too many, or else have no tree, or else this is the fault of the first check that is
+-- false.
 pub data IsRefused (checks : Data → List Check) (bytes : Bytes) (fault : DocFault) : Type 0 where
   large : document_limit < length bytes → fault ≡ TooLarge place.Document →
       IsRefused checks bytes fault
@@ -36,7 +36,7 @@ pub data IsRefused (checks : Data → List Check) (bytes : Bytes) (fault : DocFa
   false_check : length bytes ≤ document_limit → (d : Data) → IsTree bytes d →
       first_refusal (checks d) ≡ Some fault → IsRefused checks bytes fault
 
--- The bytes have one answer at most: they are accepted with one value, or refused for one fault.
+-- The bytes have one result at most: they are accepted with one value, or rejected for one fault.
 pub record HasOneAnswer {V : Type 0} (checks : Data → List Check) (means : Data → V → Type 0)
     (bytes : Bytes) : Type 0 where
   pub one_value : (v w : V) → IsAccepted checks means bytes v → IsAccepted checks means bytes w →

@@ -7,7 +7,7 @@ use Rattle.scan_docs.specs.declared.fault.DocFault.TheVariants.{NotJson, BadVers
 use Rattle.scan_docs.specs.Member.{key}
 use Rattle.scan_docs.specs.Place.{place_text}
 
--- why a document is refused
+-- why a document is rejected
 abbrev pub doc_fault_text : DocFault → Text
 doc_fault_text NotJson = codes "S1 NotJson document"
 doc_fault_text BadVersion = codes "S2 BadVersion document"

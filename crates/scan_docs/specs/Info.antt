@@ -34,7 +34,7 @@ visibility_meaning text =
     if bytes_eq text (codes "private") then Some true
     else (if bytes_eq text (codes "public") then Some false else None)
 
--- whether a module is private, where the document says so as it should
+-- whether a module is private, if the document says so
 abbrev pub privacy : Bool → Data → Option Bool
 privacy with_visibility d =
     if with_visibility then option_and_then visibility_meaning (text m.Visibility d) else Some false

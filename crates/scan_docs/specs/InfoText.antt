@@ -58,7 +58,7 @@ pub record IsModuleText (entry : ModuleValue) : Type 0 where
 abbrev pub IsInfoText : InfoValue → Type 0
 IsInfoText info = All IsModuleText info.modules
 
--- The text is read as this info, and is refused exactly where it is longer than a document may be.
+-- The text is read as this info, or is rejected if it is longer than a document may be.
 pub record ReadsBack (info : InfoValue) (text : Text) : Type 0 where
   pub same : length text ≤ document_limit → IsAccepted info_checks IsInfo text info
   pub too_large : document_limit < length text →

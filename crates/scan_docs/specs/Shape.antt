@@ -18,11 +18,11 @@ unless_null d = if is_some (as_null d) then None else Some d
 abbrev pub given : Member → Data → Option Data
 given member d = option_and_then unless_null (get (key member) d)
 
--- the member's text, where it is one
+-- the member's text, if it is one
 abbrev pub text : Member → Data → Option Text
 text member d = option_and_then as_str (given member d)
 
--- the member's truth value, where it is one
+-- the member's truth value, if it is one
 abbrev pub flag : Member → Data → Option Bool
 flag member d = option_and_then as_bool (given member d)
 
@@ -31,20 +31,20 @@ abbrev pub elements : Items → List Data
 elements no_items = []
 elements (item d ds) = d ∷ elements ds
 
--- the member's entries, where it is an array
+-- the member's entries, if it is an array
 abbrev pub entries : Member → Data → Option (List Data)
 entries member d = option_map elements (option_and_then as_array (given member d))
 
--- the values as texts, where all of them are
+-- the values as texts, if all of them are
 abbrev pub all_texts : List Data → Option (List Text)
 all_texts [] = Some []
 all_texts (d ∷ ds) = option_and_then (λ t. option_map (λ ts. t ∷ ts) (all_texts ds)) (as_str d)
 
--- the member's texts, where it is an array of them
+-- the member's texts, if it is an array of them
 abbrev pub texts : Member → Data → Option (List Text)
 texts member d = option_and_then all_texts (entries member d)
 
--- the member's value, where it is a whole number
+-- the member's value, if it is a whole number
 abbrev pub whole_number : Member → Data → Option ℕ
 whole_number member d = option_and_then as_u64 (option_and_then as_number (get (key member) d))
 

@@ -26,11 +26,11 @@ pub record TargetDocumentValue : Type 0 where
 
 -- ---- what the members stand for
 
--- the path, where it is absolute
+-- the path, if it is absolute
 abbrev only_rooted : PathText → Option PathText
 only_rooted path = if is_rooted path then Some path else None
 
--- the path of a text, where it has one that is absolute
+-- the path of a text, if it has one that is absolute
 abbrev pub absolute_path : Text → Option PathText
 absolute_path text = option_and_then only_rooted (result_ok (path_of text))
 

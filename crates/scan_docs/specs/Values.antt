@@ -1,4 +1,4 @@
--- What accepted documents mean, as functions of their bytes. Of bytes that are refused they say
+-- What accepted documents mean, as functions of their bytes. For rejected bytes the functions say
 -- nothing.
 use Rattle.std.specs.Prelude.{List, [], map, Bool, false, Option, None, unwrap_or, Result}
 use Rattle.std.specs.Result.{result_ok}
@@ -18,7 +18,7 @@ use Rattle.scan_docs.specs.Project.{ProjectValue}
 abbrev pub tree_of : Bytes → Data
 tree_of bytes = unwrap_or (read bytes) null
 
--- the path, where it is accepted
+-- the path, if it is accepted
 abbrev pub accepted_path : Result PathText PathFault → PathText
 accepted_path path = unwrap_or (result_ok path) []
 

@@ -15,10 +15,10 @@ use ninja_text::Failure;
 use serde_json::Value;
 use std::alloc::Global;
 
-/// The most bytes that a document has.
+/// The maximum length of a document in bytes.
 pub const DOCUMENT_LIMIT: usize = 16_777_216;
 
-/// The tree that the bytes are read as.
+/// Returns the tree that the bytes are read as.
 pub(crate) fn read_tree(alloc: Global, bytes: &[u8]) -> Result<Value, Failure<DocFault>>
     ensures read { IfOk result
         (λ tree. (length bytes.now ≤ document_limit) × IsTree bytes.now (view tree)) }
@@ -36,7 +36,7 @@ pub(crate) fn read_tree(alloc: Global, bytes: &[u8]) -> Result<Value, Failure<Do
     }
 }
 
-/// The version of a document, which has to be an object that has one of these versions.
+/// Returns the version of a document, which has to be an object with one of these versions.
 #[tactic(auto, unfolding(crate::specs::inner::Reading::version_checks))]
 pub(crate) fn read_version(tree: &Value, versions: &[u64]) -> Result<u64, Failure<DocFault>>
     ensures { Answers (version_checks versions.now (view tree.now))

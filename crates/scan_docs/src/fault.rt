@@ -1,4 +1,4 @@
-//! Why a document is refused.
+//! Why a document is rejected.
 
 ghost use Rattle.std.specs.Prelude.{◌≡◌, Result, IfOk, IsUtf8};
 ghost use Rattle.ninja_text.specs.Bytes.{PathText};
@@ -11,8 +11,7 @@ use ninja_text::{Failure, Path, PathFault};
 use std::fmt;
 use thiserror::Error;
 
-/// Where in a document a fault is. Rules, modules and entries have the index that they have in
-/// their list.
+/// Where a document is faulty. Rules, modules and entries are given by their index in the list.
 #[derive(Clone, Copy, Debug, PartialEq, Eq)]
 pub enum Place {
     /// The document itself.
@@ -50,13 +49,12 @@ impl fmt::Display for Place {
     }
 }
 
-/// Why a document is refused: the first check of the document that fails. The checks are those of
-/// the document's kind, in the order of its list, and their order has nothing to do with that of
-/// the codes.
+/// Why a document is rejected: the first check that fails. Each kind of document has a list of
+/// checks. Their order is not the order of the codes.
 #[derive(Clone, Copy, Debug, PartialEq, Eq, Error)]
 pub enum DocFault {
-    /// The bytes are not the UTF-8 text of a JSON value (RFC 8259), or of one that `serde_json`
-    /// reads: it refuses nesting deeper than 127 levels and numbers that no float can hold.
+    /// The bytes are not the UTF-8 text of a JSON value (RFC 8259) that `serde_json` reads. It
+    /// rejects nesting deeper than 127 levels and numbers that no float can hold.
     NotJson,
     /// The member `version` is not a whole number that this kind of document may have.
     BadVersion,
@@ -64,13 +62,13 @@ pub enum DocFault {
     BadShape { place: Place, member: Member },
     /// A rule has no `primary-output`.
     NoPrimaryOutput { place: Place },
-    /// An entry speaks of a header unit, for which there is no file by name.
+    /// An entry is a header unit. Header units have no BMI by name.
     HeaderUnit { place: Place },
-    /// A name is not accepted.
+    /// A name is not valid.
     BadName { place: Place },
-    /// A path is not accepted.
+    /// A path is not valid.
     BadPath { place: Place, fault: PathFault },
-    /// The document has more bytes or rules, or a rule more entries in one list, than are read.
+    /// The document has too many bytes or rules, or a rule has too many entries in one list.
     TooLarge { place: Place },
 }
 
@@ -97,14 +95,14 @@ impl fmt::Display for DocFault {
     }
 }
 
-/// The refusal of a value that has the wrong type or is missing.
+/// The fault of a value that has the wrong type or is missing.
 pub(crate) fn bad_shape(place: Place, member: Member) -> Failure<DocFault>
     ensures { result ≡ Failure.Fault (DocFault.BadShape place member) }
 {
     Failure::Fault(DocFault::BadShape { place, member })
 }
 
-/// The path, or its refusal at the place.
+/// Returns the path, or its fault at the place.
 pub(crate) fn path_at(
     place: Place,
     read: Result<Path, Failure<PathFault>>,

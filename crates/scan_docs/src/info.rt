@@ -29,8 +29,8 @@ use serde_json::Value;
 use std::alloc::{AllocError, Global};
 use std::marker::Model;
 
-/// A module that a target provides: its file, the modules that it requires, each with the file that
-/// it was found in, and whether it is private.
+/// A module that a target provides: its BMI (compiled module file), the modules that it requires,
+/// each with its BMI, and whether it is private.
 #[derive(Clone, Drop)]
 pub struct InfoModule {
     pub name: Name,
@@ -67,10 +67,14 @@ impl Model for Info {
     ghost view = { λ i. record { target = i.target; modules = i.modules.items } };
 }
 
-/// The info of an info document, or the refusal of the first check that fails.
+/// Returns the info of an info document.
 ///
-/// Versions 1 and 2 are read. In version 1 every module is public, and `visibility` is not looked
-/// at. One name may stand for several modules here.
+/// Versions 1 and 2 are read. In version 1 every module is public, and `visibility` is ignored. Two
+/// modules may have the same name here.
+///
+/// # Errors
+///
+/// Returns the fault of the first check that fails, or [`Failure::Memory`] if an allocation fails.
 pub fn info_read(alloc: Global, bytes: &[u8]) -> Result<Info, Failure<DocFault>>
     ensures accepted { IfOk result (λ info. IsAccepted info_checks IsInfo bytes.now info) }
     ensures refused { IfErr result (ForFault (IsRefused info_checks bytes.now)) }
@@ -110,7 +114,7 @@ fn read_all_modules(
     Ok(found)
 }
 
-/// The names of modules and of those that they require, in the order in which they are read.
+/// Returns the names of modules and of the modules that they require, in the order of the document.
 fn names_of_modules(alloc: Global, modules: &[Value]) -> Result<Vec<u8>, AllocError>
     ensures { IfOk result (λ names. names.items ≡ flat_map module_names (map view modules.now)) }
 {
@@ -147,7 +151,6 @@ fn read_module(
     })
 }
 
-/// The texts of a name and a file.
 #[tactic(auto, unfolding(crate::specs::InfoChecks::entry_shape_checks))]
 fn read_entry_texts<'v>(
     place: Place,
@@ -163,7 +166,7 @@ fn read_entry_texts<'v>(
     Ok((name, path))
 }
 
-/// Whether the module is private.
+/// Returns whether the module is private.
 #[tactic(auto, unfolding(crate::specs::InfoChecks::visibility_check))]
 fn read_visibility(
     with_visibility: bool,

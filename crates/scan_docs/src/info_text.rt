@@ -1,4 +1,4 @@
-//! The text of an info document, written from what is only lent.
+//! The text of an info document, written from borrowed parts.
 
 ghost use Rattle.std.specs.Prelude.{◌≡◌, map, IfOk, OnOk, Ok};
 ghost use Rattle.std.specs.List.{All};
@@ -41,7 +41,7 @@ impl<'a> Model for LentModule<'a> {
     } };
 }
 
-/// An [`Info`] whose parts are lent, so that it can be written without a copy of them.
+/// An [`Info`] whose parts are borrowed, so that it is written without a copy of them.
 #[derive(Drop)]
 pub struct LentInfo<'a> {
     pub target: &'a TargetName,
@@ -56,11 +56,15 @@ impl<'a> Model for LentInfo<'a> {
     ghost view = { λ i. record { target = i.target.now; modules = i.modules.items } };
 }
 
-/// The info as a document of version 2: compact JSON with keys in byte order, and no line end.
+/// Returns the info as a document of version 2: compact JSON with keys in byte order, without a line
+/// end.
 ///
-/// What is written is read as the same info; past 16,777,216 bytes it is refused for its length.
-/// Each path has to be text, as the paths are that a document gives. Want of memory is the only
-/// error.
+/// The document is read as the same info, unless it has more than 16,777,216 bytes: then reading it
+/// fails with S8. Each path has to be UTF-8, as the paths of a document are.
+///
+/// # Errors
+///
+/// Returns an error if an allocation fails.
 pub fn info_write(alloc: Global, info: &Info) -> Result<Vec<u8>, AllocError>
     requires { IsInfoText info.now }
     ensures text { IfOk result (λ text. text.items ≡ info_text info.now) }
@@ -94,7 +98,11 @@ fn lent_module(entry: &InfoModule) -> LentModule<'_>
     }
 }
 
-/// What [`info_write`] writes, of an info whose parts are lent.
+/// Returns the document that [`info_write`] returns for the same info.
+///
+/// # Errors
+///
+/// Returns an error if an allocation fails.
 pub fn lent_info_write(alloc: Global, info: &LentInfo<'_>) -> Result<Vec<u8>, AllocError>
     requires { IsInfoText info.now }
     ensures text { IfOk result (λ text. text.items ≡ info_text info.now) }
@@ -104,7 +112,7 @@ pub fn lent_info_write(alloc: Global, info: &LentInfo<'_>) -> Result<Vec<u8>, Al
     serde_json::to_vec(alloc, &document).map_err(|_| AllocError)
 }
 
-/// The document of an info whose paths are text.
+/// The document of an info whose paths are UTF-8.
 #[derive(Drop)]
 struct InfoDocument<'a> {
     info: &'a LentInfo<'a>,
@@ -183,8 +191,7 @@ fn send_requirements<S: Serializer>(out: &mut S, pairs: &[(Name, Path)]) -> Resu
     out.end_seq()
 }
 
-/// Begins an object of so many members with those that a module and its requirements have in
-/// common.
+/// Begins an object with the members that a module and a requirement have in common.
 fn begin_named_file<S: Serializer>(
     out: &mut S,
     members: usize,
@@ -205,7 +212,7 @@ fn begin_named_file<S: Serializer>(
     send_text(out, "name", name.text())
 }
 
-/// A member that is a text.
+/// Sends a member that is a string.
 fn send_text<S: Serializer>(out: &mut S, key: &str, text: &str) -> Result<(), S::Error>
     ensures { OnOk result (SendsText key.now text.now (S.written out.old) (S.written out.new)) }
 {

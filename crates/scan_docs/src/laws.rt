@@ -1,4 +1,4 @@
-//! Laws of documents, for callers' proofs: each is the contract of a call that does nothing.
+//! Laws of documents, for callers' proofs: each is the contract of a function that does nothing.
 ghost use Rattle.std.specs.Prelude.{◌≡◌, List};
 ghost use Rattle.ninja_text.specs.Bytes.{Bytes};
 ghost use Rattle.scan_docs.specs.Document.{IsAccepted, HasOneAnswer};
@@ -14,8 +14,8 @@ ghost use Rattle.scan_docs.specs.Project.{ProjectValue, IsProject};
 ghost use Rattle.scan_docs.specs.ProjectChecks.{project_checks};
 ghost use Rattle.scan_docs.specs.Values.{rules_of, info_of, spec_of, project_of};
 
-/// Whatever the bytes are, as a document of each kind they have one answer at most: one value, or
-/// one fault, and never both.
+/// All bytes, read as a document of one kind, have at most one result: one value or one fault, and
+/// never both.
 pub fn one_answer()
     ensures scan { (setting : SettingValue) (bytes : Bytes)
         → HasOneAnswer (scan_checks setting) (AreRules setting) bytes }
@@ -24,7 +24,7 @@ pub fn one_answer()
     ensures project { (bytes : Bytes) → HasOneAnswer project_checks IsProject bytes }
 {}
 
-/// The value of a document that is accepted is that of the function of its bytes.
+/// The value of an accepted document is the value of a function of its bytes.
 pub fn value_of_bytes()
     ensures scan { (setting : SettingValue) (bytes : Bytes) (rules : List RuleValue)
         → IsAccepted (scan_checks setting) (AreRules setting) bytes rules
@@ -40,8 +40,8 @@ pub fn value_of_bytes()
         → project ≡ project_of bytes }
 {}
 
-/// The text of an info whose names and paths are accepted is read as the same info, and is refused
-/// exactly where it is longer than a document may be.
+/// The text of an info whose names and paths are accepted is read as the same info. If the text is
+/// longer than a document may be, and only then, reading it fails.
 pub fn info_again()
     ensures { (info : InfoValue) → IsSoundInfo info → ReadsBack info (info_text info) }
 {}

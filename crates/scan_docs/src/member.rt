@@ -44,7 +44,7 @@ pub enum Member {
 impl Member {
     ghost use Rattle.scan_docs.specs.Member.{key};
 
-    /// The member's key in a document, or a name for a value that is no member.
+    /// Returns the member's key in a document, or a name for a value that is no member.
     #[tactic(auto, unfolding(crate::specs::Member::key))]
     pub fn key(self) -> &'static str
         ensures { result.now ≡ key self }

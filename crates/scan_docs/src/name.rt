@@ -12,14 +12,15 @@ use std::marker::Model;
 use std::rc::RcSlice;
 use std::{fmt, str};
 
-/// The most bytes that a name has.
+/// The maximum length of a name in bytes.
 pub const NAME_LIMIT: usize = 1024;
 
 /// The name of a module, or of a module's partition: the logical name of P1689R5.
 ///
 /// It has 1 to 1,024 bytes and one `:` at most, no part between the separators `.` and `:` is
-/// empty, and no byte is a control byte, a space, 127 or one of `/ \ " ' = | $`. A contract sees a
-/// name as its text. Copies of a name share the text, and the names of a scan document share one.
+/// empty, and no byte is a control byte, a space, 127 or one of `/ \ " ' = | $`. The view of a name
+/// is its string. Copies of a name share the string, and the names of a scan document or an info
+/// document share one.
 #[derive(Drop)]
 pub struct Name {
     /// The text, from `start` to `end`.
@@ -44,7 +45,11 @@ impl Model for Name {
 }
 
 impl Name {
-    /// The text as a name, or None where it is not accepted.
+    /// Returns the name of a string, or `None` if the string is not a valid name.
+    ///
+    /// # Errors
+    ///
+    /// Returns an error if an allocation fails.
     pub fn of(alloc: Global, text: &str) -> Result<Option<Name>, AllocError>
         ensures { IfOk result (λ name. SomeIff name (IsTrue (is_name text.now)) text.now) }
     {
@@ -67,7 +72,7 @@ impl Name {
         })
     }
 
-    /// The text that the name was made of.
+    /// Returns the string of the name.
     pub fn text(&self) -> &str
         ensures text { result.now ≡ self.now }
         ensures accepted { IsTrue (is_name self.now) }
@@ -78,7 +83,7 @@ impl Name {
         }
     }
 
-    /// The bytes of that text.
+    /// Returns the bytes of the string.
     pub fn bytes(&self) -> &[u8]
         ensures text { result.now ≡ self.now }
         ensures accepted { IsTrue (is_name self.now) }
@@ -118,12 +123,12 @@ impl Clone for Name {
     }
 }
 
-/// The names of a document, one after the other in one string. A name that is made of it shares
-/// that string, so the names of a document need one allocation.
+/// The names of a document, one after the other in one string. The names that are made of it share
+/// the string, so that they need one allocation.
 #[derive(Drop)]
 pub(crate) struct SharedNames {
     text: RcSlice<u8>,
-    /// The names before this offset are made.
+    /// Where the next name begins.
     start: usize,
 }
 
@@ -158,8 +163,8 @@ pub(crate) fn is_name(text: &[u8]) -> bool
     !text.is_empty() && text.len() <= NAME_LIMIT && has_name_parts(text)
 }
 
-/// Whether there is one colon at most, no part is empty, and each byte is one of a name.
-/// `is_empty` speaks of the part that is being read.
+/// Returns whether there is at most one colon, no part is empty, and each byte may be in a name.
+/// `is_empty` is about the current part.
 #[tactic(auto, using(crate::proofs::Parts::name_parts))]
 fn has_name_parts(text: &[u8]) -> bool
     ensures { result ≡ (nat_le (count_by (λ b. b == 58) text.now) 1
@@ -195,7 +200,7 @@ fn is_name_byte(byte: &u8) -> bool
         )
 }
 
-/// Two names are equal where their texts are.
+/// Two names are equal if their strings are.
 impl PartialEq for Name {
     ghost use Rattle.std.specs.Prelude.{bytes_eq};
     ghost use Rattle.std.specs.Cmp.{partial_equiv_from_equiv};
@@ -216,7 +221,7 @@ impl Eq for Name {
     ghost laws = { nat_list_eq_equiv };
 }
 
-/// Names are in the byte order of their texts.
+/// Names are in the byte order of their strings.
 impl Ord for Name {
     ghost use Rattle.std.proofs.Common.{rules};
     ghost use Rattle.std.specs.Cmp.Rules.{comparing};
@@ -269,7 +274,7 @@ impl Hash for Name {
     }
 }
 
-/// A name is shown as its text.
+/// A name is printed as its string.
 impl fmt::Debug for Name {
     ghost use Rattle.std.specs.Prelude.{Some};
 

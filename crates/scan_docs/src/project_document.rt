@@ -18,7 +18,7 @@ use serde_json::Value;
 use std::alloc::Global;
 use std::marker::Model;
 
-/// The member of a project document. Texts are as in the document.
+/// The member of a project document. Strings are as in the document.
 #[derive(Drop)]
 pub struct ProjectSpec {
     /// The target documents, in the order of the project.
@@ -34,10 +34,13 @@ impl Model for ProjectSpec {
     ghost view = { λ p. record { targets = map string_bytes p.targets.items } };
 }
 
-/// The target documents of a project, in its order, or the refusal of the first check that fails.
+/// Returns the target documents of a project, in its order.
 ///
-/// `version` has to be 1, and `targets` a list of texts, which may be empty. Whether these are
-/// files, and which targets they link, is not looked at.
+/// `version` has to be 1, and `targets` a list of strings, which may be empty. No file is accessed.
+///
+/// # Errors
+///
+/// Returns the fault of the first check that fails, or [`Failure::Memory`] if an allocation fails.
 pub fn project_read(alloc: Global, bytes: &[u8]) -> Result<ProjectSpec, Failure<DocFault>>
     ensures accepted { IfOk result
         (λ project. IsAccepted project_checks IsProject bytes.now project) }

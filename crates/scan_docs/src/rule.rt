@@ -25,7 +25,7 @@ use std::alloc::{AllocError, Global};
 use std::marker::Model;
 
 /// A rule of a scan document: an object file, the modules that its source provides, each with its
-/// file, and the names of the modules that it requires, both in the order of the document.
+/// BMI, and the names of the modules that it requires, both in the order of the document.
 #[derive(Clone, Drop)]
 pub struct Rule {
     pub object: Path,
@@ -76,7 +76,7 @@ pub(crate) fn read_rule(
     })
 }
 
-/// Where the rule's object file lies.
+/// Returns the path of the rule's object file.
 #[tactic(auto, unfolding(crate::specs::ScanChecks::object_checks))]
 fn read_object(
     alloc: Global,
@@ -101,7 +101,7 @@ fn read_object(
     )
 }
 
-/// The modules that the rule's source provides and requires, of which there may be too many.
+/// Returns the modules that the rule's source provides and requires.
 fn read_modules(
     alloc: Global,
     names: &mut SharedNames,
@@ -202,7 +202,7 @@ fn read_provided(
     Ok((name, file))
 }
 
-/// Where the file of a module of that name lies, of which the document may give the path.
+/// Returns the path of the module's BMI, which the document may name.
 fn read_file(
     alloc: Global,
     setting: &Setting,
@@ -262,7 +262,7 @@ fn read_required(
     read_shared_name(alloc, names, name, place)
 }
 
-/// Whether a requirement is looked up as a header.
+/// Returns whether a requirement is looked up as a header.
 fn names_header(entry: &Value, place: Place) -> Result<bool, Failure<DocFault>>
     ensures { Tests (lookup_check place (view entry.now))
         (λ header. header ≡ names_header (text m.LookupMethod (view entry.now))) result }
@@ -277,18 +277,7 @@ fn names_header(entry: &Value, place: Place) -> Result<bool, Failure<DocFault>>
     }
 }
 
-/// A text that has to be the name of a module.
-fn accepted_name(text: &str, place: Place) -> Result<&str, Failure<DocFault>>
-    ensures { Tests (is_name text.now otherwise DocFault.BadName place)
-        (λ name. (name.now ≡ text.now) × IsName name.now) result }
-{
-    if !is_name(text.as_bytes()) {
-        return Err(Failure::Fault(DocFault::BadName { place }));
-    }
-    Ok(text)
-}
-
-/// The name of a module, which has to be accepted, made of the names of its document.
+/// Returns the name of a module, which has to be accepted. It shares the document's string.
 pub(crate) fn read_shared_name(
     alloc: Global,
     names: &mut SharedNames,
@@ -298,19 +287,13 @@ pub(crate) fn read_shared_name(
     ensures { Tests (is_name text.now otherwise DocFault.BadName place)
         (λ name. (name ≡ text.now) × IsName name) result }
 {
-    let text = accepted_name(text, place)?;
+    if !is_name(text.as_bytes()) {
+        return Err(Failure::Fault(DocFault::BadName { place }));
+    }
     Ok(names.make(alloc, text)?)
 }
 
-/// The name of a module, which has to be accepted.
-pub(crate) fn read_name(alloc: Global, text: &str, place: Place) -> Result<Name, Failure<DocFault>>
-    ensures { Tests (is_name text.now otherwise DocFault.BadName place)
-        (λ name. (name ≡ text.now) × IsName name) result }
-{
-    Name::of(alloc, text)?.ok_or(Failure::Fault(DocFault::BadName { place }))
-}
-
-/// Where a path of the document lies.
+/// Returns the canonical path of a path of the document.
 fn read_path(
     alloc: Global,
     setting: &Setting,
@@ -326,7 +309,7 @@ fn read_path(
     path_at(at, place(alloc, work, setting.build_dir.as_ref(), path))
 }
 
-/// The name of a module's file where the document names none.
+/// Returns the name of a module's BMI if the document names none.
 fn made_file(alloc: Global, setting: &Setting, name: &str) -> Result<Vec<u8>, AllocError>
     ensures path { IfOk result (λ path. path.items ≡ made_file setting.now name.now) }
     ensures text { IfOk result (λ path. IsUtf8 path.items) }
@@ -348,7 +331,7 @@ fn made_file(alloc: Global, setting: &Setting, name: &str) -> Result<Vec<u8>, Al
     Ok(path)
 }
 
-/// Appends the bytes of a name, a dash for each colon.
+/// Appends the bytes of a name, with a dash for each colon.
 fn push_dashed(path: &mut Vec<u8>, name: &[u8]) -> Result<(), AllocError>
     ensures { OnOk result (path.new.items ≡ path.old.items ++ map dashed name.now) }
 {

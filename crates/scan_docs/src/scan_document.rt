@@ -22,16 +22,19 @@ use ninja_text::Failure;
 use serde_json::Value;
 use std::alloc::{AllocError, Global};
 
-/// The most rules of a document, and entries of one of a rule's lists.
+/// The maximum number of rules in a document, and of entries in each list of a rule.
 pub const COUNT_LIMIT: usize = 65536;
 
-/// The rules of a scan document (P1689R5), in its order, or the refusal of the first check that
-/// fails.
+/// Returns the rules of a scan document (P1689R5), in its order.
 ///
-/// `version` has to be 0, which some producers write, or 1. A rule's object file and the named
-/// files of its modules are placed with the rule's work directory; a module's file that is not
-/// named is made of the setting and the name. Other members may hold anything, among them
-/// `revision`, `outputs` and every `source-path`.
+/// `version` has to be 1 or 0, which some scanners write. The path of a rule's object file, and of a
+/// BMI that the document names, is relative to the rule's work directory. If the document does not
+/// name the BMI of a module, its path is made of the setting and the module's name. All other
+/// members are ignored, among them `revision`, `outputs` and every `source-path`.
+///
+/// # Errors
+///
+/// Returns the fault of the first check that fails, or [`Failure::Memory`] if an allocation fails.
 pub fn scan(alloc: Global, bytes: &[u8], setting: &Setting) -> Result<Vec<Rule>, Failure<DocFault>>
     ensures accepted { IfOk result
         (λ rules.
@@ -80,7 +83,7 @@ fn read_all_rules(
     Ok(found)
 }
 
-/// The names of the modules that rules provide and require, in the order in which they are read.
+/// Returns the names of the modules that rules provide and require, in the order of the document.
 fn names_of_rules(alloc: Global, rules: &[Value]) -> Result<Vec<u8>, AllocError>
     ensures { IfOk result (λ names. names.items ≡ flat_map rule_names (map view rules.now)) }
 {

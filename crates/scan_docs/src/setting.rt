@@ -3,12 +3,14 @@
 use ninja_text::Path;
 use std::marker::Model;
 
-/// Where a target's modules are compiled to, and the directory that Ninja runs in, which is
-/// absolute.
+/// Where a target's modules are compiled to.
 #[derive(Drop)]
 pub struct Setting {
+    /// The directory of the BMIs, or an empty string.
     pub module_dir: String,
+    /// The end of the name of a BMI.
     pub module_ext: String,
+    /// The directory that Ninja runs in, which is absolute.
     pub build_dir: Option<Path>,
 }
 

@@ -21,7 +21,6 @@ use crate::fault::{DocFault, Place, bad_shape, path_at};
 use crate::map_form::MapForm;
 use crate::member::Member;
 use crate::name::Name;
-use crate::rule::read_name;
 use crate::setting::Setting;
 use crate::shape;
 use crate::target_name::TargetName;
@@ -39,15 +38,15 @@ pub struct TargetSpec {
     pub setting: Setting,
     /// The scan documents.
     pub scans: Vec<String>,
-    /// The info documents of the targets that this one links.
+    /// The info files of the targets that this one links.
     pub linked: Vec<String>,
-    /// The modules that the target keeps to itself: the member `private`.
+    /// The modules that only the target itself may require: the member `private`.
     pub kept: Vec<Name>,
     /// The dyndep file to be written.
     pub dyndep: String,
     /// The path of the dyndep file as Ninja sees it: `dyndep` in `build-dir`.
     pub dyndep_path: Path,
-    /// The info document to be written.
+    /// The info file to be written.
     pub info: String,
     /// The form of the module maps, if maps are to be written.
     pub map: Option<MapForm>,
@@ -78,7 +77,11 @@ impl Model for TargetSpec {
     } };
 }
 
-/// The members of a target document, or the refusal of the first check that fails.
+/// Returns the members of a target document.
+///
+/// # Errors
+///
+/// Returns the fault of the first check that fails, or [`Failure::Memory`] if an allocation fails.
 pub fn spec_read(alloc: Global, bytes: &[u8]) -> Result<TargetSpec, Failure<DocFault>>
     ensures accepted { IfOk result (λ spec. IsAccepted target_checks IsTarget bytes.now spec) }
     ensures refused { IfErr result (ForFault (IsRefused target_checks bytes.now)) }
@@ -114,7 +117,7 @@ fn read_spec(alloc: Global, tree: &Value) -> Result<TargetSpec, Failure<DocFault
     })
 }
 
-/// The target's name, in a target document or an info document.
+/// Returns the target's name, in a target document or an info document.
 #[tactic(auto, unfolding(crate::specs::TargetChecks::name_checks))]
 pub(crate) fn read_target_name(alloc: Global, tree: &Value) -> Result<TargetName, Failure<DocFault>>
     ensures { Answers (name_checks (view tree.now))
@@ -164,7 +167,7 @@ fn read_build_dir(alloc: Global, tree: &Value) -> Result<Option<Path>, Failure<D
 }
 
 /// The members `scans`, `linked` and `private`.
-#[tactic(auto, unfolding(crate::specs::TargetChecks::list_checks))]
+#[tactic(auto, unfolding(crate::specs::TargetChecks::list_checks, crate::specs::TargetChecks::kept_checks))]
 fn read_inputs(
     alloc: Global,
     tree: &Value,
@@ -176,20 +179,21 @@ fn read_inputs(
 {
     let scans = shape::texts(alloc, tree, Member::Scans, Place::Document)?;
     let linked = shape::texts(alloc, tree, Member::Linked, Place::Document)?;
-    let kept = read_private(alloc, tree)?;
+    let texts = shape::texts(alloc, tree, Member::Private, Place::Document)?;
+    let kept = read_names(alloc, &texts)?;
     Ok((scans, linked, kept))
 }
 
-#[tactic(auto, unfolding(crate::specs::TargetChecks::kept_checks))]
-fn read_private(alloc: Global, tree: &Value) -> Result<Vec<Name>, Failure<DocFault>>
-    ensures { Answers (kept_checks (view tree.now))
-        (λ found. texts_of m.Private (view tree.now) ≡ found.items) result }
+// Not in the loop: there its two errors would be two exits.
+fn read_name(alloc: Global, text: &str) -> Result<Name, Failure<DocFault>>
+    ensures { Tests (is_name text.now otherwise DocFault.BadName Place.Document)
+        (λ name. name ≡ text.now) result }
 {
-    let texts = shape::texts(alloc, tree, Member::Private, Place::Document)?;
-    read_names(alloc, &texts)
+    let place = Place::Document;
+    Name::of(alloc, text)?.ok_or(Failure::Fault(DocFault::BadName { place }))
 }
 
-/// The texts as names, all of which have to be accepted.
+/// Returns the names of the strings, all of which have to be accepted.
 fn read_names(alloc: Global, texts: &[String]) -> Result<Vec<Name>, Failure<DocFault>>
     ensures { Tests
         (list_all is_name (map string_bytes texts.now) otherwise DocFault.BadName Place.Document)
@@ -197,7 +201,7 @@ fn read_names(alloc: Global, texts: &[String]) -> Result<Vec<Name>, Failure<DocF
 {
     let mut names = Vec::with_capacity(alloc, texts.len())?;
     for text in texts {
-        let name = read_name(alloc, text.as_str(), Place::Document)?;
+        let name = read_name(alloc, text.as_str())?;
         names.push(name)?;
     }
     Ok(names)

@@ -11,8 +11,8 @@ use std::cmp::Ordering;
 use std::hash::{Hash, Hasher};
 use std::marker::Model;
 
-/// The name of a target: 1 to 1,024 bytes, none of them a control byte or 127. A contract sees it
-/// as its text.
+/// The name of a target: 1 to 1,024 bytes, none of them a control byte or 127. The view of a name
+/// is its string.
 #[derive(Debug, Drop)]
 pub struct TargetName {
     text: String,
@@ -31,7 +31,11 @@ impl Model for TargetName {
 }
 
 impl TargetName {
-    /// The text as a name, or None where it is not accepted.
+    /// Returns the name of a string, or `None` if the string is not a valid name.
+    ///
+    /// # Errors
+    ///
+    /// Returns an error if an allocation fails.
     pub fn of(alloc: Global, text: &str) -> Result<Option<TargetName>, AllocError>
         ensures { IfOk result (λ name. SomeIff name (IsTrue (is_target_name text.now)) text.now) }
     {
@@ -42,7 +46,7 @@ impl TargetName {
         Ok(Some(TargetName { text }))
     }
 
-    /// The text that the name was made of.
+    /// Returns the string of the name.
     pub fn text(&self) -> &str
         ensures text { result.now ≡ self.now }
         ensures accepted { IsTrue (is_target_name self.now) }
@@ -85,7 +89,7 @@ impl Clone for TargetName {
     }
 }
 
-/// Two names are equal where their texts are.
+/// Two names are equal if their strings are.
 impl PartialEq for TargetName {
     ghost use Rattle.std.specs.Prelude.{bytes_eq};
     ghost use Rattle.std.specs.Cmp.{partial_equiv_from_equiv};
@@ -106,7 +110,7 @@ impl Eq for TargetName {
     ghost laws = { nat_list_eq_equiv };
 }
 
-/// Names are in the byte order of their texts.
+/// Names are in the byte order of their strings.
 impl Ord for TargetName {
     ghost use Rattle.std.proofs.Common.{rules};
     ghost use Rattle.std.specs.Cmp.Rules.{comparing};

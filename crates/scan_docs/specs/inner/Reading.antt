@@ -1,4 +1,4 @@
--- What the readers of a document's parts answer.
+-- What the readers of a document's parts return.
 use Rattle.std.specs.Prelude.{◌≡◌, ◌≢◌, ◌≤◌, ◌<◌, ◌⊎◌, ℕ, ◌==◌, List, length, [], ◌∷◌, Bool, true, false, if◌then◌else◌, Option, Some, None, Result, Ok, MatchResult}
 use Rattle.std.specs.List.{list_any}
 use Rattle.ninja_text.specs.declared.failure.Failure.{Failure}
@@ -15,13 +15,13 @@ use Rattle.scan_docs.specs.Check.{Check, ◌otherwise◌, shape_check, path_chec
 use Rattle.scan_docs.specs.Shape.{is_object, whole_number}
 use Rattle.scan_docs.specs.Scan.{IsText}
 
--- the first refusal, as a call answers it
+-- the first fault, as a call returns it
 abbrev pub first_failure : List Check → Option (Failure DocFault)
 first_failure [] = None
 first_failure (c ∷ cs) = if c.holds then first_failure cs else Some (Fault c.refusal)
 
--- A reader answers a value that P holds of where all checks hold, and else the first refusal,
--- memory aside.
+-- A reader returns a value that P holds of if all checks hold, and otherwise the first fault, memory
+-- aside.
 abbrev pub Answers : {T : Type 0} → List Check → (T → Type 0) → Result T (Failure DocFault) → Type 0
 Answers checks P result =
     MatchResult result (λ x. (first_failure checks ≡ None) × P x)
@@ -33,7 +33,7 @@ Tests c P result =
     MatchResult result (λ x. (c.holds ≡ true) × P x)
     (λ e. e ≢ Memory → (c.holds ≡ false) × (e ≡ Fault c.refusal))
 
--- A reader answers the path of an outcome, which is text, and else its fault.
+-- A reader returns the path of an outcome, which is text, or its fault.
 abbrev pub AnswersPath : Place → Result (List ℕ) PathFault → Result (List ℕ) (Failure DocFault)
     → Type 0
 AnswersPath place outcome result =

@@ -8,7 +8,7 @@ abbrev pub SendsText : List ℕ → List ℕ → Log → Log → Type 0
 SendsText name value old new =
     (named : Log) × Logs old named (field_key name AsIs) × Logs named new (text value)
 
--- an object of so many members begins, with a file and a name, as a module and a requirement do
+-- an object with this number of members begins with a file and a name, for a module or a requirement
 abbrev pub BeginsNamedFile : ℕ → List ℕ → List ℕ → Log → Log → Type 0
 BeginsNamedFile members name file =
     Then (λ old new. Logs old new (map_begins (Some members)))

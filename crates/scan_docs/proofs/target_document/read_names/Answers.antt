@@ -16,7 +16,7 @@ loop-text-preserved c =
     let h = c.in_ok-name.ensures in
     record {
       rest = passes string_bytes is_name c.args.texts.now c.loop-text.text-index c.text-item.result c.loop-text-test.true c.text-item.is (ap is_name (sym c.as_str.ensures.value) ∙ h.0) c.loop-text.invariant.rest;
-      read = rw c.in_ok-push.ensures.items (rw (h.1.0, c.as_str.ensures.value) (more string_bytes is_name c.args.texts.now c.loop-text.text-index c.text-item.result c.loop-text-test.true c.text-item.is c.loop-text.names.items c.loop-text.invariant.read));
+      read = rw c.in_ok-push.ensures.items (rw (h.1, c.as_str.ensures.value) (more string_bytes is_name c.args.texts.now c.loop-text.text-index c.text-item.result c.loop-text-test.true c.text-item.is c.loop-text.names.items c.loop-text.invariant.read));
     }
 
 pub returns : goal.returns
