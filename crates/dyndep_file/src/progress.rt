@@ -184,7 +184,8 @@ fn is_version_one(value: &[u8]) -> bool
     }
 }
 
-/// Returns whether a number ends before these bytes: no digit follows and, with `dots`, no `.`.
+/// Returns whether a number ends before these bytes: no digit follows and, unless `dots` are allowed, no
+/// `.`.
 fn ends_number(dots: bool, rest: &[u8]) -> bool
     ensures { result ≡ ends_number dots rest.now }
 {
