@@ -347,7 +347,7 @@ class Others:
 
     def test_an_installed_package(self):
         """What is exported and installed is what CMake's step exports and installs; another project finds it."""
-        # with CMake 4.3, Ninja links a program in each run if there is a space in the path of an installed library
+        # on Debian 13 a build of CMake links a program in each run if there is a space in the path of an installed library
         self.lay(PACKAGE, folder="package")
         self.builds("letters.cppm", "part.cppm", "words.cppm", "own.cppm", "words.cpp")
         for tree in self.trees:
