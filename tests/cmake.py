@@ -361,6 +361,15 @@ class Steps(Case):
         self.scan("t", "a.cpp")
         self.assertEqual(step("t"), (3, f"dyncollate: cannot read {os.getcwd()}/l/CXXModules.info.json\n"))
 
+    def test_two_linked_targets_with_modules_of_one_name(self):
+        for name in "x", "y":
+            self.target(name, {"d.cppm": {}})
+            self.scan(name, "d.cppm", ["detail"])
+            self.collates(name)
+        self.target("t", {}, ["x", "y"])
+        self.scan("t", "a.cpp")
+        self.assertEqual(step("t", scans=["t/a.cpp.o.ddi"]), (1, "dyncollate: M3 ProvidedTwice detail by info x and info y\n"))
+
     def test_a_missing_document(self):
         self.assertEqual(step(".", scans=[]), (3, "dyncollate-cmake: ./CXXDependInfo.json: No such file or directory\n"))
 
