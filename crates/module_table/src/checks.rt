@@ -1,6 +1,6 @@
-//! All checks of a table in the order of their codes, and what a table keeps for look-ups once they
-//! have passed: M1 to M4 are in `repeated.rt`, M5 to M7 in `required.rt`, M8 in `rings.rt`, M9 and
-//! M10 in `privacy.rt`.
+//! All checks of a table in the order of their codes, and what a table keeps for look-ups after
+//! they have passed. M1 to M4 are in `repeated.rt`, M5 to M7 in `required.rt`, M8 in `rings.rt`, M9
+//! and M10 in `privacy.rt`.
 ghost use Rattle.std.specs.Prelude.{◌≡◌, ℕ, List, map, IfOk, IfErr, OnOk};
 ghost use Rattle.ninja_text.specs.Bytes.{Name};
 ghost use Rattle.ninja_text.specs.Failure.{ForFault};
@@ -36,21 +36,21 @@ mod repeated;
 mod required;
 mod rings;
 
-/// What a table keeps besides its objects and infos, so that no look-up searches them.
+/// What a table keeps for look-ups besides its objects and info files.
 #[derive(Drop)]
 pub(crate) struct Index {
     /// The names of all provided modules. A name's index is that of its module.
     pub names: IndexSet<Name, TableKey>,
-    /// Who provides each module, and at which index among its maker's.
+    /// The producer of each module, and the index of the module in what the producer provides.
     pub origins: Vec<(Maker, usize)>,
-    /// What the modules and the objects need of one another, by index.
+    /// The modules and objects that each module and each object needs, by index.
     pub graph: Digraph,
-    /// What each object requires, with the modules' files.
+    /// The modules that each object requires, with their files.
     pub required: Vec<Vec<(Name, Path)>>,
 }
 
 impl Index {
-    /// That of the modules, where each object requires the modules of a row of indexes.
+    /// Returns the index of these modules. `indexes[i]` are the modules that object i requires.
     fn new(
         alloc: Global,
         modules: Modules<'_>,
@@ -72,9 +72,8 @@ impl Index {
     }
 }
 
-/// All checks, from the lowest code to the highest. Names, targets and files are hashed by
-/// `key`. The paths of the objects are put into the empty set, and after them the modules'
-/// files.
+/// Makes all checks, from the lowest code to the highest. Names, targets and files are hashed under
+/// `key`. The paths of the objects are put into the empty set, and the modules' files after them.
 pub(crate) fn check_all<'t>(
     alloc: Global,
     objects: &'t [Rule],
@@ -98,7 +97,7 @@ pub(crate) fn check_all<'t>(
     Ok(index)
 }
 
-/// M1 to M4, and the modules by index.
+/// Checks M1 to M4 and returns the modules by index.
 fn check_repetitions<'t>(
     alloc: Global,
     objects: &'t [Rule],
@@ -121,7 +120,7 @@ fn check_repetitions<'t>(
     Ok(modules)
 }
 
-/// M5 to M10, and the indexes of the modules that each object requires.
+/// Checks M5 to M10 and returns the indexes of the modules that each object requires.
 fn check_requirements(
     alloc: Global,
     modules: &Modules,
@@ -144,8 +143,8 @@ fn check_requirements(
     Ok(indexes)
 }
 
-/// M6 to M10, of what was looked up: each object has a row of the indexes of what it requires, and
-/// what infos' modules require comes with the modules of those names.
+/// Checks M6 to M10. `indexes[i]` are the modules that object i requires, and `required` is what
+/// the modules of info files require, with the modules of those names.
 fn check_looked_up(
     alloc: Global,
     modules: &Modules,
@@ -165,7 +164,7 @@ fn check_looked_up(
     check_allowed(alloc, modules, indexes, required, kept)
 }
 
-/// M9 and M10, of what was looked up.
+/// Checks M9 and M10.
 fn check_allowed(
     alloc: Global,
     modules: &Modules,
@@ -184,7 +183,7 @@ fn check_allowed(
     check_kept(alloc, modules, kept)
 }
 
-/// Who provides each module, and at which index among its maker's.
+/// Returns the producer of each module, and the index of the module in what the producer provides.
 fn all_origins(alloc: Global, provided: &[Module]) -> Result<Vec<(Maker, usize)>, AllocError>
     ensures { IfOk result (λ origins. origins.items ≡ map origin_of provided.now) }
 {

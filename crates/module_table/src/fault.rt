@@ -8,28 +8,29 @@ use std::alloc::Global;
 use std::fmt;
 use thiserror::Error;
 
-/// Who makes a file: an object of the target, or the target of an info, by index.
+/// The producer of a file: an object of the target or the target of an info file, by index.
 #[derive(Clone, Copy, Debug, PartialEq, Eq)]
 pub enum Maker {
     Object(usize),
     Info(usize),
 }
 
-/// Why a table cannot be built. Of several faults the one with the lowest code is
+/// The reason why a table cannot be built. If several apply, the one with the lowest code is
 /// reported.
 ///
-/// Of M1 to M4 it is the repetition whose later member comes first, with its earliest partner, in
-/// the order: objects' own paths, provided modules by object, modules by info. Of M5 to M7, M9 and
-/// M10 it is the first requirement, by object or by info and module, or the first name.
+/// For M1 to M4 go through the objects' paths, then the modules that objects provide, then the
+/// modules of info files. The first item that repeats an earlier one is reported, with the earliest
+/// item that it repeats. For M5 to M7, M9 and M10 the first requirement is reported, by object or
+/// by info file and module, or the first name.
 #[derive(Debug, Drop, Error)]
 pub enum TableFault {
-    /// Two objects have one path.
+    /// Two objects have the same path.
     ObjectTwice {
         path: Path,
         first: Maker,
         second: Maker,
     },
-    /// Two infos have one target name.
+    /// Two info files have the same target name.
     InfoTwice {
         target: TargetName,
     },
@@ -39,56 +40,56 @@ pub enum TableFault {
         first: Maker,
         second: Maker,
     },
-    /// A file is that of two provided modules, or of a module and an object.
+    /// Two provided modules have the same file, or a module's file is an object.
     BmiTwice {
         path: Path,
         first: Maker,
         second: Maker,
     },
-    /// An object requires a name that neither the target nor an info provides.
+    /// An object requires a name that neither an object nor an info file provides.
     ModuleUnknown {
         name: Name,
         object: usize,
     },
-    /// A module of an info requires a name that no info provides.
+    /// A module of an info file requires a name that no info file provides.
     InfoUnknown {
         target: TargetName,
         module_name: Name,
         name: Name,
     },
-    /// A module of an info requires a name with another file than that of the info that provides
+    /// A module of an info file requires a name with another file than the info file that provides
     /// it.
     InfoDisagrees {
         target: TargetName,
         module_name: Name,
         name: Name,
     },
-    /// Objects need each other's modules in a ring: each needs the next, and the last needs the
-    /// first. The first is the least index on any ring, no ring through it is shorter, and of those
-    /// that are as short this list is least.
+    /// Objects need each other's modules in a cycle: each needs the next, and the last needs the
+    /// first. The list starts at the lowest index that is on any cycle. It is a shortest cycle
+    /// through that object, and the lexicographically first list if several are as short.
     ImportCycle {
         objects: Vec<usize>,
     },
-    /// An object, or a module of another info, requires a module that is private to the target of
-    /// an info.
+    /// An object, or a module of another info file, requires a module that is private to the target
+    /// of an info file.
     ModulePrivate {
         name: Name,
         info: usize,
         user: Maker,
     },
-    /// A name is to be private to the target, and no object provides it.
+    /// A name is declared private to the target, but no object provides it.
     PrivateUnknown {
         name: Name,
     },
 }
 
-/// A table that cannot be built: why, and what it was to be built of, given back.
+/// The fault of a table that cannot be built, with the objects and info files that were passed in.
 #[derive(Drop)]
 pub struct RefusedTable {
     pub fault: TableFault,
     /// The target's objects, by index.
     pub objects: Vec<Rule>,
-    /// The infos of the targets that it links, by index.
+    /// The info files of the targets that it links, by index.
     pub infos: Vec<Info>,
 }
 
@@ -96,7 +97,7 @@ impl TableFault {
     ghost use Rattle.std.specs.Prelude.{◌≡◌};
     ghost use Rattle.module_table.specs.FaultNames.{fault_name};
 
-    /// The code and the name of the fault, as it is printed.
+    /// Returns the code and the name of the fault, for example `M3 ProvidedTwice`.
     pub fn name(&self) -> &'static str
         ensures { result.now ≡ fault_name self.now }
     {
@@ -115,7 +116,7 @@ impl TableFault {
     }
 }
 
-/// The failure of a check that finds this fault. It is boxed, so that what a check answers is small.
+/// Returns the failure of a check that finds this fault. It is boxed to keep the result small.
 pub(crate) fn failure_of(alloc: Global, fault: TableFault) -> Failure<Box<TableFault>>
     ensures { ForFault (λ boxed. boxed.value ≡ fault) result }
 {

@@ -1,4 +1,4 @@
-//! What modules and objects need of one another, by index.
+//! The graph of modules and objects: what each needs, by index.
 ghost use Rattle.std.specs.Prelude.{◌≡◌, ◌<◌, ◌+◌, ◌^◌, length, IfOk, All, map};
 ghost use Rattle.std.specs.List.{AllZip};
 ghost use Rattle.dep_order.specs.Rows.{rows};
@@ -17,8 +17,8 @@ use scan_docs::{Info, InfoModule, Name};
 use std::alloc::{AllocError, Global};
 use table_keys::TableKey;
 
-/// What each module needs, by index, and after all modules what each object needs: the modules of
-/// these indexes.
+/// Returns what each module needs, by index, and after all modules what each object needs.
+/// `required[i]` are the modules that object i requires.
 pub(crate) fn module_graph(
     alloc: Global,
     modules: &Modules,
@@ -41,7 +41,7 @@ pub(crate) fn module_graph(
     Ok(Digraph::new(needs))
 }
 
-/// What each module needs, where so many objects come after the modules.
+/// Returns what each module needs. `object_count` objects come after the modules.
 fn modules_needs(
     alloc: Global,
     names: &IndexSet<Name, TableKey>,
@@ -63,8 +63,8 @@ fn modules_needs(
     Ok(needs)
 }
 
-/// What a module needs: a module of an object needs the object, and a module of an info what it
-/// requires.
+/// Returns what a module needs: a module of an object needs the object, and a module of an info
+/// file needs what it requires.
 fn module_needs(
     alloc: Global,
     names: &IndexSet<Name, TableKey>,
@@ -90,7 +90,7 @@ fn module_needs(
     }
 }
 
-/// The indexes of the names of these pairs.
+/// Returns the indexes of the names of these pairs.
 fn indexes_of(
     alloc: Global,
     names: &IndexSet<Name, TableKey>,
@@ -108,7 +108,7 @@ fn indexes_of(
     Ok(indexes)
 }
 
-/// The module of an info at an index.
+/// Returns the module of an info file at an index.
 pub(crate) fn module_at(infos: &[Info], info: usize, index: usize) -> &InfoModule
     requires { (entry : ModuleValue) × IsInfosModule infos.now info index entry }
     ensures { IsInfosModule infos.now info index result.now }

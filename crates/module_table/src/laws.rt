@@ -4,23 +4,23 @@ ghost use Rattle.module_table.specs.Added.{AddedOrderable, FilesOnce, FilesApart
 ghost use Rattle.module_table.specs.Parts.{PartIsSound, PartHasTasks, PartIsNeeded};
 ghost use Rattle.module_table.specs.Outcomes.{SoundHasNoFault, FaultlessIsSound, OneTableFault};
 
-/// A table is sound, and its objects provide the names that are to be private, exactly where none
-/// of the faults M1 to M10 is present.
+/// A table is sound and its objects provide the private names if and only if none of the faults M1
+/// to M10 is present.
 pub fn sound_tables()
     ensures no_fault { SoundHasNoFault }
     ensures sound { FaultlessIsSound }
 {}
 
-/// Of a table that has faults one is reported, and no other: the same data, and of a ring the same
-/// objects in order.
+/// At most one fault can be reported for a table: the same data, and for a cycle the same objects
+/// in the same order.
 pub fn one_fault()
     ensures { OneTableFault }
 {}
 
-/// What a sound table means for the files that are added to a build: what objects gain as inputs
-/// from one another can be ordered, a file is that of one module of one object at most, and no
-/// module's file is an object. The pairs of an object are all names that it requires, with the
-/// files of their modules, and a name has one file.
+/// What a sound table means for the files that are added to a build. The inputs that objects gain
+/// from one another can be ordered. A file belongs to at most one module of one object, and no
+/// module's file is an object. An object's pairs are all names that it requires, with the files of
+/// their modules, and each name has one file.
 pub fn added_files()
     ensures orderable { AddedOrderable }
     ensures once { FilesOnce }
@@ -30,9 +30,9 @@ pub fn added_files()
     ensures one_file { OneFile }
 {}
 
-/// A part of the linked modules that is enough for a table: if the table of the part is sound, so is
-/// the table of all. Then the objects of both require the same. If the part keeps what its modules
-/// require, the objects of both also need the same.
+/// A part of the linked modules that is enough for a table: if the table of the part is sound, so
+/// is the table of all. Then the objects of both require the same. If the part keeps what its
+/// modules require, the objects of both also need the same.
 pub fn parts()
     ensures sound { PartIsSound }
     ensures tasks { PartHasTasks }

@@ -1,68 +1,62 @@
 //! The modules of one target and of the targets that it links, by name.
 //!
-//! [`Table::build`] makes a table of a target's rules and of the infos of the targets that it
-//! links. It succeeds exactly where none of the faults M1 to M10 is present (`specs/Faults.antt`,
-//! `IsFault`), and otherwise reports one that is present, with its data, and of the lowest code
-//! (`IsReported`). What holds where none is present is stated in `specs/Sound.antt`. The law
-//! [`sound_tables`] says that this holds exactly there, and [`one_fault`] that no other fault is
-//! reported (`specs/Outcomes.antt`).
+//! [`Table::build`] makes a table of a target's rules and of the info files of the targets that it
+//! links. It succeeds if and only if none of the faults M1 to M10 is present (`specs/Faults.antt`,
+//! `IsFault`). Otherwise it reports a fault that is present, with its data and the lowest code
+//! (`IsReported`). `specs/Sound.antt` states what holds of a table without faults. The law
+//! [`sound_tables`] says that this holds exactly if no fault is present, and the law [`one_fault`]
+//! that no other fault is reported (`specs/Outcomes.antt`).
 //!
-//! Names, paths, targets and files are looked up by their hashes, under a key that is made of all of
-//! them (`table_keys`): nobody can choose names that all hash alike. [`Table::build_or_refused`] also
-//! gives the objects and infos back with a fault, which has only their indexes ([`RefusedTable`]).
+//! Names, paths and targets are looked up in hash tables. Their key is the digest of all of them
+//! (`table_keys`), so nobody can choose names that all hash alike. [`Table::build_or_refused`] also
+//! returns the objects and info files with a fault, because a fault has only indexes
+//! ([`RefusedTable`]).
 //!
-//! [`Table::lookup`] answers who provides a name, [`Table::provided`] and [`Table::required`] what
-//! an object provides and requires, and [`Table::needed`] the modules at the ends of chains of
-//! requirements (`specs/Needed.antt`); [`Table::needs`] answers the same for one object after the
-//! other. [`Resolved`] has the objects and what each requires, and no look-ups. The law
-//! [`added_files`] says what a sound table means for the files that are added to a build
-//! (`specs/Added.antt`), and the law [`parts`] which part of the linked modules a table needs
-//! (`specs/Parts.antt`). These definitions are relations over rules and infos
-//! (`specs/Modules.antt`); that the code works with indexes of modules does not show in them. What
-//! private clauses speak of is below `specs/inner/`.
+//! [`Table::lookup`] returns the producer of a name. [`Table::provided`] and [`Table::required`]
+//! return what an object provides and requires. [`Table::needed`] returns the modules that an
+//! object requires directly or through others (`specs/Needed.antt`), and [`Table::needs`] does this
+//! for one object after another. [`Resolved`] has the objects and what each requires, without
+//! look-ups. The law [`added_files`] says what a sound table means for the files that are added to
+//! a build (`specs/Added.antt`). All these definitions are relations over rules and info files
+//! (`specs/Modules.antt`). Definitions that only private clauses use are in `specs/inner/`.
 //!
-//! A [`Pool`] has the info files of a project's targets. [`Pool::part`] returns the part of the linked
-//! ones that a target's table needs, so that a target does not take the time of all that it links.
+//! A [`Pool`] has the info files of a project's targets. [`Pool::part`] returns the part of the
+//! linked modules that a target's table needs, so that the work for a target does not grow with all
+//! that it links. The law [`parts`] says what a table of such a part tells (`specs/Parts.antt`).
 //!
-//! [`TableFault::name`] answers the code and the name of a fault, and a fault is printed so
-//! (`specs/FaultNames.antt`).
+//! [`TableFault::name`] returns the code and the name of a fault (`specs/FaultNames.antt`).
 //!
 //! # How it works
 //!
-//! - `modules.rt`: who provides which module. A module's index is the one that it has in the list
-//!   of all that objects and infos provide, and that of its name in a table of names. `Modules`
-//!   keeps both, and that they belong together is its invariant.
-//! - `checks.rt` makes the checks in the order of the codes, each a function of its own; the first
-//!   that fails reports its fault, so that the lowest code is reported. `checks/repeated.rt` has M1
-//!   to M4, `checks/required.rt` M5 to M7, `checks/rings.rt` M8, which asks `order` of `dep_order`
-//!   and carries its answer over to `DependsOn`, and `checks/privacy.rt` M9 and M10. What infos'
-//!   modules require is listed in `requirements.rt`, each with the module of that name, which M6,
-//!   M7 and M9 ask.
-//! - `table.rt`: a table keeps the objects and what each requires with the files (`resolved.rt`,
-//!   `pairs.rt`), the names, who provides each, and a digraph of modules and objects (`graph.rt`):
-//!   a module of an object needs the object, a module of an info what it requires, an object what
-//!   it requires.
-//! - `needed.rt`: [`Needs`] asks `Reaching` of `dep_order` in that graph, and sorts what it finds
-//!   by the ranks of the names, which are given once (`ranks.rt`).
-//!
+//! - `keys.rt` computes the key of a table's hash tables.
+//! - `modules.rt` lists the provided modules. The index of a module in the list is the index of its
+//!   name in a table of names. This is the invariant of `Modules`.
+//! - `checks.rt` makes the checks in the order of the codes and reports the fault of the first that
+//!   fails. `checks/repeated.rt` has M1 to M4, `checks/required.rt` M5 to M7, `checks/rings.rt` M8,
+//!   and `checks/privacy.rt` M9 and M10. M8 calls `order` of `dep_order`. `requirements.rt` lists
+//!   what the modules of info files require, with the module of each name, for M6, M7 and M9.
+//! - `table.rt`: a table has the objects and what each requires with the files (`resolved.rt`,
+//!   `pairs.rt`), the names, the producer of each, and a graph (`graph.rt`). In the graph an object
+//!   needs the modules that it requires, a module of an object needs the object, and a module of an
+//!   info file needs the modules that it requires.
+//! - `needed.rt`: [`Needs`] calls `Reaching` of `dep_order` in that graph, and sorts what it finds
+//!   by the ranks of the names, which are computed once.
 //! - `pool.rt`: a pool lists the modules of its info files by name and by file (`rows.rt`), and for
 //!   each info file the others that it requires modules of or shares names and files with
 //!   (`related.rt`). By these numbers it finds out whether a part of the linked modules is enough
 //!   (`fit.rt`), picks the part (`picking.rt`) and copies it (`copies.rt`).
 //!
-//! That one list at most has exactly the pairs of a relation is in `proofs/ForCallers.antt`, which
-//! alone of the proofs is cited by other crates.
+//! Other crates cite only one file of the proofs: `proofs/ForCallers.antt` shows that at most one
+//! list has exactly the pairs of a relation.
 //!
-//! It uses `scan_docs` for rules, infos and names, `ninja_text` for paths, `dep_order` for rings
-//! and for what a module leads to, `indexmap` and `table_keys` for look-ups, and `thiserror` for its
-//! fault.
+//! The crate uses `scan_docs` for rules, info files and names, `ninja_text` for paths, `dep_order`
+//! for cycles and for what a module leads to, `indexmap` and `table_keys` for look-ups, and
+//! `thiserror` for its fault.
 //!
-//! `must-fail/` has a wrong body of each public function but of the laws, which have none, and of
-//! those that only pass on what a [`Resolved`] has: [`Table::objects`], [`Table::required`],
-//! [`Table::resolved`], [`Table::into_resolved`], and [`Table::needs`], which lends the table.
-//! `objects_left_out` and `required_by_the_first_object` are of what they pass on, and those of
-//! `graph.rt` and `needed.rt` of what is needed. The plain calls have the clauses of
-//! [`Table::build_or_refused`], whose answers they give.
+//! `must-fail/` has a wrong body for each public function with these exceptions. Laws have no body.
+//! [`TableFault::name`] is a list of texts. [`Pool::new`] returns an empty pool. [`Table::build`],
+//! [`Table::objects`], [`Table::required`], [`Table::resolved`], [`Table::into_resolved`] and
+//! [`Table::needs`] pass on what other functions return, and these have edits.
 #![tactic(auto)]
 
 mod checks;
@@ -74,7 +68,6 @@ mod modules;
 mod needed;
 mod pairs;
 mod pool;
-mod ranks;
 mod requirements;
 mod resolved;
 mod table;

@@ -18,8 +18,8 @@ use std::alloc::{AllocError, Global};
 use std::marker::Model;
 use table_keys::TableKey;
 
-/// A provided module: who provides it, and at which index among the modules that its maker
-/// provides. Those of objects are not private.
+/// A provided module: its producer, and its index in what the producer provides. A module that an
+/// object provides is never private.
 #[derive(Clone, Copy)]
 pub(crate) struct Module<'t> {
     pub maker: Maker,
@@ -29,8 +29,8 @@ pub(crate) struct Module<'t> {
     pub is_private: bool,
 }
 
-/// The modules that objects and infos provide, no two of one name: by object, then by info, and for
-/// each of these in order of provision. A contract sees it as the table of the objects and infos.
+/// The modules that objects and info files provide, by object, then by info file, in order of
+/// provision. Their names differ. A contract sees it as the table of the objects and info files.
 pub(crate) struct Modules<'t> {
     objects: &'t [Rule],
     infos: &'t [Info],
@@ -71,7 +71,7 @@ impl<'t> Model for Modules<'t> {
 }
 
 impl<'t> Modules<'t> {
-    /// These modules of the objects and infos, with their names in the same order.
+    /// Returns these modules of the objects and info files, with their names in the same order.
     pub(crate) fn new(
         objects: &'t [Rule],
         infos: &'t [Info],
@@ -107,7 +107,7 @@ impl<'t> Modules<'t> {
         self.infos
     }
 
-    /// All modules, by index. No two have one name.
+    /// Returns all modules, by index. Their names differ.
     pub(crate) fn provided(&self) -> &[Module<'t>]
         ensures provisions { map provision_of result.now ≡ provisions self.now }
         ensures origins { map origin_of result.now ≡ origins_of self.now }
@@ -116,14 +116,14 @@ impl<'t> Modules<'t> {
         self.provided.as_slice()
     }
 
-    /// The names of all modules, by index.
+    /// Returns the names of all modules, by index.
     pub(crate) fn names(&self) -> &IndexSet<Name, TableKey>
         ensures { result.now.keys ≡ names_of (provisions self.now) }
     {
         &self.names
     }
 
-    /// The name of the module of that index.
+    /// Returns the name of the module of that index.
     pub(crate) fn name_at(&self, index: usize) -> &'t Name
         requires { index < length (provisions self.now) }
         ensures { slice_get (names_of (provisions self.now)) index ≡ Some result.now }
@@ -131,7 +131,7 @@ impl<'t> Modules<'t> {
         module_at(self.provided.as_slice(), index).name
     }
 
-    /// The module of that name, if one is provided.
+    /// Returns the module of that name, if one is provided.
     pub(crate) fn find(&self, name: &Name) -> Option<&Module<'t>>
         ensures { option_map (λ p. provision_of p.now) result
             ≡ found (provisions self.now) name.now }
@@ -142,7 +142,7 @@ impl<'t> Modules<'t> {
         }
     }
 
-    /// The names of all modules, by index, for a table to keep.
+    /// Consumes the value and returns the names of all modules, by index.
     pub(crate) fn into_names(self) -> IndexSet<Name, TableKey>
         ensures { result.keys ≡ names_of (provisions self.entry) }
     {
@@ -156,7 +156,7 @@ impl<'t> Modules<'t> {
     }
 }
 
-/// All provided modules: by object and index, then by info and index.
+/// Returns all provided modules: by object and index, then by info file and index.
 pub(crate) fn provided_modules<'t>(
     alloc: Global,
     objects: &'t [Rule],
@@ -239,7 +239,7 @@ fn add_info<'t>(info: usize, value: &'t Info, all: &mut Vec<Module<'t>>) -> Resu
     Ok(())
 }
 
-/// The module of that index.
+/// Returns the module of that index.
 pub(crate) fn module_at<'p, 't>(provided: &'p [Module<'t>], index: usize) -> &'p Module<'t>
     requires { index < length provided.now }
     ensures { slice_get provided.now index ≡ Some result.now }
@@ -247,7 +247,7 @@ pub(crate) fn module_at<'p, 't>(provided: &'p [Module<'t>], index: usize) -> &'p
     &provided[index]
 }
 
-/// The index of the name, if it is there.
+/// Returns the index of the name, if it is there.
 pub(crate) fn index_of(names: &IndexSet<Name, TableKey>, name: &Name) -> Option<usize>
     ensures found { IfSome result (λ index. slice_get names.now.keys index ≡ Some name.now) }
     ensures none { IfNone result

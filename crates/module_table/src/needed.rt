@@ -1,4 +1,4 @@
-//! The modules that objects need, themselves and through others.
+//! The modules that objects require, directly or through others.
 ghost use Rattle.std.specs.Prelude.{◌≡◌, ◌<◌, ◌+◌, ◌^◌, ℕ, List, All, map, length, slice_get, Some, IfOk};
 ghost use Rattle.std.specs.List.{filter_map};
 ghost use Rattle.ninja_text.specs.Bytes.{PathText, Name};
@@ -8,20 +8,20 @@ ghost use Rattle.module_table.specs.Sound.{IsSound};
 ghost use Rattle.module_table.specs.inner.Origins.{origins_of};
 ghost use Rattle.module_table.specs.inner.Indexed.{IsNamedAt, IsObjectsPair};
 ghost use Rattle.module_table.specs.inner.Graph.{IsModuleGraph};
-ghost use Rattle.module_table.specs.inner.Ranks.{pairs_of};
+ghost use Rattle.module_table.specs.Modules.{provisions};
+ghost use Rattle.module_table.specs.inner.Ranks.{pairs_of, AreByName, AreNumbers, AreRanks};
 
 use crate::fault::Maker;
 use crate::graph::module_at;
 use crate::pairs::copy_pair;
-use crate::ranks::ranked_modules;
 use dep_order::{Digraph, Reaching};
 use ninja_text::Path;
 use scan_docs::{Info, Name, Rule};
 use std::alloc::{AllocError, Global};
 use std::marker::Model;
 
-/// The modules that the objects of a table need, one object after the other. It keeps its workspace
-/// from one object to the next, so that the work for an object grows with what it needs, and not
+/// Finds the modules that the objects of a table need, for one object after another. It keeps its
+/// workspace between objects, so the work for an object grows with what the object needs, and not
 /// with the table. A contract sees it as the table.
 #[derive(Drop)]
 pub struct Needs<'t> {
@@ -56,7 +56,7 @@ impl<'t> Model for Needs<'t> {
 }
 
 impl<'t> Needs<'t> {
-    /// The needs of the objects of the table of these objects and infos.
+    /// Returns the needs of the table of these objects and info files.
     pub(crate) fn new(
         alloc: Global,
         graph: &'t Digraph,
@@ -69,7 +69,8 @@ impl<'t> Needs<'t> {
         requires origins { origins.now ≡ origins_of (table_with objects.now infos.now) }
         ensures { IfOk result (λ needs. needs ≡ table_with objects.now infos.now) }
     {
-        let (ranks, modules) = ranked_modules(alloc, objects, infos, origins)?;
+        let modules = modules_by_name(alloc, objects, infos, origins)?;
+        let ranks = ranks_of(alloc, modules.as_slice())?;
         let reaching = Reaching::new(alloc, graph)?;
         Ok(Needs {
             objects,
@@ -80,8 +81,8 @@ impl<'t> Needs<'t> {
         })
     }
 
-    /// All modules that chains of requirements lead to from the object, in byte order of names. The
-    /// only error is that memory was refused, and other objects may be asked for after it.
+    /// Returns all modules that the object requires, directly or through others, in byte order of
+    /// names. After an error, which only a failed allocation causes, `of` may be called again.
     pub fn of(
         &mut self,
         alloc: Global,
@@ -98,7 +99,7 @@ impl<'t> Needs<'t> {
         pairs_at(alloc, self.modules.as_slice(), ranks.as_slice())
     }
 
-    /// The same, copied.
+    /// Returns copies of what `of` returns.
     pub(crate) fn copies_of(
         &mut self,
         alloc: Global,
@@ -112,7 +113,7 @@ impl<'t> Needs<'t> {
     }
 }
 
-/// The ranks of the modules among these nodes. Nodes after all modules are objects.
+/// Returns the ranks of the modules among these nodes. Nodes after all modules are objects.
 fn ranks_at(alloc: Global, ranks: &[usize], nodes: &[usize]) -> Result<Vec<usize>, AllocError>
     ensures { IfOk result (λ found. found.items ≡ filter_map (slice_get ranks.now) nodes.now) }
 {
@@ -126,7 +127,7 @@ fn ranks_at(alloc: Global, ranks: &[usize], nodes: &[usize]) -> Result<Vec<usize
     Ok(found)
 }
 
-/// The names and files of the modules at these indexes.
+/// Returns the names and files of the modules at these indexes.
 fn pairs_at<'t>(
     alloc: Global,
     modules: &[((&'t Name, &'t Path), usize)],
@@ -143,7 +144,7 @@ fn pairs_at<'t>(
     Ok(found)
 }
 
-/// The pairs, copied.
+/// Returns copies of the pairs.
 fn copy_pairs(alloc: Global, pairs: &[(&Name, &Path)]) -> Result<Vec<(Name, Path)>, AllocError>
     ensures { IfOk result (λ copies. copies.items ≡ map lent pairs.now) }
 {
@@ -155,7 +156,7 @@ fn copy_pairs(alloc: Global, pairs: &[(&Name, &Path)]) -> Result<Vec<(Name, Path
     Ok(copies)
 }
 
-/// The name and the file of the module of this origin.
+/// Returns the name and the file of the module of this origin.
 pub(crate) fn named_at<'t>(
     objects: &'t [Rule],
     infos: &'t [Info],
@@ -184,4 +185,36 @@ fn pair_of_object(objects: &[Rule], object: usize, index: usize) -> &(Name, Path
 {
     let rule = &objects[object];
     &rule.provided[index]
+}
+
+/// Returns the name, the file and the index of each module, in byte order of names.
+fn modules_by_name<'t>(
+    alloc: Global,
+    objects: &'t [Rule],
+    infos: &'t [Info],
+    origins: &[(Maker, usize)],
+) -> Result<Vec<((&'t Name, &'t Path), usize)>, AllocError>
+    requires sound { IsSound (table_with objects.now infos.now) }
+    requires origins { origins.now ≡ origins_of (table_with objects.now infos.now) }
+    ensures { IfOk result
+        (λ modules. AreByName (provisions (table_with objects.now infos.now)) modules.items) }
+{
+    let mut modules = Vec::with_capacity(alloc, origins.len())?;
+    for (index, origin) in origins.iter().enumerate() {
+        modules.push((named_at(objects, infos, *origin), index))?;
+    }
+    modules.sort_unstable();
+    Ok(modules)
+}
+
+/// Returns the rank of each module, by its index.
+fn ranks_of(alloc: Global, modules: &[((&Name, &Path), usize)]) -> Result<Vec<usize>, AllocError>
+    requires { AreNumbers modules.now }
+    ensures { IfOk result (λ ranks. AreRanks modules.now (length modules.now) ranks.items) }
+{
+    let mut ranks = vec![in alloc; 0; modules.len()]?;
+    for (rank, numbered) in modules.iter().enumerate() {
+        ranks[numbered.1] = rank;
+    }
+    Ok(ranks)
 }

@@ -1,4 +1,4 @@
-//! What each object requires, with the files of the modules.
+//! The modules that each object requires, with their files.
 ghost use Rattle.std.specs.Prelude.{◌≡◌, ◌<◌, ◌≤◌, [], All, length, map, IfOk, OnOk};
 ghost use Rattle.dep_order.specs.Rows.{rows};
 ghost use Rattle.module_table.specs.Modules.{provisions};
@@ -12,8 +12,8 @@ use ninja_text::Path;
 use scan_docs::Name;
 use std::alloc::{AllocError, Global};
 
-/// The modules that each object requires, in order of first mention, each once. Each object has a
-/// row of the indexes of what it requires.
+/// Returns the modules that each object requires, each once, in order of first mention.
+/// `required[i]` are the indexes of what object i requires.
 pub(crate) fn all_pairs(
     alloc: Global,
     modules: &Modules,
@@ -29,7 +29,7 @@ pub(crate) fn all_pairs(
     Ok(all)
 }
 
-/// Puts what each object requires into the empty list. A module's mark is the number of the last
+/// Adds what each object requires to the empty list. A module's mark is the number of the last
 /// object that mentioned it, counted from 1.
 fn add_pairs(
     alloc: Global,
@@ -53,8 +53,8 @@ fn add_pairs(
     Ok(())
 }
 
-/// The names and files of the modules of these indexes, in order of first mention, each once. What
-/// is mentioned gets the mark, which nothing had.
+/// Returns the names and files of the modules of these indexes, each once, in order of first
+/// mention. Marks each of them with `mark`, a fresh value.
 fn first_pairs(
     alloc: Global,
     provided: &[Module],
@@ -82,7 +82,7 @@ fn first_pairs(
     Ok(pairs)
 }
 
-/// The name and the file, copied.
+/// Returns copies of the name and the file.
 pub(crate) fn copy_pair(alloc: Global, name: &Name, file: &Path) -> Result<(Name, Path), AllocError>
     ensures name { IfOk result (λ pair. pair.0 ≡ name.now) }
     ensures file { IfOk result (λ pair. pair.1 ≡ file.now) }

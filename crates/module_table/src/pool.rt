@@ -63,8 +63,9 @@ impl Pool {
         }
     }
 
-    /// Adds the info file of the next target. `None` is added in its place if the pool has 64 modules
-    /// of one of its names or files, or if it has no module that a module of the info file requires.
+    /// Adds the info file of the next target. `None` is added in its place if the pool has 64
+    /// modules of one of its names or files, or if it has no module that a module of the info file
+    /// requires.
     pub fn push(self, alloc: Global, info: Option<Info>) -> Result<Pool, AllocError>
         ensures { IfOk result (λ pool. IsAdded self info pool) }
     {

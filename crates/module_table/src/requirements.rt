@@ -1,4 +1,4 @@
-//! What the modules of infos require, each name looked up once.
+//! What the modules of info files require, with the module of each name.
 ghost use Rattle.std.specs.Prelude.{◌≡◌, ◌++◌, map, IfOk, OnOk};
 ghost use Rattle.std.specs.List.{flat_map};
 ghost use Rattle.module_table.specs.Modules.{provisions};
@@ -9,8 +9,8 @@ use ninja_text::Path;
 use scan_docs::{Info, InfoModule, Name, TargetName};
 use std::alloc::{AllocError, Global};
 
-/// A requirement of an info's module, with the file that the info says, and the module of that
-/// name.
+/// A requirement of a module of an info file: the name, the file that the info file says, and the
+/// module of that name.
 #[derive(Clone, Copy)]
 pub(crate) struct InfoRequired<'m, 't> {
     pub info: usize,
@@ -22,7 +22,7 @@ pub(crate) struct InfoRequired<'m, 't> {
     pub module: Option<&'m Module<'t>>,
 }
 
-/// All requirements of infos' modules: by info, module and index.
+/// Returns all requirements of the modules of info files, by info file, module and index.
 pub(crate) fn all_required<'m, 't>(
     alloc: Global,
     modules: &'m Modules<'t>,
@@ -69,7 +69,7 @@ fn add_module<'m, 't>(
     Ok(())
 }
 
-/// The requirement of a module by this pair, with the module that is found.
+/// Returns the requirement of this pair, with the module of that name.
 fn look_up<'m, 't>(
     modules: &'m Modules<'t>,
     info: usize,

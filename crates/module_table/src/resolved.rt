@@ -9,13 +9,13 @@ use ninja_text::Path;
 use scan_docs::{Info, Name, Rule};
 use std::marker::Model;
 
-/// The objects of a table without a fault, and the modules that each requires: what is left of a
-/// [`Table`](crate::Table) where no name is looked up any more.
+/// The objects of a [`Table`](crate::Table), and the modules that each requires. It has no
+/// look-ups.
 #[derive(Drop)]
 pub struct Resolved {
     objects: Vec<Rule>,
     infos: Vec<Info>,
-    /// What each object requires, with the modules' files.
+    /// The modules that each object requires, with their files.
     required: Vec<Vec<(Name, Path)>>,
 }
 
@@ -35,7 +35,7 @@ impl Model for Resolved {
 }
 
 impl Resolved {
-    /// The objects of a sound table, with what each requires.
+    /// Returns the objects of a sound table with what each requires.
     pub(crate) fn new(
         objects: Vec<Rule>,
         infos: Vec<Info>,
@@ -53,7 +53,7 @@ impl Resolved {
         }
     }
 
-    /// The objects, by index.
+    /// Returns the objects, by index.
     pub fn objects(&self) -> &[Rule]
         ensures objects { result.now ≡ self.now.objects }
         ensures sound { IsSound self.now }
@@ -61,7 +61,7 @@ impl Resolved {
         self.objects.as_slice()
     }
 
-    /// Gives up the objects and the infos, both by index.
+    /// Consumes the value and returns the objects and the info files, both by index.
     pub fn into_parts(self) -> (Vec<Rule>, Vec<Info>)
         ensures objects { result.0.items ≡ self.objects }
         ensures infos { result.1.items ≡ self.infos }
@@ -74,14 +74,14 @@ impl Resolved {
         (objects, infos)
     }
 
-    /// The infos, by index.
+    /// Returns the info files, by index.
     pub(crate) fn infos(&self) -> &[Info]
         ensures { result.now ≡ self.now.infos }
     {
         self.infos.as_slice()
     }
 
-    /// The modules that an object requires, in order of first mention, each once.
+    /// Returns the modules that an object requires, each once, in order of first mention.
     pub fn required(&self, object: usize) -> &[(Name, Path)]
         requires { object < length self.now.objects }
         ensures { (rule : RuleValue) → slice_get self.now.objects object ≡ Some rule

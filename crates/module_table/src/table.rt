@@ -24,15 +24,15 @@ use std::alloc::{AllocError, Global};
 use std::marker::Model;
 use table_keys::TableKey;
 
-/// The modules of one target and of the targets that it links, without a fault.
+/// The modules of one target and of the targets that it links. It has none of the faults M1 to M10.
 #[derive(Drop)]
 pub struct Table {
     resolved: Resolved,
     /// The names of all provided modules. A name's index is that of its module.
     names: IndexSet<Name, TableKey>,
-    /// Who provides each module, and at which index among its maker's.
+    /// The producer of each module, and the index of the module in what the producer provides.
     origins: Vec<(Maker, usize)>,
-    /// What the modules and the objects need of one another, by index.
+    /// The modules and objects that each module and each object needs, by index.
     graph: Digraph,
 }
 
@@ -126,7 +126,7 @@ impl Table {
         }
     }
 
-    /// The objects with what each requires. What is kept for look-ups is freed.
+    /// Returns the objects with what each requires, and frees what only look-ups need.
     pub fn into_resolved(self) -> Resolved
         ensures { result ≡ self }
     {
@@ -139,7 +139,7 @@ impl Table {
         resolved
     }
 
-    /// The objects, by index.
+    /// Returns the objects, by index.
     pub fn objects(&self) -> &[Rule]
         ensures objects { result.now ≡ self.now.objects }
         ensures sound { IsSound self.now }
@@ -147,14 +147,14 @@ impl Table {
         self.resolved.objects()
     }
 
-    /// The objects with what each requires, as they are lent.
+    /// Returns a reference to the objects with what each requires.
     pub fn resolved(&self) -> &Resolved
         ensures { result.now ≡ self.now }
     {
         &self.resolved
     }
 
-    /// The modules that an object provides, by index.
+    /// Returns the modules that an object provides, by index.
     pub fn provided(&self, object: usize) -> &[(Name, Path)]
         requires { object < length self.now.objects }
         ensures { (rule : RuleValue) → slice_get self.now.objects object ≡ Some rule
@@ -164,7 +164,7 @@ impl Table {
         &rule.provided
     }
 
-    /// The modules that an object requires, in order of first mention, each once.
+    /// Returns the modules that an object requires, each once, in order of first mention.
     pub fn required(&self, object: usize) -> &[(Name, Path)]
         requires { object < length self.now.objects }
         ensures { (rule : RuleValue) → slice_get self.now.objects object ≡ Some rule
@@ -173,7 +173,8 @@ impl Table {
         self.resolved.required(object)
     }
 
-    /// The file of the module of that name, and who provides it; `None` where nobody does.
+    /// Returns the file of the module of that name and its producer, or `None` if nobody provides
+    /// it.
     pub fn lookup(&self, name: &Name) -> Option<(&Path, Maker)>
         ensures found { IfSome result
             (λ found. IsProvidedBy self.now found.1 name.now found.0.now) }
@@ -189,8 +190,8 @@ impl Table {
         }
     }
 
-    /// All modules that chains of requirements lead to from the object, in byte order of names. For
-    /// many objects `needs` takes less time.
+    /// Returns all modules that the object requires, directly or through others, in byte order of
+    /// names. For many objects `needs` takes less time.
     pub fn needed(&self, alloc: Global, object: usize) -> Result<Vec<(Name, Path)>, AllocError>
         requires { object < length self.now.objects }
         ensures { IfOk result (λ pairs. ArePairs (IsNeeded self.now object) pairs.items) }
@@ -199,8 +200,8 @@ impl Table {
         needs.copies_of(alloc, object)
     }
 
-    /// The same for one object after the other: the names are sorted once, and an object takes no
-    /// longer than what it needs.
+    /// Returns a value that does the same for one object after another. It sorts the names once, so
+    /// the time for an object grows only with what the object needs.
     pub fn needs(&self, alloc: Global) -> Result<Needs<'_>, AllocError>
         ensures { IfOk result (λ needs. needs ≡ self.now) }
     {

@@ -20,8 +20,8 @@ use ninja_text::Failure;
 use scan_docs::Name;
 use std::alloc::Global;
 
-/// M9: no object requires a module that is private to an info. Each object has a row of the indexes
-/// of what it requires.
+/// M9: no object requires a module that is private to an info file. `indexes[i]` are the modules
+/// that object i requires.
 pub(crate) fn check_objects_allowed(
     alloc: Global,
     modules: &Modules,
@@ -46,7 +46,7 @@ pub(crate) fn check_objects_allowed(
     Ok(())
 }
 
-/// M9: and no info's module requires one that is private to another info.
+/// M9: no module of an info file requires a module that is private to another info file.
 pub(crate) fn check_infos_allowed(
     alloc: Global,
     modules: &Modules,
@@ -68,7 +68,7 @@ pub(crate) fn check_infos_allowed(
     Ok(())
 }
 
-/// M10: each name that is to be private is provided by an object.
+/// M10: an object provides each name that is declared private.
 pub(crate) fn check_kept(
     alloc: Global,
     modules: &Modules,
@@ -87,7 +87,7 @@ pub(crate) fn check_kept(
     Ok(())
 }
 
-/// The failure that a private module is required.
+/// Returns the failure that a private module is required.
 fn requires_private(
     alloc: Global,
     modules: &Modules,
@@ -107,7 +107,7 @@ fn requires_private(
     }
 }
 
-/// The info that the module of that name is private to.
+/// Returns the info file that the module of that name is private to.
 fn info_of(modules: &Modules, name: &Name) -> usize
     requires differ { AllDiffer (names_of (provisions modules.now)) }
     requires private { IsPrivate (provisions modules.now) name.now }
@@ -122,7 +122,7 @@ fn info_of(modules: &Modules, name: &Name) -> usize
     }
 }
 
-/// The first of these modules that is private, as an index into the list.
+/// Returns the index in the list of the first of these modules that is private.
 fn first_private(provided: &[Module], indexes: &[usize]) -> Option<usize>
     ensures { result ≡ position
         (λ index. not (is_public_at (map provision_of provided.now) index)) indexes.now }
@@ -132,7 +132,7 @@ fn first_private(provided: &[Module], indexes: &[usize]) -> Option<usize>
         .position(|index| !is_public_at(provided, *index))
 }
 
-/// Whether the module of that name is private to no other info.
+/// Returns whether the module of that name is private to no other info file.
 fn is_allowed(required: &InfoRequired) -> bool
     ensures { result ≡ is_allowed (looked_up required.now) }
 {
@@ -142,7 +142,7 @@ fn is_allowed(required: &InfoRequired) -> bool
     }
 }
 
-/// Whether the maker is the info of this index.
+/// Returns whether the maker is the info file of this index.
 fn is_info_at(maker: Maker, index: usize) -> bool
     ensures { result ≡ is_info_at maker index }
 {
@@ -152,7 +152,7 @@ fn is_info_at(maker: Maker, index: usize) -> bool
     }
 }
 
-/// Whether the module of that index is private to no info.
+/// Returns whether the module of that index is private to no info file.
 fn is_public_at(provided: &[Module], index: usize) -> bool
     ensures { result ≡ is_public_at (map provision_of provided.now) index }
 {
@@ -162,7 +162,7 @@ fn is_public_at(provided: &[Module], index: usize) -> bool
     }
 }
 
-/// Whether an object provides the name.
+/// Returns whether an object provides the name.
 fn is_by_object(modules: &Modules, name: &Name) -> bool
     ensures { result ≡ is_by_object (provisions modules.now) name.now }
 {

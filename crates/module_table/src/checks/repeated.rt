@@ -19,7 +19,7 @@ use scan_docs::{Info, Name, Rule, TargetName};
 use std::alloc::{AllocError, Global};
 use table_keys::TableKey;
 
-/// M1: no two objects have one path. Puts the paths into the empty set, each at its object's index.
+/// M1: no two objects have the same path. Puts the paths into the empty set, by object.
 pub(crate) fn check_objects<'t>(
     alloc: Global,
     objects: &'t [Rule],
@@ -48,7 +48,7 @@ pub(crate) fn check_objects<'t>(
     Ok(())
 }
 
-/// M2: no two infos have one target name.
+/// M2: no two info files have the same target name.
 pub(crate) fn check_infos(
     alloc: Global,
     infos: &[Info],
@@ -62,7 +62,7 @@ pub(crate) fn check_infos(
     add_targets(alloc, infos, &mut targets)
 }
 
-/// Puts the infos' targets into the empty set, if none is there twice.
+/// Puts the targets of the info files into the empty set, if all differ.
 fn add_targets<'t>(
     alloc: Global,
     infos: &'t [Info],
@@ -84,7 +84,7 @@ fn add_targets<'t>(
     Ok(())
 }
 
-/// All provided modules. M3: no name is provided twice.
+/// M3: no name is provided twice. Returns all provided modules.
 pub(crate) fn check_names<'t>(
     alloc: Global,
     objects: &'t [Rule],
@@ -103,7 +103,7 @@ pub(crate) fn check_names<'t>(
     Ok(Modules::new(objects, infos, provided, names))
 }
 
-/// Puts the modules' names into the empty set, each at its module's index, if none is there twice.
+/// Puts the modules' names into the empty set, by module, if all differ.
 fn add_names(
     alloc: Global,
     provided: &[Module],
@@ -126,7 +126,7 @@ fn add_names(
     Ok(())
 }
 
-/// The failure that these two modules have one name.
+/// Returns the failure that these two modules have the same name.
 fn provided_twice(
     alloc: Global,
     provided: &[Module],
@@ -153,9 +153,9 @@ fn provided_twice(
     }
 }
 
-/// M4: no file is that of two provided modules, or of a module and an object. No two objects have
-/// one path here, so a file that is made twice is a module's at least once. `files` has the paths
-/// of the objects, after which the modules' files come.
+/// M4: no two provided modules have the same file, and no module's file is an object. No two
+/// objects have the same path here, so at least one of the two is a module. `files` has the paths
+/// of the objects, and the modules' files are put after them.
 pub(crate) fn check_files<'t>(
     alloc: Global,
     modules: &Modules<'t>,
@@ -179,8 +179,8 @@ pub(crate) fn check_files<'t>(
     }
 }
 
-/// Puts the modules' files into the set, up to the first that is there: its index in the set, and
-/// the module's.
+/// Puts the modules' files into the set. Returns the first file that is there already, by its index
+/// in the set and the index of the module.
 fn add_files<'t>(
     provided: &[Module<'t>],
     files: &mut IndexSet<&'t Path, TableKey>,
@@ -202,7 +202,7 @@ fn add_files<'t>(
     Ok(None)
 }
 
-/// The failure that a module has a file that is made before it.
+/// Returns the failure that a module has the file of an earlier module or object.
 fn made_twice(
     alloc: Global,
     objects: &[Rule],
@@ -229,7 +229,7 @@ fn made_twice(
     }
 }
 
-/// Who makes the file of this index among objects' own paths and then modules' files.
+/// Returns the producer of the file of this index, among objects' paths and then modules' files.
 fn maker_of(objects: &[Rule], provided: &[Module], index: usize) -> Maker
     requires { index < length objects.now + length provided.now }
     ensures { (claim : Claim)

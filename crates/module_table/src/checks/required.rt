@@ -21,7 +21,8 @@ use scan_docs::{Name, Rule, TargetName};
 use std::alloc::{AllocError, Global};
 use table_keys::TableKey;
 
-/// The indexes of the modules that each object requires. M5: each is provided.
+/// M5: each required name is provided. Returns the indexes of the modules that each object
+/// requires.
 pub(crate) fn check_objects_known(
     alloc: Global,
     modules: &Modules,
@@ -60,7 +61,7 @@ fn indexes_of(
     Ok(row)
 }
 
-/// The index of a name that the object requires, if it is provided.
+/// Returns the index of a name that the object requires, if it is provided.
 fn known_index(
     alloc: Global,
     names: &IndexSet<Name, TableKey>,
@@ -80,7 +81,7 @@ fn known_index(
     }
 }
 
-/// M6: what infos' modules require is provided by infos.
+/// M6: info files provide what the modules of info files require.
 pub(crate) fn check_infos_known(
     alloc: Global,
     modules: &Modules,
@@ -106,7 +107,7 @@ pub(crate) fn check_infos_known(
     Ok(())
 }
 
-/// M7: and with the files that the infos say.
+/// M7: they provide it with the files that the requirements say.
 pub(crate) fn check_infos_agree(
     alloc: Global,
     modules: &Modules,
@@ -134,7 +135,7 @@ pub(crate) fn check_infos_agree(
     Ok(())
 }
 
-/// The names of the target, of the module that requires, and of what it requires.
+/// Returns copies of the names of the target, of the user and of what it requires.
 fn copy_names(
     alloc: Global,
     required: &InfoRequired,
@@ -149,7 +150,7 @@ fn copy_names(
     Ok((target, module_name, name))
 }
 
-/// Whether an info provides what is required.
+/// Returns whether an info file provides what is required.
 fn is_by_info(required: &InfoRequired) -> bool
     ensures { result ≡ is_by_info (looked_up required.now) }
 {
@@ -162,7 +163,7 @@ fn is_by_info(required: &InfoRequired) -> bool
     }
 }
 
-/// Whether the module of that name has the file that the requirement says.
+/// Returns whether the module of that name has the file that the requirement says.
 fn agrees(required: &InfoRequired) -> bool
     ensures { result ≡ agrees (looked_up required.now) }
 {

@@ -1,4 +1,4 @@
-//! M8: whether objects need each other's modules in a ring.
+//! M8: whether objects need each other's modules in a cycle.
 ghost use Rattle.std.specs.Prelude.{◌≡◌, ◌<◌, ℕ, List, map, length, IfOk, IfErr, OnOk};
 ghost use Rattle.std.specs.List.{filter_map};
 ghost use Rattle.ninja_text.specs.Bytes.{Name};
@@ -17,8 +17,8 @@ use dep_order::{Digraph, Sorting, order};
 use ninja_text::Failure;
 use std::alloc::{AllocError, Global};
 
-/// M8: no objects need each other's modules in a ring. Each object has a row of the indexes of what
-/// it requires.
+/// M8: no objects need each other's modules in a cycle. `indexes[i]` are the modules that object i
+/// requires.
 pub(crate) fn check_rings(
     alloc: Global,
     modules: &Modules,
@@ -35,7 +35,7 @@ pub(crate) fn check_rings(
     }
 }
 
-/// The objects in an order, or the least ring of them.
+/// Returns the objects in an order, or the least cycle.
 fn sort_objects(
     alloc: Global,
     modules: &Modules,
@@ -49,7 +49,7 @@ fn sort_objects(
     order(alloc, &graph)
 }
 
-/// The objects that provide what each object requires.
+/// Returns the objects that provide what each object requires.
 fn all_needs(
     alloc: Global,
     provided: &[Module],
@@ -66,7 +66,7 @@ fn all_needs(
     Ok(needs)
 }
 
-/// The objects that provide the modules of these indexes.
+/// Returns the objects that provide the modules of these indexes.
 fn makers_of(
     alloc: Global,
     provided: &[Module],
@@ -85,7 +85,7 @@ fn makers_of(
     Ok(objects)
 }
 
-/// The object that provides the module of that index, if one does.
+/// Returns the object that provides the module of that index, if an object does.
 fn maker_at(provided: &[Module], index: usize) -> Option<usize>
     ensures { result ≡ maker_at (map provision_of provided.now) index }
 {

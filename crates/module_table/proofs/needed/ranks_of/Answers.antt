@@ -1,7 +1,7 @@
 use Rattle.std.proofs.Common.{refl}
 use Rattle.std.proofs.lemmas.Option.{slice_get_read}
 use Rattle.module_table.proofs.ByName.{ranks_more}
-use Rattle.module_table.proofs.ranks.ranks_of.Goals as goal
+use Rattle.module_table.proofs.needed.ranks_of.Goals as goal
 
 pub loop-rank-preserved : goal.loop-rank-preserved
 loop-rank-preserved c =

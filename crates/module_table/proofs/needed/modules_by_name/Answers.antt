@@ -10,7 +10,7 @@ use Rattle.module_table.specs.declared.fault.Maker.TheVariants.{Object}
 use Rattle.module_table.proofs.Zips.{zip_length}
 use Rattle.module_table.proofs.ModulePlaces.{IsPlaceOf, module_places, named_there, pair_there}
 use Rattle.module_table.proofs.ByName.{by_name, listed_more}
-use Rattle.module_table.proofs.ranks.modules_by_name.Goals as goal
+use Rattle.module_table.proofs.needed.modules_by_name.Goals as goal
 
 pub named_at-requires : goal.named_at-requires
 named_at-requires c =
