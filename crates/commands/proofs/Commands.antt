@@ -1,4 +1,4 @@
--- What a run of `collate` answers.
+-- The files of a collated target.
 use Rattle.std.proofs.Common.{◌≡◌, ◌∙◌, ℕ, suc, List, [], ◌∷◌, ◌++◌, map, zip, Option, refl, ap, sym, subst, arith}
 use Rattle.std.specs.Prelude.{All, IsUtf8, Vec, Result, Ok, Err, OnOk, String}
 use Rattle.std.specs.Global.{Global}
@@ -11,17 +11,9 @@ use Rattle.module_maps.specs.Maps.{Written}
 use Rattle.collate_core.specs.Values.{TargetValue, CollatedValue}
 use Rattle.collate_core.specs.Documents.{all_rules, table_of, IsScanAccepted}
 use Rattle.collate_core.specs.Collation.{Collates}
-use Rattle.commands.specs.declared.answer.Answer.{Answer}
 use Rattle.commands.specs.Answers.{file_value}
 use Rattle.commands.specs.CollateCommand.{map_name}
-use Rattle.commands.specs.EdgeChecks.{AnswersEdges}
-use Rattle.commands.specs.Files.{FileValue}
-
--- ---- the edges
-
--- the path under another spelling
-pub at_path : {listing : Option (List ℕ)} {p q dyndep : List ℕ} {files : List (List ℕ × List ℕ)} {answer : Answer} → p ≡ q → AnswersEdges listing p dyndep files answer → AnswersEdges listing q dyndep files answer
-at_path {listing} {p} {q} {dyndep} {files} {answer} e h = subst (λ x. AnswersEdges listing x dyndep files answer) e h
+use Rattle.commands.specs.Outcomes.{FileValue}
 
 -- ---- objects are text
 

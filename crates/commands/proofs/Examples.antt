@@ -7,16 +7,20 @@ use Rattle.commands.specs.TableFaults.{fault_text, ring_text}
 use Rattle.build_effect.specs.EdgeValue.{EdgeValue}
 use Rattle.build_effect.specs.declared.fault.EffectFault.TheVariants.{AddedTwice}
 use Rattle.build_effect.specs.declared.fault.GraphFault.TheVariants.{DyndepNotInput}
-use Rattle.build_effect.specs.declared.fault.ListingFault.TheVariants.{NoGraph}
+use Rattle.build_effect.specs.declared.fault.ListFault.TheVariants.{NoGraph}
 use Rattle.commands.specs.EdgeFaults.{edges_fault_text, effect_text, cycle_text}
 use Rattle.commands.specs.Order.{order_text}
-use Rattle.commands.specs.Answers.{Fails, line}
+use Rattle.commands.specs.Answers.{line}
 use Rattle.std.specs.Prelude.{Ok, Err}
 use Rattle.std.specs.declared.io.Error.{Error}
 use Rattle.scan_docs.specs.Target as document
-use Rattle.commands.specs.declared.answer.Answer.{Answer}
-use Rattle.commands.specs.Files.{Ends, ReadsTarget, TargetFilesValue, ended, read, unread}
+use Rattle.std.specs.IoError.{error_kind}
+use Rattle.std.specs.declared.io.ErrorKind.TheVariants.{OutOfMemory}
+use Rattle.ninja_text.specs.declared.failure.Failure.TheVariants.{Fault}
+use Rattle.commands.specs.Files.{FilesOf, TargetFilesValue}
 use Rattle.commands.specs.Folder.{FileCall, reading}
+use Rattle.commands.specs.Outcomes.{goes_on, stops, failed}
+use Rattle.commands.proofs.Outcomes.{all_read}
 
 -- `a.o` provides `A` and requires `B`, which `b.o` provides
 abbrev two_rules : List RuleValue
@@ -76,20 +80,20 @@ unread_file = refl
 added_twice : effect_text (AddedTwice (codes "mod/B.bmi")) ≡ codes "E7 AddedTwice mod/B.bmi"
 added_twice = refl
 
--- a target document that names a scan document, an info and a listing of edges
+-- a target document that names a scan document, an info file and a listing of edges
 abbrev named : document.TargetDocumentValue
 named = record {
   target = codes "app";
-  module_dir = codes "mod";
-  module_ext = codes ".bmi";
-  build_dir = None;
+  setting = record { module_dir = codes "mod"; module_ext = codes ".bmi"; build_dir = None };
   scans = codes "a.ddi" ∷ [];
   linked = codes "k.info" ∷ [];
   kept = [];
   dyndep = codes "app.dd";
+  dyndep_path = codes "app.dd";
   info = codes "app.info";
   map_form = None;
   edges = Some (codes "edges");
+  restat = false;
 }
 
 abbrev its_files : TargetFilesValue
@@ -102,13 +106,16 @@ abbrev info_calls : List FileCall
 info_calls = reading (codes "k.info") (Ok (codes "K")) ∷ listing_call
 
 -- they are read in this order, each once
-in_order : (answer : Answer) → ReadsTarget {X = ⊥} named (codes "k.info" ∷ []) (λ files. Ends (λ a. files ≡ its_files))
-    (reading (codes "a.ddi") (Ok (codes "A")) ∷ info_calls) (ended (Ok answer))
-in_order answer = read (codes "A") info_calls refl (read (codes "K") listing_call refl (read (codes "E") [] refl (refl, refl)))
+in_order : FilesOf named (codes "k.info" ∷ []) (reading (codes "a.ddi") (Ok (codes "A")) ∷ info_calls) (Ok its_files)
+in_order =
+    goes_on (codes "A" ∷ []) (reading (codes "a.ddi") (Ok (codes "A")) ∷ []) info_calls refl (all_read (codes "a.ddi" ∷ []) (codes "A" ∷ []) refl)
+    (goes_on (codes "K" ∷ []) (reading (codes "k.info") (Ok (codes "K")) ∷ []) listing_call refl (all_read (codes "k.info" ∷ []) (codes "K" ∷ []) refl)
+    (goes_on (Some (codes "E")) listing_call [] refl (goes_on (codes "E") listing_call [] refl refl (refl, refl)) (refl, refl)))
 
 -- none is read after one that can't be
-one_unread : (answer : Answer) (error : Error) → Fails 3 (codes "cannot read k.info") answer →
-    ReadsTarget {X = ⊥} named (codes "k.info" ∷ []) (λ files. Ends (λ a. ⊥))
-    (reading (codes "a.ddi") (Ok (codes "A")) ∷ reading (codes "k.info") (Err error) ∷ []) (ended (Ok answer))
-one_unread answer error h =
-    read (codes "A") (reading (codes "k.info") (Err error) ∷ []) refl (unread error refl h)
+one_unread : (error : Error) → (error_kind error ≡ OutOfMemory → ⊥) →
+    FilesOf named (codes "k.info" ∷ []) (reading (codes "a.ddi") (Ok (codes "A")) ∷ reading (codes "k.info") (Err error) ∷ [])
+    (Err (Fault (failed 3 (codes "cannot read k.info"))))
+one_unread error other =
+    goes_on (codes "A" ∷ []) (reading (codes "a.ddi") (Ok (codes "A")) ∷ []) (reading (codes "k.info") (Err error) ∷ []) refl (all_read (codes "a.ddi" ∷ []) (codes "A" ∷ []) refl)
+    (stops _ (stops _ ((error, refl, other), refl) refl) refl)

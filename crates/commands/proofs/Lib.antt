@@ -1,13 +1,9 @@
 pub mod Commands
 pub mod Loops
-pub mod Dyndeps
-pub mod EdgeChecks
 pub mod Examples
 pub mod FileCalls
 pub mod Listings
-pub mod Parts
+pub mod Outcomes
 pub mod ProjectRuns
 pub mod ProjectTargets
-pub mod Results
-pub mod TargetDocuments
 pub mod Targets

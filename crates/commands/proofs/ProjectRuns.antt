@@ -1,9 +1,9 @@
--- What a run of `project` answers to targets that are read.
+-- What a run of `project` leaves for targets that were read.
 use Rattle.std.proofs.Common.{◌≡◌, ℕ, zero, suc, ◌+◌, ◌<◌, ◌≤◌, List, [], ◌∷◌, ◌++◌, length, take, get_or, map, zip, Option, Some, refl, ap, ap₂, sym, subst, ◌∙◌, arith}
-use Rattle.std.specs.Prelude.{slice_get, option_map, All}
+use Rattle.std.specs.Prelude.{slice_get, option_map, All, IsUtf8}
 use Rattle.std.specs.Option.{option_map_or}
-use Rattle.std.proofs.lemmas.List.{take_more, take_all, length-map, map_push}
-use Rattle.std.proofs.lemmas.List.Elements.{All-same, All-push, All-nil, All-cons, All-tail, All-head}
+use Rattle.std.proofs.lemmas.List.{take_more, length-map, map_push}
+use Rattle.std.proofs.lemmas.List.Elements.{All-nil, All-cons, All-tail, All-head}
 use Rattle.std.proofs.lemmas.Grind.{flat_map-append}
 use Rattle.std.proofs.lemmas.Option.{slice_get_within, get_or_from_slice_get, slice_get-get_or, slice_get-map}
 use Rattle.module_maps.specs.Maps.{Written}
@@ -12,14 +12,13 @@ use Rattle.collate_core.specs.Values.{CollatedValue, ProjectTargetValue}
 use Rattle.collate_core.specs.Projects.{target_of, CollatesProject, IsProjectRefusal, WasReadAt}
 use Rattle.collate_core.specs.Refusals.{WasRead}
 use Rattle.collate_core.specs.declared.fault.Refusal.{Refusal}
-use Rattle.commands.specs.CollateCommand.{dyndep_path, files_of, setting_in}
+use Rattle.commands.specs.CollateCommand.{files_of}
 use Rattle.commands.specs.RefusalTexts.{refusal_by_names}
-use Rattle.commands.specs.Files.{FileValue}
-use Rattle.commands.specs.EdgeChecks.{PassesEdges, FailsEdges}
-use Rattle.commands.specs.ProjectCommand.{ReadTargetValue, project_target, PassesOwn, FailsOwn, names_at, all_files}
-use Rattle.commands.specs.declared.edges.EdgesFault.{EdgesFault}
-use Rattle.commands.specs.inner.ProjectTargets.{LinkEarlier, IsReportable, AreOuts}
+use Rattle.commands.specs.Outcomes.{FileValue}
+use Rattle.commands.specs.ProjectCommand.{ReadTargetValue, project_target, names_at, all_files}
+use Rattle.commands.specs.inner.ProjectTargets.{LinkEarlier, IsReportable}
 use Rattle.commands.specs.inner.Refusals.{refusal_line}
+use Rattle.commands.proofs.Loops.{take_next}
 use Rattle.commands.proofs.Targets.{names_line}
 use Rattle.commands.proofs.Commands.{objects_text}
 
@@ -43,7 +42,7 @@ reported style targets n refusal links h =
 
 -- the line of the refusal of this target, by what was read of it
 pub line_is : (style : Option Written) (targets : List ReadTargetValue) (n : ℕ) (refusal : Refusal) (read : TableValue) (t : ReadTargetValue) (names : List (List ℕ)) → slice_get targets n ≡ Some t →
-    WasReadAt style (map project_target targets) n refusal read → refusal_line read.objects names refusal ≡ refusal_by_names (setting_in t.spec) t.scans names refusal
+    WasReadAt style (map project_target targets) n refusal read → refusal_line read.objects names refusal ≡ refusal_by_names t.spec.setting t.scans names refusal
 line_is style targets n refusal read t names at h =
     let found = in_map project_target targets n h.1 h.3 in
     let is_t : found.0 ≡ t = some_same (sym found.1 ∙ at) in
@@ -66,15 +65,11 @@ element_at [] k within = absurd (omega (arith, within))
 element_at (x ∷ xs) zero within = (x, refl)
 element_at (x ∷ xs) (suc k) within = element_at xs k (omega (arith, within))
 
-pub are_outs : (style : Option Written) (targets : List ReadTargetValue) (outs : List CollatedValue) → CollatesProject style (map project_target targets) outs → AreOuts targets outs
-are_outs style targets outs project =
-    let count : length outs ≡ length targets = project.count ∙ length-map targets project_target in (
-      count,
-      λ k d within.
-          let in_targets : k < length (map project_target targets) = omega (arith, within, project.count) in
-          let p = element_at (map project_target targets) k in_targets in
-          objects_text (target_of outs p.0) style (get_or outs k d) (project.each k p.0 (get_or outs k d) p.1 (slice_get-get_or outs k d within)),
-    )
+pub objects_are_text : (style : Option Written) (targets : List ReadTargetValue) (outs : List CollatedValue) → CollatesProject style (map project_target targets) outs → All (λ (c : CollatedValue). All IsUtf8 c.objects) outs
+objects_are_text style targets outs project = λ k d within.
+    let in_targets : k < length (map project_target targets) = omega (arith, within, project.count) in
+    let p = element_at (map project_target targets) k in_targets in
+    objects_text (target_of outs p.0) style (get_or outs k d) (project.each k p.0 (get_or outs k d) p.1 (slice_get-get_or outs k d within))
 
 -- ---- two lists side by side
 
@@ -93,32 +88,15 @@ zip_at (a ∷ xs) [] i x y e f = cc
 zip_at (a ∷ xs) (b ∷ ys) zero x y e f = ap₂ (λ c d. Some (c, d)) (some_same e) (some_same f)
 zip_at (a ∷ xs) (b ∷ ys) (suc i) x y e f = zip_at xs ys i x y e f
 
-length_zip : {A B : Type 0} (xs : List A) (ys : List B) → length (zip xs ys) ≤ length xs
+pub length_zip : {A B : Type 0} (xs : List A) (ys : List B) → length (zip xs ys) ≤ length xs
 length_zip [] ys = omega arith
 length_zip (x ∷ xs) [] = omega arith
 length_zip (x ∷ xs) (y ∷ ys) = let less : length (zip xs ys) ≤ length xs = length_zip xs ys in omega (arith, less)
-
-pub zip_all : {A B : Type 0} (xs : List A) (ys : List B) (i : ℕ) → length xs ≤ i → take i (zip xs ys) ≡ zip xs ys
-zip_all xs ys i le = let less : length (zip xs ys) ≤ length xs = length_zip xs ys in take_all i (zip xs ys) (omega (arith, le, less))
 
 pub second_all : {A B : Type 0} (P : B → Type 0) (xs : List A) (ys : List B) → All P ys → All (λ (p : A × B). P p.1) (zip xs ys)
 second_all P [] ys h = All-nil (λ p. P p.1)
 second_all P (x ∷ xs) [] h = All-nil (λ p. P p.1)
 second_all P (x ∷ xs) (y ∷ ys) h = All-cons (λ p. P p.1) (x, y) (zip xs ys) (All-head P y ys h) (second_all P xs ys (All-tail P y ys h))
-
-take_next : {X : Type 0} (xs : List X) (k : ℕ) (x : X) → slice_get xs k ≡ Some x → take (k + 1) xs ≡ take k xs ++ x ∷ []
-take_next xs k x here = take_more xs k x (slice_get_within xs k x here) ∙ ap (λ z. take k xs ++ z ∷ []) (get_or_from_slice_get xs k x x here)
-
-pub all_next : {X : Type 0} (P : X → Type 0) (xs : List X) (k : ℕ) (x : X) → slice_get xs k ≡ Some x → All P (take k xs) → P x → All P (take (k + 1) xs)
-all_next P xs k x here before h = All-same P (take (k + 1) xs) (take k xs ++ x ∷ []) (take_next xs k x here) (All-push P (take k xs) x before h)
-
--- ---- edges
-
-pub passes_as : (view t : ReadTargetValue) (c : CollatedValue) (path : List ℕ) → view ≡ t → path ≡ dyndep_path view.spec → PassesEdges view.listing path c.dyndep → PassesOwn (t, c)
-passes_as view t c path is e h = subst (λ (z : ReadTargetValue). PassesOwn (z, c)) is (subst (λ p. PassesEdges view.listing p c.dyndep) e h)
-
-pub fails_as : (view t : ReadTargetValue) (c : CollatedValue) (path : List ℕ) (fault : EdgesFault) → view ≡ t → path ≡ dyndep_path view.spec → FailsEdges view.listing path c.dyndep fault → FailsOwn (t, c) fault
-fails_as view t c path fault is e h = subst (λ (z : ReadTargetValue). FailsOwn (z, c) fault) is (subst (λ p. FailsEdges view.listing p c.dyndep fault) e h)
 
 -- ---- files
 

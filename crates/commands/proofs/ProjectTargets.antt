@@ -1,10 +1,11 @@
 -- One more target of a project.
-use Rattle.std.proofs.Common.{◌≡◌, ℕ, zero, suc, ◌+◌, ◌<◌, ◌⊎◌, inl, inr, Bool, true, false, cond, List, [], ◌∷◌, ◌++◌, length, take, get_or, map, Option, Some, None, refl, ap, ap₂, sym, subst, ◌∙◌, bytes_eq, arith}
+use Rattle.std.proofs.Common.{◌≡◌, ℕ, zero, suc, ◌+◌, ◌<◌, ◌⊎◌, inl, inr, Bool, true, false, cond, List, [], ◌∷◌, ◌++◌, length, map, Option, Some, None, refl, ap, ap₂, sym, subst, ◌∙◌, bytes_eq, arith}
 use Rattle.std.specs.Prelude.{slice_get, All}
-use Rattle.std.proofs.lemmas.List.{map_push, take_more}
 use Rattle.std.proofs.lemmas.List.Elements.{All-nil, All-cons}
-use Rattle.std.proofs.lemmas.Option.{slice_get_within, slice_get-get_or}
-use Rattle.commands.specs.ProjectCommand.{ReadTargetValue, index_or_head, last_with, LinksTo}
+use Rattle.std.proofs.lemmas.Option.{slice_get_within}
+use Rattle.std.specs.Prelude.{Ok, Err}
+use Rattle.commands.specs.Outcomes.{Outcome, Part, seen}
+use Rattle.commands.specs.ProjectCommand.{ReadTargetValue, index_or_head, last_with, LinksTo, At, IsTargetOutcome, IsTargetStop}
 use Rattle.commands.specs.inner.ProjectTargets.{LinkEarlier}
 
 some_same : {X : Type 0} {x y : X} → Some x ≡ Some y → x ≡ y
@@ -70,11 +71,18 @@ links_push targets target before own = λ index t e. elim (in_push targets targe
 pub no_links : LinkEarlier []
 no_links = λ index t e. absurd (let within : index < 0 = slice_get_within [] index t e in omega (arith, within))
 
--- ---- lists by index
+-- ---- parts about one target
 
-pub at_index : {X : Type 0} (xs : List X) (i : ℕ) (x : X) → i < length xs → x ≡ get_or xs i x → slice_get xs i ≡ Some x
-at_index xs i x within is = slice_get-get_or xs i x within ∙ ap Some (sym is)
+pub at_target : {V : Type 0} (index : ℕ) (Holds : Part V) (own outcome : Outcome V) (n : ℕ) → index ≡ n → Holds [] own → IsTargetOutcome index own outcome → At n Holds [] outcome
+at_target index Holds own outcome n e h is = (own, h, subst (λ i. IsTargetOutcome i own outcome) e is)
 
--- one more element, mapped
-pub mapped_next : {X Y : Type 0} (f : X → Y) (xs : List X) (i : ℕ) (x : X) → i < length xs → x ≡ get_or xs i x → map f (take (i + 1) xs) ≡ map f (take i xs) ++ f x ∷ []
-mapped_next f xs i x within is = ap (map f) (take_more xs i x within ∙ ap (λ z. take i xs ++ z ∷ []) (sym is)) ∙ map_push f (take i xs) x
+-- it has a value
+pub at_value : {V : Type 0} (index : ℕ) (own : Outcome V) (value : V) → IsTargetOutcome index own (Ok value) → own ≡ Ok value
+at_value index (Ok other) value is = sym is
+at_value index (Err stop) value is = absurd is
+
+-- viewed like this
+pub at_target_seen : {T V : Type 0} (view : T → V) (index : ℕ) (Holds : Part V) (own outcome : Outcome T) (n : ℕ) → index ≡ n → Holds [] (seen view own) → IsTargetOutcome index own outcome → At n Holds [] (seen view outcome)
+at_target_seen view index Holds (Ok value) outcome n e h is = (Ok (view value), h, ap (seen view) is)
+at_target_seen view index Holds (Err stop) (Ok value) n e h is = absurd is
+at_target_seen view index Holds (Err stop) (Err other) n e h is = (Err stop, h, subst (λ i. IsTargetStop i stop other) e is)

@@ -1,9 +1,10 @@
--- What a run answers, and the line that it ends with where it fails.
-use Rattle.std.specs.Prelude.{◌≡◌, ℕ, Result, Ok, Err, ◌||◌, ◌==◌, nat_lt, if◌then◌else◌, List, [], ◌∷◌, ◌++◌, map, String, Vec, string_bytes, codes}
+-- What a run returns as a value: its exit status, its two texts, and the files to be written.
+use Rattle.std.specs.Prelude.{◌≡◌, ⊤, ℕ, ◌||◌, ◌==◌, nat_lt, if◌then◌else◌, List, [], ◌∷◌, ◌++◌, map, Result, Ok, Err, String, Vec, string_bytes, codes}
 use Rattle.std.specs.Global.{Global}
-use Rattle.ninja_text.specs.Bytes.{Bytes, Text, PathText, line_feed, space, question_mark, delete}
-use Rattle.dyndep_file.specs.FaultTexts.{write_fault_text}
-use Rattle.dyndep_file.specs.declared.fault.WriteFault.{WriteFault}
+use Rattle.std.specs.declared.alloc.AllocError.{AllocError}
+use Rattle.ninja_text.specs.Bytes.{Text, line_feed, space, question_mark, delete}
+use Rattle.ninja_text.specs.declared.failure.Failure.TheVariants.{Memory, Fault}
+use Rattle.commands.specs.Outcomes.{FileValue, LineValue, OutputValue, Outcome}
 use Rattle.commands.specs.declared.answer.Answer.{Answer}
 
 -- a byte as it is printed in a line: `?` for a control byte
@@ -14,36 +15,29 @@ visible b = if nat_lt b space || b == delete then question_mark else b
 abbrev pub line : Text → Text
 line message = codes "dyncollate: " ++ map visible message ++ line_feed ∷ []
 
--- The run is done, and prints this text and nothing else.
-pub record Prints (text : Text) (answer : Answer) : Type 0 where
-  pub status : answer.status ≡ 0
-  pub out : answer.out.items ≡ text
-  pub err : answer.err.items ≡ []
-  pub files : answer.files.items ≡ []
-
 -- the name and the bytes of a file that is to be written
-abbrev pub file_value : String Global × Vec ℕ Global → PathText × Bytes
+abbrev pub file_value : String Global × Vec ℕ Global → FileValue
 file_value file = (string_bytes file.0, file.1.items)
 
--- The run is done, prints nothing, and has these files to be written, in this order.
-pub record Writes (written : List (PathText × Bytes)) (answer : Answer) : Type 0 where
+-- The run succeeded: status 0, its text on standard output, nothing on standard error, its files.
+pub record IsDone (output : OutputValue) (answer : Answer) : Type 0 where
   pub status : answer.status ≡ 0
-  pub out : answer.out.items ≡ []
+  pub out : answer.out.items ≡ output.text
   pub err : answer.err.items ≡ []
-  pub files : map file_value answer.files.items ≡ written
+  pub files : map file_value answer.files.items ≡ output.files
 
--- The run ends with this status, and prints the line of this message on standard error alone.
-pub record Fails (number : ℕ) (message : Text) (answer : Answer) : Type 0 where
-  pub status : answer.status ≡ number
+-- The run failed: its status, one line on standard error, and nothing else.
+pub record IsStopped (stop : LineValue) (answer : Answer) : Type 0 where
+  pub status : answer.status ≡ stop.status
   pub out : answer.out.items ≡ []
-  pub err : answer.err.items ≡ line message
+  pub err : answer.err.items ≡ line stop.message
   pub files : answer.files.items ≡ []
 
--- the run is refused with this message
-abbrev pub Refuses : Text → Answer → Type 0
-Refuses message answer = Fails 1 message answer
-
--- the run prints the text, or is refused with the fault of the statements that can't be written
-abbrev pub AnswersText : Result Text WriteFault → Answer → Type 0
-AnswersText (Ok text) answer = Prints text answer
-AnswersText (Err fault) answer = Refuses (write_fault_text fault) answer
+-- what a run returns that has come to this, unless memory runs out
+abbrev pub IsAnswered : Outcome OutputValue → Result Answer AllocError → Type 0
+IsAnswered (Ok output) (Ok answer) = IsDone output answer
+IsAnswered (Ok output) (Err refused) = ⊥
+IsAnswered (Err Memory) (Ok answer) = ⊥
+IsAnswered (Err Memory) (Err refused) = ⊤
+IsAnswered (Err (Fault stop)) (Ok answer) = IsStopped stop answer
+IsAnswered (Err (Fault stop)) (Err refused) = ⊤

@@ -3,13 +3,17 @@ use Rattle.std.specs.Prelude.{ℕ, List, [], ◌∷◌, ◌++◌, slice_get, sli
 use Rattle.std.specs.List.{flat_map}
 use Rattle.std.specs.Option.{option_map_or}
 use Rattle.ninja_text.specs.Bytes.{Text, PathText}
+use Rattle.ninja_text.specs.FaultTexts.{path_fault_text}
+use Rattle.ninja_text.specs.declared.fault.PathFault.{PathFault}
 use Rattle.dep_order.specs.Numbers.{Numbers}
 use Rattle.build_effect.specs.EdgeValue.{EdgeValue}
 use Rattle.build_effect.specs.FaultTexts.{graph_fault_text, graph_fault_path, effect_fault_text, effect_fault_path}
-use Rattle.build_effect.specs.ListingFaultTexts.{listing_line_fault_text}
+use Rattle.build_effect.specs.ListingFaultTexts.{listing_line_fault_text, listing_write_fault_text}
 use Rattle.build_effect.specs.declared.fault.EffectFault.{EffectFault}
-use Rattle.build_effect.specs.declared.fault.ListingFault.{ListingFault}
-use Rattle.build_effect.specs.declared.fault.ListingFault.TheVariants.{AtLine, NoGraph}
+use Rattle.build_effect.specs.declared.fault.ListFault.{ListFault}
+use Rattle.build_effect.specs.declared.fault.ListFault.TheVariants.{AtLine, NoGraph}
+use Rattle.build_effect.specs.declared.fault.ListingWriteFault.{ListingWriteFault}
+use Rattle.build_effect.specs.declared.fault.ListingWriteFault.TheVariants.{ListingTooLong, Io}
 
 -- the first output of the edge of that index
 abbrev pub first_output : List EdgeValue → ℕ → PathText
@@ -17,9 +21,19 @@ first_output edges index =
     option_map_or (λ e. slice_index_or e.outputs 0 []) (slice_get edges index) []
 
 -- why a listing gives no graph: the fault of a line, or the file that the edges' fault is about
-abbrev pub edges_fault_text : ListingFault → Text
+abbrev pub edges_fault_text : ListFault → Text
 edges_fault_text (AtLine fault) = codes "edges: " ++ listing_line_fault_text fault
 edges_fault_text (NoGraph fault) = graph_fault_text fault ++ codes " " ++ graph_fault_path fault
+
+-- why a name is no path
+abbrev pub name_fault_text : PathFault → Text
+name_fault_text fault = codes "name: " ++ path_fault_text fault
+
+-- why the listing of edges can't be written: the edge whose line is too long
+abbrev pub listing_write_text : List EdgeValue → ListingWriteFault → Text
+listing_write_text edges (ListingTooLong index) =
+    codes "E9 ListingTooLong " ++ first_output edges index
+listing_write_text edges (Io written) = listing_write_fault_text (Io written)
 
 -- the file that an effect's fault is about, behind a space, if it is about one
 abbrev pub subject_text : Option PathText → Text

@@ -9,7 +9,9 @@ pub mod Folder
 pub mod Listings
 pub mod One
 pub mod Order
+pub mod Outcomes
 pub mod Printing
+pub mod Program
 pub mod ProjectCommand
 pub mod RefusalTexts
 pub mod Runs

@@ -1,30 +1,38 @@
--- What the command `order` answers.
-use Rattle.std.specs.Prelude.{List, [], ◌∷◌, ◌++◌, length, map}
+-- What the command `order` prints.
+use Rattle.std.specs.Prelude.{◌≡◌, ℕ, List, [], ◌∷◌, ◌++◌, length, map, Vec}
+use Rattle.std.specs.Global.{Global}
 use Rattle.std.specs.List.{flat_map}
 use Rattle.ninja_text.specs.Bytes.{Text, line_feed}
 use Rattle.dep_order.specs.Numbers.{Numbers}
 use Rattle.dep_order.specs.Sortings.{IsSortingOf}
-use Rattle.dep_order.specs.declared.Sorting.{Sorting}
 use Rattle.dep_order.specs.declared.Sorting.TheVariants.{Order, Cycle}
 use Rattle.build_effect.specs.EdgeValue.{EdgeValue}
 use Rattle.build_effect.specs.Graphs.{EdgeNeeds}
-use Rattle.commands.specs.declared.answer.Answer.{Answer}
-use Rattle.commands.specs.Answers.{visible, Prints, Refuses}
+use Rattle.commands.specs.Answers.{visible}
 use Rattle.commands.specs.EdgeFaults.{first_output, cycle_text}
+use Rattle.commands.specs.Listings.{ListingOf}
+use Rattle.commands.specs.Outcomes.{Part, OutputValue, Returns, printed, ◌>>=◌}
 
 -- the first output of each of these edges, one a line
 abbrev pub order_text : List EdgeValue → Numbers → Text
 order_text edges order =
     flat_map (λ index. map visible (first_output edges index) ++ line_feed ∷ []) order
 
--- an order is printed, and a cycle is refused
-abbrev pub AnswersSorting : List EdgeValue → Sorting → Answer → Type 0
-AnswersSorting edges (Order order) answer = Prints (order_text edges order.items) answer
-AnswersSorting edges (Cycle cycle) answer = Refuses (cycle_text edges cycle.items) answer
+-- the order of these edges by smallest indexes is printed
+abbrev pub PrintsOrder : List EdgeValue → OutputValue → Type 0
+PrintsOrder edges output =
+    (order : Vec ℕ Global) × IsSortingOf (length edges) (EdgeNeeds edges) (Order order)
+    × (output ≡ printed (order_text edges order.items))
 
--- What a run answers to the edges of a graph: their order by smallest indexes, or their least cycle
--- where they have none.
-pub record AnswersOrder (edges : List EdgeValue) (answer : Answer) : Type 0 where
-  pub sorting : Sorting
-  pub is : IsSortingOf (length edges) (EdgeNeeds edges) sorting
-  pub answers : AnswersSorting edges sorting answer
+-- the order of the edges of a graph, or their least cycle if they have none
+abbrev pub OrderOf : List EdgeValue → Part OutputValue
+OrderOf edges =
+    Returns (PrintsOrder edges)
+    (λ (cycle : Vec ℕ Global). IsSortingOf (length edges) (EdgeNeeds edges) (Cycle cycle))
+    (λ cycle. cycle_text edges cycle.items)
+
+-- What a run prints for these bytes of an edge listing.
+abbrev pub OrderRun : Text → Part OutputValue
+OrderRun edges = do
+  graph ← ListingOf edges
+  OrderOf graph

@@ -1,10 +1,22 @@
--- What the command `show` answers.
-use Rattle.std.specs.Prelude.{List}
+-- What the command `show` prints.
+use Rattle.std.specs.Prelude.{◌≡◌, List, Ok, Err}
+use Rattle.ninja_text.specs.Bytes.{Text}
+use Rattle.dyndep_file.specs.FaultTexts.{write_fault_text}
 use Rattle.dyndep_file.specs.StatementValue.{StatementValue}
 use Rattle.dyndep_file.specs.WriteFaults.{text_or_fault}
-use Rattle.commands.specs.declared.answer.Answer.{Answer}
-use Rattle.commands.specs.Answers.{AnswersText}
+use Rattle.commands.specs.Dyndeps.{DyndepOf}
+use Rattle.commands.specs.Outcomes.{Part, OutputValue, Returns, Prints, ◌>>=◌}
 
--- what a run answers to the statements of a dyndep file: their text
-abbrev pub AnswersShow : List StatementValue → Answer → Type 0
-AnswersShow statements answer = AnswersText (text_or_fault statements) answer
+-- the text of the statements of a dyndep file, or why they can't be written
+abbrev pub DyndepTextOf : List StatementValue → Part Text
+DyndepTextOf statements =
+    Returns (λ text. text_or_fault statements ≡ Ok text)
+    (λ fault. text_or_fault statements ≡ Err fault)
+    write_fault_text
+
+-- What a run prints for these bytes of a dyndep file.
+abbrev pub ShowRun : Text → Part OutputValue
+ShowRun dyndep = do
+  statements ← DyndepOf dyndep
+  text ← DyndepTextOf statements
+  Prints text

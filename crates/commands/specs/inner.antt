@@ -1,5 +1,4 @@
-pub mod EdgeChecks
 pub mod Parts
 pub mod ProjectTargets
 pub mod Refusals
-pub mod TargetDocuments
+pub mod Stops

@@ -1,17 +1,15 @@
-//! What a run of a command answers.
+//! What a run returns as a value.
 
-ghost use Rattle.std.specs.Prelude.{◌≡◌, ◌++◌, ◌∷◌, [], Err, map, IfOk, OnOk, codes};
+ghost use Rattle.std.specs.Prelude.{◌≡◌, ◌++◌, ◌∷◌, [], map, IfOk, OnOk};
 ghost use Rattle.ninja_text.specs.Bytes.{line_feed};
-ghost use Rattle.dyndep_file.specs.WriteFaults.{text_or_fault};
-ghost use Rattle.commands.specs.Answers.{visible, file_value, Writes, Fails, AnswersText};
-ghost use Rattle.commands.specs.Files.{ended};
+ghost use Rattle.commands.specs.Answers.{visible, line, IsAnswered};
 
-use dyndep_file::Dyndep;
+use crate::stop::{Output, Stop};
 use ninja_text::Failure;
 use std::alloc::{AllocError, Global};
 
-/// What a run of a command answers: the exit status, the bytes for standard output and for standard
-/// error, and the files to be written, by name and in order.
+/// What a run returns: the exit status, the bytes for standard output and for standard error, and
+/// the files to be written, by name and in order.
 #[derive(Drop)]
 pub struct Answer {
     pub status: u8,
@@ -21,93 +19,39 @@ pub struct Answer {
 }
 
 impl Answer {
-    /// The run is done, and has this text for standard output.
-    pub(crate) fn done(alloc: Global, out: Vec<u8>) -> Answer
-        ensures status { result.status ≡ 0 }
-        ensures out { result.out ≡ out }
-        ensures err { result.err.items ≡ [] }
-        ensures files { result.files.items ≡ [] }
+    /// Returns the answer of a run with this outcome. A message becomes one line on
+    /// standard error.
+    pub fn of(alloc: Global, outcome: Result<Output, Stop>) -> Result<Answer, AllocError>
+        ensures { IsAnswered outcome result }
     {
-        Answer {
-            status: 0,
-            out,
-            err: Vec::new(alloc),
-            files: Vec::new(alloc),
-        }
-    }
-
-    /// The run is done, prints nothing, and has these files to be written.
-    pub(crate) fn writes(alloc: Global, files: Vec<(String, Vec<u8>)>) -> Answer
-        ensures { Writes (map file_value files.items) result }
-    {
-        Answer {
-            status: 0,
-            out: Vec::new(alloc),
-            err: Vec::new(alloc),
-            files,
-        }
-    }
-
-    /// The run prints the text of a dyndep file, or reports why it cannot be written.
-    pub(crate) fn of_dyndep(alloc: Global, dyndep: &Dyndep) -> Result<Answer, AllocError>
-        ensures { IfOk result (AnswersText (text_or_fault dyndep.now)) }
-    {
-        match dyndep.to_text(alloc) {
-            Ok(text) => Ok(Answer::done(alloc, text)),
+        match outcome {
+            Ok(output) => Ok(Answer {
+                status: 0,
+                out: output.text,
+                err: Vec::new(alloc),
+                files: output.files,
+            }),
             Err(Failure::Memory) => Err(AllocError),
-            Err(Failure::Fault(fault)) => {
-                let message = format!(in alloc; "{fault}")?;
-                Answer::failed(alloc, 1, message.as_bytes())
-            }
+            Err(Failure::Fault(line)) => Ok(Answer {
+                status: line.status,
+                out: Vec::new(alloc),
+                err: line_of(alloc, &line.message)?,
+                files: Vec::new(alloc),
+            }),
         }
-    }
-
-    /// The arguments are no proper call.
-    pub fn usage(alloc: Global) -> Result<Answer, AllocError>
-        ensures { IfOk result (Fails 2 (codes "usage")) }
-    {
-        Answer::failed(alloc, 2, b"usage")
-    }
-
-    /// The file of this name could not be read.
-    pub fn unread(alloc: Global, name: &str) -> Result<Answer, AllocError>
-        ensures { IfOk result (Fails 3 (codes "cannot read " ++ name.now)) }
-    {
-        Answer::cannot(alloc, "read", name)
-    }
-
-    /// The file of this name could not be written.
-    pub fn unwritten(alloc: Global, name: &str) -> Result<Answer, AllocError>
-        ensures { IfOk result (Fails 3 (codes "cannot write " ++ name.now)) }
-    {
-        Answer::cannot(alloc, "write", name)
-    }
-
-    /// This could not be done to the file of this name.
-    fn cannot(alloc: Global, verb: &str, name: &str) -> Result<Answer, AllocError>
-        ensures { IfOk result (Fails 3
-            (codes "cannot " ++ verb.now ++ codes " " ++ name.now)) }
-    {
-        let message = format!(in alloc; "cannot {verb} {name}")?;
-        Answer::failed(alloc, 3, message.as_bytes())
-    }
-
-    /// The run ends with a status that says why, and with one line that says more.
-    pub(crate) fn failed(alloc: Global, status: u8, message: &[u8]) -> Result<Answer, AllocError>
-        ensures { IfOk result (Fails status message.now) }
-    {
-        let mut err = Vec::from_slice(alloc, b"dyncollate: ")?;
-        push_line(&mut err, message)?;
-        Ok(Answer {
-            status,
-            out: Vec::new(alloc),
-            err,
-            files: Vec::new(alloc),
-        })
     }
 }
 
-/// Appends a line. Control bytes are printed as `?`.
+/// Returns the line of a message.
+fn line_of(alloc: Global, message: &[u8]) -> Result<Vec<u8>, AllocError>
+    ensures { IfOk result (λ text. text.items ≡ line message.now) }
+{
+    let mut text = Vec::from_slice(alloc, b"dyncollate: ")?;
+    push_line(&mut text, message)?;
+    Ok(text)
+}
+
+/// Appends a line. Control bytes become `?`.
 pub(crate) fn push_line(text: &mut Vec<u8>, line: &[u8]) -> Result<(), AllocError>
     ensures { OnOk result (text.new.items
         ≡ text.old.items ++ map visible line.now ++ line_feed ∷ []) }
@@ -119,29 +63,9 @@ pub(crate) fn push_line(text: &mut Vec<u8>, line: &[u8]) -> Result<(), AllocErro
     Ok(())
 }
 
-/// A byte as it is printed in a line: `?` for a control byte.
+/// Returns a byte as it is printed in a line: `?` for a control byte.
 fn visible(byte: u8) -> u8
     ensures { result ≡ visible byte }
 {
     if byte < 32 || byte == 127 { b'?' } else { byte }
-}
-
-/// How a part of a run ends that has this answer, or none where memory was refused.
-pub(crate) fn ended<T>(answer: Result<Answer, AllocError>) -> Result<T, Failure<Answer>>
-    ensures { result ≡ ended answer }
-{
-    match answer {
-        Ok(answer) => Err(Failure::Fault(answer)),
-        Err(AllocError) => Err(Failure::Memory),
-    }
-}
-
-/// The answer of a run that a part of it ended.
-pub(crate) fn answered(failure: Failure<Answer>) -> Result<Answer, AllocError>
-    ensures { ended {X = ⊥} result ≡ Err failure }
-{
-    match failure {
-        Failure::Memory => Err(AllocError),
-        Failure::Fault(answer) => Ok(answer),
-    }
 }

@@ -1,111 +1,70 @@
 //! The command `collate`: the files of a target.
 
-ghost use Rattle.std.specs.Prelude.{◌≡◌, Some, None, [], ◌∷◌, ◌++◌, map, zip, option_copied, IsUtf8, All, IfOk, IfErr, OnOk};
+ghost use Rattle.std.specs.Prelude.{◌≡◌, None, [], ◌∷◌, ◌++◌, map, zip, All, IsUtf8, IfOk, IfErr, OnOk};
 ghost use Rattle.ninja_text.specs.Failure.{ForFault};
 ghost use Rattle.module_table.specs.TableValue.{table_with};
 ghost use Rattle.collate_core.specs.Collation.{Collates};
 ghost use Rattle.collate_core.specs.Refusals.{IsRefusal, WasRead};
 ghost use Rattle.commands.specs.Answers.{file_value};
-ghost use Rattle.commands.specs.CollateCommand.{style_of, map_name, files_of, WritesCollated, AnswersTargetOf, AnswersCollate};
-ghost use Rattle.commands.specs.Files.{ended};
-ghost use Rattle.commands.specs.Folder.{MakesCalls};
-ghost use Rattle.commands.specs.Targets.{AnswersTarget};
+ghost use Rattle.commands.specs.CollateCommand.{style_of, map_name, files_of, target_with, SpecOf, CollateRun};
+ghost use Rattle.commands.specs.Outcomes.{Runs, Writes};
+ghost use Rattle.commands.specs.Targets.{TargetOf};
 
-use crate::answer::{Answer, answered};
-use crate::edges::{edges_failed, edges_pass};
+use crate::edges::pass_edges;
 use crate::folder::Folder;
 use crate::reading::{TargetFiles, add, slices};
-use crate::refusal::{document_refused, failed_run};
-use crate::target_document::TargetDocument;
-use collate_core::{
-    Collated, CollatedParts, RefusedTarget, Target, collate_or_refused, one_outcome,
-};
+use crate::stop::{self, Output, Stop};
+use collate_core::{Collated, CollatedParts, RefusedTarget, Target, collate_or_refused};
 use module_maps::{Clang, Gcc};
 use ninja_text::{Failure, Path};
-use scan_docs::{MapForm, TargetSpec};
+use scan_docs::{MapForm, TargetSpec, spec_read};
 use std::alloc::{AllocError, Global};
-use std::hash::RandomState;
 
 /// Runs `collate TARGETFILE` on the bytes of the target document. The files that it names are read
-/// from the folder: scan documents, infos, and the listing of edges last. What is to be written are
-/// the map of each object, where the document wants maps, then the info, and last the dyndep file.
-/// Where the document names a listing of edges, they have to have an order after the effect of that
-/// dyndep file. Of a refused document no file is read.
+/// from the folder: scan documents, info files, and the listing of edges last. The output has the
+/// map of each object, if the document asks for maps, then the info file, and last the dyndep file.
+/// If the document names a listing of edges, they must have an order after the effect of that
+/// dyndep file. No file of a rejected document is read.
 pub fn collate_run<F: Folder>(
     alloc: Global,
-    keys: RandomState,
     document: &[u8],
     folder: &mut F,
-) -> Result<Answer, AllocError>
-    ensures { MakesCalls (F.calls folder.old) (F.calls folder.new) (λ calls.
-        AnswersCollate document.now calls (ended result)) }
+) -> Result<Output, Stop>
+    ensures { Runs (F.calls folder.old) (F.calls folder.new) (CollateRun document.now) result }
 {
-    match TargetDocument::read(alloc, document) {
-        Ok(document) => {
-            let spec = document.spec();
-            match TargetFiles::read(alloc, spec, &spec.linked, folder) {
-                Ok(files) => target_answer(alloc, keys, &document, &files),
-                Err(failure) => answered(failure),
-            }
-        }
-        Err(Failure::Memory) => Err(AllocError),
-        Err(Failure::Fault(fault)) => document_refused(alloc, "target", &fault),
-    }
+    let spec = read_spec(alloc, document)?;
+    let files = TargetFiles::read(alloc, &spec, &spec.linked, folder)?;
+    let collated = collated(alloc, &spec, &files)?;
+    pass_edges(alloc, files.listing(), &spec.dyndep_path, &collated)?;
+    write_collated(alloc, collated, &spec)
 }
 
-/// The answer to the target of a document, of these files.
-fn target_answer(
-    alloc: Global,
-    keys: RandomState,
-    document: &TargetDocument,
-    files: &TargetFiles,
-) -> Result<Answer, AllocError>
-    ensures { IfOk result (AnswersTargetOf document.now files.now) }
+/// Reads a target document.
+pub(crate) fn read_spec(alloc: Global, document: &[u8]) -> Result<TargetSpec, Stop>
+    ensures { SpecOf document.now [] result }
 {
-    one_outcome();
+    spec_read(alloc, document).map_err(|f| stop::of_document(alloc, "target", f))
+}
+
+/// Collates the target of a document, of these files.
+fn collated(alloc: Global, spec: &TargetSpec, files: &TargetFiles) -> Result<Collated, Stop>
+    ensures { TargetOf (target_with spec.now files.now) (style_of spec.now.map_form) [] result }
+{
     let scans = slices(alloc, &files.scans)?;
     let infos = slices(alloc, &files.infos)?;
-    let spec = document.spec();
     let target = Target {
         name: &spec.target,
-        setting: document.setting(),
+        setting: &spec.setting,
         scans: &scans,
         infos: &infos,
         kept: &spec.kept,
     };
-    match collate_in(alloc, keys, &target, spec.map) {
-        Ok(collated) => collated_answer(alloc, keys, collated, document, files.listing()),
-        Err(failure) => failed_run(alloc, failure),
-    }
-}
-
-/// The answer to a collated target: its files, or what is wrong with the edges of the listing, if
-/// there is one.
-fn collated_answer(
-    alloc: Global,
-    keys: RandomState,
-    collated: Collated,
-    document: &TargetDocument,
-    listing: Option<&[u8]>,
-) -> Result<Answer, AllocError>
-    requires { All IsUtf8 collated.objects }
-    ensures { IfOk result
-        (WritesCollated document.now (option_copied listing.entry) collated) }
-{
-    match edges_pass(alloc, keys, listing, document.path(), &collated) {
-        Ok(()) => {
-            let mut files = Vec::new(alloc);
-            append_files(alloc, collated, document.spec(), &mut files)?;
-            Ok(Answer::writes(alloc, files))
-        }
-        Err(failure) => edges_failed(alloc, failure),
-    }
+    collate_in(alloc, &target, spec.map).map_err(|f| stop::of_target(alloc, f))
 }
 
 /// Collates a target, with maps of this form, if one is given.
 fn collate_in(
     alloc: Global,
-    keys: RandomState,
     target: &Target<'_>,
     form: Option<MapForm>,
 ) -> Result<Collated, Failure<RefusedTarget>>
@@ -116,10 +75,20 @@ fn collate_in(
         (table_with refused.objects.items refused.infos.items))) }
 {
     match form {
-        None => collate_or_refused(alloc, target, None::<&Gcc>, keys),
-        Some(MapForm::Gcc) => collate_or_refused(alloc, target, Some(&Gcc), keys),
-        Some(MapForm::Clang) => collate_or_refused(alloc, target, Some(&Clang), keys),
+        None => collate_or_refused(alloc, target, None::<&Gcc>),
+        Some(MapForm::Gcc) => collate_or_refused(alloc, target, Some(&Gcc)),
+        Some(MapForm::Clang) => collate_or_refused(alloc, target, Some(&Clang)),
     }
+}
+
+/// Returns the files of a collated target, to be written.
+fn write_collated(alloc: Global, collated: Collated, spec: &TargetSpec) -> Result<Output, Stop>
+    requires { All IsUtf8 collated.objects }
+    ensures { Writes (files_of spec.now collated) [] result }
+{
+    let mut files = Vec::new(alloc);
+    append_files(alloc, collated, spec, &mut files)?;
+    Ok(Output::files(alloc, files))
 }
 
 /// Appends the files of a collated target, whose texts are given up and not copied.

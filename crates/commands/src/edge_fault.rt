@@ -2,22 +2,22 @@
 //! reported.
 
 ghost use Rattle.std.specs.Prelude.{◌≡◌, IfOk};
-ghost use Rattle.commands.specs.EdgeFaults.{first_output, edges_fault_text, effect_text, cycle_text};
+ghost use Rattle.commands.specs.EdgeFaults.{first_output, edges_fault_text, effect_text, listing_write_text, cycle_text};
 
 use crate::table_fault::{joined, push_next};
-use build_effect::{Edge, EffectFault, ListingFault};
+use build_effect::{Edge, EffectFault, ListFault, ListingWriteFault};
 use std::alloc::{AllocError, Global};
 
 /// What is reported of a listing that gives no graph.
-pub(crate) fn edges_fault_text(alloc: Global, fault: &ListingFault) -> Result<Vec<u8>, AllocError>
+pub(crate) fn edges_fault_text(alloc: Global, fault: &ListFault) -> Result<Vec<u8>, AllocError>
     ensures { IfOk result (λ text. text.items ≡ edges_fault_text fault.now) }
 {
     match fault {
-        ListingFault::AtLine(fault) => {
+        ListFault::AtLine(fault) => {
             let text = format!(in alloc; "edges: {fault}")?;
             Ok(text.into_bytes())
         }
-        ListingFault::NoGraph(fault) => {
+        ListFault::NoGraph(fault) => {
             let name = format!(in alloc; "{fault}")?;
             joined(alloc, &[name.as_bytes(), b" ", fault.path().bytes()])
         }
@@ -32,6 +32,26 @@ pub(crate) fn effect_text(alloc: Global, fault: &EffectFault) -> Result<Vec<u8>,
     match fault.path() {
         Some(path) => joined(alloc, &[name.as_bytes(), b" ", path.bytes()]),
         None => Ok(name.into_bytes()),
+    }
+}
+
+/// Returns what is reported of a graph whose listing can't be written. The edge whose build line is
+/// too long is named by its first output.
+pub(crate) fn listing_write_text(
+    alloc: Global,
+    edges: &[Edge],
+    fault: ListingWriteFault,
+) -> Result<Vec<u8>, AllocError>
+    ensures { IfOk result (λ text. text.items ≡ listing_write_text edges.now fault) }
+{
+    match fault {
+        ListingWriteFault::ListingTooLong { edge } => {
+            joined(alloc, &[b"E9 ListingTooLong ", first_output(edges, edge)])
+        }
+        ListingWriteFault::Io { .. } => {
+            let text = format!(in alloc; "{fault}")?;
+            Ok(text.into_bytes())
+        }
     }
 }
 

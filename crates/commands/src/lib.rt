@@ -1,33 +1,38 @@
-//! The commands of the program `dyncollate`, from a task to what the program answers: its exit
-//! status, its texts for standard output and standard error, and the files to be written; and what
-//! is written and printed of that. No function makes a call of the system: `main` passes a
+//! The commands of the program `dyncollate`, from its arguments to what it leaves: its text for
+//! standard output and the files to be written, or the exit status and the message of a failure;
+//! and how that is written and printed. No function makes a call of the system: `main` passes a
 //! [`Folder`] and two writers.
 //!
+//! - [`program_run`] is the whole program: the task of its arguments, the run, the writing and the
+//!   printing (`specs/Program.antt`).
 //! - [`task_run`] reads the file of a task from a folder and calls the command (`specs/Runs.antt`).
 //! - [`collate_run`] and [`project_run`] are the commands of these names. They read the files that
 //!   their document names from the folder, each when its turn comes and once
 //!   (`specs/CollateCommand.antt`, `ProjectCommand.antt`, `Files.antt`, `Folder.antt`).
 //! - [`one_run`], [`effect_run`], [`order_run`] and [`show_run`] are the others, on the bytes of
 //!   their files (`specs/One.antt`, `Effect.antt`, `Order.antt`, `Show.antt`).
-//! - [`write_files`] writes the files of an answer to a folder, and [`print`] its texts, and gives
-//!   the exit status (`specs/Files.antt`, `Printing.antt`).
-//! - [`Answer`] is what a command answers, and the line that it fails with (`specs/Answers.antt`).
-//! - `reading` reads files from a folder, `target_document` is an accepted target document, and
-//!   `project_targets` reads the targets of a project.
+//! - [`write_files`] writes the files of an output to a folder (`specs/Files.antt`).
+//! - [`Answer`] is what a run leaves as a value, with the line of a failure, and [`print`] writes
+//!   its texts and returns the exit status (`specs/Answers.antt`, `Printing.antt`).
+//! - [`Output`] is what a run leaves that succeeds, and [`Stop`] why a run stops: memory ran out, or
+//!   a [`Line`]. Every part of a run returns a `Result` with a [`Stop`], so `?` passes it on
+//!   (`specs/Outcomes.antt`). `stop` has one function for each type of fault, which makes the
+//!   message.
+//! - `reading` reads files from a folder, and `project_targets` the targets of a project.
 //! - `listing` and `dyndep_text` read listings and dyndep files, and `edges` checks the edges that
 //!   a target document names.
-//! - `refusal` reports why a target is refused, `table_fault` why its modules have no table, and
+//! - `refusal` says why a target is rejected, `table_fault` why its modules have no table, and
 //!   `edge_fault` what is wrong with edges.
 //!
 //! The definitions that only private clauses speak of are in `specs/inner/`.
 //!
 //! It uses the other library crates of this repository, of which `command_line` says what a
-//! task is, and `indexmap` for the table of the infos that a project writes.
+//! task is.
 //!
 //! `must-fail/` has a wrong body of each public function. `usage_with_status_1` shows the clause of
-//! each call that makes an [`Answer`] with a line, `every_document_reported_as_no_json` that of the
-//! line of a refusal, whatever the command, and `file_read_twice` that of what is read, how often
-//! and in which order.
+//! each call that makes a [`Stop`], `every_document_reported_as_no_json` that of the message of a
+//! rejection, whatever the command, and `file_read_twice` that of what is read, how often and in
+//! which order.
 #![tactic(auto)]
 
 mod answer;
@@ -36,29 +41,30 @@ mod dyndep_text;
 mod edge_fault;
 mod edges;
 mod effect;
-mod files;
 mod folder;
 mod listing;
 mod one;
 mod order;
 mod printing;
+mod program;
 mod project;
 mod project_targets;
 mod reading;
 mod refusal;
 mod run;
 mod show;
+mod stop;
 mod table_fault;
-mod target_document;
 
 pub use answer::Answer;
 pub use collate::collate_run;
 pub use effect::effect_run;
-pub use files::write_files;
 pub use folder::Folder;
 pub use one::one_run;
 pub use order::order_run;
 pub use printing::print;
+pub use program::program_run;
 pub use project::project_run;
-pub use run::task_run;
+pub use run::{task_run, write_files};
 pub use show::show_run;
+pub use stop::{Line, Output, Stop};

@@ -1,53 +1,32 @@
 //! The command `one`: the dyndep text of one scan document.
 
-ghost use Rattle.std.specs.Prelude.{◌≡◌, None, codes, IfOk};
-ghost use Rattle.commands.specs.One.{setting_of, PrintsDyndep, AnswersDocument};
-ghost use Rattle.commands.specs.Targets.{AnswersTarget};
+ghost use Rattle.std.specs.Prelude.{◌≡◌, [], codes, IfOk};
+ghost use Rattle.commands.specs.One.{one_setting, PrintsDyndep, OneRun};
 
-use crate::answer::Answer;
-use crate::refusal::failed_run;
-use collate_core::{Target, collate_dyndep_or_refused, one_outcome};
+use crate::stop::{self, Output, Stop};
+use collate_core::{Target, collate_dyndep_or_refused};
 use scan_docs::{Setting, TargetName};
 use std::alloc::{AllocError, Global};
-use std::hash::RandomState;
 
-/// Runs `one SCAN DIR EXT` on the bytes of the scan document, the folder that modules are compiled
-/// to and the ending of their files. The document is collated as a target by itself: a module that
-/// a rule requires is looked up among those that the document's own rules provide.
-pub fn one_run(
-    alloc: Global,
-    keys: RandomState,
-    document: &[u8],
-    dir: &str,
-    ext: &str,
-) -> Result<Answer, AllocError>
-    ensures { IfOk result (AnswersDocument (setting_of dir.now ext.now) document.now) }
-{
-    let setting = setting_of(alloc, dir, ext)?;
-    document_run(alloc, keys, document, &setting)
-}
-
-/// The answer to a scan document under this setting.
-fn document_run(
-    alloc: Global,
-    keys: RandomState,
-    document: &[u8],
-    setting: &Setting,
-) -> Result<Answer, AllocError>
-    ensures { IfOk result (AnswersDocument setting.now document.now) }
+/// Runs `one SCAN DIR EXT` on the bytes of the scan document, the directory that modules are
+/// compiled to and the ending of their file names. The document is collated as a target by itself:
+/// a module that a rule requires is looked up among those that the document's own rules provide.
+pub fn one_run(alloc: Global, scan: &[u8], dir: &str, ext: &str) -> Result<Output, Stop>
+    ensures { OneRun scan.now dir.now ext.now [] result }
 {
     let name = target_name(alloc)?;
+    let setting = one_setting(alloc, dir, ext)?;
     let target = Target {
         name: &name,
-        setting,
-        scans: &[document],
+        setting: &setting,
+        scans: &[scan],
         infos: &[],
         kept: &[],
     };
-    target_run(alloc, keys, &target)
+    print_dyndep(alloc, &target)
 }
 
-/// The name that the target goes by. No answer has it.
+/// Returns the name that the target goes by. It is not printed.
 fn target_name(alloc: Global) -> Result<TargetName, AllocError>
     ensures { IfOk result (λ name. name ≡ codes "t") }
 {
@@ -57,9 +36,9 @@ fn target_name(alloc: Global) -> Result<TargetName, AllocError>
     }
 }
 
-/// The setting of the command: no build directory.
-fn setting_of(alloc: Global, dir: &str, ext: &str) -> Result<Setting, AllocError>
-    ensures { IfOk result (λ setting. setting ≡ setting_of dir.now ext.now) }
+/// Returns the setting of the command, which has no build directory.
+fn one_setting(alloc: Global, dir: &str, ext: &str) -> Result<Setting, AllocError>
+    ensures { IfOk result (λ setting. setting ≡ one_setting dir.now ext.now) }
 {
     Ok(Setting {
         module_dir: String::from_str(alloc, dir)?,
@@ -68,13 +47,12 @@ fn setting_of(alloc: Global, dir: &str, ext: &str) -> Result<Setting, AllocError
     })
 }
 
-/// The answer to a target that wants no info and no maps: the text of its dyndep file.
-fn target_run(alloc: Global, keys: RandomState, target: &Target<'_>) -> Result<Answer, AllocError>
-    ensures { IfOk result (AnswersTarget PrintsDyndep target.now None) }
+/// Prints the dyndep text of a target.
+fn print_dyndep(alloc: Global, target: &Target<'_>) -> Result<Output, Stop>
+    ensures { PrintsDyndep target.now [] result }
 {
-    one_outcome();
-    match collate_dyndep_or_refused(alloc, target, keys) {
-        Ok(text) => Ok(Answer::done(alloc, text)),
-        Err(failure) => failed_run(alloc, failure),
+    match collate_dyndep_or_refused(alloc, target) {
+        Ok(text) => Ok(Output::text(alloc, text)),
+        Err(failure) => Err(stop::of_target(alloc, failure)),
     }
 }

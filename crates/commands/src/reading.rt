@@ -2,70 +2,60 @@
 //! read.
 
 ghost use Rattle.std.specs.Prelude.{◌≡◌, ◌++◌, ◌∷◌, [], map, string_bytes, option_map, option_copied, IfOk, OnOk};
-ghost use Rattle.commands.specs.Files.{ReadsFile, ReadsFiles, ReadsListing, ReadsTarget};
-ghost use Rattle.commands.specs.Folder.{MakesCalls};
-ghost use Rattle.commands.specs.inner.Parts.{GoesOn, contents};
+ghost use Rattle.commands.specs.Files.{FilesOf};
+ghost use Rattle.commands.specs.Outcomes.{Runs, ReadsFile, ReadsAll, ReadsIfNamed, seen};
+ghost use Rattle.commands.specs.inner.Parts.{bytes_of, contents};
 
-use crate::answer::{Answer, ended};
 use crate::folder::Folder;
+use crate::stop::{self, Stop};
 use ninja_text::Failure;
 use scan_docs::TargetSpec;
 use std::alloc::{AllocError, Global};
 use std::io::ErrorKind;
 use std::marker::Model;
 
-/// The bytes of the file of this name, or how the run ends where it can't be read.
-pub(crate) fn read_file<F: Folder>(
-    alloc: Global,
-    name: &str,
-    folder: &mut F,
-) -> Result<Vec<u8>, Failure<Answer>>
-    ensures { MakesCalls (F.calls folder.old) (F.calls folder.new) (λ calls.
-        ReadsFile name.now (GoesOn (λ bytes. bytes.items)) calls result) }
+/// Reads the file of this name.
+pub(crate) fn read<F: Folder>(alloc: Global, name: &str, folder: &mut F) -> Result<Vec<u8>, Stop>
+    ensures { Runs (F.calls folder.old) (F.calls folder.new) (ReadsFile name.now) (seen bytes_of result) }
 {
     match folder.read(name) {
-        Ok(bytes) => Ok(bytes),
+        Ok(file) => Ok(file),
         Err(error) if error.kind() == ErrorKind::OutOfMemory => Err(Failure::Memory),
-        Err(_) => ended(Answer::unread(alloc, name)),
+        Err(_) => Err(stop::of_unread(alloc, name)),
     }
 }
 
-/// The bytes of the files of these names, which are read one after another, or how the run ends
-/// with the first that can't be read.
-pub(crate) fn read_in_turn<F: Folder>(
+/// Reads the files of these names, one after another.
+fn read_all<F: Folder>(
     alloc: Global,
     names: &[String],
     folder: &mut F,
-) -> Result<Vec<Vec<u8>>, Failure<Answer>>
-    ensures { MakesCalls (F.calls folder.old) (F.calls folder.new) (λ calls.
-        ReadsFiles (map string_bytes names.now) (GoesOn contents)
-        calls result) }
+) -> Result<Vec<Vec<u8>>, Stop>
+    ensures { Runs (F.calls folder.old) (F.calls folder.new)
+        (ReadsAll (map string_bytes names.now)) (seen contents result) }
 {
     let mut files = Vec::with_capacity(alloc, names.len())?;
     for name in names {
-        let bytes = read_file(alloc, name.as_str(), folder)?;
-        files = pushed(files, bytes)?;
+        let file = read(alloc, name.as_str(), folder)?;
+        files = pushed(files, file)?;
     }
     Ok(files)
 }
 
-/// The bytes of the file of a name, where there is one, or how the run ends where it can't be read.
-fn read_listing<F: Folder>(
+/// Reads the file of a name, if there is one.
+fn read_if_named<F: Folder>(
     alloc: Global,
     name: &Option<String>,
     folder: &mut F,
-) -> Result<Option<Vec<u8>>, Failure<Answer>>
-    ensures { MakesCalls (F.calls folder.old) (F.calls folder.new) (λ calls. ReadsListing
-        (option_map string_bytes name.now) (GoesOn (option_map (λ file. file.items)))
-        calls result) }
+) -> Result<Option<Vec<u8>>, Stop>
+    ensures { Runs (F.calls folder.old) (F.calls folder.new)
+        (ReadsIfNamed (option_map string_bytes name.now)) (seen (option_map bytes_of) result) }
 {
-    match name {
-        Some(name) => match read_file(alloc, name.as_str(), folder) {
-            Ok(bytes) => Ok(Some(bytes)),
-            Err(failure) => Err(failure),
-        },
-        None => Ok(None),
-    }
+    let Some(name) = name else {
+        return Ok(None);
+    };
+    let file = read(alloc, name.as_str(), folder)?;
+    Ok(Some(file))
 }
 
 /// The bytes of the files of a target.
@@ -73,7 +63,7 @@ fn read_listing<F: Folder>(
 pub(crate) struct TargetFiles {
     /// The scan documents.
     pub scans: Vec<Vec<u8>>,
-    /// The infos of targets that it links.
+    /// The info files of targets that it links.
     pub infos: Vec<Vec<u8>>,
     /// The listing of edges, if its document names one.
     pub listing: Option<Vec<u8>>,
@@ -82,32 +72,32 @@ pub(crate) struct TargetFiles {
 impl Model for TargetFiles {
     ghost use Rattle.std.specs.Prelude.{option_map};
     ghost use Rattle.commands.specs.Files.{TargetFilesValue};
-    ghost use Rattle.commands.specs.inner.Parts.{contents};
+    ghost use Rattle.commands.specs.inner.Parts.{bytes_of, contents};
 
     ghost Value = { TargetFilesValue };
 
     ghost view = { λ f. record {
       scans = contents f.scans;
       infos = contents f.infos;
-      listing = option_map (λ file. file.items) f.listing;
+      listing = option_map bytes_of f.listing;
     } };
 }
 
 impl TargetFiles {
-    /// Reads the scan documents that a target document names, the infos of these names, and the
-    /// listing of edges, in this order.
+    /// Reads the scan documents that a target document names, the info files of these names, and
+    /// the listing of edges, in this order.
     pub(crate) fn read<F: Folder>(
         alloc: Global,
         spec: &TargetSpec,
         infos: &[String],
         folder: &mut F,
-    ) -> Result<TargetFiles, Failure<Answer>>
-        ensures { MakesCalls (F.calls folder.old) (F.calls folder.new) (λ calls. ReadsTarget
-            spec.now (map string_bytes infos.now) (GoesOn (λ files. files)) calls result) }
+    ) -> Result<TargetFiles, Stop>
+        ensures { Runs (F.calls folder.old) (F.calls folder.new)
+            (FilesOf spec.now (map string_bytes infos.now)) result }
     {
-        let scans = read_in_turn(alloc, &spec.scans, folder)?;
-        let infos = read_in_turn(alloc, infos, folder)?;
-        let listing = read_listing(alloc, &spec.edges, folder)?;
+        let scans = read_all(alloc, &spec.scans, folder)?;
+        let infos = read_all(alloc, infos, folder)?;
+        let listing = read_if_named(alloc, &spec.edges, folder)?;
         Ok(TargetFiles {
             scans,
             infos,
@@ -115,7 +105,7 @@ impl TargetFiles {
         })
     }
 
-    /// The listing of edges, if there is one.
+    /// Returns the listing of edges, if there is one.
     pub(crate) fn listing(&self) -> Option<&[u8]>
         ensures { option_copied result ≡ self.now.listing }
     {
@@ -126,7 +116,7 @@ impl TargetFiles {
     }
 }
 
-/// The bytes of files, lent.
+/// Borrows the bytes of files.
 pub(crate) fn slices(alloc: Global, files: &[Vec<u8>]) -> Result<Vec<&[u8]>, AllocError>
     ensures { IfOk result (λ slices. map (λ s. s.now) slices.items
         ≡ map (λ file. file.items) files.now) }
@@ -138,8 +128,8 @@ pub(crate) fn slices(alloc: Global, files: &[Vec<u8>]) -> Result<Vec<&[u8]>, All
     Ok(slices)
 }
 
-/// The list with one more item. A loop that makes its list by this call has none to drop where
-/// memory is refused, which makes its proof shorter.
+/// Returns the list with one more item. A loop that makes its list by this call has none to drop
+/// if an allocation fails, which makes its proof shorter.
 pub(crate) fn pushed<T: Drop>(list: Vec<T>, item: T) -> Result<Vec<T>, AllocError>
     ensures { IfOk result (λ longer. longer.items ≡ list.items ++ item ∷ []) }
 {
@@ -148,7 +138,7 @@ pub(crate) fn pushed<T: Drop>(list: Vec<T>, item: T) -> Result<Vec<T>, AllocErro
     Ok(list)
 }
 
-/// Adds an item to the list. An item that finds no room is dropped here, for all types at once.
+/// Appends an item to the list. If an allocation fails, it is dropped here, for all types at once.
 pub(crate) fn add<T: Drop>(list: &mut Vec<T>, item: T) -> Result<(), AllocError>
     ensures { OnOk result (list.new.items ≡ list.old.items ++ item ∷ []) }
 {

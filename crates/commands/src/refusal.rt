@@ -1,44 +1,20 @@
 //! How the refusals of a target are reported.
 
-ghost use Rattle.std.specs.Prelude.{◌≡◌, ◌++◌, map, codes, IfOk};
-ghost use Rattle.scan_docs.specs.FaultTexts.{doc_fault_text};
-ghost use Rattle.commands.specs.Answers.{Refuses};
+ghost use Rattle.std.specs.Prelude.{◌≡◌, map, IfOk};
 ghost use Rattle.commands.specs.RefusalTexts.{document_text, map_text};
-ghost use Rattle.commands.specs.inner.Refusals.{refusal_line, AnswersFailure};
+ghost use Rattle.commands.specs.inner.Refusals.{refusal_line, refused_line};
 
-use crate::answer::Answer;
 use crate::reading::pushed;
 use crate::table_fault::{fault_text, joined, object_path};
 use collate_core::{Refusal, RefusedTarget};
 use dyndep_file::WriteFault;
 use module_maps::MapFault;
-use ninja_text::Failure;
 use scan_docs::{DocFault, Info, Rule, TargetName};
 use std::alloc::{AllocError, Global};
 
-/// The answer to a target that failed to collate.
-pub(crate) fn failed_run(
-    alloc: Global,
-    failure: Failure<RefusedTarget>,
-) -> Result<Answer, AllocError>
-    ensures { IfOk result (AnswersFailure failure) }
-{
-    match failure {
-        Failure::Memory => Err(AllocError),
-        Failure::Fault(refused) => {
-            let message = refused_text(alloc, &refused);
-            // Here, by one call: what it holds would be dropped field by field at the end.
-            drop(refused);
-            let message = message?;
-            Answer::failed(alloc, 1, &message)
-        }
-    }
-}
-
 /// What is reported of a target that is refused: infos are named by the names in them.
-fn refused_text(alloc: Global, refused: &RefusedTarget) -> Result<Vec<u8>, AllocError>
-    ensures { IfOk result (λ text. text.items ≡ refusal_line refused.now.objects.items
-        (map (λ info. info.target) refused.now.infos.items) refused.now.refusal) }
+pub(crate) fn refused_text(alloc: Global, refused: &RefusedTarget) -> Result<Vec<u8>, AllocError>
+    ensures { IfOk result (λ text. text.items ≡ refused_line refused.now) }
 {
     let names = names_of(alloc, &refused.infos)?;
     refusal_line(alloc, &refused.refusal, &refused.objects, &names)
@@ -69,19 +45,6 @@ pub(crate) fn refusal_line(
         Refusal::Map { object, fault } => map_text(alloc, objects, *object, fault),
         Refusal::LinkedLater => Vec::from_slice(alloc, b"K3 LinkedLater"),
     }
-}
-
-/// The answer to a faulty document of this kind.
-pub(crate) fn document_refused(
-    alloc: Global,
-    kind: &str,
-    fault: &DocFault,
-) -> Result<Answer, AllocError>
-    ensures { IfOk result
-        (Refuses (kind.now ++ codes ": " ++ doc_fault_text fault.now)) }
-{
-    let message = format!(in alloc; "{kind}: {fault}")?;
-    Answer::failed(alloc, 1, message.as_bytes())
 }
 
 /// A faulty document, by its kind and its index.

@@ -1,11 +1,13 @@
 -- What is known of the targets of a project, and how they are found by their infos.
-use Rattle.std.specs.Prelude.{◌≡◌, ℕ, ◌<◌, List, length, slice_get, All, IsUtf8, Option, Some, String}
-use Rattle.std.specs.HashMap.{HashMap, get_by_text}
-use Rattle.collate_core.specs.Values.{CollatedValue}
-use Rattle.commands.specs.ProjectCommand.{ReadTargetValue}
+use Rattle.std.specs.Prelude.{◌≡◌, ℕ, ◌<◌, List, length, slice_get, All, Option, Some, String}
+use Rattle.std.specs.BTreeMap.{BTreeMap, get_by_text}
+use Rattle.collate_core.specs.declared.fault.RefusedTarget.{RefusedTarget}
+use Rattle.ninja_text.specs.Bytes.{Text}
+use Rattle.commands.specs.ProjectCommand.{ReadTargetValue, names_at, target_text}
+use Rattle.commands.specs.inner.Refusals.{refusal_line}
 
 -- the index that a table has for an info
-abbrev pub writer_of : {Y S : Type 0} → HashMap (String Y) ℕ S → List ℕ → Option ℕ
+abbrev pub writer_of : {Y : Type 0} → BTreeMap (String Y) ℕ → List ℕ → Option ℕ
 writer_of writers info = get_by_text writers info
 
 -- all targets link earlier ones
@@ -19,7 +21,8 @@ IsReportable targets index =
     (t : ReadTargetValue) × (slice_get targets index ≡ Some t)
     × All (λ k. k < length targets) t.linked
 
--- these are as many collated targets, and their objects are text
-abbrev pub AreOuts : List ReadTargetValue → List CollatedValue → Type 0
-AreOuts targets outs =
-    (length outs ≡ length targets) × All (λ c. All IsUtf8 c.objects) outs
+-- what is reported of the rejected target of this index
+abbrev pub ReportsAt : List ReadTargetValue → ℕ → RefusedTarget → Text → Type 0
+ReportsAt targets index refused text = (t : ReadTargetValue) → slice_get targets index ≡ Some t →
+    text ≡ target_text index (refusal_line refused.objects.items (names_at targets t.linked)
+    refused.refusal)

@@ -1,11 +1,15 @@
 use Rattle.std.proofs.Common.{ℕ, List, [], ◌∷◌, ◌++◌, map, append_assoc, ap, ap₂, subst, sym, ◌∙◌}
-use Rattle.std.specs.Prelude.{All, IsUtf8, zip}
+use Rattle.std.specs.Prelude.{All, IsUtf8, OnOk, Result, Ok, Err, zip}
 use Rattle.scan_docs.specs.Target.{TargetDocumentValue}
 use Rattle.commands.specs.Answers.{file_value}
 use Rattle.commands.specs.CollateCommand.{map_name}
-use Rattle.commands.specs.Files.{FileValue}
-use Rattle.commands.proofs.Results.{if_done}
+use Rattle.commands.specs.Outcomes.{FileValue}
 use Rattle.commands.proofs.collate.append_files.Goals as goal
+
+-- what follows from a fact that holds if a call succeeds
+if_done : {T E : Type 0} (r : Result T E) (P Q : Type 0) → (P → Q) → OnOk r P → OnOk r Q
+if_done (Ok x) P Q to h = to h
+if_done (Err e) P Q to h = tt
 
 pub append_maps-requires : goal.append_maps-requires
 append_maps-requires c = subst (All IsUtf8) (sym (c.deref.ensures.value ∙ c.into_parts-dyndep_text.ensures.objects)) c.requires

@@ -8,9 +8,9 @@ use Rattle.std.proofs.lemmas.List.{length_push, take_all}
 use Rattle.std.proofs.lemmas.List.Elements.{All-get_or}
 use Rattle.commands.specs.Answers.{file_value}
 use Rattle.commands.specs.CollateCommand.{map_name}
-use Rattle.commands.specs.Files.{FileValue}
+use Rattle.commands.specs.Outcomes.{FileValue}
 use Rattle.commands.proofs.Commands.{first_all, map_file, zip_map}
-use Rattle.commands.proofs.ProjectTargets.{mapped_next}
+use Rattle.commands.proofs.Loops.{mapped_next}
 use Rattle.commands.proofs.collate.append_maps.Goals as goal
 
 -- this object is text

@@ -1,82 +1,101 @@
-use Rattle.std.proofs.Common.{◌≡◌, ◌∙◌, ℕ, List, [], map, string_bytes, refl, ap, subst, sym}
-use Rattle.std.specs.Prelude.{IfOk, Ok, Err}
-use Rattle.ninja_text.specs.Failure.{ForFault}
-use Rattle.scan_docs.specs.Document.{IsRefused}
+use Rattle.std.proofs.Common.{rules, ◌≡◌, ◌∙◌, ℕ, List, [], Option, map, string_bytes, refl, ap, subst, sym}
+use Rattle.std.specs.Prelude.{All, IsUtf8, Ok, Err}
+use Rattle.ninja_text.specs.Bytes.{Bytes, Text}
+use Rattle.ninja_text.specs.declared.failure.Failure.{Failure}
 use Rattle.scan_docs.specs.Target as document
-use Rattle.scan_docs.specs.TargetChecks.{target_checks}
-use Rattle.scan_docs.specs.declared.fault.DocFault.{DocFault}
-use Rattle.commands.specs.Answers.{Refuses}
-use Rattle.commands.specs.CollateCommand.{AnswersTargetOf, AnswersSpec, AnswersCollate, spec_text}
-use Rattle.commands.specs.Files.{ReadsTarget, TargetFilesValue, Ends, ended}
-use Rattle.commands.specs.inner.Parts.{GoesOn}
-use Rattle.commands.proofs.FileCalls.{held, untouched}
-use Rattle.commands.proofs.Parts.{collate_stops, ended_with, no_more, off, on, target_goes}
+use Rattle.collate_core.specs.Values.{CollatedValue}
+use Rattle.commands.specs.CollateCommand.{SpecOf, CollateRun, files_of, style_of, target_with}
+use Rattle.commands.specs.EdgeChecks.{EdgesPass}
+use Rattle.commands.specs.Files.{TargetFilesValue, FilesOf}
+use Rattle.commands.specs.Folder.{FileCall}
+use Rattle.commands.specs.Outcomes.{LineValue, Outcome, OutputValue, Part, Runs, Writes, ◌>>=◌}
+use Rattle.commands.specs.Targets.{TargetOf}
+use Rattle.commands.proofs.Commands.{objects_text}
+use Rattle.commands.proofs.Outcomes.{at_once, next, last, run_as, run_next, run_last, passed}
 use Rattle.commands.proofs.collate.collate_run.Goals as goal
 
--- the files were read, of the document that has the members which were read
-pub returns-in-Ok-read : goal.returns-in-Ok-read
-returns-in-Ok-read g c =
-    let spec = c.in-Ok.document in
-    let is : c.spec-spec.result.now ≡ spec = c.spec-spec.ensures in
+abbrev Document : Type 0
+Document = document.TargetDocumentValue
+
+-- what comes after the target, after the files, and after the document
+abbrev AfterTarget : Document → TargetFilesValue → CollatedValue → Part OutputValue
+AfterTarget spec files c = EdgesPass files.listing spec.dyndep_path c.dyndep >>= (λ done. Writes (files_of spec c))
+
+abbrev AfterFiles : Document → TargetFilesValue → Part OutputValue
+AfterFiles spec files = TargetOf (target_with spec files) (style_of spec.map_form) >>= AfterTarget spec files
+
+abbrev AfterSpec : Document → Part OutputValue
+AfterSpec spec = FilesOf spec spec.linked >>= AfterFiles spec
+
+-- the run goes on after the document
+spec_next : (old new : Option (List FileCall)) (bytes : Bytes) (spec : Document) (s : Outcome OutputValue) → SpecOf bytes [] (Ok spec) →
+    Runs old new (AfterSpec spec) s → Runs old new (CollateRun bytes) s
+spec_next old new bytes spec s read rest = run_next (SpecOf bytes) AfterSpec old old new (Ok spec) spec s (at_once old (SpecOf bytes) (Ok spec) read) refl rest
+
+-- and after the files
+files_next : (old new : Option (List FileCall)) (spec : Document) (linked : List Text) (files : TargetFilesValue) (s : Outcome OutputValue) → linked ≡ spec.linked →
+    Runs old new (FilesOf spec linked) (Ok files) → AfterFiles spec files [] s → Runs old new (AfterSpec spec) s
+files_next old new spec linked files s named read rest =
+    run_next (FilesOf spec spec.linked) (AfterFiles spec) old new new (Ok files) files s
+    (run_as (FilesOf spec) old new (Ok files) named read) refl
+    (at_once new (AfterFiles spec files) s rest)
+
+-- the listing and the path of the target
+passes_as : (spec : Document) (files : TargetFilesValue) (listing : Option Text) (path dyndep : List ℕ) (s : Outcome (Unit {0})) → listing ≡ files.listing → path ≡ spec.dyndep_path →
+    EdgesPass listing path dyndep [] s → EdgesPass files.listing spec.dyndep_path dyndep [] s
+passes_as spec files listing path dyndep s l p h =
+    subst (λ x. EdgesPass x spec.dyndep_path dyndep [] s) l (subst (λ x. EdgesPass listing x dyndep [] s) p h)
+
+pub write_collated-requires : goal.write_collated-requires
+write_collated-requires g c =
+    let spec = c.in_ok-spec.spec in
+    objects_text (target_with spec c.in_ok-files.files) (style_of spec.map_form) c.in_ok-collated.collated c.in_ok-collated.ensures.1
+
+pub returns-in_err-spec : goal.returns-in_err-spec
+returns-in_err-spec g c =
+    let start = g.F.Folder.calls c.args.folder.now in
+    let failure = c.in_err-spec.field-0.0 in
+    run_last (SpecOf c.args.document.now) AfterSpec start start (Err failure) failure _ (at_once start (SpecOf c.args.document.now) (Err failure) c.in_err-spec.ensures) refl (passed c.from_residual.ensures)
+
+pub returns-in_err-files : goal.returns-in_err-files
+returns-in_err-files g c =
+    let spec = c.in_ok-spec.spec in
     let named : map string_bytes c.deref.result.now ≡ spec.linked =
-    ap (map string_bytes) c.deref.ensures.value ∙ ap (λ (s : document.TargetDocumentValue). s.linked) (c.spec.view_is ∙ is) in
-    let files : TargetFilesValue = c.in-Ok-read.files in
-    let result = c.target_answer.result in
-    let step = ended result in
-    held _ _ (λ calls. ReadsTarget c.spec-spec.result.now (map string_bytes c.deref.result.now) (GoesOn (λ (f : TargetFilesValue). f)) calls (Ok files))
-    (λ calls. AnswersCollate c.args.document.now calls step) c.in-Ok-read.ensures
-    (λ calls read.
-    let own : AnswersSpec spec calls step =
-    no_more (AnswersSpec spec) calls step
-    (target_goes spec spec.linked (λ f. f) (λ f. Ends (AnswersTargetOf spec f)) calls (Ok files) [] step
-    (on files refl (refl, ended_with (AnswersTargetOf spec files) result step refl c.target_answer.ensures))
-    (subst (λ (s : document.TargetDocumentValue). ReadsTarget s spec.linked (GoesOn (λ (f : TargetFilesValue). f)) calls (Ok files)) is
-    (subst (λ (linked : List (List ℕ)). ReadsTarget c.spec-spec.result.now linked (GoesOn (λ (f : TargetFilesValue). f)) calls (Ok files)) named read))) in
-    record {
-      accepted = λ other has. subst (λ (s : document.TargetDocumentValue). AnswersSpec s calls step) (c.read.ensures.one_answer.one_value spec other c.in-Ok.ensures.accepted has) own;
-      refused = λ fault is. absurd (c.read.ensures.one_answer.not_both spec fault c.in-Ok.ensures.accepted is);
-    })
+    ap (map string_bytes) c.deref.ensures.value ∙ ap (λ (s : Document). s.linked) c.spec.view_is in
+    let failure = c.in_err-files.field-0.0 in
+    spec_next _ _ c.args.document.now spec _ c.in_ok-spec.ensures
+    (run_last (FilesOf spec spec.linked) (AfterFiles spec) _ _ (Err failure) failure _
+    (run_as (FilesOf spec) _ _ (Err failure) named c.in_err-files.ensures) refl (passed c.from_residual-in_err-files.ensures))
 
--- or one could not be
-pub returns-in-Ok : goal.returns-in-Ok
-returns-in-Ok g c =
-    let spec = c.in-Ok.document in
-    let is : c.spec-spec.result.now ≡ spec = c.spec-spec.ensures in
+pub returns-in_err-collated : goal.returns-in_err-collated
+returns-in_err-collated g c =
+    let spec = c.in_ok-spec.spec in
     let named : map string_bytes c.deref.result.now ≡ spec.linked =
-    ap (map string_bytes) c.deref.ensures.value ∙ ap (λ (s : document.TargetDocumentValue). s.linked) (c.spec.view_is ∙ is) in
-    let failure = c.in-Err.failure in
-    let step = ended c.answered.result in
-    held _ _ (λ calls. ReadsTarget c.spec-spec.result.now (map string_bytes c.deref.result.now) (GoesOn (λ (f : TargetFilesValue). f)) calls (Err failure))
-    (λ calls. AnswersCollate c.args.document.now calls step) c.in-Err.ensures
-    (λ calls read.
-    let own : AnswersSpec spec calls step =
-    subst (AnswersSpec spec calls) (sym c.answered.ensures)
-    (no_more (AnswersSpec spec) calls (Err failure)
-    (target_goes spec spec.linked (λ f. f) (λ f. Ends (AnswersTargetOf spec f)) calls (Err failure) [] (Err failure)
-    (off failure refl refl refl (λ f. (refl, tt)))
-    (subst (λ (s : document.TargetDocumentValue). ReadsTarget s spec.linked (GoesOn (λ (f : TargetFilesValue). f)) calls (Err failure)) is
-    (subst (λ (linked : List (List ℕ)). ReadsTarget c.spec-spec.result.now linked (GoesOn (λ (f : TargetFilesValue). f)) calls (Err failure)) named read)))) in
-    record {
-      accepted = λ other has. subst (λ (s : document.TargetDocumentValue). AnswersSpec s calls step) (c.read.ensures.one_answer.one_value spec other c.in-Ok.ensures.accepted has) own;
-      refused = λ fault is. absurd (c.read.ensures.one_answer.not_both spec fault c.in-Ok.ensures.accepted is);
-    })
+    ap (map string_bytes) c.deref.ensures.value ∙ ap (λ (s : Document). s.linked) c.spec.view_is in
+    spec_next _ _ c.args.document.now spec _ c.in_ok-spec.ensures
+    (files_next _ _ spec _ c.in_ok-files.files _ named c.in_ok-files.ensures
+    (last c.in_err-collated.ensures refl (passed c.from_residual-in_err-collated.ensures)))
 
-pub returns-in-Err-Memory : goal.returns-in-Err-Memory
-returns-in-Err-Memory g c = untouched _ _ (collate_stops c.args.document.now)
+pub returns-in_err-pass_edges : goal.returns-in_err-pass_edges
+returns-in_err-pass_edges g c =
+    let spec = c.in_ok-spec.spec in
+    let files : TargetFilesValue = c.in_ok-files.files in
+    let named : map string_bytes c.deref.result.now ≡ spec.linked =
+    ap (map string_bytes) c.deref.ensures.value ∙ ap (λ (s : Document). s.linked) c.spec.view_is in
+    spec_next _ _ c.args.document.now spec _ c.in_ok-spec.ensures
+    (files_next _ _ spec _ files _ named c.in_ok-files.ensures
+    (next c.in_ok-collated.ensures refl
+    (last (passes_as spec files _ _ c.in_ok-collated.collated.dyndep _ c.listing.ensures (ap (λ (s : Document). s.dyndep_path) c.spec.view_is) c.in_err-pass_edges.ensures) refl (passed c.from_residual-in_err-pass_edges.ensures))))
 
--- a refused document has no members, and no other fault
 pub returns : goal.returns
 returns g c =
-    let result = c.document_refused.result in
-    let own : IsRefused target_checks c.args.document.now c.in-Err-Fault.fault =
-    subst (ForFault (IsRefused target_checks c.args.document.now)) c.in-Err-Fault.field-0-is c.in-Err-Fault.ensures.refused in
-    let line : IfOk result (Refuses (spec_text c.in-Err-Fault.fault)) =
-    subst (λ (f : DocFault). IfOk result (Refuses (spec_text f))) c.in-Err-Fault.fault-is c.document_refused.ensures in
-    untouched _ (λ calls. AnswersCollate c.args.document.now calls (ended result)) (record {
-      accepted = λ spec has. absurd (c.read.ensures.one_answer.not_both spec c.in-Err-Fault.fault has own);
-      refused = λ fault is. (
-        refl,
-        ended_with (Refuses (spec_text fault)) result (ended result) refl
-            (subst (λ (f : DocFault). IfOk result (Refuses (spec_text f))) (c.read.ensures.one_answer.one_fault c.in-Err-Fault.fault fault own is) line),
-      );
-    })
+    let spec = c.in_ok-spec.spec in
+    let files : TargetFilesValue = c.in_ok-files.files in
+    let collated = c.in_ok-collated.collated in
+    let named : map string_bytes c.deref.result.now ≡ spec.linked =
+    ap (map string_bytes) c.deref.ensures.value ∙ ap (λ (s : Document). s.linked) c.spec.view_is in
+    spec_next _ _ c.args.document.now spec _ c.in_ok-spec.ensures
+    (files_next _ _ spec _ files _ named c.in_ok-files.ensures
+    (next c.in_ok-collated.ensures refl
+    (next (passes_as spec files _ _ collated.dyndep _ c.listing.ensures (ap (λ (s : Document). s.dyndep_path) c.spec.view_is) c.in_ok-pass_edges.ensures) refl
+    c.write_collated.ensures)))

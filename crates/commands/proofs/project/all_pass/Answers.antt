@@ -1,14 +1,26 @@
-use Rattle.std.proofs.Common.{◌≡◌, ℕ, ◌<◌, List, Option, length, zip, Some, sym, subst, arith}
-use Rattle.std.specs.Prelude.{slice_get}
-use Rattle.std.proofs.lemmas.List.Elements.{All-same}
-use Rattle.ninja_text.specs.Failure.{ForFault}
-use Rattle.commands.specs.EdgeChecks.{PassesEdges, FailsEdges}
-use Rattle.commands.specs.ProjectCommand.{PassesOwn, FailsFirst}
-use Rattle.commands.proofs.ProjectTargets.{at_index}
-use Rattle.commands.proofs.ProjectRuns.{zip_at, zip_all, all_next, passes_as, fails_as}
+use Rattle.std.proofs.Common.{rules, ◌≡◌, ℕ, ◌+◌, ◌<◌, ◌≤◌, List, [], ◌∷◌, Option, length, drop, zip, Some, refl, ap, sym, subst, ◌∙◌, arith}
+use Rattle.std.specs.Prelude.{Ok, Err, slice_get}
+use Rattle.std.proofs.lemmas.List.{drop_all}
+use Rattle.ninja_text.specs.Bytes.{Text}
+use Rattle.ninja_text.specs.declared.failure.Failure.{Failure}
+use Rattle.commands.specs.declared.project_targets.ReadTarget.TheInside.{Inside}
+use Rattle.collate_core.specs.Values.{CollatedValue}
+use Rattle.commands.specs.EdgeChecks.{EdgesPass}
+use Rattle.commands.specs.Outcomes.{LineValue, Outcome}
+use Rattle.commands.specs.ProjectCommand.{ReadTargetValue, AllEdgesPass, At, IsTargetOutcome}
+use Rattle.commands.proofs.Loops.{at_index, drop_next}
+use Rattle.commands.proofs.Outcomes.{next, last, passed}
+use Rattle.commands.proofs.ProjectRuns.{zip_at, length_zip}
 use Rattle.commands.proofs.project.all_pass.Goals as goal
 
--- the edges of one target more can be put in order
+-- the check of one target, as its document has the listing and the path
+at_own : (view t : ReadTargetValue) (collated : CollatedValue) (listing : Option Text) (path : List ℕ) (index : ℕ) (own s : Outcome (Unit {0})) →
+    view ≡ t → listing ≡ view.listing → path ≡ view.spec.dyndep_path → EdgesPass listing path collated.dyndep [] own → IsTargetOutcome index own s →
+    At index (EdgesPass t.listing t.spec.dyndep_path collated.dyndep) [] s
+at_own view t collated listing path index own s v l p h is =
+    subst (λ (z : ReadTargetValue). At index (EdgesPass z.listing z.spec.dyndep_path collated.dyndep) [] s) v
+    (own, subst (λ x. EdgesPass x view.spec.dyndep_path collated.dyndep [] own) l (subst (λ x. EdgesPass listing x collated.dyndep [] own) p h), is)
+
 pub loop-index-preserved : goal.loop-index-preserved
 loop-index-preserved c =
     let targets = c.args.targets.now in
@@ -17,31 +29,27 @@ loop-index-preserved c =
     let within : i < length targets = c.loop-index-test.true in
     let here : slice_get (zip targets outs) i ≡ Some (c.index-targets-index.result, c.index-outs-index.result) =
     zip_at targets outs i _ _ (at_index targets i _ within c.index-targets-index.is) (at_index outs i _ (omega (arith, within, c.requires)) c.index-outs-index.is) in
-    all_next PassesOwn (zip targets outs) i _ here c.loop-index.invariant
-    (passes_as _ c.index-targets-index.result c.index-outs-index.result c.path.result.now c.target.view_is c.path.ensures
-    (subst (λ (l : Option (List ℕ)). PassesEdges l c.path.result.now c.index-outs-index.result.dyndep) c.listing.ensures c.in-Ok.ensures.passes))
+    λ s h. c.loop-index.invariant s (subst (λ (ps : List (ReadTargetValue × CollatedValue)). AllEdgesPass i ps [] s) (sym (drop_next (zip targets outs) i _ here))
+    (next (at_own _ c.index-targets-index.result c.index-outs-index.result _ _ i c.pass_edges-passed.result (Ok tt) c.target.view_is (c.listing-listing.ensures ∙ ap (λ (i : Inside). i.files.listing) c.target-inside.view_is) (ap (λ (i : Inside). i.spec.dyndep_path) c.target-inside.view_is) c.pass_edges-passed.ensures c.in_ok-at_target.ensures) refl h))
 
--- those of this one can't
-pub returns-in-Err-Fault-clause-fail : goal.returns-in-Err-Fault-clause-fail
-returns-in-Err-Fault-clause-fail c =
+-- the edges of this one can't be put in order
+pub returns-in_err-at_target : goal.returns-in_err-at_target
+returns-in_err-at_target c =
     let targets = c.args.targets.now in
     let outs = c.args.outs.now in
     let i : ℕ = c.loop-index.index in
+    let failure = c.in_err-at_target.field-0.0 in
     let within : i < length targets = c.loop-index-test.true in
     let here : slice_get (zip targets outs) i ≡ Some (c.index-targets-index.result, c.index-outs-index.result) =
     zip_at targets outs i _ _ (at_index targets i _ within c.index-targets-index.is) (at_index outs i _ (omega (arith, within, c.requires)) c.index-outs-index.is) in
-    subst (FailsFirst (zip targets outs) i) (sym c.in-Err-Fault.fault-is)
-    (record {
-      before = c.loop-index.invariant;
-      pair = (c.index-targets-index.result, c.index-outs-index.result);
-      here = here;
-      fails = fails_as _ c.index-targets-index.result c.index-outs-index.result c.path.result.now c.in-Err-Fault.fault c.target.view_is c.path.ensures
-          (subst (λ (l : Option (List ℕ)). FailsEdges l c.path.result.now c.index-outs-index.result.dyndep c.in-Err-Fault.fault) c.listing.ensures
-          (subst (ForFault (FailsEdges _ _ _)) c.in-Err-Fault.field-0-is c.in-Err-Fault.ensures.fails));
-    })
+    subst (AllEdgesPass 0 (zip targets outs) []) (sym (passed c.from_residual.ensures))
+    (c.loop-index.invariant (Err failure) (subst (λ (ps : List (ReadTargetValue × CollatedValue)). AllEdgesPass i ps [] (Err failure)) (sym (drop_next (zip targets outs) i _ here))
+    (last (at_own _ c.index-targets-index.result c.index-outs-index.result _ _ i c.pass_edges-passed.result (Err failure) c.target.view_is (c.listing-listing.ensures ∙ ap (λ (i : Inside). i.files.listing) c.target-inside.view_is) (ap (λ (i : Inside). i.spec.dyndep_path) c.target-inside.view_is) c.pass_edges-passed.ensures c.in_err-at_target.ensures) refl refl)))
 
-pub returns-clause-pass : goal.returns-clause-pass
-returns-clause-pass c =
+pub returns : goal.returns
+returns c =
     let targets = c.args.targets.now in
     let outs = c.args.outs.now in
-    All-same PassesOwn (zip targets outs) _ (sym (zip_all targets outs c.loop-index.index c.loop-index-test.false)) c.loop-index.invariant
+    let i : ℕ = c.loop-index.index in
+    let past : length (zip targets outs) ≤ i = let less : length (zip targets outs) ≤ length targets = length_zip targets outs in omega (arith, less, c.loop-index-test.false) in
+    c.loop-index.invariant (Ok tt) (subst (λ (ps : List (ReadTargetValue × CollatedValue)). AllEdgesPass i ps [] (Ok tt)) (sym (drop_all i (zip targets outs) past)) (refl, refl))

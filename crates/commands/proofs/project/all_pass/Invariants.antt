@@ -1,8 +1,8 @@
-use Rattle.std.proofs.Common.{take, zip}
-use Rattle.std.specs.Prelude.{All}
-use Rattle.commands.specs.ProjectCommand.{PassesOwn}
+use Rattle.std.proofs.Common.{[], drop, zip}
+use Rattle.commands.specs.Outcomes.{Outcome}
+use Rattle.commands.specs.ProjectCommand.{AllEdgesPass}
 use Rattle.commands.proofs.project.all_pass.Given as goal
 
--- the edges of the targets so far can be put in order
+-- what the others come to, all come to
 abbrev pub invariant-loop-index : goal.invariant-loop-index
-invariant-loop-index l = All PassesOwn (take l.index (zip l.targets l.outs))
+invariant-loop-index l = (s : Outcome (Unit {0})) → AllEdgesPass l.index (drop l.index (zip l.targets l.outs)) [] s → AllEdgesPass 0 (zip l.targets l.outs) [] s

@@ -5,7 +5,7 @@ use Rattle.std.specs.Global.{Global}
 use Rattle.collate_core.specs.Values.{ProjectTargetValue}
 use Rattle.commands.specs.ProjectCommand.{ReadTargetValue, project_target}
 use Rattle.commands.proofs.ProjectRuns.{same_at, same_length}
-use Rattle.commands.proofs.ProjectTargets.{at_index, mapped_next}
+use Rattle.commands.proofs.Loops.{at_index, mapped_next}
 use Rattle.commands.proofs.project.in_project.Goals as goal
 
 abbrev texts : Vec (Bor (List ℕ)) Global → List (List ℕ)

@@ -1,47 +1,52 @@
-use Rattle.std.proofs.Common.{◌≡◌, ◌∙◌, ℕ, List, [], map, string_bytes, refl, ap, subst}
-use Rattle.std.specs.Prelude.{IfOk}
-use Rattle.ninja_text.specs.Failure.{ForFault}
-use Rattle.scan_docs.specs.Document.{IsRefused}
+use Rattle.std.proofs.Common.{rules, ◌≡◌, ◌∙◌, ℕ, List, [], Option, map, string_bytes, refl, ap, subst, sym}
+use Rattle.std.specs.Prelude.{Ok, Err}
+use Rattle.ninja_text.specs.Bytes.{Bytes, Text}
 use Rattle.scan_docs.specs.Project.{ProjectValue}
-use Rattle.scan_docs.specs.ProjectChecks.{project_checks}
-use Rattle.scan_docs.specs.declared.fault.DocFault.{DocFault}
-use Rattle.commands.specs.Answers.{Refuses}
-use Rattle.commands.specs.Files.{ended}
-use Rattle.commands.specs.ProjectCommand.{AnswersNames, AnswersProject, project_text}
-use Rattle.commands.proofs.FileCalls.{held, untouched}
-use Rattle.commands.proofs.Parts.{ended_with, project_stops}
+use Rattle.commands.specs.Folder.{FileCall}
+use Rattle.commands.specs.Outcomes.{Outcome, OutputValue, Part, Runs, ◌>>=◌}
+use Rattle.commands.specs.ProjectCommand.{ReadTargetValue, ProjectDocumentOf, ProjectRun, TargetsAfter, TargetsRun}
+use Rattle.commands.specs.inner.ProjectTargets.{LinkEarlier}
+use Rattle.commands.proofs.Outcomes.{at_once, run_as, run_next, run_last, passed}
 use Rattle.commands.proofs.project.project_run.Goals as goal
 
--- the members that were read are the ones that the document has
-pub returns-in-Ok : goal.returns-in-Ok
-returns-in-Ok g c =
-    let step = ended c.names_answer.result in
-    let named : map string_bytes c.deref.result.now ≡ c.in-Ok.spec.targets =
-    ap (map string_bytes) c.deref.ensures.value ∙ ap (λ (p : ProjectValue). p.targets) c.spec.view_is in
-    held _ _ (λ calls. AnswersNames [] (map string_bytes c.deref.result.now) calls step) (λ calls. AnswersProject c.args.document.now calls step) c.names_answer.ensures
-    (λ calls h.
-    let own : AnswersNames [] c.in-Ok.spec.targets calls step = subst (λ (names : List (List ℕ)). AnswersNames [] names calls step) named h in
-    record {
-      accepted = λ project has. subst (λ (p : ProjectValue). AnswersNames [] p.targets calls step) (c.project_read.ensures.one_answer.one_value c.in-Ok.spec project c.in-Ok.ensures.accepted has) own;
-      refused = λ fault is. absurd (c.project_read.ensures.one_answer.not_both c.in-Ok.spec fault c.in-Ok.ensures.accepted is);
-    })
+-- what comes after the project document
+abbrev AfterDocument : ProjectValue → Part OutputValue
+AfterDocument project = TargetsAfter [] project.targets >>= TargetsRun
 
-pub returns-in-Err-Memory : goal.returns-in-Err-Memory
-returns-in-Err-Memory g c = untouched _ _ (project_stops c.args.document.now)
+-- the run goes on after it
+document_next : (old new : Option (List FileCall)) (bytes : Bytes) (project : ProjectValue) (s : Outcome OutputValue) → ProjectDocumentOf bytes [] (Ok project) →
+    Runs old new (AfterDocument project) s → Runs old new (ProjectRun bytes) s
+document_next old new bytes project s read rest =
+    run_next (ProjectDocumentOf bytes) AfterDocument old old new (Ok project) project s (at_once old (ProjectDocumentOf bytes) (Ok project) read) refl rest
 
--- a refused document has no members, and no other fault
-pub returns-in-Err-Fault : goal.returns-in-Err-Fault
-returns-in-Err-Fault g c =
-    let result = c.document_refused.result in
-    let own : IsRefused project_checks c.args.document.now c.in-Err-Fault.fault =
-    subst (ForFault (IsRefused project_checks c.args.document.now)) c.in-Err-Fault.field-0-is c.in-Err-Fault.ensures.refused in
-    let line : IfOk result (Refuses (project_text c.in-Err-Fault.fault)) =
-    subst (λ (f : DocFault). IfOk result (Refuses (project_text f))) c.in-Err-Fault.fault-is c.document_refused.ensures in
-    untouched _ (λ calls. AnswersProject c.args.document.now calls (ended result)) (record {
-      accepted = λ project has. absurd (c.project_read.ensures.one_answer.not_both project c.in-Err-Fault.fault has own);
-      refused = λ fault is. (
-        refl,
-        ended_with (Refuses (project_text fault)) result (ended result) refl
-            (subst (λ (f : DocFault). IfOk result (Refuses (project_text f))) (c.project_read.ensures.one_answer.one_fault c.in-Err-Fault.fault fault own is) line),
-      );
-    })
+pub targets_run-requires : goal.targets_run-requires
+targets_run-requires g c = subst LinkEarlier (sym c.deref-2.ensures.value) c.into_vec.ensures.links
+
+pub returns-in_err-project : goal.returns-in_err-project
+returns-in_err-project g c =
+    let start = g.F.Folder.calls c.args.folder.now in
+    let failure = c.in_err-project.field-0.0 in
+    run_last (ProjectDocumentOf c.args.document.now) AfterDocument start start (Err failure) failure _
+    (at_once start (ProjectDocumentOf c.args.document.now) (Err failure) c.in_err-project.ensures) refl (passed c.from_residual.ensures)
+
+pub returns-in_err-targets : goal.returns-in_err-targets
+returns-in_err-targets g c =
+    let project = c.in_ok-project.project in
+    let named : map string_bytes c.deref.result.now ≡ project.targets =
+    ap (map string_bytes) c.deref.ensures.value ∙ ap (λ (p : ProjectValue). p.targets) c.project.view_is in
+    let failure = c.in_err-targets.field-0.0 in
+    document_next _ _ c.args.document.now project _ c.in_ok-project.ensures
+    (run_last (TargetsAfter [] project.targets) TargetsRun _ _ (Err failure) failure _
+    (run_as (TargetsAfter []) _ _ (Err failure) named c.in_err-targets.ensures) refl (passed c.from_residual-in_err-targets.ensures))
+
+pub returns : goal.returns
+returns g c =
+    let project = c.in_ok-project.project in
+    let named : map string_bytes c.deref.result.now ≡ project.targets =
+    ap (map string_bytes) c.deref.ensures.value ∙ ap (λ (p : ProjectValue). p.targets) c.project.view_is in
+    let targets = c.in_ok-targets.targets in
+    document_next _ _ c.args.document.now project _ c.in_ok-project.ensures
+    (run_next (TargetsAfter [] project.targets) TargetsRun _ _ _ (Ok targets) targets _
+    (run_as (TargetsAfter []) _ _ (Ok targets) named c.in_ok-targets.ensures) refl
+    (at_once _ (TargetsRun targets) c.targets_run.result
+    (subst (λ (ts : List ReadTargetValue). TargetsRun ts [] c.targets_run.result) (c.deref-2.ensures.value ∙ c.into_vec.ensures.targets) c.targets_run.ensures)))

@@ -1,82 +1,63 @@
-use Rattle.std.proofs.Common.{◌≡◌, ℕ, List, Option, refl, subst, sym}
-use Rattle.std.specs.Prelude.{Ok, Err, Vec, Result}
+use Rattle.std.proofs.Common.{rules, ◌≡◌, ℕ, List, [], Option, refl, ap, subst, sym}
+use Rattle.std.specs.Prelude.{Ok, Err, Vec}
 use Rattle.std.specs.Global.{Global}
-use Rattle.std.specs.declared.alloc.AllocError.{AllocError}
 use Rattle.command_line.specs.Tasks.{TaskValue, task_value, first_file_of}
-use Rattle.commands.specs.Files.{ReadsFile, ended}
-use Rattle.commands.specs.Folder.{FileCall, MakesCalls}
-use Rattle.commands.specs.Runs.{AnswersBytes, AnswersTask}
-use Rattle.commands.specs.declared.answer.Answer.{Answer}
-use Rattle.commands.specs.inner.Parts.{GoesOn}
-use Rattle.commands.proofs.FileCalls.{continued, held}
-use Rattle.commands.proofs.Parts.{at_once, bytes_stop, file_goes, file_unread, on}
+use Rattle.commands.specs.Effect.{EffectRun}
+use Rattle.commands.specs.Folder.{FileCall}
+use Rattle.commands.specs.Outcomes.{Outcome, OutputValue, Runs, ReadsFile}
+use Rattle.commands.specs.Runs.{CommandRun, TaskRun}
+use Rattle.commands.proofs.Outcomes.{at_once, run_as, run_next, run_last, passed}
 use Rattle.commands.proofs.run.task_run.Goals as goal
 
--- the task's file was read, and then its bytes were answered
-answered : (old mid new : Option (List FileCall)) (task : TaskValue) (name : List ℕ) (file : Vec ℕ Global) (bytes : List ℕ) (result : Result Answer AllocError) →
-    name ≡ first_file_of task → bytes ≡ file.items →
-    MakesCalls old mid (λ calls. ReadsFile name (GoesOn (λ (b : Vec ℕ Global). b.items)) calls (Ok file)) →
-    MakesCalls mid new (λ calls. AnswersBytes task bytes calls (ended result)) →
-    MakesCalls old new (λ calls. AnswersTask task calls (ended result))
-answered old mid new task name file bytes result named is read answers =
-    continued old mid new (λ calls. ReadsFile name (GoesOn (λ (b : Vec ℕ Global). b.items)) calls (Ok file))
-    (λ calls. AnswersBytes task bytes calls (ended result)) (λ calls. AnswersTask task calls (ended result))
-    read answers
-    (λ calls more own rest.
-    file_goes (first_file_of task) (λ (b : Vec ℕ Global). b.items) (AnswersBytes task) calls (Ok file) more (ended result)
-    (on file refl (subst (λ (b : List ℕ). AnswersBytes task b more (ended result)) is rest))
-    (subst (λ (n : List ℕ). ReadsFile n (GoesOn (λ (b : Vec ℕ Global). b.items)) calls (Ok file)) named own))
+-- the task's file was read, and then the command ran on its bytes
+ran : (old mid new : Option (List FileCall)) (task own : TaskValue) (name : List ℕ) (file : Vec ℕ Global) (bytes : List ℕ) (s : Outcome OutputValue) →
+    name ≡ first_file_of task → task ≡ own → bytes ≡ file.items → Runs old mid (ReadsFile name) (Ok file.items) → Runs mid new (CommandRun own bytes) s → Runs old new (TaskRun task) s
+ran old mid new task own name file bytes s named is at read runs =
+    run_next (ReadsFile (first_file_of task)) (CommandRun task) old mid new (Ok file.items) file.items s (subst (λ n. Runs old mid (ReadsFile n) (Ok file.items)) named read) refl
+    (subst (λ (t : TaskValue). Runs mid new (CommandRun t file.items) s) (sym is) (subst (λ b. Runs mid new (CommandRun own b) s) at runs))
 
--- it could not be read
-pub returns-in-Err : goal.returns-in-Err
-returns-in-Err g c =
+-- by a command that reads nothing
+ran_once : (old mid : Option (List FileCall)) (task own : TaskValue) (name : List ℕ) (file : Vec ℕ Global) (bytes : List ℕ) (s : Outcome OutputValue) →
+    name ≡ first_file_of task → task ≡ own → bytes ≡ file.items → Runs old mid (ReadsFile name) (Ok file.items) → CommandRun own bytes [] s → Runs old mid (TaskRun task) s
+ran_once old mid task own name file bytes s named is at read runs =
+    ran old mid mid task own name file bytes s named is at read (at_once mid (CommandRun own bytes) s runs)
+
+pub returns-in_err-file : goal.returns-in_err-file
+returns-in_err-file g c =
     let task = task_value c.args.task.now in
-    let failure = c.in-Err.failure in
-    held _ _ (λ calls. ReadsFile c.file.result.now (GoesOn (λ (b : Vec ℕ Global). b.items)) calls (Err failure)) (λ calls. AnswersTask task calls (ended c.answered.result))
-    c.in-Err.ensures
-    (λ calls own.
-    subst (AnswersTask task calls) (sym c.answered.ensures)
-    (file_unread (first_file_of task) (λ (b : Vec ℕ Global). b.items) (AnswersBytes task) calls failure (bytes_stop task)
-    (subst (λ (n : List ℕ). ReadsFile n (GoesOn (λ (b : Vec ℕ Global). b.items)) calls (Err failure)) c.file.ensures own)))
+    let failure = c.in_err-file.field-0.0 in
+    run_last (ReadsFile (first_file_of task)) (CommandRun task) _ _ (Err failure) failure _
+    (run_as ReadsFile _ _ (Err failure) c.file.ensures c.in_err-file.ensures) refl (passed c.from_residual.ensures)
 
 pub returns-in-One : goal.returns-in-One
 returns-in-One g c =
-    let result = c.one_run.result in
-    answered _ _ _ (task_value c.args.task.now) _ c.in-Ok.bytes c.as_slice-text.result.now result c.file.ensures c.as_slice-text.ensures.value c.in-Ok.ensures
-    (subst (λ task. MakesCalls (g.F.Folder.calls c.read_file.new.folder) (g.F.Folder.calls c.read_file.new.folder) (λ calls. AnswersBytes (task_value task) c.as_slice-text.result.now calls (ended result))) (sym c.in-One.is)
-    (at_once _ _ result c.one_run.ensures))
+    ran_once _ _ (task_value c.args.task.now) _ _ c.in_ok-file.file _ c.one_run.result c.file.ensures (ap task_value c.in-One.is) c.as_slice-text.ensures.value c.in_ok-file.ensures c.one_run.ensures
 
 pub returns-in-Collate : goal.returns-in-Collate
 returns-in-Collate g c =
-    let result = c.collate_run.result in
-    answered _ _ _ (task_value c.args.task.now) _ c.in-Ok.bytes c.as_slice-text.result.now result c.file.ensures c.as_slice-text.ensures.value c.in-Ok.ensures
-    (subst (λ task. MakesCalls (g.F.Folder.calls c.read_file.new.folder) (g.F.Folder.calls c.collate_run.new.folder) (λ calls. AnswersBytes (task_value task) c.as_slice-text.result.now calls (ended result))) (sym c.in-Collate.is)
-    c.collate_run.ensures)
+    ran _ _ _ (task_value c.args.task.now) _ _ c.in_ok-file.file _ _ c.file.ensures (ap task_value c.in-Collate.is) c.as_slice-text.ensures.value c.in_ok-file.ensures c.collate_run.ensures
 
 pub returns-in-Show : goal.returns-in-Show
 returns-in-Show g c =
-    let result = c.show_run.result in
-    answered _ _ _ (task_value c.args.task.now) _ c.in-Ok.bytes c.as_slice-text.result.now result c.file.ensures c.as_slice-text.ensures.value c.in-Ok.ensures
-    (subst (λ task. MakesCalls (g.F.Folder.calls c.read_file.new.folder) (g.F.Folder.calls c.read_file.new.folder) (λ calls. AnswersBytes (task_value task) c.as_slice-text.result.now calls (ended result))) (sym c.in-Show.is)
-    (at_once _ _ result c.show_run.ensures))
+    ran_once _ _ (task_value c.args.task.now) _ _ c.in_ok-file.file _ c.show_run.result c.file.ensures (ap task_value c.in-Show.is) c.as_slice-text.ensures.value c.in_ok-file.ensures c.show_run.ensures
+
+pub returns-in_err-dyndep-in-Effect : goal.returns-in_err-dyndep-in-Effect
+returns-in_err-dyndep-in-Effect g c =
+    let failure = c.in_err-dyndep-in-Effect.field-0.0 in
+    ran _ _ _ (task_value c.args.task.now) _ _ c.in_ok-file.file _ _ c.file.ensures (ap task_value c.in-Effect.is) c.as_slice-text.ensures.value c.in_ok-file.ensures
+    (run_last (ReadsFile _) (λ (text : List ℕ). EffectRun _ _ text) _ _ (Err failure) failure _ c.in_err-dyndep-in-Effect.ensures refl (passed c.from_residual-in_err-dyndep-in-Effect.ensures))
 
 pub returns-in-Effect : goal.returns-in-Effect
 returns-in-Effect g c =
-    let result = c.effect_of_file.result in
-    answered _ _ _ (task_value c.args.task.now) _ c.in-Ok.bytes c.as_slice-text.result.now result c.file.ensures c.as_slice-text.ensures.value c.in-Ok.ensures
-    (subst (λ task. MakesCalls (g.F.Folder.calls c.read_file.new.folder) (g.F.Folder.calls c.effect_of_file.new.folder) (λ calls. AnswersBytes (task_value task) c.as_slice-text.result.now calls (ended result))) (sym c.in-Effect.is)
-    c.effect_of_file.ensures)
+    let dyndep = c.in_ok-dyndep-in-Effect.dyndep in
+    ran _ _ _ (task_value c.args.task.now) _ _ c.in_ok-file.file _ _ c.file.ensures (ap task_value c.in-Effect.is) c.as_slice-text.ensures.value c.in_ok-file.ensures
+    (run_next (ReadsFile _) (λ (text : List ℕ). EffectRun _ _ text) _ _ _ (Ok dyndep.items) dyndep.items _ c.in_ok-dyndep-in-Effect.ensures refl
+    (at_once _ (EffectRun _ _ dyndep.items) c.effect_run.result (rw c.deref.ensures.value at c.effect_run.ensures)))
 
 pub returns-in-Order : goal.returns-in-Order
 returns-in-Order g c =
-    let result = c.order_run.result in
-    answered _ _ _ (task_value c.args.task.now) _ c.in-Ok.bytes c.as_slice-text.result.now result c.file.ensures c.as_slice-text.ensures.value c.in-Ok.ensures
-    (subst (λ task. MakesCalls (g.F.Folder.calls c.read_file.new.folder) (g.F.Folder.calls c.read_file.new.folder) (λ calls. AnswersBytes (task_value task) c.as_slice-text.result.now calls (ended result))) (sym c.in-Order.is)
-    (at_once _ _ result c.order_run.ensures))
+    ran_once _ _ (task_value c.args.task.now) _ _ c.in_ok-file.file _ c.order_run.result c.file.ensures (ap task_value c.in-Order.is) c.as_slice-text.ensures.value c.in_ok-file.ensures c.order_run.ensures
 
 pub returns : goal.returns
 returns g c =
-    let result = c.project_run.result in
-    answered _ _ _ (task_value c.args.task.now) _ c.in-Ok.bytes c.as_slice-text.result.now result c.file.ensures c.as_slice-text.ensures.value c.in-Ok.ensures
-    (subst (λ task. MakesCalls (g.F.Folder.calls c.read_file.new.folder) (g.F.Folder.calls c.project_run.new.folder) (λ calls. AnswersBytes (task_value task) c.as_slice-text.result.now calls (ended result))) (sym c.in-Project.is)
-    c.project_run.ensures)
+    ran _ _ _ (task_value c.args.task.now) _ _ c.in_ok-file.file _ _ c.file.ensures (ap task_value c.in-Project.is) c.as_slice-text.ensures.value c.in_ok-file.ensures c.project_run.ensures

@@ -1,23 +1,27 @@
-use Rattle.std.proofs.Common.{subst}
-use Rattle.std.proofs.lemmas.Result.{IfOk-weaker}
-use Rattle.ninja_text.specs.Failure.{ForFault}
-use Rattle.dyndep_file.specs.FaultTexts.{read_fault_text}
-use Rattle.commands.specs.Answers.{Refuses}
-use Rattle.commands.specs.Dyndeps.{AnswersDyndep}
-use Rattle.collate_core.specs.Rehearsal.{IsReadFaultOf}
-use Rattle.commands.specs.Show.{AnswersShow}
-use Rattle.commands.proofs.Dyndeps.{answered, reported}
+use Rattle.std.proofs.Common.{rules, [], refl, ℕ, List}
+use Rattle.std.specs.Prelude.{Vec}
+use Rattle.std.specs.Global.{Global}
+use Rattle.dyndep_file.specs.FaultTexts.{write_fault_text}
+use Rattle.commands.specs.Outcomes.{seen}
+use Rattle.commands.specs.Show.{DyndepTextOf}
+use Rattle.commands.proofs.Outcomes.{given_seen, next, last, next_seen, last_seen}
 use Rattle.commands.proofs.show.show_run.Goals as goal
 
-pub returns-in-Ok : goal.returns-in-Ok
-returns-in-Ok c =
-    IfOk-weaker c.of_dyndep.result (AnswersShow c.in-Ok.dyndep) (AnswersDyndep AnswersShow c.args.text.now)
-    (λ answer h. answered AnswersShow c.args.text.now c.in-Ok.dyndep answer c.one_list.ensures c.list_or_fault.ensures.not_both c.in-Ok.ensures.read h)
-    c.of_dyndep.ensures
+-- the bytes of a text
+bytes : Vec ℕ Global → List ℕ
+bytes text = text.items
 
-pub returns-in-Err-Fault : goal.returns-in-Err-Fault
-returns-in-Err-Fault c =
-    IfOk-weaker c.dyndep_refused.result (Refuses (read_fault_text c.in-Err-Fault.fault)) (AnswersDyndep AnswersShow c.args.text.now)
-    (λ answer h. reported AnswersShow c.args.text.now c.in-Err-Fault.fault answer c.list_or_fault.ensures.not_both c.one_fault.ensures
-    (subst (ForFault (IsReadFaultOf c.args.text.now)) c.in-Err-Fault.field-0-is c.in-Err-Fault.ensures.refused) h)
-    c.dyndep_refused.ensures
+pub returns-in_err-dyndep : goal.returns-in_err-dyndep
+returns-in_err-dyndep c = last c.read_dyndep.ensures c.in_err-dyndep.was (search rules)
+
+pub returns-in_err-text : goal.returns-in_err-text
+returns-in_err-text c =
+    let text : DyndepTextOf c.in_ok-dyndep.dyndep [] (seen (λ (b : Vec ℕ Global). b.items) c.map_err.result) =
+    given_seen (λ (b : Vec ℕ Global). b.items) _ _ write_fault_text _ c.to_text.result c.map_err.result (λ failure stop h. search rules) (search rules) (search rules) c.map_err.ensures.cases in
+    next c.read_dyndep.ensures c.in_ok-dyndep.was (last_seen (λ (b : Vec ℕ Global). b.items) text c.in_err-text.was (search rules))
+
+pub returns : goal.returns
+returns c =
+    let text : DyndepTextOf c.in_ok-dyndep.dyndep [] (seen (λ (b : Vec ℕ Global). b.items) c.map_err.result) =
+    given_seen (λ (b : Vec ℕ Global). b.items) _ _ write_fault_text _ c.to_text.result c.map_err.result (λ failure stop h. search rules) (search rules) (search rules) c.map_err.ensures.cases in
+    next c.read_dyndep.ensures c.in_ok-dyndep.was (next_seen (λ (b : Vec ℕ Global). b.items) text c.in_ok-text.was (refl, search rules))

@@ -1,0 +1,131 @@
+-- How the parts of a run follow one another: each goes on with the value of the one before it, and
+-- the first that stops ends the run.
+use Rattle.std.specs.Prelude.{◌≡◌, ◌⊎◌, ⊤, ℕ, List, [], ◌∷◌, ◌++◌, Option, Some, None, Result, Ok, Err, codes}
+use Rattle.std.specs.IoError.{error_kind}
+use Rattle.std.specs.declared.io.Error.{Error}
+use Rattle.std.specs.declared.io.ErrorKind.TheVariants.{OutOfMemory}
+use Rattle.ninja_text.specs.Bytes.{Bytes, Text, PathText}
+use Rattle.ninja_text.specs.declared.failure.Failure.{Failure}
+use Rattle.ninja_text.specs.declared.failure.Failure.TheVariants.{Memory, Fault}
+use Rattle.commands.specs.Folder.{FileCall, reading, MakesCalls}
+
+-- a file: its name, and its bytes
+abbrev pub FileValue : Type 0
+FileValue = PathText × Bytes
+
+-- the exit status of a run that fails, and the message that says why
+pub record LineValue : Type 0 where
+  pub status : ℕ
+  pub message : Text
+
+-- what a run that succeeds leaves: its text for standard output, and the files to be written
+pub record OutputValue : Type 0 where
+  pub text : Text
+  pub files : List FileValue
+
+-- what a part of a run has come to: a value, or why the run stops
+abbrev pub Outcome : Type 0 → Type 0
+Outcome V = Result V (Failure LineValue)
+
+-- what is said of a part of a run: by the calls that it makes, and by what it has come to
+abbrev pub Part : Type 0 → Type 1
+Part V = List FileCall → Outcome V → Type 0
+
+-- ---- parts in turn
+
+-- Two parts of a run in turn: the second goes on with the value of the first, if the first does not
+-- stop the run.
+pub data InTurn {A B : Type 0} (First : Part A) (Second : A → Part B) (calls : List FileCall)
+    (outcome : Outcome B) : Type 0 where
+  goes_on : (value : A) (before after : List FileCall) → calls ≡ before ++ after →
+      First before (Ok value) → Second value after outcome → InTurn First Second calls outcome
+  stops : (stop : Failure LineValue) → First calls (Err stop) → outcome ≡ Err stop →
+      InTurn First Second calls outcome
+
+infixr 10 ◌>>=◌
+abbrev pub ◌>>=◌ : {A B : Type 0} → Part A → (A → Part B) → Part B
+first >>= second = InTurn first second
+
+-- the calls that were made, and no other, make such a part
+abbrev pub Runs : {V : Type 0} → Option (List FileCall) → Option (List FileCall) → Part V
+    → Outcome V → Type 0
+Runs old new Holds outcome = MakesCalls old new (λ calls. Holds calls outcome)
+
+-- ---- parts that make no call
+
+-- a run that fails with this status and message, and one that is rejected
+abbrev pub failed : ℕ → Text → LineValue
+failed number message = record { status = number; message = message }
+
+abbrev pub refusal : Text → LineValue
+refusal message = failed 1 message
+
+-- A part that makes no call: its value is one of these, or the message of a fault stops the run,
+-- or memory runs out.
+abbrev pub Returns : {V F : Type 0} → (V → Type 0) → (F → Type 0) → (F → Text) → Part V
+Returns IsValue IsFault text calls (Ok value) = (calls ≡ []) × IsValue value
+Returns IsValue IsFault text calls (Err Memory) = calls ≡ []
+Returns {V} {F} IsValue IsFault text calls (Err (Fault stop)) =
+    (calls ≡ []) × ((fault : F) × IsFault fault × (stop ≡ refusal (text fault)))
+
+-- a part that makes no call and has this value, unless memory runs out
+abbrev pub Done : {V : Type 0} → V → Part V
+Done value = Returns (λ other. other ≡ value) (λ (none : ⊥). ⊥) (λ none. [])
+
+-- what a run leaves that prints this text, and nothing else
+abbrev pub printed : Text → OutputValue
+printed text = record { text = text; files = [] }
+
+-- the last part of a run, which prints this text
+abbrev pub Prints : Text → Part OutputValue
+Prints text = Done (printed text)
+
+-- what a run leaves that has these files to be written, and prints nothing
+abbrev pub written : List FileValue → OutputValue
+written files = record { text = []; files = files }
+
+-- the last part of a run, which leaves these files to be written
+abbrev pub Writes : List FileValue → Part OutputValue
+Writes files = Done (written files)
+
+-- ---- parts that read
+
+-- A part that reads the file of this name: its value is the file's bytes; or the file can't be read,
+-- and the run stops with its name; or memory runs out, before the call or in it. A call that ran
+-- out of memory is never reported as a file that can't be read.
+abbrev pub ReadsFile : PathText → Part Bytes
+ReadsFile name calls (Ok bytes) = calls ≡ reading name (Ok bytes) ∷ []
+ReadsFile name calls (Err Memory) =
+    (calls ≡ []) ⊎ ((error : Error) × (calls ≡ reading name (Err error) ∷ []))
+ReadsFile name calls (Err (Fault stop)) =
+    ((error : Error) × (calls ≡ reading name (Err error) ∷ [])
+    × (error_kind error ≡ OutOfMemory → ⊥))
+    × (stop ≡ failed 3 (codes "cannot read " ++ name))
+
+-- a part that reads the files of these names, one after another
+abbrev pub ReadsAll : List PathText → Part (List Bytes)
+ReadsAll [] = Done []
+ReadsAll (name ∷ names) = do
+  bytes ← ReadsFile name
+  others ← ReadsAll names
+  Done (bytes ∷ others)
+
+-- a part that reads the file of a name, if there is one
+abbrev pub ReadsIfNamed : Option PathText → Part (Option Bytes)
+ReadsIfNamed None = Done None
+ReadsIfNamed (Some name) = do
+  bytes ← ReadsFile name
+  Done (Some bytes)
+
+-- ---- failures
+
+-- the value, as it is viewed
+abbrev pub seen : {T V : Type 0} → (T → V) → Outcome T → Outcome V
+seen view (Ok value) = Ok (view value)
+seen view (Err stop) = Err stop
+
+-- why the run stops at a failure: memory, or the message of the fault, if there was memory for it
+abbrev pub Reports : {F : Type 0} → (F → Text) → Failure F → Failure LineValue → Type 0
+Reports text Memory stop = stop ≡ Memory
+Reports text (Fault fault) Memory = ⊤
+Reports text (Fault fault) (Fault stop) = stop ≡ refusal (text fault)

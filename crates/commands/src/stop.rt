@@ -1,0 +1,253 @@
+//! What a run leaves that succeeds, and why a run stops. For each type of fault one function makes
+//! the message.
+
+ghost use Rattle.std.specs.Prelude.{◌≡◌, ◌++◌, map, IfOk, codes};
+ghost use Rattle.ninja_text.specs.Failure.{ForFault};
+ghost use Rattle.dyndep_file.specs.FaultTexts.{read_fault_text, write_fault_text};
+ghost use Rattle.scan_docs.specs.FaultTexts.{doc_fault_text};
+ghost use Rattle.commands.specs.Answers.{file_value};
+ghost use Rattle.commands.specs.EdgeFaults.{edges_fault_text, effect_text, listing_write_text, name_fault_text, cycle_text};
+ghost use Rattle.commands.specs.Outcomes.{failed, refusal, printed, written, Reports};
+ghost use Rattle.commands.specs.ProjectCommand.{IsTargetOutcome, IsTargetStop, target_text};
+ghost use Rattle.commands.specs.inner.Refusals.{refused_line};
+ghost use Rattle.commands.specs.inner.Stops.{IsStoppedWith};
+
+use crate::edge_fault::{cycle_text, edges_fault_text, effect_text, listing_write_text};
+use crate::refusal::refused_text;
+use build_effect::{Edge, EffectFault, Graph, ListFault, ListingWriteFault};
+use collate_core::RefusedTarget;
+use dyndep_file::{ReadFault, WriteFault};
+use ninja_text::{Failure, PathFault};
+use scan_docs::DocFault;
+use std::alloc::{AllocError, Global};
+use std::marker::Model;
+
+/// What a run leaves that succeeds: its text for standard output, and the files to be written, by
+/// name and in order.
+#[derive(Drop)]
+pub struct Output {
+    pub text: Vec<u8>,
+    pub files: Vec<(String, Vec<u8>)>,
+}
+
+impl Model for Output {
+    ghost use Rattle.std.specs.Prelude.{map};
+    ghost use Rattle.commands.specs.Answers.{file_value};
+    ghost use Rattle.commands.specs.Outcomes.{OutputValue};
+
+    ghost Value = { OutputValue };
+
+    ghost view = { λ o. record { text = o.text.items; files = map file_value o.files.items } };
+}
+
+impl Output {
+    /// Returns an output that prints this text and has no files.
+    pub(crate) fn text(alloc: Global, text: Vec<u8>) -> Output
+        ensures { result ≡ printed text.items }
+    {
+        Output {
+            text,
+            files: Vec::new(alloc),
+        }
+    }
+
+    /// Returns an output that prints nothing and has these files.
+    pub(crate) fn files(alloc: Global, files: Vec<(String, Vec<u8>)>) -> Output
+        ensures { result ≡ written (map file_value files.items) }
+    {
+        Output {
+            text: Vec::new(alloc),
+            files,
+        }
+    }
+}
+
+/// The exit status of a run that fails, and the message that says why.
+#[derive(Drop)]
+pub struct Line {
+    pub status: u8,
+    pub message: Vec<u8>,
+}
+
+impl Model for Line {
+    ghost use Rattle.commands.specs.Outcomes.{LineValue};
+
+    ghost Value = { LineValue };
+
+    ghost view = { λ l. record { status = l.status; message = l.message.items } };
+}
+
+/// Why a run stops: memory ran out, or with this line.
+pub type Stop = Failure<Line>;
+
+/// Stops the run with this status and message, unless there was no memory for the message.
+fn stopped(status: u8, message: Result<Vec<u8>, AllocError>) -> Stop
+    ensures { IsStoppedWith status message result }
+{
+    match message {
+        Ok(message) => Failure::Fault(Line { status, message }),
+        Err(AllocError) => Failure::Memory,
+    }
+}
+
+/// Stops the run because its arguments are not a valid command line.
+pub(crate) fn of_usage(alloc: Global) -> Stop
+    ensures { ForFault (λ l. l ≡ failed 2 (codes "usage")) result }
+{
+    stopped(2, Vec::from_slice(alloc, b"usage"))
+}
+
+/// Stops the run at a file that can't be read.
+pub(crate) fn of_unread(alloc: Global, name: &str) -> Stop
+    ensures { ForFault (λ l. l ≡ failed 3 (codes "cannot read " ++ name.now)) result }
+{
+    let message = format!(in alloc; "cannot read {name}");
+    stopped(3, message.map(String::into_bytes))
+}
+
+/// Stops the run at a file that can't be written.
+pub(crate) fn of_unwritten(alloc: Global, name: &str) -> Stop
+    ensures { ForFault (λ l. l ≡ failed 3 (codes "cannot write " ++ name.now)) result }
+{
+    let message = format!(in alloc; "cannot write {name}");
+    stopped(3, message.map(String::into_bytes))
+}
+
+/// Stops the run at a document of this kind that is rejected.
+pub(crate) fn of_document(alloc: Global, kind: &str, failure: Failure<DocFault>) -> Stop
+    ensures { Reports (λ fault. kind.now ++ codes ": " ++ doc_fault_text fault) failure result }
+{
+    let Failure::Fault(fault) = failure else {
+        return Failure::Memory;
+    };
+    let message = format!(in alloc; "{kind}: {fault}");
+    stopped(1, message.map(String::into_bytes))
+}
+
+/// Stops the run at a name that is not a valid path.
+pub(crate) fn of_name(alloc: Global, failure: Failure<PathFault>) -> Stop
+    ensures { Reports name_fault_text failure result }
+{
+    let Failure::Fault(fault) = failure else {
+        return Failure::Memory;
+    };
+    let message = format!(in alloc; "name: {fault}");
+    stopped(1, message.map(String::into_bytes))
+}
+
+/// Stops the run at a listing that gives no graph.
+pub(crate) fn of_listing(alloc: Global, failure: Failure<ListFault>) -> Stop
+    ensures { Reports edges_fault_text failure result }
+{
+    let Failure::Fault(fault) = failure else {
+        return Failure::Memory;
+    };
+    stopped(1, edges_fault_text(alloc, &fault))
+}
+
+/// Stops the run at a dyndep text that is rejected.
+pub(crate) fn of_dyndep(alloc: Global, failure: Failure<ReadFault>) -> Stop
+    ensures { Reports read_fault_text failure result }
+{
+    let Failure::Fault(fault) = failure else {
+        return Failure::Memory;
+    };
+    let message = format!(in alloc; "{fault}");
+    stopped(1, message.map(String::into_bytes))
+}
+
+/// Stops the run at statements that have no effect.
+pub(crate) fn of_effect(alloc: Global, failure: Failure<EffectFault>) -> Stop
+    ensures { Reports effect_text failure result }
+{
+    let Failure::Fault(fault) = failure else {
+        return Failure::Memory;
+    };
+    stopped(1, effect_text(alloc, &fault))
+}
+
+/// Stops the run at a graph whose listing can't be written.
+pub(crate) fn of_listing_write(
+    alloc: Global,
+    graph: &Graph,
+    failure: Failure<ListingWriteFault>,
+) -> Stop
+    ensures { Reports (listing_write_text graph.now) failure result }
+{
+    let Failure::Fault(fault) = failure else {
+        return Failure::Memory;
+    };
+    stopped(1, listing_write_text(alloc, graph.edges(), fault))
+}
+
+/// Stops the run at statements that can't be written.
+pub(crate) fn of_write(alloc: Global, failure: Failure<WriteFault>) -> Stop
+    ensures { Reports write_fault_text failure result }
+{
+    let Failure::Fault(fault) = failure else {
+        return Failure::Memory;
+    };
+    let message = format!(in alloc; "{fault}");
+    stopped(1, message.map(String::into_bytes))
+}
+
+/// Stops the run at edges that need each other.
+pub(crate) fn of_cycle(alloc: Global, edges: &[Edge], cycle: &[usize]) -> Stop
+    ensures { ForFault (λ l. l ≡ refusal (cycle_text edges.now cycle.now)) result }
+{
+    stopped(1, cycle_text(alloc, edges, cycle))
+}
+
+/// Stops the run at a target that is rejected. Its info files are named by the names in them.
+pub(crate) fn of_target(alloc: Global, failure: Failure<RefusedTarget>) -> Stop
+    ensures { Reports refused_line failure result }
+{
+    let Failure::Fault(refused) = failure else {
+        return Failure::Memory;
+    };
+    stopped(1, refused_text(alloc, &refused))
+}
+
+/// Stops the run at a target that links one which is not before it.
+pub(crate) fn of_linked_later(alloc: Global) -> Stop
+    ensures { ForFault (λ l. l ≡ refusal (codes "K3 LinkedLater")) result }
+{
+    stopped(1, Vec::from_slice(alloc, b"K3 LinkedLater"))
+}
+
+/// Returns the outcome of a part about the target of this index, by its outcome for that target
+/// alone: a message gets the index.
+pub(crate) fn at_target<T>(alloc: Global, index: usize, outcome: Result<T, Stop>) -> Result<T, Stop>
+    ensures { IsTargetOutcome index outcome result }
+{
+    match outcome {
+        Ok(value) => Ok(value),
+        Err(stop) => Err(of_target_at(alloc, index, stop)),
+    }
+}
+
+/// Stops the run at the target of this index, for a reason that does not name it.
+fn of_target_at(alloc: Global, index: usize, stop: Stop) -> Stop
+    ensures { IsTargetStop index stop result }
+{
+    let Failure::Fault(line) = stop else {
+        return Failure::Memory;
+    };
+    stopped(line.status, target_text(alloc, index, &line.message))
+}
+
+/// Stops the run at input that is rejected with this message.
+pub(crate) fn of_rejected(message: Result<Vec<u8>, AllocError>) -> Stop
+    ensures { IsStoppedWith 1 message result }
+{
+    stopped(1, message)
+}
+
+/// Returns the message about the target of this index.
+pub(crate) fn target_text(alloc: Global, index: usize, text: &[u8]) -> Result<Vec<u8>, AllocError>
+    ensures { IfOk result (λ message. message.items ≡ target_text index text.now) }
+{
+    let mut message = format!(in alloc; "target {index}: ")?.into_bytes();
+    message.extend_from_slice(text)?;
+    Ok(message)
+}
