@@ -11,9 +11,7 @@ use Rattle.ninja_text.specs.Firsts.{AllDiffer, RepeatsFirst}
 use Rattle.build_effect.specs.inner.StatementEdges.{IsBoundTo, IsUnboundOutput, AreEdgesOf, IsFirstUnbound, statement_on, AreInverse, IsFirstUnmentioned}
 use Rattle.build_effect.specs.declared.fault.EffectFault.TheVariants.{NotBound, NotMentioned}
 use Rattle.build_effect.proofs.Decides.{nat_decides}
-use Rattle.build_effect.proofs.Lists.{three_ways, element_at}
-use Rattle.ninja_text.proofs.ForCallers.{same_some}
-use Rattle.ninja_text.proofs.ForCallers.{from_push, from_take, in_take, take_next, differ_push}
+use Rattle.ninja_text.proofs.ForCallers.{same_some, three_ways, element_at, from_push, from_take, in_take, take_next, differ_push}
 
 pub unbound_maker : (g : List EdgeValue) (maker : List ℕ → Option ℕ) (name output : List ℕ) (edge : ℕ) (e : EdgeValue) → MadeOnce g → AreMakers g maker → maker output ≡ Some edge → slice_get g edge ≡ Some e → (Names name e → ⊥) → IsUnboundOutput g name output
 unbound_maker g maker name output edge e once are is at not i (d, here, names, makes) =

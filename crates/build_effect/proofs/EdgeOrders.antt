@@ -12,8 +12,7 @@ use Rattle.build_effect.specs.Effect.{IsTheOneOn, Extends, extended}
 use Rattle.build_effect.specs.Premises.{AddsAt, AdditionNeeds, MeetsPremises}
 use Rattle.build_effect.specs.Files.{NamedFile, FilesMeet, GainsExactly}
 use Rattle.build_effect.specs.Numbering.{HasOutputsOnly, IsRisingNumbering, IsAboveOthers, AreOrdered, rank_at, FilesOrder, IsLevelNumbering, LevelOrders}
-use Rattle.build_effect.proofs.Lists.{element_at, choose, three_ways}
-use Rattle.ninja_text.proofs.ForCallers.{same_some, in_append, in_first, in_second}
+use Rattle.ninja_text.proofs.ForCallers.{same_some, in_append, in_first, in_second, element_at, choose, three_ways}
 
 -- what an extended edge reads: what the edge read, or an added input
 reads_of : (e : EdgeValue) (x : StatementValue) (file : List ℕ) → HasInput (extended e x) file → HasInput e file ⊎ ((m : ℕ) × (slice_get x.implicit_inputs m ≡ Some file))

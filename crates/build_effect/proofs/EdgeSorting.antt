@@ -11,8 +11,7 @@ use Rattle.build_effect.specs.EdgeValue.{EdgeValue}
 use Rattle.build_effect.specs.Graphs.{inputs_of, MadeOnce, EdgeNeeds}
 use Rattle.build_effect.specs.inner.Makers.{AreMakers}
 use Rattle.build_effect.specs.inner.Inputs.{Has}
-use Rattle.ninja_text.proofs.ForCallers.{same_some, from_map, to_map}
-use Rattle.ninja_text.proofs.ForCallers.{take_next}
+use Rattle.ninja_text.proofs.ForCallers.{same_some, from_map, to_map, take_next}
 
 cons_append : {Y : Type 0} (o : Option Y) (xs ys : List Y) → cons_option o (xs ++ ys) ≡ cons_option o xs ++ ys
 cons_append None xs ys = refl

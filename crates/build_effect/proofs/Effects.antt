@@ -9,8 +9,8 @@ use Rattle.build_effect.specs.EdgeValue.{EdgeValue}
 use Rattle.build_effect.specs.Graphs.{made_by, MakesAt, Names}
 use Rattle.build_effect.specs.Effect.{ArePaths, IsCanonical, AreCanonical, IsOn, IsTheOneOn, extended, Extends, Effect, EffectGives}
 use Rattle.build_effect.specs.Premises.{AddedOnce, MeetsPremises, OneEffect}
-use Rattle.build_effect.proofs.Lists.{same_lists, element_at, choose, same_map, same_ok}
-use Rattle.ninja_text.proofs.ForCallers.{in_append, same_some, from_map, to_map}
+use Rattle.build_effect.proofs.Lists.{same_lists, same_map, same_ok}
+use Rattle.ninja_text.proofs.ForCallers.{in_append, same_some, from_map, to_map, element_at, choose}
 
 abbrev addition_with : List ℕ → List (List ℕ) → List (List ℕ) → Bool → StatementValue
 addition_with p outs ins r = record { output = p; implicit_outputs = outs; implicit_inputs = ins; restat = r }

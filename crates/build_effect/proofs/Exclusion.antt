@@ -13,8 +13,8 @@ use Rattle.build_effect.specs.Faults.{path_texts, IsRepeated, NoneRepeated, AllM
 use Rattle.build_effect.specs.Premises.{AddsAt, AddedOnce, MeetsPremises}
 use Rattle.build_effect.specs.Checks.{ChecksSuffice, FaultsExclude}
 use Rattle.build_effect.specs.declared.fault.EffectFault.TheVariants.{BadPath, NotBound, StatementTwice, NotMentioned, AddedTwice}
-use Rattle.build_effect.proofs.Lists.{element_at, three_ways, offset, in_flat_map, same_part, from_flat_map}
-use Rattle.ninja_text.proofs.ForCallers.{same_some, from_map, to_map, in_append, in_first, in_second}
+use Rattle.build_effect.proofs.Lists.{same_part, offset, in_flat_map, from_flat_map}
+use Rattle.ninja_text.proofs.ForCallers.{same_some, from_map, to_map, in_append, in_first, in_second, element_at, three_ways}
 use Rattle.build_effect.proofs.Effects.{one_effect, effect_gives}
 
 module _ (g : List EdgeValue) (name : List ℕ) (additions : List StatementValue) (once : MadeOnce g) (bound : AllBound g name additions) (single : NoneRepeated g additions) where

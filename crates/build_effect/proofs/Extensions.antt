@@ -9,10 +9,9 @@ use Rattle.build_effect.specs.Checks.{ChecksSuffice}
 use Rattle.build_effect.specs.inner.StatementEdges.{statement_on}
 use Rattle.build_effect.specs.inner.Checked.{AreChecked}
 use Rattle.build_effect.specs.inner.Extended.{IsEdgeAfter, AreExtended}
-use Rattle.build_effect.proofs.Lists.{same_lists, element_at}
-use Rattle.ninja_text.proofs.ForCallers.{same_some, in_append, in_first}
+use Rattle.build_effect.proofs.Lists.{same_lists}
+use Rattle.ninja_text.proofs.ForCallers.{same_some, in_append, in_first, element_at, from_push, from_take, in_take, take_next}
 use Rattle.build_effect.proofs.InputSearch.{has_first, has_second}
-use Rattle.ninja_text.proofs.ForCallers.{from_push, from_take, in_take, take_next}
 
 -- an edge without statement is as it was
 pub unchanged : (e after : EdgeValue) (additions : List StatementValue) (statement : Option ℕ) → ((k : ℕ) → statement ≡ Some k → ⊥) → after ≡ e → IsEdgeAfter e additions statement after

@@ -8,8 +8,8 @@ use Rattle.build_effect.specs.Graphs.{Names}
 use Rattle.build_effect.specs.Effect.{IsTheOneOn, Extends, OnlyEffect, extended}
 use Rattle.build_effect.specs.Premises.{AddsAt, MeetsPremises}
 use Rattle.build_effect.specs.Files.{NamedFile, AreFiles, FilesMeet, Applies, GainsExactly, AreFileIndices, AnyOrder, SameFiles, OrdersEndAlike}
-use Rattle.build_effect.proofs.Lists.{same_lists, element_at}
-use Rattle.ninja_text.proofs.ForCallers.{same_some}
+use Rattle.build_effect.proofs.Lists.{same_lists}
+use Rattle.ninja_text.proofs.ForCallers.{same_some, element_at}
 use Rattle.build_effect.proofs.Effects.{ComesTo, origin_in, one_effect}
 use Rattle.dyndep_file.specs.StatementValue.{StatementValue}
 

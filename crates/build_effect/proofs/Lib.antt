@@ -11,6 +11,7 @@ mod PathTexts
 mod Bindings
 mod Effects
 mod Exclusion
+mod EdgeCopies
 mod Extensions
 mod Reports
 mod FileOrders

@@ -17,7 +17,6 @@ use Rattle.build_effect.specs.inner.ListingWalk.{text_cause, run}
 use Rattle.build_effect.specs.ListingSteps.{ListingValue}
 use Rattle.build_effect.specs.ListingReading.{listing_format, listing_faults, Lists, HasFaultyLine, HasFaultyEnd}
 use Rattle.build_effect.specs.ListingReaders.{LeadToEdges, ListingReaderState, HasReadListing, FeedsListing, EndsListing, line_failure, IsListingFaultIn}
-use Rattle.build_effect.specs.inner.ListingEnds.{GivesGraph}
 use Rattle.build_effect.specs.inner.ReadLines.{fault_of_cutter, PassesLine, RefusesLine}
 use Rattle.build_effect.specs.declared.fault.LineCause.{LineCause}
 use Rattle.build_effect.specs.declared.fault.LineCause.TheVariants as causes
@@ -106,17 +105,10 @@ abbrev pub graph_failure : Failure GraphFault → Failure ListFault
 graph_failure Memory = Memory
 graph_failure (Fault fault) = Fault (NoGraph fault)
 
--- what becomes of the edges listed
-pub graph_ends : (bytes : List ℕ) (edges : List EdgeValue) (result : Result (List EdgeValue) (Failure ListFault)) → Lists bytes edges → GivesGraph edges result → EndsListing bytes result
-graph_ends bytes edges (Ok graph) lists gives = subst (Lists bytes) (sym gives) lists
-graph_ends bytes edges (Err (Fault (NoGraph fault))) lists gives = (edges, lists, gives)
-graph_ends bytes edges (Err (Fault (AtLine fault))) lists gives = absurd gives
-graph_ends bytes edges (Err Memory) lists gives = tt
-
--- why the edges are no graph
-pub no_graph : (edges : List EdgeValue) (failure : Failure GraphFault) → ForFault (IsGraphFault edges) failure → GivesGraph edges (Err (graph_failure failure))
-no_graph edges (Fault fault) is = is
-no_graph edges Memory is = tt
+-- why the edges listed are no graph
+pub no_graph : (bytes : List ℕ) (edges : List EdgeValue) (failure : Failure GraphFault) → Lists bytes edges → ForFault (IsGraphFault edges) failure → EndsListing bytes (Err (graph_failure failure))
+no_graph bytes edges (Fault fault) lists is = (edges, lists, is)
+no_graph bytes edges Memory lists is = tt
 
 -- the failure of a call as a fault of the listing
 pub turned_to : {F : Type 0} (turn : F → ListFault) (all : Failure F → Failure ListFault) → all Memory ≡ Memory → ((fault : F) → all (Fault fault) ≡ Fault (turn fault))

@@ -1,5 +1,5 @@
 -- Lemmas on lists.
-use Rattle.std.proofs.Common.{◌≡◌, ℕ, zero, suc, ◌+◌, ◌<◌, ◌⊎◌, List, [], ◌∷◌, length, map, Some, Result, Ok, refl, ap, subst, sym, inl, inr, arith}
+use Rattle.std.proofs.Common.{◌≡◌, ℕ, zero, suc, ◌+◌, ◌<◌, List, [], ◌∷◌, length, map, Some, Result, Ok, refl, ap, subst, sym, inl, inr, arith}
 use Rattle.std.specs.Prelude.{slice_get}
 use Rattle.std.specs.List.{flat_map}
 use Rattle.std.proofs.lemmas.Option.{slice_get_within}
@@ -15,24 +15,6 @@ same_lists (x ∷ xs) (y ∷ ys) e f =
     let tails : xs ≡ ys = same_lists xs ys (omega arith) (λ k a b. f (suc k) a b) in
     cc
 
--- each index of a list has an element
-pub element_at : {X : Type 0} (xs : List X) (k : ℕ) → k < length xs → (x : X) × (slice_get xs k ≡ Some x)
-element_at [] k h = absurd (omega arith)
-element_at (x ∷ xs) zero h = (x, refl)
-element_at (x ∷ xs) (suc k) h = element_at xs k (omega arith)
-
-chosen : {X : Type 0} (P : ℕ → X → Type 0) (x : X) → P 0 x → (xs : List X) → ((i : ℕ) (y : X) → slice_get xs i ≡ Some y → P (suc i) y) → (i : ℕ) (y : X) → slice_get (x ∷ xs) i ≡ Some y → P i y
-chosen P x p xs f zero y e = let same : x ≡ y = cc in subst (λ z. P 0 z) same p
-chosen P x p xs f (suc i) y e = f i y e
-
--- a choice for each number below n makes a list
-pub choose : {X : Type 0} (P : ℕ → X → Type 0) (n : ℕ) → ((i : ℕ) → i < n → (x : X) × P i x) → (xs : List X) × (length xs ≡ n) × ((i : ℕ) (x : X) → slice_get xs i ≡ Some x → P i x)
-choose P zero f = ([], refl, λ i x e. cc)
-choose P (suc n) f =
-    let first : (x : _) × P 0 x = f 0 (omega arith) in
-    let others : (xs : List _) × (length xs ≡ n) × ((i : ℕ) (x : _) → slice_get xs i ≡ Some x → P (suc i) x) = choose (λ i x. P (suc i) x) n (λ i h. f (suc i) (omega arith)) in
-    (first.0 ∷ others.0, omega (arith, others.1), chosen P first.0 first.1 others.0 others.2)
-
 -- lists whose elements have the same images under an injective map are one
 pub same_map : {A B : Type 0} (f : A → B) → ((x y : A) → f x ≡ f y → x ≡ y) → (xs ys : List A) → map f xs ≡ map f ys → xs ≡ ys
 same_map f inj [] [] e = refl
@@ -47,12 +29,6 @@ same_map f inj (x ∷ xs) (y ∷ ys) e =
 
 pub same_ok : {X E : Type 0} (x y : X) → (let a : Result X E = Ok x in let b : Result X E = Ok y in a ≡ b) → x ≡ y
 same_ok x y e = cc
-
-pub three_ways : (a b : ℕ) → (a < b) ⊎ ((a ≡ b) ⊎ (b < a))
-three_ways zero zero = inr (inl refl)
-three_ways zero (suc b) = inl (omega arith)
-three_ways (suc a) zero = inr (inr (omega arith))
-three_ways (suc a) (suc b) = elim (three_ways a b) [ inl h ↦ inl (omega arith) | inr h ↦ inr (elim h [ inl e ↦ inl (ap suc e) | inr m ↦ inr (omega arith) ]) ]
 
 -- how many elements stand before those of element i
 pub offset : {A B : Type 0} → (A → List B) → List A → ℕ → ℕ

@@ -5,9 +5,7 @@ use Rattle.build_effect.specs.Faults.{IsMadeBefore}
 use Rattle.ninja_text.specs.Firsts.{IsFirstAt}
 use Rattle.build_effect.specs.inner.Makers.{AreMakers}
 use Rattle.ninja_text.specs.Firsts.{AllDiffer, RepeatsFirst}
-use Rattle.build_effect.proofs.Lists.{three_ways}
-use Rattle.ninja_text.proofs.ForCallers.{same_some}
-use Rattle.ninja_text.proofs.ForCallers.{in_take}
+use Rattle.ninja_text.proofs.ForCallers.{same_some, three_ways, in_take}
 
 abbrev pub Unmade : (List ℕ → Option ℕ) → List (List ℕ) → ℕ → Type 0
 Unmade maker files i = (k : ℕ) (file : List ℕ) → k < i → slice_get files k ≡ Some file → maker file ≡ None

@@ -5,9 +5,8 @@ use Rattle.build_effect.specs.Graphs.{made_by, MadeOnce}
 use Rattle.build_effect.specs.Faults.{made_files}
 use Rattle.ninja_text.specs.Firsts.{IsFirstAt}
 use Rattle.ninja_text.specs.Firsts.{AllDiffer, RepeatsFirst}
-use Rattle.build_effect.proofs.Lists.{in_flat_map, same_part, offset, three_ways}
-use Rattle.ninja_text.proofs.ForCallers.{same_some}
-use Rattle.ninja_text.proofs.ForCallers.{in_take}
+use Rattle.build_effect.proofs.Lists.{same_part, in_flat_map, offset}
+use Rattle.ninja_text.proofs.ForCallers.{same_some, three_ways, in_take}
 
 -- all files differ, so each is made once
 pub made_once : (g : List EdgeValue) → AllDiffer (made_files g) → MadeOnce g

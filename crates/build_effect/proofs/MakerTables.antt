@@ -7,8 +7,7 @@ use Rattle.std.proofs.lemmas.Map.Text.{hash_map_updates_str}
 use Rattle.build_effect.specs.EdgeValue.{EdgeValue}
 use Rattle.build_effect.specs.Graphs.{made_by, MakesAt}
 use Rattle.build_effect.specs.inner.Makers.{maker_in, AreMakers, AreAdded}
-use Rattle.ninja_text.proofs.ForCallers.{same_some, in_append, in_first, in_second}
-use Rattle.ninja_text.proofs.ForCallers.{from_push, from_take, in_take, take_next}
+use Rattle.ninja_text.proofs.ForCallers.{same_some, in_append, in_first, in_second, from_push, from_take, in_take, take_next}
 
 -- a table that has one more file is as it was at others
 abbrev Updated : List ℕ → ℕ → (List ℕ → Option ℕ) → (List ℕ → Option ℕ) → Type 0

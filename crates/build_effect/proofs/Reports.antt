@@ -12,9 +12,7 @@ use Rattle.build_effect.specs.inner.Added.{IsFirstMade}
 use Rattle.build_effect.specs.inner.Checked.{AreMatched, IsFaultOf}
 use Rattle.build_effect.specs.declared.fault.EffectFault.{EffectFault}
 use Rattle.build_effect.specs.declared.fault.EffectFault.TheVariants.{BadPath}
-use Rattle.build_effect.proofs.Lists.{element_at}
-use Rattle.ninja_text.proofs.ForCallers.{same_some}
-use Rattle.ninja_text.proofs.ForCallers.{in_take}
+use Rattle.ninja_text.proofs.ForCallers.{same_some, element_at, in_take}
 use Rattle.build_effect.proofs.Bindings.{bound_of}
 use Rattle.build_effect.proofs.Extensions.{on_or_not}
 

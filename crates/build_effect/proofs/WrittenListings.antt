@@ -8,12 +8,11 @@ use Rattle.std.proofs.lemmas.Bool.{cases_Bool, ltb-false}
 use Rattle.std.proofs.lemmas.Grind.{flat_map-append}
 use Rattle.ninja_text.specs.Lines.{line_limit, IsLine}
 use Rattle.ninja_text.specs.Paths.{IsPath, is_empty}
-use Rattle.ninja_text.proofs.ForCallers.{AllByRecursion-append, joined}
+use Rattle.ninja_text.proofs.ForCallers.{AllByRecursion-append, joined, AreOfClasses-append}
 use Rattle.build_effect.specs.EdgeValue.{EdgeValue}
 use Rattle.build_effect.specs.Graphs.{made_by, inputs_of, HasInput, IsGraph}
 use Rattle.build_effect.specs.ListingLines.{EdgeTexts, ListingClass, Build, Dyndep, Restat}
 use Rattle.build_effect.specs.ListingGrammar.{no_more_bindings, dyndep_binding, restat_binding, IsListing, listing_end, listing_build}
-use Rattle.ninja_text.proofs.ForCallers.{AreOfClasses-append}
 use Rattle.ninja_text.specs.LineFormats.{AreOfClasses}
 use Rattle.build_effect.specs.ListingReading.{listing_format, Lists}
 use Rattle.build_effect.specs.ListingWriting.{edge_line, dyndep_line, restat_line, edge_text, listing_text, is_too_long, too_long_from, first_too_long}

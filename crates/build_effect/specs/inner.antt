@@ -9,4 +9,3 @@ pub mod Extended
 pub mod ListingWalk
 pub mod ListingRows
 pub mod ReadLines
-pub mod ListingEnds

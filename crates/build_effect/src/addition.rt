@@ -1,15 +1,25 @@
-//! Statements with canonical paths.
-ghost use Rattle.std.specs.Prelude.{◌≡◌, ◌<◌, ◌+◌, ◌^◌, length, Ok, IfOk, IfErr};
+//! What statements add: their canonical paths (E8), whether the added outputs are new (E7), and the
+//! edges with what is added.
+ghost use Rattle.std.specs.Prelude.{◌≡◌, ◌<◌, ◌+◌, ◌^◌, ℕ, length, Some, Ok, IfSome, IfOk, IfErr, OnOk};
+ghost use Rattle.dep_order.specs.Rows.{rows, lists};
 ghost use Rattle.ninja_text.specs.Failure.{ForFault};
 ghost use Rattle.ninja_text.specs.Paths.{path_of};
 ghost use Rattle.build_effect.specs.Effect.{ArePaths, IsCanonical, AreCanonical};
+ghost use Rattle.build_effect.specs.Faults.{added_outputs};
 ghost use Rattle.build_effect.specs.inner.BadPaths.{IsBadText, IsBadTextFrom, IsBadTextOf, IsBadStatement};
-ghost use Rattle.dep_order.specs.Rows.{rows};
+ghost use Rattle.build_effect.specs.inner.Added.{AddsFresh, AddsMade, FindsMadeIn};
+ghost use Rattle.build_effect.specs.inner.Extended.{IsEdgeAfter, AreExtended};
+ghost use Rattle.build_effect.specs.inner.Makers.{maker_in};
+ghost use Rattle.build_effect.specs.inner.StatementEdges.{statement_on};
 
+use crate::edge::Edge;
 use crate::fault::EffectFault;
+use crate::files::{add_paths, table_key};
+use crate::makers::Makers;
 use dyndep_file::Statement;
+use indexmap::IndexSet;
 use ninja_text::{Failure, Path};
-use std::alloc::Global;
+use std::alloc::{AllocError, Global};
 use std::marker::Model;
 
 /// A statement of a dyndep file with its paths made canonical.
@@ -122,4 +132,98 @@ fn canonical_path(
             fault,
         })),
     }
+}
+
+/// E7: no added output is made by an edge of the graph, or added by an earlier statement or earlier
+/// in its own.
+pub(crate) fn check_added(
+    alloc: Global,
+    makers: &Makers<'_>,
+    additions: &[Addition],
+) -> Result<(), Failure<EffectFault>>
+    ensures ok { OnOk result (AddsFresh (maker_in makers.now.table) additions.now) }
+    ensures fault { IfErr result (ForFault (AddsMade (maker_in makers.now.table) additions.now)) }
+{
+    let files = added_files(alloc, additions)?;
+    match first_made(alloc, makers, files.as_slice())? {
+        None => Ok(()),
+        Some(file_index) => {
+            let path = files[file_index].copy(alloc)?;
+            Err(Failure::Fault(EffectFault::AddedTwice { path }))
+        }
+    }
+}
+
+/// The added outputs, statement after statement.
+fn added_files<'t>(alloc: Global, additions: &'t [Addition]) -> Result<Vec<&'t Path>, AllocError>
+    ensures { IfOk result (λ files. lists files.items ≡ added_outputs additions.now) }
+{
+    let mut files = Vec::new(alloc);
+    for addition in additions {
+        add_paths(&addition.implicit_outputs, &mut files)?;
+    }
+    Ok(files)
+}
+
+/// Returns the index of the first file that an edge makes or that is earlier in the list.
+fn first_made(
+    alloc: Global,
+    makers: &Makers<'_>,
+    files: &[&Path],
+) -> Result<Option<usize>, AllocError>
+    ensures made { IfOk result (FindsMadeIn (maker_in makers.now.table) (lists files.now)) }
+    ensures within { IfOk result (λ found. IfSome found (λ k. k < length files.now)) }
+{
+    let mut seen = IndexSet::with_hasher(alloc, table_key(files));
+    for (file_index, file) in files.iter().enumerate() {
+        if makers.maker_of(*file).is_some() {
+            return Ok(Some(file_index));
+        }
+        let is_new = seen.insert(*file)?;
+        if !is_new {
+            return Ok(Some(file_index));
+        }
+    }
+    Ok(None)
+}
+
+/// The edges, each with what the statement on it adds, if there is one.
+pub(crate) fn extended_edges(
+    alloc: Global,
+    edges: &[Edge],
+    additions: &[Addition],
+    statement_of: &[Option<usize>],
+) -> Result<Vec<Edge>, AllocError>
+    requires each { length statement_of.now ≡ length edges.now }
+    requires within { (i k : ℕ) → statement_on statement_of.now i ≡ Some k →
+        k < length additions.now }
+    ensures { IfOk result (λ new. AreExtended edges.now additions.now statement_of.now new.items) }
+{
+    let mut new = Vec::with_capacity(alloc, edges.len())?;
+    for (edge_index, edge) in edges.iter().enumerate() {
+        let statement = statement_of[edge_index];
+        new.push(edge_after(edge, additions, statement)?)?;
+    }
+    Ok(new)
+}
+
+/// The edge with what the statement of this index adds, if there is one.
+fn edge_after(
+    edge: &Edge,
+    additions: &[Addition],
+    statement: Option<usize>,
+) -> Result<Edge, AllocError>
+    requires { IfSome statement (λ k. k < length additions.now) }
+    ensures { IfOk result (IsEdgeAfter edge.now additions.now statement) }
+{
+    let mut after = edge.clone()?;
+    if let Some(statement_index) = statement {
+        let addition = &additions[statement_index];
+        let outputs = &mut after.implicit_outputs;
+        outputs.extend_from_slice(&addition.implicit_outputs)?;
+        let inputs = &mut after.implicit_inputs;
+        inputs.extend_from_slice(&addition.implicit_inputs)?;
+        after.restat |= addition.restat;
+    }
+    Ok(after)
 }

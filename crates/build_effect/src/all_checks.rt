@@ -6,8 +6,7 @@ ghost use Rattle.build_effect.specs.Faults.{IsEffectFault, NoneMadeBefore};
 ghost use Rattle.build_effect.specs.inner.Makers.{maker_in, AreMakers};
 ghost use Rattle.build_effect.specs.inner.Checked.{AreChecked, AreMatched, IsFaultOf};
 
-use crate::added::check_added;
-use crate::addition::{Addition, canonical_statements};
+use crate::addition::{Addition, canonical_statements, check_added};
 use crate::edge::Edge;
 use crate::fault::EffectFault;
 use crate::makers::Makers;

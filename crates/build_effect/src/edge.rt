@@ -4,7 +4,7 @@ use std::marker::Model;
 
 /// A build statement of a manifest (Ninja 1.11 manual, "Build statements"): what it makes, and what
 /// it needs.
-#[derive(Drop)]
+#[derive(Clone, Drop)]
 pub struct Edge {
     /// The name of the rule.
     pub rule: Vec<u8>,

@@ -5,8 +5,8 @@ ghost use Rattle.build_effect.specs.Effect.{OnlyEffect, HasNoEffect};
 ghost use Rattle.build_effect.specs.Faults.{IsEffectFault};
 ghost use Rattle.build_effect.specs.declared.fault.EffectFault.{EffectFault};
 
+use crate::addition::extended_edges;
 use crate::all_checks::checked_statements;
-use crate::extending::extended_edges;
 use crate::fault::EffectFault;
 use crate::graph::Graph;
 use crate::laws::checks;

@@ -1,6 +1,5 @@
 //! Lists of borrowed files, the key of a table of them, and the first file that a list repeats.
 ghost use Rattle.std.specs.Prelude.{◌≡◌, ◌++◌, IfOk, OnOk};
-ghost use Rattle.indexmap.specs.IndexSet.{IsEmpty};
 ghost use Rattle.build_effect.specs.Faults.{made_files};
 ghost use Rattle.dep_order.specs.Rows.{lists};
 ghost use Rattle.ninja_text.specs.Firsts.{FindsRepetition};
@@ -42,8 +41,7 @@ pub(crate) fn table_key(files: &[&Path]) -> TableKey {
     digest.key()
 }
 
-/// The indexes of the first file that is in the list once more: where it was, and where it is
-/// again.
+/// Returns the indexes of the first file that an earlier index has: that index, and its own.
 pub(crate) fn first_repetition(
     alloc: Global,
     files: &[&Path],
@@ -51,17 +49,6 @@ pub(crate) fn first_repetition(
     ensures { IfOk result (FindsRepetition (lists files.now)) }
 {
     let mut seen = IndexSet::with_hasher(alloc, table_key(files));
-    first_seen(files, &mut seen)
-}
-
-/// What [`first_repetition`] answers, given an empty set for the files that were looked at.
-fn first_seen<'t>(
-    files: &[&'t Path],
-    seen: &mut IndexSet<&'t Path, TableKey>,
-) -> Result<Option<(usize, usize)>, AllocError>
-    requires { IsEmpty seen.old }
-    ensures { IfOk result (FindsRepetition (lists files.now)) }
-{
     for (file_index, file) in files.iter().enumerate() {
         let (first, is_new) = seen.insert_full(*file)?;
         if !is_new {

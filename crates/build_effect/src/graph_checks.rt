@@ -3,7 +3,7 @@ ghost use Rattle.std.specs.Prelude.{◌≡◌, ◌≢◌, [], slice_get, Some, I
 ghost use Rattle.ninja_text.specs.Failure.{ForFault};
 ghost use Rattle.build_effect.specs.Graphs.{MadeOnce, DyndepsAreInputs};
 ghost use Rattle.build_effect.specs.Faults.{IsGraphFault, NamesUnread};
-ghost use Rattle.build_effect.specs.inner.Inputs.{Has, NamesInput};
+ghost use Rattle.build_effect.specs.inner.Inputs.{NamesInput};
 
 use crate::edge::Edge;
 use crate::fault::GraphFault;
@@ -52,19 +52,13 @@ fn reads_dyndep(edge: &Edge) -> bool
     let Some(file) = &edge.dyndep else {
         return true;
     };
-    if has(&edge.inputs, file) {
+    if edge.inputs.contains(file) {
         return true;
     }
-    if has(&edge.implicit_inputs, file) {
+    if edge.implicit_inputs.contains(file) {
         return true;
     }
-    has(&edge.order_only, file)
-}
-
-fn has(paths: &[Path], path: &Path) -> bool
-    ensures { MatchBool result (Has paths.now path.now) (Has paths.now path.now → ⊥) }
-{
-    paths.contains(path)
+    edge.order_only.contains(file)
 }
 
 /// The edge's first output, by which faults report it.

@@ -50,22 +50,15 @@
 //!   to `EdgeNeeds` (`needs.rt`).
 //! - The law [`files_order`] puts two numberings together by `layered` of `dep_order`: that of the
 //!   graph with the added outputs alone, and within one level that of what is added.
-//! - The edits in `must-fail/` of `added.rt`, `extending.rt` and `statement_edges.rt` show the
-//!   clauses of [`apply`], and those of `makers.rt` and `needs.rt` that of [`edge_order`].  [`GraphFault::path`] and [`Graph::edges`] have
-//!   nothing else to lend. `faults_of_graphs_printed_alike` shows the clause by which each fault type
-//!   says how it is printed, and `edges_forgotten_at_the_end` and
-//!   `restat_of_a_listing_lost_at_a_piece_end` those of [`ListingReader`].
 //!
 //! It uses `ninja_text` for paths and lines, `dyndep_file` for statements, `dep_order` for
 //! orders and cycles, `indexmap` for look-ups, and `thiserror` for its fault types.
 #![tactic(auto)]
 
-mod added;
 mod addition;
 mod all_checks;
 mod edge;
 mod effect;
-mod extending;
 mod fault;
 mod files;
 mod graph;

@@ -4,7 +4,7 @@ ghost use Rattle.std.specs.List.{filter_map};
 ghost use Rattle.dep_order.specs.Rows.{rows};
 ghost use Rattle.dep_order.specs.Sortings.{IsSortingOf};
 ghost use Rattle.build_effect.specs.Graphs.{EdgeNeeds};
-ghost use Rattle.build_effect.specs.inner.Makers.{maker_in, makers_row, AreNeeds};
+ghost use Rattle.build_effect.specs.inner.Makers.{maker_in, makers_row, AreMakers};
 
 use crate::edge::Edge;
 use crate::graph::Graph;
@@ -21,17 +21,10 @@ use std::alloc::{AllocError, Global};
 pub fn edge_order(alloc: Global, graph: &Graph) -> Result<Sorting, AllocError>
     ensures { IfOk result (IsSortingOf (length graph.now) (EdgeNeeds graph.now)) }
 {
-    let needs = needs_of(alloc, graph.edges())?;
-    let digraph = Digraph::new(needs);
-    order(alloc, &digraph)
-}
-
-/// The makers of each edge's inputs.
-fn needs_of(alloc: Global, edges: &[Edge]) -> Result<Vec<Vec<usize>>, AllocError>
-    ensures { IfOk result (λ needs. AreNeeds edges.now (rows needs.items)) }
-{
+    let edges = graph.edges();
     let makers = Makers::of(alloc, edges)?;
-    needs_in(alloc, edges, &makers)
+    let digraph = Digraph::new(needs_in(alloc, edges, &makers)?);
+    order(alloc, &digraph)
 }
 
 /// The makers of each edge's inputs, which the table has.

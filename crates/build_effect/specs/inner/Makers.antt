@@ -1,5 +1,5 @@
 -- Tables of the edge that makes each file.
-use Rattle.std.specs.Prelude.{◌≡◌, ◌⊎◌, ℕ, bytes_eq, List, map, slice_get, Option, Some}
+use Rattle.std.specs.Prelude.{◌≡◌, ◌⊎◌, ℕ, bytes_eq, List, slice_get, Option, Some}
 use Rattle.std.specs.Borrow.{Bor}
 use Rattle.std.specs.HashMap.{HashMap, get_by}
 use Rattle.std.specs.List.{filter_map}
@@ -18,11 +18,6 @@ makers_row maker e = filter_map maker (inputs_of e)
 pub record AreMakers (g : List EdgeValue) (maker : List ℕ → Option ℕ) : Type 0 where
   pub found : (file : List ℕ) (i : ℕ) → maker file ≡ Some i → (j : ℕ) × MakesAt g i j file
   pub made : (i j : ℕ) (file : List ℕ) → MakesAt g i j file → (k : ℕ) × (maker file ≡ Some k)
-
--- each edge's row has the makers of its inputs
-abbrev pub AreNeeds : List EdgeValue → List (List ℕ) → Type 0
-AreNeeds g needs =
-    (maker : List ℕ → Option ℕ) × AreMakers g maker × (needs ≡ map (makers_row maker) g)
 
 -- the table has this edge for these files, and for others what it had
 pub record AreAdded (files : List (List ℕ)) (edge : ℕ) (maker new_maker : List ℕ → Option ℕ)

@@ -3,7 +3,6 @@
 ghost use Rattle.std.specs.Prelude.{◌≡◌, ◌++◌, [], Some, Err};
 ghost use Rattle.ninja_text.specs.LineViews.{seen_line};
 ghost use Rattle.build_effect.specs.inner.ListingRows.{ReadsText};
-ghost use Rattle.build_effect.specs.inner.ListingEnds.{GivesGraph};
 ghost use Rattle.build_effect.specs.ListingReaders.{line_failure};
 
 use crate::fault::{LineCause, LineFault, ListFault};
@@ -89,21 +88,14 @@ impl ListingReader {
         ensures all { (bytes : Bytes) → HasReadListing bytes self → EndsListing bytes result }
     {
         let ListingReader { alloc, lines } = self;
-        match lines.finish() {
-            Ok(end) => graph_of(alloc, end.0),
-            Err(failure) => Err(failure.map(ListFault::AtLine)),
+        let edges = match lines.finish() {
+            Ok(end) => end.0.edges,
+            Err(failure) => return Err(failure.map(ListFault::AtLine)),
+        };
+        match Graph::new(alloc, edges) {
+            Ok(graph) => Ok(graph),
+            Err(failure) => Err(failure.map(ListFault::NoGraph)),
         }
-    }
-}
-
-/// Returns the graph of the edges listed.
-fn graph_of(alloc: Global, state: ListingState) -> Result<Graph, Failure<ListFault>>
-    ensures { GivesGraph state.edges result }
-{
-    let ListingState { edges, binding: _ } = state;
-    match Graph::new(alloc, edges) {
-        Ok(graph) => Ok(graph),
-        Err(failure) => Err(failure.map(ListFault::NoGraph)),
     }
 }
 

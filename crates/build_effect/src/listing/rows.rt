@@ -102,7 +102,8 @@ fn binding_row(alloc: Global, assignment: Option<Assignment<'_>>) -> Result<Row,
     if !is_dyndep && !is_same(found.name(), b"restat") {
         return Err(Failure::Fault(LineCause::Form));
     }
-    let value = assigned(alloc, found)?;
+    let mut value = Vec::with_capacity(alloc, found.raw_value().len())?;
+    found.value_into(&mut value)?;
     if is_dyndep {
         Ok(Row::Dyndep(value))
     } else {
@@ -210,16 +211,6 @@ fn next_word<'a>(tokens: &mut Words<'a>) -> Option<Token<'a>>
         }
         TokenKind::Bar | TokenKind::Colon | TokenKind::DoubleBar | TokenKind::BarAt => None,
     }
-}
-
-/// What is assigned.
-fn assigned(alloc: Global, assignment: Assignment<'_>) -> Result<Vec<u8>, AllocError>
-    ensures { IfOk result (λ value.
-        value.items ≡ value_of (seen_assignment assignment.entry).raw_value) }
-{
-    let mut value = Vec::with_capacity(alloc, assignment.raw_value().len())?;
-    assignment.value_into(&mut value)?;
-    Ok(value)
 }
 
 /// Whether a rule may be called so.

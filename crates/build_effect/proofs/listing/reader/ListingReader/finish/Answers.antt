@@ -1,18 +1,23 @@
 use Rattle.std.proofs.Common.{◌≡◌, ◌∙◌, ap, sym, subst, refl, Err}
-use Rattle.build_effect.specs.declared.fault.ListFault.TheVariants.{AtLine}
+use Rattle.build_effect.specs.declared.fault.ListFault.TheVariants.{AtLine, NoGraph}
+use Rattle.build_effect.specs.ListingReading.{Lists}
 use Rattle.build_effect.specs.ListingReaders.{HasReadListing, EndsListing, line_failure}
-use Rattle.build_effect.proofs.ListingLemmas.{listed, ended, graph_ends, turned_to}
+use Rattle.build_effect.proofs.ListingLemmas.{listed, ended, graph_failure, no_graph, turned_to}
 use Rattle.build_effect.proofs.listing.reader.ListingReader.finish.Goals as goal
 
-pub returns-in-Ok-clause-all : goal.returns-in-Ok-clause-all
-returns-in-Ok-clause-all c = λ bytes before.
+pub returns-in-Ok-new-clause-all : goal.returns-in-Ok-new-clause-all
+returns-in-Ok-new-clause-all c = λ bytes before.
     let has : HasReadListing bytes c.self.inside.lines = subst (HasReadListing bytes) (sym c.self.view_is) before in
-    graph_ends bytes c.in-Ok.end.0.edges c.graph_of.result (listed bytes c.self.inside.lines c.in-Ok.end has (c.in-Ok.ensures.all bytes)) c.graph_of.ensures
+    let lists : Lists bytes c.in-Ok.end.0.edges = listed bytes c.self.inside.lines c.in-Ok.end has (c.in-Ok.ensures.all bytes) in
+    subst (Lists bytes) (sym (c.in-Ok-new.ensures.graph ∙ ap (λ v. v.0.edges) c.end.view_is)) lists
 
-pub returns-in-Ok-clause-failed : goal.returns-in-Ok-clause-failed
-returns-in-Ok-clause-failed c = λ failure failed.
-    let is = c.in-Ok.ensures.failed failure (ap (λ v. v.failed) c.self.view_is ∙ failed) in
-    cc
+pub returns-in-Err-new-clause-all : goal.returns-in-Err-new-clause-all
+returns-in-Err-new-clause-all c = λ bytes before.
+    let has : HasReadListing bytes c.self.inside.lines = subst (HasReadListing bytes) (sym c.self.view_is) before in
+    let lists : Lists bytes c.in-Ok.end.0.edges = listed bytes c.self.inside.lines c.in-Ok.end has (c.in-Ok.ensures.all bytes) in
+    let failure = c.in-Err-new.failure in
+    let same : c.map-in-Err-new.result ≡ graph_failure failure = turned_to NoGraph graph_failure refl (λ fault. refl) failure _ c.map-in-Err-new.ensures in
+    subst (λ f. EndsListing bytes (Err f)) (sym same) (no_graph bytes _ failure (subst (Lists bytes) (sym (ap (λ v. v.0.edges) c.end.view_is)) lists) c.in-Err-new.ensures.fault)
 
 pub returns-in-Err-clause-all : goal.returns-in-Err-clause-all
 returns-in-Err-clause-all c = λ bytes before.

@@ -4,7 +4,7 @@ use Rattle.std.proofs.lemmas.Option.{slice_get_read}
 use Rattle.dyndep_file.specs.StatementValue.{StatementValue}
 use Rattle.build_effect.specs.Faults.{added_outputs}
 use Rattle.build_effect.proofs.Repetitions.{flat_map_next}
-use Rattle.build_effect.proofs.added.added_files.Goals as goal
+use Rattle.build_effect.proofs.addition.added_files.Goals as goal
 
 abbrev outputs_of : StatementValue → List (List ℕ)
 outputs_of a = a.implicit_outputs

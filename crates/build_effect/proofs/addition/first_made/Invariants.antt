@@ -1,7 +1,7 @@
 use Rattle.std.proofs.Common.{◌≡◌, ℕ, ◌<◌, List, map, take, Some, None, slice_get}
 use Rattle.build_effect.specs.inner.Makers.{maker_in}
 use Rattle.ninja_text.specs.Firsts.{AllDiffer}
-use Rattle.build_effect.proofs.added.first_made_or_seen.Given as goal
+use Rattle.build_effect.proofs.addition.first_made.Given as goal
 
 abbrev pub invariant-loop-file_index : goal.invariant-loop-file_index
 invariant-loop-file_index l = record {

@@ -4,7 +4,7 @@ use Rattle.build_effect.specs.Faults.{added_outputs}
 use Rattle.build_effect.specs.inner.Added.{FindsMade}
 use Rattle.build_effect.specs.declared.fault.EffectFault.TheVariants.{AddedTwice}
 use Rattle.ninja_text.proofs.ForCallers.{same_some, to_map}
-use Rattle.build_effect.proofs.added.check_added.Goals as goal
+use Rattle.build_effect.proofs.addition.check_added.Goals as goal
 
 abbrev text_of : Bor (List ℕ) → List ℕ
 text_of text = text.now

@@ -5,7 +5,7 @@ use Rattle.build_effect.specs.EdgeValue.{EdgeValue}
 use Rattle.build_effect.specs.inner.Extended.{AreExtended}
 use Rattle.build_effect.specs.inner.StatementEdges.{statement_on}
 use Rattle.build_effect.proofs.Extensions.{none_extended, more_extended, within_if}
-use Rattle.build_effect.proofs.extending.extended_edges.Goals as goal
+use Rattle.build_effect.proofs.addition.extended_edges.Goals as goal
 
 pub edge_after-requires : goal.edge_after-requires
 edge_after-requires c = within_if (λ k. k < length c.args.additions.now) (statement_on c.args.statement_of.now c.loop-edge_index.edge_index) (c.requires.within c.loop-edge_index.edge_index)

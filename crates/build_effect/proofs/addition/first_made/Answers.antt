@@ -3,12 +3,11 @@ use Rattle.std.proofs.lemmas.Option.{slice_get_read, slice_get_within}
 use Rattle.std.proofs.lemmas.List.{length-map}
 use Rattle.build_effect.specs.inner.Makers.{maker_in}
 use Rattle.ninja_text.specs.Firsts.{AllDiffer}
-use Rattle.ninja_text.proofs.ForCallers.{to_map}
+use Rattle.ninja_text.proofs.ForCallers.{to_map, map_take}
 use Rattle.build_effect.proofs.Bindings.{none_if, some_if}
 use Rattle.build_effect.proofs.MadeBefore.{none_before, made_here, repeated_here, more_unmade}
 use Rattle.build_effect.proofs.Repetitions.{repeats_if_there, keys_if_new, differ_if_new}
-use Rattle.ninja_text.proofs.ForCallers.{map_take}
-use Rattle.build_effect.proofs.added.first_made_or_seen.Goals as goal
+use Rattle.build_effect.proofs.addition.first_made.Goals as goal
 
 abbrev text_of : Bor (List ℕ) → List ℕ
 text_of text = text.now
@@ -55,7 +54,7 @@ returns-clause-made c = λ g are k file at before.
 
 pub loop-file_index-init : goal.loop-file_index-init
 loop-file_index-init c = record {
-  same = c.requires;
+  same = c.with_hasher-seen.ensures.empty;
   differ = record { differ = λ i j x lt at again. cc };
   unmade = λ k file lt at. absurd (omega (arith, lt));
 }

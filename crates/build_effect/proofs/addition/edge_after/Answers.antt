@@ -1,0 +1,51 @@
+use Rattle.std.proofs.Common.{rules, ◌≡◌, ◌∙◌, ◌++◌, ◌||◌, Bool, ℕ, List, Option, ap, refl, sym, subst}
+use Rattle.std.specs.List.{each_same}
+use Rattle.std.proofs.lemmas.Option.{slice_get_read, slice_get_within}
+use Rattle.dyndep_file.specs.StatementValue.{StatementValue}
+use Rattle.build_effect.specs.EdgeValue.{EdgeValue}
+use Rattle.build_effect.specs.Effect.{extended}
+use Rattle.build_effect.specs.inner.Extended.{IsEdgeAfter}
+use Rattle.ninja_text.proofs.ForCallers.{same_some}
+use Rattle.build_effect.proofs.EdgeCopies.{same_edge}
+use Rattle.build_effect.proofs.Extensions.{unchanged}
+use Rattle.build_effect.proofs.addition.edge_after.Goals as goal
+use Rattle.build_effect.proofs.addition.edge_after.Goals.{in-Some+in_ok-extend_from_slice+in_ok-extend_from_slice-2, in_default}
+
+abbrev changed : EdgeValue → List (List ℕ) → List (List ℕ) → Bool → EdgeValue
+changed e outputs inputs restat = record e { implicit_outputs = outputs; implicit_inputs = inputs; restat = restat }
+
+pub returns : goal.returns
+returns c =
+    let e : EdgeValue = c.args.edge.now in
+    let additions : List StatementValue = c.args.additions.now in
+    let after : EdgeValue = c.match-statement.after in
+    let clone = c.in_ok-after.ensures.cases in
+    let lists = clone.4 in
+    let dyndep : clone.1.dyndep ≡ clone.0.dyndep = search rules in
+    let copied : c.in_ok-after.after ≡ e =
+    sym clone.3
+    ∙ same_edge (each_same _ _ lists.0.0) (each_same _ _ lists.1.0.0) (each_same _ _ lists.1.1.0.0) (each_same _ _ lists.1.1.1.0.0) (each_same _ _ lists.1.1.1.1.0.0) (each_same _ _ lists.1.1.1.1.1.0.0)
+    dyndep lists.1.1.1.1.1.1.1
+    ∙ clone.2 in
+    elim c.match-statement.branch [
+      | in-Some+in_ok-extend_from_slice+in_ok-extend_from_slice-2 w ↦ subst (λ o. IsEdgeAfter e additions o after) (sym w.in-Some.is) (λ a at.
+          let k = w.in-Some.statement_index in
+          let addition : StatementValue = w.index-additions-statement_index.result in
+          let read = slice_get_read additions _ k addition refl (slice_get_within additions k a at) w.index-additions-statement_index.is in
+          let same : addition ≡ a = same_some _ _ (sym read ∙ at) in
+          let v = c.after.view_is ∙ copied in
+          let added_outputs = w.in_ok-extend_from_slice.ensures.items in
+          let added_inputs = w.in_ok-extend_from_slice-2.ensures.items in
+          let outputs : w.extend_from_slice.new.self.items ≡ e.implicit_outputs ++ addition.implicit_outputs =
+          added_outputs.1 ∙ ap (λ ys. c.after.inside.implicit_outputs.items ++ ys) (each_same _ _ added_outputs.2 ∙ w.deref.ensures.value ∙ ap (λ (x : StatementValue). x.implicit_outputs) w.addition.view_is) ∙ ap (λ (x : EdgeValue). x.implicit_outputs ++ addition.implicit_outputs) v in
+          let inputs : w.extend_from_slice-in-Some.new.self.items ≡ e.implicit_inputs ++ addition.implicit_inputs =
+          added_inputs.1 ∙ ap (λ ys. c.after.inside.implicit_inputs.items ++ ys) (each_same _ _ added_inputs.2 ∙ w.deref-in-Some.ensures.value ∙ ap (λ (x : StatementValue). x.implicit_inputs) w.addition.view_is) ∙ ap (λ (x : EdgeValue). x.implicit_inputs ++ addition.implicit_inputs) v in
+          let restat : (c.after.inside.restat || w.addition.inside.restat) ≡ (e.restat || addition.restat) =
+          ap (λ (x : EdgeValue). x.restat || w.addition.inside.restat) v ∙ ap (λ (x : StatementValue). e.restat || x.restat) w.addition.view_is in
+          w.after-is ∙ ap (λ x. changed x w.extend_from_slice.new.self.items w.extend_from_slice-in-Some.new.self.items (c.after.inside.restat || w.addition.inside.restat)) v
+          ∙ ap (λ ps. changed e ps w.extend_from_slice-in-Some.new.self.items (c.after.inside.restat || w.addition.inside.restat)) outputs
+          ∙ ap (λ ps. changed e (e.implicit_outputs ++ addition.implicit_outputs) ps (c.after.inside.restat || w.addition.inside.restat)) inputs
+          ∙ ap (changed e (e.implicit_outputs ++ addition.implicit_outputs) (e.implicit_inputs ++ addition.implicit_inputs)) restat
+          ∙ ap (extended e) same)
+      | in_default w ↦ unchanged e after additions _ w.in_default.not-Some (w.after-is ∙ copied)
+    ]
