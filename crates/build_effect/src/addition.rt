@@ -44,7 +44,7 @@ impl Model for Addition {
     } };
 }
 
-/// E8: the statements with canonical paths, or the first text that is no path.
+/// Returns the statements with canonical paths, or E8 for the first string that is not a valid path.
 pub(crate) fn canonical_statements(
     alloc: Global,
     statements: &[Statement],
@@ -60,7 +60,7 @@ pub(crate) fn canonical_statements(
     Ok(additions)
 }
 
-/// The statement of that index with canonical paths, or its first text that is no path.
+/// Returns the statement with canonical paths. `statement_index` is its index in the file.
 fn canonical_statement(
     alloc: Global,
     statement: &Statement,
@@ -92,8 +92,8 @@ fn canonical_statement(
     })
 }
 
-/// The paths of these texts, or the first that is none. `from` is the index of the first of them
-/// among all texts of the statement.
+/// Returns the canonical paths of these strings. `from` is the index of the first of them among all
+/// strings of the statement.
 fn canonical_paths(
     alloc: Global,
     texts: &[Vec<u8>],
@@ -112,8 +112,8 @@ fn canonical_paths(
     Ok(paths)
 }
 
-/// The path of a text, or why it is none, with the statement's index and that of the text among its
-/// texts.
+/// Returns the canonical path of a string. The error has the index of the statement and the index of
+/// the string in it.
 fn canonical_path(
     alloc: Global,
     text: &[u8],
@@ -134,8 +134,7 @@ fn canonical_path(
     }
 }
 
-/// E7: no added output is made by an edge of the graph, or added by an earlier statement or earlier
-/// in its own.
+/// Checks that no added output is made by an edge of the graph or added before (E7).
 pub(crate) fn check_added(
     alloc: Global,
     makers: &Makers<'_>,
@@ -154,7 +153,7 @@ pub(crate) fn check_added(
     }
 }
 
-/// The added outputs, statement after statement.
+/// Returns the added outputs, statement after statement.
 fn added_files<'t>(alloc: Global, additions: &'t [Addition]) -> Result<Vec<&'t Path>, AllocError>
     ensures { IfOk result (λ files. lists files.items ≡ added_outputs additions.now) }
 {
@@ -165,7 +164,7 @@ fn added_files<'t>(alloc: Global, additions: &'t [Addition]) -> Result<Vec<&'t P
     Ok(files)
 }
 
-/// Returns the index of the first file that an edge makes or that is earlier in the list.
+/// Returns the index of the first file that an edge makes or that repeats an earlier one.
 fn first_made(
     alloc: Global,
     makers: &Makers<'_>,
@@ -187,7 +186,7 @@ fn first_made(
     Ok(None)
 }
 
-/// The edges, each with what the statement on it adds, if there is one.
+/// Returns the edges, each with what the statement on it adds.
 pub(crate) fn extended_edges(
     alloc: Global,
     edges: &[Edge],
@@ -207,7 +206,7 @@ pub(crate) fn extended_edges(
     Ok(new)
 }
 
-/// The edge with what the statement of this index adds, if there is one.
+/// Returns the edge with what the statement of this index adds, if there is one.
 fn edge_after(
     edge: &Edge,
     additions: &[Addition],

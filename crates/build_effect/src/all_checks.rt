@@ -1,4 +1,4 @@
-//! The checks of a dyndep file's statements on a graph.
+//! All checks of the statements of a dyndep file on a graph, in the order of their errors.
 ghost use Rattle.std.specs.Prelude.{IfOk, IfErr};
 ghost use Rattle.ninja_text.specs.Failure.{ForFault};
 ghost use Rattle.build_effect.specs.Graphs.{IsGraph};
@@ -15,14 +15,15 @@ use dyndep_file::Statement;
 use ninja_text::{Failure, Path};
 use std::alloc::Global;
 
-/// Statements without a fault, with canonical paths, and the index of the statement on each edge.
+/// Statements without an error, with canonical paths, and for each edge the index of the statement
+/// on it.
 #[derive(Drop)]
 pub(crate) struct Checked {
     pub additions: Vec<Addition>,
     pub statement_of: Vec<Option<usize>>,
 }
 
-/// All checks, in the order in which their faults are reported: E8, E5, E4, E6, E7.
+/// Makes all checks, in the order in which their errors are reported: E8, E5, E4, E6, E7.
 pub(crate) fn checked_statements(
     alloc: Global,
     edges: &[Edge],
@@ -43,7 +44,7 @@ pub(crate) fn checked_statements(
     })
 }
 
-/// E5, E4, E6, E7: the index of the statement on each edge.
+/// Makes the checks of E5, E4, E6 and E7. Returns for each edge the index of the statement on it.
 fn matched_statements(
     alloc: Global,
     edges: &[Edge],

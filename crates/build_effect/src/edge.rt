@@ -2,8 +2,8 @@
 use ninja_text::Path;
 use std::marker::Model;
 
-/// A build statement of a manifest (Ninja 1.11 manual, "Build statements"): what it makes, and what
-/// it needs.
+/// A build statement of a manifest: the files that it makes and the files that it needs (Ninja 1.11
+/// manual, "Build statements").
 #[derive(Clone, Drop)]
 pub struct Edge {
     /// The name of the rule.

@@ -1,8 +1,7 @@
-//! Why edges are no graph, why a dyndep file has no effect, what can be wrong with an edge listing,
-//! and why none was written.
+//! The fault types of graphs, of effects, and of reading and writing edge listings.
 //!
-//! A fault prints all but the path of the file that it is about, whose bytes need not be text;
-//! `path` lends it.
+//! A path need not be UTF-8, so a fault does not print the file that it is about. `path` returns the
+//! file.
 ghost use Rattle.std.specs.Prelude.{◌≡◌, option_copied};
 ghost use Rattle.build_effect.specs.FaultTexts.{graph_fault_path, effect_fault_path};
 
@@ -10,19 +9,18 @@ use ninja_text::{LexFault, Path, PathFault};
 use std::fmt;
 use thiserror::Error;
 
-/// Why a list of edges is no graph.
+/// Why a list of edges is not a graph.
 #[derive(Debug, Drop, Error)]
 pub enum GraphFault {
     /// E1: a file is made twice.
     ProducedTwice { path: Path },
-    /// E2: an edge names a dyndep file that is none of its inputs. It is reported by its index and
-    /// its first output.
+    /// E2: an edge names a dyndep file that is not among its inputs. `edge` is the index of the edge,
+    /// and `output` its first output.
     DyndepNotInput { edge: usize, output: Path },
 }
 
 impl GraphFault {
-    /// The file that the fault is about: the one that is made twice, or the first output of the
-    /// edge.
+    /// Returns the file that is made twice, or the first output of the edge.
     pub fn path(&self) -> &Path
         ensures { result.now ≡ graph_fault_path self.now }
     {
@@ -47,36 +45,38 @@ impl fmt::Display for GraphFault {
     }
 }
 
-/// Why a dyndep file has no effect on a graph. They are looked for in the order E8, E5, E4, E6, E7.
+/// Why a dyndep file has no effect on a graph. The checks are made in the order E8, E5, E4, E6, E7.
 #[derive(Debug, Drop, Error)]
 pub enum EffectFault {
-    /// E8: a text of a statement is no path. Statements count from 0, and in one its texts: the
-    /// output, the implicit outputs, the implicit inputs.
+    /// E8: a string of a statement is not a valid path. `statement` is the index of the statement.
+    /// `path` is the index of the string in it: output, implicit outputs, implicit inputs.
     BadPath {
         statement: usize,
         path: usize,
         fault: PathFault,
     },
-    /// E5: no edge makes the statement's output, or the edge that makes it does not name the file.
+    /// E5: no edge makes the statement's output, or the edge that makes it does not name the dyndep
+    /// file.
     NotBound {
         output: Path,
     },
-    /// E4: an earlier statement is on the same edge. It is reported by the later one's output.
+    /// E4: an earlier statement is on the same edge. `output` is that of the later statement.
     StatementTwice {
         output: Path,
     },
-    /// E6: an edge names the file, and no statement is on it. It is reported by its first output.
+    /// E6: an edge names the dyndep file, and no statement is on it. `output` is the first output of
+    /// the edge.
     NotMentioned {
         output: Path,
     },
-    /// E7: an added output is made by an edge, or was added before.
+    /// E7: an edge already makes an added output, or it was added before.
     AddedTwice {
         path: Path,
     },
 }
 
 impl EffectFault {
-    /// The file that the fault is about, except for a text that is no path.
+    /// Returns the file that the fault is about. E8 has none.
     pub fn path(&self) -> Option<&Path>
         ensures { option_copied result ≡ effect_fault_path self.now }
     {
@@ -122,9 +122,9 @@ pub enum LineCause {
     Truncated,
     /// N7 to N10: a byte or a `$` that the lexical syntax does not allow.
     Lexical(LexFault),
-    /// The line is neither a build line, a binding of the edge above it, a comment nor blank.
+    /// The line is not a build line, a binding of the edge above it, a comment or a blank line.
     Form,
-    /// The line's first text that is no path, and why it is none.
+    /// A path in the line is not valid. This is the error of the first one.
     BadPath(PathFault),
 }
 
@@ -146,8 +146,8 @@ impl fmt::Display for LineCause {
     }
 }
 
-/// E3: the first faulty line of an edge listing, or its end, and what is wrong there. Lines are
-/// counted from 1, and a line with continuations has the number of its first one.
+/// E3: the first faulty line of an edge listing, or its end, and the cause. Lines are counted from
+/// 1, and a line with continuations has the number of its first one.
 #[derive(Clone, Copy, Debug, PartialEq, Eq, Error)]
 pub struct LineFault {
     pub line: u64,
@@ -165,7 +165,7 @@ impl fmt::Display for LineFault {
     }
 }
 
-/// Why an edge listing gave no graph. [`GraphFault::path`] is the file that E1 and E2 are about.
+/// Why an edge listing gave no graph.
 #[derive(Debug, Drop, Error)]
 pub enum ListFault {
     /// E3: a line is faulty, or the listing ends within a line.
@@ -191,11 +191,11 @@ impl fmt::Display for ListFault {
 /// Why a graph was not written.
 #[derive(Clone, Copy, Debug, PartialEq, Eq, Error)]
 pub enum ListingWriteFault {
-    /// E9: the build line of this edge has more than 1,048,576 bytes, its end included; the first
-    /// such edge is reported.
+    /// E9: the build line of this edge has more than 1,048,576 bytes, its end included. The first such
+    /// edge is reported.
     ListingTooLong { edge: usize },
-    /// Y3: a call of the writer answered an error or took no byte. This many bytes went out before,
-    /// from the text's beginning.
+    /// Y3: a call of the writer returned an error or took no byte. This many bytes of the text went
+    /// out before.
     Io { written: u128 },
 }
 

@@ -10,7 +10,8 @@ use ninja_text::Path;
 use std::alloc::{AllocError, Global};
 use table_keys::{KeyDigest, TableKey};
 
-/// The files that the edges make: edge after edge, in each its outputs before its implicit ones.
+/// Returns the files that the edges make, edge after edge: the outputs of an edge, then its implicit
+/// outputs.
 pub(crate) fn made_files<'t>(alloc: Global, edges: &'t [Edge]) -> Result<Vec<&'t Path>, AllocError>
     ensures { IfOk result (λ files. lists files.items ≡ made_files edges.now) }
 {
@@ -22,7 +23,7 @@ pub(crate) fn made_files<'t>(alloc: Global, edges: &'t [Edge]) -> Result<Vec<&'t
     Ok(files)
 }
 
-/// Lends the paths, after those that are there.
+/// Appends references to the paths.
 pub(crate) fn add_paths<'t>(paths: &'t [Path], files: &mut Vec<&'t Path>) -> Result<(), AllocError>
     ensures { OnOk result (lists files.new.items ≡ lists files.old.items ++ paths.now) }
 {
@@ -41,7 +42,8 @@ pub(crate) fn table_key(files: &[&Path]) -> TableKey {
     digest.key()
 }
 
-/// Returns the indexes of the first file that an earlier index has: that index, and its own.
+/// Finds the first file that repeats an earlier one. Returns the index of the earlier file and its
+/// own.
 pub(crate) fn first_repetition(
     alloc: Global,
     files: &[&Path],

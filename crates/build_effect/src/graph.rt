@@ -11,7 +11,7 @@ use ninja_text::Failure;
 use std::alloc::Global;
 use std::marker::Model;
 
-/// Build edges, by index. Each has an explicit output, no file is made twice, and each edge that
+/// Build edges, by index. Each edge has an explicit output, no file is made twice, and each edge that
 /// names a dyndep file has it among its inputs.
 #[derive(Drop)]
 pub struct Graph {

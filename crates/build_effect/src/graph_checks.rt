@@ -1,4 +1,4 @@
-//! What makes a list of edges a graph.
+//! The checks of [`Graph::new`](crate::graph::Graph::new).
 ghost use Rattle.std.specs.Prelude.{◌≡◌, ◌≢◌, [], slice_get, Some, IfOk, IfErr, OnOk, MatchBool, All};
 ghost use Rattle.ninja_text.specs.Failure.{ForFault};
 ghost use Rattle.build_effect.specs.Graphs.{MadeOnce, DyndepsAreInputs};
@@ -11,7 +11,7 @@ use crate::files::{first_repetition, made_files};
 use ninja_text::{Failure, Path};
 use std::alloc::{AllocError, Global};
 
-/// E1: no file is made twice.
+/// Checks that no file is made twice (E1).
 pub(crate) fn check_made(alloc: Global, edges: &[Edge]) -> Result<(), Failure<GraphFault>>
     ensures ok { OnOk result (MadeOnce edges.now) }
     ensures fault { IfErr result (ForFault (IsGraphFault edges.now)) }
@@ -26,7 +26,7 @@ pub(crate) fn check_made(alloc: Global, edges: &[Edge]) -> Result<(), Failure<Gr
     }
 }
 
-/// E2: each edge that names a dyndep file has it among its inputs.
+/// Checks that each edge that names a dyndep file has it among its inputs (E2).
 pub(crate) fn check_dyndeps(alloc: Global, edges: &[Edge]) -> Result<(), Failure<GraphFault>>
     requires outputs { All (λ e. e.outputs ≢ []) edges.now }
     requires made_once { MadeOnce edges.now }
@@ -45,7 +45,7 @@ pub(crate) fn check_dyndeps(alloc: Global, edges: &[Edge]) -> Result<(), Failure
     Ok(())
 }
 
-/// Whether the edge names no dyndep file, or one that is among its inputs of any kind.
+/// Returns whether the dyndep file of the edge, if it names one, is among its inputs of any kind.
 fn reads_dyndep(edge: &Edge) -> bool
     ensures { MatchBool result (NamesInput edge.now) (NamesUnread edge.now) }
 {
@@ -61,7 +61,7 @@ fn reads_dyndep(edge: &Edge) -> bool
     edge.order_only.contains(file)
 }
 
-/// The edge's first output, by which faults report it.
+/// Returns the edge's first output. Errors about an edge report this path.
 pub(crate) fn first_output(alloc: Global, edge: &Edge) -> Result<Path, AllocError>
     requires { edge.now.outputs ≢ [] }
     ensures { IfOk result (λ output. slice_get edge.now.outputs 0 ≡ Some output) }

@@ -1,4 +1,4 @@
-//! Laws of effects and of edge listings: each is the contract of a call that does nothing.
+//! Laws of effects and of edge listings. Each law is the contract of a function that does nothing.
 ghost use Rattle.build_effect.specs.Effect.{EffectGives};
 ghost use Rattle.build_effect.specs.Premises.{OneEffect};
 ghost use Rattle.build_effect.specs.Checks.{ChecksSuffice, FaultsExclude};
@@ -7,17 +7,17 @@ ghost use Rattle.build_effect.specs.Numbering.{FilesOrder, LevelOrders};
 ghost use Rattle.build_effect.specs.ListingReading.{OneListing, ListedIsFaultless, ListingOrFault, OneListingFault, OneClass, LineOrCause, CauseIsFaulty, OneCause, ClassHasForm};
 ghost use Rattle.build_effect.specs.ListingLaws.{WrittenListing};
 
-/// Statements that add no file twice have exactly one effect on every graph in which no file is
-/// made twice, which names the file on exactly the statements' outputs, and in which no added
-/// output is made. An effect is what the statements give once their paths are canonical, and these
-/// are one list.
+/// Statements that add no file twice have exactly one effect on every graph that meets three
+/// premises: no file is made twice, exactly the edges of the statements' outputs name the dyndep
+/// file, and no edge makes an added output. The effect is that of the statements with canonical
+/// paths, and these are one list.
 pub fn one_effect()
     ensures one { OneEffect }
     ensures gives { EffectGives }
 {}
 
-/// Dyndep files that each meet the premises of [`one_effect`], have different names, and of which
-/// no two add one file may be applied in any order. Each edge then gains exactly what its own file
+/// Dyndep files may be applied in any order if each meets the premises of [`one_effect`], their
+/// names differ, and no two of them add one file. Each edge then gains exactly what its own file
 /// adds, and all orders end in one graph.
 pub fn any_order()
     ensures any_order { AnyOrder }
@@ -30,41 +30,44 @@ pub fn checks()
     ensures exclude { FaultsExclude }
 {}
 
-/// The premises of [`one_effect`] hold of a file and a graph, what the statements add can be
-/// ordered, and the graph with the added outputs alone can be ordered such that the edges that name
-/// the file are on one level, and the makers of added inputs that are no added outputs below it:
-/// then the graph after the effect can be ordered.
+/// The graph after the effect of a file can be ordered under these premises:
+///
+/// - The premises of [`one_effect`] hold of the file and the graph.
+/// - What the statements add can be ordered.
+/// - The graph with the added outputs alone can be ordered by levels. The edges that name the file
+///   are on one level, and each edge that makes an added input is on a lower level, unless the input
+///   is an added output.
 pub fn level_orders()
     ensures { LevelOrders }
 {}
 
-/// The same of several files: the edges of each are on one level, and those of a later file on
-/// none that is lower.
+/// The graph after the effects of several files can be ordered under the same premises. The edges of
+/// each file are on one level, and the level of a later file is not lower.
 pub fn files_order()
     ensures { FilesOrder }
 {}
 
-/// The form relates a text to at most one list of edges, and a text that it relates to one has no
-/// fault. So a reader that memory does not stop answers a list exactly where there is one.
+/// A text lists at most one list of edges, and a text that lists edges has no fault. So if no
+/// allocation fails, a reader returns the edges if and only if the text lists some.
 pub fn one_listing()
     ensures one { OneListing }
     ensures faultless { ListedIsFaultless }
 {}
 
-/// A text lists edges or has a fault, and by `one_listing` not both.
+/// A text lists edges or has a fault. By [`one_listing`] it does not have both.
 pub fn listing_or_fault()
     ensures { ListingOrFault }
 {}
 
-/// A text has one fault at most: the first faulty line, its number and its cause. So what a reader
-/// reports is the text's only fault.
+/// A text has at most one fault: the first faulty line, its number and its cause. So the fault that
+/// a reader reports is the only one of the text.
 pub fn one_listing_fault()
     ensures { OneListingFault }
 {}
 
-/// Each line is of one class at most, and has one cause of refusal at most. After lines that some
-/// listing begins with, it is of a class with which one continues, or it has a cause, and not both.
-/// A line with another cause than `Form` is of no class at all.
+/// A line has at most one class, and at most one cause for which it is rejected. After lines with
+/// which some listing begins, a line either has a class with which a listing goes on or has a cause,
+/// and not both. A line whose cause is not `Form` has no class.
 pub fn listing_lines()
     ensures class { OneClass }
     ensures decided { LineOrCause }
@@ -73,10 +76,11 @@ pub fn listing_lines()
     ensures form { ClassHasForm }
 {}
 
-/// The text that `listing_write` writes reads back. Each rule of the graph has letters, digits,
-/// `_`, `.` and `-` only, and one at least; the paths are canonical, as those of an `Edge` are; and
-/// no build line is too long. Then the graph's text lists its edges, and so, by `one_listing`, no
-/// others.
+/// The text of a graph lists the edges of the graph, and by [`one_listing`] no other edges, if:
+///
+/// - each rule has at least one letter, digit, `_`, `.` or `-`, and nothing else,
+/// - the paths are canonical, as the paths of an [`Edge`](crate::Edge) are, and
+/// - no build line is too long.
 pub fn written_listing()
     ensures { WrittenListing }
 {}

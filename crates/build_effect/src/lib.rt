@@ -1,58 +1,55 @@
 //! Build edges, the effect of a dyndep file on them, and the order in which they can run (Ninja
 //! 1.11 manual, "Build statements" and "Dynamic dependencies").
 //!
-//! Each promise is a contract of the call, over the definitions named with it:
+//! - A [`Graph`] is a list of [`Edge`]s, each with an output. [`Graph::new`] accepts a list if no
+//!   file is made twice and each edge that names a dyndep file has it among its inputs. Otherwise it
+//!   returns E1 or E2 (`specs/Graphs.antt`, `IsGraph`; `specs/Faults.antt`, `IsGraphFault`).
+//! - [`ListingReader`] reads an edge listing that comes in pieces of any size. It returns the graph
+//!   of the edges that the whole text lists, or the first faulty line, E3, with its cause, or E1 or
+//!   E2 (`specs/ListingLines.antt`, `IsListingLine`; `specs/ListingGrammar.antt`, `IsListing`;
+//!   `specs/ListingFaults.antt`, `IsLineCause`; `specs/ListingReaders.antt`, `FeedsListing`,
+//!   `EndsListing`).
+//! - [`Graph::to_text`] returns the listing of a graph, and [`listing_write`] writes it. Both report
+//!   E9, the first build line that is too long, before the first byte (`specs/ListingWriting.antt`,
+//!   `listing_text_or_fault`).
+//! - [`apply`] returns the graph after the effect of a dyndep file. The effect is a relation between
+//!   two graphs: the returned graph has it, and no other graph does. Otherwise `apply` returns the
+//!   first error in the order E8, E5, E4, E6, E7, and then no graph has the effect
+//!   (`specs/Effect.antt`, `OnlyEffect`, `HasNoEffect`; `specs/Faults.antt`, `IsEffectFault`).
+//! - [`edge_order`] returns an order in which each edge comes after the edges that produce its
+//!   inputs of all kinds, or the least cycle (`specs/Graphs.antt`, `EdgeNeeds`).
 //!
-//! - A [`Graph`] is a list of [`Edge`]s, each with an output. [`Graph::new`] takes every such list
-//!   in which no file is made twice and each edge that names a dyndep file has it among its inputs,
-//!   and otherwise answers E1 or E2 (`specs/Graphs.antt`, `IsGraph`; `specs/Faults.antt`,
-//!   `IsGraphFault`).
-//! - [`ListingReader`] reads a listing of edges that comes in pieces of any size. For every cutting
-//!   the answer is the graph of the edges that the form gives the whole text, or the first faulty
-//!   line, E3, and its cause, or E1 or E2 of those edges (`specs/ListingLines.antt`,
-//!   `IsListingLine`; `specs/ListingGrammar.antt`, `IsListing`; `specs/ListingFaults.antt`,
-//!   `IsLineCause`; `specs/ListingReaders.antt`, `FeedsListing`, `EndsListing`).
-//! - [`listing_write`] writes the listing of a graph byte for byte, or reports the first build line
-//!   that is too long, E9, before the first byte. After a failed write, Y3, a beginning of the text
-//!   went out (`specs/ListingWriting.antt`, `listing_text`, `first_too_long`).
-//! - [`apply`] answers the graph after the effect of a dyndep file. The effect is a relation of two
-//!   graphs: the answer has it, and no other graph does. Otherwise it answers the first fault in
-//!   the order E8, E5, E4, E6, E7, and then no graph has the effect (`specs/Effect.antt`,
-//!   `OnlyEffect`, `HasNoEffect`; `specs/Faults.antt`, `IsEffectFault`).
-//! - [`edge_order`] answers an order in which each edge is after the makers of its inputs of
-//!   all kinds, or the least cycle (`specs/Graphs.antt`, `EdgeNeeds`).
+//! The laws are contracts of functions that do nothing:
 //!
-//! The laws are contracts of calls that do nothing. [`one_effect`], [`checks`], [`any_order`],
-//! [`level_orders`] and [`files_order`] say when there is an effect, that files may be applied in
-//! any order, and when the graph can be ordered afterwards (`specs/Premises.antt`, `Checks.antt`,
-//! `Files.antt`, `Numbering.antt`). [`one_listing`], [`listing_or_fault`] and [`one_listing_fault`]
-//! say that a text lists one list of edges or has one fault, and not both, [`listing_lines`] that a
-//! line continues a listing or has one cause why not, and [`written_listing`] that what is
-//! written of a graph reads back, where its rules have names that listings have
-//! (`specs/ListingReading.antt`, `ListingLaws.antt`).
+//! - [`one_effect`] and [`checks`] say when there is an effect, and [`any_order`] that files may be
+//!   applied in any order (`specs/Premises.antt`, `Checks.antt`, `Files.antt`).
+//! - [`level_orders`] and [`files_order`] say when the graph can be ordered after the effects
+//!   (`specs/Numbering.antt`).
+//! - [`one_listing`], [`listing_or_fault`] and [`one_listing_fault`] say that a text either lists
+//!   one list of edges or has one fault. [`listing_lines`] says the same of a line, and
+//!   [`written_listing`] that the text of a graph reads back (`specs/ListingReading.antt`,
+//!   `ListingLaws.antt`).
 //!
-//! What a contract sees of a graph is the list of its edges, and of a path its canonical text.
-//! Definitions that only private clauses speak of are in `specs/inner/`.
+//! The view of a graph is the list of its edges, and the view of a path is its canonical string.
+//! Definitions that only private clauses use are in `specs/inner/`.
 //!
 //! # How it works
 //!
-//! - Each file that an edge makes is put once into an `indexmap` table of its maker (`makers.rt`),
-//!   in which the edge of a statement, the maker of an input and a second maker of an added output
-//!   are found. So the work is linear in the files of the graph and of the statements.
-//! - Tables hash under a key of `table_keys` that is made of the files that they will hold, so that
+//! - `makers.rt`: a table has the edge that makes each file. The edge of a statement, the edges that
+//!   produce an input, and an added output that an edge already makes are found in it. So the work is
+//!   linear in the files of the graph and of the statements.
+//! - Tables hash under a key of `table_keys`, which is made of the files that they will hold. So
 //!   nobody can choose paths that collide.
-//! - The checks are functions of their own, made in the order of their faults (`all_checks.rt`):
-//!   `canonical_statements` (E8), `edges_of_statements` (E5), `statements_of_edges` (E4),
-//!   `check_mentioned` (E6), `check_added` (E7). `edges_of_statements` and `statements_of_edges`
-//!   give the edge of each statement and the statement on each edge, and `extended_edges` makes the
-//!   new edges of them. That these are the effect is the law [`checks`], which [`apply`] calls.
-//! - [`edge_order`] gives `dep_order` the makers of each edge's inputs, and carries its answer over
-//!   to `EdgeNeeds` (`needs.rt`).
-//! - The law [`files_order`] puts two numberings together by `layered` of `dep_order`: that of the
-//!   graph with the added outputs alone, and within one level that of what is added.
+//! - `all_checks.rt`: the checks of [`apply`], in the order of their errors: `canonical_statements`
+//!   (E8), `edges_of_statements` (E5), `statements_of_edges` (E4), `check_mentioned` (E6),
+//!   `check_added` (E7). `extended_edges` then makes the new edges. The law [`checks`], which
+//!   [`apply`] calls, says that they are the effect.
+//! - `needs.rt`: [`edge_order`] gives `dep_order` the edges that produce each edge's inputs.
+//! - The law [`files_order`] combines two numberings by `layered` of `dep_order`: the levels of the
+//!   graph with the added outputs alone, and within one level the order of what is added.
 //!
-//! It uses `ninja_text` for paths and lines, `dyndep_file` for statements, `dep_order` for
-//! orders and cycles, `indexmap` for look-ups, and `thiserror` for its fault types.
+//! It uses `ninja_text` for paths and lines, `dyndep_file` for statements, `dep_order` for orders and
+//! cycles, `table_keys` and `indexmap` for tables, and `thiserror` for its fault types.
 #![tactic(auto)]
 
 mod addition;

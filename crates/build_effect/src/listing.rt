@@ -1,5 +1,5 @@
-//! Edge listings: the reader, by the rows that lines have (`rows.rt`) and what each does to the edges
-//! so far (`state.rt`), and the writer, which first counts how long its text is (`lengths.rt`).
+//! Edge listings: the reader (`reader.rt`), the rows that its lines have (`rows.rt`), what each row
+//! does to the edges so far (`state.rt`), and the writer (`writing.rt`).
 
 mod reader;
 mod rows;

@@ -9,14 +9,14 @@ use ninja_text::Path;
 use std::alloc::{AllocError, Global};
 use table_keys::TableKey;
 
-/// The edge that makes each file, by its index.
+/// A table of the edge that makes each file, by the edge's index.
 #[derive(Drop)]
 pub(crate) struct Makers<'t> {
     table: IndexMap<&'t Path, usize, TableKey>,
 }
 
 impl<'t> Makers<'t> {
-    /// The makers of the files that these edges make.
+    /// Returns the table of the files that these edges make.
     pub(crate) fn of(alloc: Global, edges: &'t [Edge]) -> Result<Self, AllocError>
         ensures { IfOk result (λ makers. AreMakers edges.now (maker_in makers.table)) }
     {
@@ -26,7 +26,7 @@ impl<'t> Makers<'t> {
         Ok(Makers { table })
     }
 
-    /// The edge that makes the file, if one does.
+    /// Returns the index of the edge that makes the file.
     pub(crate) fn maker_of(&self, file: &Path) -> Option<usize>
         ensures { result ≡ maker_in self.now.table file.now }
     {
@@ -34,7 +34,7 @@ impl<'t> Makers<'t> {
     }
 }
 
-/// Puts each edge into the empty table for the files that it makes.
+/// Adds each edge to the empty table, under the files that it makes.
 fn add_edges<'t>(
     edges: &'t [Edge],
     makers: &mut IndexMap<&'t Path, usize, TableKey>,
@@ -49,7 +49,7 @@ fn add_edges<'t>(
     Ok(())
 }
 
-/// Puts the edge into the table for these files.
+/// Adds the edge to the table under these files.
 fn add_files<'t>(
     files: &'t [Path],
     edge_index: usize,

@@ -27,7 +27,7 @@ pub fn edge_order(alloc: Global, graph: &Graph) -> Result<Sorting, AllocError>
     order(alloc, &digraph)
 }
 
-/// The makers of each edge's inputs, which the table has.
+/// Returns for each edge the edges that produce its inputs.
 fn needs_in(
     alloc: Global,
     edges: &[Edge],
@@ -43,7 +43,7 @@ fn needs_in(
     Ok(needs)
 }
 
-/// The makers of the edge's inputs of all kinds.
+/// Returns the edges that produce this edge's inputs of all kinds.
 fn edge_needs(alloc: Global, edge: &Edge, makers: &Makers<'_>) -> Result<Vec<usize>, AllocError>
     ensures { IfOk result (λ row. row.items ≡ makers_row (maker_in makers.now.table) edge.now) }
 {
@@ -54,7 +54,7 @@ fn edge_needs(alloc: Global, edge: &Edge, makers: &Makers<'_>) -> Result<Vec<usi
     Ok(row)
 }
 
-/// Appends the makers of those files that an edge makes.
+/// Appends the edges that produce these files. A source file has none.
 fn add_makers(files: &[Path], makers: &Makers<'_>, row: &mut Vec<usize>) -> Result<(), AllocError>
     ensures { OnOk result
         (row.new.items ≡ row.old.items ++ filter_map (maker_in makers.now.table) files.now) }

@@ -13,9 +13,9 @@ use crate::makers::Makers;
 use ninja_text::{Failure, Path};
 use std::alloc::Global;
 
-/// E5: the edge of each statement, which makes its output and names the file.
+/// Returns the edge of each statement, which makes its output and names the file, or E5.
 ///
-/// Only the maker of the output has to be looked at, since no file is made twice.
+/// No file is made twice, so only the edge that makes the output can be the one.
 pub(crate) fn edges_of_statements(
     alloc: Global,
     edges: &[Edge],
@@ -42,7 +42,7 @@ pub(crate) fn edges_of_statements(
     Ok(edge_of)
 }
 
-/// The edge that makes the output and names the file, if one does.
+/// Returns the edge that makes the output, if that edge names the file.
 fn bound_edge(edges: &[Edge], name: &Path, makers: &Makers<'_>, output: &Path) -> Option<usize>
     requires makers { AreMakers edges.now (maker_in makers.now.table) }
     requires made_once { MadeOnce edges.now }
@@ -61,7 +61,7 @@ fn bound_edge(edges: &[Edge], name: &Path, makers: &Makers<'_>, output: &Path) -
     }
 }
 
-/// Whether the edge's dyndep binding names the file.
+/// Returns whether the edge's dyndep binding names the file.
 fn names(edge: &Edge, name: &Path) -> bool
     ensures { MatchBool result (Names name.now edge.now) (Names name.now edge.now → ⊥) }
 {
@@ -71,8 +71,8 @@ fn names(edge: &Edge, name: &Path) -> bool
     }
 }
 
-/// E4: the statement on each edge, given the edge of each statement. No two statements have the
-/// same edge.
+/// Returns the statement on each edge, given the edge of each statement, or E4 for the first
+/// statement on the edge of an earlier one.
 pub(crate) fn statements_of_edges(
     alloc: Global,
     count: usize,
@@ -97,7 +97,7 @@ pub(crate) fn statements_of_edges(
     Ok(statement_of)
 }
 
-/// E6: each edge that names the file has a statement.
+/// Checks that each edge that names the file has a statement (E6).
 pub(crate) fn check_mentioned(
     alloc: Global,
     edges: &[Edge],

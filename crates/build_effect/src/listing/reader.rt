@@ -1,5 +1,4 @@
-//! The reader of edge listings that come in pieces: lines are read one by one into the edges so
-//! far.
+//! The reader of edge listings that come in pieces. Each line is added to the edges so far.
 ghost use Rattle.std.specs.Prelude.{◌≡◌, ◌++◌, [], Some, Err};
 ghost use Rattle.ninja_text.specs.LineViews.{seen_line};
 ghost use Rattle.build_effect.specs.inner.ListingRows.{ReadsText};
@@ -16,7 +15,7 @@ use std::marker::Model;
 /// Reads an edge listing that comes in pieces: build lines with their bindings `dyndep` and
 /// `restat` (Ninja 1.11 manual, "Build statements"), comments and blank lines.
 ///
-/// A piece may end anywhere, within a continuation or between CR and LF too: the answer is that for
+/// A piece may end anywhere, also within a continuation or between CR and LF. The result is that of
 /// the whole text.
 #[derive(Drop)]
 pub struct ListingReader {
@@ -38,7 +37,7 @@ impl ListingReader {
     ghost use Rattle.build_effect.specs.declared.fault.LineFault.{LineFault};
     ghost use Rattle.ninja_text.specs.declared.failure.Failure.{Failure};
 
-    /// A reader that was fed nothing. It takes no memory yet.
+    /// Returns a reader that was fed nothing. It allocates nothing yet.
     pub fn new(alloc: Global) -> ListingReader
         ensures { HasReadListing [] result }
     {
@@ -135,7 +134,7 @@ impl LineState for ListingState {
     }
 }
 
-/// Reads a line's text: lexical faults first, then its form, then its paths.
+/// Reads a line. Lexical faults are reported first, then its form, then its paths.
 fn read_text(
     alloc: Global,
     state: &mut ListingState,

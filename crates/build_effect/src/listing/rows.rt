@@ -1,4 +1,4 @@
-//! One line of an edge listing: which row of the listing's form it is in, and its texts.
+//! One line of an edge listing: its kind, and the strings in it.
 ghost use Rattle.std.specs.Prelude.{◌≡◌, ◌==◌, ◌&&◌, IfOk, OnOk, codes};
 ghost use Rattle.std.specs.Option.{option_map};
 ghost use Rattle.std.specs.List.{list_all};
@@ -21,7 +21,7 @@ use ninja_text::{Assignment, Failure, Line, Token, TokenKind, Words, assignment,
 use std::alloc::{AllocError, Global};
 use std::marker::Model;
 
-/// What a build line says, with texts where an edge has paths. It has an output.
+/// A build line, with strings in the place of an edge's paths. It has an output.
 #[derive(Drop)]
 pub(crate) struct EdgeTexts {
     pub(crate) rule: Vec<u8>,
@@ -52,7 +52,7 @@ impl Model for EdgeTexts {
     ghost invariant = { λ t. rows t.outputs.items ≢ [] };
 }
 
-/// What a line is, before its paths are looked at.
+/// The kind of a line and the strings in it, before paths are made of them.
 #[derive(Drop)]
 pub(crate) enum Row {
     Comment,
@@ -62,7 +62,7 @@ pub(crate) enum Row {
     Restat(bool),
 }
 
-/// The row of a line, or that it has a lexical fault or no such form.
+/// Returns the row of a line, or its lexical fault, or `Form` if it is in no row.
 pub(crate) fn row_of(alloc: Global, line: Line<'_>) -> Result<Row, Failure<LineCause>>
     ensures { Gives row_value result (line_row (seen_line line.entry)) }
 {
@@ -91,7 +91,7 @@ pub(crate) fn row_of(alloc: Global, line: Line<'_>) -> Result<Row, Failure<LineC
     }
 }
 
-/// The row of an indented line, by its assignment.
+/// Returns the row of an indented line, given its assignment.
 fn binding_row(alloc: Global, assignment: Option<Assignment<'_>>) -> Result<Row, Failure<LineCause>>
     ensures { Gives row_value result (binding_row (option_map seen_assignment assignment.entry)) }
 {
@@ -111,7 +111,8 @@ fn binding_row(alloc: Global, assignment: Option<Assignment<'_>>) -> Result<Row,
     }
 }
 
-/// What the tokens after the keyword `build` say; `None` where they have another form.
+/// Returns the build line whose tokens after the keyword `build` are these. Returns `None` if the
+/// tokens are not a build line.
 fn edge_texts(alloc: Global, words: Words<'_>) -> Result<Option<EdgeTexts>, AllocError>
     ensures { IfOk result (λ texts. texts ≡ edge_texts (symbols_left words.entry)) }
 {
@@ -140,7 +141,7 @@ fn edge_texts(alloc: Global, words: Words<'_>) -> Result<Option<EdgeTexts>, Allo
     }))
 }
 
-/// The values of the words at the front, which are passed over.
+/// Takes the words at the front, and returns their values.
 fn front_words(alloc: Global, tokens: &mut Words<'_>) -> Result<Vec<Vec<u8>>, AllocError>
     ensures words { IfOk result (λ words.
         rows words.items ≡ front_words (symbols_left tokens.old)) }
@@ -155,8 +156,8 @@ fn front_words(alloc: Global, tokens: &mut Words<'_>) -> Result<Vec<Vec<u8>>, Al
     Ok(values)
 }
 
-/// The words of a part that this sign begins, which is passed over, and none where the sign is not
-/// there.
+/// Takes the part that begins with this sign, and returns its words. If the sign is not at the
+/// front, takes nothing and returns no words.
 fn part(alloc: Global, tokens: &mut Words<'_>, sign: TokenKind) -> Result<Vec<Vec<u8>>, AllocError>
     ensures words { IfOk result (λ words.
         rows words.items ≡ words_of_part sign (symbols_left tokens.old)) }
@@ -170,7 +171,7 @@ fn part(alloc: Global, tokens: &mut Words<'_>, sign: TokenKind) -> Result<Vec<Ve
     }
 }
 
-/// Whether the next token is this sign, which is passed over then.
+/// Takes the next token if it is this sign. Returns whether it is.
 fn pass_sign(tokens: &mut Words<'_>, sign: TokenKind) -> bool
     ensures { SignPassed sign (symbols_left tokens.old) result (symbols_left tokens.new) }
 {
@@ -185,7 +186,7 @@ fn pass_sign(tokens: &mut Words<'_>, sign: TokenKind) -> bool
     is_there
 }
 
-/// Whether a token is this sign.
+/// Returns whether a token is this sign.
 fn is_sign(sign: TokenKind, kind: TokenKind) -> bool
     ensures { result ≡ is_sign sign kind }
 {
@@ -197,7 +198,7 @@ fn is_sign(sign: TokenKind, kind: TokenKind) -> bool
     }
 }
 
-/// The next token, if it is a word, which is passed over then.
+/// Takes and returns the next token if it is a word.
 fn next_word<'a>(tokens: &mut Words<'a>) -> Option<Token<'a>>
     ensures { WordPassed (symbols_left tokens.old) (option_map seen_token result)
         (symbols_left tokens.new) }
@@ -213,7 +214,7 @@ fn next_word<'a>(tokens: &mut Words<'a>) -> Option<Token<'a>>
     }
 }
 
-/// Whether a rule may be called so.
+/// Returns whether a rule may have this name.
 fn is_rule_name(name: &[u8]) -> bool
     ensures { result ≡ is_rule_name name.now }
 {
@@ -223,21 +224,21 @@ fn is_rule_name(name: &[u8]) -> bool
     }
 }
 
-/// Whether all bytes may be in the name of a rule.
+/// Returns whether all bytes may be in the name of a rule.
 fn are_name_bytes(bytes: &[u8]) -> bool
     ensures { result ≡ list_all is_identifier_byte bytes.now }
 {
     bytes.iter().all(|b| is_identifier_byte(*b))
 }
 
-/// Whether a byte may be in the name of a rule.
+/// Returns whether a byte may be in the name of a rule.
 fn is_identifier_byte(byte: u8) -> bool
     ensures { result ≡ is_identifier_byte byte }
 {
     byte.is_ascii_alphanumeric() || matches!(byte, b'_' | b'.' | b'-')
 }
 
-/// Whether a line whose first token this is is a build line.
+/// Returns whether a line with this first token is a build line.
 fn begins_build_line(first: Token<'_>) -> bool
     ensures { result ≡ ((seen_token first.entry).start == 0)
         && is_this_word (codes "build") (symbol_of (seen_token first.entry)) }
@@ -245,14 +246,14 @@ fn begins_build_line(first: Token<'_>) -> bool
     first.start() == 0 && first.kind() == TokenKind::Word && is_same(first.raw(), b"build")
 }
 
-/// Whether a line's text is indented.
+/// Returns whether a line is indented.
 fn begins_with_space(text: &[u8]) -> bool
     ensures { result ≡ begins_with_space text.now }
 {
     matches!(text, [b' ', ..])
 }
 
-/// Whether two slices hold the same bytes.
+/// Returns whether two slices hold the same bytes.
 fn is_same(bytes: &[u8], other: &[u8]) -> bool
     ensures { result ≡ same_bytes bytes.now other.now }
 {

@@ -1,4 +1,4 @@
-//! The edges of the lines so far, and what a line of each row does to them.
+//! The edges of the lines so far, and what the next line does to them.
 ghost use Rattle.std.specs.Prelude.{◌≡◌, ◌≢◌, [], IfOk};
 ghost use Rattle.ninja_text.specs.Failure.{Gives};
 ghost use Rattle.build_effect.specs.inner.ListingWalk.{with_last_dyndep, with_last_restat, edge_paths, paths_of};
@@ -15,13 +15,13 @@ use std::marker::Model;
 /// Which bindings may still come for the last edge.
 #[derive(Clone, Copy)]
 pub(crate) enum Binding {
-    /// None: no edge is open.
+    /// No binding: no edge is open.
     Closed,
-    /// Those that have not come: whether `dyndep` has, and whether `restat` has.
+    /// Each binding that has not come yet: whether `dyndep` has come, and whether `restat` has.
     Open(bool, bool),
 }
 
-/// The edges so far, each with an output, and which bindings may come.
+/// The edges so far, each with an output, and the bindings that may still come.
 #[derive(Drop)]
 pub(crate) struct ListingState {
     pub(crate) edges: Vec<Edge>,
@@ -40,7 +40,7 @@ impl Model for ListingState {
     ghost invariant = { λ s. All (λ e. e.outputs ≢ []) s.edges.items };
 }
 
-/// A line of this row: its form is looked at first, and then its paths.
+/// Takes a line of this row. `Form` is reported before a path that is not valid.
 pub(crate) fn take_row(
     alloc: Global,
     state: &mut ListingState,
@@ -60,7 +60,7 @@ pub(crate) fn take_row(
     }
 }
 
-/// A build line opens an edge.
+/// Takes a build line, which opens an edge.
 fn build_row(
     alloc: Global,
     state: &mut ListingState,
@@ -79,7 +79,7 @@ fn build_row(
     }
 }
 
-/// A binding of `dyndep`, once for each edge.
+/// Takes a binding of `dyndep`. An edge has at most one.
 fn dyndep_row(
     alloc: Global,
     state: &mut ListingState,
@@ -102,7 +102,7 @@ fn dyndep_row(
     }
 }
 
-/// A binding of `restat`, once for each edge.
+/// Takes a binding of `restat`. An edge has at most one.
 fn restat_row(state: &mut ListingState, flag: bool) -> Result<(), Failure<LineCause>>
     ensures { TakesRow state.old (row_value (Row.Restat flag)) result state.new }
 {
@@ -116,7 +116,7 @@ fn restat_row(state: &mut ListingState, flag: bool) -> Result<(), Failure<LineCa
     }
 }
 
-/// Names the dyndep file of the last edge.
+/// Sets the dyndep file of the last edge.
 fn set_last_dyndep(edges: &mut Vec<Edge>, path: Path)
     ensures { edges.new.items ≡ with_last_dyndep path edges.old.items }
 {
@@ -134,7 +134,8 @@ fn set_last_restat(edges: &mut Vec<Edge>, flag: bool)
     }
 }
 
-/// The edge of a build line, without bindings, or the fault of its first text that is no path.
+/// Returns the edge of a build line, without bindings, or the error of its first string that is not
+/// a valid path.
 fn edge_of(alloc: Global, texts: EdgeTexts) -> Result<Edge, Failure<PathFault>>
     ensures edge { GivesEdge result (edge_paths texts) }
     ensures outputs { IfOk result (λ edge. edge.outputs ≢ []) }
@@ -164,7 +165,7 @@ fn edge_of(alloc: Global, texts: EdgeTexts) -> Result<Edge, Failure<PathFault>>
     })
 }
 
-/// The paths of texts, or the fault of the first that is none.
+/// Returns the paths of these strings, or the error of the first one that is not a valid path.
 fn paths_of(alloc: Global, texts: &[Vec<u8>]) -> Result<Vec<Path>, Failure<PathFault>>
     ensures { Gives (λ paths. paths.items) result (paths_of (rows texts.now)) }
 {

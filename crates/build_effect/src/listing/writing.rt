@@ -79,7 +79,7 @@ fn push_line(text: &mut Vec<u8>, edge: &Edge) -> Result<(), AllocError>
     text.extend_from_slice(b"\n")
 }
 
-/// Appends a word, and the explicit and implicit paths after it on its side of the colon.
+/// Appends one side of the colon: a word, the explicit paths and the implicit paths.
 fn push_side(
     text: &mut Vec<u8>,
     word: &[u8],
@@ -94,7 +94,7 @@ fn push_side(
     push_part(text, b" |", implicit)
 }
 
-/// Appends the line of the binding `dyndep`, where there is one.
+/// Appends the line of the binding `dyndep`, if the edge has one.
 fn push_dyndep(text: &mut Vec<u8>, dyndep: &Option<Path>) -> Result<(), AllocError>
     ensures { OnOk result (text.new.items ≡ text.old.items ++ dyndep_line dyndep.now) }
 {
@@ -108,7 +108,7 @@ fn push_dyndep(text: &mut Vec<u8>, dyndep: &Option<Path>) -> Result<(), AllocErr
     }
 }
 
-/// Appends the line of the binding `restat`, where it is on.
+/// Appends the line of the binding `restat`, if it is on.
 fn push_restat(text: &mut Vec<u8>, restat: bool) -> Result<(), AllocError>
     ensures { OnOk result (text.new.items ≡ text.old.items ++ restat_line restat) }
 {
@@ -119,7 +119,7 @@ fn push_restat(text: &mut Vec<u8>, restat: bool) -> Result<(), AllocError>
     }
 }
 
-/// Appends the mark and each path after a space, where there are any.
+/// Appends the mark and each path after a space, if there are paths.
 fn push_part(text: &mut Vec<u8>, mark: &[u8], paths: &[Path]) -> Result<(), AllocError>
     ensures { OnOk result (text.new.items ≡ text.old.items ++ marked_text mark.now paths.now) }
 {
