@@ -1,5 +1,5 @@
 //! Which edge makes which file.
-ghost use Rattle.std.specs.Prelude.{◌≡◌, [], IfOk, OnOk};
+ghost use Rattle.std.specs.Prelude.{◌≡◌, IfOk, OnOk};
 ghost use Rattle.build_effect.specs.inner.Makers.{maker_in, AreMakers, AreAdded};
 
 use crate::edge::Edge;
@@ -21,8 +21,11 @@ impl<'t> Makers<'t> {
         ensures { IfOk result (λ makers. AreMakers edges.now (maker_in makers.table)) }
     {
         let files = made_files(alloc, edges)?;
-        let mut table = IndexMap::with_hasher(alloc, table_key(&files));
-        add_edges(edges, &mut table)?;
+        let mut table = IndexMap::with_hasher(alloc, table_key(files.as_slice()));
+        for (edge_index, edge) in edges.iter().enumerate() {
+            add_files(&edge.outputs, edge_index, &mut table)?;
+            add_files(&edge.implicit_outputs, edge_index, &mut table)?;
+        }
         Ok(Makers { table })
     }
 
@@ -32,21 +35,6 @@ impl<'t> Makers<'t> {
     {
         self.table.get(&file).copied()
     }
-}
-
-/// Adds each edge to the empty table, under the files that it makes.
-fn add_edges<'t>(
-    edges: &'t [Edge],
-    makers: &mut IndexMap<&'t Path, usize, TableKey>,
-) -> Result<(), AllocError>
-    requires { AreMakers [] (maker_in makers.old) }
-    ensures { OnOk result (AreMakers edges.now (maker_in makers.new)) }
-{
-    for (edge_index, edge) in edges.iter().enumerate() {
-        add_files(&edge.outputs, edge_index, makers)?;
-        add_files(&edge.implicit_outputs, edge_index, makers)?;
-    }
-    Ok(())
 }
 
 /// Adds the edge to the table under these files.

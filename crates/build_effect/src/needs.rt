@@ -1,7 +1,6 @@
 //! Which edges need which, and the order of edges.
-ghost use Rattle.std.specs.Prelude.{◌≡◌, ◌++◌, length, map, IfOk, OnOk};
+ghost use Rattle.std.specs.Prelude.{◌≡◌, ◌++◌, length, IfOk, OnOk};
 ghost use Rattle.std.specs.List.{filter_map};
-ghost use Rattle.dep_order.specs.Rows.{rows};
 ghost use Rattle.dep_order.specs.Sortings.{IsSortingOf};
 ghost use Rattle.build_effect.specs.Graphs.{EdgeNeeds};
 ghost use Rattle.build_effect.specs.inner.Makers.{maker_in, makers_row, AreMakers};
@@ -23,24 +22,12 @@ pub fn edge_order(alloc: Global, graph: &Graph) -> Result<Sorting, AllocError>
 {
     let edges = graph.edges();
     let makers = Makers::of(alloc, edges)?;
-    let digraph = Digraph::new(needs_in(alloc, edges, &makers)?);
-    order(alloc, &digraph)
-}
-
-/// Returns for each edge the edges that produce its inputs.
-fn needs_in(
-    alloc: Global,
-    edges: &[Edge],
-    makers: &Makers<'_>,
-) -> Result<Vec<Vec<usize>>, AllocError>
-    ensures { IfOk result
-        (λ needs. rows needs.items ≡ map (makers_row (maker_in makers.now.table)) edges.now) }
-{
     let mut needs = Vec::with_capacity(alloc, edges.len())?;
     for edge in edges {
-        needs.push(edge_needs(alloc, edge, makers)?)?;
+        needs.push(edge_needs(alloc, edge, &makers)?)?;
     }
-    Ok(needs)
+    let digraph = Digraph::new(needs);
+    order(alloc, &digraph)
 }
 
 /// Returns the edges that produce this edge's inputs of all kinds.

@@ -1,13 +1,10 @@
 //! The reader of edge listings that come in pieces. Each line is added to the edges so far.
 ghost use Rattle.std.specs.Prelude.{◌≡◌, ◌++◌, [], Some, Err};
-ghost use Rattle.ninja_text.specs.LineViews.{seen_line};
-ghost use Rattle.build_effect.specs.inner.ListingRows.{ReadsText};
 ghost use Rattle.build_effect.specs.ListingReaders.{line_failure};
 
 use crate::fault::{LineCause, LineFault, ListFault};
 use crate::graph::Graph;
-use crate::listing::rows::row_of;
-use crate::listing::state::{Binding, ListingState, take_row};
+use crate::listing::state::{Binding, ListingState, take_line};
 use ninja_text::{CutFault, Failure, Line, LineReader, LineState};
 use std::alloc::Global;
 use std::marker::Model;
@@ -110,7 +107,7 @@ impl LineState for ListingState {
     ghost of_cutter = { fault_of_cutter };
 
     fn read_line(&mut self, alloc: Global, line: Line<'_>) -> Result<(), Failure<LineFault>> {
-        match read_text(alloc, self, line) {
+        match take_line(alloc, self, line) {
             Ok(()) => Ok(()),
             Err(Failure::Memory) => Err(Failure::Memory),
             Err(Failure::Fault(cause)) => Err(Failure::Fault(LineFault {
@@ -132,16 +129,4 @@ impl LineState for ListingState {
             },
         }
     }
-}
-
-/// Reads a line. Lexical faults are reported first, then its form, then its paths.
-fn read_text(
-    alloc: Global,
-    state: &mut ListingState,
-    line: Line<'_>,
-) -> Result<(), Failure<LineCause>>
-    ensures { ReadsText state.old (seen_line line.entry) result state.new }
-{
-    let row = row_of(alloc, line)?;
-    take_row(alloc, state, row)
 }

@@ -1,14 +1,15 @@
 //! The edges of the lines so far, and what the next line does to them.
 ghost use Rattle.std.specs.Prelude.{◌≡◌, ◌≢◌, [], IfOk};
 ghost use Rattle.ninja_text.specs.Failure.{Gives};
+ghost use Rattle.ninja_text.specs.LineViews.{seen_line};
 ghost use Rattle.build_effect.specs.inner.ListingWalk.{with_last_dyndep, with_last_restat, edge_paths, paths_of};
-ghost use Rattle.build_effect.specs.inner.ListingRows.{TakesRow, row_value, GivesEdge};
+ghost use Rattle.build_effect.specs.inner.ListingRows.{TakesRow, ReadsText, row_value, GivesEdge};
 ghost use Rattle.dep_order.specs.Rows.{rows};
 
 use crate::edge::Edge;
 use crate::fault::LineCause;
-use crate::listing::rows::{EdgeTexts, Row};
-use ninja_text::{Failure, Path, PathFault};
+use crate::listing::rows::{EdgeTexts, Row, row_of};
+use ninja_text::{Failure, Line, Path, PathFault};
 use std::alloc::Global;
 use std::marker::Model;
 
@@ -40,15 +41,15 @@ impl Model for ListingState {
     ghost invariant = { λ s. All (λ e. e.outputs ≢ []) s.edges.items };
 }
 
-/// Takes a line of this row. `Form` is reported before a path that is not valid.
-pub(crate) fn take_row(
+/// Takes the next line. Lexical faults are reported first, then the line's form, then its paths.
+pub(crate) fn take_line(
     alloc: Global,
     state: &mut ListingState,
-    row: Row,
+    line: Line<'_>,
 ) -> Result<(), Failure<LineCause>>
-    ensures { TakesRow state.old (row_value row) result state.new }
+    ensures { ReadsText state.old (seen_line line.entry) result state.new }
 {
-    match row {
+    match row_of(alloc, line)? {
         Row::Comment => Ok(()),
         Row::Blank => {
             state.binding = Binding::Closed;

@@ -1,4 +1,7 @@
-use Rattle.std.proofs.Common.{◌≡◌, ◌∙◌, List, ℕ, length, map, ap, sym, subst}
+use Rattle.std.proofs.Common.{◌≡◌, ◌∙◌, List, Vec, ℕ, length, map, ap, refl, sym, subst}
+use Rattle.std.specs.declared.alloc.Global.{Global}
+use Rattle.std.proofs.lemmas.List.{take_all}
+use Rattle.std.proofs.lemmas.Option.{slice_get_read}
 use Rattle.std.proofs.lemmas.Result.{IfOk-weaker}
 use Rattle.dep_order.specs.Needs.{NodeNeeds, NeedsAreNodes}
 use Rattle.dep_order.specs.Rows.{rows}
@@ -6,15 +9,26 @@ use Rattle.dep_order.specs.Sortings.{IsSortingOf}
 use Rattle.build_effect.specs.EdgeValue.{EdgeValue}
 use Rattle.build_effect.specs.Graphs.{EdgeNeeds}
 use Rattle.build_effect.specs.inner.Makers.{maker_in, makers_row, AreMakers}
-use Rattle.build_effect.proofs.EdgeSorting.{sorting_of, are_nodes}
+use Rattle.build_effect.proofs.EdgeSorting.{mapped_next, sorting_of, are_nodes}
 use Rattle.build_effect.proofs.needs.edge_order.Goals as goal
+
+pub loop-edge-preserved : goal.loop-edge-preserved
+loop-edge-preserved c =
+    let edges = c.edges-edges.result.now in
+    let i = c.loop-edge.edge-index in
+    let edge : EdgeValue = c.edge-item.result in
+    let at = slice_get_read edges _ i edge refl c.loop-edge-test.true c.edge-item.is in
+    mapped_next (λ (row : Vec ℕ Global). row.items) (makers_row (maker_in c.in_ok-makers.makers.table)) edges i edge c.loop-edge.needs.items c.push.new.self.items c.in_ok-edge_needs.field-0 at c.loop-edge.invariant c.in_ok-push.ensures.items c.in_ok-edge_needs.ensures
+
+pub loop-edge-init : goal.loop-edge-init
+loop-edge-init c = ap rows c.in_ok-needs.ensures.items
 
 pub new-digraph-requires : goal.new-digraph-requires
 new-digraph-requires c =
     let g : List EdgeValue = c.args.graph.now in
     let maker = maker_in c.in_ok-makers.makers.table in
     let are : AreMakers g maker = subst (λ es. AreMakers es maker) c.edges-edges.ensures.edges c.in_ok-makers.ensures in
-    let needs : rows c.in_ok-needs_in.field-0.items ≡ map (makers_row maker) g = c.in_ok-needs_in.ensures ∙ ap (map (makers_row maker)) c.edges-edges.ensures.edges in
+    let needs : rows c.loop-edge.needs.items ≡ map (makers_row maker) g = c.loop-edge.invariant ∙ ap (map (makers_row maker)) (take_all c.loop-edge.edge-index c.edges-edges.result.now c.loop-edge-test.false ∙ c.edges-edges.ensures.edges) in
     subst NeedsAreNodes (sym needs) (are_nodes g maker c.edges-edges.ensures.graph.made_once are)
 
 pub returns : goal.returns
@@ -22,7 +36,7 @@ returns c =
     let g : List EdgeValue = c.args.graph.now in
     let maker = maker_in c.in_ok-makers.makers.table in
     let are : AreMakers g maker = subst (λ es. AreMakers es maker) c.edges-edges.ensures.edges c.in_ok-makers.ensures in
-    let needs : rows c.in_ok-needs_in.field-0.items ≡ map (makers_row maker) g = c.in_ok-needs_in.ensures ∙ ap (map (makers_row maker)) c.edges-edges.ensures.edges in
+    let needs : rows c.loop-edge.needs.items ≡ map (makers_row maker) g = c.loop-edge.invariant ∙ ap (map (makers_row maker)) (take_all c.loop-edge.edge-index c.edges-edges.result.now c.loop-edge-test.false ∙ c.edges-edges.ensures.edges) in
     let digraph : List (List ℕ) = c.new-digraph.result in
     IfOk-weaker c.order.result (IsSortingOf (length digraph) (NodeNeeds digraph)) (IsSortingOf (length g) (EdgeNeeds g))
     (λ sorting sorted. sorting_of g maker c.edges-edges.ensures.graph.made_once are digraph sorting (c.new-digraph.ensures ∙ needs) sorted) c.order.ensures

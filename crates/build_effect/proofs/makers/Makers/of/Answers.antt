@@ -4,14 +4,14 @@ use Rattle.std.proofs.lemmas.Option.{slice_get_read}
 use Rattle.build_effect.specs.EdgeValue.{EdgeValue}
 use Rattle.build_effect.specs.inner.Makers.{maker_in, AreMakers, AreAdded}
 use Rattle.build_effect.proofs.MakerTables.{more_added, makers_next}
-use Rattle.build_effect.proofs.makers.add_edges.Goals as goal
+use Rattle.build_effect.proofs.makers.Makers.of.Goals as goal
 
 pub loop-edge_index-preserved : goal.loop-edge_index-preserved
 loop-edge_index-preserved c =
     let edges = c.args.edges.now in
     let i = c.loop-edge_index.edge_index in
     let edge : EdgeValue = c.index-edges-edge_index.result in
-    let before = maker_in c.loop-edge_index.makers in
+    let before = maker_in c.loop-edge_index.table in
     let between = maker_in c.add_files.new.makers in
     let after = maker_in c.add_files-in-loop-edge_index.new.makers in
     let outputs : c.deref.result.now ≡ edge.outputs = c.deref.ensures.value ∙ ap (λ (e : EdgeValue). e.outputs) c.edge.view_is in
@@ -22,4 +22,4 @@ loop-edge_index-preserved c =
     (more_added edge.outputs edge.implicit_outputs i before between after xs ys)
 
 pub returns : goal.returns
-returns c = subst (λ es. AreMakers es (maker_in c.loop-edge_index.makers)) (take_all c.loop-edge_index.edge_index c.args.edges.now c.loop-edge_index-test.false) c.loop-edge_index.invariant
+returns c = subst (λ es. AreMakers es (maker_in c.loop-edge_index.table)) (take_all c.loop-edge_index.edge_index c.args.edges.now c.loop-edge_index-test.false) c.loop-edge_index.invariant
