@@ -1,4 +1,4 @@
--- How faults are printed: code and name, and of a text that is no path where it is and why.
+-- How faults are printed: code and name; for an invalid path also its index and its own fault.
 use Rattle.std.specs.Prelude.{◌++◌, Option, Some, None, codes}
 use Rattle.std.specs.Fmt.{decimal}
 use Rattle.ninja_text.specs.Bytes.{Text, PathText}
@@ -18,8 +18,8 @@ abbrev pub graph_fault_path : GraphFault → PathText
 graph_fault_path (ProducedTwice path) = path
 graph_fault_path (DyndepNotInput edge output) = output
 
--- why a dyndep file has no effect; a text that is no path has its statement's index, its own in the
--- statement, and a cause
+-- why a dyndep file has no effect; an invalid path has the index of its statement, its own index in
+-- the statement, and its fault
 abbrev pub effect_fault_text : EffectFault → Text
 effect_fault_text (BadPath statement path cause) =
     codes "E8 BadPath statement " ++ decimal statement ++ codes " path " ++ decimal path
@@ -29,7 +29,7 @@ effect_fault_text (StatementTwice output) = codes "E4 StatementTwice"
 effect_fault_text (NotMentioned output) = codes "E6 NotMentioned"
 effect_fault_text (AddedTwice path) = codes "E7 AddedTwice"
 
--- the file that is reported with it, but for a text that is no path
+-- the file that is reported with it; an invalid path has none
 abbrev pub effect_fault_path : EffectFault → Option PathText
 effect_fault_path (BadPath statement path fault) = None
 effect_fault_path (NotBound output) = Some output

@@ -26,10 +26,10 @@ StandsBefore files k file = (j : ℕ) × (j < k) × (slice_get files j ≡ Some 
 abbrev pub NamesUnread : EdgeValue → Type 0
 NamesUnread e = (file : PathText) × Names file e × (HasInput e file → ⊥)
 
--- the fault that keeps a list of edges from being a graph; the second is looked for only where the
--- first is not there
+-- the fault that keeps a list of edges from being a graph; the second is reported only if the first
+-- is not there
 abbrev pub IsGraphFault : List EdgeValue → GraphFault → Type 0
--- the first file that is made once more
+-- the first file that is made a second time
 IsGraphFault g (ProducedTwice file) =
     (k : ℕ) × IsFirstAt (StandsBefore (made_files g)) (made_files g) k file
 -- the first edge that names a dyndep file which is none of its inputs, with its first output
@@ -41,11 +41,11 @@ IsGraphFault g (DyndepNotInput i output) =
 abbrev pub path_texts : StatementValue → List PathText
 path_texts s = s.output ∷ s.implicit_outputs ++ s.implicit_inputs
 
--- the text is no path
+-- the string is not a valid path
 abbrev pub IsNoPath : Text → Type 0
 IsNoPath text = (fault : PathFault) × (path_of text ≡ Err fault)
 
--- one of the statement's texts is no path
+-- one of the statement's strings is not a valid path
 abbrev pub HasRefused : StatementValue → Type 0
 HasRefused s = (j : ℕ) × (text : Text) × (slice_get (path_texts s) j ≡ Some text) × IsNoPath text
 
@@ -84,9 +84,9 @@ NoneMadeBefore g additions =
     (k : ℕ) (file : PathText) → slice_get (added_outputs additions) k ≡ Some file →
     IsMadeBefore g (added_outputs additions) k file → ⊥
 
--- the fault that is reported: each is looked for only where none of those above it is there
+-- the fault that is reported: each is reported only if none of those above it is there
 abbrev pub IsEffectFault : List EdgeValue → PathText → List StatementValue → EffectFault → Type 0
--- the first statement with a text that is no path, and in it the first such text
+-- the first statement with an invalid path, and in it the first such string
 IsEffectFault g name statements (BadPath k j fault) =
     (s : StatementValue) × (text : Text) × IsFirst HasRefused statements k s
     × IsFirst IsNoPath (path_texts s) j text × (path_of text ≡ Err fault)

@@ -1,5 +1,5 @@
--- How the faults of an edge listing are printed: the line, the code and the name, and why a text is
--- no path.
+-- How the faults of an edge listing are printed: the line, the code and the name, and why a path is
+-- not valid.
 use Rattle.std.specs.Prelude.{◌++◌, codes}
 use Rattle.std.specs.Fmt.{decimal}
 use Rattle.ninja_text.specs.Bytes.{Text}

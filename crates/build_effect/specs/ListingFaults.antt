@@ -21,7 +21,7 @@ path_texts (BuildRow t) =
 path_texts (DyndepRow text) = text ∷ []
 path_texts (RestatRow flag) = []
 
--- The first of these texts that is no path is none for this reason.
+-- The first of these strings that is not a valid path has this fault.
 pub record IsFirstRefused (texts : List Text) (fault : PathFault) : Type 0 where
   pub before : List Text
   pub text : Text
@@ -45,7 +45,7 @@ MayStand classes row = BeginsListing (classes ++ as_class row ∷ [])
 
 -- The cause of a line after lines of these classes, by its text without the end, and by whether it
 -- is a comment: its first lexical fault; or it has none, and is of no row that may come here; or
--- it is of one, and the first of its texts that is no path is none for this reason.
+-- it is of one, and the first of its strings that is not a valid path has this fault.
 abbrev pub IsTextCause : List ListingClass → Text → Bool → LineCause → Type 0
 IsTextCause classes text comment (Lexical fault) =
     (comment ≡ false) × (lexical_fault text ≡ Some fault)

@@ -1,4 +1,4 @@
--- What a reader of edge listings answers, by all bytes that it was fed, however they were cut into
+-- What a reader of edge listings returns, by all bytes that it was fed, however they were cut into
 -- pieces.
 use Rattle.std.specs.Prelude.{◌≡◌, ◌⊎◌, List, Some, Result, Ok, Err}
 use Rattle.ninja_text.specs.Bytes.{Bytes}

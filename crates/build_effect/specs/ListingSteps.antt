@@ -10,7 +10,7 @@ pub record ListingValue : Type 0 where
   pub edges : List EdgeValue
   pub binding : Binding
 
--- what a line leaves open, where these bindings were open before it
+-- the bindings that a line leaves open, if these were open before it
 abbrev pub left_open : Binding → ListingClass → Binding
 left_open binding Comment = binding
 left_open binding Blank = Closed

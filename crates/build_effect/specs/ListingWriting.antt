@@ -1,5 +1,5 @@
 -- The text of an edge listing (Ninja 1.11 manual, "Build statements"), and what a call that writes
--- it answers and leaves.
+-- it returns and leaves.
 use Rattle.std.specs.Prelude.{◌≡◌, ℕ, ◌+◌, Bool, if◌then◌else◌, nat_lt, List, [], ◌∷◌, ◌++◌, length, codes, Option, Some, None, Result, Ok, Err, ⊤}
 use Rattle.std.specs.List.{flat_map}
 use Rattle.ninja_text.specs.Bytes.{Bytes, Text, PathText, line_feed}
@@ -14,7 +14,7 @@ use Rattle.build_effect.specs.EdgeValue.{EdgeValue}
 use Rattle.build_effect.specs.declared.fault.ListingWriteFault.{ListingWriteFault}
 use Rattle.build_effect.specs.declared.fault.ListingWriteFault.TheVariants.{ListingTooLong, Io}
 
--- the mark and each path after a space, where there are any
+-- the mark and each path after a space, if there are paths
 abbrev pub marked_text : Text → List PathText → Text
 marked_text mark [] = []
 marked_text mark (path ∷ paths) = mark ++ flat_map spaced (path ∷ paths)
@@ -53,7 +53,7 @@ listing_text edges = flat_map edge_text edges
 abbrev pub is_too_long : EdgeValue → Bool
 is_too_long e = nat_lt line_limit (length (edge_line e))
 
--- the index of the first edge whose build line does, where the first of the list has this one
+-- the index of the first edge whose build line does, if the first edge of the list has this index
 abbrev pub too_long_from : ℕ → List EdgeValue → Option ℕ
 too_long_from index [] = None
 too_long_from index (e ∷ es) = if is_too_long e then Some index else too_long_from (index + 1) es
@@ -88,7 +88,7 @@ WritesListingInTurn writes old new text (Err (Fault (ListingTooLong edge))) = ne
 WritesListingInTurn writes old new text (Err (Fault (Io written))) =
     IsStoppedInTurn writes old new text written
 
--- memory and the writer aside, a call answers the first edge whose build line is too long, if any
+-- if neither memory nor the writer fails, a call reports the first edge whose build line is too long
 abbrev pub AnswersTooLong : {T : Type 0} → Option ℕ → Result T (Failure ListingWriteFault) → Type 0
 AnswersTooLong edge (Ok done) = edge ≡ None
 AnswersTooLong edge (Err Memory) = ⊤

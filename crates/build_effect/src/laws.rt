@@ -66,7 +66,7 @@ pub fn one_listing_fault()
 {}
 
 /// A line has at most one class, and at most one cause for which it is rejected. After lines with
-/// which some listing begins, a line either has a class with which a listing goes on or has a cause,
+/// which some listing begins, a line either has a class with which a listing continues or has a cause,
 /// and not both. A line whose cause is not `Form` has no class.
 pub fn listing_lines()
     ensures class { OneClass }

@@ -1,4 +1,4 @@
--- Which text of statements is reported that is no path.
+-- Which string of the statements is reported as an invalid path.
 use Rattle.std.specs.Prelude.{◌≡◌, ℕ, ◌+◌, List, Err}
 use Rattle.ninja_text.specs.Paths.{path_of}
 use Rattle.ninja_text.specs.declared.fault.PathFault.{PathFault}
@@ -8,24 +8,24 @@ use Rattle.build_effect.specs.Faults.{path_texts, IsNoPath, HasRefused}
 use Rattle.build_effect.specs.declared.fault.EffectFault.{EffectFault}
 use Rattle.build_effect.specs.declared.fault.EffectFault.TheVariants.{BadPath}
 
--- the text is no path, and the fault reports it with these indices of the statement and of the text
+-- the string is not a valid path, and the fault has these indices of the statement and of the string
 -- in it
 abbrev pub IsBadText : List ℕ → ℕ → ℕ → EffectFault → Type 0
 IsBadText text k j fault =
     (cause : PathFault) × (path_of text ≡ Err cause) × (fault ≡ BadPath k j cause)
 
--- the fault reports the first of these texts that is no path; the first of them has the index
+-- the fault reports the first of these strings that is not a valid path; their indexes start here
 -- `from` in its statement
 abbrev pub IsBadTextFrom : List (List ℕ) → ℕ → ℕ → EffectFault → Type 0
 IsBadTextFrom texts k from fault =
     (j : ℕ) × (text : List ℕ) × IsFirst IsNoPath texts j text
     × IsBadText text k (from + j) fault
 
--- the fault reports the first of the statement's texts that is no path
+-- the fault reports the first string of the statement that is not a valid path
 abbrev pub IsBadTextOf : StatementValue → ℕ → EffectFault → Type 0
 IsBadTextOf s k fault = IsBadTextFrom (path_texts s) k 0 fault
 
--- the fault reports the first statement with a text that is no path, and in it the first such text
+-- the fault reports the first statement with an invalid path, and in it the first such string
 abbrev pub IsBadStatement : List StatementValue → EffectFault → Type 0
 IsBadStatement statements fault =
     (k : ℕ) × (s : StatementValue) × IsFirst HasRefused statements k s

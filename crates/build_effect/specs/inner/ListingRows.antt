@@ -1,4 +1,4 @@
--- What the parts of reading a line of an edge listing answer, by the symbols before and after.
+-- What the steps of reading a line of an edge listing return, by the symbols before and after.
 use Rattle.std.specs.Prelude.{◌≡◌, ℕ, Bool, true, false, List, [], ◌∷◌, Option, Some, None, Result, Ok, Err}
 use Rattle.ninja_text.specs.Tokens.{SeenToken}
 use Rattle.ninja_text.specs.declared.failure.Failure.{Failure}
@@ -48,7 +48,7 @@ WordPassed old (Some token) new = old ≡ WordSymbol token.raw ∷ new
 WordPassed old None new = (front_words old ≡ []) × (past_words old ≡ old) × (new ≡ old)
 
 -- what a row does: it is of a class that passes, or its form or a path of it is the cause why not,
--- or memory was refused
+-- or an allocation failed
 abbrev pub TakesRow : ListingValue → lines.Row → Result Unit (Failure LineCause)
     → ListingValue → Type 0
 TakesRow old row (Ok u) new =
@@ -56,8 +56,8 @@ TakesRow old row (Ok u) new =
 TakesRow old row (Err (Fault cause)) new = row_cause old.binding (Ok row) ≡ Some cause
 TakesRow old row (Err Memory) new = Unit {0}
 
--- what reading a line's text does: it is of a class that passes, or has this cause, or memory was
--- refused
+-- what reading a line's text does: it is of a class that passes, or has this cause, or an
+-- allocation failed
 abbrev pub ReadsText : ListingValue → LogicalLine → Result Unit (Failure LineCause)
     → ListingValue → Type 0
 ReadsText old line (Ok u) new = PassesLine old line new
@@ -65,7 +65,7 @@ ReadsText old line (Err (Fault cause)) new =
     text_cause old.binding line.text line.comment ≡ Some cause
 ReadsText old line (Err Memory) new = Unit {0}
 
--- the edge that these paths are, without bindings, or the fault of a text, or memory was refused
+-- the edge that these paths are, without bindings, or the fault of a text, or an allocation failed
 abbrev pub GivesEdge : Result EdgeValue (Failure PathFault) → Result EdgeTexts PathFault → Type 0
 GivesEdge (Ok edge) paths = (t : EdgeTexts) × (paths ≡ Ok t) × (edge ≡ bound t None None)
 GivesEdge (Err (Fault fault)) paths = paths ≡ Err fault

@@ -44,13 +44,13 @@ is_sign DoubleBar DoubleBar = true
 is_sign Colon Colon = true
 is_sign sign kind = false
 
--- what follows this sign at the front; None where it is not there
+-- what follows this sign at the front; None if the sign is not there
 abbrev pub past_sign : TokenKind → List Symbol → Option (List Symbol)
 past_sign sign [] = None
 past_sign sign (WordSymbol word ∷ more) = None
 past_sign sign (SignSymbol kind ∷ more) = if is_sign sign kind then Some more else None
 
--- the words of a part that this sign begins, and none where the sign is not there
+-- the words of a part that begins with this sign, and no words if the sign is not there
 abbrev pub part_words : Option (List Symbol) → List (List ℕ)
 part_words (Some more) = front_words more
 part_words None = []
@@ -79,7 +79,7 @@ right_texts outputs implicit_outputs (Some (WordSymbol rule ∷ more)) =
     else None
 right_texts outputs implicit_outputs other = None
 
--- what the tokens after the keyword `build` say; None where they have another form
+-- the build line of the tokens after the keyword `build`; None if they are not one
 abbrev pub edge_texts : List Symbol → Option EdgeTexts
 edge_texts symbols =
     let bar = past_words symbols in
@@ -107,7 +107,7 @@ abbrev pub unindented_row : Option (List Symbol) → Result Row LineCause
 unindented_row (Some symbols) = build_row (edge_texts symbols)
 unindented_row None = Err Form
 
--- the row of a text without lexical fault that is no comment
+-- the row of a text without a lexical fault that is not a comment
 abbrev pub sound_row : List ℕ → Result Row LineCause
 sound_row text =
     if is_empty (tokens text) then Ok BlankRow
@@ -126,7 +126,7 @@ row_of text comment =
 
 -- ---- its class
 
--- one more path in front of those that follow; the first refused text is the fault
+-- one more path in front of those that follow; the fault is that of the first invalid string
 abbrev pub with_path : Result (List ℕ) PathFault → Result (List (List ℕ)) PathFault
     → Result (List (List ℕ)) PathFault
 with_path (Err fault) paths = Err fault
@@ -138,7 +138,7 @@ abbrev pub paths_of : List (List ℕ) → Result (List (List ℕ)) PathFault
 paths_of [] = Ok []
 paths_of (text ∷ texts) = with_path (path_of text) (paths_of texts)
 
--- what follows where paths were taken
+-- what follows if the paths are valid
 abbrev pub then_paths : {T : Type 0} → Result (List (List ℕ)) PathFault
     → (List (List ℕ) → Result T PathFault) → Result T PathFault
 then_paths (Err fault) next = Err fault
@@ -168,7 +168,7 @@ abbrev pub dyndep_class : Result (List ℕ) PathFault → Result ListingClass Pa
 dyndep_class (Ok path) = Ok (Dyndep path)
 dyndep_class (Err fault) = Err fault
 
--- the class of a row, or the fault of its first text that is no path
+-- the class of a row, or the fault of its first string that is not a valid path
 abbrev pub class_of_row : Row → Result ListingClass PathFault
 class_of_row CommentRow = Ok Comment
 class_of_row BlankRow = Ok Blank
@@ -211,7 +211,7 @@ row_cause binding (Ok row) =
 abbrev pub text_cause : Binding → List ℕ → Bool → Option LineCause
 text_cause binding text comment = row_cause binding (row_of text comment)
 
--- the cause of a line, its end included; None where it has none
+-- the cause of a line, its end included; None if it has no cause
 abbrev pub line_cause : Binding → List ℕ → Option LineCause
 line_cause binding line =
     if nat_lt line_limit (length line) then Some LineTooLong

@@ -10,11 +10,11 @@ use Rattle.build_effect.specs.Graphs.{MakesAt, inputs_of}
 abbrev pub maker_in : {S : Type 0} → HashMap (Bor (List ℕ)) ℕ S → List ℕ → Option ℕ
 maker_in m file = get_by (λ k. bytes_eq file k.now) m
 
--- the makers of the edge's inputs
+-- the edges that produce the edge's inputs
 abbrev pub makers_row : (List ℕ → Option ℕ) → EdgeValue → List ℕ
 makers_row maker e = filter_map maker (inputs_of e)
 
--- the table has an edge that makes the file, wherever there is one
+-- the table has for a file an edge that makes it, if there is one
 pub record AreMakers (g : List EdgeValue) (maker : List ℕ → Option ℕ) : Type 0 where
   pub found : (file : List ℕ) (i : ℕ) → maker file ≡ Some i → (j : ℕ) × MakesAt g i j file
   pub made : (i j : ℕ) (file : List ℕ) → MakesAt g i j file → (k : ℕ) × (maker file ≡ Some k)
