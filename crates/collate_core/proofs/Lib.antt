@@ -26,4 +26,6 @@ pub mod BuildLemmas
 pub mod EdgeCycles
 pub mod TargetBuilds
 pub mod ProjectBuilds
+pub mod PartTargets
+pub mod LinkedParts
 pub mod Examples

@@ -23,26 +23,15 @@ use Rattle.collate_core.specs.Statements.{statements_of}
 use Rattle.collate_core.specs.Infos.{info_of_table}
 use Rattle.collate_core.specs.Collation.{IsMapText, AreMaps, Collates}
 use Rattle.collate_core.specs.Refusals.{IsRefusal, IsMapRefusal, WasRead}
-use Rattle.collate_core.specs.inner.Parts.{IsDocumentRefusal, IsWriteRefusal, IsMapsRefusal, IsObjectRefusal, IsTextsRefusal, HasSpelled}
+use Rattle.collate_core.specs.inner.Parts.{IsDocumentRefusal, IsWriteRefusal, IsMapsRefusal, IsObjectRefusal, IsTextsRefusal, IsWrittenOf}
 use Rattle.collate_core.specs.declared.fault.Refusal.{Refusal}
 use Rattle.collate_core.specs.declared.fault.RefusedTarget.{RefusedTarget}
 use Rattle.collate_core.specs.declared.fault.Refusal.TheVariants.{Scan, Info, Table, StatementTooLong, Map, LinkedLater}
 use Rattle.collate_core.proofs.Writing.{has_paths}
 
--- What the parts give, of a table and of statements.
-pub record Given (target : TargetValue) (style : Option Written) (t : TableValue) (ss : List StatementValue) (c : CollatedValue) : Type 0 where
-  pub resolved : IsResolved target
-  pub spelled : All HasSpelled ss
-  pub stands : StandsForOnly c.dyndep ss
-  pub text : text_or_fault ss ≡ Ok c.dyndep
-  pub objects : c.objects ≡ map (λ rule. rule.object) t.objects
-  pub info : c.info ≡ info_text (info_of_table target.name target.kept t)
-  pub reads : ReadsBack (info_of_table target.name target.kept t) c.info
-  pub maps : AreMaps t style c.maps
-
-of_table : (target : TargetValue) (style : Option Written) (c : CollatedValue) → Given target style (table_of target) (statements_of (table_of target)) c → Collates target style c
-of_table target style c h = record {
-  resolved = h.resolved;
+of_table : (target : TargetValue) (style : Option Written) (c : CollatedValue) → IsResolved target → IsWrittenOf target style (table_of target) c → Collates target style c
+of_table target style c resolved h = record {
+  resolved = resolved;
   text = h.text;
   dyndep = h.stands;
   canonical = has_paths (statements_of (table_of target)) h.spelled;
@@ -52,9 +41,9 @@ of_table target style c h = record {
   maps = h.maps;
 }
 
-pub collates : (target : TargetValue) (style : Option Written) (t : TableValue) (ss : List StatementValue) (c : CollatedValue) → t ≡ table_of target → ss ≡ statements_of t → Given target style t ss c → Collates target style c
-collates target style t ss c table same h =
-    of_table target style c (subst (λ u. Given target style u (statements_of u) c) table (subst (λ xs. Given target style t xs c) same h))
+-- what is written of the target's table is what the target collates to
+pub collates : (target : TargetValue) (style : Option Written) (t : TableValue) (c : CollatedValue) → t ≡ table_of target → IsResolved target → IsWrittenOf target style t c → Collates target style c
+collates target style t c same resolved h = of_table target style c resolved (subst (λ u. IsWrittenOf target style u c) same h)
 
 resolved : (target : TargetValue) (t : TableValue) → t ≡ table_of target → AreAccepted target → ((fault : TableFault) → IsFault t target.kept fault → ⊥) → IsSound t → PrivateAreProvided t target.kept → IsResolved target
 resolved target t table documents no_fault sound kept = record { documents = documents; no_fault = subst (λ u. (fault : TableFault) → IsFault u target.kept fault → ⊥) table no_fault; sound = subst IsSound table sound; kept = subst (λ u. PrivateAreProvided u target.kept) table kept }

@@ -1,12 +1,10 @@
 -- The names of private modules, as a set.
 use Rattle.std.proofs.Common.{◌≡◌, ℕ, ◌+◌, ◌||◌, Bool, true, false, cond, List, [], ◌∷◌, ◌++◌, map, take, Some, refl, ap, ap₂, sym, ◌∙◌, slice_get, bytes_eq}
-use Rattle.std.specs.List.{flat_map, list_any}
+use Rattle.std.specs.List.{list_any}
 use Rattle.std.proofs.lemmas.Slice.Eq.{bytes_eq-Decides}
 use Rattle.indexmap.specs.IndexSet.{insert_key}
 use Rattle.scan_docs.specs.Info.{ModuleValue}
-use Rattle.module_table.specs.TableValue.{TableValue}
-use Rattle.module_table.specs.Added.{Task, tasks_of}
-use Rattle.collate_core.specs.Infos.{is_private_name, module_of, modules_of, info_of_table}
+use Rattle.collate_core.specs.Infos.{is_private_name, module_of}
 use Rattle.collate_core.proofs.Lists.{take_next}
 
 or_assoc : (a b c : Bool) → ((a || b) || c) ≡ (a || (b || c))
@@ -40,16 +38,8 @@ pub one_more_name : (names keys : List (List ℕ)) (k : ℕ) (key : List ℕ) �
 one_more_name names keys k key here so_far name =
     inserted keys key name ∙ ap (λ t. t || bytes_eq name key) (so_far name) ∙ sym (any_last (bytes_eq name) (take k names) key) ∙ ap (λ xs. is_private_name xs name) (sym (take_next names k key here))
 
--- lists that have the same names make the same info
-module _ (kept other : List (List ℕ)) (same : (name : List ℕ) → is_private_name kept name ≡ is_private_name other name) where
-  modules_same : (required pairs : List (List ℕ × List ℕ)) → map (module_of kept required) pairs ≡ map (module_of other required) pairs
-  modules_same required [] = refl
-  modules_same required (pair ∷ pairs) =
-      ap₂ (λ (b : Bool) (ms : List ModuleValue). record { name = pair.0; file = pair.1; required = required; is_private = b } ∷ ms) (same pair.0) (modules_same required pairs)
-
-  tasks_same : (tasks : List Task) → flat_map (modules_of kept) tasks ≡ flat_map (modules_of other) tasks
-  tasks_same [] = refl
-  tasks_same (task ∷ tasks) = ap₂ (λ (a b : List ModuleValue). a ++ b) (modules_same task.1 task.0.provided) (tasks_same tasks)
-
-  pub info_same : (name : List ℕ) (t : TableValue) → info_of_table name kept t ≡ info_of_table name other t
-  info_same name t = ap (λ (ms : List ModuleValue). record { target = name; modules = ms }) (tasks_same (tasks_of t))
+-- lists that have the same names make the same modules
+pub modules_same : (kept other : List (List ℕ)) → ((name : List ℕ) → is_private_name kept name ≡ is_private_name other name) → (required pairs : List (List ℕ × List ℕ)) → map (module_of kept required) pairs ≡ map (module_of other required) pairs
+modules_same kept other same required [] = refl
+modules_same kept other same required (pair ∷ pairs) =
+    ap₂ (λ (b : Bool) (ms : List ModuleValue). record { name = pair.0; file = pair.1; required = required; is_private = b } ∷ ms) (same pair.0) (modules_same kept other same required pairs)

@@ -1,17 +1,17 @@
 //! Collating a target.
-ghost use Rattle.std.specs.Prelude.{◌≡◌, map, None, Ok, All, IfOk, OnOk, IfErr, IfSome, MatchResult, IsErrAnd};
+ghost use Rattle.std.specs.Prelude.{◌≡◌, map, None, Ok, All, IfOk, OnOk, IfErr, MatchResult, IsErrAnd};
 ghost use Rattle.std.specs.Option.{option_copied, option_map};
 ghost use Rattle.ninja_text.specs.Failure.{ForFault, Turns};
 ghost use Rattle.dyndep_file.specs.WriteFaults.{text_or_fault};
 ghost use Rattle.dyndep_file.specs.Reading.{StandsForOnly};
 ghost use Rattle.module_table.specs.TableValue.{table_with};
+ghost use Rattle.module_table.specs.Sound.{IsSound};
 ghost use Rattle.collate_core.specs.Documents.{IsResolved, table_of};
 ghost use Rattle.collate_core.specs.Statements.{statements_of};
 ghost use Rattle.collate_core.specs.Collation.{Collates, AreMaps};
 ghost use Rattle.collate_core.specs.Headline.{IsHeadline, IsDyndepOf};
 ghost use Rattle.collate_core.specs.Refusals.{IsRefusal, WasRead};
-ghost use Rattle.collate_core.specs.inner.Parts.{HasSpelled, IsReadFrom, IsTableText, IsTextsRefusal};
-ghost use Rattle.collate_core.specs.inner.ReadInfos.{AreReadAs};
+ghost use Rattle.collate_core.specs.inner.Parts.{HasSpelled, IsReadFrom, IsTableText, IsTextsRefusal, IsWrittenOf};
 
 use crate::collated::Collated;
 use crate::fault::{Refusal, RefusedTarget, nothing_read, refusal_alone};
@@ -24,7 +24,6 @@ use crate::target::Target;
 use module_maps::MapStyle;
 use module_table::{Table, added_files};
 use ninja_text::{Failure, Path};
-use scan_docs::Info;
 use scan_docs::laws::info_again;
 use std::alloc::{AllocError, Global};
 
@@ -65,28 +64,10 @@ pub fn collate_or_refused<M: MapStyle>(
     ensures read { IfErr result (ForFault (λ refused. WasRead target.now refused.refusal
         (table_with refused.objects.items refused.infos.items))) }
 {
-    collate_known(alloc, target, None, style)
-}
-
-/// The same, where it may be known before what the infos are read as.
-pub(crate) fn collate_known<M: MapStyle>(
-    alloc: Global,
-    target: &Target<'_>,
-    known: Option<Vec<Info>>,
-    style: Option<&M>,
-) -> Result<Collated, Failure<RefusedTarget>>
-    requires { IfSome known (λ infos. AreReadAs target.now.infos infos.items) }
-    ensures collated { IfOk result
-        (Collates target.now (option_map M.written (option_copied style.entry))) }
-    ensures headline { IfOk result (IsHeadline target.now) }
-    ensures refused { IfErr result (ForFault (λ refused. IsRefusal target.now
-        (option_map M.written (option_copied style.entry)) refused.refusal)) }
-    ensures read { IfErr result (ForFault (λ refused. WasRead target.now refused.refusal
-        (table_with refused.objects.items refused.infos.items))) }
-{
-    let table = table_of(alloc, target, known)?;
-    let collated = collated_of(alloc, target, &table, style);
-    with_table(collated, table)
+    headline();
+    let table = table_of(alloc, target)?;
+    let written = written_of(alloc, target, &table, style);
+    with_table(written, table)
 }
 
 /// What was collated, or its failure with what was read of the target, which has this table.
@@ -109,23 +90,20 @@ fn with_table(
     }
 }
 
-/// What a target collates to whose documents have this table.
-fn collated_of<M: MapStyle>(
+/// Returns what is written for a target whose table is sound.
+pub(crate) fn written_of<M: MapStyle>(
     alloc: Global,
     target: &Target<'_>,
     table: &Table,
     style: Option<&M>,
 ) -> Result<Collated, Failure<Refusal>>
-    requires table { table.now ≡ table_of target.now }
-    requires resolved { IsResolved target.now }
+    requires sound { IsSound table.now }
     requires text { IsTableText table.now }
-    ensures collated { IfOk result
-        (Collates target.now (option_map M.written (option_copied style.entry))) }
-    ensures headline { IfOk result (IsHeadline target.now) }
-    ensures refused { IfErr result (ForFault (IsRefusal target.now
+    ensures written { IfOk result (IsWrittenOf target.now
+        (option_map M.written (option_copied style.entry)) table.now) }
+    ensures refused { IfErr result (ForFault (IsTextsRefusal table.now
         (option_map M.written (option_copied style.entry)))) }
 {
-    headline();
     added_files();
     let (text, maps) = dyndep_and_maps(alloc, table, style)?;
     let info = info_text_of(alloc, target.name, target.kept, table)?;
@@ -182,7 +160,7 @@ pub fn collate_dyndep_or_refused(
     info_again();
     // The contract speaks of the info too, though it is not written: its name is accepted.
     let _ = target.name.text();
-    let table = table_of(alloc, target, None)?;
+    let table = table_of(alloc, target)?;
     let resolved = table.into_resolved();
     match text_of(alloc, &resolved) {
         Ok(dyndep) => Ok(dyndep),

@@ -2,54 +2,54 @@
 //! it, and module maps; and what such a file does to a build.
 //!
 //! - [`collate`] takes the scan documents of a target and the infos of the targets that it links.
-//!   It succeeds exactly where none of the faults of [`Refusal`] is present
+//!   It succeeds if and only if none of the faults of [`Refusal`] is present
 //!   (`specs/Collation.antt`, `Collates`), and otherwise reports the first in that order
 //!   (`specs/Refusals.antt`, `IsRefusal`). The law [`one_outcome`] says that there is never both,
 //!   nor two refusals.
-//!   [`collate_dyndep`] answers the dyndep text alone (`specs/Headline.antt`, `IsDyndepOf`).
-//!   A refusal has objects and infos by their indexes: [`collate_or_refused`] and the like answer
-//!   with it what was read of the target (`specs/Refusals.antt`, `WasRead`).
-//! - What it answers has the headline (`specs/Headline.antt`, `IsHeadline`): the dyndep text stands
+//!   [`collate_dyndep`] returns the dyndep text alone (`specs/Headline.antt`, `IsDyndepOf`).
+//!   A refusal has objects and infos by their indexes. [`collate_or_refused`] and its like also
+//!   return what was read of the target (`specs/Refusals.antt`, `WasRead`).
+//! - What it returns has the headline (`specs/Headline.antt`, `IsHeadline`): the dyndep text stands
 //!   for one statement per object and for nothing else, and on every build that names the file on
 //!   exactly the objects it has exactly one effect, which adds to each object's edge exactly what
 //!   the object provides and requires.
 //! - [`rehearse`] reads any text in any pieces and applies it to a build, and [`check_edges`] puts
-//!   the edges after the effect in order, or answers the least cycle (`specs/Rehearsal.antt`).
+//!   the edges after the effect in order, or returns the least cycle (`specs/Rehearsal.antt`).
 //! - [`project`] collates targets that link earlier ones (`specs/Projects.antt`). Their dyndep
 //!   files may be applied in any order (`ProjectOrders.antt`), and the maps have what each object
 //!   needs over the whole project (`ProjectNeeds.antt`).
-//!
 //! - The laws [`no_race`], [`no_false_wait`], [`no_false_rebuild`] and [`no_false_cycle`] say what
 //!   these files mean for a build (`specs/Builds.antt`, `specs/BuildLaws.antt`): in every order in
 //!   which the edges can run, the edge of an object comes after the makers of the files of the
 //!   modules that the object requires; and an edge needs what it needed before and what it imports,
 //!   and nothing else, directly, in a chain or in a cycle.
 //!
-//! The laws speak of the definitions, so that no body can break them; they are true of what is
-//! built since the calls keep to these definitions. The prover refuses the bodies that would make a
-//! race, as `required_module_left_out`, `nothing_applied` and `order_of_the_graph_before` in
-//! `must-fail/`, and in `build_effect` `implicit_output_is_no_output` and
-//! `explicit_inputs_alone_order`; and those that would make a false wait, as
-//! `reached_modules_as_inputs`.
+//! The laws are about the definitions. They hold for what is built because every call is proved
+//! against these definitions. The prover rejects the bodies that would make a race, such as
+//! `required_module_left_out`, `nothing_applied` and `order_of_the_graph_before` in `must-fail/`,
+//! and in `build_effect` `implicit_output_is_no_output` and `explicit_inputs_alone_order`; and those
+//! that would make a false wait and a false rebuild, such as `reached_modules_as_inputs`.
 //!
 //! The definitions speak of one table, which is a function of the documents' bytes
-//! (`specs/Documents.antt`, `table_of`). Those that only private clauses speak of are in
-//! `specs/inner/`.
+//! (`specs/Documents.antt`, `table_of`). A target of a project is collated by the table of a part
+//! of what it links, if that is enough (`src/linking.rt`). Definitions that only private clauses
+//! use are in `specs/inner/`.
 //!
 //! It uses `scan_docs` for documents, `module_table` for modules by name, `module_maps` for their
 //! maps, `dyndep_file` for the texts, `build_effect` and `dep_order` for builds, `ninja_text` for
-//! paths, `indexmap` for the set of the names of private modules, and `thiserror` for its refusals.
+//! paths, `indexmap` and `table_keys` for the set of the names of private modules, and `thiserror`
+//! for its refusals.
 //!
 //! A target has five types, by what is known of it: `TargetSpec` of `scan_docs` is what its target
 //! document says, with the names of its files; a [`Target`] has the files' bytes, and is what
 //! [`collate`] takes; a [`ProjectTarget`] links earlier targets of its project in place of infos,
-//! and is what [`project`] takes; a [`Collated`] is what either makes of them, and
-//! [`CollatedParts`] are its texts, given up to be written.
+//! and is what [`project`] takes; a [`Collated`] is what either returns, and [`CollatedParts`] are
+//! its texts, to be written.
 //!
-//! `must-fail/` has a wrong body of each public function but of the laws, which have none, and of
-//! those that only pass on another's answer, whose clauses they have: of [`collate_or_refused`],
-//! [`collate_dyndep_or_refused`] and [`project_or_refused`] those that answer the refusal alone. `info_lent_as_dyndep` and `no_maps_lent` show the clauses by
-//! which a [`Collated`] lends its parts and gives them up.
+//! `must-fail/` has a wrong body of each public function. The laws have none, nor have the calls
+//! that only pass on what another returns, with its clauses: [`collate`], [`collate_dyndep`] and
+//! [`project`] return what their `_or_refused` calls do, with the refusal alone.
+//! `info_lent_as_dyndep` and `no_maps_lent` are for the clauses of [`Collated`].
 #![tactic(auto)]
 
 mod check;
@@ -57,8 +57,8 @@ mod collated;
 mod collating;
 mod fault;
 mod info;
-mod known_infos;
 mod laws;
+mod linking;
 mod object_maps;
 mod pairs;
 mod projects;

@@ -3,24 +3,21 @@ ghost use Rattle.std.specs.Prelude.{◌≡◌, ◌↔◌, ◌<◌, List, [], IfO
 ghost use Rattle.std.specs.Option.{option_copied, option_map};
 ghost use Rattle.ninja_text.specs.Failure.{ForFault, Turns};
 ghost use Rattle.module_table.specs.TableValue.{table_with};
-ghost use Rattle.collate_core.specs.Refusals.{WasRead};
-ghost use Rattle.collate_core.specs.Projects.{CollatesProject, IsProjectRefusal, IsLinkedRefusal, WasReadAt, target_of, linked_infos, project_tables};
+ghost use Rattle.collate_core.specs.Projects.{CollatesProject, IsProjectRefusal, WasReadAt, project_tables};
 ghost use Rattle.collate_core.specs.ProjectOrders.{AllOrders, IsProjectOrdered, EndIsOrderable};
 ghost use Rattle.collate_core.specs.ProjectNeeds.{MapsReadBack};
-ghost use Rattle.collate_core.specs.inner.Parts.{CollatesLinked};
-ghost use Rattle.collate_core.specs.inner.ReadInfos.{AreKnown};
 
 use crate::collated::Collated;
-use crate::collating::collate_known;
-use crate::fault::{Refusal, RefusedTarget, without_table};
-use crate::known_infos::{add_known, known_of};
+use crate::fault::{Refusal, RefusedTarget};
 use crate::laws::{project_maps, project_orders};
-use crate::target::Target;
+use crate::linking::collate_linked;
 use module_maps::MapStyle;
+use module_table::Pool;
 use ninja_text::Failure;
-use scan_docs::{Info, Name, Setting, TargetName};
-use std::alloc::{AllocError, Global};
+use scan_docs::{Name, Setting, TargetName};
+use std::alloc::Global;
 use std::marker::Model;
+use table_keys::{KeyDigest, TableKey};
 
 /// A target of a project to collate: a [`Target`](crate::Target) that links earlier ones by index in
 /// place of the infos, which the project writes. It borrows all its parts.
@@ -150,14 +147,29 @@ fn add_outs<M: MapStyle>(
         targets.now refused.0 refused.1.refusal
         (table_with refused.1.objects.items refused.1.infos.items))) }
 {
-    let mut known = Vec::new(alloc);
+    let mut pool = Pool::new(alloc, key_of(targets));
     for (index, target) in targets.iter().enumerate() {
-        match collate_linked(alloc, target, outs.as_slice(), known.as_slice(), style) {
-            Ok(out) => add_known(alloc, out, outs, &mut known)?,
+        match collate_linked(alloc, target, outs.as_slice(), &pool, style) {
+            Ok((out, info)) => {
+                pool = pool.push(alloc, info)?;
+                outs.push(out)?;
+            }
             Err(failure) => return Err(of_target(index, failure)),
         }
     }
     Ok(())
+}
+
+/// Returns the key of a table of the modules of these targets. It is made of the documents that name
+/// them, so whoever chooses the names cannot choose the key as well.
+fn key_of(targets: &[ProjectTarget<'_>]) -> TableKey {
+    let mut digest = KeyDigest::new();
+    for target in targets {
+        for scan in target.scans {
+            digest.update(scan);
+        }
+    }
+    digest.key()
 }
 
 /// The failure of the target of this index.
@@ -165,67 +177,4 @@ fn of_target(index: usize, failure: Failure<RefusedTarget>) -> Failure<(usize, R
     ensures { Turns (λ refused found. found ≡ (index, refused)) failure result }
 {
     failure.map(|refused| (index, refused))
-}
-
-/// Whether all indexes are below this one.
-fn are_below(indexes: &[usize], bound: usize) -> bool
-    ensures { IsTrue result ↔ All (λ k. k < bound) indexes.now }
-{
-    for index in indexes {
-        if *index >= bound {
-            return false;
-        }
-    }
-    true
-}
-
-/// The infos that the targets of these indexes wrote.
-fn infos_of<'a>(
-    alloc: Global,
-    linked: &[usize],
-    outs: &'a [Collated],
-) -> Result<Vec<&'a [u8]>, AllocError>
-    requires { All (λ k. k < length outs.now) linked.now }
-    ensures { IfOk result
-        (λ infos. map (λ s. s.now) infos.items ≡ linked_infos outs.now linked.now) }
-{
-    let mut infos = Vec::new(alloc);
-    for target in linked {
-        infos.push(outs[*target].info())?;
-    }
-    Ok(infos)
-}
-
-/// Collates a target with the infos that the targets which it links wrote, all of which are to be
-/// among those given. What these infos are read as is known.
-fn collate_linked<M: MapStyle>(
-    alloc: Global,
-    target: &ProjectTarget<'_>,
-    outs: &[Collated],
-    known: &[Option<Info>],
-    style: Option<&M>,
-) -> Result<Collated, Failure<RefusedTarget>>
-    requires { AreKnown outs.now known.now }
-    ensures collated { IfOk result (CollatesLinked
-        (option_map M.written (option_copied style.entry)) outs.now target.now) }
-    ensures refused { IfErr result (ForFault (λ refused. IsLinkedRefusal
-        (option_map M.written (option_copied style.entry))
-        outs.now (length outs.now) target.now refused.refusal)) }
-    ensures read { IfErr result (ForFault (λ refused.
-        WasRead (target_of outs.now target.now) refused.refusal
-        (table_with refused.objects.items refused.infos.items))) }
-{
-    if !are_below(target.linked, outs.len()) {
-        return Err(Failure::Fault(without_table(alloc, Refusal::LinkedLater)));
-    }
-    let infos = infos_of(alloc, target.linked, outs)?;
-    let with_infos = Target {
-        name: target.name,
-        setting: target.setting,
-        scans: target.scans,
-        infos: &infos,
-        kept: target.kept,
-    };
-    let known = known_of(alloc, target.linked, known)?;
-    collate_known(alloc, &with_infos, known, style)
 }

@@ -1,5 +1,5 @@
 //! The table of a target's documents.
-ghost use Rattle.std.specs.Prelude.{◌≡◌, map, All, Option, IfOk, OnOk, IfErr, IfSome};
+ghost use Rattle.std.specs.Prelude.{◌≡◌, map, All, Option, IfOk, OnOk, IfErr};
 ghost use Rattle.ninja_text.specs.Failure.{ForFault, Turns};
 ghost use Rattle.scan_docs.specs.Scan.{IsRuleText};
 ghost use Rattle.module_table.specs.TableValue.{table_with};
@@ -19,14 +19,9 @@ use std::alloc::Global;
 /// The most rules of a target.
 pub const RULE_LIMIT: usize = 65536;
 
-/// The table of the target's documents, or the fault of the first that is faulty, or of the table.
-/// What the infos are read as may be known before.
-pub(crate) fn table_of(
-    alloc: Global,
-    target: &Target<'_>,
-    known: Option<Vec<Info>>,
-) -> Result<Table, Failure<RefusedTarget>>
-    requires { IfSome known (λ infos. AreReadAs target.now.infos infos.items) }
+/// Returns the table of the target's documents, or the fault of the first that has one, or of the
+/// table.
+pub(crate) fn table_of(alloc: Global, target: &Target<'_>) -> Result<Table, Failure<RefusedTarget>>
     ensures table { IfOk result (λ table. table ≡ table_of target.now) }
     ensures resolved { OnOk result (IsResolved target.now) }
     ensures text { IfOk result IsTableText }
@@ -36,7 +31,7 @@ pub(crate) fn table_of(
     ensures read { IfErr result (ForFault (λ refused. WasRead target.now refused.refusal
         (table_with refused.objects.items refused.infos.items))) }
 {
-    let (objects, infos) = match documents_of(alloc, target, known) {
+    let (objects, infos) = match documents_of(alloc, target) {
         Ok(read) => read,
         Err(failure) => return Err(nothing_read(alloc, failure)),
     };
@@ -60,9 +55,7 @@ fn of_table(failure: Failure<RefusedTable>) -> Failure<RefusedTarget>
 fn documents_of(
     alloc: Global,
     target: &Target<'_>,
-    known: Option<Vec<Info>>,
 ) -> Result<(Vec<Rule>, Vec<Info>), Failure<Refusal>>
-    requires { IfSome known (λ infos. AreReadAs target.now.infos infos.items) }
     ensures table { IfOk result
         (λ read. table_with read.0.items read.1.items ≡ table_of target.now) }
     ensures accepted { OnOk result (AreAccepted target.now) }
@@ -70,17 +63,12 @@ fn documents_of(
     ensures refused { IfErr result (ForFault (IsDocumentRefusal target.now)) }
 {
     let objects = rules_of_all(alloc, target.setting, target.scans)?;
-    match known {
-        Some(infos) => Ok((objects, infos)),
-        None => {
-            let infos = infos_of_all(alloc, target.infos)?;
-            Ok((objects, infos))
-        }
-    }
+    let infos = infos_of_all(alloc, target.infos)?;
+    Ok((objects, infos))
 }
 
 /// The rules of all scan documents, one document after another.
-fn rules_of_all(
+pub(crate) fn rules_of_all(
     alloc: Global,
     setting: &Setting,
     scans: &[&[u8]],

@@ -1,13 +1,14 @@
 -- What the parts of collating promise one another: definitions for private clauses.
-use Rattle.std.specs.Prelude.{◌≡◌, ℕ, List, length, map, slice_get, Option, Some, All}
+use Rattle.std.specs.Prelude.{◌≡◌, ℕ, List, length, map, slice_get, Option, Some, Ok, All}
 use Rattle.std.specs.Borrow.{Bor}
 use Rattle.ninja_text.specs.Paths.{IsPath}
 use Rattle.ninja_text.specs.Escapes.{IsWritable}
 use Rattle.dyndep_file.specs.StatementValue.{StatementValue}
-use Rattle.dyndep_file.specs.WriteFaults.{write_fault, statement_fault, paths_of}
+use Rattle.dyndep_file.specs.WriteFaults.{write_fault, statement_fault, text_or_fault, paths_of}
+use Rattle.dyndep_file.specs.Reading.{StandsForOnly}
 use Rattle.dyndep_file.specs.declared.fault.WriteFault.TheVariants as write
 use Rattle.scan_docs.specs.Scan.{RuleValue, IsRuleText}
-use Rattle.scan_docs.specs.InfoText.{IsInfoText}
+use Rattle.scan_docs.specs.InfoText.{IsInfoText, info_text, ReadsBack}
 use Rattle.scan_docs.specs.declared.fault.DocFault.{DocFault}
 use Rattle.module_table.specs.TableValue.{TableValue, table_with}
 use Rattle.module_table.specs.declared.fault.RefusedTable.{RefusedTable}
@@ -15,7 +16,9 @@ use Rattle.module_maps.specs.Maps.{Written}
 use Rattle.build_effect.specs.declared.fault.EffectFault.{EffectFault}
 use Rattle.collate_core.specs.Values.{TargetValue, CollatedValue, ProjectTargetValue}
 use Rattle.collate_core.specs.Documents.{table_of, AreScansAccepted, IsResolved}
-use Rattle.collate_core.specs.Collation.{Collates}
+use Rattle.collate_core.specs.Statements.{statements_of}
+use Rattle.collate_core.specs.Infos.{info_of_table}
+use Rattle.collate_core.specs.Collation.{AreMaps, Collates}
 use Rattle.collate_core.specs.Refusals.{IsScanRefusal, IsInfoRefusal, IsMapFault, IsMapRefusal, IsRefusal}
 use Rattle.collate_core.specs.Projects.{target_of, LinksEarlier}
 use Rattle.collate_core.specs.declared.fault.Refusal.{Refusal}
@@ -102,6 +105,17 @@ IsReadFrom t refusal refused = (refused.refusal ≡ refusal)
 abbrev pub IsTextsRefusal : TableValue → Option Written → Refusal → Type 0
 IsTextsRefusal t style refusal = (target : TargetValue) → t ≡ table_of target → IsResolved target
     → IsRefusal target style refusal
+
+-- What is written of a table, for a target of this name that keeps these modules private.
+pub record IsWrittenOf (target : TargetValue) (style : Option Written) (t : TableValue)
+    (c : CollatedValue) : Type 0 where
+  pub spelled : All HasSpelled (statements_of t)
+  pub stands : StandsForOnly c.dyndep (statements_of t)
+  pub text : text_or_fault (statements_of t) ≡ Ok c.dyndep
+  pub objects : c.objects ≡ map (λ rule. rule.object) t.objects
+  pub info : c.info ≡ info_text (info_of_table target.name target.kept t)
+  pub reads : ReadsBack (info_of_table target.name target.kept t) c.info
+  pub maps : AreMaps t style c.maps
 
 -- all targets that this one links are among those that wrote these, and it collates to this
 abbrev pub CollatesLinked : Option Written → List CollatedValue → ProjectTargetValue →

@@ -1,11 +1,15 @@
--- What is known of infos that were read before: definitions for private clauses.
-use Rattle.std.specs.Prelude.{◌≡◌, ℕ, List, length, map, slice_get, Option, Some, All}
+-- What the info files that a project wrote are read as: definitions for private clauses.
+use Rattle.std.specs.Prelude.{◌≡◌, ◌<◌, ℕ, List, length, map, slice_get, Option, Some, All, IfSome}
 use Rattle.ninja_text.specs.Bytes.{Text}
+use Rattle.dep_order.specs.Numbers.{Numbers}
 use Rattle.scan_docs.specs.Info.{InfoValue}
 use Rattle.scan_docs.specs.InfoText.{IsInfoText}
 use Rattle.scan_docs.specs.Values.{info_of}
-use Rattle.collate_core.specs.Values.{CollatedValue}
+use Rattle.module_maps.specs.Maps.{Written}
+use Rattle.collate_core.specs.Values.{TargetValue, CollatedValue}
 use Rattle.collate_core.specs.Documents.{IsInfoAccepted}
+use Rattle.collate_core.specs.Collation.{Collates}
+use Rattle.collate_core.specs.Projects.{linked_infos}
 
 -- The document is accepted, and read as this info.
 pub record IsReadAs (document : Text) (info : InfoValue) : Type 0 where
@@ -19,8 +23,19 @@ pub record AreReadAs (documents : List Text) (infos : List InfoValue) : Type 0 w
   pub values : infos ≡ map info_of documents
   pub text : All IsInfoText infos
 
--- For each target that collated there is what its info is read as, unless it is refused.
+-- For each target that collated there is what its info is read as, or nothing.
 pub record AreKnown (outs : List CollatedValue) (known : List (Option InfoValue)) : Type 0 where
   pub count : length known ≡ length outs
   pub each : (k : ℕ) (out : CollatedValue) (info : InfoValue) →
       slice_get outs k ≡ Some out → slice_get known k ≡ Some (Some info) → IsReadAs out.info info
+
+-- These are the infos of earlier targets, and what is known of them is what they are read as.
+abbrev pub AreLinkedInfos : List (Option InfoValue) → Numbers → List Text → Type 0
+AreLinkedInfos known linked infos =
+    (outs : List CollatedValue) × AreKnown outs known × All (λ k. k < length outs) linked
+    × (infos ≡ linked_infos outs linked)
+
+-- the target collates to this, and this is what its info is read as, or nothing
+abbrev pub CollatesAndReads : TargetValue → Option Written → CollatedValue × Option InfoValue → Type 0
+CollatesAndReads target style found =
+    Collates target style found.0 × IfSome found.1 (IsReadAs found.0.info)

@@ -1,6 +1,8 @@
-use Rattle.std.proofs.Common.{◌≡◌, List, [], map, None, refl, ap, subst, sym, IsUtf8, All}
+use Rattle.std.proofs.Common.{◌≡◌, List, [], map, None, Ok, refl, ap, subst, sym, IsUtf8, All}
 use Rattle.std.proofs.lemmas.Result.{err_from_is_err_and}
 use Rattle.dyndep_file.specs.StatementValue.{StatementValue}
+use Rattle.dyndep_file.specs.WriteFaults.{text_or_fault}
+use Rattle.dyndep_file.specs.Reading.{StandsForOnly}
 use Rattle.scan_docs.specs.Name.{IsTargetName}
 use Rattle.scan_docs.specs.Info.{InfoValue}
 use Rattle.scan_docs.specs.InfoText.{info_text}
@@ -11,7 +13,7 @@ use Rattle.collate_core.specs.Infos.{info_of_table}
 use Rattle.collate_core.specs.Collation.{HasPaths, Collates}
 use Rattle.collate_core.specs.Refusals.{IsRefusal, WasRead}
 use Rattle.collate_core.specs.declared.fault.RefusedTarget.{RefusedTarget}
-use Rattle.collate_core.specs.inner.Parts.{IsWriteRefusal}
+use Rattle.collate_core.specs.inner.Parts.{IsWriteRefusal, HasSpelled}
 use Rattle.collate_core.proofs.Parts.{collates, texts_refused, write_refused, any_style, write_read}
 use Rattle.collate_core.proofs.Texts.{info_is_sound}
 use Rattle.collate_core.proofs.Turning.{turned}
@@ -54,11 +56,10 @@ returns-in-Ok-clause-dyndep c =
     let sound = info_is_sound t table.text c.added_files.ensures.required target.name target.kept named (subst (All HasPaths) are (has_paths statements text.spelled)) in
     let collated : CollatedValue = record { dyndep = c.in-Ok.dyndep.items; info = info_text info; objects = map (λ rule. rule.object) t.objects; maps = [] } in
     let is : Collates target None collated =
-    collates target None t statements collated table.table are (record {
-      resolved = table.resolved;
-      spelled = text.spelled;
-      stands = text.meaning;
-      text = text.text;
+    collates target None t collated table.table table.resolved (record {
+      spelled = subst (All HasSpelled) are text.spelled;
+      stands = subst (StandsForOnly collated.dyndep) are text.meaning;
+      text = subst (λ (ss : List StatementValue). text_or_fault ss ≡ Ok collated.dyndep) are text.text;
       objects = refl;
       info = refl;
       reads = c.info_again.ensures info sound;

@@ -4,4 +4,4 @@ use Rattle.collate_core.proofs.info.add_modules.Given as goal
 
 -- the modules so far
 abbrev pub invariant-loop-pair : goal.invariant-loop-pair
-invariant-loop-pair l = l.modules.items ≡ l.initial.modules.items ++ map (module_of l.kept.keys l.required) (take l.pair-index l.pair-items)
+invariant-loop-pair l = l.modules.items ≡ l.initial.modules.items ++ map (module_of l.private_names.keys l.required) (take l.pair-index l.pair-items)

@@ -11,6 +11,8 @@ use Rattle.collate_core.specs.Refusals.{WasRead}
 use Rattle.collate_core.specs.Projects.{CollatesProject, IsLinkedRefusal, IsProjectRefusal, WasReadAt, target_of}
 use Rattle.collate_core.specs.declared.fault.RefusedTarget.{RefusedTarget}
 use Rattle.collate_core.specs.inner.Parts.{CollatesLinked}
+use Rattle.collate_core.specs.inner.ReadInfos.{AreKnown}
+use Rattle.collate_core.proofs.Known.{known_added}
 use Rattle.collate_core.proofs.Lists.{take_next}
 use Rattle.collate_core.proofs.LoopLemmas.{project_push, refused_here}
 use Rattle.collate_core.proofs.Turning.{turned}
@@ -21,7 +23,7 @@ loop-index-init g c =
     record {
       collated = subst (CollatesProject (option_map g.M.MapStyle.written (option_copied c.args.style)) []) (sym c.requires)
           (record { count = refl; earlier = λ n p at. absurd (cc); each = λ n p out at also. absurd (cc) });
-      known = rw (c.requires, c.new-known.ensures.items) (record { count = refl; each = λ n out info at also. absurd (cc) });
+      known = rw (c.requires, c.new-pool.ensures) (record { count = refl; each = λ n out info at also. absurd (cc) });
     }
 
 pub returns-in-Err-clause-refused : goal.returns-in-Err-clause-refused
@@ -60,8 +62,9 @@ loop-index-preserved g c =
     let outs : List CollatedValue = c.loop-index.outs.items in
     let linked : CollatesLinked style outs p c.in-Ok.out = subst (λ (os : List CollatedValue). CollatesLinked style os p c.in-Ok.out) c.as_slice.ensures.value c.in-Ok.ensures.collated in
     record {
-      collated = rw (next, c.in_ok-add_known-in-Ok.ensures.added) (project_push style (take n targets) outs c.loop-index.invariant.collated p c.in-Ok.out linked.0 linked.1);
-      known = c.in_ok-add_known-in-Ok.ensures.known;
+      collated = rw (next, c.in_ok-push-in-Ok.ensures.items) (project_push style (take n targets) outs c.loop-index.invariant.collated p c.in-Ok.out linked.0 linked.1);
+      known = subst (λ (os : List CollatedValue). AreKnown os c.in_ok-pool-in-Ok.pool) (sym c.in_ok-push-in-Ok.ensures.items)
+          (known_added outs c.loop-index.pool c.loop-index.invariant.known c.in-Ok.out c.in-Ok.info c.in-Ok.ensures.known c.in_ok-pool-in-Ok.pool c.in_ok-pool-in-Ok.ensures);
     }
 
 pub returns-clause-collated : goal.returns-clause-collated

@@ -9,5 +9,5 @@ abbrev pub invariant-loop-index : goal.invariant-loop-index
 invariant-loop-index g l =
     record {
       collated : CollatesProject (option_map g.M.MapStyle.written (option_copied l.style)) (take l.index l.targets) l.outs.items;
-      known : AreKnown l.outs.items l.known.items;
+      known : AreKnown l.outs.items l.pool;
     }

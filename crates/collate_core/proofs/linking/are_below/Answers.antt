@@ -1,6 +1,6 @@
 use Rattle.std.proofs.Common.{arith}
 use Rattle.std.proofs.lemmas.Grind.{common_steps}
-use Rattle.collate_core.proofs.projects.are_below.Goals as goal
+use Rattle.collate_core.proofs.linking.are_below.Goals as goal
 
 -- said here, so that a body which does something else is refused soon
 pub loop-index-preserved : goal.loop-index-preserved

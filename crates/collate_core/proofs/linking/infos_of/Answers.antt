@@ -8,7 +8,7 @@ use Rattle.collate_core.specs.Values.{CollatedValue}
 use Rattle.collate_core.specs.Projects.{linked_infos}
 use Rattle.collate_core.proofs.Lists.{take_next}
 use Rattle.collate_core.proofs.LoopLemmas.{map_push}
-use Rattle.collate_core.proofs.projects.infos_of.Goals as goal
+use Rattle.collate_core.proofs.linking.infos_of.Goals as goal
 
 pub loop-target-preserved : goal.loop-target-preserved
 loop-target-preserved c =

@@ -4,10 +4,7 @@ use Rattle.std.proofs.lemmas.List.{take_all}
 use Rattle.std.proofs.lemmas.Option.{slice_get_read}
 use Rattle.collate_core.specs.Infos.{is_private_name}
 use Rattle.collate_core.proofs.PrivateNames.{one_more_name}
-use Rattle.collate_core.proofs.info.add_names.Goals as goal
-
-pub loop-name-init : goal.loop-name-init
-loop-name-init c = λ name. ap (λ (keys : List (List ℕ)). is_private_name keys name) c.requires
+use Rattle.collate_core.proofs.info.set_of.Goals as goal
 
 pub loop-name-preserved : goal.loop-name-preserved
 loop-name-preserved c = λ name.

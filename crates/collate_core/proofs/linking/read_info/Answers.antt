@@ -2,7 +2,7 @@ use Rattle.std.proofs.Common.{subst}
 use Rattle.scan_docs.specs.Document.{IsAccepted}
 use Rattle.scan_docs.specs.Info.{IsInfo}
 use Rattle.scan_docs.specs.InfoChecks.{info_checks}
-use Rattle.collate_core.proofs.known_infos.read_info.Goals as goal
+use Rattle.collate_core.proofs.linking.read_info.Goals as goal
 
 pub returns-in-Ok : goal.returns-in-Ok
 returns-in-Ok c =

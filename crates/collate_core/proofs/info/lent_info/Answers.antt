@@ -1,4 +1,4 @@
-use Rattle.std.proofs.Common.{◌≡◌, ◌≤◌, ℕ, List, length, take, Some, refl, ap, subst, sym, ◌∙◌}
+use Rattle.std.proofs.Common.{◌≡◌, ◌≤◌, ◌++◌, ℕ, List, length, take, Some, refl, ap, subst, sym, ◌∙◌}
 use Rattle.std.specs.Prelude.{slice_get, IfOk}
 use Rattle.std.specs.List.{flat_map}
 use Rattle.std.proofs.lemmas.Option.{slice_get_read}
@@ -8,9 +8,10 @@ use Rattle.scan_docs.specs.InfoText.{info_text, ReadsBack, IsInfoText}
 use Rattle.module_table.specs.TableValue.{TableValue}
 use Rattle.module_table.specs.Added.{tasks_of}
 use Rattle.collate_core.specs.Infos.{modules_of, info_of_table}
+use Rattle.collate_core.proofs.PrivateNames.{modules_same}
 use Rattle.collate_core.proofs.Tasks.{more_modules, all_modules}
 use Rattle.collate_core.proofs.Texts.{info_is_text}
-use Rattle.collate_core.proofs.info.text_with.Goals as goal
+use Rattle.collate_core.proofs.info.lent_info.Goals as goal
 
 -- where all objects are done, the modules are those of the table's info
 written : (name : List ℕ) (kept : List (List ℕ)) (t : TableValue) (done : ℕ) (objects : List RuleValue) (modules : List ModuleValue) → objects ≡ t.objects → length objects ≤ done →
@@ -22,22 +23,13 @@ written name kept t done objects modules same all is =
 pub loop-index-preserved : goal.loop-index-preserved
 loop-index-preserved c =
     let t : TableValue = c.args.table.now in
+    let kept : List (List ℕ) = c.args.kept.now in
     let index : ℕ = c.loop-index.index in
     let rule : RuleValue = c.index-objects-index.result in
     let here : slice_get t.objects index ≡ Some rule = rw (← c.objects-objects.ensures.objects) (slice_get_read _ _ _ _ refl c.loop-index-test.true c.index-objects-index.is) in
-    c.in_ok-add_modules.ensures ∙ more_modules c.args.kept.now.keys t index rule c.required-required.result.now c.loop-index.modules.items here (c.required-required.ensures rule here) c.loop-index.invariant
+    let same = modules_same c.in_ok-private_names.private_names.keys kept c.in_ok-private_names.ensures c.required-required.result.now rule.provided in
+    c.in_ok-add_modules.ensures ∙ ap (λ ms. c.loop-index.modules.items ++ ms) same
+    ∙ more_modules kept t index rule c.required-required.result.now c.loop-index.modules.items here (c.required-required.ensures rule here) c.loop-index.invariant
 
-pub lent_info_write-requires : goal.lent_info_write-requires
-lent_info_write-requires c =
-    let same = written c.args.name.now c.args.kept.now.keys c.args.table.now c.loop-index.index _ c.loop-index.modules.items c.objects-objects.ensures.objects c.loop-index-test.false c.loop-index.invariant in
-    subst IsInfoText (sym same) (info_is_text c.args.table.now c.requires c.added_files.ensures.required c.args.name.now c.args.kept.now.keys)
-
-pub returns-clause-text : goal.returns-clause-text
-returns-clause-text c =
-    let same = written c.args.name.now c.args.kept.now.keys c.args.table.now c.loop-index.index _ c.loop-index.modules.items c.objects-objects.ensures.objects c.loop-index-test.false c.loop-index.invariant in
-    subst (λ (info : InfoValue). IfOk c.lent_info_write.result (λ text. text.items ≡ info_text info)) same c.lent_info_write.ensures.text
-
-pub returns-clause-reads_back : goal.returns-clause-reads_back
-returns-clause-reads_back c =
-    let same = written c.args.name.now c.args.kept.now.keys c.args.table.now c.loop-index.index _ c.loop-index.modules.items c.objects-objects.ensures.objects c.loop-index-test.false c.loop-index.invariant in
-    subst (λ (info : InfoValue). IfOk c.lent_info_write.result (λ text. ReadsBack info text.items)) same c.lent_info_write.ensures.reads_back
+pub returns : goal.returns
+returns c = written c.args.name.now c.args.kept.now c.args.table.now c.loop-index.index _ c.loop-index.modules.items c.objects-objects.ensures.objects c.loop-index-test.false c.loop-index.invariant

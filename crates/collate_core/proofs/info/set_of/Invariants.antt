@@ -1,6 +1,6 @@
 use Rattle.std.proofs.Common.{◌≡◌, ℕ, List, take}
 use Rattle.collate_core.specs.Infos.{is_private_name}
-use Rattle.collate_core.proofs.info.add_names.Given as goal
+use Rattle.collate_core.proofs.info.set_of.Given as goal
 
 -- the set has the names so far
 abbrev pub invariant-loop-name : goal.invariant-loop-name

@@ -1,0 +1,22 @@
+use Rattle.std.proofs.Common.{◌≡◌, ◌≤◌, ℕ, List, length, subst, sym, ◌∙◌, arith}
+use Rattle.scan_docs.specs.Document.{IsAccepted}
+use Rattle.scan_docs.specs.Info.{InfoValue, IsInfo}
+use Rattle.scan_docs.specs.InfoChecks.{info_checks}
+use Rattle.scan_docs.specs.InfoText.{IsInfoText}
+use Rattle.scan_docs.specs.Values.{info_of}
+use Rattle.collate_core.specs.Infos.{info_of_table}
+use Rattle.collate_core.proofs.Texts.{info_is_text}
+use Rattle.collate_core.proofs.info.info_again.Goals as goal
+
+pub returns : goal.returns
+returns c =
+    let info : InfoValue = info_of_table c.args.name.now c.args.kept.now c.args.table.now in
+    let copy : c.in_ok-owned_info.field-0 ≡ info = c.in_ok-owned_info.ensures ∙ c.in_ok-info.ensures in
+    let small : length c.args.text.now ≤ 16777216 = omega (arith, c.if-text-gt-DOCUMENT_LIMIT.false) in
+    let accepted : IsAccepted info_checks IsInfo c.args.text.now info = c.requires.text.same small in
+    let value : info ≡ info_of c.args.text.now = c.value_of_bytes.ensures.info c.args.text.now info accepted in
+    record {
+      accepted = subst (IsAccepted info_checks IsInfo c.args.text.now) value accepted;
+      value = copy ∙ value;
+      text = subst IsInfoText (sym copy) (info_is_text c.args.table.now c.requires.table c.added_files.ensures.required c.args.name.now c.args.kept.now);
+    }

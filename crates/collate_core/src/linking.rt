@@ -1,0 +1,189 @@
+//! Collating a target of a project, which links earlier targets.
+ghost use Rattle.std.specs.Prelude.{◌≡◌, ◌↔◌, ◌<◌, IfOk, IfErr, IfSome, IsTrue, All, map, length};
+ghost use Rattle.std.specs.Option.{option_copied, option_map};
+ghost use Rattle.ninja_text.specs.Failure.{ForFault};
+ghost use Rattle.module_table.specs.TableValue.{table_with};
+ghost use Rattle.module_table.specs.Sound.{IsSound, PrivateAreProvided};
+ghost use Rattle.collate_core.specs.Refusals.{IsRefusal, WasRead};
+ghost use Rattle.collate_core.specs.Projects.{IsLinkedRefusal, target_of, linked_infos};
+ghost use Rattle.collate_core.specs.inner.Parts.{CollatesLinked};
+ghost use Rattle.collate_core.specs.inner.PartTables.{IsEnoughFor};
+ghost use Rattle.collate_core.specs.inner.ReadInfos.{IsReadAs, AreKnown, AreLinkedInfos, CollatesAndReads};
+
+use crate::collated::Collated;
+use crate::collating::{collate_or_refused, written_of};
+use crate::fault::{Refusal, RefusedTarget, without_table};
+use crate::info::info_again;
+use crate::projects::ProjectTarget;
+use crate::table::rules_of_all;
+use crate::target::Target;
+use module_maps::MapStyle;
+use module_table::{Pool, Table, parts, sound_tables};
+use ninja_text::Failure;
+use scan_docs::{Info, Rule, info_read};
+use std::alloc::{AllocError, Global};
+
+/// Collates a target with the infos of the targets that it links, all of which have to be earlier.
+/// Returns also what its own info is read as, if that is known.
+pub(crate) fn collate_linked<M: MapStyle>(
+    alloc: Global,
+    target: &ProjectTarget<'_>,
+    outs: &[Collated],
+    pool: &Pool,
+    style: Option<&M>,
+) -> Result<(Collated, Option<Info>), Failure<RefusedTarget>>
+    requires { AreKnown outs.now pool.now }
+    ensures collated { IfOk result (λ found. CollatesLinked
+        (option_map M.written (option_copied style.entry)) outs.now target.now found.0) }
+    ensures known { IfOk result (λ found. IfSome found.1 (IsReadAs found.0.info)) }
+    ensures refused { IfErr result (ForFault (λ refused. IsLinkedRefusal
+        (option_map M.written (option_copied style.entry))
+        outs.now (length outs.now) target.now refused.refusal)) }
+    ensures read { IfErr result (ForFault (λ refused.
+        WasRead (target_of outs.now target.now) refused.refusal
+        (table_with refused.objects.items refused.infos.items))) }
+{
+    if !are_below(target.linked, outs.len()) {
+        return Err(Failure::Fault(without_table(alloc, Refusal::LinkedLater)));
+    }
+    let infos = infos_of(alloc, target.linked, outs)?;
+    let with_infos = Target {
+        name: target.name,
+        setting: target.setting,
+        scans: target.scans,
+        infos: &infos,
+        kept: target.kept,
+    };
+    match collate_by_part(alloc, &with_infos, target.linked, pool, style)? {
+        Some(found) => Ok(found),
+        None => collate_whole(alloc, &with_infos, style),
+    }
+}
+
+/// Whether all indexes are below this one.
+fn are_below(indexes: &[usize], bound: usize) -> bool
+    ensures { IsTrue result ↔ All (λ k. k < bound) indexes.now }
+{
+    for index in indexes {
+        if *index >= bound {
+            return false;
+        }
+    }
+    true
+}
+
+/// The infos that the targets of these indexes wrote.
+fn infos_of<'a>(
+    alloc: Global,
+    linked: &[usize],
+    outs: &'a [Collated],
+) -> Result<Vec<&'a [u8]>, AllocError>
+    requires { All (λ k. k < length outs.now) linked.now }
+    ensures { IfOk result
+        (λ infos. map (λ s. s.now) infos.items ≡ linked_infos outs.now linked.now) }
+{
+    let mut infos = Vec::new(alloc);
+    for target in linked {
+        infos.push(outs[*target].info())?;
+    }
+    Ok(infos)
+}
+
+/// Collates a target by a table of few of the modules that it links. Returns `None` if the table of
+/// all has to be made: the target may have a fault, which is not looked for here.
+fn collate_by_part<M: MapStyle>(
+    alloc: Global,
+    target: &Target<'_>,
+    linked: &[usize],
+    pool: &Pool,
+    style: Option<&M>,
+) -> Result<Option<(Collated, Option<Info>)>, AllocError>
+    requires { AreLinkedInfos pool.now linked.now target.now.infos }
+    ensures { IfOk result (λ found. IfSome found
+        (CollatesAndReads target.now (option_map M.written (option_copied style.entry)))) }
+{
+    let objects = match rules_of_all(alloc, target.setting, target.scans) {
+        Ok(objects) => objects,
+        Err(Failure::Memory) => return Err(AllocError),
+        Err(Failure::Fault(_)) => return Ok(None),
+    };
+    match pool.part(alloc, &objects, linked, style.is_some())? {
+        Some(part) => collate_part(alloc, target, objects, part, style),
+        None => Ok(None),
+    }
+}
+
+/// Collates a target with these objects by a part of what it links.
+fn collate_part<M: MapStyle>(
+    alloc: Global,
+    target: &Target<'_>,
+    objects: Vec<Rule>,
+    part: Vec<Info>,
+    style: Option<&M>,
+) -> Result<Option<(Collated, Option<Info>)>, AllocError>
+    requires { IsEnoughFor target.now (option_map M.written (option_copied style))
+        (table_with objects.items part.items) }
+    ensures { IfOk result (λ found. IfSome found
+        (CollatesAndReads target.now (option_map M.written (option_copied style.entry)))) }
+{
+    match Table::build(alloc, objects, part, target.kept) {
+        Ok(table) => part_collated(alloc, target, &table, style),
+        Err(Failure::Memory) => Err(AllocError),
+        Err(Failure::Fault(_)) => Ok(None),
+    }
+}
+
+/// Collates a target by the table of such a part.
+fn part_collated<M: MapStyle>(
+    alloc: Global,
+    target: &Target<'_>,
+    table: &Table,
+    style: Option<&M>,
+) -> Result<Option<(Collated, Option<Info>)>, AllocError>
+    requires enough { IsEnoughFor target.now (option_map M.written (option_copied style))
+        table.now }
+    requires sound { IsSound table.now }
+    requires kept { PrivateAreProvided table.now target.now.kept }
+    ensures { IfOk result (λ found. IfSome found
+        (CollatesAndReads target.now (option_map M.written (option_copied style.entry)))) }
+{
+    sound_tables();
+    parts();
+    match written_of(alloc, target, table, style) {
+        Ok(out) => {
+            let info = info_again(alloc, target.name, target.kept, table, out.info())?;
+            Ok(Some((out, info)))
+        }
+        Err(Failure::Memory) => Err(AllocError),
+        Err(Failure::Fault(_)) => Ok(None),
+    }
+}
+
+/// Collates a target by the table of all that it links.
+fn collate_whole<M: MapStyle>(
+    alloc: Global,
+    target: &Target<'_>,
+    style: Option<&M>,
+) -> Result<(Collated, Option<Info>), Failure<RefusedTarget>>
+    ensures collated { IfOk result
+        (CollatesAndReads target.now (option_map M.written (option_copied style.entry))) }
+    ensures refused { IfErr result (ForFault (λ refused. IsRefusal target.now
+        (option_map M.written (option_copied style.entry)) refused.refusal)) }
+    ensures read { IfErr result (ForFault (λ refused. WasRead target.now refused.refusal
+        (table_with refused.objects.items refused.infos.items))) }
+{
+    let out = collate_or_refused(alloc, target, style)?;
+    let info = read_info(alloc, out.info())?;
+    Ok((out, info))
+}
+
+/// Returns what an info is read as, or `None` if it is longer than a document may be.
+fn read_info(alloc: Global, document: &[u8]) -> Result<Option<Info>, AllocError>
+    ensures { IfOk result (λ known. IfSome known (IsReadAs document.now)) }
+{
+    match info_read(alloc, document) {
+        Ok(info) => Ok(Some(info)),
+        Err(Failure::Memory) => Err(AllocError),
+        Err(Failure::Fault(_)) => Ok(None),
+    }
+}
