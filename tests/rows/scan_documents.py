@@ -154,6 +154,8 @@ COLLATED = [
 
 # why, the document, the folder and the ending of modules, the statements
 FOLDERS = [
+    ("* a folder of bytes that are escaped", sources(b"a.o|A|"), "my mods/$x:y", ".bmi",
+     statement(b"a.o", b"my$ mods/$$x$:y/A.bmi")),
     ("a folder of any bytes, and an ending", ONE, "my mods/$x:y", ".pcm", statement(b"obj/b.o", b"my$ mods/$$x$:y/B.pcm")),
     ("files in order of provision, and no folder puts none before them",
      document(b'{"primary-output":"./p//q.o","provides":[{"logical-name":"M:P"},{"logical-name":"A","is-interface":false}]}',

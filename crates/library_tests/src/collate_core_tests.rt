@@ -1,18 +1,14 @@
 //! Targets, in calls that the program does not make: with maps of a caller's own style, the dyndep
-//! text alone with linked infos, and projects; with the caller's keys, and with none.
+//! text alone with linked info files, and projects.
 
 mod growths;
 mod rehearsals;
 
 use crate::common::{push_line, setting, target_name, value};
 use crate::module_maps_tests::Bare;
-use collate_core::{
-    Collated, ProjectOut, ProjectTarget, Target, collate, collate_dyndep_with_hasher,
-    collate_with_hasher, project, project_with_hasher,
-};
+use collate_core::{Collated, ProjectOut, ProjectTarget, Target, collate, collate_dyndep, project};
 use module_maps::{Gcc, MapStyle};
 use std::alloc::{AllocError, Global};
-use std::hash::RandomState;
 use std::test::Fail;
 
 /// The info of a target `l`, whose module `B` has this file.
@@ -45,7 +41,6 @@ fn push_collated(out: &mut Vec<u8>, collated: &Collated) -> Result<(), AllocErro
 /// What the target `t` collates to.
 fn collated<M: MapStyle>(
     alloc: Global,
-    keys: Option<RandomState>,
     scan: &[u8],
     infos: &[&[u8]],
     style: Option<&M>,
@@ -59,25 +54,19 @@ fn collated<M: MapStyle>(
         infos,
         kept: &[],
     };
-    value(match keys {
-        Some(keys) => collate_with_hasher(alloc, &target, style, keys),
-        None => collate(alloc, &target, style),
-    })
+    value(collate(alloc, &target, style))
 }
 
 /// The texts of a target with maps of the caller's own style.
-pub(crate) fn texts_in_own_style(
-    alloc: Global,
-    keys: Option<RandomState>,
-) -> Result<Vec<u8>, Fail> {
-    let collated = collated(alloc, keys, NEEDS_B, &[INFO_L], Some(&Bare))?;
+pub(crate) fn texts_in_own_style(alloc: Global) -> Result<Vec<u8>, Fail> {
+    let collated = collated(alloc, NEEDS_B, &[INFO_L], Some(&Bare))?;
     let mut out = Vec::new(alloc);
     push_collated(&mut out, &collated)?;
     Ok(out)
 }
 
 /// The dyndep text alone of a target that links an info.
-pub(crate) fn dyndep_alone(alloc: Global, keys: RandomState) -> Result<Vec<u8>, Fail> {
+pub(crate) fn dyndep_alone(alloc: Global) -> Result<Vec<u8>, Fail> {
     let name = target_name(alloc, "t")?;
     let setting = setting(alloc)?;
     let target = Target {
@@ -87,11 +76,11 @@ pub(crate) fn dyndep_alone(alloc: Global, keys: RandomState) -> Result<Vec<u8>, 
         infos: &[INFO_L],
         kept: &[],
     };
-    value(collate_dyndep_with_hasher(alloc, &target, keys))
+    value(collate_dyndep(alloc, &target))
 }
 
 /// What two targets collate to, of which the second links the first.
-fn both_of_a_project(alloc: Global, keys: Option<RandomState>) -> Result<ProjectOut, Fail> {
+fn both_of_a_project(alloc: Global) -> Result<ProjectOut, Fail> {
     let first = target_name(alloc, "t0")?;
     let second = target_name(alloc, "t1")?;
     let setting = setting(alloc)?;
@@ -111,15 +100,12 @@ fn both_of_a_project(alloc: Global, keys: Option<RandomState>) -> Result<Project
             kept: &[],
         },
     ];
-    value(match keys {
-        Some(keys) => project_with_hasher(alloc, &targets, Some(&Gcc), keys),
-        None => project(alloc, &targets, Some(&Gcc)),
-    })
+    value(project(alloc, &targets, Some(&Gcc)))
 }
 
 /// The texts of both targets of a project.
-pub(crate) fn project_texts(alloc: Global, keys: Option<RandomState>) -> Result<Vec<u8>, Fail> {
-    let both = both_of_a_project(alloc, keys)?;
+pub(crate) fn project_texts(alloc: Global) -> Result<Vec<u8>, Fail> {
+    let both = both_of_a_project(alloc)?;
     let mut out = Vec::new(alloc);
     for collated in &both.targets {
         push_collated(&mut out, collated)?;

@@ -1,13 +1,11 @@
-//! What several tests make: the values of calls, paths and names that are well formed, and the
-//! setting of a target.
+//! What several tests use: the values of calls, paths, names, and the setting of a target.
 
 use ninja_text::{Failure, Path};
 use scan_docs::{Name, Setting, TargetName};
 use std::alloc::{AllocError, Global};
 use std::test::Fail;
 
-/// The value that a call answered. Where it answered a fault, the test fails in another way than
-/// where memory was refused.
+/// Returns the value of a call. A fault and a failed allocation make the test fail in different ways.
 pub(crate) fn value<T: Drop, F: Drop>(answer: Result<T, Failure<F>>) -> Result<T, Fail> {
     match answer {
         Ok(value) => Ok(value),
@@ -16,7 +14,7 @@ pub(crate) fn value<T: Drop, F: Drop>(answer: Result<T, Failure<F>>) -> Result<T
     }
 }
 
-/// The value, of which there has to be one.
+/// Returns the value of an option, which has to be there.
 pub(crate) fn some<T: Drop>(value: Option<T>) -> Result<T, Fail> {
     match value {
         Some(value) => Ok(value),

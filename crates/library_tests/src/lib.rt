@@ -1,13 +1,12 @@
-//! Tests of the libraries, as their callers see them, with a module for each crate under test: what
-//! the built program can't be asked, such as texts in pieces, calls that it does not make, and
-//! readers, writers and growths of memory that fail. What it can be asked is asked of it, in rows
-//! of `tests/rows`, of which the worked ones are called with each growth of memory refused, too
-//! (`tests/growths.py`).
+//! Tests of the libraries, as their callers see them, with a module for each crate under test. They
+//! test what cannot be tested through the program: input that arrives in pieces, functions that the
+//! program never calls, and failing readers, writers and allocations. Everything else is a row in
+//! `tests/rows`.
 //!
-//! The tests of each module `growths` are run by `tests/growths.py` with each growth of memory
-//! refused in turn. `examples` has for each crate a caller's example, which its README quotes.
+//! `tests/growths.py` runs the tests of each module `growths` with each allocation failing in turn.
+//! `examples` has an example for each crate, which the page of the crate quotes.
 //!
-//! They are a crate of their own since the prover proves a crate a second time where it has tests.
+//! They are a crate of their own because the prover proves a crate with tests twice.
 #![tactic(auto)]
 
 #[cfg(test)]

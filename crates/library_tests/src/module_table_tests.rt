@@ -7,7 +7,6 @@ use module_table::{Maker, Table};
 use ninja_text::Path;
 use scan_docs::{Name, info_read, scan};
 use std::alloc::{AllocError, Global};
-use std::hash::RandomState;
 use std::test::Fail;
 
 /// `main.o` requires `A` of `a.o`, which requires `K`.
@@ -19,16 +18,16 @@ const K_INFO: &[u8] =
     br#"{"modules":[{"bmi":"k/K.bmi","name":"K","requires":[{"bmi":"k/J.bmi","name":"J"}],"visibility":"public"},{"bmi":"k/J.bmi","name":"J","requires":[],"visibility":"private"}],"target":"k","version":2}"#;
 
 /// The table of both objects and the info.
-pub(crate) fn table(alloc: Global, keys: RandomState) -> Result<Table<RandomState>, Fail> {
+pub(crate) fn table(alloc: Global) -> Result<Table, Fail> {
     let objects = scan(alloc, OBJECTS, &setting(alloc)?)?;
     let infos = vec![in alloc; info_read(alloc, K_INFO)?]?;
-    Ok(Table::build_with_hasher(alloc, objects, infos, &[], keys)?)
+    Ok(Table::build(alloc, objects, infos, &[])?)
 }
 
 /// Whether the name is found with this file and this maker.
 fn is_found(
     alloc: Global,
-    table: &Table<RandomState>,
+    table: &Table,
     text: &str,
     wanted: (&str, Maker),
 ) -> Result<bool, AllocError> {
@@ -42,7 +41,7 @@ fn is_found(
 }
 
 /// Whether a module of an object, one of an info and no other is found.
-pub(crate) fn finds_both(alloc: Global, table: &Table<RandomState>) -> Result<bool, AllocError> {
+pub(crate) fn finds_both(alloc: Global, table: &Table) -> Result<bool, AllocError> {
     Ok(
         is_found(alloc, table, "A", ("mod/A.bmi", Maker::Object(1)))?
             && is_found(alloc, table, "J", ("k/J.bmi", Maker::Info(0)))?
@@ -61,7 +60,7 @@ fn are_pairs(pairs: &[(Name, Path)], wanted: &[(&str, &str)]) -> bool {
 }
 
 /// Whether the first object needs three modules, in byte order.
-pub(crate) fn needs_three(alloc: Global, table: &Table<RandomState>) -> Result<bool, AllocError> {
+pub(crate) fn needs_three(alloc: Global, table: &Table) -> Result<bool, AllocError> {
     if table.objects().is_empty() {
         return Ok(false);
     }

@@ -2,26 +2,23 @@
 //! test answers `AllocError` or `Failure::Memory` where a call answered that memory was refused,
 //! and nowhere else; every other answer has to be the example's.
 
-use super::rehearsals::{bytewise, checked_order, rehearsed, rehearsed_with_keys};
+use super::rehearsals::{bytewise, checked_order, rehearsed};
 use super::{dyndep_alone, project_texts, texts_in_own_style};
 use crate::build_effect_tests::{LIBRARY, LIBRARY_AFTER, graph_of, is_order};
-use std::hash::RandomState;
 use std::test::Fail;
 
 #[test]
 fn a_style_of_the_callers_own_is_collated_as_the_others(rt: HostRuntime) -> Result<(), Fail> {
     let wanted =
         "ninja_dyndep_version = 1\nbuild main.o: dyndep | lib/B.bmi\n{\"modules\":[],\"target\":\"t\",\"version\":2}\nmain.o\nlib/B.bmi\n";
-    let found = texts_in_own_style(rt.alloc(), None)?;
-    assert!(rt; found.as_slice() == wanted.as_bytes());
-    let found = texts_in_own_style(rt.alloc(), Some(RandomState::new(&rt)?))?;
+    let found = texts_in_own_style(rt.alloc())?;
     assert!(rt; found.as_slice() == wanted.as_bytes());
     Ok(())
 }
 
 #[test]
 fn the_dyndep_text_alone_has_the_files_of_linked_targets(rt: HostRuntime) -> Result<(), Fail> {
-    let found = dyndep_alone(rt.alloc(), RandomState::new(&rt)?)?;
+    let found = dyndep_alone(rt.alloc())?;
     let wanted = "ninja_dyndep_version = 1\nbuild main.o: dyndep | lib/B.bmi\n";
     assert!(rt; found.as_slice() == wanted.as_bytes());
     Ok(())
@@ -31,21 +28,17 @@ fn the_dyndep_text_alone_has_the_files_of_linked_targets(rt: HostRuntime) -> Res
 fn each_target_sees_the_infos_of_those_that_it_links(rt: HostRuntime) -> Result<(), Fail> {
     let wanted =
         "ninja_dyndep_version = 1\nbuild b.o | mod/B.bmi: dyndep\n  restat = 1\n{\"modules\":[{\"bmi\":\"mod/B.bmi\",\"name\":\"B\",\"requires\":[],\"visibility\":\"public\"}],\"target\":\"t0\",\"version\":2}\nb.o\nB mod/B.bmi\nninja_dyndep_version = 1\nbuild main.o: dyndep | mod/B.bmi\n{\"modules\":[],\"target\":\"t1\",\"version\":2}\nmain.o\nB mod/B.bmi\n";
-    let found = project_texts(rt.alloc(), None)?;
-    assert!(rt; found.as_slice() == wanted.as_bytes());
-    let found = project_texts(rt.alloc(), Some(RandomState::new(&rt)?))?;
+    let found = project_texts(rt.alloc())?;
     assert!(rt; found.as_slice() == wanted.as_bytes());
     Ok(())
 }
 
-/// Byte by byte, and with keys.
+/// Byte by byte.
 #[test]
 fn rehearsing(rt: HostRuntime) -> Result<(), Fail> {
     let graph = graph_of(rt.alloc(), LIBRARY)?;
     let cuts = bytewise(rt.alloc())?;
     let found = rehearsed(rt.alloc(), &graph, &cuts)?;
-    assert!(rt; found.as_slice() == LIBRARY_AFTER);
-    let found = rehearsed_with_keys(rt.alloc(), RandomState::new(&rt)?)?;
     assert!(rt; found.as_slice() == LIBRARY_AFTER);
     Ok(())
 }

@@ -5,27 +5,18 @@ use crate::build_effect_tests::{LIBRARY, LIBRARY_AFTER, graph_of, listing_of};
 use crate::common::{path, value};
 use crate::dyndep_file_tests::TWO_STATEMENTS;
 use build_effect::Graph;
-use collate_core::{RehearseFault, check_edges, rehearse, rehearse_with_hasher};
+use collate_core::{RehearseFault, check_edges, rehearse};
 use dep_order::Sorting;
 use dyndep_file::{LineFault, ReadFault};
 use module_maps::Gcc;
 use ninja_text::Failure;
 use std::alloc::{AllocError, Global};
-use std::hash::RandomState;
 use std::test::Fail;
 
 /// The listing after the rehearsal of the dyndep text.
 pub(crate) fn rehearsed(alloc: Global, graph: &Graph, cuts: &[usize]) -> Result<Vec<u8>, Fail> {
     let name = path(alloc, "./t.dd")?;
     let new = value(rehearse(alloc, TWO_STATEMENTS, &name, graph, cuts))?;
-    listing_of(alloc, &new)
-}
-
-/// The listing after the rehearsal in two pieces, with tables that hash by these keys.
-pub(crate) fn rehearsed_with_keys(alloc: Global, keys: RandomState) -> Result<Vec<u8>, Fail> {
-    let graph = graph_of(alloc, LIBRARY)?;
-    let name = path(alloc, "t.dd")?;
-    let new = value(rehearse_with_hasher(alloc, TWO_STATEMENTS, &name, &graph, &[30], keys))?;
     listing_of(alloc, &new)
 }
 
@@ -69,12 +60,12 @@ fn is_bad_at(alloc: Global, text: &[u8], graph: &Graph, number: u64) -> Result<b
     for cuts in cuttings {
         match refused(alloc, text, graph, cuts)? {
             Some(
-                RehearseFault::Read {
-                    fault: ReadFault::AtLine {
+                RehearseFault::Read(
+                    ReadFault::AtLine {
                         line,
                         fault: LineFault::BadLine,
                     },
-                },
+                ),
             ) if line == number => {}
             _ => return Ok(false),
         }
@@ -100,7 +91,7 @@ fn a_text_without_an_effect_is_refused_at_its_line_or_for_the_graph(
         &graph,
         &[30],
     )?;
-    assert!(rt; matches!(found, Some(RehearseFault::Effect { .. })));
+    assert!(rt; matches!(found, Some(RehearseFault::Effect(_))));
     Ok(())
 }
 
@@ -108,6 +99,6 @@ fn a_text_without_an_effect_is_refused_at_its_line_or_for_the_graph(
 /// least cycle.
 pub(crate) fn checked_order(alloc: Global) -> Result<Sorting, Fail> {
     let graph = graph_of(alloc, LIBRARY)?;
-    let target = collated::<Gcc>(alloc, None, TWO_OBJECTS, &[], None)?;
+    let target = collated::<Gcc>(alloc, TWO_OBJECTS, &[], None)?;
     value(check_edges(alloc, &target, &path(alloc, "t.dd")?, &graph))
 }

@@ -1,14 +1,23 @@
-//! What nodes of a small graph reach, where `tests/growths.py` refuses each growth of memory in
+//! Orders and searches of small graphs, where `tests/growths.py` refuses each growth of memory in
 //! turn. The test answers `AllocError` where a call answered that memory was refused, and nowhere
 //! else; every other answer has to be the example's.
 
-use super::{finds, graph};
-use dep_order::{Reaching, reach};
+use super::{cyclic_graph, finds, graph, loop_graph};
+use dep_order::{Reaching, Sorting, order, reach};
 use std::test::Fail;
+
+#[test]
+fn a_cycle_of_three(rt: HostRuntime) -> Result<(), Fail> {
+    let cycle = Sorting::Cycle(vec![in rt.alloc(); 1, 2, 3]?);
+    assert!(rt; order(rt.alloc(), &cyclic_graph(rt.alloc())?)? == cycle);
+    Ok(())
+}
 
 /// Of two searches the second one finds nothing of the first.
 #[test]
 fn reached_nodes(rt: HostRuntime) -> Result<(), Fail> {
+    let one = loop_graph(rt.alloc())?;
+    assert!(rt; reach(rt.alloc(), &one, 0)?.as_slice() == [0].as_slice());
     let graph = graph(rt.alloc())?;
     assert!(rt; reach(rt.alloc(), &graph, 0)?.as_slice() == [0, 1, 2].as_slice());
     let mut reaching = Reaching::new(rt.alloc(), &graph)?;

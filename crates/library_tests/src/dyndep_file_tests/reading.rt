@@ -1,5 +1,7 @@
 //! Texts that are read in pieces of every size. The lines that are refused, and further lines that
 //! are accepted, are rows of `tests/rows`.
+ghost use Rattle.std.specs.Prelude.{◌≤◌, length};
+
 use super::TWO_STATEMENTS;
 use crate::failing::{Bytewise, bytewise_reader, has_given};
 use dyndep_file::{Dyndep, DyndepReader, LineFault, ReadFault, read_all};
@@ -49,18 +51,59 @@ pub(super) fn answers_in_pieces(
     is_answer(alloc, reader.finish(), wanted)
 }
 
-/// Whether the text is answered so in pieces of every size.
+/// Whether a text that is fed in two pieces, the first of this length, is answered so.
+fn answers_in_two(
+    alloc: Global,
+    text: &[u8],
+    len: usize,
+    wanted: Result<&[u8], ReadFault>,
+) -> Result<bool, AllocError>
+    requires { len ≤ length text.now }
+{
+    let mut reader = DyndepReader::new(alloc);
+    let _ = reader.feed(&text[..len]);
+    let _ = reader.feed(&text[len..]);
+    is_answer(alloc, reader.finish(), wanted)
+}
+
+/// Whether the text is answered so in pieces of every size, and cut in two at every place.
 fn always_answers(
     alloc: Global,
     text: &[u8],
     wanted: Result<&[u8], ReadFault>,
 ) -> Result<bool, AllocError> {
     for size in 1..=text.len() {
-        if !answers_in_pieces(alloc, text, size, wanted)? {
+        if !answers_in_pieces(alloc, text, size, wanted)?
+            || !answers_in_two(alloc, text, size, wanted)?
+        {
             return Ok(false);
         }
     }
     Ok(true)
+}
+
+/// Continuations within a word and after one, and how the statement is written.
+const CONTINUATIONS: &[(&[u8], &[u8])] = &[
+    (
+        b"ninja_dyndep_version = 1\nbuild a$\n  b.o: dyndep\n",
+        b"ninja_dyndep_version = 1\nbuild ab.o: dyndep\n",
+    ),
+    (
+        b"ninja_dyndep_version = 1\r\nbuild a$\r\n  b.o: dyndep\r\n",
+        b"ninja_dyndep_version = 1\nbuild ab.o: dyndep\n",
+    ),
+    (
+        b"ninja_dyndep_version = 1\nbuild a.o $\n: dyndep\n",
+        b"ninja_dyndep_version = 1\nbuild a.o: dyndep\n",
+    ),
+];
+
+#[test]
+fn a_continuation_is_answered_alike_in_every_cutting(rt: HostRuntime) -> Result<(), Fail> {
+    for (text, wanted) in CONTINUATIONS {
+        assert!(rt; always_answers(rt.alloc(), text, Ok(*wanted))?);
+    }
+    Ok(())
 }
 
 /// Lines of every kind, with both ends of a line, and continuations over both.

@@ -14,7 +14,7 @@ pub struct Bare;
 
 impl MapStyle for Bare {
     ghost use Rattle.library_tests.specs.BareMaps.{bare_written, bare_kept, bare_entries};
-    ghost use Rattle.library_tests.specs.BareLemmas.{bare-back, bare-only, bare-pairs};
+    ghost use Rattle.library_tests.specs.BareLemmas.{bare-faults, bare-back, bare-pairs};
 
     ghost written = { λ _ m. bare_written m };
 
@@ -22,9 +22,9 @@ impl MapStyle for Bare {
 
     ghost entries = { λ _ text. bare_entries text };
 
-    ghost reads_back = { λ s m text is e. bare-back m text is e };
+    ghost faults_of_maps = { λ s m line is. bare-faults m line };
 
-    ghost reads_only = { λ s text found e. bare-only text found e };
+    ghost reads_back = { λ s m text is e. bare-back m text is e };
 
     ghost keeps_pairs = { λ s m is. bare-pairs m };
 

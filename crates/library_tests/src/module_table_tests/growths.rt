@@ -3,12 +3,11 @@
 //! else; every other answer has to be the example's.
 
 use super::{finds_both, needs_three, table};
-use std::hash::RandomState;
 use std::test::Fail;
 
 #[test]
 fn who_provides_a_module_and_what_is_needed(rt: HostRuntime) -> Result<(), Fail> {
-    let table = table(rt.alloc(), RandomState::new(&rt)?)?;
+    let table = table(rt.alloc())?;
     assert!(rt; finds_both(rt.alloc(), &table)?);
     assert!(rt; needs_three(rt.alloc(), &table)?);
     Ok(())

@@ -1,7 +1,11 @@
-//! Lines byte by byte, where `tests/growths.py` refuses each growth of memory in turn: a cutter that
-//! answered that memory was refused is as it was, and takes the same byte the second time.
+//! Lines byte by byte, paths and values, where `tests/growths.py` refuses each growth of memory in
+//! turn. A cutter that answered that memory was refused is as it was, and takes the same byte the
+//! second time; and a vector to which nothing was appended has what it had.
 
-use ninja_text::{Failure, LineCutter};
+use crate::common::{path, value};
+use ninja_text::{Failure, Line, LineCutter, Path, PathFault, assignment, escape_into, words};
+use std::alloc::{AllocError, Global};
+use std::test::Fail;
 
 /// Whether the piece is taken, if only the second time.
 fn takes(cutter: &mut LineCutter, piece: &[u8]) -> bool {
@@ -37,4 +41,71 @@ fn lines_byte_by_byte(rt: HostRuntime) {
     for (bytes, text) in lines {
         assert!(rt; lends_bytewise(&mut cutter, bytes, text));
     }
+}
+
+/// Whether all of these bytes are in a vector after a call that appends to it. Where the call
+/// answered that memory was refused, the vector has to have what it had.
+fn has_all(
+    answer: Result<(), AllocError>,
+    out: &[u8],
+    before: &[u8],
+    all: &[u8],
+) -> Result<bool, AllocError> {
+    match answer {
+        Ok(()) => Ok(out == all),
+        Err(refused) if out == before => Err(refused),
+        Err(_refused) => Ok(false),
+    }
+}
+
+/// Many bytes that are escaped, so that a vector grows in their midst.
+const ESCAPES: &str = "a b$c:d e$f:g h$i:j k$l:m n$o:p";
+
+const ESCAPED: &[u8] = b"xa$ b$$c$:d$ e$$f$:g$ h$$i$:j$ k$$l$:m$ n$$o$:p";
+
+#[test]
+fn a_path_is_escaped_as_a_whole(rt: HostRuntime) -> Result<(), Fail> {
+    let path = path(rt.alloc(), ESCAPES)?;
+    let mut out = vec![in rt.alloc(); b'x']?;
+    let answer = escape_into(path.bytes(), &mut out);
+    assert!(rt; has_all(answer, &out, b"x", ESCAPED)?);
+    assert!(rt; path.clone()? == path && path.copy(rt.alloc())? == path);
+    let fault = Failure::Fault(PathFault::Unwritable { place: 1 });
+    assert!(rt; Path::of(rt.alloc(), b"a|b/../c").err() == Some(fault));
+    Ok(())
+}
+
+/// An assignment of the same bytes, escaped.
+const ASSIGNMENT: &[u8] = b"v = a$ b$$c$:d$ e$$f$:g$ h$$i$:j$ k$$l$:m$ n$$o$:p\n";
+
+const VALUE: &[u8] = b"xa b$c:d e$f:g h$i:j k$l:m n$o:p";
+
+/// Whether the value of the line is appended, as a value and as the third word.
+fn appends_values(alloc: Global, line: Line<'_>) -> Result<bool, AllocError> {
+    if line.is_comment() {
+        return Ok(false);
+    }
+    let (Ok(Some(found)), Ok(tokens)) = (assignment(line), words(line)) else {
+        return Ok(false);
+    };
+    let mut out = vec![in alloc; b'x']?;
+    let answer = found.value_into(&mut out);
+    let mut all = has_all(answer, &out, b"x", VALUE)?;
+    for token in tokens {
+        let mut out = vec![in alloc; b'x']?;
+        let answer = token.value_into(&mut out);
+        all = all && (token.start() != 4 || has_all(answer, &out, b"x", VALUE)?);
+    }
+    Ok(all)
+}
+
+#[test]
+fn a_value_is_appended_as_a_whole(rt: HostRuntime) -> Result<(), Fail> {
+    let mut cutter = LineCutter::new(rt.alloc());
+    let _ = value(cutter.feed(ASSIGNMENT))?;
+    match cutter.next_line() {
+        Ok(Some(line)) => assert!(rt; appends_values(rt.alloc(), line)?),
+        _ => return Err(Fail::new("there is no line")),
+    }
+    Ok(())
 }

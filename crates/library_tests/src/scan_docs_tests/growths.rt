@@ -1,8 +1,9 @@
-//! An info that is read and written, whose growths of memory `tests/growths.py` refuses in turn. A
-//! test answers `AllocError` or `Failure::Memory` where a call answered that memory was refused,
+//! An info that is read and written, and names, whose growths of memory `tests/growths.py` refuses in
+//! turn. A test answers `AllocError` or `Failure::Memory` where a call answered that memory was refused,
 //! and nowhere else; every other answer has to be the example's.
 
-use scan_docs::{info_read, info_write};
+use crate::common::{name, target_name};
+use scan_docs::{Name, TargetName, info_read, info_write};
 use std::alloc::Global;
 use std::test::Fail;
 
@@ -20,5 +21,14 @@ fn an_info_that_is_written(rt: HostRuntime) -> Result<(), Fail> {
         br#"{"modules":[{"bmi":"lib/A.bmi","name":"A","requires":[{"bmi":"b","name":"B"}],"visibility":"public"},{"bmi":"b","name":"B","requires":[],"visibility":"private"}],"target":"t","version":2}"#;
     let found = written_again(rt.alloc(), document)?;
     assert!(rt; found.as_slice() == wanted.as_slice());
+    Ok(())
+}
+
+#[test]
+fn a_name_is_cloned(rt: HostRuntime) -> Result<(), Fail> {
+    let module: Name = name(rt.alloc(), "M:p")?;
+    assert!(rt; module.clone()? == module);
+    let target: TargetName = target_name(rt.alloc(), "t")?;
+    assert!(rt; target.clone()? == target);
     Ok(())
 }
