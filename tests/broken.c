@@ -138,12 +138,3 @@ int rename(const char *from, const char *to) {
     return unlink(from);
   return next(from, to);
 }
-
-int getentropy(void *bytes, size count) {
-  int (*next)(void *, size) = dlsym(NEXT, "getentropy");
-  if (!is("fixed_keys"))
-    return next(bytes, count);
-  for (size at = 0; at < count; at++)
-    ((char *)bytes)[at] = 7;
-  return 0;
-}

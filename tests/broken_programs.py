@@ -115,7 +115,6 @@ CALLS = [
     Broken("an error line written to a file", "the_line_in_a_file", "devices.Files", "limited_collate"),
     Broken("a file that is not there taken for an empty one", "no_file_is_an_empty_one", "devices.Names", "test_show"),
     Broken("a file that cannot be made not reported", "a_file_that_cannot_be_made", "files.CollatedWithout", "single_app"),
-    Broken("keys that are always the same", "fixed_keys", "devices.Inputs", "no_random_bytes_show"),
     Broken("no line for want of memory", "no_line_for_want_of_memory", "growths.Program", "show_two"),
     Broken("status 1 for want of memory", "status_1_for_want_of_memory", "growths.Program", "show_two"),
     Broken("a signal for want of memory", "an_abort_for_want_of_memory", "growths.Program", "show_two"),
