@@ -8,7 +8,7 @@ mod growths;
 mod lexing;
 
 use crate::failing::{Bytewise, Refusing, bytewise_reader, has_given, has_got, refusing_writer};
-use ninja_text::{Counted, ReadCall};
+use ninja_text::{Counted, Failure, Path, PathFault, ReadCall};
 use std::io;
 use std::io::ErrorKind;
 use std::test::Fail;
@@ -104,4 +104,10 @@ fn each_read_is_one_call_and_counted_where_it_fails(rt: HostRuntime) {
     assert!(rt; gives_each(&mut input));
     assert!(rt; has_given(input, 3, 1));
     assert!(rt; calls_of_two_reads() == 2);
+}
+
+#[test]
+fn an_unwritable_byte_is_reported_with_its_offset(rt: HostRuntime) {
+    let fault = Failure::Fault(PathFault::Unwritable { place: 1 });
+    assert!(rt; Path::of(rt.alloc(), b"a|b/../c").err() == Some(fault));
 }

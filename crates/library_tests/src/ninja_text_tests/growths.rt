@@ -3,7 +3,7 @@
 //! second time; and a vector to which nothing was appended has what it had.
 
 use crate::common::{path, value};
-use ninja_text::{Failure, Line, LineCutter, Path, PathFault, assignment, escape_into, words};
+use ninja_text::{Failure, Line, LineCutter, assignment, escape_into, words};
 use std::alloc::{AllocError, Global};
 use std::test::Fail;
 
@@ -70,8 +70,6 @@ fn a_path_is_escaped_as_a_whole(rt: HostRuntime) -> Result<(), Fail> {
     let answer = escape_into(path.bytes(), &mut out);
     assert!(rt; has_all(answer, &out, b"x", ESCAPED)?);
     assert!(rt; path.clone()? == path && path.copy(rt.alloc())? == path);
-    let fault = Failure::Fault(PathFault::Unwritable { place: 1 });
-    assert!(rt; Path::of(rt.alloc(), b"a|b/../c").err() == Some(fault));
     Ok(())
 }
 
