@@ -1,17 +1,16 @@
 -- No false rebuild and no false cycle, where no wait is false.
-use Rattle.std.proofs.Common.{◌≡◌, ◌⊎◌, ◌↔◌, ℕ, zero, suc, ◌<◌, Bool, true, false, List, [], ◌∷◌, length, map, Option, Some, None, Contains, get_or, refl, ap, subst, sym, ◌∙◌, inl, inr, arith, slice_get, bytes_eq, true≢false}
+use Rattle.std.proofs.Common.{◌≡◌, ◌⊎◌, ℕ, zero, suc, ◌<◌, Bool, true, false, List, [], ◌∷◌, length, Option, Some, None, Contains, get_or, refl, ap, subst, sym, ◌∙◌, inl, inr, arith, slice_get, bytes_eq, true≢false}
 use Rattle.std.proofs.lemmas.Bool.{cases_lt}
 use Rattle.std.proofs.lemmas.List.{length-map}
 use Rattle.std.proofs.lemmas.Option.{slice_get_within, slice_get-get_or, get_or_from_slice_get}
 use Rattle.std.proofs.lemmas.Slice.Eq.{bytes_eq-Decides}
-use Rattle.dep_order.specs.Needs.{NodeNeeds, NeedsAreNodes, IsOrderable, needs_of}
+use Rattle.dep_order.specs.Needs.{NodeNeeds, NeedsAreNodes, IsOrderable}
 use Rattle.dep_order.specs.Cycles.{IsCycle}
 use Rattle.dep_order.proofs.ForCallers.{Implies, AreWithin, orderable_or_cycle, orderable_same, cycle_same, chain_same}
 use Rattle.build_effect.specs.EdgeValue.{EdgeValue}
 use Rattle.build_effect.specs.Graphs.{Makes, HasInput, EdgeNeeds, inputs_of, made_by}
 use Rattle.module_table.specs.TableValue.{TableValue}
 use Rattle.module_table.specs.Added.{required_of, RequiredFiles, AllRequired, OneFile}
-use Rattle.scan_docs.specs.Scan.{RuleValue}
 use Rattle.collate_core.specs.Headline.{with_modules}
 use Rattle.collate_core.specs.Builds.{IsMaker, HasReason, HasNoFalseWait, HasSameChains, without_order_only, rebuild_graph, HasNoFalseRebuild, HasNoFalseCycle}
 use Rattle.collate_core.proofs.ByIndex.{element_at, choose, same_some, from_map, to_map}

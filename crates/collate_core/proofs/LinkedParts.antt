@@ -1,5 +1,5 @@
 -- A part of what is known of linked infos is enough for the target that links them.
-use Rattle.std.proofs.Common.{◌≡◌, ℕ, zero, suc, ◌<◌, List, [], ◌∷◌, map, Option, Some, None, length, get_or, refl, ap, ap₂, subst, sym, ◌∙◌, arith, Contains, Bool, IsTrue}
+use Rattle.std.proofs.Common.{◌≡◌, ℕ, zero, suc, ◌<◌, List, [], ◌∷◌, map, Option, Some, None, length, get_or, refl, ap, ap₂, subst, sym, arith, Bool, IsTrue}
 use Rattle.std.specs.Prelude.{slice_get, All, IfSome}
 use Rattle.std.specs.Option.{option_map_or, option_map, option_copied, is_some}
 use Rattle.std.specs.Borrow.{Bor}

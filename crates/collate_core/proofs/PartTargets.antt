@@ -1,6 +1,6 @@
 -- What a target collates to, by the table of a part of its infos.
-use Rattle.std.proofs.Common.{◌≡◌, ◌↔◌, ℕ, List, map, Option, Some, None, Ok, refl, ap, subst, ◌∙◌}
-use Rattle.std.specs.Prelude.{slice_get, All, Contains, IfSome}
+use Rattle.std.proofs.Common.{◌≡◌, ℕ, List, map, Option, Some, None, Ok, refl, ap, subst}
+use Rattle.std.specs.Prelude.{All, IfSome}
 use Rattle.std.specs.List.{flat_map}
 use Rattle.dyndep_file.specs.WriteFaults.{text_or_fault}
 use Rattle.dyndep_file.specs.Reading.{StandsForOnly}
@@ -17,8 +17,7 @@ use Rattle.module_maps.specs.Maps.{Written}
 use Rattle.collate_core.specs.Values.{TargetValue, CollatedValue}
 use Rattle.collate_core.specs.Documents.{table_of, AreAccepted, IsResolved}
 use Rattle.collate_core.specs.Statements.{statement_of}
-use Rattle.collate_core.specs.Infos.{modules_of, info_of_table}
-use Rattle.collate_core.specs.Maps.{IsMapOf}
+use Rattle.collate_core.specs.Infos.{modules_of}
 use Rattle.collate_core.specs.Collation.{IsMapText, AreMaps, Collates}
 use Rattle.collate_core.specs.inner.Parts.{HasSpelled, IsWrittenOf}
 use Rattle.collate_core.specs.inner.PartTables.{IsEnoughFor}

@@ -1,16 +1,14 @@
 -- From the parts of collating to the whole.
 use Rattle.std.proofs.Common.{◌≡◌, ℕ, zero, suc, ◌+◌, ◌<◌, List, [], ◌∷◌, ◌++◌, length, map, Option, Some, None, Result, Ok, Err, ap, subst, sym, ◌∙◌, inl, inr, arith}
-use Rattle.std.specs.Prelude.{slice_get, All, Vec, IfOk, OnOk}
+use Rattle.std.specs.Prelude.{slice_get, Vec, IfOk, OnOk}
 use Rattle.std.specs.declared.alloc.Global.{Global}
 use Rattle.std.proofs.lemmas.List.{map_push, length-map}
 use Rattle.ninja_text.specs.Failure.{ForFault}
 use Rattle.ninja_text.specs.declared.failure.Failure.{Failure}
 use Rattle.ninja_text.specs.declared.failure.Failure.TheVariants.{Memory, Fault}
 use Rattle.dyndep_file.specs.StatementValue.{StatementValue}
-use Rattle.dyndep_file.specs.WriteFaults.{write_fault, text_or_fault}
-use Rattle.dyndep_file.specs.Reading.{StandsForOnly}
+use Rattle.dyndep_file.specs.WriteFaults.{write_fault}
 use Rattle.scan_docs.specs.Scan.{RuleValue}
-use Rattle.scan_docs.specs.InfoText.{info_text, ReadsBack}
 use Rattle.module_table.specs.TableValue.{TableValue}
 use Rattle.module_table.specs.Faults.{IsFault}
 use Rattle.module_table.specs.Sound.{IsSound, PrivateAreProvided}
@@ -20,8 +18,7 @@ use Rattle.collate_core.proofs.ByIndex.{element_at, in_append, same_some}
 use Rattle.collate_core.specs.Values.{TargetValue, CollatedValue}
 use Rattle.collate_core.specs.Documents.{table_of, AreAccepted, IsResolved}
 use Rattle.collate_core.specs.Statements.{statements_of}
-use Rattle.collate_core.specs.Infos.{info_of_table}
-use Rattle.collate_core.specs.Collation.{IsMapText, AreMaps, Collates}
+use Rattle.collate_core.specs.Collation.{IsMapText, Collates}
 use Rattle.collate_core.specs.Refusals.{IsRefusal, IsMapRefusal, WasRead}
 use Rattle.collate_core.specs.inner.Parts.{IsDocumentRefusal, IsWriteRefusal, IsMapsRefusal, IsObjectRefusal, IsTextsRefusal, IsWrittenOf}
 use Rattle.collate_core.specs.declared.fault.Refusal.{Refusal}

@@ -1,5 +1,4 @@
-use Rattle.std.proofs.Common.{map, All}
-use Rattle.std.proofs.lemmas.Result.{err_from_is_err_and}
+use Rattle.std.proofs.Common.{All}
 use Rattle.collate_core.specs.Statements.{statements_of}
 use Rattle.collate_core.specs.Collation.{HasPaths}
 use Rattle.collate_core.proofs.HeadlineLemmas.{collated_text}

@@ -1,4 +1,4 @@
-use Rattle.std.proofs.Common.{◌≡◌, ◌≤◌, ℕ, List, length, subst, sym, ◌∙◌, arith}
+use Rattle.std.proofs.Common.{◌≡◌, ◌≤◌, length, subst, sym, ◌∙◌, arith}
 use Rattle.scan_docs.specs.Document.{IsAccepted}
 use Rattle.scan_docs.specs.Info.{InfoValue, IsInfo}
 use Rattle.scan_docs.specs.InfoChecks.{info_checks}

@@ -1,10 +1,9 @@
-use Rattle.std.proofs.Common.{◌≡◌, List, Option, Some, subst, IsTrue, All}
+use Rattle.std.proofs.Common.{◌≡◌, List, subst, IsTrue}
 use Rattle.std.specs.Prelude.{IfSome}
 use Rattle.std.specs.Option.{option_copied, option_map}
 use Rattle.scan_docs.specs.Scan.{RuleValue}
 use Rattle.scan_docs.specs.Info.{InfoValue}
 use Rattle.module_table.specs.Parts.{AreLinked, IsEnough, KeepsRequired}
-use Rattle.module_maps.specs.Maps.{Written}
 use Rattle.collate_core.specs.Values.{TargetValue}
 use Rattle.collate_core.specs.Documents.{all_rules, AreScansAccepted}
 use Rattle.collate_core.proofs.LinkedParts.{enough_for_target, keeps_for_style}

@@ -1,4 +1,4 @@
-use Rattle.std.proofs.Common.{◌≡◌, ap₂, subst, List}
+use Rattle.std.proofs.Common.{◌≡◌, ap₂, List}
 use Rattle.scan_docs.specs.Scan.{RuleValue}
 use Rattle.scan_docs.specs.Info.{InfoValue}
 use Rattle.module_table.specs.TableValue.{table_with}
