@@ -324,6 +324,15 @@ class Reading(unittest.TestCase):
                 with self.subTest(page.relative_to(TOP.parent).as_posix(), name=name):
                     self.assertTrue(any(folder.glob(name)) if "*" in name else (folder / name).exists())
 
+    def test_wrong_bodies(self):
+        """The edits that docs/PROVED.md names are there."""
+        section = re.search(r"^## Wrong bodies.*?(?=^## )", PAGE.read_text(), re.M | re.S)[0]
+        edits = re.findall(r"`(\w+)/(\w+)`", section)
+        self.assertGreater(len(edits), 30)
+        for crate, name in edits:
+            with self.subTest(name):
+                self.assertTrue((TOP / crate / f"must-fail/{name}.edit").is_file())
+
     def test_walk(self):
         """The sources have what the walk of docs/ARCHITECTURE.md names."""
         walk = re.search(r"^## The walk.*?(?=^## )", (TOP.parent / "docs/ARCHITECTURE.md").read_text(), re.M | re.S)[0]
