@@ -1,6 +1,6 @@
 """The tests of the program, in the standard library's `unittest`; README.md says what is where, and how to run one."""
 SUBJECTS = ["arguments", "scan_documents", "infos", "targets", "projects", "modules", "dyndep_files", "listings", "effects",
-            "tables", "files", "earlier_files", "whole_files", "devices", "growths", "damage", "random_documents",
+            "tables", "files", "earlier_files", "restat", "whole_files", "devices", "growths", "damage", "random_documents",
             "broken_programs", "manual", "reading", "words", "crates", "pictures", "lemmas", "callers", "builds", "cmake", "cmake_builds",
             "generator", "traps", "schemas", "releases"]
 

@@ -130,7 +130,7 @@ def damaged(make, text):
 # members that may be added to any object, and values that may be in the place of any
 MEMBERS = ["version", "rules", "primary-output", "work-directory", "provides", "requires", "logical-name",
            "compiled-module-path", "is-interface", "unique-on-source-path", "lookup-method", "target", "module-dir",
-           "build-dir", "scans", "linked", "private", "info", "map", "edges", "modules", "bmi", "name", "visibility", "targets",
+           "build-dir", "scans", "linked", "private", "info", "map", "edges", "restat", "modules", "bmi", "name", "visibility", "targets",
            "unknown"]
 VALUES = [None, True, False, 0, 1, 2, 1.5, "", "a/..", "..", "/b", "/b/c", "x", "x:y", "x y", "x\x7f", "by-name",
           "include-angle", "private", "gcc", "clang", "edges", [], {}]

@@ -19,7 +19,7 @@ DEPTH_LIMIT = 127
 Rule = namedtuple("Rule", "object provides requires")
 InfoModule = namedtuple("InfoModule", "name file required is_private")
 Info = namedtuple("Info", "target modules")
-Spec = namedtuple("Spec", "target module_dir module_ext build_dir scans linked private dyndep path info map edges")
+Spec = namedtuple("Spec", "target module_dir module_ext build_dir scans linked private dyndep path info map edges restat")
 
 
 # ---- JSON
@@ -262,7 +262,7 @@ def spec_of(text, where):
     if form not in (None, b"gcc", b"clang"):
         document.misshapen("map")
     return Spec(target, folder, ending, build, scans, linked, private, dyndep, path, info, form,
-                document.text("edges", needed=False))
+                document.text("edges", needed=False), document.get("restat", bool))
 
 
 def build_of(document):

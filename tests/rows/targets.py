@@ -45,6 +45,9 @@ WRITTEN = [
     ("null for members", b',"build-dir":null', {}, {"t.json": NO_MODULES, "t.dd": V}),
     ("null for lists, and an empty one", b',"private":null,"scans":null,"linked":[]', {}, {"t.json": NO_MODULES, "t.dd": V}),
     ("null for maps and edges", b',"map":null,"edges":null', {}, {"t.json": NO_MODULES, "t.dd": V}),
+    ("null for restat", b',"restat":null', {}, {"t.json": NO_MODULES, "t.dd": V}),
+    ("* an info and GCC's map that may be left alone", LINKS + b',"map":"gcc","restat":true', LINKED,
+     {"main.o.modmap": b"B lib/B.bmi\n"} | LINKED_FILES),
     ("one object", b',"scans":["b.ddi"]', {"b.ddi": ONE},
      {"t.json": b'{"modules":[{"bmi":"mod/B.bmi","name":"B","requires":[],"visibility":"public"}],"target":"t","version":2}',
       "t.dd": ONE_STATEMENT}),
@@ -110,6 +113,8 @@ MEMBERS = [
     ("a faulty name in private", b'"private":["A","a..b"]', b"S6 BadName document"),
     ("another kind of map", b'"map":"msvc"', b"S3 BadShape document member map"),
     ("a number for edges", b'"edges":7', b"S3 BadShape document member edges"),
+    ("a number for restat", b'"restat":1', b"S3 BadShape document member restat"),
+    ("a text for restat, after edges", b'"restat":"true","edges":7', b"S3 BadShape document member edges"),
     ("null for the dyndep file, after a text", LINKS[1:] + b',"dyndep":null', b"S3 BadShape document member dyndep"),
 ]
 

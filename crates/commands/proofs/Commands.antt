@@ -1,6 +1,6 @@
 -- The files of a collated target.
 use Rattle.std.proofs.Common.{◌≡◌, ◌∙◌, ℕ, suc, List, [], ◌∷◌, ◌++◌, map, zip, Option, refl, ap, sym, subst, arith}
-use Rattle.std.specs.Prelude.{All, IsUtf8, Vec, Result, Ok, Err, OnOk, String}
+use Rattle.std.specs.Prelude.{All, IsUtf8, Bool, Vec, Result, Ok, Err, OnOk}
 use Rattle.std.specs.Global.{Global}
 use Rattle.std.specs.List.{AllZip}
 use Rattle.std.proofs.lemmas.List.{map-append}
@@ -12,8 +12,9 @@ use Rattle.collate_core.specs.Values.{TargetValue, CollatedValue}
 use Rattle.collate_core.specs.Documents.{all_rules, table_of, IsScanAccepted}
 use Rattle.collate_core.specs.Collation.{Collates}
 use Rattle.commands.specs.Answers.{file_value}
-use Rattle.commands.specs.CollateCommand.{map_name}
+use Rattle.commands.specs.CollateCommand.{map_name, output_file, map_files}
 use Rattle.commands.specs.Outcomes.{FileValue}
+use Rattle.commands.specs.declared.stop.OutputFile.{OutputFile}
 
 -- ---- objects are text
 
@@ -43,17 +44,19 @@ first_all P (x ∷ xs) (y ∷ ys) h = All-cons (λ p. P p.0) (x, y) (zip xs ys) 
 
 -- ---- names and texts
 
-pub zip_map : {A B C D : Type 0} (f : A → C) (g : B → D) (xs : List A) (ys : List B) → map (λ (p : A × B). (f p.0, g p.1)) (zip xs ys) ≡ zip (map f xs) (map g ys)
-zip_map f g [] ys = refl
-zip_map f g (x ∷ xs) [] = refl
-zip_map f g (x ∷ xs) (y ∷ ys) = ap (λ l. (f x, g y) ∷ l) (zip_map f g xs ys)
-
 -- the map file of an object
-abbrev pub map_file : List ℕ × Vec ℕ Global → FileValue
-map_file object = (map_name object.0, object.1.items)
+abbrev pub map_file : Bool → List ℕ × Vec ℕ Global → FileValue
+map_file keeps object = output_file keeps (map_name object.0) object.1.items
+
+-- and of all
+pub zip_map : (keeps : Bool) (objects : List (List ℕ)) (maps : List (Vec ℕ Global)) →
+    map (map_file keeps) (zip objects maps) ≡ map_files keeps objects (map (λ (m : Vec ℕ Global). m.items) maps)
+zip_map keeps [] maps = refl
+zip_map keeps (object ∷ objects) [] = refl
+zip_map keeps (object ∷ objects) (m ∷ maps) = ap (λ (l : List FileValue). output_file keeps (map_name object) m.items ∷ l) (zip_map keeps objects maps)
 
 -- one file more
-pub file_more : {E : Type 0} (r : Result Unit E) (old new : List (String Global × Vec ℕ Global)) (file : String Global × Vec ℕ Global) (value : FileValue) →
+pub file_more : {E : Type 0} (r : Result Unit E) (old new : List OutputFile) (file : OutputFile) (value : FileValue) →
     file_value file ≡ value → OnOk r (new ≡ old ++ file ∷ []) → OnOk r (map file_value new ≡ map file_value old ++ value ∷ [])
 file_more (Ok done) old new file value is more =
     ap (map file_value) more ∙ map-append file_value old (file ∷ []) ∙ ap (λ v. map file_value old ++ v ∷ []) is

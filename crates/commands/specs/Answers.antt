@@ -1,11 +1,11 @@
 -- What a run returns as a value: its exit status, its two texts, and the files to be written.
-use Rattle.std.specs.Prelude.{◌≡◌, ⊤, ℕ, ◌||◌, ◌==◌, nat_lt, if◌then◌else◌, List, [], ◌∷◌, ◌++◌, map, Result, Ok, Err, String, Vec, string_bytes, codes}
-use Rattle.std.specs.Global.{Global}
+use Rattle.std.specs.Prelude.{◌≡◌, ⊤, ℕ, ◌||◌, ◌==◌, nat_lt, if◌then◌else◌, List, [], ◌∷◌, ◌++◌, map, Result, Ok, Err, string_bytes, codes}
 use Rattle.std.specs.declared.alloc.AllocError.{AllocError}
 use Rattle.ninja_text.specs.Bytes.{Text, line_feed, space, question_mark, delete}
 use Rattle.ninja_text.specs.declared.failure.Failure.TheVariants.{Memory, Fault}
 use Rattle.commands.specs.Outcomes.{FileValue, LineValue, OutputValue, Outcome}
 use Rattle.commands.specs.declared.answer.Answer.{Answer}
+use Rattle.commands.specs.declared.stop.OutputFile.{OutputFile}
 
 -- a byte as it is printed in a line: `?` for a control byte
 abbrev pub visible : ℕ → ℕ
@@ -15,9 +15,10 @@ visible b = if nat_lt b space || b == delete then question_mark else b
 abbrev pub line : Text → Text
 line message = codes "dyncollate: " ++ map visible message ++ line_feed ∷ []
 
--- the name and the bytes of a file that is to be written
-abbrev pub file_value : String Global × Vec ℕ Global → FileValue
-file_value file = (string_bytes file.0, file.1.items)
+-- a file that is to be written
+abbrev pub file_value : OutputFile → FileValue
+file_value file =
+    record { name = string_bytes file.name; bytes = file.bytes.items; keeps = file.keeps }
 
 -- The run succeeded: status 0, its text on standard output, nothing on standard error, its files.
 pub record IsDone (output : OutputValue) (answer : Answer) : Type 0 where

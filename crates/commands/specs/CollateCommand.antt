@@ -1,5 +1,5 @@
 -- What the command `collate` reads and leaves.
-use Rattle.std.specs.Prelude.{List, [], ◌∷◌, ◌++◌, map, zip, Option, Some, None, codes}
+use Rattle.std.specs.Prelude.{List, [], ◌∷◌, ◌++◌, map, zip, Bool, false, Option, Some, None, codes}
 use Rattle.ninja_text.specs.Bytes.{Bytes, Text, PathText}
 use Rattle.scan_docs.specs.Document.{IsAccepted, IsRefused}
 use Rattle.scan_docs.specs.FaultTexts.{doc_fault_text}
@@ -54,11 +54,22 @@ style_of (Some Clang) = Some clang_written
 abbrev pub map_name : PathText → PathText
 map_name object = object ++ codes ".modmap"
 
--- the files of a collated target, in the order in which they are written: the map of each object,
--- the info file, and last the dyndep file
+-- a file of this name and of these bytes, which is left alone if it has them, or is always written
+abbrev pub output_file : Bool → PathText → Bytes → FileValue
+output_file keeps name bytes = record { name = name; bytes = bytes; keeps = keeps }
+
+-- the map files of these objects
+abbrev pub map_files : Bool → List PathText → List Text → List FileValue
+map_files keeps objects maps =
+    map (λ pair. output_file keeps (map_name pair.0) pair.1) (zip objects maps)
+
+-- The files of a collated target, in the order in which they are written: the map of each object,
+-- the info file, and last the dyndep file. Maps and the info are left alone if they have their
+-- bytes and the document asks for it; the dyndep file is always written.
 abbrev pub files_of : document.TargetDocumentValue → CollatedValue → List FileValue
 files_of spec c =
-    zip (map map_name c.objects) c.maps ++ (spec.info, c.info) ∷ (spec.dyndep, c.dyndep) ∷ []
+    map_files spec.restat c.objects c.maps
+    ++ output_file spec.restat spec.info c.info ∷ output_file false spec.dyndep c.dyndep ∷ []
 
 -- What a run reads and leaves for these bytes of a target document. It reads no file of a rejected
 -- one.

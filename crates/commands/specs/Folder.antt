@@ -1,12 +1,14 @@
--- The calls by which files are read and written.
-use Rattle.std.specs.Prelude.{◌≡◌, ℕ, List, ◌++◌, Option, option_map, Result, Ok, Err, Vec}
+-- The calls by which files are read, compared and written.
+use Rattle.std.specs.Prelude.{◌≡◌, ℕ, List, ◌++◌, Bool, Option, option_map, Result, Ok, Err, Vec}
 use Rattle.std.specs.Global.{Global}
 use Rattle.std.specs.declared.io.Error.{Error}
 use Rattle.ninja_text.specs.Bytes.{Bytes, PathText}
 
--- one call, by the name of the file, the bytes that are written, and the answer
+-- one call, by the name of the file, the bytes that it is compared with or that are written, and the
+-- answer
 pub data FileCall : Type 0 where
   reading : PathText → Result Bytes Error → FileCall
+  comparing : PathText → Bytes → Bool → FileCall
   writing : PathText → Bytes → Result (Unit {0}) Error → FileCall
 
 -- the bytes that a call read, or its error

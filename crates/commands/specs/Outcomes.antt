@@ -1,6 +1,6 @@
 -- How the parts of a run follow one another: each goes on with the value of the one before it, and
 -- the first that stops ends the run.
-use Rattle.std.specs.Prelude.{◌≡◌, ◌⊎◌, ⊤, ℕ, List, [], ◌∷◌, ◌++◌, Option, Some, None, Result, Ok, Err, codes}
+use Rattle.std.specs.Prelude.{◌≡◌, ◌⊎◌, ⊤, ℕ, List, [], ◌∷◌, ◌++◌, Bool, Option, Some, None, Result, Ok, Err, codes}
 use Rattle.std.specs.IoError.{error_kind}
 use Rattle.std.specs.declared.io.Error.{Error}
 use Rattle.std.specs.declared.io.ErrorKind.TheVariants.{OutOfMemory}
@@ -9,9 +9,11 @@ use Rattle.ninja_text.specs.declared.failure.Failure.{Failure}
 use Rattle.ninja_text.specs.declared.failure.Failure.TheVariants.{Memory, Fault}
 use Rattle.commands.specs.Folder.{FileCall, reading, MakesCalls}
 
--- a file: its name, and its bytes
-abbrev pub FileValue : Type 0
-FileValue = PathText × Bytes
+-- a file: its name, its bytes, and whether it is left alone if it has them already
+pub record FileValue : Type 0 where
+  pub name : PathText
+  pub bytes : Bytes
+  pub keeps : Bool
 
 -- the exit status of a run that fails, and the message that says why
 pub record LineValue : Type 0 where

@@ -4,18 +4,18 @@ ghost use Rattle.std.specs.Prelude.{◌≡◌, ◌++◌, ◌∷◌, [], map, IfO
 ghost use Rattle.ninja_text.specs.Bytes.{line_feed};
 ghost use Rattle.commands.specs.Answers.{visible, line, IsAnswered};
 
-use crate::stop::{Output, Stop};
+use crate::stop::{Output, OutputFile, Stop};
 use ninja_text::Failure;
 use std::alloc::{AllocError, Global};
 
 /// What a run returns: the exit status, the bytes for standard output and for standard error, and
-/// the files to be written, by name and in order.
+/// the files to be written, in order.
 #[derive(Drop)]
 pub struct Answer {
     pub status: u8,
     pub out: Vec<u8>,
     pub err: Vec<u8>,
-    pub files: Vec<(String, Vec<u8>)>,
+    pub files: Vec<OutputFile>,
 }
 
 impl Answer {

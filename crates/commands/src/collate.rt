@@ -1,19 +1,19 @@
 //! The command `collate`: the files of a target.
 
-ghost use Rattle.std.specs.Prelude.{◌≡◌, None, [], ◌∷◌, ◌++◌, map, zip, All, IsUtf8, IfOk, IfErr, OnOk};
+ghost use Rattle.std.specs.Prelude.{◌≡◌, None, [], ◌∷◌, ◌++◌, map, All, IsUtf8, IfOk, IfErr, OnOk};
 ghost use Rattle.ninja_text.specs.Failure.{ForFault};
 ghost use Rattle.module_table.specs.TableValue.{table_with};
 ghost use Rattle.collate_core.specs.Collation.{Collates};
 ghost use Rattle.collate_core.specs.Refusals.{IsRefusal, WasRead};
 ghost use Rattle.commands.specs.Answers.{file_value};
-ghost use Rattle.commands.specs.CollateCommand.{style_of, map_name, files_of, target_with, SpecOf, CollateRun};
+ghost use Rattle.commands.specs.CollateCommand.{style_of, map_name, output_file, map_files, files_of, target_with, SpecOf, CollateRun};
 ghost use Rattle.commands.specs.Outcomes.{Runs, Writes};
 ghost use Rattle.commands.specs.Targets.{TargetOf};
 
 use crate::edges::pass_edges;
 use crate::folder::Folder;
 use crate::reading::{TargetFiles, add, slices};
-use crate::stop::{self, Output, Stop};
+use crate::stop::{self, Output, OutputFile, Stop};
 use collate_core::{Collated, CollatedParts, RefusedTarget, Target, collate_or_refused};
 use module_maps::{Clang, Gcc};
 use ninja_text::{Failure, Path};
@@ -96,7 +96,7 @@ pub(crate) fn append_files(
     alloc: Global,
     collated: Collated,
     spec: &TargetSpec,
-    files: &mut Vec<(String, Vec<u8>)>,
+    files: &mut Vec<OutputFile>,
 ) -> Result<(), AllocError>
     requires { All IsUtf8 collated.objects }
     ensures { OnOk result (map file_value files.new.items
@@ -108,9 +108,9 @@ pub(crate) fn append_files(
         objects,
         maps,
     } = collated.into_parts();
-    append_maps(alloc, &objects, maps, files)?;
-    append_file(alloc, spec.info.as_str(), info_text, files)?;
-    append_file(alloc, spec.dyndep.as_str(), dyndep_text, files)
+    append_maps(alloc, &objects, maps, spec.restat, files)?;
+    append_file(alloc, spec.info.as_str(), info_text, spec.restat, files)?;
+    append_file(alloc, spec.dyndep.as_str(), dyndep_text, false, files)
 }
 
 /// Appends the map files of these objects, where there are maps.
@@ -118,15 +118,16 @@ fn append_maps(
     alloc: Global,
     objects: &[Path],
     maps: Vec<Vec<u8>>,
-    files: &mut Vec<(String, Vec<u8>)>,
+    keeps: bool,
+    files: &mut Vec<OutputFile>,
 ) -> Result<(), AllocError>
     requires { All IsUtf8 objects.now }
     ensures { OnOk result (map file_value files.new.items ≡ map file_value files.old.items
-        ++ zip (map map_name objects.now) (map (λ m. m.items) maps.items)) }
+        ++ map_files keeps objects.now (map (λ m. m.items) maps.items)) }
 {
     files.reserve(maps.len())?;
     for (object, map) in objects.iter().zip(maps) {
-        append_map(alloc, object, map, files)?;
+        append_map(alloc, object, map, keeps, files)?;
     }
     Ok(())
 }
@@ -136,17 +137,25 @@ fn append_map(
     alloc: Global,
     object: &Path,
     text: Vec<u8>,
-    files: &mut Vec<(String, Vec<u8>)>,
+    keeps: bool,
+    files: &mut Vec<OutputFile>,
 ) -> Result<(), AllocError>
     requires { IsUtf8 object.now }
     ensures { OnOk result (map file_value files.new.items
-        ≡ map file_value files.old.items ++ (map_name object.now, text.items) ∷ []) }
+        ≡ map file_value files.old.items ++ output_file keeps (map_name object.now) text.items ∷ []) }
 {
     let Ok(object) = str::from_utf8(object.bytes()) else {
         unreachable!()
     };
     let name = format!(in alloc; "{object}.modmap")?;
-    add(files, (name, text))
+    add(
+        files,
+        OutputFile {
+            name,
+            bytes: text,
+            keeps,
+        },
+    )
 }
 
 /// Appends a file of this name.
@@ -154,11 +163,19 @@ fn append_file(
     alloc: Global,
     name: &str,
     text: Vec<u8>,
-    files: &mut Vec<(String, Vec<u8>)>,
+    keeps: bool,
+    files: &mut Vec<OutputFile>,
 ) -> Result<(), AllocError>
     ensures { OnOk result (map file_value files.new.items
-        ≡ map file_value files.old.items ++ (name.now, text.items) ∷ []) }
+        ≡ map file_value files.old.items ++ output_file keeps name.now text.items ∷ []) }
 {
     let name = String::from_str(alloc, name)?;
-    add(files, (name, text))
+    add(
+        files,
+        OutputFile {
+            name,
+            bytes: text,
+            keeps,
+        },
+    )
 }

@@ -1,6 +1,6 @@
 //! What files are read from and written to.
 ghost use Rattle.std.specs.Prelude.{List, Option, [], ◌∷◌};
-ghost use Rattle.commands.specs.Folder.{FileCall, reading, writing, answer_of, Adds};
+ghost use Rattle.commands.specs.Folder.{FileCall, reading, comparing, writing, answer_of, Adds};
 
 use std::io;
 
@@ -17,6 +17,11 @@ pub trait Folder {
     fn read(&mut self, name: &str) -> io::Result<Vec<u8>>
         ensures { Adds (calls self.old) (calls self.new)
             (reading name.now (answer_of result) ∷ []) };
+
+    /// Whether the file of this name has exactly these bytes already; `false` if it can't be read.
+    fn has(&mut self, name: &str, bytes: &[u8]) -> bool
+        ensures { Adds (calls self.old) (calls self.new)
+            (comparing name.now bytes.now result ∷ []) };
 
     /// Makes these the bytes of the file of this name.
     fn write(&mut self, name: &str, bytes: &[u8]) -> io::Result<()>

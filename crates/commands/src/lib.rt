@@ -67,4 +67,4 @@ pub use program::program_run;
 pub use project::project_run;
 pub use run::{task_run, write_files};
 pub use show::show_run;
-pub use stop::{Line, Output, Stop};
+pub use stop::{Line, Output, OutputFile, Stop};

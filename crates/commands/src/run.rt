@@ -1,7 +1,9 @@
 //! A run of the program, from its task to what it leaves.
 
 ghost use Rattle.command_line.specs.Tasks.{task_value};
-ghost use Rattle.commands.specs.Files.{WritesFiles};
+ghost use Rattle.commands.specs.Answers.{file_value};
+ghost use Rattle.commands.specs.Files.{WritesFile, WritesFiles};
+ghost use Rattle.commands.specs.Folder.{MakesCalls};
 ghost use Rattle.commands.specs.Outcomes.{Runs};
 ghost use Rattle.commands.specs.Runs.{TaskRun};
 
@@ -13,9 +15,10 @@ use crate::order::order_run;
 use crate::project::project_run;
 use crate::reading::read;
 use crate::show::show_run;
-use crate::stop::{self, Output, Stop};
+use crate::stop::{self, Output, OutputFile, Stop};
 use command_line::Task;
 use std::alloc::Global;
+use std::io;
 
 /// Runs a task. The files that it names are read from the folder, each when its turn comes; none is
 /// written.
@@ -39,15 +42,27 @@ pub fn task_run<F: Folder>(alloc: Global, task: &Task, folder: &mut F) -> Result
 }
 
 /// Writes the files of an output, in order, up to the first that can't be written. The run stops
-/// with the name of that file; the files before it stay.
+/// with the name of that file; the files before it stay. A file that has its bytes is left alone if
+/// the output says so.
 pub fn write_files<F: Folder>(alloc: Global, output: Output, folder: &mut F) -> Result<Output, Stop>
     ensures { Runs (F.calls folder.old) (F.calls folder.new) (WritesFiles output) result }
 {
     let Output { text, files } = output;
     for file in &files {
-        if folder.write(file.0.as_str(), file.1.as_slice()).is_err() {
-            return Err(stop::of_unwritten(alloc, file.0.as_str()));
+        if write_file(file, folder).is_err() {
+            return Err(stop::of_unwritten(alloc, file.name.as_str()));
         }
     }
     Ok(Output { text, files })
+}
+
+/// Writes a file, unless it is left alone if it has its bytes, and has them.
+fn write_file<F: Folder>(file: &OutputFile, folder: &mut F) -> io::Result<()>
+    ensures { MakesCalls (F.calls folder.old) (F.calls folder.new)
+        (λ calls. WritesFile (file_value file.now) calls result) }
+{
+    if file.keeps && folder.has(file.name.as_str(), file.bytes.as_slice()) {
+        return Ok(());
+    }
+    folder.write(file.name.as_str(), file.bytes.as_slice())
 }

@@ -22,12 +22,20 @@ use scan_docs::DocFault;
 use std::alloc::{AllocError, Global};
 use std::marker::Model;
 
-/// What a run leaves that succeeds: its text for standard output, and the files to be written, by
-/// name and in order.
+/// What a run leaves that succeeds: its text for standard output, and the files to be written, in
+/// order.
 #[derive(Drop)]
 pub struct Output {
     pub text: Vec<u8>,
-    pub files: Vec<(String, Vec<u8>)>,
+    pub files: Vec<OutputFile>,
+}
+
+/// A file to be written: its name, its bytes, and whether it is left alone if it has them already.
+#[derive(Drop)]
+pub struct OutputFile {
+    pub name: String,
+    pub bytes: Vec<u8>,
+    pub keeps: bool,
 }
 
 impl Model for Output {
@@ -52,7 +60,7 @@ impl Output {
     }
 
     /// Returns an output that prints nothing and has these files.
-    pub(crate) fn files(alloc: Global, files: Vec<(String, Vec<u8>)>) -> Output
+    pub(crate) fn files(alloc: Global, files: Vec<OutputFile>) -> Output
         ensures { result ≡ written (map file_value files.items) }
     {
         Output {

@@ -7,7 +7,7 @@
 
 use commands::Folder;
 use std::fs::{File, OpenFile, Permissions};
-use std::io::{ErrorKind, Write};
+use std::io::{ErrorKind, Read, Write};
 use std::random::RandomSource;
 use std::rt::Files;
 use std::{fs, io};
@@ -27,6 +27,10 @@ impl<R: Files + RandomSource + AllocGlobal> Folder for SystemFiles<'_, R> {
         fs::read(self.rt, name)
     }
 
+    fn has(&mut self, name: &str, bytes: &[u8]) -> bool {
+        has_bytes(self.rt, name, bytes).unwrap_or(false)
+    }
+
     fn write(&mut self, name: &str, bytes: &[u8]) -> io::Result<()> {
         match fs::symlink_metadata(self.rt, name) {
             Ok(old) if old.is_symlink() => write_behind_link(self.rt, name, bytes),
@@ -37,6 +41,26 @@ impl<R: Files + RandomSource + AllocGlobal> Folder for SystemFiles<'_, R> {
             _ => fs::write(self.rt, name, bytes),
         }
     }
+}
+
+/// Returns whether a file has exactly these bytes. It is read in pieces, up to the first that
+/// differs. A pipe or a device is not opened: its reader would wait for a writer.
+fn has_bytes<R: Files>(rt: &R, name: &str, bytes: &[u8]) -> io::Result<bool> {
+    if !fs::metadata(rt, name)?.is_file() {
+        return Ok(false);
+    }
+    let mut file = File::open(rt, name)?;
+    let mut found = [0; 4096];
+    let mut rest = bytes;
+    while !rest.is_empty() {
+        let (piece, after) = rest.split_at(rest.len().min(found.len()));
+        file.read_exact(&mut found[..piece.len()])?;
+        if &found[..piece.len()] != piece {
+            return Ok(false);
+        }
+        rest = after;
+    }
+    Ok(file.read(&mut found[..1])? == 0)
 }
 
 /// Writes the file that a link leads to. The link stays.

@@ -1,8 +1,8 @@
-use Rattle.std.proofs.Common.{ℕ, List, [], ◌∷◌, ◌++◌, map, append_assoc, ap, ap₂, subst, sym, ◌∙◌}
-use Rattle.std.specs.Prelude.{All, IsUtf8, OnOk, Result, Ok, Err, zip}
+use Rattle.std.proofs.Common.{◌≡◌, ℕ, List, [], ◌∷◌, ◌++◌, map, append_assoc, ap, ap₂, subst, sym, ◌∙◌}
+use Rattle.std.specs.Prelude.{All, IsUtf8, OnOk, Result, Ok, Err, false}
 use Rattle.scan_docs.specs.Target.{TargetDocumentValue}
 use Rattle.commands.specs.Answers.{file_value}
-use Rattle.commands.specs.CollateCommand.{map_name}
+use Rattle.commands.specs.CollateCommand.{output_file, map_files}
 use Rattle.commands.specs.Outcomes.{FileValue}
 use Rattle.commands.proofs.collate.append_files.Goals as goal
 
@@ -21,13 +21,14 @@ returns c =
     let collated = c.args.collated in
     let spec : TargetDocumentValue = c.args.spec.now in
     let before : List FileValue = map file_value c.args.files.now.items in
-    let maps : List FileValue = zip (map map_name collated.objects) collated.maps in
-    let info = ap₂ (λ (name text : List ℕ). (name, text)) (c.as_str.ensures.value ∙ ap (λ (t : TargetDocumentValue). t.info) c.spec.view_is) parts.info in
-    let dyndep = ap₂ (λ (name text : List ℕ). (name, text)) (c.as_str-2.ensures.value ∙ ap (λ (t : TargetDocumentValue). t.dyndep) c.spec.view_is) parts.dyndep in
-    let maps_in = c.in_ok-append_maps.ensures ∙ ap₂ (λ objects texts. before ++ zip (map map_name objects) texts) (c.deref.ensures.value ∙ parts.objects) parts.maps in
+    let maps : List FileValue = map_files spec.restat collated.objects collated.maps in
+    let keeps : c.spec.inside.restat ≡ spec.restat = ap (λ (t : TargetDocumentValue). t.restat) c.spec.view_is in
+    let info = ap₂ (output_file c.spec.inside.restat) (c.as_str.ensures.value ∙ ap (λ (t : TargetDocumentValue). t.info) c.spec.view_is) parts.info ∙ ap (λ k. output_file k spec.info collated.info) keeps in
+    let dyndep = ap₂ (output_file false) (c.as_str-2.ensures.value ∙ ap (λ (t : TargetDocumentValue). t.dyndep) c.spec.view_is) parts.dyndep in
+    let maps_in = c.in_ok-append_maps.ensures ∙ ap₂ (λ objects texts. before ++ map_files c.spec.inside.restat objects texts) (c.deref.ensures.value ∙ parts.objects) parts.maps ∙ ap (λ k. before ++ map_files k collated.objects collated.maps) keeps in
     let info_in = c.in_ok-append_file.ensures ∙ ap₂ (λ (files : List FileValue) (file : FileValue). files ++ file ∷ []) maps_in info in
     if_done c.append_file-2.result _ _
     (λ h. h ∙ ap₂ (λ (files : List FileValue) (file : FileValue). files ++ file ∷ []) info_in dyndep
-    ∙ append_assoc (before ++ maps) ((spec.info, collated.info) ∷ []) ((spec.dyndep, collated.dyndep) ∷ [])
-    ∙ append_assoc before maps ((spec.info, collated.info) ∷ (spec.dyndep, collated.dyndep) ∷ []))
+    ∙ append_assoc (before ++ maps) (output_file spec.restat spec.info collated.info ∷ []) (output_file false spec.dyndep collated.dyndep ∷ [])
+    ∙ append_assoc before maps (output_file spec.restat spec.info collated.info ∷ output_file false spec.dyndep collated.dyndep ∷ []))
     c.append_file-2.ensures

@@ -7,7 +7,7 @@ use Rattle.std.proofs.lemmas.Iterator.Consumers.{YieldsList-turn, YieldsList-end
 use Rattle.std.proofs.lemmas.List.{length_push, take_all}
 use Rattle.std.proofs.lemmas.List.Elements.{All-get_or}
 use Rattle.commands.specs.Answers.{file_value}
-use Rattle.commands.specs.CollateCommand.{map_name}
+use Rattle.commands.specs.CollateCommand.{map_name, output_file}
 use Rattle.commands.specs.Outcomes.{FileValue}
 use Rattle.commands.proofs.Commands.{first_all, map_file, zip_map}
 use Rattle.commands.proofs.Loops.{mapped_next}
@@ -32,12 +32,12 @@ loop-object-preserved c =
     let maps = c.args.maps.items in
     let before : List FileValue = map file_value c.args.files.now.items in
     let n : ℕ = length c.loop-object.yielded in
-    let file : FileValue = (map_name c.in-Some.object.now, c.in-Some.map.items) in
+    let file : FileValue = output_file c.args.keeps (map_name c.in-Some.object.now) c.in-Some.map.items in
     let turn = YieldsList-turn (YieldsList-from_zip {s = c.into_iter-object-iterator.result} (YieldsList-from_slice objects (cc)) (YieldsList-from_vec maps (cc) (cc))) c.loop-object.yielded c.loop-object.object-iterator c.loop-object.yielded_by c.next.result c.next.new.self (c.in-Some.object, c.in-Some.map) c.in-Some.is c.next.ensures.steps in
     rw (length_push c.loop-object.yielded (c.in-Some.object, c.in-Some.map))
     (c.in_ok-append_map.ensures ∙ ap (λ (files : List FileValue). files ++ file ∷ []) c.loop-object.invariant
     ∙ append_assoc before _ (file ∷ [])
-    ∙ ap (λ (files : List FileValue). before ++ files) (sym (mapped_next map_file (zip objects maps) n (c.in-Some.object.now, c.in-Some.map) turn.0 turn.1)))
+    ∙ ap (λ (files : List FileValue). before ++ files) (sym (mapped_next (map_file c.args.keeps) (zip objects maps) n (c.in-Some.object.now, c.in-Some.map) turn.0 turn.1)))
 
 pub returns : goal.returns
 returns c =
@@ -47,5 +47,5 @@ returns c =
     let n : ℕ = length c.loop-object.yielded in
     let end = YieldsList-end (YieldsList-from_zip {s = c.into_iter-object-iterator.result} (YieldsList-from_slice objects (cc)) (YieldsList-from_vec maps (cc) (cc))) c.loop-object.yielded c.loop-object.object-iterator c.loop-object.yielded_by c.next.result c.next.new.self c.in-None.is c.next.ensures.steps in
     c.loop-object.invariant
-    ∙ ap (λ (files : List FileValue). before ++ files) (ap (map map_file) (take_all n (zip objects maps) (omega (arith, end.1)))
-    ∙ zip_map map_name (λ (text : Vec ℕ Global). text.items) objects maps)
+    ∙ ap (λ (files : List FileValue). before ++ files) (ap (map (map_file c.args.keeps)) (take_all n (zip objects maps) (omega (arith, end.1)))
+    ∙ zip_map c.args.keeps objects maps)

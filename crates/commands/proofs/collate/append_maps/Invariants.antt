@@ -5,4 +5,4 @@ use Rattle.commands.proofs.collate.append_maps.Given as goal
 
 -- the files of the objects so far
 abbrev pub invariant-loop-object : goal.invariant-loop-object
-invariant-loop-object l = map file_value l.files.items ≡ map file_value l.fn.files.items ++ map map_file (take (length l.yielded) (zip l.fn.objects l.fn.maps.items))
+invariant-loop-object l = map file_value l.files.items ≡ map file_value l.fn.files.items ++ map (map_file l.fn.keeps) (take (length l.yielded) (zip l.fn.objects l.fn.maps.items))
