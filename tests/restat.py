@@ -7,7 +7,8 @@ import threading
 from tests.case import Case, lay, read, tree, write
 
 DONE = 0, b"", b""
-LONG = "m" * 5000
+# a file of more than one piece
+LONG = "m" * 4084
 FILES = {"a.o.modmap": b"-x c++-module\n-fmodule-output=%s/A.bmi\n" % LONG.encode(),
          "b.o.modmap": b"-fmodule-file=A=%s/A.bmi\n" % LONG.encode(),
          "t.json": b'{"modules":[{"bmi":"%s/A.bmi","name":"A","requires":[],"visibility":"public"}],"target":"t","version":2}'
