@@ -122,7 +122,7 @@ RULES = """rule CXX_DYNDEP__app_
   description = Generating CXX dyndep file $out
   restat = 1
 rule CXX_DYNDEP__lib_
-  command = "/opt/a cmake/bin/cmake" -E cmake_ninja_dyndep --tdi="a $$dir/CXXDependInfo.json" --lang=CXX --modmapfmt=gcc --dd=$out @$out.rsp
+  command = "/usr/a cmake/bin/cmake" -E cmake_ninja_dyndep --tdi="a $$dir/CXXDependInfo.json" --lang=CXX --modmapfmt=gcc --dd=$out @$out.rsp
 rule CXX_DYNDEP__not_scanned_
   command = /usr/bin/cmake -E cmake_ninja_dyndep --tdi=CMakeFiles/x.dir/CXXDependInfo.json --lang=CXX --modmapfmt=gcc --dd=$out @$out.rsp
 rule RERUN_CMAKE
