@@ -1,21 +1,20 @@
 # Writes a project whose targets link many others: awk -v targets=TARGETS -v each=OBJECTS -v links=LINKS -v d=DIR
-# -f ../names.awk -f documents.awk. Each target has that many objects and links the last LINKS targets before it, or all of them
+# -f ../names.awk -f documents.awk. Each target has that many objects and links the first LINKS targets before it, or all of them
 # if LINKS is 0, as the closure of a monorepo does. Each object provides a module. It requires up to three modules of its own
 # target and two of the targets that it links. In DIR go a scan document and a target document for each target, and project.json.
 function linked_texts(target,    lower, text) {
-    for (lower = first_linked(target); lower < target; lower++) {
-        text = text (text == "" ? "" : ",") "\"t" lower ".json\""
+    for (lower = 0; lower < linked_count(target); lower++) {
+        text = text (lower == 0 ? "" : ",") "\"t" lower ".json\""
     }
     return text
 }
 
-function first_linked(target) {
-    return links == 0 || target < links ? 0 : target - links
+function linked_count(target) {
+    return links == 0 || target < links ? target : links
 }
 
-function write_scan(target,    file, local, number, entry, own, drawn, first) {
+function write_scan(target,    file, local, number, entry, own, drawn) {
     file = d "/" target ".ddi"
-    first = first_linked(target)
     printf "%s", document_begin() > file
     for (local = 0; local < each; local++) {
         number = target * each + local
@@ -26,7 +25,7 @@ function write_scan(target,    file, local, number, entry, own, drawn, first) {
             printf "%s%s", entry == 0 ? "" : ",", required_entry(name(target * each + (drawn + entry) % local)) > file
         }
         for (entry = 0; entry < 2 && target > 0; entry++) {
-            printf "%s%s", own + entry == 0 ? "" : ",", required_entry(name(first * each + draw((target - first) * each))) > file
+            printf "%s%s", own + entry == 0 ? "" : ",", required_entry(name(draw(linked_count(target) * each))) > file
         }
         printf "]}" > file
     }

@@ -5,7 +5,7 @@
 # bench/common.sh says what is printed. The labels:
 #   all       `project`, each target links all before it
 #   last      `collate` of the last of these targets, from the info files that `project` wrote
-#   twenty    `project`, each target links the 20 before it; with 10,000 targets the program alone
+#   twenty    `project`, each target links the first 20; with 10,000 targets the program alone
 set -euo pipefail
 here=$(cd "$(dirname "$0")" && pwd)
 source "$here/../common.sh"
