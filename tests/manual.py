@@ -42,6 +42,12 @@ class Manual(unittest.TestCase):
         self.assertEqual(len(commands), len(re.findall(r"\bwith_command\(", arguments)), "each command that is added has a name")
         self.equal_lists(commands, re.findall(r"^\.Cm (.*)", section(self.page, "SYNOPSIS", "DESCRIPTION"), re.M))
 
+    def test_help(self):
+        """./dyncollate --help has the commands and operands of the manual page, in the same order."""
+        printed = subprocess.run([TOP / "dyncollate", "--help"], capture_output=True, text=True, check=True).stdout
+        in_page = re.findall(r"^\.Cm (.*)\n\.Ar (.*)", section(self.page, "SYNOPSIS", "DESCRIPTION"), re.M)
+        self.assertEqual(re.findall(r"^([a-z]+) ([A-Z ]*[A-Z])  ", printed, re.M), [(name, them.upper()) for name, them in in_page])
+
     def test_limits(self):
         limits = re.findall(r"^(?:pub )?const (\w+_LIMIT): usize = ([0-9_]+);", "\n".join(sources()), re.M)
         self.assertTrue(limits)

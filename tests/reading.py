@@ -319,7 +319,7 @@ class Reading(unittest.TestCase):
 
     def test_named_files(self):
         """The files that a page names are there."""
-        for page in [TOP.parent / "README.md", TOP.parent / "CONTRIBUTING.md", *TOP.parent.glob("docs/*.md"), *TOP.glob("*/README.md")]:
+        for page in [*TOP.parent.glob("*.md"), *TOP.parent.glob("docs/*.md"), *TOP.glob("*/README.md")]:
             for folder, name in named_files(page):
                 with self.subTest(page.relative_to(TOP.parent).as_posix(), name=name):
                     self.assertTrue(any(folder.glob(name)) if "*" in name else (folder / name).exists())

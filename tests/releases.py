@@ -18,8 +18,9 @@ TOP = Path(program.TOP)
 VERSION = (TOP / "VERSION").read_text().strip()
 NAME = f"dyncollate-{VERSION}-linux-x86_64"
 # what ./release takes from the commit, and what it needs itself
-SOURCES = ["CHANGELOG.md", "README.md", "cmake", "docs", "examples", "install"]
-TOOLS = [".gitignore", "VERSION", "build", "crates.txt", "release"]
+SOURCES = ["CHANGELOG.md", "cmake", "docs/GUIDE.md", "docs/FORMATS.md", "docs/dyncollate.1", "docs/project.schema.json",
+           "docs/target.schema.json", "examples", "install"]
+TOOLS = [".gitignore", "ARCHIVE.md", "VERSION", "build", "crates.txt", "release"]
 EXAMPLE = "ninja_dyndep_version = 1\nbuild obj/b.o | mod/B.bmi: dyndep\n  restat = 1\n"
 HELLO = ("ninja_dyndep_version = 1\nbuild obj/main.o: dyndep | bmi/greet.pcm\n"
          "build obj/greet.o | bmi/greet.pcm: dyndep | bmi/words.pcm\n  restat = 1\n"
@@ -129,7 +130,7 @@ class Archive(unittest.TestCase):
         committed = int(git("log", "-1", "--format=%ct", cwd=self.clone))
         with tarfile.open(self.archive) as tar:
             members = tar.getmembers()
-        wanted = git("ls-files", *SOURCES, cwd=self.clone).splitlines() + ["PROVED.txt", "SHA256SUMS", "dyncollate"]
+        wanted = git("ls-files", *SOURCES, cwd=self.clone).splitlines() + ["PROVED.txt", "README.md", "SHA256SUMS", "dyncollate"]
         self.assertEqual(sorted(it.name for it in members if it.isfile()), sorted(f"{NAME}/{it}" for it in wanted))
         self.assertEqual([it.name for it in members], sorted(it.name for it in members))
         self.assertEqual({(it.uid, it.gid, it.uname, it.gname, it.mtime) for it in members}, {(0, 0, "", "", committed)})
@@ -137,6 +138,22 @@ class Archive(unittest.TestCase):
         with open(self.archive, "rb") as file:
             self.assertEqual(file.read(8)[3:], bytes(5), "neither a name nor a time in the head of gzip")
         self.assertNotIn(os.fsencode(self.room), gzip.decompress(self.archive.read_bytes()))
+
+    def test_readme(self):
+        """It has the example as the program prints it, and a user of the archive proves nothing."""
+        text = (self.home / "README.md").read_text()
+        self.assertEqual(text, (TOP / "ARCHIVE.md").read_text())
+        self.assertIn(f"```\n{EXAMPLE}```\n", text)
+        self.assertNotRegex(text.replace("PROVED.txt", ""), r"(?i)pro(?:of|ve)|\brt\b")
+
+    def test_links(self):
+        """No page of the archive links to a file that is not in it."""
+        pages = sorted(self.home.rglob("*.md"))
+        self.assertTrue(pages)
+        for page in pages:
+            for name in re.findall(r"\]\((?!https?:|#)([^)#]+)", page.read_text()):
+                with self.subTest(page.name, name=name):
+                    self.assertTrue((page.parent / name).exists())
 
     def test_checksums(self):
         sums = dict(reversed(line.split("  ", 1)) for line in (self.home / "SHA256SUMS").read_text().splitlines())
