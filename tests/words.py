@@ -47,7 +47,7 @@ TURNS = [
     (r"[Ss]pell(?:s|ed|ing|ings)?", "escapes, writes, the escaped form", "a path's spelling", "a path's escaped form"),
     (r"growths?", "allocation", "a growth that fails", "an allocation that fails"),
     (r"folders?", "directory", "the folder of a file", "the directory of a file"),
-    (r"no\s+proper|proper\s+(?:call|beginning)s?", "valid, a proper prefix", "the words are no proper call", "the command line is not valid"),
+    (r"proper\s+(?:call|beginning|one)s?", "valid, a proper prefix", "the words are no proper call", "the command line is not valid"),
     (r"too(?=[.,;:)])", "also", "a file is read, too.", "a file is also read."),
 ]
 # How many of the turns, from the first on, the comments of the sources are checked for; and in which files.
@@ -69,9 +69,9 @@ def wrong(text, turns=None):
 
 
 def comments(path):
-    """The comments of a source, each in its place."""
+    """The comments of a source, each in its line. A line without one ends a sentence."""
     mark = r"(?:^|\s)--+ ?(.*)" if path.suffix == ".antt" else r"(?:^|\s)//[/!]? ?(.*)"
-    return "\n".join((re.search(mark, line) or ["", ""])[1] for line in path.read_text().splitlines())
+    return "\n".join((re.search(mark, line) or ["", "."])[1] for line in path.read_text().splitlines())
 
 
 def pages():
