@@ -53,7 +53,8 @@ TURNS = [
 # How many of the turns, from the first on, the comments of the sources are checked for; and in which files.
 CHECKED_IN_COMMENTS, COMMENTS = 16, ["src/**/*.rt"]
 # What a turn is in, and is written all the same.
-EXCEPTIONS = ["tests: a run needs no random bytes but for names of new files", "FORMATS: fewer words once more"]
+EXCEPTIONS = ["tests: a run needs no random bytes but for names of new files", "FORMATS: fewer words once more",
+              "bench/random: random projects beside plain C++"]
 # The commit after which subjects are checked.
 CHECKED_SINCE = "dfbbbcd"
 FOUND = [(re.compile(rf"\b(?:{turn})\b"), instead) for turn, instead, _, _ in TURNS]
