@@ -1,4 +1,4 @@
-// Prints names of modules, one a line, that collide in a table by FoldHasher, the hash of Rattle's
+// Prints names of modules, one per line, that collide in a table by FoldHasher, the hash of Rattle's
 // core, whose seed is fixed: collide bytes|text COUNT.
 //   bytes  collide where a name is hashed as a list, its length and then each byte by itself: they
 //          agree in the 13 bits that choose the group in a table of 65,536 names
@@ -79,7 +79,7 @@ private:
 };
 
 // The beginning of names of 32 bytes that makes a factor of their hash zero: 16 bytes, and the
-// eight that are the state after these. What comes behind them changes nothing.
+// eight that are the state after these. What follows them changes nothing.
 std::string zero_factor() {
     for (unsigned number = 0;; ++number) {
         char text[17];

@@ -9,7 +9,7 @@ mkdir -p "$tools"
 for source in plain/plain floor rounds collide; do
     g++ -O2 -std=c++20 -o "$tools/$(basename "$source")" "$top/bench/$source.cpp"
 done
-# the documents and what is written stand in memory where they can, since disks differ more than programs do
+# the documents and the written files are in memory if possible, because disks differ more than programs do
 work=$(mktemp -d -p /dev/shm 2> /dev/null || mktemp -d)
 trap 'rm -rf "$work"' EXIT
 program=${DYNCOLLATE:-}
@@ -34,8 +34,8 @@ clear() {
     done
 }
 
-# compare LABEL COUNT BYTES ROUNDS STATUS WORDS..: runs program and plain with the words so often, sees that they leave the
-# same files and lines, and prints a line for table: the first three arguments, and what rounds prints of both and of floor.
+# compare LABEL COUNT BYTES ROUNDS STATUS WORDS..: runs program and plain with the words that often, checks that they leave
+# the same files and lines, and prints a line for table: the first three arguments, and what rounds prints of both and of floor.
 compare() {
     (cd "$work/plain" && PLAIN_CALLS=$work/calls "$tools/plain" "${@:6}" > out 2> err) || true
     echo "end $5" >> "$work/calls"
@@ -55,8 +55,8 @@ alone() {
 # table WHAT: of the lines of compare, the processor time that program and plain take, of the fastest run and of the median
 # one, and how often the program takes what plain takes; that of floor's fastest run, and how often the program takes that;
 # the kilobytes that program and plain hold at most, and how often the program holds what plain holds; then the program's
-# time by the things that are counted, and how much this grew since the first line under the same label, but for digits at
-# its end.
+# time by the things that are counted, and how much this grew since the first line under the same label, except for digits
+# at its end.
 table() {
     awk -v what="$1" '
         BEGIN {

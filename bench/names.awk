@@ -67,7 +67,7 @@ function info_pair(info, module) {
     return "\"bmi\":\"" info_file(info, module) "\",\"name\":\"" info_name(info, module) "\""
 }
 
-# Writes an info of so many modules, in chains of five, in the directory d.
+# Writes an info file of this many modules, in chains of five, in the directory d.
 function write_info(info, count,    file, module) {
     file = d "/lib" info ".json"
     printf "{\"modules\":[" > file
@@ -82,7 +82,7 @@ function write_info(info, count,    file, module) {
     close(file)
 }
 
-# A target document, but for the texts of its scans and of the infos that it links.
+# A target document, except for the names of its scans and of the info files that it links.
 function target_document(title, module_dir, scans, linked, dyndep, info, map) {
     return "{\"dyndep\":\"" dyndep "\",\"info\":\"" info "\",\"linked\":[" linked "]" \
         (map == "none" ? "" : ",\"map\":\"" map "\"") ",\"module-dir\":\"" module_dir "\"" \

@@ -30,7 +30,7 @@ static int ends(const char *name, const char *ending) {
   return length >= of_ending && !strcmp(name + length - of_ending, ending);
 }
 
-// The line of a run that was refused memory is not written, or something is done beside it.
+// The line of a run that ran out of memory is not written, or something else is done as well.
 static int is_unwritten(const char *line) {
   if (is("no_line_for_want_of_memory"))
     return 1;

@@ -11,7 +11,7 @@ static long call(long number, const void *first, const void *second, const void 
   return result;
 }
 
-// What is behind the name of a variable, or 0 where it is another one.
+// The text after the name of a variable, or 0 if it is another variable.
 static const char *value_of(const char *variable, const char *name) {
   while (*name)
     if (*variable++ != *name++)

@@ -121,7 +121,7 @@ CALLS = [
     Broken("a file written for want of memory", "a_file_for_want_of_memory", "growths.Program", "show_two"),
 ]
 
-# what a run of `collate` leaves beside what it has to write
+# what a run of `collate` leaves besides what it has to write
 LEFT = [
     Broken("a file of its own left", f"{CALL}; status=$?; : > t.tmp; exit $status", "arguments", "no_command"),
     Broken("a file written though it is refused", ended(1, ": > t.dd"), "targets", "S1"),

@@ -1,10 +1,9 @@
-"""The worked rows with each file of theirs damaged: cut off after each byte, each byte changed to each of some, and each byte
-left out. What a text has in common with the beginning or the end of an earlier one of its kind is damaged in that one.
+"""The worked rows with each of their files damaged: cut off after each byte, each byte changed to some others, and each byte left
+out. If a text begins or ends like an earlier one of its kind, that part is damaged only in the earlier one.
 
-Each answer is compared, its status, both texts and the files that are there afterwards, with what the package `expected` works
-out; and a beginning of a document has to be S1, and those of one dyndep file have to answer what its row says. No run may end
-in another way than with status 0, with status 1 and one line on standard error, or, where the damage names another file, with
-status 3 and such a line.
+Each result (the status, both texts and the files afterwards) is compared with what the package `expected` computes. A prefix of
+a document has to be S1, and prefixes of one dyndep file have to give what its row says. Every run has to end with status 0, with
+status 1 and one line on standard error, or, if the damage names another file, with status 3 and such a line.
 """
 import os
 import re

@@ -2,15 +2,15 @@
 
 - Standard output that is closed, full, limited after each number of bytes, a pipe that nobody reads, or one that is full; and
   standard input and standard error that are closed.
-- Files that may have no more bytes than each number, a full disk (full_disk.py), and folders that vanish before a file in them
-  is written.
-- Files that vanish once the document that names them was read, that are devices or folders, or that may not be read, and names
-  that are no text.
-- Each file of a run in turn as a pipe that gives one byte at a time, also where the run is stopped and goes on meanwhile.
-- Runs at once in one folder, of one target and of several.
+- Files that may have no more bytes than each number, a full disk (full_disk.py), and directories that vanish before a file in
+  them is written.
+- Files that vanish once the document that names them was read, that are devices or directories, or that may not be read, and
+  names that are not UTF-8.
+- Each file of a run in turn as a pipe that gives one byte at a time, also if the run is stopped and continued meanwhile.
+- Concurrent runs in one directory, of one target and of several.
 - A system that gives no random bytes, or little memory.
 
-What a run has to answer where nothing fails is in the tables of rows.
+The tables of rows have the results of runs in which nothing fails.
 """
 import fcntl
 import os
@@ -237,7 +237,7 @@ class Files(Devices):
         self.assertEqual(ran.returncode, 0, ran.stderr)
 
 
-# ---- files that vanish, and files that are none
+# ---- files that vanish, and names that are not those of files
 
 class Piped:
     """Meanwhile a file is a pipe. Its bytes are given in so many pieces, and something is done before the last one ends."""

@@ -1,4 +1,4 @@
-"""Dyndep files, as `show` reads and spells them."""
+"""Dyndep files, as `show` reads and prints them."""
 from tests.case import Case, each
 from tests.rows import dyndep_files as rows
 

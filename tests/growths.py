@@ -1,10 +1,10 @@
-"""Each growth of memory is refused in turn: the first one of a run, then the second one, and so on until a run ends without.
+"""Each allocation fails in turn: the first one of a run, then the second one, and so on until a run ends without a failure.
 
-- The worked rows, by the program. A run has to answer that memory was refused, and to write no file; or what it answers where
-  nothing is refused, since it can do without some growths.
-- The tests of the modules `growths` of library_tests (crates/library_tests/src/*/growths.rt). A test has to end well, or with
-  the error that memory was refused (`AllocError`, `AllocFailed`, `Failure::Memory`); an assertion that fails, or any other end,
-  is a failure.
+- The worked rows, by the program. A run has to report that memory ran out, and to write no file, or it has to behave as if
+  nothing had failed, because it can do without some allocations.
+- The tests of the modules `growths` of library_tests (crates/library_tests/src/*/growths.rt). A test has to succeed, or to end
+  with the error that memory ran out (`AllocError`, `AllocFailed`, `Failure::Memory`). A failed assertion, or any other end, is a
+  failure.
 """
 import fcntl
 import glob

@@ -1,15 +1,15 @@
-"""Calls the program on documents made at random, and compares what it answers with what must hold of them.
+"""Calls the program on random documents, and compares the results with what must hold of them.
 
     python3 -m unittest tests.random_documents          a minute, in as many processes as there are processors, up to four
-    python3 -m tests.random_documents --minutes 60      a long run, in all processors; --help shows what else it takes
+    python3 -m tests.random_documents --minutes 60      a long run, in all processors; --help shows its options
 
-A round makes a dyndep file in a spelling of its own, a scan document, a listing and the dyndep file of its objects, or a
-project (random_rounds.py). What has to come out is known from how it was made. Then a file of the round is damaged some times,
-its bytes or the values of its members. What any call has to answer is worked out by the modules in the folder expected, too.
+A round makes a dyndep file with random escapes and line ends, a scan document, an edge list and the dyndep file of its objects,
+or a project (random_rounds.py). The expected results are known from how the files were made. Then a file of the round is damaged
+some times, its bytes or the values of its members. The modules in the directory `expected` also compute the result of any call.
 
-A round is made from its kind and its seed, a number. The minute begins with the seed in the environment's RANDOM_SEED, or else
-with one at random, and tries each kind for RANDOM_SECONDS. The files of a call that differs are made smaller before they are
-shown (smaller.py).
+A round is made from its kind and its seed, a number. The minute begins with the seed in the environment's RANDOM_SEED, or with a
+random one, and tries each kind for RANDOM_SECONDS. The files of a call that differs are made smaller before they are shown
+(smaller.py).
 """
 import argparse
 import copy

@@ -1,7 +1,7 @@
-"""Documents made at random, and what has to come of them, which is known from how they were made.
+"""Random documents and their expected results, which are known from how the documents were made.
 
-A round makes files and calls the program with them. What it gives back is a call of the round, and one of its files that may
-be damaged. `program.done` and `program.refused` compare what a call answers with what is known, and with tests/expected.
+A round makes files and calls the program with them. It returns a call of the round, and one of its files that may be damaged.
+`program.done` and `program.refused` compare the result of a call with what is known, and with tests/expected.
 """
 import itertools
 import json

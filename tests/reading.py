@@ -1,17 +1,17 @@
-"""Compares docs/PROVED.md and the pages of the crates with the sources, looks for public calls that no test makes, and sees to it
-that definitions say what their lists of numbers are.
+"""Compares docs/PROVED.md and the pages of the crates with the sources, looks for public calls that no test makes, and checks that
+definitions name the kinds of lists of numbers.
 
-    python3 -m unittest tests.reading       each row of a table, each example and each file that a page names, and each public
-                                            call that may answer that memory was refused; and the words of definitions
+    python3 -m unittest tests.reading       each row of a table, each example and each file that a page names, each public call
+                                            that may run out of memory, and the words of definitions
     python3 -m tests.reading --write        puts the table of what one has to read into docs/PROVED.md, and the examples into
                                             the pages of the crates
 
-The table of what one has to read counts lines for theorems, each of which is the contract of a call, or one clause of it. A line of `specs/` counts
-where it belongs to a definition (the comment above it, its type and its body) that the contract names, or that a definition
-which counts names. Not counted are types that are declared in `src/`, and the words of the kit's library.
+The table of what one has to read counts lines for theorems. A theorem is the contract of a call, or one clause of it. A line of
+`specs/` counts if it belongs to a definition (the comment above it, its type and its body) that the contract names, or that a
+definition which counts names. Types that are declared in `src/`, and the words of the kit's library, do not count.
 
-No clause can say that memory is left, so a body that answers whenever it is called that memory was refused would be proved. A public
-call whose result has that answer is therefore made by a test, or by code of another crate, which the program's tests run.
+No contract can state that memory is available, so a body that always returns that memory ran out would be proved. So each public
+call that can return this is made by a test, or by code of another crate, which the program's tests run.
 """
 import re
 import sys
@@ -135,11 +135,11 @@ def unknown(crate, row):
         yield from (one for one in quoted if one not in files and re.search(r"\w", one) and one.split("::")[-1] not in known)
 
 
-# ---- public calls that can answer that memory was refused
+# ---- public calls that can run out of memory
 
 HEADER = re.compile(r"^( *)(pub )?(?:pub\(\w+\) )?fn (\w+)(.*?)(?=;$| \{$|^ *\{$|^ *(?:requires|ensures)\b)", re.M | re.S)
 IMPL = re.compile(r"^impl(?:<[^{]*?>)? (?:([\w:]+)(?:<[^{]*?>)? for )?(\w+)[^{]*\{$.*?^\}$", re.M | re.S)
-# What comes before a name that is called, or handed on as `Path::of`: a type or a crate, or the dot of a method.
+# What comes before a name that is called, or passed on as `Path::of`: a type or a crate, or the dot of a method.
 CALL = re.compile(r"(?:\b(\w+)(?:::<[^()]*?>)?::|(\.)|\b)(?:([a-z]\w*)(?:::<[^()]*?>)?\(|(?<=::)([a-z]\w*)\b)")
 TYPE = re.compile(r"\b[A-Z]\w+")
 

@@ -1,5 +1,5 @@
-// Loaded before the C library, it refuses the growth of memory whose number, from 1, the environment names as
-// REFUSED_GROWTH, and writes a byte to file 3 when it does. Growths are the calls of malloc and realloc, in their order.
+// Loaded before the C library, it fails the allocation whose number, from 1, the environment names as
+// REFUSED_GROWTH, and writes a byte to file 3 when it does. Allocations are the calls of malloc and realloc, in their order.
 // It needs no header, so that the toolchain's own clang compiles it.
 typedef __SIZE_TYPE__ size;
 extern void *__libc_malloc(size);

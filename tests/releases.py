@@ -303,4 +303,4 @@ class Archive(unittest.TestCase):
 
     def test_install_where_no_file_can_be_made(self):
         (self.room / "file").write_text("")
-        self.assertEqual(call(self.home / "install", self.room / "file"), (1, "", f"install: cannot make the folder {self.room}/file\n"))
+        self.assertEqual(call(self.home / "install", self.room / "file"), (1, "", f"install: cannot make the directory {self.room}/file\n"))

@@ -8,7 +8,7 @@ import time
 import traceback
 import unittest
 
-# A line says how far the tests are after so many seconds.
+# A line reports progress after this many seconds.
 SECONDS = 10
 
 # The tests of the suite that runs, which its processes inherit.

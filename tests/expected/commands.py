@@ -1,4 +1,4 @@
-"""What each command answers to the bytes of its files."""
+"""The result of each command for the bytes of its files."""
 import re
 from collections import namedtuple
 

@@ -1,8 +1,8 @@
 """Scan, info, target and project documents: docs/FORMATS.md, "Documents".
 
-JSON is read by Python's json module, which takes some texts that the program refuses. They are refused here: bytes that are
-not UTF-8 (a mark of the byte order is no JSON in both), `NaN` and `Infinity`, numbers that no float can hold, halves of
-surrogate pairs alone, and nesting deeper than 127 levels. `-0` is a float.
+Python's json module reads the JSON. It accepts some texts that the program rejects, and they are rejected here: bytes that are
+not UTF-8 (a byte order mark is not JSON in either), `NaN` and `Infinity`, numbers too large for a float, lone halves of surrogate
+pairs, and nesting deeper than 127 levels. `-0` is a float.
 """
 import json
 import math
@@ -199,7 +199,7 @@ def required_of(entry):
     return entry.name(name)
 
 
-# ---- infos
+# ---- info files
 
 def info_of(text, where):
     """What an info document tells, or its refusal."""

@@ -27,7 +27,7 @@ def dyndep_text(statements):
 
 
 # For each position of a build line: where each kind of token leads to, or the fault that it is. A word that is taken keeps
-# the position, but for the output and the rule.
+# the position, except for the output and the rule.
 BUILD_LINE = {
     "start": {"word": "named", "|": b"Y9 NoOutput", ":": b"Y9 NoOutput", "||": b"Y9 NoOutput", "|@": b"Y9 NoOutput",
               "end": b"Y9 NoOutput"},

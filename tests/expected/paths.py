@@ -1,4 +1,4 @@
-"""Paths and their spellings: docs/FORMATS.md, "Paths"."""
+"""Paths and their escaped forms: docs/FORMATS.md, "Paths"."""
 import re
 
 PATH_LIMIT = 4096

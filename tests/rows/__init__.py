@@ -1,7 +1,7 @@
-"""The rows: calls of the program, each with what it answers, by docs/FORMATS.md and docs/GUIDE.md and never by the program.
+"""The rows: calls of the program, each with its expected result, from docs/FORMATS.md and docs/GUIDE.md, never from the program.
 
-A module for each subject has tables of them, as a person reads them: why the row is there, the input and the answer. Its ROWS
-are these tables as calls. A row whose reason begins with `*` is taken by `growths`, `damage` and `devices`, too.
+A module for each subject has tables of them, as a person reads them: why the row is there, the input and the result. Its ROWS
+are these tables as calls. Rows whose reason begins with `*` are also used by `growths`, `damage` and `devices`.
 """
 import os
 import re

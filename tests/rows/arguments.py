@@ -1,4 +1,4 @@
-"""Words of a call. A call is a command and as many words as it has arguments; `--` says that what follows are arguments."""
+"""Command lines. A command line is a command and its operands. What follows `--` is an operand."""
 from tests.rows import V, prints, unread, usage
 
 B = b'{"version":1,"rules":[{"primary-output":"obj/b.o","provides":[{"logical-name":"B"}]}]}'
@@ -48,7 +48,7 @@ IMPROPER = [
     ("a second -- is an argument", ["show", "--", "t.dd", "--"]),
 ]
 
-# why, the words, and the file of the module B, which says what is taken for the folder and the ending
+# why, the words, and the file of the module B, which shows what is used as directory and extension
 TAKEN = [
     ("no folder and no ending", ["one", "b.ddi", "", ""], b"B"),
     ("no folder, and - for an ending", ["one", "b.ddi", "", "-"], b"B-"),

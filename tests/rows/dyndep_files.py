@@ -1,10 +1,10 @@
-"""Dyndep files, and what `show` answers to them (docs/FORMATS.md, "Lines, tokens and assignments" and "Dyndep files")."""
+"""Dyndep files, and what `show` prints (docs/FORMATS.md, "Lines, tokens and assignments" and "Dyndep files")."""
 from tests.rows import V, prints, refuses, unread
 
 TWO = V + b"build a.o | mod/A.bmi: dyndep | mod/B.bmi\n  restat = 1\nbuild b.o | mod/B.bmi: dyndep\n  restat = 1\n"
 ONE = V + b"build obj/b.o | mod/B.bmi: dyndep\n  restat = 1\n"
 
-# why, the text after the version line, the line of the refusal
+# why, the text after the version line, the line of the error
 FAULTS = [
     ("* a last line without its end", b"build a.o: dyndep", b"line 2: N6 Truncated"),
     ("* a NUL", b"build a\x00b: dyndep\n", b"line 2: N7 Nul at 7"),
@@ -37,7 +37,7 @@ FAULTS = [
     ("* another binding", b"build a: dyndep\n  depfile = x\n", b"line 3: Y15 BadBinding"),
 ]
 
-# why, the whole text, the line of the refusal
+# why, the whole text, the line of the error
 FAULTS_OF_VERSION = [
     ("* nothing", b"", b"line 1: Y4 NoVersion"),
     ("a comment alone", b"# only\n\n", b"line 3: Y4 NoVersion"),
@@ -88,7 +88,7 @@ SHOWN = [
     ("many continuations", V + b"build a" + b"$\n " * 100_000 + b": dyndep\n", b"build a: dyndep\n"),
 ]
 
-# What the text TWO answers, cut to its first so many bytes: the last number of bytes of each kind, and the line of the refusal,
+# What `show` prints for the text TWO, cut to its first bytes: the last number of bytes of each kind, and the line of the error,
 # or None where these bytes are shown as they are.
 CUT = [
     (0, b"line 1: Y4 NoVersion"), (24, b"line 1: N6 Truncated"), (25, None), (66, b"line 2: N6 Truncated"), (67, None),
@@ -99,7 +99,7 @@ CUT = [
 LINE = 1_048_576
 LONGEST = b"build " + b"a" * (LINE - len(b"build : dyndep\n")) + b": dyndep\n"
 
-# why, the text after the version line, the line of the refusal or None where it is shown as it is
+# why, the text after the version line, the line of the error or None where it is shown as it is
 LIMITS = [
     ("the longest line", LONGEST, None),
     ("a comment of a byte more", b"#" + LONGEST, b"line 2: N5 LineTooLong"),

@@ -1,4 +1,4 @@
-"""Effects of dyndep files on listings of edges, and what `effect` answers (docs/FORMATS.md, "The effect of a dyndep file")."""
+"""Effects of dyndep files on edge lists, and what `effect` prints (docs/FORMATS.md, "The effect of a dyndep file")."""
 from tests.rows import V, prints, refuses, unread
 from tests.rows.dyndep_files import TWO
 from tests.rows.forms import edge, statement
@@ -39,7 +39,7 @@ def wide(start, byte):
     return start + b"".join(b" %d%s" % (it, byte * 4000) for it in range(1, 151))
 
 
-# why, the dyndep file's name, the listing, the text after the version line, the line of the refusal
+# why, the dyndep file's name, the edge list, the text after the version line, the line of the error
 REFUSED = [
     ("the name above the root is looked at first", "/..", b"x\n", b"x\n", b"name: N2 AboveRoot"),
     ("the empty name", "", b"x\n", b"x\n", b"name: N1 Empty"),

@@ -1,4 +1,4 @@
-"""Info documents of the targets that a target links, and what `collate` answers to them (docs/FORMATS.md, "Info documents")."""
+"""Info files of the targets that a target links, and what `collate` prints (docs/FORMATS.md, "Info files")."""
 from tests.rows import V, refuses, writes
 from tests.rows.documents import of_kind
 from tests.rows.forms import info, module, sources, statement, target
@@ -6,7 +6,7 @@ from tests.rows.targets import CALL, LINKED, LINKED_FILES, LINKS, L_INFO, NO_MOD
 
 A_PUBLIC = b'{"bmi":"a","name":"A","requires":[],"visibility":"public"}'
 
-# why, the info, the line of the refusal after `info 0: `
+# why, the info, the line of the error after `info 0: `
 FAULTS = [
     ("version 0", b'{"modules":[],"target":"i","version":0}', b"S2 BadVersion document"),
     ("* version 3", info(version=3), b"S2 BadVersion document"),
@@ -41,7 +41,7 @@ FAULTS = [
 
 GCC = b',"map":"gcc"'
 
-# why, the info, the members of the target beside those that link it, the object, and the files that are written
+# why, the info, the members of the target besides those that link it, the object, and the files that are written
 TAKEN = [
     ("version 1", info(target=b"i"), b"", b"main.o||", {"t.json": NO_MODULES, "t.dd": V + statement(b"main.o")}),
     ("version 2", info(target=b"i", version=2), b"", b"main.o||", {"t.json": NO_MODULES, "t.dd": V + statement(b"main.o")}),
@@ -53,7 +53,7 @@ TAKEN = [
      {"main.o.modmap": b"A a\nB b\n", "t.json": NO_MODULES, "t.dd": V + statement(b"main.o", b"", b"a")}),
 ]
 
-# why, the info, the line of the refusal
+# why, the info, the line of the error
 UNKNOWN = [
     ("a module's name twice, the last one counts",
      info(b'{"bmi":"a","name":"B","requires":[],"name":"C"}'), b"M5 ModuleUnknown B in main.o"),

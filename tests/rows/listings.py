@@ -1,10 +1,10 @@
-"""Listings of build edges, and what `order` answers (docs/FORMATS.md, "Edge listings" and "The effect of a dyndep file").
-A dyndep file that no edge names and that has no statements changes no edge, so `effect` answers the same refusals."""
+"""Edge lists, and what `order` prints (docs/FORMATS.md, "Edge lists" and "The effect of a dyndep file").
+A dyndep file that no edge names and that has no statements changes no edge, so `effect` prints the same errors."""
 from tests.rows import V, prints, refuses, unread
 from tests.rows.dyndep_files import LINE
 from tests.rows.forms import edge
 
-# why, the listing, the line of the refusal
+# why, the edge list, the line of the error
 FAULTS = [
     ("a line of another form after a binding", b"build a: cp a\n  restat = 1\nrule cp\n", b"edges: line 3: E3 Form"),
     ("a blank line above a binding", b"build a: r\n\n  restat = 1\n", b"edges: line 3: E3 Form"),
@@ -65,7 +65,7 @@ ORDERS = [
     ("a tab and DEL", b"build a\tb\x7f c: cp d\n", b"a?b?"),
 ]
 
-# why, the listing, the line of the refusal
+# why, the edge list, the line of the error
 CYCLES = [
     ("an edge that needs itself", b"build a: cc b\nbuild b: cc b\n", b"cycle b"),
     ("first outputs are named", b"build c: cp b\nbuild a d: cp c\nbuild b: cp a\n", b"cycle c -> b -> a"),
@@ -111,11 +111,11 @@ def chain(count, *last):
     return [[node + 1] for node in range(count - 1)] + [list(last)]
 
 
-# the four edges of two rings have the highest numbers
+# the four edges of two cycles have the highest numbers
 AT = LONG - 4
 RINGS = chain(AT, AT + 2) + [[AT + 1], [AT, 0], [AT + 3], [AT + 2]]
 
-# why, how the listing is made, the line of the refusal
+# why, how the edge list is made, the line of the error
 LONG_CYCLES = [
     ("a long ring", lambda: listing(chain(LONG, 0)), b"cycle " + b" -> ".join(b"n%d" % node for node in range(LONG))),
     ("a long chain to an edge that needs itself", lambda: listing(chain(LONG, LONG - 1)), b"cycle n%d" % (LONG - 1)),

@@ -1,5 +1,6 @@
-"""Modules of a target and of those that it links: which faults they have together, and what an object needs (docs/FORMATS.md,
-"The modules of a target" and "Module maps")."""
+"""Modules of a target and of the targets that it links: the errors that they have together, and what an object needs
+(docs/FORMATS.md, "The modules of a target" and "Module maps").
+"""
 from tests.rows import V, prints, refuses
 from tests.rows.forms import document, info, module, sources, statement, target
 from tests.rows.targets import L_INFO
@@ -7,7 +8,7 @@ from tests.rows.targets import L_INFO
 NAMED_A = b'{"primary-output":"%s","provides":[{"logical-name":"A","compiled-module-path":"%s"}]}'
 LONG_RING = 20_000
 
-# why, the document, the line of the refusal by `one`
+# why, the document, the line of the error by `one`
 ONE_DOCUMENT = [
     ("* control bytes in a path", document(b'{"primary-output":"a\\u0001.o"}', b'{"primary-output":"./a\\u0001.o"}'),
      b"M1 ObjectTwice a?.o"),
@@ -60,7 +61,7 @@ PRIVATE_B = info(module(b"B", b"lib/B.bmi", visibility=b"private"), version=2)
 NEEDS_B = info(module(b"M", b"lib/M.bmi", (b"lib/B.bmi", b"B"), visibility=b"public"), version=2, target=b"m")
 A_B = info(module(b"a:b", b"lib/a-b.bmi"), target=b"k"), info(module(b"a-b", b"lib/a-b.bmi"))
 
-# why, the sources, the infos, the line of the refusal by `collate`
+# why, the sources, the info files, the line of the error by `collate`
 TOGETHER = [
     ("one path in two spellings", [b"a.o||", b"./x/../a.o||X"], [], b"M1 ObjectTwice a.o"),
     ("two infos of one target", [b"main.o||B"], [L_INFO, L_INFO], b"M2 InfoTwice l"),
@@ -122,7 +123,7 @@ TOGETHER = [
      b"M9 ModulePrivate B of l in info k"),
 ]
 
-# why, the sources, the infos, the names that the target keeps private, the line of the refusal
+# why, the sources, the info files, the names that the target keeps private, the line of the error
 PRIVATE = [
     ("no objects", [], [], b'"X"', b"M10 PrivateUnknown X"),
     ("an info provides it, and the next is unknown too", [b"a.o|A|"], [B_INFO], b'"A","B","X"', b"M10 PrivateUnknown B"),
@@ -130,7 +131,7 @@ PRIVATE = [
 
 K = module(b"K", b"k/K.bmi", (b"l/L.bmi", b"L"))
 
-# why, the sources, the infos, GCC's map of each object in order
+# why, the sources, the info files, GCC's map of each object in order
 NEEDS = [
     ("what is provided is in order of provision", [b"main.o||", b"a.o|A A:p|"], [], [b"", b"A mod/A.bmi\nA:p mod/A-p.bmi\n"]),
     ("what is needed through others is there once, in byte order",

@@ -1,5 +1,6 @@
-"""Project documents with the files that their targets name, and what `project` answers to them and writes (docs/FORMATS.md,
-"Project documents"). Each row is the project of three targets below, some files of which are others or not there."""
+"""Project documents with the files that their targets name, and what `project` prints and writes (docs/FORMATS.md, "Project
+documents"). Each row is the project of three targets below, with some files changed or missing.
+"""
 from tests.rows import V, refuses, unread, writes
 from tests.rows.documents import MEGABYTE, of_kind
 from tests.rows.forms import edge, sources, statement
@@ -76,7 +77,7 @@ DONE = [
 RING = edge(b"k.o: cxx k.cpp gen.h || 1.dd", b"1.dd") + b"build gen.h: gen k.o\n"
 CLANG = {f"{it}.json": PROJECT[f"{it}.json"].replace(b'"gcc"', b'"clang"') for it in range(3)}
 
-# why, the files that are others or, if None, not there, and the line of the refusal
+# why, the files that are changed or, if None, missing, and the line of the error
 REFUSED = [
     ("* an info's requirement that is not linked", {"2.json": member(2, 1)}, b"target 2: M6 InfoUnknown t1 K B"),
     ("* a target that links itself", {"2.json": member(2, 2)}, b"target 2: K3 LinkedLater"),
@@ -132,7 +133,7 @@ UNREAD = [
     ("all are read before one is looked at", {"0.ddi": b"{}", "2.ddi": None}, b"2.ddi"),
 ]
 
-# why, the project document, the line of the refusal after `project: `
+# why, the project document, the line of the error after `project: `
 DOCUMENTS = [
     ("a document that is begun", b'{"targets"', b"S1 NotJson document"),
     ("no end", b'{"targets":["0.json"],"version":1', b"S1 NotJson document"),

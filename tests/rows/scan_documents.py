@@ -1,4 +1,4 @@
-"""Scan documents, and what `one` answers to them (docs/FORMATS.md, "Paths" and "Scan documents")."""
+"""Scan documents, and what `one` prints (docs/FORMATS.md, "Paths" and "Scan documents")."""
 from tests.rows import V, prints, refuses, unread
 from tests.rows.documents import of_kind
 from tests.rows.forms import document, entries, sources, statement
@@ -13,7 +13,7 @@ EMPTY = b'{"version":1,"rules":[]}'
 TWO_STATEMENTS = statement(b"a.o", b"mod/A.bmi", b"mod/B.bmi") + statement(b"b.o", b"mod/B.bmi")
 NAME, PATH, COUNT = 1024, 4096, 65_536
 
-# why, the document, the line of the refusal after `scan 0: `
+# why, the document, the line of the error after `scan 0: `
 DOCUMENTS = [
     ("* version 2", b'{"version":2,"rules":[]}', b"S2 BadVersion document"),
     ("no version", b'{"rules":[]}', b"S2 BadVersion document"),
@@ -30,7 +30,7 @@ DOCUMENTS = [
     ("lists twice, the last one faulty", b'{"rules":[],"version":1,"rules":[{}]}', b"S4 NoPrimaryOutput rule 0"),
 ]
 
-# why, the rule, the line of the refusal after `scan 0: `
+# why, the rule, the line of the error after `scan 0: `
 RULES = [
     ("a number for a rule", b"7", b"S3 BadShape rule 0 member rule"),
     ("a number for the object", b'{"primary-output":7}', b"S3 BadShape rule 0 member primary-output"),
@@ -85,7 +85,7 @@ PATHS = [
     (LONG_PATH + b"a", None, b"N4 TooLong"),
 ]
 
-# texts that are names of modules, and texts that are none, with JSON's escapes
+# names of modules, and strings that are not names, with JSON's escapes
 NAMES = [b"A", b"M:P", b"a.b:c.d", b"std", b"\xc3\xa9", b"a-b", b"a-b_c", b"a%b", b"1", b"\\u0061", b"a{}*?", b"n" * NAME]
 NO_NAMES = [b"", b".", b":", b"a:b:c", b"a..b", b"a.", b".a", b":a", b"a.:b", b"a b", b"a/b", b"a=b", b"a|b", b"a$b", b"a'b",
             b'a\\"b', b"a\\\\b", b"a\\tb", b"\\u007f", b"a\\u007f", b"a\\u0000", b"n" * (NAME + 1)]
@@ -152,7 +152,7 @@ COLLATED = [
     ("the longest path, and a name before ..", document(b'{"primary-output":"x/../%s"}' % LONG_PATH), statement(LONG_PATH)),
 ]
 
-# why, the document, the folder and the ending of modules, the statements
+# why, the document, the directory and the extension of modules, the statements
 FOLDERS = [
     ("* a folder of bytes that are escaped", sources(b"a.o|A|"), "my mods/$x:y", ".bmi",
      statement(b"a.o", b"my$ mods/$$x$:y/A.bmi")),
@@ -180,7 +180,7 @@ LONG_RULE = b'{"primary-output":"b.o","provides":[%s]}' % b",".join(
     b'{"logical-name":"m%d","compiled-module-path":"%s%d"}' % (it, b"a" * 4093, it) for it in range(260))
 A_RULE, AN_ENTRY = b'{"primary-output":"a"},', b'{"logical-name":"A"},'
 
-# why, how the document is made, the line of the refusal
+# why, how the document is made, the line of the error
 COUNTS = [
     ("a rule too many", lambda: rules(COUNT + 1), b"scan 0: S8 TooLarge document"),
     ("a rule too many, and the first one faulty", lambda: rules(COUNT + 1).replace(b"primary", b"Primary", 1),

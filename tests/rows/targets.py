@@ -1,6 +1,5 @@
-"""Target documents with the files that they name, and what `collate` answers to them and writes (docs/FORMATS.md, "Target
-documents", "Module maps" and "Lines that the program prints"). What is refused of infos and modules is in infos.py and
-modules.py."""
+"""Target documents with the files that they name, and what `collate` prints and writes (docs/FORMATS.md, "Target documents",
+"Module maps" and "Lines that the program prints"). Errors of info files and modules are in infos.py and modules.py."""
 from tests.rows import V, Row, refuses, unread, writes
 from tests.rows.documents import MEGABYTE, of_kind
 from tests.rows.dyndep_files import ONE as ONE_STATEMENT, TWO as TWO_STATEMENTS
@@ -39,7 +38,7 @@ PRIVATE_INFO = (b'{"modules":[{"bmi":"mod/L.bmi","name":"L","requires":[{"bmi":"
 AC = sources(b"a.o|A C|")
 WORK = b'{"primary-output":"%s","work-directory":"%s"}'
 
-# why, the members beside those that have to be, the files that they name, and the files that are written
+# why, the members besides those that have to be, the files that they name, and the files that are written
 WRITTEN = [
     ("no other members", b"", {}, {"t.json": NO_MODULES, "t.dd": V}),
     ("null for members", b',"build-dir":null', {}, {"t.json": NO_MODULES, "t.dd": V}),
@@ -98,11 +97,11 @@ WRITTEN = [
     ("a scan document of a megabyte", LINKS, LINKED | {"m.ddi": MAIN.ljust(MEGABYTE)}, LINKED_FILES),
 ]
 
-# names of targets, and texts that are none, with JSON's escapes
+# names of targets, and strings that are not names, with JSON's escapes
 NAMES = [b"my target: $x/\xc3\xa9", b"z", b"t" * NAME]
 NO_NAMES = [b"", b"a\\nb", b"\\u007f", b"t" * (NAME + 1)]
 
-# why, the members, the line of the refusal after `target: `
+# why, the members, the line of the error after `target: `
 MEMBERS = [
     ("a relative build directory", b'"build-dir":"b"', b"S3 BadShape document member build-dir"),
     ("a number for the build directory", b'"build-dir":7', b"S3 BadShape document member build-dir"),
@@ -118,7 +117,7 @@ MEMBERS = [
     ("null for the dyndep file, after a text", LINKS[1:] + b',"dyndep":null', b"S3 BadShape document member dyndep"),
 ]
 
-# why, the document, the line of the refusal after `target: `
+# why, the document, the line of the error after `target: `
 DOCUMENTS = [
     ("a document that is begun", b"{", b"S1 NotJson document"),
     ("another version comes before the name", b'{"version":2,"target":7}', b"S2 BadVersion document"),
@@ -155,7 +154,7 @@ def naming(scans, linked, more=b',"map":"clang"'):
     return b',"scans":[%s],"linked":[%s]%s' % (scans, linked, more)
 
 
-# why, the members, the files that they name, the line of the refusal
+# why, the members, the files that they name, the line of the error
 REFUSED = [
     ("scan documents come before infos", b',"scans":["a","b"],"linked":["c","d"]',
      {"a": TWO, "b": S4, "c": b"", "d": b""}, b"scan 1: S4 NoPrimaryOutput rule 0"),
@@ -222,7 +221,7 @@ EDGES = b',"scans":["two.ddi"],"edges":"t.edges","build-dir":"/w"'
 EDGED = {"t.json": TWO_FILES["t.json"], "t.dd": TWO_STATEMENTS}
 GENERATED = A_EDGE + edge(b"b.o: cxx b.cpp gen.h || t.dd")
 
-# why, the listing, the line of the refusal or None
+# why, the edge list, the line of the error or None
 LISTINGS = [
     ("* edges that have an order", GENERATED + b"build gen.h: gen gen.in\n", None),
     ("* a cycle through a file that is generated", GENERATED + b"build gen.h: gen a.o\n", b"cycle a.o -> b.o -> gen.h"),
