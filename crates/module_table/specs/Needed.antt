@@ -1,9 +1,6 @@
 -- The modules that an object needs, itself and through others.
 use Rattle.std.specs.Prelude.{◌≡◌, ◌⊎◌, ◌↔◌, ℕ, List, [], ◌∷◌, Contains, AllPairs}
 use Rattle.std.specs.Borrow.{Bor}
-use Rattle.std.specs.Cmp.Lexicographic.{slice_cmp}
-use Rattle.std.specs.Ordering.{nat_cmp}
-use Rattle.std.specs.declared.cmp.Ordering.TheVariants.{Less}
 use Rattle.ninja_text.specs.Bytes.{PathText, Name, Precedes}
 use Rattle.scan_docs.specs.Info.{ModuleValue}
 use Rattle.module_table.specs.TableValue.{TableValue}

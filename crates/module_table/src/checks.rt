@@ -14,6 +14,7 @@ ghost use Rattle.module_table.specs.inner.Found.{AreLookedUp};
 ghost use Rattle.module_table.specs.inner.Passed.{Passed};
 ghost use Rattle.module_table.specs.inner.Numbered.{AreIndexes};
 ghost use Rattle.module_table.specs.inner.LookUps.{AreLookUps};
+ghost use Rattle.module_table.specs.inner.Views.{paths_of};
 
 use crate::fault::{Maker, TableFault};
 use crate::graph::module_graph;
@@ -74,17 +75,18 @@ impl Index {
 
 /// Makes all checks, from the lowest code to the highest. Names, targets and files are hashed under
 /// `key`. The paths of the objects are put into the empty set, and the modules' files after them.
-pub(crate) fn check_all<'t>(
+pub(crate) fn check_all(
     alloc: Global,
-    objects: &'t [Rule],
-    infos: &'t [Info],
+    objects: &[Rule],
+    infos: &[Info],
     kept: &[Name],
-    paths: &mut IndexSet<&'t Path, TableKey>,
+    paths: &mut IndexSet<Path, TableKey>,
     key: TableKey,
 ) -> Result<Index, Failure<Box<TableFault>>>
     requires { IsEmpty paths.old }
     ensures no_fault { OnOk result
         (HasNoFault (table_with objects.now infos.now) kept.now) }
+    ensures paths { OnOk result (paths.new.keys ≡ paths_of (table_with objects.now infos.now)) }
     ensures index { IfOk result (λ index. AreLookUps (table_with objects.now infos.now)
         index.names.keys index.origins.items index.graph
         (map (λ row. row.items) index.required.items)) }
@@ -102,12 +104,13 @@ fn check_repetitions<'t>(
     alloc: Global,
     objects: &'t [Rule],
     infos: &'t [Info],
-    paths: &mut IndexSet<&'t Path, TableKey>,
+    paths: &mut IndexSet<Path, TableKey>,
     key: TableKey,
 ) -> Result<Modules<'t>, Failure<Box<TableFault>>>
     requires { IsEmpty paths.old }
     ensures modules { IfOk result
         (λ modules. modules ≡ table_with objects.now infos.now) }
+    ensures paths { OnOk result (paths.new.keys ≡ paths_of (table_with objects.now infos.now)) }
     ensures passed { OnOk result ((kept : List Name) →
         Passed 5 (table_with objects.now infos.now) kept) }
     ensures fault { IfErr result (ForFault (λ fault. (kept : List Name) →

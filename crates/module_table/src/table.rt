@@ -30,6 +30,9 @@ pub struct Table {
     resolved: Resolved,
     /// The names of all provided modules. A name's index is that of its module.
     names: IndexSet<Name, TableKey>,
+    /// The paths of the objects, each at the index of its object, and after them the files of all
+    /// provided modules, by module.
+    paths: IndexSet<Path, TableKey>,
     /// The producer of each module, and the index of the module in what the producer provides.
     origins: Vec<(Maker, usize)>,
     /// The modules and objects that each module and each object needs, by index.
@@ -40,7 +43,7 @@ impl Model for Table {
     ghost use Rattle.std.specs.Prelude.{◌≡◌};
     ghost use Rattle.module_table.specs.TableValue.{TableValue};
     ghost use Rattle.module_table.specs.Modules.{provisions};
-    ghost use Rattle.module_table.specs.inner.Views.{names_of};
+    ghost use Rattle.module_table.specs.inner.Views.{names_of, paths_of};
     ghost use Rattle.module_table.specs.inner.Origins.{origins_of};
     ghost use Rattle.module_table.specs.inner.Graph.{IsModuleGraph};
 
@@ -50,7 +53,8 @@ impl Model for Table {
 
     ghost invariant = { λ t. (t.names.keys ≡ names_of (provisions t.resolved))
         × (t.origins.items ≡ origins_of t.resolved)
-        × IsModuleGraph t.resolved t.graph };
+        × IsModuleGraph t.resolved t.graph
+        × (t.paths.keys ≡ paths_of t.resolved) };
 }
 
 impl Table {
@@ -98,22 +102,21 @@ impl Table {
             table_with refused.objects.items refused.infos.items
             ≡ table_with objects.items infos.items)) }
     {
-        let checked = {
-            let key = table_key(objects.as_slice(), infos.as_slice());
-            let mut paths = IndexSet::with_hasher(alloc, key);
-            check_all(
-                alloc,
-                objects.as_slice(),
-                infos.as_slice(),
-                kept,
-                &mut paths,
-                key,
-            )
-        };
+        let key = table_key(objects.as_slice(), infos.as_slice());
+        let mut paths = IndexSet::with_hasher(alloc, key);
+        let checked = check_all(
+            alloc,
+            objects.as_slice(),
+            infos.as_slice(),
+            kept,
+            &mut paths,
+            key,
+        );
         match checked {
             Ok(index) => Ok(Table {
                 resolved: Resolved::new(objects, infos, index.required),
                 names: index.names,
+                paths,
                 origins: index.origins,
                 graph: index.graph,
             }),
@@ -133,6 +136,7 @@ impl Table {
         let Table {
             resolved,
             names: _,
+            paths: _,
             origins: _,
             graph: _,
         } = self;

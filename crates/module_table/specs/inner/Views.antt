@@ -1,7 +1,8 @@
 -- What the values that the code borrows stand for.
-use Rattle.std.specs.Prelude.{◌≡◌, ℕ, List, map, slice_get, Some}
+use Rattle.std.specs.Prelude.{◌≡◌, ℕ, List, ◌++◌, map, slice_get, Some}
 use Rattle.scan_docs.specs.Scan.{RuleValue}
-use Rattle.module_table.specs.Modules.{Provision, InfoRequirement}
+use Rattle.module_table.specs.TableValue.{TableValue}
+use Rattle.module_table.specs.Modules.{Provision, provisions, InfoRequirement}
 use Rattle.module_table.specs.Faults.{Claim, claims_of}
 use Rattle.module_table.specs.declared.modules.Module.{Module}
 use Rattle.module_table.specs.declared.requirements.InfoRequired.{InfoRequired}
@@ -32,6 +33,10 @@ names_of provided = map (λ p. p.name) provided
 
 abbrev pub files_of : List Provision → List (List ℕ)
 files_of provided = map (λ p. p.file) provided
+
+-- the paths of objects, by index, and after them the files of modules, by index
+abbrev pub paths_of : TableValue → List (List ℕ)
+paths_of t = map (λ rule. rule.object) t.objects ++ files_of (provisions t)
 
 -- the fault says that these two provide one name
 abbrev pub IsProvidedTwice : List Provision → ℕ → ℕ → TableFault → Type 0

@@ -8,7 +8,7 @@ ghost use Rattle.module_table.specs.TableValue.{TableValue, table_with};
 ghost use Rattle.module_table.specs.Modules.{provisions};
 ghost use Rattle.module_table.specs.Faults.{Claim, claims_of};
 ghost use Rattle.ninja_text.specs.Firsts.{AllDiffer, RepeatsFirst};
-ghost use Rattle.module_table.specs.inner.Views.{provision_of, names_of, files_of, IsProvidedTwice, IsMadeTwice};
+ghost use Rattle.module_table.specs.inner.Views.{provision_of, names_of, files_of, paths_of, IsProvidedTwice, IsMadeTwice};
 ghost use Rattle.module_table.specs.inner.Reported.{Reports};
 
 use crate::fault::{Maker, TableFault, failure_of};
@@ -20,21 +20,21 @@ use std::alloc::{AllocError, Global};
 use table_keys::TableKey;
 
 /// M1: no two objects have the same path. Puts the paths into the empty set, by object.
-pub(crate) fn check_objects<'t>(
+pub(crate) fn check_objects(
     alloc: Global,
-    objects: &'t [Rule],
-    paths: &mut IndexSet<&'t Path, TableKey>,
+    objects: &[Rule],
+    paths: &mut IndexSet<Path, TableKey>,
 ) -> Result<(), Failure<Box<TableFault>>>
     requires { IsEmpty paths.old }
-    ensures paths { OnOk result
-        (map (λ path. path.now) paths.new.keys ≡ map (λ rule. rule.object) objects.now) }
+    ensures paths { OnOk result (paths.new.keys ≡ map (λ rule. rule.object) objects.now) }
     ensures differ { OnOk result (AllDiffer (map (λ rule. rule.object) objects.now)) }
     ensures fault { IfErr result (ForFault (λ fault. (t : TableValue) (kept : List Name) →
         objects.now ≡ t.objects → Reports 1 t kept fault.value)) }
 {
     paths.reserve(objects.len())?;
     for (index, rule) in objects.iter().enumerate() {
-        let (first, is_new) = paths.insert_full(&rule.object)?;
+        let path = rule.object.copy(alloc)?;
+        let (first, is_new) = paths.insert_full(path)?;
         if !is_new {
             let path = rule.object.copy(alloc)?;
             let fault = TableFault::ObjectTwice {
@@ -156,21 +156,20 @@ fn provided_twice(
 /// M4: no two provided modules have the same file, and no module's file is an object. No two
 /// objects have the same path here, so at least one of the two is a module. `files` has the paths
 /// of the objects, and the modules' files are put after them.
-pub(crate) fn check_files<'t>(
+pub(crate) fn check_files(
     alloc: Global,
-    modules: &Modules<'t>,
-    files: &mut IndexSet<&'t Path, TableKey>,
+    modules: &Modules,
+    files: &mut IndexSet<Path, TableKey>,
 ) -> Result<(), Failure<Box<TableFault>>>
-    requires paths { map (λ path. path.now) files.old.keys
-        ≡ map (λ rule. rule.object) modules.now.objects }
+    requires paths { files.old.keys ≡ map (λ rule. rule.object) modules.now.objects }
     requires differ { AllDiffer (map (λ rule. rule.object) modules.now.objects) }
-    ensures ok { OnOk result (AllDiffer
-        (map (λ rule. rule.object) modules.now.objects ++ files_of (provisions modules.now))) }
+    ensures files { OnOk result (files.new.keys ≡ paths_of modules.now) }
+    ensures ok { OnOk result (AllDiffer (paths_of modules.now)) }
     ensures fault { IfErr result (ForFault
         (λ fault. (kept : List Name) → Reports 4 modules.now kept fault.value)) }
 {
     let provided = modules.provided();
-    match add_files(provided, files)? {
+    match add_files(alloc, provided, files)? {
         None => Ok(()),
         Some(twice) => {
             let objects = modules.objects();
@@ -181,20 +180,23 @@ pub(crate) fn check_files<'t>(
 
 /// Puts the modules' files into the set. Returns the first file that is there already, by its index
 /// in the set and the index of the module.
-fn add_files<'t>(
-    provided: &[Module<'t>],
-    files: &mut IndexSet<&'t Path, TableKey>,
+fn add_files(
+    alloc: Global,
+    provided: &[Module],
+    files: &mut IndexSet<Path, TableKey>,
 ) -> Result<Option<(usize, usize)>, AllocError>
-    requires { AllDiffer (map (λ path. path.now) files.old.keys) }
-    ensures none { IfOk result (λ twice. IfNone twice (AllDiffer
-        (map (λ path. path.now) files.old.keys ++ files_of (map provision_of provided.now)))) }
+    requires { AllDiffer files.old.keys }
+    ensures files { IfOk result (λ twice. IfNone twice
+        (files.new.keys ≡ files.old.keys ++ files_of (map provision_of provided.now))) }
+    ensures none { IfOk result (λ twice. IfNone twice (AllDiffer files.new.keys)) }
     ensures some { IfOk result (λ twice. IfSome twice (λ at. RepeatsFirst
-        (map (λ path. path.now) files.old.keys ++ files_of (map provision_of provided.now))
+        (files.old.keys ++ files_of (map provision_of provided.now))
         at.0 (length files.old.keys + at.1))) }
 {
     files.reserve(provided.len())?;
     for (index, module) in provided.iter().enumerate() {
-        let (first, is_new) = files.insert_full(module.file)?;
+        let file = module.file.copy(alloc)?;
+        let (first, is_new) = files.insert_full(file)?;
         if !is_new {
             return Ok(Some((first, index)));
         }

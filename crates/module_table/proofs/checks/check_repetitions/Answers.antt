@@ -6,7 +6,7 @@ use Rattle.module_table.specs.Modules.{provisions}
 use Rattle.module_table.specs.Faults.{IsReported}
 use Rattle.module_table.specs.inner.Passed.{Passed}
 use Rattle.ninja_text.specs.Firsts.{AllDiffer}
-use Rattle.module_table.specs.inner.Views.{names_of}
+use Rattle.module_table.specs.inner.Views.{names_of, paths_of}
 use Rattle.module_table.proofs.Passing.{for_every_kept, reported, none_passed, after_objects, after_infos, after_names, after_files}
 use Rattle.module_table.proofs.checks.check_repetitions.Goals as goal
 
@@ -54,6 +54,9 @@ returns-in_err-check_files-clause-fault c =
     let p = err_from_is_err_and c.from_residual-in_err-check_files.result c.from_residual-in_err-check_files.ensures.1 in
     rw (p.1, p.2)
     (for_every_kept t _ _ (λ kept fault is. subst (λ v. IsReported v kept fault.value) same (reported u kept 4 fault.value (is kept) (passed kept))) c.in_err-check_files.ensures.fault)
+
+pub returns-clause-paths : goal.returns-clause-paths
+returns-clause-paths c = c.in_ok-check_files.ensures.files ∙ ap paths_of c.in_ok-modules.ensures.modules
 
 pub returns-clause-passed : goal.returns-clause-passed
 returns-clause-passed c = λ kept.

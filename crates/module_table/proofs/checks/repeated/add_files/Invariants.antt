@@ -5,6 +5,6 @@ use Rattle.module_table.proofs.checks.repeated.add_files.Given as goal
 
 abbrev pub invariant-loop-index : goal.invariant-loop-index
 invariant-loop-index l = record {
-  same : map (λ file. file.now) l.files.keys ≡ take (length l.fn.files.keys + l.index) (map (λ file. file.now) l.fn.files.keys ++ files_of (map provision_of l.provided));
-  differ : AllDiffer (take (length l.fn.files.keys + l.index) (map (λ file. file.now) l.fn.files.keys ++ files_of (map provision_of l.provided)));
+  same : l.files.keys ≡ take (length l.fn.files.keys + l.index) (l.fn.files.keys ++ files_of (map provision_of l.provided));
+  differ : AllDiffer (take (length l.fn.files.keys + l.index) (l.fn.files.keys ++ files_of (map provision_of l.provided)));
 }

@@ -3,6 +3,7 @@ use Rattle.module_table.specs.TableValue.{TableValue}
 use Rattle.module_table.specs.Added.{required_of}
 use Rattle.module_table.specs.Outcomes.{HasNoFault}
 use Rattle.module_table.specs.inner.LookUps.{AreLookUps}
+use Rattle.module_table.specs.inner.Views.{paths_of}
 use Rattle.module_table.proofs.IndexRows.{same_table}
 use Rattle.module_table.proofs.Faultless.{faultless_is_sound}
 use Rattle.module_table.proofs.table.Table.build_or_refused.Goals as goal
@@ -23,7 +24,7 @@ invariant_of-result c =
     let same = same_table _ _ _ _ c.as_slice-3.ensures.value c.as_slice-4.ensures.value ∙ sym c.new.ensures in
     let index = c.in-Ok.index in
     let h = subst (λ u. AreLookUps u index.names.keys index.origins.items index.graph (map (λ row. row.items) index.required.items)) same c.in-Ok.ensures.index in
-    (h.all_names, h.all_origins, h.is_graph)
+    (h.all_names, h.all_origins, h.is_graph, subst (λ (u : TableValue). c.check_all-checked.new.paths.keys ≡ paths_of u) same c.in-Ok.ensures.paths)
 
 pub returns-in-Ok-clause-sound : goal.returns-in-Ok-clause-sound
 returns-in-Ok-clause-sound c =
