@@ -8,6 +8,7 @@ use Rattle.ninja_text.specs.declared.unit.LineUnit.{LineUnit}
 use Rattle.ninja_text.specs.declared.unit.LineUnit.TheVariants.{Continuation, Escape, Byte}
 use Rattle.ninja_text.specs.Tokens.{TokenAt, is_blank, is_piece, goes_on, with_first_start, with_unit, tokens_from, tokens}
 use Rattle.ninja_text.specs.Assignments.{after_run, is_name_unit, begins_with_equals, SeenAssignment, assignment_of}
+use Rattle.ninja_text.specs.Paths.{is_empty}
 use Rattle.ninja_text.proofs.TokenLemmas.{tokens_with, byte_is}
 
 any_later : (test : LineUnit → Bool) (u : LineUnit) (us : List LineUnit) → list_any test us ≡ true → list_any test (u ∷ us) ≡ true
@@ -105,3 +106,10 @@ assignment_has_token text a h none =
           (run_first name.place name.units (ltb-true name.place past_name.place (and_parts (nat_lt name.place past_name.place) (begins_with_equals sign.units) t).0)))
       | inr f ↦ let x : ◌≡◌ {A = Option SeenAssignment} None (Some a) = rw f at h in cc
     ]
+
+pub assignment_not_empty : (text : List ℕ) (a : SeenAssignment) → assignment_of text ≡ Some a → is_empty (tokens text) ≡ false
+assignment_not_empty text a h = go (tokens text) (assignment_has_token text a h)
+  where
+    go : (ts : List TokenAt) → (ts ≡ [] → ⊥) → is_empty ts ≡ false
+    go [] some = absurd (some refl)
+    go (t ∷ ts) some = refl

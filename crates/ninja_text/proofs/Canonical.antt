@@ -1,6 +1,7 @@
 -- A canonical text means itself.
 use Rattle.std.proofs.Common.{◌≡◌, ◌≢◌, ℕ, ◌+◌, ◌<◌, ◌≤◌, Bool, true, false, not, ◌&&◌, cond, nat_lt, ◌==◌, List, [], ◌∷◌, ◌++◌, length, Option, Some, None, Result, Ok, Err, refl, sym, ◌∙◌, ap, subst, arith, position, option_map}
 use Rattle.std.specs.List.{AllByRecursion, list_any, prefix_len, onto_first}
+use Rattle.std.proofs.lemmas.Bool.{le-ltb, lt-ltb}
 use Rattle.ninja_text.specs.declared.fault.PathFault.{PathFault}
 use Rattle.ninja_text.specs.declared.fault.PathFault.TheVariants.{Empty, AboveRoot, Unwritable, TooLong}
 use Rattle.ninja_text.specs.Escapes.{is_unwritable}
@@ -129,27 +130,15 @@ run-clean (b ∷ bs) h = go (run-clean bs) (is_unwritable b) refl
     go more true e = let z = run-stop b bs e in absurd (h (omega arith))
     go more false e = let z = run-step b bs e in (e, more (λ lt. h (omega arith)))
 
--- no number is below itself
-not-below : (n : ℕ) → nat_lt n n ≡ false
-not-below n = grind arith
-
 -- no unwritable byte is found in a clean text
 pub clean-none : (text : List ℕ) → IsClean text → position is_unwritable text ≡ None
 clean-none text a =
     let e = clean-run text a in
-    ap (λ t. cond t (Some (run_of text)) None) (ap (λ n. nat_lt n (length text)) e ∙ not-below (length text))
-
--- the test says what the order says
-pub is-below : (m n : ℕ) → m < n → nat_lt m n ≡ true
-is-below m n lt = grind arith
-
--- the test says what the order says
-pub not-above : (m n : ℕ) → m ≤ n → nat_lt n m ≡ false
-not-above m n le = grind arith
+    ap (λ t. cond t (Some (run_of text)) None) (ap (λ n. nat_lt n (length text)) e ∙ le-ltb (length text) (length text) (omega arith))
 
 -- a text in which no unwritable byte is found is clean
 pub none-clean : (text : List ℕ) → position is_unwritable text ≡ None → IsClean text
-none-clean text h = run-clean text (λ lt. found (nat_lt (run_of text) (length text)) (is-below (run_of text) (length text) lt) h)
+none-clean text h = run-clean text (λ lt. found (nat_lt (run_of text) (length text)) (lt-ltb (run_of text) (length text) lt) h)
   where
     found : (t : Bool) → t ≡ true → cond t (Some (run_of text)) None ≡ None → ⊥
     found true e k = cc
@@ -178,7 +167,7 @@ below-each P [] cs a = a
 below-each P (d ∷ ds) cs a = below-each P ds cs a.1
 
 -- a list that is not empty
-some-list : (list : List (List ℕ)) → list ≢ [] → is_empty list ≡ false
+pub some-list : (list : List (List ℕ)) → list ≢ [] → is_empty list ≡ false
 some-list [] n = absurd (n refl)
 some-list (x ∷ xs) n = refl
 
@@ -323,11 +312,11 @@ go-checked build text last h k m e = go-last build text h k ∙ ap (λ o. checke
 
 -- the path is too long
 pub is-long : (build : Option (List ℕ)) (text last : List ℕ) → is_empty (reduced (components text)) ≡ false → (is_rooted text && list_any is_parent (reduced (components text))) ≡ false → position is_unwritable text ≡ None → last ≡ seen_from build (is_rooted text) (reduced (components text)) → 4096 < length last → canonical_of build text ≡ Err TooLong
-is-long build text last h k m e lt = go-checked build text last h k m e ∙ ap (λ b. cond b (Err TooLong) (Ok last)) (is-below 4096 (length last) lt)
+is-long build text last h k m e lt = go-checked build text last h k m e ∙ ap (λ b. cond b (Err TooLong) (Ok last)) (lt-ltb 4096 (length last) lt)
 
 -- the path is short enough
 pub is-path : (build : Option (List ℕ)) (text last : List ℕ) → is_empty (reduced (components text)) ≡ false → (is_rooted text && list_any is_parent (reduced (components text))) ≡ false → position is_unwritable text ≡ None → last ≡ seen_from build (is_rooted text) (reduced (components text)) → length last ≤ 4096 → canonical_of build text ≡ Ok last
-is-path build text last h k m e le = go-checked build text last h k m e ∙ ap (λ b. cond b (Err TooLong) (Ok last)) (not-above (length last) 4096 le)
+is-path build text last h k m e le = go-checked build text last h k m e ∙ ap (λ b. cond b (Err TooLong) (Ok last)) (le-ltb 4096 (length last) le)
 
 -- the last tests never answer that no component is left
 checked-not-empty : (o : Option ℕ) (last : List ℕ) → checked o last ≡ Err Empty → ⊥

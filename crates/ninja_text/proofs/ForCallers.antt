@@ -1,10 +1,10 @@
--- What other crates cite: the lemmas that the promises rest on of this crate, for needs of their own. They
--- are as settled as the public contracts; the other lemmas may change.
-use Rattle.std.proofs.Common.{IsTrue, ◌↔◌, ℕ, List}
-use Rattle.ninja_text.specs.Escapes.{is_writable, IsWritable}
-use Rattle.ninja_text.proofs.Writable.{writable}
--- A canonical path has the shape that its name promises.
-pub use Rattle.ninja_text.proofs.Shape.{shape}
+-- The lemmas that other crates cite. They are as settled as the public contracts; the other lemmas may
+-- change.
+-- A canonical path has the shape that its name promises, and can be escaped.
+pub use Rattle.ninja_text.proofs.Shape.{shape, writable as path_writable}
+-- A list of paths that is not empty, by the test and by the fact.
+pub use Rattle.ninja_text.proofs.Shape.{empty-not}
+pub use Rattle.ninja_text.proofs.Canonical.{some-list}
 -- What holds of each element of two lists holds of each element of both, one behind the other.
 pub use Rattle.ninja_text.proofs.CutLemmas.{AllByRecursion-append}
 -- Lines put one behind another.
@@ -20,7 +20,7 @@ pub use Rattle.ninja_text.proofs.StartLemmas.{Parts, assignment_parts}
 -- A slice from the front of a text begins with the text's first byte.
 pub use Rattle.ninja_text.proofs.StartLemmas.{slice_first}
 -- A text that is an assignment has a token.
-pub use Rattle.ninja_text.proofs.AssignmentLemmas.{assignment_has_token}
+pub use Rattle.ninja_text.proofs.AssignmentLemmas.{assignment_has_token, assignment_not_empty}
 -- A unit is sound where it is an escape that a path may need, or a byte by itself that neither ends a
 -- line nor is a fault.
 pub use Rattle.ninja_text.proofs.SpelledUnits.{is_sound}
@@ -53,9 +53,11 @@ pub use Rattle.ninja_text.proofs.SpelledTexts.{written_line, written_text}
 -- The first token of one that begins with a word stands at its beginning.
 pub use Rattle.ninja_text.proofs.SpelledTexts.{First, written_first}
 -- The elements of lists, by index: of mapped lists, of two lists, and of the first few of a list.
-pub use Rattle.ninja_text.proofs.Indexed.{same_some, same_cons, element_at, from_map, to_map, in_append, in_first, in_second, from_push, from_take, in_take, map_take, take_next, to_the_end}
+pub use Rattle.ninja_text.proofs.Indexed.{same_some, same_cons, element_at, from_map, to_map, in_append, in_first, in_second, from_push, from_take, in_take, map_take, take_next, to_the_end, zip_is_map}
 -- The elements of lists put one after another: the parts of a list that `flat_map` makes.
 pub use Rattle.ninja_text.proofs.Indexed.{offset, InPart, in_flat_map, FromPart, from_flat_map}
+-- A value whose result had its error mapped.
+pub use Rattle.ninja_text.proofs.Refusals.{with_other_error}
 -- Numbers in one of three orders; a choice for each number makes a list.
 pub use Rattle.ninja_text.proofs.Indexed.{three_ways, choose}
 -- Lists in which all differ, and what a search for a text says of them.
@@ -68,7 +70,5 @@ pub use Rattle.ninja_text.proofs.LineFormats.{AreOfClasses-append, one_more_line
 pub use Rattle.ninja_text.proofs.FormatReading.{all_lent, faulty_next, faulty_rest, faulty_at_limit}
 -- What a reader of a format's lines answers and leaves.
 pub use Rattle.ninja_text.proofs.FormatReading.{fed, none_refused}
-
--- The test of what can be spelled means what the record says.
-pub is_writable-meaning : (path : List ℕ) → IsTrue (is_writable path) ↔ IsWritable path
-is_writable-meaning path = writable path
+-- The test of what can be escaped means what the record says.
+pub use Rattle.ninja_text.proofs.Writable.{writable as is_writable-meaning}

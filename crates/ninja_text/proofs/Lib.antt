@@ -1,7 +1,6 @@
 pub mod Indexed
 pub mod Repetitions
 pub mod ReducedList
-pub mod Rows
 pub mod Shape
 pub mod Spelling
 pub mod Canonical

@@ -18,11 +18,6 @@ pub list_text-behind : (x : List ℕ) (xs : List (List ℕ)) (c : List ℕ) → 
 list_text-behind x [] c = refl
 list_text-behind x (y ∷ ys) c = ap (λ t. x ++ 47 ∷ t) (list_text-behind y ys c) ∙ sym (append_assoc x (47 ∷ list_text (y ∷ ys)) (47 ∷ c))
 
--- behind a text that is not empty a slash comes first
-appended-front : (x rest c : List ℕ) → is_current x ≡ false → appended (x ++ rest) c ≡ (x ++ rest) ++ 47 ∷ c
-appended-front [] rest c h = cc
-appended-front (b ∷ bs) rest c h = refl
-
 -- a component behind a list whose first component is not empty
 pub list_text-appended : (x : List ℕ) (xs : List (List ℕ)) (c : List ℕ) → is_current x ≡ false → list_text ((x ∷ xs) ++ c ∷ []) ≡ appended (list_text (x ∷ xs)) c
 list_text-appended [] xs c h = cc

@@ -53,7 +53,7 @@ no-parents (c ∷ cs) h = elim (either_way (is_parent c)) [
     both b e = cc
 
 -- a list that has a component
-empty-not : (l : List (List ℕ)) → is_empty l ≡ false → l ≢ []
+pub empty-not : (l : List (List ℕ)) → is_empty l ≡ false → l ≢ []
 empty-not [] h e = cc
 empty-not (c ∷ cs) h e = cc
 

@@ -171,7 +171,7 @@ fn seen(
     alloc: Global,
     build: Option<&Path>,
     rooted: bool,
-    list: Vec<u8>,
+    mut list: Vec<u8>,
 ) -> Result<Vec<u8>, AllocError>
     requires { ForSome (option_copied build) (λ b. is_rooted b ≡ true) }
     ensures { IfOk result (λ seen. (text : Text) → list.items ≡ reduced_text text
@@ -180,13 +180,13 @@ fn seen(
     if !rooted {
         return Ok(list);
     }
-    match build {
-        Some(build) => match below(build, &list) {
-            Some(rest) => Vec::from_slice(alloc, rest),
-            None => with_root(list),
-        },
-        None => with_root(list),
+    if let Some(build) = build {
+        if let Some(rest) = below(build, &list) {
+            return Vec::from_slice(alloc, rest);
+        }
     }
+    list.insert(0, b'/')?;
+    Ok(list)
 }
 
 /// Returns the components below a build directory, if an absolute path lies below it.
@@ -198,14 +198,6 @@ fn below<'t>(build: &Path, list: &'t [u8]) -> Option<&'t [u8]>
 {
     let directory = build.bytes().strip_prefix(b"/")?;
     list.strip_prefix(directory)?.strip_prefix(b"/")
-}
-
-/// Puts the slash of an absolute path in front of its components.
-fn with_root(mut list: Vec<u8>) -> Result<Vec<u8>, AllocError>
-    ensures { IfOk result (λ text. text.items ≡ 47 ∷ list.items) }
-{
-    list.insert(0, b'/')?;
-    Ok(list)
 }
 
 /// Two paths are equal if their canonical strings are.
