@@ -24,7 +24,7 @@ after_colon (SignSymbol Colon ∷ more) = more
 after_colon (SignSymbol other ∷ more) = after_colon more
 
 -- a fault is there, and is not
-faulty : {fault : LineFault} {A : Type 0} → ◌≡◌ {A = Option LineFault} (Some fault) None → A
+pub faulty : {fault : LineFault} {A : Type 0} → ◌≡◌ {A = Option LineFault} (Some fault) None → A
 faulty h = absurd (cc)
 
 -- implicit inputs without fault are words alone

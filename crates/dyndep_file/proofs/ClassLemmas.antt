@@ -6,7 +6,7 @@ use Rattle.ninja_text.specs.Lexical.{lexical_fault}
 use Rattle.ninja_text.specs.Tokens.{TokenAt, tokens, raw, value_of}
 use Rattle.ninja_text.specs.Assignments.{SeenAssignment, assignment_of}
 use Rattle.ninja_text.specs.declared.fault.LexFault.{LexFault}
-use Rattle.ninja_text.proofs.ForCallers.{assignment_has_token}
+use Rattle.ninja_text.proofs.ForCallers.{assignment_not_empty}
 use Rattle.dyndep_file.specs.StatementValue.{StatementValue}
 use Rattle.dyndep_file.specs.Classes.{DyndepClass, Comment, Blank, Version, Build, Binding, Symbol, WordSymbol, SignSymbol, symbol, symbols, begins_at_start, begins_with_space, IsPart}
 use Rattle.dyndep_file.specs.Classes.{IsBuild, Assigns, IsDyndepLine, is_version_one}
@@ -19,7 +19,7 @@ use Rattle.dyndep_file.specs.declared.progress.Stage.{Stage}
 use Rattle.dyndep_file.specs.declared.progress.Stage.TheVariants.{BeforeVersion, NoneOpen, Open}
 use Rattle.ninja_text.specs.declared.token.TokenKind.TheVariants.{Bar, Colon}
 use Rattle.dyndep_file.proofs.TableLemmas.{same_bytes-true, symbol_is_word, no_indent_at_token, no_indent_at_name, names_apart}
-use Rattle.dyndep_file.proofs.BuildLemmas.{words_before_colon, after_colon, parts}
+use Rattle.dyndep_file.proofs.BuildLemmas.{words_before_colon, after_colon, faulty, parts}
 
 -- the class's index in this list: comment, blank, build line, binding, version line
 abbrev class_index : DyndepClass → ℕ
@@ -41,16 +41,6 @@ index_of text comment =
     else if begins_with_space text then 3
     else if is_keyword_line text then 2
     else 4
-
--- a text with an assignment has a token
-not_empty : (text : List ℕ) (a : SeenAssignment) → assignment_of text ≡ Some a → is_empty (tokens text) ≡ false
-not_empty text a h = elim (cases_Bool (is_empty (tokens text))) [
-  | inr f ↦ f
-  | inl t ↦ absurd (assignment_has_token text a h (nothing (tokens text) t))
-] where
-  nothing : (ts : List TokenAt) → is_empty ts ≡ true → ts ≡ []
-  nothing [] h = refl
-  nothing (t ∷ ts) h = absurd (let x : false ≡ true = h in cc)
 
 -- the keyword at the front is the first token
 record Keyword (text : List ℕ) : Type 0 where
@@ -87,7 +77,7 @@ index_of_class text comment Comment is = rw is refl
 index_of_class text comment Blank is = rw is.0 (rw (ap is_empty is.2) refl)
 index_of_class text comment Version is =
     let a = is.3.0 in
-    rw (is.0, not_empty text a is.3.1, no_indent_at_name text a is.3.1 is.3.2, no_keyword text a is.3.1 is.3.2 is.3.3) refl
+    rw (is.0, assignment_not_empty text a is.3.1, no_indent_at_name text a is.3.1 is.3.2, no_keyword text a is.3.1 is.3.2 is.3.3) refl
 index_of_class text comment (Build o os ins) is =
     let b = is.5 in
     rw (is.0, some (tokens text) b.4, no_indent_at_token text b.4, ap is_some (ap (after_build (begins_at_start (tokens text))) b.5 ∙ kept (begins_at_start (tokens text)) b.4)) refl where
@@ -99,7 +89,7 @@ index_of_class text comment (Build o os ins) is =
       kept at h = rw h refl
 index_of_class text comment (Binding flag) is =
     let indent : begins_with_space text ≡ true = is.2 in
-    rw (is.0, not_empty text (is.5).0 (is.5).1, indent) refl
+    rw (is.0, assignment_not_empty text (is.5).0 (is.5).1, indent) refl
 
 -- the parts of a build line follow from its symbols
 words_before : (words : List (List ℕ)) (more : List Symbol) → words_before_colon (map WordSymbol words ++ SignSymbol Colon ∷ more) ≡ words
@@ -167,10 +157,6 @@ class_one text comment (Binding flag) (Binding other) p q =
     ap Binding (p.6 ∙ ap (λ (v : List ℕ). nat_lt 0 (length v)) value ∙ sym q.6)
 class_one text comment c d p q = absurd (let e : class_index c ≡ class_index d = sym (index_of_class text comment c p) ∙ index_of_class text comment d q in omega arith)
 
--- a fault is there, and is not
-none_else : {fault : LineFault} {A : Type 0} → ◌≡◌ {A = Option LineFault} (Some fault) None → A
-none_else h = absurd (cc)
-
 -- a class that a text is of, and that may stand at a stage
 pub record CanStand (stage : Stage) (ss : List StatementValue) (text : List ℕ) (comment : Bool) : Type 0 where
   pub class : DyndepClass
@@ -216,9 +202,9 @@ module _ (ss : List StatementValue) (text : List ℕ) (sound : lexical_fault tex
   -- an indented text without fault is a binding under an open statement
   indented : (stage : Stage) (v : Option (ℕ × List ℕ)) → value_assigned (codes "restat") (assignment_of text) ≡ v → begins_with_space text ≡ true
       → indented_fault stage (is_some v) ≡ None → CanStand stage ss text false
-  indented BeforeVersion v e indent h = none_else h
-  indented NoneOpen v e indent h = none_else h
-  indented Open None e indent h = none_else h
+  indented BeforeVersion v e indent h = faulty h
+  indented NoneOpen v e indent h = faulty h
+  indented Open None e indent h = faulty h
   indented Open (Some p) e indent h =
       let a = named_so (codes "restat") (assignment_of text) p.0 p.1 e in
       passes Open ss text false (Binding (nat_lt 0 (length p.1))) (refl, sound, indent, p.0, p.1, a, refl) (_, refl)
@@ -227,10 +213,10 @@ module _ (ss : List StatementValue) (text : List ℕ) (sound : lexical_fault tex
   version : (stage : Stage) (v : List ℕ) → Assigns text (codes "ninja_dyndep_version") 0 v → version_fault stage v ≡ None → CanStand stage ss text false
   version BeforeVersion v assigns h = elim (cases_Bool (is_version_one v)) [
     | inl t ↦ passes BeforeVersion ss text false Version (refl, sound, v, assigns, t) (_, refl)
-    | inr f ↦ none_else (rw f at h)
+    | inr f ↦ faulty (rw f at h)
   ]
-  version NoneOpen v assigns h = none_else h
-  version Open v assigns h = none_else h
+  version NoneOpen v assigns h = faulty h
+  version Open v assigns h = faulty h
 
   -- a text with tokens after the keyword begins with the keyword
   keyword_first : (at : Bool) (all more : List Symbol) → after_build at all ≡ Some more → (at ≡ true) × (all ≡ WordSymbol (codes "build") ∷ more)
@@ -269,8 +255,8 @@ module _ (ss : List StatementValue) (text : List ℕ) (sound : lexical_fault tex
   -- a text that is neither indented nor a version line, and has no fault, is a build line that may stand
   build_or_not : (stage : Stage) (build : Option (List Symbol)) → after_build (begins_at_start (tokens text)) (symbols text) ≡ build → build_or_other_fault stage build ≡ None
       → CanStand stage ss text false
-  build_or_not stage None e h = none_else h
-  build_or_not BeforeVersion (Some more) e h = none_else h
+  build_or_not stage None e h = faulty h
+  build_or_not BeforeVersion (Some more) e h = faulty h
   build_or_not NoneOpen (Some more) e h = built NoneOpen more e (λ o os ins. (_, refl)) h
   build_or_not Open (Some more) e h = built Open more e (λ o os ins. (_, refl)) h
 
@@ -301,4 +287,4 @@ can_stand stage ss text true h = passes stage ss text true Comment refl (comment
 can_stand stage ss text false h = lexed (lexical_fault text) refl h where
   lexed : (o : Option LexFault) → lexical_fault text ≡ o → lexical_fault_or o (text_fault stage text) ≡ None → CanStand stage ss text false
   lexed None e h = sound_text ss text e stage h
-  lexed (Some fault) e h = none_else h
+  lexed (Some fault) e h = faulty h

@@ -1,7 +1,6 @@
 pub mod Positions
 pub mod Parts
 pub mod WriteFaultLemmas
-mod CallRows
 pub mod Runs
 pub mod EndLemmas
 pub mod FaultLemmas

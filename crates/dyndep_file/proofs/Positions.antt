@@ -1,10 +1,10 @@
 -- Where the first element that passes a test stands, in a list and in lists behind one another.
-use Rattle.std.proofs.Common.{◌≡◌, ℕ, ◌+◌, ◌<◌, Bool, true, false, cond, List, [], ◌∷◌, ◌++◌, length, get_or, Option, Some, None, option_map, refl, ap, sym, ◌∙◌, arith, add_assoc}
+use Rattle.std.proofs.Common.{◌≡◌, ℕ, ◌+◌, ◌<◌, Bool, true, false, cond, List, [], ◌∷◌, ◌++◌, length, map, get_or, Option, Some, None, option_map, refl, ap, sym, ◌∙◌, arith, add_assoc}
 use Rattle.std.specs.Prelude.{position, nat_lt}
 use Rattle.std.specs.List.{position_from}
 use Rattle.std.specs.Option.{option_or}
 use Rattle.std.proofs.lemmas.List.Sums.{position_or_len_is}
-use Rattle.std.proofs.lemmas.Bool.{lt-ltb}
+use Rattle.std.proofs.lemmas.Bool.{le-ltb, lt-ltb}
 use Rattle.std.proofs.lemmas.Iterator.Adapters.{position_from-zero}
 
 -- the index of the first element that passes
@@ -13,15 +13,11 @@ position_is p xs i d lt before here =
     ap (λ n. cond (nat_lt n (length xs)) (Some n) None) (position_or_len_is p xs i d (omega (arith, lt)) before (λ _. here))
     ∙ ap (λ b. cond b (Some i) None) (lt-ltb i (length xs) lt)
 
--- no number is below itself
-not_below : (n : ℕ) → nat_lt n n ≡ false
-not_below n = grind arith
-
 -- no element passes
 pub position_none : {X : Type 0} (p : X → Bool) (xs : List X) (d : X) → ((k : ℕ) → k < length xs → p (get_or xs k d) ≡ false) → position p xs ≡ None
 position_none p xs d before =
     ap (λ n. cond (nat_lt n (length xs)) (Some n) None) (position_or_len_is p xs (length xs) d (omega arith) before (λ lt. absurd (omega (arith, lt))))
-    ∙ ap (λ b. cond b (Some (length xs)) None) (not_below (length xs))
+    ∙ ap (λ b. cond b (Some (length xs)) None) (le-ltb (length xs) (length xs) (omega arith))
 
 -- an index counted from i + j is that counted from j, and i more
 shifted : {X : Type 0} (p : X → Bool) (i j : ℕ) (xs : List X) → position_from p (i + j) xs ≡ option_map (λ k. i + k) (position_from p j xs)
@@ -80,3 +76,13 @@ in_second p x xs ys before index h none is b =
 -- no index is in either
 pub in_none : {X : Type 0} (p : X → Bool) (x : X) (xs ys : List X) → p x ≡ false → position p xs ≡ None → position p ys ≡ None → position p (x ∷ (xs ++ ys)) ≡ None
 in_none p x xs ys h none is = in_second_map p x xs ys None h none is
+
+-- ---- a mapped list
+
+from_mapped : {A B : Type 0} (f : A → B) (p : B → Bool) (i : ℕ) (xs : List A) → position_from (λ a. p (f a)) i xs ≡ position_from p i (map f xs)
+from_mapped f p i [] = refl
+from_mapped f p i (x ∷ xs) = ap (λ o. cond (p (f x)) (Some i) o) (from_mapped f p (i + 1) xs)
+
+-- the first index is the same in the mapped list
+pub position-map : {A B : Type 0} (f : A → B) (p : B → Bool) (xs : List A) → position (λ a. p (f a)) xs ≡ position p (map f xs)
+position-map f p xs = position_from-zero (λ a. p (f a)) xs ∙ from_mapped f p 0 xs ∙ sym (position_from-zero p (map f xs))

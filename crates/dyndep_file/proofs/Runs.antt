@@ -11,6 +11,7 @@ use Rattle.dyndep_file.specs.Grammar.{comment_first, blank_first, version_line, 
 use Rattle.dyndep_file.specs.Steps.{ProgressValue, with_last_restat, step, run}
 use Rattle.dyndep_file.specs.declared.progress.Stage.{Stage}
 use Rattle.dyndep_file.specs.declared.progress.Stage.TheVariants.{BeforeVersion, NoneOpen, Open}
+use Rattle.dyndep_file.proofs.TableLemmas.{never}
 
 -- a statement, by its paths and its flag
 abbrev pub statement : List ℕ → List (List ℕ) → List (List ℕ) → Bool → StatementValue
@@ -111,10 +112,6 @@ record RunAdds (classes : List DyndepClass) : Type 0 where
 -- a run over no line ends with the statements that it began with
 at_end : {stage : Stage} {start : List StatementValue} {end : ProgressValue} → ◌≡◌ {A = Option ProgressValue} (Some (record { stage = stage; statements = start })) (Some end) → end.statements ≡ start
 at_end {stage} {start} {end} h = sym (ap (λ s. s.statements) (progress_same h))
-
--- where a line may not stand, no progress comes of it
-never : {end : ProgressValue} {A : Type 0} → ◌≡◌ {A = Option ProgressValue} None (Some end) → A
-never h = absurd (cc)
 
 -- a run past the version adds just the statements that its lines are a body with
 run_adds : (classes : List DyndepClass) → RunAdds classes

@@ -184,7 +184,7 @@ module _ (text : List ℕ) where
   ]
 
 -- where a line may not stand, no progress comes of it
-never : {end : ProgressValue} {A : Type 0} → ◌≡◌ {A = Option ProgressValue} None (Some end) → A
+pub never : {end : ProgressValue} {A : Type 0} → ◌≡◌ {A = Option ProgressValue} None (Some end) → A
 never h = absurd (cc)
 
 -- a line of a class that may stand at a stage has no fault there

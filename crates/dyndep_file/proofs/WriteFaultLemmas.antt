@@ -5,6 +5,7 @@ use Rattle.std.specs.List.{position_from, AllByRecursion}
 use Rattle.std.specs.Option.{option_or}
 use Rattle.std.proofs.lemmas.List.Elements.{All-nil, All-cons, recursion_from_All}
 use Rattle.std.proofs.lemmas.Iterator.Adapters.{position_from-zero}
+use Rattle.std.proofs.lemmas.Option.{cond_some}
 use Rattle.ninja_text.specs.Counting.{Call}
 use Rattle.ninja_text.specs.declared.counting.Counted.{Counted}
 use Rattle.ninja_text.specs.declared.failure.Failure.{Failure}
@@ -116,17 +117,12 @@ or_some (Some a) b x h = inl h
 
 -- ---- statements whose paths have spellings
 
--- a choice between some value and none that gave this one
-cond_some : {X : Type 0} (b : Bool) (x y : X) → cond b (Some x) None ≡ Some y → y ≡ x
-cond_some true x y h = cc
-cond_some false x y h = absurd (cc)
-
 -- the fault of such a statement is a build line that is too long
 pub one_too_long : (index : ℕ) (s : StatementValue) (fault : WriteFault) → All IsWritable (paths_of s) → statement_fault index s ≡ Some fault → fault ≡ StatementTooLong index
 one_too_long index s fault w h =
     let long = cond (nat_lt line_limit (length (build_line s))) (Some (StatementTooLong index)) None in
-    cond_some (nat_lt line_limit (length (build_line s))) (StatementTooLong index) fault
-    (ap (λ (found : Option ℕ). option_or (option_map (λ path. Unwritable index path) found) long) (sym (all_found (paths_of s) w)) ∙ h)
+    sym (cond_some (nat_lt line_limit (length (build_line s))) (StatementTooLong index) fault
+    (ap (λ (found : Option ℕ). option_or (option_map (λ path. Unwritable index path) found) long) (sym (all_found (paths_of s) w)) ∙ h)).1
 
 too_long_from : (index : ℕ) (ss : List StatementValue) (fault : WriteFault) → AllByRecursion (λ s. All IsWritable (paths_of s)) ss → fault_from index ss ≡ Some fault
     → (k : ℕ) × (fault ≡ StatementTooLong k)
@@ -157,7 +153,7 @@ never_io index (s ∷ ss) count h = elim (or_some (statement_fault index s) (fau
 ]
 
 -- the fault that is reported instead of a text
-reported : (fault : Option WriteFault) (statements : List StatementValue) (answer : WriteFault) → text_unless fault statements ≡ Err answer → fault ≡ Some answer
+pub reported : (fault : Option WriteFault) (statements : List StatementValue) (answer : WriteFault) → text_unless fault statements ≡ Err answer → fault ≡ Some answer
 reported None statements answer h = cc
 reported (Some fault) statements answer h = cc
 

@@ -1,32 +1,49 @@
-//! Reads one line of a dyndep file.
+//! Reads the lines of a dyndep file.
 ghost use Rattle.std.specs.Prelude.{◌≡◌, ◌==◌, ◌&&◌, codes};
 ghost use Rattle.ninja_text.specs.LineViews.{seen_line};
 ghost use Rattle.ninja_text.specs.TokenViews.{seen_token};
 ghost use Rattle.dyndep_file.specs.Classes.{IsDyndepLine, begins_with_space};
 ghost use Rattle.dyndep_file.specs.Faults.{text_line_fault};
 ghost use Rattle.dyndep_file.specs.BuildTokens.{symbol_of, is_this_word};
-ghost use Rattle.dyndep_file.specs.inner.LineReading.{PassesOr, ReadsLine};
+ghost use Rattle.dyndep_file.specs.inner.LineReading.{PassesOr};
 
 use crate::build_line::is_keyword;
 use crate::fault::{LineFault, ReadFault};
 use crate::progress::{Progress, blank_line, build_line, indented_line, version_or_other_line};
-use ninja_text::{Failure, Line, Token, assignment, words};
+use ninja_text::{CutFault, Failure, Line, LineState, Token, assignment, words};
 use std::alloc::Global;
 
-/// Reads a line. After an error the progress is of no use.
-pub(crate) fn read_line(
-    alloc: Global,
-    progress: &mut Progress,
-    line: Line<'_>,
-) -> Result<(), Failure<ReadFault>>
-    ensures { ReadsLine progress.old (seen_line line.entry) result
-        progress.new }
-{
-    let number = line.number();
-    read_text(alloc, progress, line).map_err(|failure| failure.map(|fault| ReadFault::AtLine {
-        line: number,
-        fault,
-    }))
+impl LineState for Progress {
+    type Fault = ReadFault;
+
+    ghost use Rattle.dyndep_file.specs.inner.LineStates.{PassesLine, RefusesLine, fault_of_cutter};
+
+    ghost passes = { PassesLine };
+
+    ghost refuses = { RefusesLine };
+
+    ghost of_cutter = { fault_of_cutter };
+
+    fn read_line(&mut self, alloc: Global, line: Line<'_>) -> Result<(), Failure<ReadFault>> {
+        let number = line.number();
+        read_text(alloc, self, line).map_err(|failure| failure.map(|fault| ReadFault::AtLine {
+            line: number,
+            fault,
+        }))
+    }
+
+    fn cut_fault(fault: CutFault) -> ReadFault {
+        match fault {
+            CutFault::LineTooLong { line } => ReadFault::AtLine {
+                line,
+                fault: LineFault::LineTooLong,
+            },
+            CutFault::Truncated { line } => ReadFault::AtLine {
+                line,
+                fault: LineFault::Truncated,
+            },
+        }
+    }
 }
 
 /// Reads the text of a line that is not a comment.

@@ -2,10 +2,9 @@
 ghost use Rattle.std.specs.Prelude.{◌≡◌, ◌++◌, [], Some};
 
 use crate::fault::{LineFault, ReadFault};
-use crate::line::read_line;
 use crate::progress::{Progress, Stage};
 use crate::statement::Dyndep;
-use ninja_text::{CutFault, Failure, Line, LineReader, LineState};
+use ninja_text::{Failure, LineReader};
 use std::alloc::Global;
 use std::marker::Model;
 
@@ -81,35 +80,6 @@ impl DyndepReader {
                 fault: LineFault::NoVersion,
             })),
             Stage::NoneOpen | Stage::Open => Ok(Dyndep { statements }),
-        }
-    }
-}
-
-impl LineState for Progress {
-    type Fault = ReadFault;
-
-    ghost use Rattle.dyndep_file.specs.inner.LineStates.{PassesLine, RefusesLine, fault_of_cutter};
-
-    ghost passes = { PassesLine };
-
-    ghost refuses = { RefusesLine };
-
-    ghost of_cutter = { fault_of_cutter };
-
-    fn read_line(&mut self, alloc: Global, line: Line<'_>) -> Result<(), Failure<ReadFault>> {
-        read_line(alloc, self, line)
-    }
-
-    fn cut_fault(fault: CutFault) -> ReadFault {
-        match fault {
-            CutFault::LineTooLong { line } => ReadFault::AtLine {
-                line,
-                fault: LineFault::LineTooLong,
-            },
-            CutFault::Truncated { line } => ReadFault::AtLine {
-                line,
-                fault: LineFault::Truncated,
-            },
         }
     }
 }

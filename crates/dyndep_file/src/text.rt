@@ -4,7 +4,7 @@ ghost use Rattle.ninja_text.specs.Failure.{Gives, ForFault};
 ghost use Rattle.ninja_text.specs.Escapes.{is_writable, IsWritable};
 ghost use Rattle.dyndep_file.specs.StatementValue.{StatementValue};
 ghost use Rattle.dyndep_file.specs.Reading.{StandsForOnly};
-ghost use Rattle.dyndep_file.specs.Writing.{part_text, build_line, binding_line};
+ghost use Rattle.dyndep_file.specs.Writing.{part_text, build_line};
 ghost use Rattle.dyndep_file.specs.WriteFaults.{text_or_fault, paths_of, statement_fault, write_fault};
 ghost use Rattle.dyndep_file.specs.Texts.{IsTextOf, IsFinished};
 ghost use Rattle.dyndep_file.specs.inner.Paths.{texts, lent_texts};
@@ -103,7 +103,9 @@ impl DyndepText {
                 statement: self.count,
             }));
         }
-        push_binding(statement, &mut self.lines)?;
+        if statement.restat {
+            self.lines.extend_from_slice(BINDING_LINE)?;
+        }
         self.text.extend_from_slice(&self.lines)?;
         // A text cannot have enough statements to saturate the count.
         self.count = self.count.saturating_add(1);
@@ -193,12 +195,7 @@ fn unwritable_path(statement: &LentStatement<'_>) -> Option<usize>
 fn first_unwritable(paths: &[&[u8]]) -> Option<usize>
     ensures { result ≡ position (λ path. not (is_writable path)) (lent_texts paths.now) }
 {
-    for (index, path) in paths.iter().enumerate() {
-        if !is_writable(*path) {
-            return Some(index);
-        }
-    }
-    None
+    paths.iter().position(|path| !is_writable(*path))
 }
 
 /// Appends the build line of a statement.
@@ -212,16 +209,6 @@ fn push_build_line(statement: &LentStatement<'_>, text: &mut Vec<u8>) -> Result<
     text.extend_from_slice(b": dyndep")?;
     push_part(statement.implicit_inputs, text)?;
     text.extend_from_slice(b"\n")
-}
-
-/// Appends the line of the binding if the flag is set.
-fn push_binding(statement: &LentStatement<'_>, text: &mut Vec<u8>) -> Result<(), AllocError>
-    ensures { OnOk result (text.new.items ≡ text.old.items ++ binding_line statement.now) }
-{
-    if statement.restat {
-        text.extend_from_slice(BINDING_LINE)?;
-    }
-    Ok(())
 }
 
 /// Appends a part of a build line.

@@ -33,10 +33,7 @@ pub fn write<W: WriteCall>(
     // The text stands for these statements, and for no others.
     ensures meaning { OnOk result (StandsForOnly (dyndep_text dyndep.now) dyndep.now) }
 {
-    let text = match dyndep.to_text(alloc) {
-        Ok(text) => text,
-        Err(failure) => return Err(failure),
-    };
+    let text = dyndep.to_text(alloc)?;
     match out.write_text(&text) {
         Ok(()) => Ok(()),
         Err(stopped) => Err(Failure::Fault(WriteFault::Io {

@@ -1,4 +1,5 @@
-use Rattle.std.proofs.Common.{◌≡◌, ◌+◌, ◌≤◌, ◌++◌, length, Some, sym, ap, ◌∙◌, arith, append_assoc}
+use Rattle.std.proofs.Common.{◌≡◌, ◌+◌, ◌≤◌, ◌++◌, length, Some, sym, ap, ◌∙◌, arith, append_assoc, [], cond, codes}
+use Rattle.std.proofs.lemmas.List.{append-nil}
 use Rattle.ninja_text.specs.Lines.{line_limit}
 use Rattle.dyndep_file.specs.StatementValue.{StatementValue}
 use Rattle.dyndep_file.specs.Writing.{build_line, binding_line}
@@ -7,6 +8,7 @@ use Rattle.dyndep_file.specs.declared.fault.WriteFault.TheVariants.{StatementToo
 use Rattle.dyndep_file.proofs.WriteFaultLemmas.{all_found}
 use Rattle.dyndep_file.proofs.TextLemmas.{added, counted, too_long}
 use Rattle.dyndep_file.proofs.text.DyndepText.add_writable.Goals as goal
+use Rattle.dyndep_file.proofs.text.DyndepText.add_writable.Goals.{then-statement+in_ok-extend_from_slice, else-statement}
 
 pub returns-clause-added : goal.returns-clause-added
 returns-clause-added c = λ statements is.
@@ -14,13 +16,23 @@ returns-clause-added c = λ statements is.
     let v = c.self.view_is in
     let line : c.push_build_line.new.text.items ≡ build_line s = c.in_ok-push_build_line.ensures ∙ ap (λ t. t ++ build_line s) c.clear.ensures.items in
     let short : length (build_line s) ≤ line_limit = omega (arith, ap length line, c.len.ensures, c.if-len-gt-LINE_LIMIT.false) in
-    let lines : c.push_binding.new.text.items ≡ build_line s ++ binding_line s = c.in_ok-push_binding.ensures ∙ ap (λ t. t ++ binding_line s) line in
-    let bytes : c.extend_from_slice.new.self.items ≡ (c.args.self.now.bytes ++ build_line s) ++ binding_line s =
-    c.in_ok-extend_from_slice.ensures.items ∙ ap (λ t. c.self.inside.text.items ++ t) (c.deref.ensures.value ∙ lines)
+    let flag : c.statement.inside.restat ≡ s.restat = ap (λ t. t.restat) c.statement.view_is in
+    let lines : c.if-statement.self-inside.lines.items ≡ build_line s ++ binding_line s = elim c.if-statement.branch [
+      | then-statement+in_ok-extend_from_slice w ↦
+          rw w.self-inside-is (w.in_ok-extend_from_slice.ensures.items ∙ ap (λ t. t ++ codes "  restat = 1\n") line ∙ ap (λ b. build_line s ++ cond b (codes "  restat = 1\n") []) (sym w.if-statement.true ∙ flag))
+      | else-statement w ↦
+          rw w.self-inside-is (line ∙ sym (append-nil (build_line s)) ∙ ap (λ b. build_line s ++ cond b (codes "  restat = 1\n") []) (sym w.if-statement.false ∙ flag))
+    ] in
+    let rest : (c.if-statement.self-inside.text ≡ c.self.inside.text) × (c.if-statement.self-inside.count ≡ c.self.inside.count) = elim c.if-statement.branch [
+      | then-statement+in_ok-extend_from_slice w ↦ (ap (λ i. i.text) w.self-inside-is, ap (λ i. i.count) w.self-inside-is)
+      | else-statement w ↦ (ap (λ i. i.text) w.self-inside-is, ap (λ i. i.count) w.self-inside-is)
+    ] in
+    let bytes : c.extend_from_slice-2.new.self.items ≡ (c.args.self.now.bytes ++ build_line s) ++ binding_line s =
+    c.in_ok-extend_from_slice-2.ensures.items ∙ ap (λ t. t.items ++ c.deref.result.now) rest.0 ∙ ap (λ t. c.self.inside.text.items ++ t) (c.deref.ensures.value ∙ lines)
     ∙ ap (λ t. t.bytes ++ (build_line s ++ binding_line s)) v ∙ sym (append_assoc c.args.self.now.bytes (build_line s) (binding_line s)) in
     let within : length statements + 2 ≤ length c.args.self.now.bytes = counted statements c.args.self.now.bytes is.bytes in
     added statements s c.args.self.now _ is (all_found (paths_of s) c.requires) short bytes
-    (omega (arith, c.saturating_add-self-inside.ensures, ap (λ t. t.count) v, is.count, within, c.self.inside.text.small, ap (λ t. length t.bytes) v))
+    (omega (arith, c.saturating_add-self-inside.ensures, rest.1, ap (λ t. t.count) v, is.count, within, c.self.inside.text.small, ap (λ t. length t.bytes) v))
 
 pub returns-then-len-gt-LINE_LIMIT-clause-fault : goal.returns-then-len-gt-LINE_LIMIT-clause-fault
 returns-then-len-gt-LINE_LIMIT-clause-fault c =
