@@ -13,6 +13,8 @@ FAULTS = [
     ("* another binding", b"build a: r\n  depfile = x\n", b"edges: line 2: E3 Form"),
     ("a binding and no edge, before its path", b"  dyndep = a/..\n", b"edges: line 1: E3 Form"),
     ("no output", b"build : r a\n", b"edges: line 1: E3 Form"),
+    ("no rule", b"build a:\n", b"edges: line 1: E3 Form"),
+    ("a rule with a plus sign in its name", b"build a: c+x\n", b"edges: line 1: E3 Form"),
     ("implicit inputs after order-only ones", b"build a: r || b | c\n", b"edges: line 1: E3 Form"),
     ("a validation", b"build a: r |@ b\n", b"edges: line 1: E3 Form"),
     ("another statement", b"rule r\n", b"edges: line 1: E3 Form"),

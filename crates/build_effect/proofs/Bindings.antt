@@ -1,5 +1,5 @@
 -- Which statement is on which edge.
-use Rattle.std.proofs.Common.{◌≡◌, ◌≢◌, ℕ, ◌+◌, ◌<◌, List, [], ◌∷◌, ◌++◌, length, take, set, get_or, true, false, is_some, Option, Some, None, refl, ap, sym, subst, ◌∙◌, inl, inr, arith, slice_get, length-append, get_or-set_same, get_or-set_other}
+use Rattle.std.proofs.Common.{◌≡◌, ◌≢◌, ℕ, ◌+◌, ◌<◌, List, [], ◌∷◌, ◌++◌, length, take, set, get_or, Bool, true, false, is_some, MatchBool, Option, Some, None, refl, ap, sym, subst, ◌∙◌, inl, inr, arith, slice_get, length-append, get_or-set_same, get_or-set_other}
 use Rattle.std.proofs.lemmas.List.{length-set}
 use Rattle.std.proofs.lemmas.Option.{slice_get_within}
 use Rattle.dyndep_file.specs.StatementValue.{StatementValue}
@@ -8,8 +8,8 @@ use Rattle.build_effect.specs.Graphs.{MadeOnce, Names}
 use Rattle.build_effect.specs.Effect.{IsBound}
 use Rattle.build_effect.specs.inner.Makers.{AreMakers}
 use Rattle.ninja_text.specs.Firsts.{AllDiffer, RepeatsFirst}
-use Rattle.build_effect.specs.inner.StatementEdges.{IsBoundTo, IsUnboundOutput, AreEdgesOf, IsFirstUnbound, statement_on, AreInverse, IsFirstUnmentioned}
-use Rattle.build_effect.specs.declared.fault.EffectFault.TheVariants.{NotBound, NotMentioned}
+use Rattle.build_effect.specs.inner.StatementEdges.{IsBoundTo, IsUnboundOutput, AreEdgesOf, IsFirstUnbound, statement_on, AreInverse}
+use Rattle.build_effect.specs.declared.fault.EffectFault.TheVariants.{NotBound}
 use Rattle.build_effect.proofs.Decides.{nat_decides}
 use Rattle.ninja_text.proofs.ForCallers.{same_some, three_ways, element_at, from_push, from_take, in_take, take_next, differ_push}
 
@@ -61,13 +61,12 @@ first_unbound g name additions edge_of i a output at are none same =
         let p = bound_of g name (take i additions) edge_of k b are (in_take i additions k b less at_b) in
         not (p.0, p.2.0, p.2.1, p.2.2, p.2.3)
 
-pub none_if : {X : Type 0} (o : Option X) → is_some o ≡ false → o ≡ None
-none_if None e = refl
-none_if (Some x) e = cc
-
-pub some_if : {X : Type 0} (o : Option X) → is_some o ≡ true → (x : X) × (o ≡ Some x)
-some_if None e = cc
-some_if (Some x) e = (x, refl)
+-- what a test of an option says
+pub is_there : {X : Type 0} (o : Option X) (b : Bool) → is_some o ≡ b → MatchBool b ((x : X) × (o ≡ Some x)) (o ≡ None)
+is_there None true e = cc
+is_there None false e = refl
+is_there (Some x) true e = (x, refl)
+is_there (Some x) false e = cc
 
 -- one more statement is on its edge
 pub more_inverse : (count : ℕ) (edge_of : List ℕ) (i edge : ℕ) (statement_of : List (Option ℕ)) → slice_get edge_of i ≡ Some edge → AreInverse count (take i edge_of) statement_of → edge < count → statement_on statement_of edge ≡ None → AreInverse count (take (i + 1) edge_of) (set statement_of edge (Some i))
@@ -113,17 +112,6 @@ pub repeated_on : (count : ℕ) (edge_of : List ℕ) (i j edge : ℕ) (statement
 repeated_on count edge_of i j edge statement_of at are all is =
     let t = from_take i edge_of j edge (are.from edge j is) in
     record { repeated = edge; earlier = t.0; here = t.1; again = at; before = all }
-
--- the first edge that names the file and has no statement
-pub first_unmentioned : (g : List EdgeValue) (name : List ℕ) (statement_of : List (Option ℕ)) (i : ℕ) (e : EdgeValue) (output : List ℕ) → slice_get g i ≡ Some e → ((j : ℕ) (d : EdgeValue) → j < i → slice_get g j ≡ Some d → Names name d → (k : ℕ) × (statement_on statement_of j ≡ Some k)) →
-    Names name e → statement_on statement_of i ≡ None → slice_get e.outputs 0 ≡ Some output → IsFirstUnmentioned g name statement_of (NotMentioned output)
-first_unmentioned g name statement_of i e output at before names none first =
-    (i, e, output, record { here = at; holds = (names, none); before = earlier }, first, refl)
-  where
-    earlier : (j : ℕ) (d : EdgeValue) → j < i → slice_get g j ≡ Some d → (Names name d × (statement_on statement_of j ≡ None)) → ⊥
-    earlier j d less at_d h =
-        let k = before j d less at_d h.0 in
-        let both : Some k.0 ≡ None = sym k.1 ∙ h.1 in cc
 
 -- one more edge has its statement
 pub more_have : (g : List EdgeValue) (name : List ℕ) (statement_of : List (Option ℕ)) (i : ℕ) (e : EdgeValue) → slice_get g i ≡ Some e → ((j : ℕ) (d : EdgeValue) → j < i → slice_get g j ≡ Some d → Names name d → (k : ℕ) × (statement_on statement_of j ≡ Some k)) →

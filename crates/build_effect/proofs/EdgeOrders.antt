@@ -28,9 +28,6 @@ reads_of e x file h =
       ]
     ]
 
-index_of : {X : Type 0} (xs : List X) (x : X) → Contains xs x → (k : ℕ) × (slice_get xs k ≡ Some x)
-index_of xs x h = (h.0, slice_get_read xs _ h.0 x refl h.1 (sym h.2))
-
 -- the edge names one of the files, or none
 abbrev NamesOne : List NamedFile → EdgeValue → Type 0
 NamesOne files e = (n : ℕ) × (f : NamedFile) × (slice_get files n ≡ Some f) × Names f.name e
@@ -69,8 +66,8 @@ module _ (files : List NamedFile) (g h new : List EdgeValue) (order ranks : List
       let at : (e : EdgeValue) × (slice_get g i ≡ Some e) = element_at g i (omega (arith, gains.same_edges)) in
       elim (names_one files at.0) [
         | inl one ↦
-            let p = index_of order one.0 (all one.0 (slice_get_within _ _ _ one.2)) in
-            let n = gains.named p.0 one.0 one.1 i at.0 p.1 one.2 at.1 one.3 in
+            let p = all one.0 (slice_get_within _ _ _ one.2) in
+            let n = gains.named p.0 one.0 one.1 i at.0 (slice_get_read order _ p.0 one.0 refl p.1 (sym p.2)) one.2 at.1 one.3 in
             (at.0, at.1, inr (one.0, n.0, n.1, (one.1, one.2, one.3, n.2), same_some _ _ (sym here ∙ n.3)))
         | inr none ↦ (at.0, at.1, inl (none, same_some _ _ (sym here ∙ gains.others i at.0 at.1 (λ p n f listed there. none n f there))))
       ]
@@ -115,8 +112,8 @@ module _ (files : List NamedFile) (g h new : List EdgeValue) (order ranks : List
       let at : (e : EdgeValue) × (slice_get g i ≡ Some e) = element_at g i within in
       elim (names_one files at.0) [
         | inl one ↦
-            let p = index_of order one.0 (all one.0 (slice_get_within _ _ _ one.2)) in
-            let gained = gains.named p.0 one.0 one.1 i at.0 p.1 one.2 at.1 one.3 in (
+            let p = all one.0 (slice_get_within _ _ _ one.2) in
+            let gained = gains.named p.0 one.0 one.1 i at.0 (slice_get_read order _ p.0 one.0 refl p.1 (sym p.2)) one.2 at.1 one.3 in (
               rank_at added.ranks one.0 gained.0,
               λ n k a e here has.
                   let edge : e ≡ at.0 = same_some _ _ (sym here ∙ at.1) in

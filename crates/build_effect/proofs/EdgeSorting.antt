@@ -1,7 +1,7 @@
 -- Edges need each other as their rows of makers say.
-use Rattle.std.proofs.Common.{◌≡◌, ℕ, zero, suc, ◌+◌, ◌<◌, List, [], ◌∷◌, ◌++◌, length, map, take, get_or, Option, Some, None, Contains, refl, ap, subst, sym, ◌∙◌, arith, slice_get, append_assoc}
+use Rattle.std.proofs.Common.{◌≡◌, ℕ, zero, suc, ◌+◌, ◌<◌, List, [], ◌∷◌, ◌++◌, length, map, take, get_or, Option, Some, None, Contains, refl, ap, subst, sym, ◌∙◌, arith, slice_get}
 use Rattle.std.specs.List.{filter_map, cons_option}
-use Rattle.std.proofs.lemmas.List.{length-map, map-append, append-nil}
+use Rattle.std.proofs.lemmas.List.{length-map, map-append}
 use Rattle.std.proofs.lemmas.Option.{slice_get_within, slice_get-get_or, get_or_from_slice_get}
 use Rattle.dep_order.specs.Needs.{NodeNeeds, NeedsAreNodes}
 use Rattle.dep_order.specs.Sortings.{IsSortingOf}
@@ -13,36 +13,11 @@ use Rattle.build_effect.specs.inner.Makers.{AreMakers}
 use Rattle.build_effect.specs.inner.Inputs.{Has}
 use Rattle.ninja_text.proofs.ForCallers.{same_some, from_map, to_map, take_next}
 
-cons_append : {Y : Type 0} (o : Option Y) (xs ys : List Y) → cons_option o (xs ++ ys) ≡ cons_option o xs ++ ys
-cons_append None xs ys = refl
-cons_append (Some y) xs ys = refl
-
-pub filter_map_append : {X Y : Type 0} (h : X → Option Y) (xs ys : List X) → filter_map h (xs ++ ys) ≡ filter_map h xs ++ filter_map h ys
-filter_map_append h [] ys = refl
-filter_map_append h (x ∷ xs) ys = ap (cons_option (h x)) (filter_map_append h xs ys) ∙ cons_append (h x) (filter_map h xs) (filter_map h ys)
-
--- one more element in a loop, where something is made of it
-pub takes_some : {X Y : Type 0} (h : X → Option Y) (xs : List X) (i : ℕ) (x : X) (y : Y) (start now new : List Y) → slice_get xs i ≡ Some x → now ≡ start ++ filter_map h (take i xs) → h x ≡ Some y → new ≡ now ++ y ∷ [] → new ≡ start ++ filter_map h (take (i + 1) xs)
-takes_some h xs i x y start now new at before is more =
-    more ∙ ap (λ ys. ys ++ y ∷ []) before ∙ append_assoc start (filter_map h (take i xs)) (y ∷ [])
-    ∙ ap (λ ys. start ++ ys) (ap (λ o. filter_map h (take i xs) ++ cons_option o []) (sym is) ∙ sym (ap (filter_map h) (take_next xs i x at) ∙ filter_map_append h (take i xs) (x ∷ [])))
-
--- and where nothing is
-pub takes_none : {X Y : Type 0} (h : X → Option Y) (xs : List X) (i : ℕ) (x : X) (start now : List Y) → slice_get xs i ≡ Some x → now ≡ start ++ filter_map h (take i xs) → h x ≡ None → now ≡ start ++ filter_map h (take (i + 1) xs)
-takes_none h xs i x start now at before is =
-    before ∙ ap (λ ys. start ++ ys) (sym (append-nil (filter_map h (take i xs))) ∙ ap (λ o. filter_map h (take i xs) ++ cons_option o []) (sym is) ∙ sym (ap (filter_map h) (take_next xs i x at) ∙ filter_map_append h (take i xs) (x ∷ [])))
-
 -- one more row in a loop
 pub mapped_next : {A X Y : Type 0} (g : A → Y) (f : X → Y) (xs : List X) (i : ℕ) (x : X) (now new : List A) (a : A) → slice_get xs i ≡ Some x → map g now ≡ map f (take i xs) → new ≡ now ++ a ∷ [] → g a ≡ f x → map g new ≡ map f (take (i + 1) xs)
 mapped_next g f xs i x now new a at before more same =
     ap (map g) more ∙ map-append g now (a ∷ []) ∙ ap (λ ys. ys ++ g a ∷ []) before
     ∙ ap (λ y. map f (take i xs) ++ y ∷ []) same ∙ sym (ap (map f) (take_next xs i x at) ∙ map-append f (take i xs) (x ∷ []))
-
--- three lists, one after another
-pub three_lists : {X Y : Type 0} (h : X → Option Y) (xs ys zs : List X) (a b d : List Y) → a ≡ [] ++ filter_map h xs → b ≡ a ++ filter_map h ys → d ≡ b ++ filter_map h zs → d ≡ filter_map h (xs ++ (ys ++ zs))
-three_lists h xs ys zs a b d p q r =
-    r ∙ ap (λ l. l ++ filter_map h zs) (q ∙ ap (λ l. l ++ filter_map h ys) p) ∙ append_assoc (filter_map h xs) (filter_map h ys) (filter_map h zs)
-    ∙ ap (λ l. filter_map h xs ++ l) (sym (filter_map_append h ys zs)) ∙ sym (filter_map_append h xs (ys ++ zs))
 
 put_in : {Y : Type 0} (o : Option Y) (ys : List Y) (y : Y) → Has ys y → Has (cons_option o ys) y
 put_in None ys y h = h

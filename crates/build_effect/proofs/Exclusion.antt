@@ -10,11 +10,11 @@ use Rattle.build_effect.specs.EdgeValue.{EdgeValue}
 use Rattle.build_effect.specs.Graphs.{made_by, MakesAt, MadeOnce, Names, IsMade}
 use Rattle.build_effect.specs.Effect.{ArePaths, IsCanonical, IsOn, AllBound, Extends, extended}
 use Rattle.build_effect.specs.Faults.{path_texts, IsRepeated, NoneRepeated, AllMentioned, NoneMadeBefore, added_outputs}
-use Rattle.build_effect.specs.Premises.{AddsAt, AddedOnce, MeetsPremises}
+use Rattle.build_effect.specs.Premises.{AddedOnce, MeetsPremises}
 use Rattle.build_effect.specs.Checks.{ChecksSuffice, FaultsExclude}
 use Rattle.build_effect.specs.declared.fault.EffectFault.TheVariants.{BadPath, NotBound, StatementTwice, NotMentioned, AddedTwice}
-use Rattle.build_effect.proofs.Lists.{same_part, offset, in_flat_map, from_flat_map}
-use Rattle.ninja_text.proofs.ForCallers.{same_some, from_map, to_map, in_append, in_first, in_second, element_at, three_ways}
+use Rattle.build_effect.proofs.Lists.{one_part}
+use Rattle.ninja_text.proofs.ForCallers.{same_some, from_map, to_map, in_append, in_first, in_second, element_at, three_ways, offset, in_flat_map, from_flat_map}
 use Rattle.build_effect.proofs.Effects.{one_effect, effect_gives}
 
 module _ (g : List EdgeValue) (name : List ℕ) (additions : List StatementValue) (once : MadeOnce g) (bound : AllBound g name additions) (single : NoneRepeated g additions) where
@@ -27,23 +27,8 @@ module _ (g : List EdgeValue) (name : List ℕ) (additions : List StatementValue
       ]
 
   module _ (mentioned : AllMentioned g name additions) (fresh : NoneMadeBefore g additions) where
-    index_of : ℕ → ℕ → ℕ
-    index_of k m = offset (λ (a : StatementValue). a.implicit_outputs) additions k + m
-
-    added_at : (k m : ℕ) (file : List ℕ) → AddsAt additions k m file → slice_get (added_outputs additions) (index_of k m) ≡ Some file
-    unfolding index_of
-    added_at k m file h = in_flat_map (λ (a : StatementValue). a.implicit_outputs) additions k m file h
-
     added_once : AddedOnce additions
-    unfolding index_of
-    added_once k m l n file p q =
-        elim (three_ways (index_of k m) (index_of l n)) [
-          | inl less ↦ absurd (fresh (index_of l n) file (added_at l n file q) (inr (index_of k m, less, added_at k m file p)))
-          | inr rest ↦ elim rest [
-            | inl same ↦ same_part (λ (a : StatementValue). a.implicit_outputs) additions k m l n file file p q same
-            | inr more ↦ absurd (fresh (index_of k m) file (added_at k m file p) (inr (index_of l n, more, added_at l n file q)))
-          ]
-        ]
+    added_once = one_part (λ (a : StatementValue). a.implicit_outputs) additions (record { differ = λ i j file less at_i at_j. fresh j file at_j (inr (i, less, at_i)) })
 
     meets : MeetsPremises g name additions
     meets =
@@ -65,7 +50,7 @@ module _ (g : List EdgeValue) (name : List ℕ) (additions : List StatementValue
                 let b = bound o f.0 f.1 in
                 (b.0, b.1, b.2, b.3, (b.4.0, b.4.1 ∙ ap Some f.2));
           };
-          fresh = λ k m file adds made. fresh (index_of k m) file (added_at k m file adds) (inl made);
+          fresh = λ k m file adds made. fresh _ file (in_flat_map (λ (a : StatementValue). a.implicit_outputs) additions k m file adds) (inl made);
         }
 
 pub checks_suffice : ChecksSuffice

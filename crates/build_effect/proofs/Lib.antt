@@ -18,7 +18,6 @@ mod FileOrders
 mod EdgeOrders
 mod EdgeSorting
 pub mod ListingEdges
-mod ListingRows
 pub mod ListingRuns
 pub mod ListingLineLemmas
 pub mod ListingForms

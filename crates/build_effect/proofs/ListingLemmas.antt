@@ -22,7 +22,7 @@ use Rattle.build_effect.specs.declared.fault.LineCause.{LineCause}
 use Rattle.build_effect.specs.declared.fault.LineCause.TheVariants as causes
 use Rattle.build_effect.specs.declared.fault.LineFault.{LineFault}
 use Rattle.build_effect.specs.declared.fault.ListFault.{ListFault}
-use Rattle.build_effect.specs.declared.fault.ListFault.TheVariants.{AtLine, NoGraph}
+use Rattle.build_effect.specs.declared.fault.ListFault.TheVariants.{NoGraph}
 use Rattle.build_effect.specs.Faults.{IsGraphFault}
 use Rattle.build_effect.specs.declared.fault.GraphFault.{GraphFault}
 use Rattle.build_effect.specs.declared.listing.state.Binding.TheVariants.{Closed}

@@ -1,5 +1,5 @@
 -- The row of a line, by its tokens or its assignment, and what a build line says, by its parts.
-use Rattle.std.proofs.Common.{◌≡◌, ◌≢◌, ℕ, arith, length, ◌==◌, ◌&&◌, Bool, true, false, List, [], ◌∷◌, ◌++◌, append_assoc, map, Vec, Global, Ok, Err, refl, sym, ap, ◌∙◌, Option, Some, None}
+use Rattle.std.proofs.Common.{◌≡◌, ℕ, arith, length, ◌==◌, ◌&&◌, Bool, true, false, List, [], ◌∷◌, ◌++◌, append_assoc, map, Vec, Global, Ok, Err, refl, sym, ap, ◌∙◌, Option, Some, None}
 use Rattle.std.specs.Prelude.{codes, not, if◌then◌else◌}
 use Rattle.std.proofs.lemmas.Bool.Decides.{nat_tests}
 use Rattle.std.proofs.lemmas.List.{map-append}
@@ -147,6 +147,3 @@ pub is_whole : (none : Bool) (rule over : Bool) → none ≡ false → rule ≡ 
 is_whole none rule over n r o = rw (n, r, o) refl
 
 -- a list with an element is not the empty one
-pub has_output : (outputs : List (List ℕ)) → is_empty outputs ≡ false → outputs ≢ []
-has_output [] some = absurd (let x : true ≡ false = some in cc)
-has_output (o ∷ os) some = λ e. (let x : o ∷ os ≡ [] = e in cc)

@@ -1,25 +1,16 @@
 -- Files that are made once, as one list and by edge.
-use Rattle.std.proofs.Common.{◌≡◌, ℕ, ◌+◌, ◌<◌, List, Some, ap, sym, ◌∙◌, arith, slice_get, inl, inr}
+use Rattle.std.proofs.Common.{◌≡◌, ℕ, ◌<◌, List, Some, ap, sym, ◌∙◌, arith, slice_get}
 use Rattle.build_effect.specs.EdgeValue.{EdgeValue}
 use Rattle.build_effect.specs.Graphs.{made_by, MadeOnce}
 use Rattle.build_effect.specs.Faults.{made_files}
 use Rattle.ninja_text.specs.Firsts.{IsFirstAt}
 use Rattle.ninja_text.specs.Firsts.{AllDiffer, RepeatsFirst}
-use Rattle.build_effect.proofs.Lists.{same_part, in_flat_map, offset}
-use Rattle.ninja_text.proofs.ForCallers.{same_some, three_ways, in_take}
+use Rattle.build_effect.proofs.Lists.{one_part}
+use Rattle.ninja_text.proofs.ForCallers.{same_some, in_take}
 
 -- all files differ, so each is made once
 pub made_once : (g : List EdgeValue) → AllDiffer (made_files g) → MadeOnce g
-made_once g all i j k l file p q =
-    let at_p = in_flat_map made_by g i j file p in
-    let at_q = in_flat_map made_by g k l file q in
-    elim (three_ways (offset made_by g i + j) (offset made_by g k + l)) [
-      | inl less ↦ absurd (all.differ _ _ file less at_p at_q)
-      | inr rest ↦ elim rest [
-        | inl same ↦ same_part made_by g i j k l file file p q same
-        | inr more ↦ absurd (all.differ _ _ file more at_q at_p)
-      ]
-    ]
+made_once g all i j k l file p q = one_part made_by g all i j k l file p q
 
 -- the first repetition is the first element that an earlier index has
 pub first_of_repetition : {X : Type 0} (xs : List X) (i j : ℕ) (x : X) → RepeatsFirst xs i j → slice_get xs j ≡ Some x → IsFirstAt (λ k x. (l : ℕ) × (l < k) × (slice_get xs l ≡ Some x)) xs j x

@@ -1,5 +1,5 @@
 -- Tables of makers.
-use Rattle.std.proofs.Common.{◌≡◌, ℕ, zero, suc, ◌+◌, ◌⊎◌, Bool, true, false, List, [], ◌∷◌, ◌++◌, length, take, Option, Some, None, refl, ap, subst, sym, ◌∙◌, inl, inr, arith, slice_get, bytes_eq, cond, Bor}
+use Rattle.std.proofs.Common.{◌≡◌, ℕ, zero, suc, ◌+◌, ◌⊎◌, Bool, true, false, List, [], ◌∷◌, ◌++◌, length, take, Option, Some, refl, ap, subst, sym, ◌∙◌, inl, inr, arith, slice_get, bytes_eq, cond, Bor}
 use Rattle.std.specs.HashMap as hash
 use Rattle.std.specs.HashMap.{HashMap}
 use Rattle.std.specs.Cmp.Lexicographic.{bytes_decides}
@@ -73,9 +73,6 @@ pub added_next : {S : Type 0} (files : List (List ℕ)) (i : ℕ) (file : List �
 added_next files i file edge start m n at before u =
     subst (λ fs. AreAdded fs edge start (maker_in n)) (sym (take_next files i file at))
     (more_added (take i files) (file ∷ []) edge start (maker_in m) (maker_in n) before (one_added file edge (maker_in m) (maker_in n) (put file edge m n u)))
-
-pub no_makers : (maker : List ℕ → Option ℕ) → ((file : List ℕ) → maker file ≡ None) → AreMakers [] maker
-no_makers maker none = record { found = λ file i e. let n = none file in cc; made = λ i j file h. let e = h.1 in cc }
 
 -- one more edge
 pub makers_next : (g : List EdgeValue) (n : ℕ) (e : EdgeValue) (maker new : List ℕ → Option ℕ) → slice_get g n ≡ Some e → AreMakers (take n g) maker → AreAdded (made_by e) n maker new → AreMakers (take (n + 1) g) new

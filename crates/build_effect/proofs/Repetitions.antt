@@ -1,4 +1,4 @@
--- One more element of a list in a loop: copied, lent, and put into a table of the texts before it.
+-- One more string of a list, which is put into a table of the strings before it.
 use Rattle.std.proofs.Common.{◌≡◌, ℕ, ◌+◌, true, false, List, [], ◌∷◌, ◌++◌, map, take, Some, refl, ap, subst, sym, ◌∙◌, slice_get, append_assoc, Bor, bytes_eq, not, cond}
 use Rattle.std.specs.List.{flat_map, list_any}
 use Rattle.std.specs.Cmp.Lexicographic.{bytes_decides}
@@ -8,22 +8,6 @@ use Rattle.std.proofs.lemmas.List.Folds.{Any-from_list_any}
 use Rattle.std.proofs.lemmas.Option.{slice_get_read}
 use Rattle.ninja_text.specs.Firsts.{AllDiffer, RepeatsFirst}
 use Rattle.ninja_text.proofs.ForCallers.{to_map, from_take, map_take, take_next, differ_push, not_among, found_if, new_if}
-
--- the parts of one more element
-pub flat_map_next : {X Y : Type 0} (f : X → List Y) (xs : List X) (i : ℕ) (x : X) → slice_get xs i ≡ Some x → flat_map f (take (i + 1) xs) ≡ flat_map f (take i xs) ++ f x
-flat_map_next f xs i x at = ap (flat_map f) (take_next xs i x at) ∙ flat_map-append f (take i xs) (x ∷ []) ∙ ap (λ ys. flat_map f (take i xs) ++ ys) (append-nil (f x))
-
--- one more of the list is copied
-pub copied_next : {X : Type 0} (xs : List X) (i : ℕ) (x copy : X) (start now new : List X) → slice_get xs i ≡ Some x → copy ≡ x → new ≡ now ++ copy ∷ [] → now ≡ start ++ take i xs → new ≡ start ++ take (i + 1) xs
-copied_next xs i x copy start now new at same more before =
-    more ∙ ap (λ ys. ys ++ copy ∷ []) before ∙ append_assoc start (take i xs) (copy ∷ [])
-    ∙ ap (λ ys. start ++ ys) (ap (λ y. take i xs ++ y ∷ []) same ∙ sym (take_next xs i x at))
-
--- or lent
-pub lent_next : {X : Type 0} (xs : List X) (i : ℕ) (x : X) (lent : Bor X) (start now new : List (Bor X)) → slice_get xs i ≡ Some x → lent.now ≡ x → new ≡ now ++ lent ∷ []
-    → map (λ (b : Bor X). b.now) now ≡ map (λ (b : Bor X). b.now) start ++ take i xs → map (λ (b : Bor X). b.now) new ≡ map (λ (b : Bor X). b.now) start ++ take (i + 1) xs
-lent_next xs i x lent start now new at same more before =
-    copied_next xs i x lent.now (map (λ b. b.now) start) (map (λ b. b.now) now) (map (λ b. b.now) new) at same (ap (map (λ b. b.now)) more ∙ map-append (λ b. b.now) now (lent ∷ [])) before
 
 module _ {X : Type 0} (f : X → List ℕ) where
   -- what a search finds is there

@@ -48,12 +48,9 @@ are_paths : (paths : List (List ℕ)) → AllByRecursion IsPath paths → ArePat
 are_paths [] each = refl
 are_paths (path ∷ paths) each = rw (each.0, are_paths paths each.1) refl
 
-writable : (path : List ℕ) → IsPath path → IsWritable path
-writable path is = (shape path is).writable
-
 all_writable : (paths : List (List ℕ)) → AllByRecursion IsPath paths → AllByRecursion IsWritable paths
 all_writable [] each = tt
-all_writable (path ∷ paths) each = (writable path each.0, all_writable paths each.1)
+all_writable (path ∷ paths) each = ((shape path each.0).writable, all_writable paths each.1)
 
 -- ---- the build line
 
@@ -170,7 +167,7 @@ dyndep_text path = codes "  dyndep = " ++ escaped path
 
 module _ (path : List ℕ) (is : IsPath path) where
   equals_units : units (61 ∷ 32 ∷ escaped path) ≡ units (61 ∷ 32 ∷ []) ++ path_units path
-  equals_units = units_both (61 ∷ 32 ∷ []) (escaped path) refl refl ∙ ap (λ us. units (61 ∷ 32 ∷ []) ++ us) (escaped_units path (writable path is))
+  equals_units = units_both (61 ∷ 32 ∷ []) (escaped path) refl refl ∙ ap (λ us. units (61 ∷ 32 ∷ []) ++ us) (escaped_units path (shape path is).writable)
 
   -- the assignment, by the units from the `=` on
   dyndep_assigns : assignment_of (dyndep_text path) ≡ Some (record { name_start = 2; name = codes "dyndep"; raw_value = escaped path })
@@ -179,14 +176,14 @@ module _ (path : List ℕ) (is : IsPath path) where
       let sign = after_run is_blank 9 us in
       let value = after_run is_blank (sign.place + 1) (tail_units sign.units) in
       option_map (with_bytes (dyndep_text path)) (if begins_with_equals sign.units then Some (record { name_start = 2; name_end = 8; value_start = value.place }) else None)) equals_units
-      ∙ ap (λ (n : ℕ). let a : SeenAssignment = record { name_start = 2; name = codes "dyndep"; raw_value = drop n (dyndep_text path) } in Some a) (value_place path (writable path is).some)
+      ∙ ap (λ (n : ℕ). let a : SeenAssignment = record { name_start = 2; name = codes "dyndep"; raw_value = drop n (dyndep_text path) } in Some a) (value_place path (shape path is).writable.some)
 
   -- its symbols, behind the spaces
   abbrev path_symbols : List Symbol
   path_symbols = WordSymbol (escaped path) ∷ []
 
   path_written : Spelled true (escaped path) path_symbols
-  path_written = subst (λ t. Spelled true t path_symbols) (append-nil (escaped path)) (spelled_path path [] [] (writable path is) spelled_none)
+  path_written = subst (λ t. Spelled true t path_symbols) (append-nil (escaped path)) (spelled_path path [] [] (shape path is).writable spelled_none)
 
   equals_written : Spelled true (61 ∷ 32 ∷ escaped path) (WordSymbol (61 ∷ []) ∷ path_symbols)
   equals_written = spelled_path (61 ∷ []) (32 ∷ escaped path) path_symbols equals_can (spelled_space (escaped path) path_symbols path_written)
@@ -207,7 +204,7 @@ module _ (path : List ℕ) (is : IsPath path) where
     spelled_faultless (dyndep_text path) dyndep_symbols dyndep_written,
     refl,
     2,
-    (record { name_start = 2; name = codes "dyndep"; raw_value = escaped path }, dyndep_assigns, refl, refl, value_of_escaped path (writable path is)),
+    (record { name_start = 2; name = codes "dyndep"; raw_value = escaped path }, dyndep_assigns, refl, refl, value_of_escaped path (shape path is).writable),
   )
 
   short : length (dyndep_text path ++ 10 ∷ []) ≤ line_limit

@@ -5,7 +5,6 @@ ghost use Rattle.dep_order.specs.Rows.{rows, lists};
 ghost use Rattle.ninja_text.specs.Failure.{ForFault};
 ghost use Rattle.ninja_text.specs.Paths.{path_of};
 ghost use Rattle.build_effect.specs.Effect.{ArePaths, IsCanonical, AreCanonical};
-ghost use Rattle.build_effect.specs.Faults.{added_outputs};
 ghost use Rattle.build_effect.specs.inner.BadPaths.{IsBadText, IsBadTextFrom, IsBadTextOf, IsBadStatement};
 ghost use Rattle.build_effect.specs.inner.Added.{AddsFresh, AddsMade, FindsMadeIn};
 ghost use Rattle.build_effect.specs.inner.Extended.{IsEdgeAfter, AreExtended};
@@ -14,7 +13,7 @@ ghost use Rattle.build_effect.specs.inner.StatementEdges.{statement_on};
 
 use crate::edge::Edge;
 use crate::fault::EffectFault;
-use crate::files::{add_paths, table_key};
+use crate::files::table_key;
 use crate::makers::Makers;
 use dyndep_file::Statement;
 use indexmap::IndexSet;
@@ -143,7 +142,10 @@ pub(crate) fn check_added(
     ensures ok { OnOk result (AddsFresh (maker_in makers.now.table) additions.now) }
     ensures fault { IfErr result (ForFault (AddsMade (maker_in makers.now.table) additions.now)) }
 {
-    let files = added_files(alloc, additions)?;
+    let added = additions
+        .iter()
+        .flat_map(|addition| addition.implicit_outputs.iter());
+    let files: Vec<&Path> = added.collect(alloc)?;
     match first_made(alloc, makers, files.as_slice())? {
         None => Ok(()),
         Some(file_index) => {
@@ -151,17 +153,6 @@ pub(crate) fn check_added(
             Err(Failure::Fault(EffectFault::AddedTwice { path }))
         }
     }
-}
-
-/// Returns the added outputs, statement after statement.
-fn added_files<'t>(alloc: Global, additions: &'t [Addition]) -> Result<Vec<&'t Path>, AllocError>
-    ensures { IfOk result (λ files. lists files.items ≡ added_outputs additions.now) }
-{
-    let mut files = Vec::new(alloc);
-    for addition in additions {
-        add_paths(&addition.implicit_outputs, &mut files)?;
-    }
-    Ok(files)
 }
 
 /// Returns the index of the first file that an edge makes or that repeats an earlier one.

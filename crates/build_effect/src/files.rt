@@ -1,5 +1,5 @@
 //! Lists of borrowed files, the key of a table of them, and the first file that a list repeats.
-ghost use Rattle.std.specs.Prelude.{◌≡◌, ◌++◌, IfOk, OnOk};
+ghost use Rattle.std.specs.Prelude.{◌≡◌, IfOk};
 ghost use Rattle.build_effect.specs.Faults.{made_files};
 ghost use Rattle.dep_order.specs.Rows.{lists};
 ghost use Rattle.ninja_text.specs.Firsts.{FindsRepetition};
@@ -15,22 +15,11 @@ use table_keys::{KeyDigest, TableKey};
 pub(crate) fn made_files<'t>(alloc: Global, edges: &'t [Edge]) -> Result<Vec<&'t Path>, AllocError>
     ensures { IfOk result (λ files. lists files.items ≡ made_files edges.now) }
 {
-    let mut files = Vec::new(alloc);
-    for edge in edges {
-        add_paths(&edge.outputs, &mut files)?;
-        add_paths(&edge.implicit_outputs, &mut files)?;
-    }
-    Ok(files)
-}
-
-/// Appends references to the paths.
-pub(crate) fn add_paths<'t>(paths: &'t [Path], files: &mut Vec<&'t Path>) -> Result<(), AllocError>
-    ensures { OnOk result (lists files.new.items ≡ lists files.old.items ++ paths.now) }
-{
-    for path in paths {
-        files.push(path)?;
-    }
-    Ok(())
+    let made = edges.iter().flat_map(|edge| edge
+        .outputs
+        .iter()
+        .chain(edge.implicit_outputs.iter()));
+    made.collect(alloc)
 }
 
 /// Returns the key for a table of these files, which is made of the files themselves.

@@ -30,27 +30,15 @@ pub fn edge_order(alloc: Global, graph: &Graph) -> Result<Sorting, AllocError>
     order(alloc, &digraph)
 }
 
-/// Returns the edges that produce this edge's inputs of all kinds.
+/// Returns the edges that produce this edge's inputs of all kinds. A source file has none.
 fn edge_needs(alloc: Global, edge: &Edge, makers: &Makers<'_>) -> Result<Vec<usize>, AllocError>
     ensures { IfOk result (λ row. row.items ≡ makers_row (maker_in makers.now.table) edge.now) }
 {
-    let mut row = Vec::new(alloc);
-    add_makers(&edge.inputs, makers, &mut row)?;
-    add_makers(&edge.implicit_inputs, makers, &mut row)?;
-    add_makers(&edge.order_only, makers, &mut row)?;
-    Ok(row)
-}
-
-/// Appends the edges that produce these files. A source file has none.
-fn add_makers(files: &[Path], makers: &Makers<'_>, row: &mut Vec<usize>) -> Result<(), AllocError>
-    ensures { OnOk result
-        (row.new.items ≡ row.old.items ++ filter_map (maker_in makers.now.table) files.now) }
-{
-    for file in files {
-        match makers.maker_of(file) {
-            Some(edge) => row.push(edge)?,
-            None => {}
-        }
-    }
-    Ok(())
+    let explicit = edge.inputs.iter();
+    let files = explicit
+        .chain(edge.implicit_inputs.iter())
+        .chain(edge.order_only.iter());
+    files
+        .filter_map(|file| makers.maker_of(file))
+        .collect(alloc)
 }

@@ -1,10 +1,10 @@
-use Rattle.std.proofs.Common.{ℕ, List, Bor, map, refl, sym, subst, ◌∙◌, arith}
+use Rattle.std.proofs.Common.{true, false, ℕ, List, Bor, map, refl, sym, subst, ◌∙◌, arith}
 use Rattle.std.proofs.lemmas.Option.{slice_get_read, slice_get_within}
 use Rattle.std.proofs.lemmas.List.{length-map}
 use Rattle.build_effect.specs.inner.Makers.{maker_in}
 use Rattle.ninja_text.specs.Firsts.{AllDiffer}
 use Rattle.ninja_text.proofs.ForCallers.{to_map, map_take}
-use Rattle.build_effect.proofs.Bindings.{none_if, some_if}
+use Rattle.build_effect.proofs.Bindings.{is_there}
 use Rattle.build_effect.proofs.MadeBefore.{none_before, made_here, repeated_here, more_unmade}
 use Rattle.build_effect.proofs.Repetitions.{repeats_if_there, keys_if_new, differ_if_new}
 use Rattle.build_effect.proofs.addition.first_made.Goals as goal
@@ -18,7 +18,7 @@ returns-then-is_some-clause-made c = λ g are.
     let i = c.loop-file_index.file_index in
     let maker = maker_in c.args.makers.now.table in
     let at = to_map text_of files i c.index-files-file_index.result (slice_get_read files _ i c.index-files-file_index.result refl c.loop-file_index-test.true c.index-files-file_index.is) in
-    let some = some_if c.maker_of.result (sym c.is_some.ensures ∙ c.if-is_some.true) in
+    let some = is_there c.maker_of.result true (sym c.is_some.ensures ∙ c.if-is_some.true) in
     made_here g maker are (map text_of files) i c.loop-file_index.invariant.unmade (subst AllDiffer (map_take text_of i files) c.loop-file_index.invariant.differ) c.index-files-file_index.result.now some.0 at (sym c.maker_of.ensures ∙ some.1)
 
 pub returns-then-not-is_new-clause-made : goal.returns-then-not-is_new-clause-made
@@ -41,7 +41,7 @@ loop-file_index-preserved c =
       same = keys_if_new text_of files i c.index-files-file_index.result c.loop-file_index.seen.keys c.insert.new.self.keys at c.loop-file_index.invariant.same c.loop-file_index.invariant.differ h.keys (sym c.if-not-is_new.false ∙ h.added);
       differ = differ_if_new text_of files i c.index-files-file_index.result c.loop-file_index.seen.keys c.insert.new.self.keys at c.loop-file_index.invariant.same c.loop-file_index.invariant.differ h.keys (sym c.if-not-is_new.false ∙ h.added);
       unmade = more_unmade (maker_in c.args.makers.now.table) (map text_of files) i c.index-files-file_index.result.now (to_map text_of files i c.index-files-file_index.result at) c.loop-file_index.invariant.unmade
-          (sym c.maker_of.ensures ∙ none_if c.maker_of.result (sym c.is_some.ensures ∙ c.if-is_some.false));
+          (sym c.maker_of.ensures ∙ is_there c.maker_of.result false (sym c.is_some.ensures ∙ c.if-is_some.false));
     }
 
 pub returns-clause-made : goal.returns-clause-made

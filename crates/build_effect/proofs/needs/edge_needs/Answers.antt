@@ -1,15 +1,23 @@
-use Rattle.std.proofs.Common.{◌≡◌, ◌∙◌, ◌++◌, [], ap}
+use Rattle.std.proofs.Common.{rules, tests, ◌≡◌, ap, subst, ◌∙◌, append_assoc, IfOk}
 use Rattle.std.specs.List.{filter_map}
+use Rattle.std.proofs.lemmas.Iterator.{items_from_collect, YieldsList-from_slice}
+use Rattle.std.proofs.lemmas.Iterator.Consumers.{YieldsList-at, YieldsList-from_chain, YieldsList-from_filter_map}
 use Rattle.build_effect.specs.EdgeValue.{EdgeValue}
 use Rattle.build_effect.specs.inner.Makers.{maker_in}
-use Rattle.build_effect.proofs.EdgeSorting.{three_lists}
 use Rattle.build_effect.proofs.needs.edge_needs.Goals as goal
 
 pub returns : goal.returns
 returns c =
-    let edge : EdgeValue = c.args.edge.now in
+    let e : EdgeValue = c.args.edge.now in
     let h = maker_in c.args.makers.now.table in
-    let first : c.add_makers.new.row.items ≡ [] ++ filter_map h edge.inputs = c.in_ok-add_makers.ensures ∙ ap (λ l. l ++ filter_map h c.deref.result.now) c.new-row.ensures.items ∙ ap (filter_map h) (c.deref.ensures.value ∙ ap (λ (e : EdgeValue). e.inputs) c.edge.view_is) in
-    let second : c.add_makers-2.new.row.items ≡ c.add_makers.new.row.items ++ filter_map h edge.implicit_inputs = c.in_ok-add_makers-2.ensures ∙ ap (λ l. c.add_makers.new.row.items ++ filter_map h l) (c.deref-2.ensures.value ∙ ap (λ (e : EdgeValue). e.implicit_inputs) c.edge.view_is) in
-    let third : c.add_makers-3.new.row.items ≡ c.add_makers-2.new.row.items ++ filter_map h edge.order_only = c.in_ok-add_makers-3.ensures ∙ ap (λ l. c.add_makers-2.new.row.items ++ filter_map h l) (c.deref-3.ensures.value ∙ ap (λ (e : EdgeValue). e.order_only) c.edge.view_is) in
-    three_lists h edge.inputs edge.implicit_inputs edge.order_only _ _ _ first second third
+    let inputs = c.iter-explicit.ensures.rest ∙ c.deref.ensures.value ∙ ap (λ (x : EdgeValue). x.inputs) c.edge.view_is in
+    let implicit_inputs = c.iter.ensures.rest ∙ c.deref-2.ensures.value ∙ ap (λ (x : EdgeValue). x.implicit_inputs) c.edge.view_is in
+    let order_only = c.iter-2.ensures.rest ∙ c.deref-3.ensures.value ∙ ap (λ (x : EdgeValue). x.order_only) c.edge.view_is in
+    subst (λ files. IfOk c.collect.result (λ row. row.items ≡ filter_map h files)) (append_assoc e.inputs e.implicit_inputs e.order_only)
+    (items_from_collect _ c.collect.ensures.ran (YieldsList-from_filter_map _ h
+    (YieldsList-at c.filter_map.ensures.source (YieldsList-from_chain
+    (YieldsList-at c.chain-files.ensures.first (YieldsList-from_chain
+    (YieldsList-at c.chain.ensures.first (YieldsList-from_slice e.inputs inputs))
+    (YieldsList-at c.chain.ensures.second (YieldsList-from_slice e.implicit_inputs implicit_inputs)) c.chain.ensures.first_done c.chain.ensures.second_done))
+    (YieldsList-at c.chain-files.ensures.second (YieldsList-from_slice e.order_only order_only)) c.chain-files.ensures.first_done c.chain-files.ensures.second_done))
+    c.filter_map.ensures.closure (λ x r q k. search (rules, tests))))

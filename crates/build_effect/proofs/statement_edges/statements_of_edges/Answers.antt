@@ -1,10 +1,10 @@
-use Rattle.std.proofs.Common.{◌≡◌, ◌∙◌, ℕ, ◌<◌, length, get_or, Some, None, refl, ap, sym, arith, slice_get, subst}
+use Rattle.std.proofs.Common.{true, false, ◌≡◌, ◌∙◌, ℕ, ◌<◌, length, get_or, Some, None, refl, ap, sym, arith, slice_get, subst}
 use Rattle.std.proofs.lemmas.Option.{slice_get_read, slice_get-get_or}
 use Rattle.std.proofs.lemmas.List.{get_or_read, take_all}
 use Rattle.dyndep_file.specs.StatementValue.{StatementValue}
 use Rattle.build_effect.specs.inner.StatementEdges.{statement_on, AreInverse}
 use Rattle.build_effect.specs.declared.fault.EffectFault.TheVariants.{StatementTwice}
-use Rattle.build_effect.proofs.Bindings.{more_inverse, still_differ, repeated_on, none_if, some_if}
+use Rattle.build_effect.proofs.Bindings.{more_inverse, still_differ, repeated_on, is_there}
 use Rattle.build_effect.proofs.statement_edges.statements_of_edges.Goals as goal
 
 pub returns-then-is_some-clause-fault : goal.returns-then-is_some-clause-fault
@@ -17,7 +17,7 @@ returns-then-is_some-clause-fault c =
     let low : edge < c.args.count = c.requires.edges i 0 c.loop-statement_index-test.true in
     let short : edge < length statement_of = omega (arith, low, c.loop-statement_index.invariant.inverse.as_many) in
     let read : c.index.result.now ≡ statement_on statement_of edge = get_or_read statement_of edge c.index.result.now short c.index.ensures None in
-    let some = some_if c.index.result.now (sym c.is_some.ensures ∙ c.if-is_some.true) in
+    let some = is_there c.index.result.now true (sym c.is_some.ensures ∙ c.if-is_some.true) in
     let within : i < length c.args.additions.now = omega (arith, c.loop-statement_index-test.true, c.requires.each) in
     let a : StatementValue = c.index-additions-statement_index.result in (
       some.0,
@@ -38,7 +38,7 @@ loop-statement_index-preserved c =
     let low : edge < c.args.count = c.requires.edges i 0 c.loop-statement_index-test.true in
     let short : edge < length statement_of = omega (arith, low, c.loop-statement_index.invariant.inverse.as_many) in
     let read : c.index.result.now ≡ statement_on statement_of edge = get_or_read statement_of edge c.index.result.now short c.index.ensures None in
-    let free : statement_on statement_of edge ≡ None = sym read ∙ none_if c.index.result.now (sym c.is_some.ensures ∙ c.if-is_some.false) in
+    let free : statement_on statement_of edge ≡ None = sym read ∙ is_there c.index.result.now false (sym c.is_some.ensures ∙ c.if-is_some.false) in
     record {
       inverse = more_inverse c.args.count edge_of i edge statement_of at c.loop-statement_index.invariant.inverse low free;
       differ = still_differ c.args.count edge_of i edge statement_of at c.loop-statement_index.invariant.inverse free c.loop-statement_index.invariant.differ;

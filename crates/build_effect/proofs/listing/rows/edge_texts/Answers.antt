@@ -7,7 +7,7 @@ use Rattle.dyndep_file.specs.Classes.{WordSymbol}
 use Rattle.dyndep_file.specs.BuildTokens.{symbols_left}
 use Rattle.build_effect.specs.ListingLines.{is_rule_name}
 use Rattle.build_effect.specs.inner.ListingWalk.{edge_texts, right_texts}
-use Rattle.build_effect.proofs.ListingLineLemmas.{left_texts, no_rule, right_are, outputs_are, left_over, without_output, without_name, without_end, is_whole, has_output}
+use Rattle.build_effect.proofs.ListingLineLemmas.{left_texts, no_rule, right_are, outputs_are, left_over, without_output, without_name, without_end, is_whole}
 use Rattle.build_effect.proofs.listing.rows.edge_texts.Goals as goal
 use Rattle.build_effect.proofs.listing.rows.edge_texts.Goals.{then-is_empty-via-then-is_empty, then-is_empty-via-else-is_empty+then-not-is_rule_name, then-is_empty-via-else-is_empty+else-not-is_rule_name+then-is_some}
 
@@ -44,8 +44,8 @@ returns-then-is_empty c =
     c.in_ok-order_only.ensures.words c.in_ok-order_only.ensures.rest false whole)
 
 pub invariant_of-result : goal.invariant_of-result
-invariant_of-result c =
-    has_output (rows c.in_ok-outputs.outputs.items) (outputs_are c.in_ok-outputs.outputs.items _ false c.in_ok-outputs.outputs.ok.0 (sym c.is_empty.ensures ∙ c.if-is_empty.false))
+invariant_of-result c = λ none.
+    let both : true ≡ false = ap is_empty (sym none) ∙ outputs_are c.in_ok-outputs.outputs.items _ false c.in_ok-outputs.outputs.ok.0 (sym c.is_empty.ensures ∙ c.if-is_empty.false) in cc
 
 pub returns : goal.returns
 returns c =

@@ -1,11 +1,7 @@
-use Rattle.std.proofs.Common.{length, subst, ◌∙◌, ◌≡◌, ℕ, List, Ok, Err}
-use Rattle.std.specs.Prelude.{Vec}
-use Rattle.std.specs.declared.alloc.Global.{Global}
+use Rattle.std.proofs.Common.{length, subst, ◌∙◌}
 use Rattle.std.proofs.lemmas.Result.{err_from_is_err_and}
-use Rattle.ninja_text.specs.Failure.{Gives}
 use Rattle.ninja_text.specs.Counting.{held, IsWritten, IsCutShort, IsTakenInTurn, IsStoppedInTurn}
-use Rattle.build_effect.specs.EdgeValue.{EdgeValue}
-use Rattle.build_effect.specs.ListingWriting.{listing_text, listing_text_or_fault}
+use Rattle.build_effect.specs.ListingWriting.{listing_text}
 use Rattle.build_effect.proofs.ListingWrites.{failed, uncalled, made}
 use Rattle.build_effect.proofs.listing.writing.listing_write.Goals as goal
 
