@@ -10,7 +10,7 @@ use Rattle.ninja_text.specs.Assignments.{SeenAssignment, assignment_of}
 use Rattle.ninja_text.specs.Paths.{path_of, is_empty}
 use Rattle.ninja_text.specs.declared.fault.LexFault.{LexFault}
 use Rattle.ninja_text.specs.declared.fault.PathFault.{PathFault}
-use Rattle.ninja_text.proofs.ForCallers.{assignment_has_token}
+use Rattle.ninja_text.proofs.ForCallers.{assignment_not_empty}
 use Rattle.dyndep_file.specs.Classes.{Symbol, WordSymbol, SignSymbol, symbols, begins_at_start, begins_with_space}
 use Rattle.dyndep_file.specs.Faults.{same_bytes, after_build}
 use Rattle.dyndep_file.proofs.TableLemmas.{same_bytes-true, no_indent_at_token}
@@ -39,16 +39,10 @@ row_same h = cc
 no_row : {A : Type 0} {cause : LineCause} {row : Row} → ◌≡◌ {A = Result Row LineCause} (Err cause) (Ok row) → A
 no_row h = absurd (cc)
 
--- a text whose first token begins it, or that assigns, has a token
+-- a text whose first token begins it has a token
 start_token : (ts : List TokenAt) → begins_at_start ts ≡ true → is_empty ts ≡ false
 start_token [] h = absurd (let x : false ≡ true = h in cc)
 start_token (t ∷ ts) h = refl
-
-name_token : (text : List ℕ) (a : SeenAssignment) → assignment_of text ≡ Some a → is_empty (tokens text) ≡ false
-name_token text a h = elim (cases_Bool (is_empty (tokens text))) [
-  | inr f ↦ f
-  | inl t ↦ absurd (assignment_has_token text a h (none_left (tokens text) t))
-]
 
 -- the tokens after the keyword are those that follow it at the first byte
 keyword_at : (at : Bool) (ss more : List Symbol) → after_build at ss ≡ Some more → (at ≡ true) × (ss ≡ WordSymbol (codes "build") ∷ more)
@@ -95,11 +89,11 @@ module _ (text : List ℕ) (comment : Bool) where
       ∙ ap build_row e.2 ∙ ap (λ t. Ok (BuildRow t)) (sym is.5)))
   row_found (DyndepRow value) is =
       let a = is.4 in
-      sound_found is.0 is.1 (Ok (DyndepRow value)) (rw (name_token text a.0 a.1, is.2)
+      sound_found is.0 is.1 (Ok (DyndepRow value)) (rw (assignment_not_empty text a.0 a.1, is.2)
       (ap binding_row a.1 ∙ dyndep_named a.0 a.3 ∙ ap (λ v. Ok (DyndepRow v)) a.4))
   row_found (RestatRow flag) is =
       let a = is.5 in
-      sound_found is.0 is.1 (Ok (RestatRow flag)) (rw (name_token text a.0 a.1, is.2)
+      sound_found is.0 is.1 (Ok (RestatRow flag)) (rw (assignment_not_empty text a.0 a.1, is.2)
       (ap binding_row a.1 ∙ restat_named a.0 a.3 ∙ ap (λ v. Ok (RestatRow (nat_lt 0 (length v)))) a.4 ∙ ap (λ f. Ok (RestatRow f)) (sym is.6)))
 
   -- a line that is not indented

@@ -12,7 +12,7 @@ use Rattle.ninja_text.specs.Tokens.{is_blank, tokens_from, tokens, raw}
 use Rattle.ninja_text.specs.Assignments.{SeenAssignment, after_run, begins_with_equals, tail_units, with_bytes, assignment_of}
 use Rattle.ninja_text.specs.Escapes.{is_unwritable, IsWritable, is_escaped, escaped_byte, escaped}
 use Rattle.ninja_text.specs.Paths.{IsPath, is_empty}
-use Rattle.ninja_text.proofs.ForCallers.{shape, path_unit, path_units, value_of_escaped, word_and, word_token, lexical_none, is_line, text_is}
+use Rattle.ninja_text.proofs.ForCallers.{shape, path_writable, path_unit, path_units, value_of_escaped, word_and, word_token, lexical_none, is_line, text_is}
 use Rattle.dyndep_file.specs.Classes.{Symbol, WordSymbol, symbol, symbols, begins_at_start}
 use Rattle.dyndep_file.specs.Writing.{spaced}
 use Rattle.build_effect.specs.EdgeValue.{EdgeValue}
@@ -50,7 +50,7 @@ are_paths (path ∷ paths) each = rw (each.0, are_paths paths each.1) refl
 
 all_writable : (paths : List (List ℕ)) → AllByRecursion IsPath paths → AllByRecursion IsWritable paths
 all_writable [] each = tt
-all_writable (path ∷ paths) each = ((shape path each.0).writable, all_writable paths each.1)
+all_writable (path ∷ paths) each = (path_writable path each.0, all_writable paths each.1)
 
 -- ---- the build line
 
@@ -167,7 +167,7 @@ dyndep_text path = codes "  dyndep = " ++ escaped path
 
 module _ (path : List ℕ) (is : IsPath path) where
   equals_units : units (61 ∷ 32 ∷ escaped path) ≡ units (61 ∷ 32 ∷ []) ++ path_units path
-  equals_units = units_both (61 ∷ 32 ∷ []) (escaped path) refl refl ∙ ap (λ us. units (61 ∷ 32 ∷ []) ++ us) (escaped_units path (shape path is).writable)
+  equals_units = units_both (61 ∷ 32 ∷ []) (escaped path) refl refl ∙ ap (λ us. units (61 ∷ 32 ∷ []) ++ us) (escaped_units path (path_writable path is))
 
   -- the assignment, by the units from the `=` on
   dyndep_assigns : assignment_of (dyndep_text path) ≡ Some (record { name_start = 2; name = codes "dyndep"; raw_value = escaped path })
@@ -176,14 +176,14 @@ module _ (path : List ℕ) (is : IsPath path) where
       let sign = after_run is_blank 9 us in
       let value = after_run is_blank (sign.place + 1) (tail_units sign.units) in
       option_map (with_bytes (dyndep_text path)) (if begins_with_equals sign.units then Some (record { name_start = 2; name_end = 8; value_start = value.place }) else None)) equals_units
-      ∙ ap (λ (n : ℕ). let a : SeenAssignment = record { name_start = 2; name = codes "dyndep"; raw_value = drop n (dyndep_text path) } in Some a) (value_place path (shape path is).writable.some)
+      ∙ ap (λ (n : ℕ). let a : SeenAssignment = record { name_start = 2; name = codes "dyndep"; raw_value = drop n (dyndep_text path) } in Some a) (value_place path (path_writable path is).some)
 
   -- its symbols, behind the spaces
   abbrev path_symbols : List Symbol
   path_symbols = WordSymbol (escaped path) ∷ []
 
   path_written : Spelled true (escaped path) path_symbols
-  path_written = subst (λ t. Spelled true t path_symbols) (append-nil (escaped path)) (spelled_path path [] [] (shape path is).writable spelled_none)
+  path_written = subst (λ t. Spelled true t path_symbols) (append-nil (escaped path)) (spelled_path path [] [] (path_writable path is) spelled_none)
 
   equals_written : Spelled true (61 ∷ 32 ∷ escaped path) (WordSymbol (61 ∷ []) ∷ path_symbols)
   equals_written = spelled_path (61 ∷ []) (32 ∷ escaped path) path_symbols equals_can (spelled_space (escaped path) path_symbols path_written)
@@ -204,7 +204,7 @@ module _ (path : List ℕ) (is : IsPath path) where
     spelled_faultless (dyndep_text path) dyndep_symbols dyndep_written,
     refl,
     2,
-    (record { name_start = 2; name = codes "dyndep"; raw_value = escaped path }, dyndep_assigns, refl, refl, value_of_escaped path (shape path is).writable),
+    (record { name_start = 2; name = codes "dyndep"; raw_value = escaped path }, dyndep_assigns, refl, refl, value_of_escaped path (path_writable path is)),
   )
 
   short : length (dyndep_text path ++ 10 ∷ []) ≤ line_limit

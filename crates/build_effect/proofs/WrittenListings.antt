@@ -1,5 +1,5 @@
 -- The text of a graph, line by line: it lists the graph's edges.
-use Rattle.std.proofs.Common.{inl, inr, ◌≡◌, ◌≢◌, ℕ, suc, ◌+◌, Bool, true, false, List, [], ◌∷◌, ◌++◌, length, slice_get, refl, sym, ap, ◌∙◌, Some, None}
+use Rattle.std.proofs.Common.{inl, inr, ◌≡◌, ℕ, suc, ◌+◌, Bool, true, false, List, [], ◌∷◌, ◌++◌, length, slice_get, refl, sym, ap, ◌∙◌, Some, None}
 use Rattle.std.specs.Prelude.{Option, All}
 use Rattle.std.specs.List.{flat_map, AllByRecursion}
 use Rattle.std.proofs.lemmas.List.{append-nil, append_assoc}
@@ -7,8 +7,8 @@ use Rattle.std.proofs.lemmas.List.Elements.{recursion_from_All, All-from_recursi
 use Rattle.std.proofs.lemmas.Bool.{cases_Bool, ltb-false}
 use Rattle.std.proofs.lemmas.Grind.{flat_map-append}
 use Rattle.ninja_text.specs.Lines.{line_limit, IsLine}
-use Rattle.ninja_text.specs.Paths.{IsPath, is_empty}
-use Rattle.ninja_text.proofs.ForCallers.{AllByRecursion-append, joined, AreOfClasses-append}
+use Rattle.ninja_text.specs.Paths.{IsPath}
+use Rattle.ninja_text.proofs.ForCallers.{AllByRecursion-append, joined, AreOfClasses-append, some-list}
 use Rattle.build_effect.specs.EdgeValue.{EdgeValue}
 use Rattle.build_effect.specs.Graphs.{made_by, inputs_of, HasInput, IsGraph}
 use Rattle.build_effect.specs.ListingLines.{EdgeTexts, ListingClass, Build, Dyndep, Restat}
@@ -157,10 +157,6 @@ both_parts : {X : Type 0} (P : X → Type 0) (xs ys : List X) → AllByRecursion
 both_parts P [] ys each = (tt, each)
 both_parts P (x ∷ xs) ys each = let later = both_parts P xs ys each.1 in ((each.0, later.0), later.1)
 
-some_element : (paths : List (List ℕ)) → paths ≢ [] → is_empty paths ≡ false
-some_element [] some = absurd (some refl)
-some_element (path ∷ paths) some = refl
-
 -- what each element has where it stands
 each_of : {X : Type 0} (P : X → Type 0) (xs : List X) → ((i : ℕ) (x : X) → slice_get xs i ≡ Some x → P x) → AllByRecursion P xs
 each_of P [] at = tt
@@ -181,7 +177,7 @@ module _ (g : List EdgeValue) (is : IsGraph g) (listable : All IsListable g) (sh
       record {
         fit = record {
           rule = l.rule;
-          some = some_element e.outputs (is.outputs i e at);
+          some = some-list e.outputs (is.outputs i e at);
           outputs = made.0;
           implicit_outputs = made.1;
           inputs = read.0;

@@ -15,10 +15,9 @@ use table_keys::{KeyDigest, TableKey};
 pub(crate) fn made_files<'t>(alloc: Global, edges: &'t [Edge]) -> Result<Vec<&'t Path>, AllocError>
     ensures { IfOk result (λ files. lists files.items ≡ made_files edges.now) }
 {
-    let made = edges.iter().flat_map(|edge| edge
-        .outputs
+    let made = edges
         .iter()
-        .chain(edge.implicit_outputs.iter()));
+        .flat_map(|e| e.outputs.iter().chain(e.implicit_outputs.iter()));
     made.collect(alloc)
 }
 

@@ -52,13 +52,11 @@ fn reads_dyndep(edge: &Edge) -> bool
     let Some(file) = &edge.dyndep else {
         return true;
     };
-    if edge.inputs.contains(file) {
-        return true;
-    }
-    if edge.implicit_inputs.contains(file) {
-        return true;
-    }
-    edge.order_only.contains(file)
+    edge.inputs
+        .iter()
+        .chain(edge.implicit_inputs.iter())
+        .chain(edge.order_only.iter())
+        .any(|input| *input == *file)
 }
 
 /// Returns the edge's first output. Errors about an edge report this path.

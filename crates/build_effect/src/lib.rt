@@ -40,7 +40,7 @@
 //!   linear in the files of the graph and of the statements.
 //! - Tables hash under a key of `table_keys`, which is made of the files that they will hold. So
 //!   nobody can choose paths that collide.
-//! - `all_checks.rt`: the checks of [`apply`], in the order of their errors: `canonical_statements`
+//! - `effect.rt`: [`apply`] makes its checks in the order of their errors: `canonical_statements`
 //!   (E8), `edges_of_statements` (E5), `statements_of_edges` (E4), `check_mentioned` (E6),
 //!   `check_added` (E7). `extended_edges` then makes the new edges. The law [`checks`], which
 //!   [`apply`] calls, says that they are the effect.
@@ -53,7 +53,6 @@
 #![tactic(auto)]
 
 mod addition;
-mod all_checks;
 mod edge;
 mod effect;
 mod fault;

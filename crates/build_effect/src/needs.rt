@@ -34,11 +34,10 @@ pub fn edge_order(alloc: Global, graph: &Graph) -> Result<Sorting, AllocError>
 fn edge_needs(alloc: Global, edge: &Edge, makers: &Makers<'_>) -> Result<Vec<usize>, AllocError>
     ensures { IfOk result (λ row. row.items ≡ makers_row (maker_in makers.now.table) edge.now) }
 {
-    let explicit = edge.inputs.iter();
-    let files = explicit
+    edge.inputs
+        .iter()
         .chain(edge.implicit_inputs.iter())
-        .chain(edge.order_only.iter());
-    files
+        .chain(edge.order_only.iter())
         .filter_map(|file| makers.maker_of(file))
         .collect(alloc)
 }

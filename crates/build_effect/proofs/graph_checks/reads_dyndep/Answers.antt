@@ -1,52 +1,34 @@
-use Rattle.std.proofs.Common.{◌≡◌, ℕ, Bool, true, false, List, ◌++◌, Some, ap, sym, subst, ◌∙◌, MatchBool, bytes_eq}
-use Rattle.std.specs.List.{list_any}
+use Rattle.std.proofs.Common.{rules, tests, ◌≡◌, ◌<◌, ℕ, Bool, true, false, List, Some, length, refl, ap, sym, subst, ◌∙◌, append_assoc, arith, MatchBool}
+use Rattle.std.specs.List.{AllWithin, HoldsAt}
+use Rattle.std.proofs.lemmas.Iterator.{cases_from_any, YieldsList-from_slice}
+use Rattle.std.proofs.lemmas.Iterator.Consumers.{YieldsList-at, YieldsList-from_chain}
+use Rattle.std.proofs.lemmas.Option.{slice_get_read, slice_get_within, get_or_from_slice_get}
 use Rattle.build_effect.specs.EdgeValue.{EdgeValue}
-use Rattle.build_effect.specs.Graphs.{HasInput}
+use Rattle.build_effect.specs.Graphs.{inputs_of, HasInput}
 use Rattle.build_effect.specs.Faults.{NamesUnread}
-use Rattle.build_effect.specs.inner.Inputs.{Has, NamesInput}
+use Rattle.build_effect.specs.inner.Inputs.{NamesInput}
 use Rattle.ninja_text.proofs.ForCallers.{same_some}
-use Rattle.build_effect.proofs.InputSearch.{search_finds, has_first, has_second, has_neither}
 use Rattle.build_effect.proofs.graph_checks.reads_dyndep.Goals as goal
 
--- the edge names this file alone
-names_input : (e : EdgeValue) (file : List ℕ) → e.dyndep ≡ Some file → HasInput e file → NamesInput e
-names_input e file named has = λ other names. subst (HasInput e) (same_some _ _ (sym named ∙ names)) has
-
-last : (e : EdgeValue) (file : List ℕ) (r : Bool) → e.dyndep ≡ Some file → (Has e.inputs file → ⊥) → (Has e.implicit_inputs file → ⊥)
-    → MatchBool r (Has e.order_only file) (Has e.order_only file → ⊥) → MatchBool r (NamesInput e) (NamesUnread e)
-last e file true named p q h = names_input e file named (has_second e.inputs (e.implicit_inputs ++ e.order_only) file (has_second e.implicit_inputs e.order_only file h))
-last e file false named p q h = (file, named, has_neither e.inputs (e.implicit_inputs ++ e.order_only) file p (has_neither e.implicit_inputs e.order_only file q h))
-
--- what a search of a list of the edge finds
-looked : (r : Bool) (xs ys : List (List ℕ)) (file : List ℕ) → r ≡ list_any (λ x. bytes_eq x file) xs → xs ≡ ys → MatchBool r (Has ys file) (Has ys file → ⊥)
-looked r xs ys file is same = subst (λ zs. MatchBool r (Has zs file) (Has zs file → ⊥)) same (subst (λ b. MatchBool b (Has xs file) (Has xs file → ⊥)) (sym is) (search_finds xs file))
-
-pub returns-then-contains : goal.returns-then-contains
-returns-then-contains c =
-    let e : EdgeValue = c.args.edge.now in
-    let file : List ℕ = c.in-Some.file in
-    let named : e.dyndep ≡ Some file = ap (λ (e : EdgeValue). e.dyndep) (sym c.edge.view_is) ∙ c.in-Some.is in
-    let first : Has e.inputs file = subst (λ b. MatchBool b (Has e.inputs file) (Has e.inputs file → ⊥)) c.if-contains.true
-    (looked c.contains.result c.deref.result.now e.inputs file c.contains.ensures.value (c.deref.ensures.value ∙ ap (λ (e : EdgeValue). e.inputs) c.edge.view_is)) in
-    names_input e file named (has_first e.inputs (e.implicit_inputs ++ e.order_only) file first)
-
-pub returns-then-contains-2 : goal.returns-then-contains-2
-returns-then-contains-2 c =
-    let e : EdgeValue = c.args.edge.now in
-    let file : List ℕ = c.in-Some.file in
-    let named : e.dyndep ≡ Some file = ap (λ (e : EdgeValue). e.dyndep) (sym c.edge.view_is) ∙ c.in-Some.is in
-    let second : Has e.implicit_inputs file = subst (λ b. MatchBool b (Has e.implicit_inputs file) (Has e.implicit_inputs file → ⊥)) c.if-contains-2.true
-    (looked c.contains-2.result c.deref-2.result.now e.implicit_inputs file c.contains-2.ensures.value (c.deref-2.ensures.value ∙ ap (λ (e : EdgeValue). e.implicit_inputs) c.edge.view_is)) in
-    names_input e file named (has_second e.inputs (e.implicit_inputs ++ e.order_only) file (has_first e.implicit_inputs e.order_only file second))
+-- what a search of an edge's inputs finds
+looked : (e : EdgeValue) (file : List ℕ) (r : Bool) → e.dyndep ≡ Some file → MatchBool r ((k : ℕ) × (k < length (inputs_of e)) × HoldsAt (λ x. x ≡ file) (inputs_of e) k) (AllWithin (λ x. x ≡ file → ⊥) (inputs_of e) 0 (length (inputs_of e)))
+    → MatchBool r (NamesInput e) (NamesUnread e)
+looked e file true named h = λ other names. subst (HasInput e) (same_some _ _ (sym named ∙ names)) (h.0, slice_get_read (inputs_of e) _ h.0 file refl h.1 (sym (h.2 file)))
+looked e file false named none = (file, named, λ h. none h.0 file (omega arith) (slice_get_within (inputs_of e) h.0 file h.1) (get_or_from_slice_get (inputs_of e) h.0 file file h.1))
 
 pub returns : goal.returns
 returns c =
     let e : EdgeValue = c.args.edge.now in
     let file : List ℕ = c.in-Some.file in
-    let named : e.dyndep ≡ Some file = ap (λ (e : EdgeValue). e.dyndep) (sym c.edge.view_is) ∙ c.in-Some.is in
-    let first : Has e.inputs file → ⊥ = subst (λ b. MatchBool b (Has e.inputs file) (Has e.inputs file → ⊥)) c.if-contains.false
-    (looked c.contains.result c.deref.result.now e.inputs file c.contains.ensures.value (c.deref.ensures.value ∙ ap (λ (e : EdgeValue). e.inputs) c.edge.view_is)) in
-    let second : Has e.implicit_inputs file → ⊥ = subst (λ b. MatchBool b (Has e.implicit_inputs file) (Has e.implicit_inputs file → ⊥)) c.if-contains-2.false
-    (looked c.contains-2.result c.deref-2.result.now e.implicit_inputs file c.contains-2.ensures.value (c.deref-2.ensures.value ∙ ap (λ (e : EdgeValue). e.implicit_inputs) c.edge.view_is)) in
-    last e file c.contains-3.result named first second
-    (looked c.contains-3.result c.deref-3.result.now e.order_only file c.contains-3.ensures.value (c.deref-3.ensures.value ∙ ap (λ (e : EdgeValue). e.order_only) c.edge.view_is))
+    let found = λ (all : List (List ℕ)). MatchBool c.any.result ((k : ℕ) × (k < length all) × HoldsAt (λ x. x ≡ file) all k) (AllWithin (λ x. x ≡ file → ⊥) all 0 (length all)) in
+    let inputs = c.iter.ensures.rest ∙ c.deref.ensures.value ∙ ap (λ (x : EdgeValue). x.inputs) c.edge.view_is in
+    let implicit_inputs = c.iter-2.ensures.rest ∙ c.deref-2.ensures.value ∙ ap (λ (x : EdgeValue). x.implicit_inputs) c.edge.view_is in
+    let order_only = c.iter-3.ensures.rest ∙ c.deref-3.ensures.value ∙ ap (λ (x : EdgeValue). x.order_only) c.edge.view_is in
+    looked e file c.any.result (ap (λ (x : EdgeValue). x.dyndep) (sym c.edge.view_is) ∙ c.in-Some.is) (subst found (append_assoc e.inputs e.implicit_inputs e.order_only)
+    (cases_from_any _ _ _ (λ x. x ≡ file) (λ x. x ≡ file → ⊥) c.any.ensures.ran
+    (YieldsList-from_chain
+    (YieldsList-at c.chain-2.ensures.first (YieldsList-from_chain
+    (YieldsList-at c.chain.ensures.first (YieldsList-from_slice e.inputs inputs))
+    (YieldsList-at c.chain.ensures.second (YieldsList-from_slice e.implicit_inputs implicit_inputs)) c.chain.ensures.first_done c.chain.ensures.second_done))
+    (YieldsList-at c.chain-2.ensures.second (YieldsList-from_slice e.order_only order_only)) c.chain-2.ensures.first_done c.chain-2.ensures.second_done)
+    (λ x q k. search (rules, tests)) (λ x q k. search (rules, tests))))

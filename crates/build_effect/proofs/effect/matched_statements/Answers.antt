@@ -8,7 +8,7 @@ use Rattle.build_effect.specs.inner.Added.{AddsMade}
 use Rattle.build_effect.specs.inner.Checked.{AreMatched, IsFaultOf}
 use Rattle.build_effect.proofs.Failures.{for_fault}
 use Rattle.build_effect.proofs.Reports.{reports_unbound, reports_repeated, reports_unmentioned, reports_made, all_matched, edges_within, have_outputs}
-use Rattle.build_effect.proofs.all_checks.matched_statements.Goals as goal
+use Rattle.build_effect.proofs.effect.matched_statements.Goals as goal
 
 pub returns-in_err-edge_of-clause-fault : goal.returns-in_err-edge_of-clause-fault
 returns-in_err-edge_of-clause-fault c =
