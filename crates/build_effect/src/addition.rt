@@ -13,8 +13,7 @@ ghost use Rattle.build_effect.specs.inner.StatementEdges.{statement_on};
 
 use crate::edge::Edge;
 use crate::fault::EffectFault;
-use crate::files::table_key;
-use crate::makers::Makers;
+use crate::makers::{Makers, table_key};
 use dyndep_file::Statement;
 use indexmap::IndexSet;
 use ninja_text::{Failure, Path};

@@ -1,14 +1,15 @@
 //! Graphs of build edges.
-ghost use Rattle.std.specs.Prelude.{◌≡◌, ◌≢◌, [], IfOk, IfErr, All};
+ghost use Rattle.std.specs.Prelude.{◌≡◌, ◌≢◌, [], slice_get, Some, IfOk, IfErr, OnOk, MatchBool, All};
 ghost use Rattle.ninja_text.specs.Failure.{ForFault};
-ghost use Rattle.build_effect.specs.Graphs.{IsGraph};
-ghost use Rattle.build_effect.specs.Faults.{IsGraphFault};
+ghost use Rattle.build_effect.specs.Graphs.{IsGraph, MadeOnce, DyndepsAreInputs};
+ghost use Rattle.build_effect.specs.Faults.{IsGraphFault, NamesUnread};
+ghost use Rattle.build_effect.specs.inner.Inputs.{NamesInput};
 
 use crate::edge::Edge;
 use crate::fault::GraphFault;
-use crate::graph_checks::{check_dyndeps, check_made};
-use ninja_text::Failure;
-use std::alloc::Global;
+use crate::makers::{first_repetition, made_files};
+use ninja_text::{Failure, Path};
+use std::alloc::{AllocError, Global};
 use std::marker::Model;
 
 /// Build edges, by index. Each edge has an explicit output, no file is made twice, and each edge that
@@ -60,4 +61,60 @@ impl Graph {
     {
         &self.edges
     }
+}
+
+/// Checks that no file is made twice (E1).
+fn check_made(alloc: Global, edges: &[Edge]) -> Result<(), Failure<GraphFault>>
+    ensures ok { OnOk result (MadeOnce edges.now) }
+    ensures fault { IfErr result (ForFault (IsGraphFault edges.now)) }
+{
+    let files = made_files(alloc, edges)?;
+    match first_repetition(alloc, files.as_slice())? {
+        None => Ok(()),
+        Some(indices) => {
+            let path = files[indices.1].copy(alloc)?;
+            Err(Failure::Fault(GraphFault::ProducedTwice { path }))
+        }
+    }
+}
+
+/// Checks that each edge that names a dyndep file has it among its inputs (E2).
+fn check_dyndeps(alloc: Global, edges: &[Edge]) -> Result<(), Failure<GraphFault>>
+    requires outputs { All (λ e. e.outputs ≢ []) edges.now }
+    requires made_once { MadeOnce edges.now }
+    ensures ok { OnOk result (DyndepsAreInputs edges.now) }
+    ensures fault { IfErr result (ForFault (IsGraphFault edges.now)) }
+{
+    for (edge_index, edge) in edges.iter().enumerate() {
+        if !reads_dyndep(edge) {
+            let output = first_output(alloc, edge)?;
+            return Err(Failure::Fault(GraphFault::DyndepNotInput {
+                edge: edge_index,
+                output,
+            }));
+        }
+    }
+    Ok(())
+}
+
+/// Returns whether the dyndep file of the edge, if it names one, is among its inputs of any kind.
+fn reads_dyndep(edge: &Edge) -> bool
+    ensures { MatchBool result (NamesInput edge.now) (NamesUnread edge.now) }
+{
+    let Some(file) = &edge.dyndep else {
+        return true;
+    };
+    edge.inputs
+        .iter()
+        .chain(edge.implicit_inputs.iter())
+        .chain(edge.order_only.iter())
+        .any(|input| *input == *file)
+}
+
+/// Returns the edge's first output. Errors about an edge report this path.
+pub(crate) fn first_output(alloc: Global, edge: &Edge) -> Result<Path, AllocError>
+    requires { edge.now.outputs ≢ [] }
+    ensures { IfOk result (λ output. slice_get edge.now.outputs 0 ≡ Some output) }
+{
+    edge.outputs[0].copy(alloc)
 }

@@ -1,13 +1,15 @@
-//! Which edge makes which file.
+//! The files that edges make, which edge makes which file, and the first file that is made twice.
 ghost use Rattle.std.specs.Prelude.{◌≡◌, IfOk, OnOk};
+ghost use Rattle.build_effect.specs.Faults.{made_files};
 ghost use Rattle.build_effect.specs.inner.Makers.{maker_in, AreMakers, AreAdded};
+ghost use Rattle.dep_order.specs.Rows.{lists};
+ghost use Rattle.ninja_text.specs.Firsts.{FindsRepetition};
 
 use crate::edge::Edge;
-use crate::files::{made_files, table_key};
-use indexmap::IndexMap;
+use indexmap::{IndexMap, IndexSet};
 use ninja_text::Path;
 use std::alloc::{AllocError, Global};
-use table_keys::TableKey;
+use table_keys::{KeyDigest, TableKey};
 
 /// A table of the edge that makes each file, by the edge's index.
 #[derive(Drop)]
@@ -50,4 +52,42 @@ fn add_files<'t>(
         makers.insert(file, edge_index)?;
     }
     Ok(())
+}
+
+/// Returns the files that the edges make, edge after edge: the outputs of an edge, then its implicit
+/// outputs.
+pub(crate) fn made_files<'t>(alloc: Global, edges: &'t [Edge]) -> Result<Vec<&'t Path>, AllocError>
+    ensures { IfOk result (λ files. lists files.items ≡ made_files edges.now) }
+{
+    let made = edges
+        .iter()
+        .flat_map(|e| e.outputs.iter().chain(e.implicit_outputs.iter()));
+    made.collect(alloc)
+}
+
+/// Returns the key for a table of these files, which is made of the files themselves.
+pub(crate) fn table_key(files: &[&Path]) -> TableKey {
+    let mut digest = KeyDigest::new();
+    for file in files {
+        digest.update(file.bytes());
+    }
+    digest.key()
+}
+
+/// Finds the first file that repeats an earlier one. Returns the index of the earlier file and its
+/// own.
+pub(crate) fn first_repetition(
+    alloc: Global,
+    files: &[&Path],
+) -> Result<Option<(usize, usize)>, AllocError>
+    ensures { IfOk result (FindsRepetition (lists files.now)) }
+{
+    let mut seen = IndexSet::with_hasher(alloc, table_key(files));
+    for (file_index, file) in files.iter().enumerate() {
+        let (first, is_new) = seen.insert_full(*file)?;
+        if !is_new {
+            return Ok(Some((first, file_index)));
+        }
+    }
+    Ok(None)
 }

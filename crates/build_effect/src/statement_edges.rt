@@ -8,7 +8,7 @@ ghost use Rattle.build_effect.specs.inner.StatementEdges.{IsBoundOutput, IsUnbou
 use crate::addition::Addition;
 use crate::edge::Edge;
 use crate::fault::EffectFault;
-use crate::graph_checks::first_output;
+use crate::graph::first_output;
 use crate::makers::Makers;
 use ninja_text::{Failure, Path};
 use std::alloc::Global;

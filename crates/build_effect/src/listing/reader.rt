@@ -107,14 +107,11 @@ impl LineState for ListingState {
     ghost of_cutter = { fault_of_cutter };
 
     fn read_line(&mut self, alloc: Global, line: Line<'_>) -> Result<(), Failure<LineFault>> {
-        match take_line(alloc, self, line) {
-            Ok(()) => Ok(()),
-            Err(Failure::Memory) => Err(Failure::Memory),
-            Err(Failure::Fault(cause)) => Err(Failure::Fault(LineFault {
-                line: line.number(),
-                cause,
-            })),
-        }
+        let number = line.number();
+        take_line(alloc, self, line).map_err(|failure| failure.map(|cause| LineFault {
+            line: number,
+            cause,
+        }))
     }
 
     fn cut_fault(fault: CutFault) -> LineFault {

@@ -8,7 +8,7 @@ use Rattle.build_effect.specs.Graphs.{inputs_of, HasInput}
 use Rattle.build_effect.specs.Faults.{NamesUnread}
 use Rattle.build_effect.specs.inner.Inputs.{NamesInput}
 use Rattle.ninja_text.proofs.ForCallers.{same_some}
-use Rattle.build_effect.proofs.graph_checks.reads_dyndep.Goals as goal
+use Rattle.build_effect.proofs.graph.reads_dyndep.Goals as goal
 
 -- what a search of an edge's inputs finds
 looked : (e : EdgeValue) (file : List ℕ) (r : Bool) → e.dyndep ≡ Some file → MatchBool r ((k : ℕ) × (k < length (inputs_of e)) × HoldsAt (λ x. x ≡ file) (inputs_of e) k) (AllWithin (λ x. x ≡ file → ⊥) (inputs_of e) 0 (length (inputs_of e)))

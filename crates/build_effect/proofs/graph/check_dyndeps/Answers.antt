@@ -3,7 +3,7 @@ use Rattle.std.proofs.lemmas.Option.{slice_get_read, slice_get_within}
 use Rattle.build_effect.specs.EdgeValue.{EdgeValue}
 use Rattle.build_effect.specs.Graphs.{Names, HasInput}
 use Rattle.ninja_text.proofs.ForCallers.{same_some, three_ways}
-use Rattle.build_effect.proofs.graph_checks.check_dyndeps.Goals as goal
+use Rattle.build_effect.proofs.graph.check_dyndeps.Goals as goal
 
 pub returns-then-not-reads_dyndep-clause-fault : goal.returns-then-not-reads_dyndep-clause-fault
 returns-then-not-reads_dyndep-clause-fault c =

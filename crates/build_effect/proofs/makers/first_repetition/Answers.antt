@@ -1,7 +1,7 @@
 use Rattle.std.proofs.Common.{ℕ, List, Bor, refl, sym, ◌∙◌}
 use Rattle.std.proofs.lemmas.Option.{slice_get_read}
 use Rattle.build_effect.proofs.Repetitions.{repeats_if_found, keys_if_new, differ_if_new}
-use Rattle.build_effect.proofs.files.first_repetition.Goals as goal
+use Rattle.build_effect.proofs.makers.first_repetition.Goals as goal
 
 abbrev text_of : Bor (List ℕ) → List ℕ
 text_of text = text.now

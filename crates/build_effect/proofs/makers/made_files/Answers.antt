@@ -3,7 +3,7 @@ use Rattle.std.proofs.lemmas.Iterator.{YieldsList-from_slice}
 use Rattle.std.proofs.lemmas.Iterator.Consumers.{YieldsList-at, YieldsList-from_chain, map_from_collect}
 use Rattle.std.proofs.lemmas.Iterator.Adapters.{YieldsList-from_flat_map}
 use Rattle.build_effect.specs.Graphs.{made_by}
-use Rattle.build_effect.proofs.files.made_files.Goals as goal
+use Rattle.build_effect.proofs.makers.made_files.Goals as goal
 
 pub returns : goal.returns
 returns c =

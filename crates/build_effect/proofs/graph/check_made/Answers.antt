@@ -6,7 +6,7 @@ use Rattle.build_effect.specs.Faults.{made_files}
 use Rattle.ninja_text.specs.Firsts.{FindsRepetition, RepeatsFirst}
 use Rattle.ninja_text.proofs.ForCallers.{to_map}
 use Rattle.build_effect.proofs.MadeFiles.{made_once, first_of_repetition}
-use Rattle.build_effect.proofs.graph_checks.check_made.Goals as goal
+use Rattle.build_effect.proofs.graph.check_made.Goals as goal
 
 -- where a file repeats, there is one that was lent
 repeated_within : (files : List (Bor (List ℕ))) (all : List (List ℕ)) (i j : ℕ) → map (λ (x : Bor (List ℕ)). x.now) files ≡ all → RepeatsFirst all i j → j < length files
