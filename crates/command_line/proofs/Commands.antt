@@ -236,7 +236,7 @@ task_parsed a words m made text none found =
     ∙ ap (λ faults. task_found (pick faults (subcommand_of program words))) (sym no_fault)
     ∙ parsed (drop 1 words) (All-drop IsUtf8 1 words text)
 
--- what a parse that fails by a fault has refused
+-- what a parse that fails with a fault has rejected
 pub no_task : (a : App) (words : List Text) (e : Error) → a ≡ program → All IsUtf8 words →
     (is_simple_and_free a ≡ true → HasKind (fault_of a words) e) →
     (kind_of e ≡ OutOfMemory → ⊥) → None ≡ task_in (drop 1 words)

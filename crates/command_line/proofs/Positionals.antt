@@ -85,7 +85,7 @@ some_char b bs is = go (chars (b ∷ bs)) refl
         cc
     go (x ∷ xs) e = (x, ap (λ ys. slice_get ys 0) e)
 
--- a word is taken for a flag, and is none
+-- an argument is taken for a flag, and is not one
 abbrev pub IsUnknown : List Rule → Bool → List Row → Option (Text × List Text) → Text → Type 0
 IsUnknown c again rows pending word =
     flag_word_fault c again (long_of word) word (held rows pending) ≡ kind.UnknownArgument ∷ []
@@ -112,7 +112,7 @@ module _ (c : List Rule) (singles : HasSingles c) (again : Bool) (rows : List Ro
       let hyphen : a ≡ 45 = eqb-true a 45 is in
       rw hyphen (dashed b rest (rw hyphen at text) (rw hyphen at not_dashes))
 
--- another word is none
+-- another argument is not a flag
 pub no_flag : (word : Text) → is_flag word ≡ false → (long_of word ≡ None) × (short_of word ≡ None)
 no_flag [] is = (refl, refl)
 no_flag (a ∷ []) is = go (a == 45) refl

@@ -86,7 +86,7 @@ task_from command given =
     else (if bytes_eq command (codes "order") then order_task given
     else (if bytes_eq command (codes "project") then project_task given else None)))))
 
--- the task that the arguments behind the program's name call for, where they are a proper call
+-- the task that the arguments after the program's name ask for, if they are a valid command line
 abbrev pub task_in : List Argument → Option TaskValue
 task_in [] = None
 task_in (command ∷ arguments) = option_and_then (task_from command) (operands arguments)

@@ -26,13 +26,13 @@ pub enum Task<'a> {
     Show {
         dyndep: &'a str,
     },
-    /// Print an edge listing after the effect of the dyndep file that edges call by this name.
+    /// Print an edge list as a dyndep file changes it. Edges refer to the file by this name.
     Effect {
         name: &'a str,
         edges: &'a str,
         dyndep: &'a str,
     },
-    /// Print the edges of a listing in order.
+    /// Print the edges of an edge list in build order.
     Order {
         edges: &'a str,
     },
@@ -45,7 +45,7 @@ pub enum Task<'a> {
 impl<'a> Task<'a> {
     ghost use Rattle.command_line.specs.Tasks.{task_value, first_file_of};
 
-    /// The file that the task reads first.
+    /// Returns the file that the task reads first.
     pub fn file(&self) -> &'a str
         ensures { result.now ≡ first_file_of (task_value self.now) }
     {
@@ -60,13 +60,17 @@ impl<'a> Task<'a> {
     }
 }
 
-/// The task that the arguments call for, the program's own name being the first of them, or `None`
-/// where they are no proper call.
+/// Returns the task that the arguments ask for, or `None` if they are not a valid command line. The
+/// first argument is the program's own name.
 ///
-/// A call is the name of a command and exactly as many operands as it takes. The first `--` after
-/// the command is dropped; before it an argument of two or more bytes that begins with `-` is a
-/// flag, which no call has. Every other argument is an operand as it is, the empty one and `-`
-/// too.
+/// A command line is the name of a command and exactly as many operands as the command takes. The
+/// first `--` after the command is dropped. Before it, an argument of two or more bytes that begins
+/// with `-` is a flag, and no command has flags. Every other argument is an operand, including the
+/// empty string and `-`.
+///
+/// # Errors
+///
+/// Returns an error if an allocation fails.
 pub fn task_of<'a>(alloc: Global, arguments: &'a [String]) -> Result<Option<Task<'a>>, AllocError>
     ensures { IfOk result (AreCallOf (map string_bytes arguments.now)) }
 {
@@ -80,7 +84,7 @@ pub fn task_of<'a>(alloc: Global, arguments: &'a [String]) -> Result<Option<Task
     }
 }
 
-/// The task that a parse found, if it found one.
+/// Returns the task of a parsed command line.
 fn task_found<'a>(matches: &ArgMatches<'a>) -> Option<Task<'a>>
     ensures { option_map task_value result ≡ task_found (subcommand_rows_of matches.now) }
 {
@@ -88,7 +92,7 @@ fn task_found<'a>(matches: &ArgMatches<'a>) -> Option<Task<'a>>
     task_by(command, given)
 }
 
-/// The program's commands with their operands.
+/// Returns the program's commands with their operands.
 fn program<'a>(alloc: Global) -> Result<Command<'a>, AllocError>
     ensures { IfOk result (λ c. app_of c ≡ program) }
 {
@@ -104,8 +108,8 @@ fn program<'a>(alloc: Global) -> Result<Command<'a>, AllocError>
     with_command(alloc, program, "project", &["document"])
 }
 
-/// The program with a command more, which takes these operands. (It takes a program that may be
-/// refused, so that `program` never ends early: a quarter of a minute of the prover's.)
+/// Adds a command with these operands. The program is passed as a result, so that `program` has no
+/// early return: that saves the prover a quarter of a minute.
 fn with_command<'a>(
     alloc: Global,
     program: Result<Command<'a>, AllocError>,
@@ -119,7 +123,7 @@ fn with_command<'a>(
     program.subcommand(command(alloc, name, operands)?)
 }
 
-/// A command that takes these operands.
+/// Returns a command that takes these operands.
 fn command<'a>(
     alloc: Global,
     name: &'a str,
@@ -136,7 +140,7 @@ fn command<'a>(
     Ok(command)
 }
 
-/// The task of a command by its operands, if they were found.
+/// Returns the task of a command, or `None` if an operand is missing.
 fn task_by<'a>(command: &str, given: &ArgMatches<'a>) -> Option<Task<'a>>
     ensures { option_map task_value result
         ≡ task_by command.now (first_value (found_of given.now)) }
@@ -170,7 +174,7 @@ fn task_by<'a>(command: &str, given: &ArgMatches<'a>) -> Option<Task<'a>>
     }
 }
 
-/// The three operands of these names, if each was found.
+/// Returns the operands of these names, or `None` if one is missing.
 fn three<'a>(
     given: &ArgMatches<'a>,
     first: &str,

@@ -69,7 +69,7 @@ abbrev pub begins_with_space : Text → Bool
 begins_with_space [] = false
 begins_with_space (b ∷ bytes) = b == space
 
--- whether a number ends before these bytes: no digit comes next and, where dots are refused, no `.`
+-- whether a number ends before these bytes: no digit follows and, unless dots are allowed, no `.`
 abbrev pub ends_number : Bool → Text → Bool
 ends_number dots [] = true
 ends_number dots (b ∷ bytes) = not (is_digit b) && (dots || not (b == dot))
@@ -88,7 +88,7 @@ is_version_one (a ∷ rest) = (a == digit_one) && (ends_number false rest || dot
 -- any bytes, every other line has no lexical fault. A blank line has no token. A version line
 -- assigns a version that is read, and its name is at the first byte. The paths of a build line
 -- are the values of its words, without escapes. A binding is an indented assignment to `restat`,
--- and sets the flag where the value is not empty.
+-- and sets the flag if the value is not empty.
 abbrev pub IsDyndepLine : Text → Bool → DyndepClass → Type 0
 IsDyndepLine text comment Comment = comment ≡ true
 IsDyndepLine text comment Blank =

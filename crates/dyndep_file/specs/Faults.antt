@@ -74,7 +74,7 @@ after_rule_fault (SignSymbol DoubleBar ∷ more) = Some OrderOnly
 after_rule_fault (SignSymbol BarAt ∷ more) = Some Validation
 after_rule_fault (SignSymbol other ∷ more) = Some BadLine
 
--- the fault of what comes after `:`, where the rule is, which is `dyndep`, spelled so
+-- the fault of what comes after `:`: the rule, which is `dyndep`, without escapes
 abbrev pub rule_fault : List Symbol → Option LineFault
 rule_fault [] = Some BadRule
 rule_fault (WordSymbol word ∷ more) =
@@ -135,7 +135,7 @@ other_fault Open = BadLine
 
 -- ---- the row of a line, and its fault
 
--- the tokens after the keyword `build`, where the line begins with it at its first byte; None for
+-- the tokens after the keyword `build`, if the line begins with it at its first byte; None for
 -- any other line
 abbrev pub after_build : Bool → List Symbol → Option (List Symbol)
 after_build at_start [] = None
@@ -143,7 +143,7 @@ after_build at_start (WordSymbol word ∷ more) =
     if at_start && same_bytes word (codes "build") then Some more else None
 after_build at_start (SignSymbol other ∷ more) = None
 
--- where the name begins and what is assigned, where a line is an assignment to this name; None for
+-- where the name begins and what is assigned, if a line is an assignment to this name; None for
 -- any other line
 abbrev pub value_assigned : Name → Option SeenAssignment → Option (ℕ × Text)
 value_assigned name None = None
@@ -175,7 +175,7 @@ text_fault stage text =
     else unindented_fault stage (value_assigned (codes "ninja_dyndep_version") (assignment_of text))
     (after_build (begins_at_start (tokens text)) (symbols text))
 
--- the lexical fault, and the other one only where there is none
+-- the lexical fault, and the other one only if there is none
 abbrev pub lexical_fault_or : Option LexFault → Option LineFault → Option LineFault
 lexical_fault_or (Some fault) otherwise = Some (Lexical fault)
 lexical_fault_or None otherwise = otherwise
@@ -185,7 +185,7 @@ abbrev pub text_line_fault : Stage → Text → Bool → Option LineFault
 text_line_fault stage text comment =
     if comment then None else lexical_fault_or (lexical_fault text) (text_fault stage text)
 
--- the fault of a line, its end included; None where it has none
+-- the fault of a line, its end included; None if it has none
 abbrev pub line_fault : Stage → Text → Option LineFault
 line_fault stage line =
     if nat_lt line_limit (length line) then Some LineTooLong

@@ -16,7 +16,7 @@ pub data HasBinding : List DyndepClass → Bool → List DyndepClass → Type 0 
       → HasBinding classes flag more → HasBinding (Comment ∷ classes) flag more
 
 -- The lines after the version line are a body with these statements, one for each build line, in
--- order. The flag `restat` of a statement is that of its binding, and off where it has none.
+-- order. The flag `restat` of a statement is that of its binding, and off if it has none.
 pub data IsDyndepBody : List DyndepClass → List StatementValue → Type 0 where
   body_end : IsDyndepBody [] []
   body_comment : {classes : List DyndepClass} {statements : List StatementValue}

@@ -1,4 +1,4 @@
--- What a reader of dyndep files answers, by all bytes that it was fed, however they were cut into
+-- What a reader of dyndep files returns, by all bytes that it was fed, however they were cut into
 -- pieces.
 use Rattle.std.specs.Prelude.{◌≡◌, ◌⊎◌, List, [], Some, Result, Ok, Err}
 use Rattle.ninja_text.specs.Bytes.{Bytes}
@@ -21,11 +21,11 @@ use Rattle.dyndep_file.specs.declared.progress.Stage.TheVariants.{BeforeVersion}
 abbrev pub LeadToStatements : List DyndepClass → ProgressValue → Type 0
 LeadToStatements classes progress = run BeforeVersion [] classes ≡ Some progress
 
--- a reader: its cutter of lines, the statements so far, and what it refused with, if it did
+-- a reader: its cutter of lines, the statements so far, and the failure it returned, if any
 abbrev pub DyndepReaderState : Type 0
 DyndepReaderState = LinesRead ProgressValue ReadFault
 
--- The reader was fed these bytes in all, and has refused none.
+-- The reader was fed these bytes in all, and has rejected none.
 abbrev pub HasReadDyndep : Bytes → DyndepReaderState → Type 0
 HasReadDyndep bytes r = lines.HasRead dyndep_format LeadToStatements bytes r
 
@@ -37,12 +37,12 @@ IsReadFaultIn bytes (AtLine line fault) =
     ⊎ (FaultyEnd dyndep_format dyndep_faults bytes line fault × (fault ≡ LineTooLong))
 IsReadFaultIn bytes Io = ⊥
 
--- Memory was refused, or the fault is in the bytes.
+-- An allocation failed, or the fault is in the bytes.
 abbrev pub IsReadFailureIn : Bytes → Failure ReadFault → Type 0
 IsReadFailureIn bytes failure = ForFault (IsReadFaultIn bytes) failure
 
--- What `feed` answers, and what the reader is then; by all bytes fed, this call's with them, to a
--- reader that had refused none.
+-- What `feed` returns, and what the reader is then; by all bytes fed, this call's with them, to a
+-- reader that had rejected none.
 abbrev pub FeedsDyndep : Bytes → Result Unit (Failure ReadFault) → DyndepReaderState → Type 0
 FeedsDyndep bytes result new = lines.Reads HasReadDyndep IsReadFaultIn bytes result new
 
@@ -53,7 +53,7 @@ IsFaultAtEnd bytes (Fault (AtLine line fault)) =
 IsFaultAtEnd bytes (Fault Io) = ⊥
 IsFaultAtEnd bytes Memory = ⊥
 
--- What `finish` answers; by all bytes fed to a reader that has refused none.
+-- What `finish` returns; by all bytes fed to a reader that has rejected none.
 abbrev pub EndsDyndepFile : Bytes → Result (List StatementValue) (Failure ReadFault) → Type 0
 EndsDyndepFile bytes (Ok statements) = StandsFor bytes statements
 EndsDyndepFile bytes (Err failure) = IsFaultAtEnd bytes failure

@@ -1,4 +1,4 @@
--- Reading to the end of a reader: which calls of the reader are made, and what is answered.
+-- Reading to the end of a reader: which calls of the reader are made, and what is returned.
 use Rattle.std.specs.Prelude.{◌≡◌, ℕ, ◌<◌, ◌≤◌, ◌-◌, ◌^◌, Bool, true, false, List, [], ◌∷◌, ◌++◌, length, take, Option, Result, Ok, Err}
 use Rattle.std.specs.List.{flat_map}
 use Rattle.std.specs.Io.KnownBytes.{Consumes, IsAtEnd}
@@ -50,7 +50,7 @@ ReadsInTurn reads reader [] last = reader ≡ last
 ReadsInTurn reads reader (turn ∷ turns) last =
     GivesSome reads reader turn × ReadsInTurn reads turn.reader turns last
 
--- The call after those: the reader's end, an error, bytes that were refused, or none was made.
+-- The call after those: the reader's end, an error, bytes that were rejected, or no call was made.
 pub data LastCall (R : Type 0) : Type 0 where
   AtEnd : LastCall R
   Failed : LastCall R
@@ -71,7 +71,7 @@ has_failed Failed = true
 has_failed (Refused turn) = false
 has_failed NotMade = false
 
--- The call that led from one reader to the other was answered so.
+-- The call that led from one reader to the other had this result.
 abbrev pub IsLastCall : {R : Type 0} → Call R → R → R → LastCall R → Type 0
 IsLastCall reads before after AtEnd =
     (buffer : Bytes) × (length buffer ≡ buffer_len) × reads before after (Ok 0) buffer
@@ -81,12 +81,12 @@ IsLastCall reads before after Failed =
 IsLastCall reads before after (Refused turn) = GivesSome reads before turn × (turn.reader ≡ after)
 IsLastCall reads before after NotMade = before ≡ after
 
--- what reading a dyndep file answers
+-- what reading a dyndep file returns
 abbrev pub Answer : Type 0
 Answer = Result (List StatementValue) (Failure ReadFault)
 
--- What is answered, by the bytes of the calls before the last one, and by that: at the reader's end
--- what `finish` answers, `Io` for an error, for bytes that are refused the fault that is in them or
+-- What is returned, by the bytes of the calls before the last one, and by that: at the reader's end
+-- what `finish` returns, `Io` for an error, for bytes that are rejected the fault in them or
 -- want of memory, and `Io` at 2^64 - 1 bytes.
 abbrev pub AnswersLastCall : {R : Type 0} → Bytes → LastCall R → Answer → Type 0
 AnswersLastCall front AtEnd result = EndsDyndepFile front result
@@ -96,8 +96,8 @@ AnswersLastCall front (Refused turn) result =
     × (result ≡ Err failure)
 AnswersLastCall front NotMade result = (2 ^ 64 - 1 ≤ length front) × (result ≡ Err (Fault Io))
 
--- Calls gave bytes that were not refused, there was one last call, or none, and no other; and the
--- answer is of these bytes.
+-- Calls gave bytes that were not rejected, there was one last call, or none, and no other; and the
+-- result is that of these bytes.
 pub record IsReadFrom {R : Type 0} (remaining : R → Option Bytes) (reads : Call R)
     (old new : Counted R) (result : Answer) : Type 0 where
   pub turns : List (ReadTurn R)
@@ -108,7 +108,7 @@ pub record IsReadFrom {R : Type 0} (remaining : R → Option Bytes) (reads : Cal
   pub unrefused : IsUnrefused (bytes_read turns)
   pub answer : AnswersLastCall (bytes_read turns) last result
   pub count : Counts (has_failed last) (failures old) (failures new)
-  -- where the bytes that the reader still has are known
+  -- if the bytes that the reader still has are known
   pub consumed : Consumes (remaining (held old)) (remaining (held new))
       (bytes_read turns ++ last_bytes last)
   pub at_end : last ≡ AtEnd → IsAtEnd (remaining (held new))

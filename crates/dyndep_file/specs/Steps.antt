@@ -27,7 +27,7 @@ open_statement statements output outputs inputs = record {
   statements = statements ++ statement_with output outputs inputs false ∷ [];
 }
 
--- What a line of this class does, where it may come. A comment changes nothing. A blank line
+-- What a line of this class does, if it is allowed. A comment changes nothing. A blank line
 -- closes the open statement. The version line comes once, before all build lines. A build line
 -- opens a statement. A binding sets the open statement's flag and closes the statement.
 abbrev pub step : Stage → List StatementValue → DyndepClass → Option ProgressValue

@@ -25,7 +25,7 @@ statement_fault index s = option_or
     (position (λ path. not (is_writable path)) (paths_of s)))
     (if nat_lt line_limit (length (build_line s)) then Some (StatementTooLong index) else None)
 
--- the fault of the first statement that has one, where the first of the list has this index
+-- the fault of the first statement that has one, if the first of the list has this index
 abbrev pub fault_from : ℕ → List StatementValue → Option WriteFault
 fault_from index [] = None
 fault_from index (s ∷ ss) = option_or (statement_fault index s) (fault_from (index + 1) ss)
@@ -39,7 +39,7 @@ abbrev pub text_unless : Option WriteFault → List StatementValue → Result Te
 text_unless None statements = Ok (dyndep_text statements)
 text_unless (Some fault) statements = Err fault
 
--- the text of a list of statements, or its fault, where there is one
+-- the text of a list of statements, or its fault, if there is one
 abbrev pub text_or_fault : List StatementValue → Result Text WriteFault
 text_or_fault statements = text_unless (write_fault statements) statements
 
@@ -71,7 +71,7 @@ abbrev pub WritesInTurn : {W T : Type 0}
 WritesInTurn writes old new text (Ok done) = IsTakenInTurn writes old new text (length text)
 WritesInTurn writes old new text (Err failure) = StopsInTurn writes old new text failure
 
--- memory and the writer aside, a call answers the statements' fault, where there is one
+-- apart from memory and the writer, a call returns the statements' fault, if there is one
 abbrev pub AnswersWriteFault : {T : Type 0} → Option WriteFault → Result T (Failure WriteFault)
     → Type 0
 AnswersWriteFault fault (Ok done) = fault ≡ None

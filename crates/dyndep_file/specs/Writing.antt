@@ -9,7 +9,7 @@ use Rattle.dyndep_file.specs.StatementValue.{StatementValue}
 abbrev pub spaced : PathText → Text
 spaced path = space ∷ escaped path
 
--- ` |` and each path after a space, where there are any
+-- ` |` and each path after a space, if there are any
 abbrev pub part_text : List PathText → Text
 part_text [] = []
 part_text (path ∷ paths) = codes " |" ++ flat_map spaced (path ∷ paths)
@@ -20,7 +20,7 @@ build_line s =
     codes "build " ++ escaped s.output ++ part_text s.implicit_outputs
     ++ codes ": dyndep" ++ part_text s.implicit_inputs ++ line_feed ∷ []
 
--- the line of a binding, where the flag is set
+-- the line of a binding, if the flag is set
 abbrev pub binding_line : StatementValue → Text
 binding_line s = if s.restat then codes "  restat = 1" ++ line_feed ∷ [] else []
 

@@ -11,8 +11,8 @@ abbrev pub seen_assignment : Assignment → SeenAssignment
 seen_assignment a =
     record { name_start = a.name_start; name = a.name.now; raw_value = a.raw_value.now }
 
--- the assignment that the line is, or None where it is none; where the line has a lexical fault,
--- the first one
+-- the assignment that the line is, or None if it is not one; if the line has a lexical fault, the
+-- first one
 abbrev pub IsAssignment : LogicalLine → Result (Option Assignment) LexFault → Type 0
 IsAssignment line (Ok a) =
     (lexical_fault line.text ≡ None)

@@ -16,7 +16,7 @@ Bytes = List ℕ
 abbrev pub Text : Type 0
 Text = List ℕ
 
--- a path, canonical or as it is spelled
+-- a path, canonical or as it is given
 abbrev pub PathText : Type 0
 PathText = List ℕ
 

@@ -1,5 +1,5 @@
 -- What a cutter holds, what its calls do to that, and how that is related to all bytes taken and
--- all lines lent.
+-- all lines returned.
 use Rattle.std.specs.Prelude.{◌≡◌, ℕ, ◌+◌, ◌-◌, ◌≤◌, Bool, true, false, nat_le, if◌then◌else◌, min, List, [], ◌∷◌, ◌++◌, length, take, Option, Some, None, Result, Ok, Err}
 use Rattle.std.specs.List.{flat_map, AllByRecursion}
 use Rattle.ninja_text.specs.Bytes.{Bytes, Text}
@@ -9,7 +9,7 @@ use Rattle.ninja_text.specs.declared.failure.Failure.TheVariants.{Memory, Fault}
 use Rattle.ninja_text.specs.declared.fault.CutFault.{CutFault}
 use Rattle.ninja_text.specs.declared.fault.CutFault.TheVariants.{LineTooLong, Truncated}
 
--- The line at hand: its number, and its bytes, the whole line where it waits to be lent. A cutter
+-- The current line: its number, and its bytes, which are the whole line if it waits. A cutter
 -- that has failed stays so.
 pub record CutterState : Type 0 where
   pub number : ℕ
@@ -25,7 +25,7 @@ abbrev pub waiting_line : CutterState → LogicalLine
 waiting_line h =
     record { text = text_of_line h.bytes; number = h.number; comment = is_comment h.bytes }
 
--- what `feed` answers and leaves where no line waits, by the first end in what there is of the line
+-- what `feed` returns and leaves if no line waits, by the first end in what there is of the line
 -- within the limit
 abbrev pub feed_outcome_at : CutterState → Bytes → Option LineEnd → Result ℕ CutFault × CutterState
 feed_outcome_at h piece (Some end) = (
@@ -37,21 +37,21 @@ feed_outcome_at h piece None =
     (Err (LineTooLong h.number), record h { failed = true })
     else (Ok (length piece), record h { bytes = h.bytes ++ piece })
 
--- what `feed` answers and leaves, where memory is there
+-- what `feed` returns and leaves if no allocation fails
 abbrev pub feed_outcome : CutterState → Bytes → Result ℕ CutFault × CutterState
 feed_outcome h piece =
     if h.failed then (Err (LineTooLong h.number), h)
     else if h.waits then (Ok 0, h)
     else feed_outcome_at h piece (line_end (take line_limit (h.bytes ++ piece)))
 
--- `feed` answers and leaves just that, unless memory was refused: then it took nothing. It asks for
--- memory only where it may take bytes, that is where the cutter has not failed and no line waits.
+-- `feed` returns and leaves just that, unless an allocation failed: then it took nothing. It
+-- allocates only if it may take bytes, that is if the cutter has not failed and no line waits.
 abbrev pub Feeds : CutterState → Bytes → Result ℕ (Failure CutFault) → CutterState → Type 0
 Feeds old piece (Ok n) new = feed_outcome old piece ≡ (Ok n, new)
 Feeds old piece (Err Memory) new = (old.failed ≡ false) × (old.waits ≡ false) × (new ≡ old)
 Feeds old piece (Err (Fault fault)) new = feed_outcome old piece ≡ (Err fault, new)
 
--- what is left once the line that waits, if any, was lent
+-- what is left once the line that waits, if any, was returned
 abbrev pub after_lending : CutterState → CutterState
 after_lending h =
     if h.failed then h
@@ -63,11 +63,11 @@ after_lending h =
     }
     else h
 
--- the line that the next call lends, if any
+-- the line that the next call returns, if any
 abbrev pub lent_next : CutterState → List LogicalLine
 lent_next h = if h.failed then [] else if h.waits then waiting_line h ∷ [] else []
 
--- `finish` answers the fault of a cutter that has failed, or `Truncated` where bytes are left.
+-- `finish` returns the fault of a cutter that has failed, or `Truncated` if bytes are left.
 abbrev pub Finishes : CutterState → Result Unit CutFault → Type 0
 Finishes h r =
     r ≡ (if h.failed then Err (LineTooLong h.number)
@@ -81,7 +81,7 @@ waiting_bytes h = if h.waits then h.bytes ∷ [] else []
 abbrev pub rest_bytes : CutterState → Bytes
 rest_bytes h = if h.waits then [] else h.bytes
 
--- The bytes taken are divided into the lines lent, the line that waits, and what there is of the
+-- The bytes taken are the lines returned, the line that waits, and what there is of the
 -- next; none is too long.
 pub record Cuts (taken : Bytes) (lent : List LogicalLine) (h : CutterState) : Type 0 where
   pub lines : List Text
@@ -90,8 +90,8 @@ pub record Cuts (taken : Bytes) (lent : List LogicalLine) (h : CutterState) : Ty
   pub lent_are : lent ≡ logical_lines [] lines
   pub number : h.number ≡ number_after (flat_map (λ line. line) lines)
 
--- A cutter that had taken these bytes has taken what the call answers beside; where it refused,
--- nothing.
+-- A cutter that had taken these bytes has also taken as many as the call returns; after a failure,
+-- no more.
 abbrev pub FeedsAll : Bytes → List LogicalLine → Bytes → Result ℕ (Failure CutFault)
     → CutterState → Type 0
 FeedsAll taken lent piece (Ok n) new = Cuts (taken ++ take n piece) lent new

@@ -1,19 +1,19 @@
--- How a path is spelled in a Ninja file, and what a spelling stands for (Ninja 1.11 manual,
+-- How a path is escaped in a Ninja file, and what an escaped form stands for (Ninja 1.11 manual,
 -- "Lexical syntax").
 use Rattle.std.specs.Prelude.{◌≡◌, ◌≢◌, ℕ, Bool, false, not, ◌||◌, ◌==◌, if◌then◌else◌, IsTrue, ◌⊎◌, List, [], ◌∷◌, ◌++◌, replicate, All}
 use Rattle.std.specs.List.{flat_map, concat, list_any, AllByRecursion}
 use Rattle.ninja_text.specs.Bytes.{Byte, Text, PathText, nul, line_feed, carriage_return, space, dollar, colon, vertical_bar}
 
--- what no spelling in a Ninja file stands for: `|`, NUL, CR and LF
+-- what no escaped form in a Ninja file stands for: `|`, NUL, CR and LF
 abbrev pub is_unwritable : ℕ → Bool
 is_unwritable b = b == vertical_bar || (b == nul || (b == carriage_return || b == line_feed))
 
--- whether a path can be spelled in a Ninja file: it has a byte, and none that has no spelling
+-- whether a path can be escaped in a Ninja file: it has a byte, and each byte can be escaped
 abbrev pub is_writable : PathText → Bool
 is_writable [] = false
 is_writable (b ∷ bs) = not (list_any is_unwritable (b ∷ bs))
 
--- A path that can be spelled in a Ninja file.
+-- A path that can be escaped in a Ninja file.
 pub record IsWritable (path : PathText) : Type 0 where
   pub some : path ≢ []
   pub each : All (λ b. is_unwritable b ≡ false) path
@@ -22,11 +22,11 @@ pub record IsWritable (path : PathText) : Type 0 where
 abbrev pub is_escaped : ℕ → Bool
 is_escaped b = b == dollar || (b == space || b == colon)
 
--- how a byte is spelled
+-- the escaped form of a byte
 abbrev pub escaped_byte : Byte → Text
 escaped_byte b = if is_escaped b then dollar ∷ b ∷ [] else b ∷ []
 
--- how a path is spelled: byte by byte
+-- the escaped form of a path: byte by byte
 abbrev pub escaped : PathText → Text
 escaped path = flat_map escaped_byte path
 

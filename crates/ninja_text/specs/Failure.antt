@@ -1,10 +1,10 @@
--- What a call that may want memory answers.
+-- What a call that allocates memory returns.
 use Rattle.std.specs.Prelude.{◌≡◌, Option, Some, Result, Ok, Err, ⊤, codes}
 use Rattle.ninja_text.specs.Bytes.{Text}
 use Rattle.ninja_text.specs.declared.failure.Failure.{Failure}
 use Rattle.ninja_text.specs.declared.failure.Failure.TheVariants.{Memory, Fault}
 
--- The answer is what it means, a value seen by `view` or a fault, unless memory was refused.
+-- The result is what it means, a value seen by `view` or a fault, unless an allocation failed.
 abbrev pub Gives : {T V F : Type 0} → (T → V) → Result T (Failure F) → Result V F → Type 0
 Gives view (Ok value) meaning = meaning ≡ Ok (view value)
 Gives view (Err Memory) meaning = ⊤
@@ -21,7 +21,7 @@ abbrev pub ForFault : {F : Type 0} → (F → Type 0) → Failure F → Type 0
 ForFault P Memory = ⊤
 ForFault P (Fault fault) = P fault
 
--- how a failure is printed, where it is known how the fault is
+-- how a failure is printed, if it is known how the fault is
 abbrev pub failure_text : {F : Type 0} → (F → Option Text) → Failure F → Option Text
 failure_text text Memory = Some (codes "out of memory")
 failure_text text (Fault fault) = text fault

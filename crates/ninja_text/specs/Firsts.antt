@@ -1,5 +1,5 @@
 -- What comes first in a list: the first element of which something holds, the first pair of
--- elements that are alike, and the first element that is there once more.
+-- elements that are alike, and the first element that repeats an earlier one.
 use Rattle.std.specs.Prelude.{◌≡◌, ℕ, ◌<◌, List, take, slice_get, Option, Some, None}
 
 -- x has the index k in the list, P holds of both, and of no index before k and the element there

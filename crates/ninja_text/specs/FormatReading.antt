@@ -1,4 +1,4 @@
--- What a reader of a format's lines has read, and what it answers, by all bytes that it was fed,
+-- What a reader of a format's lines has read, and what it returns, by all bytes that it was fed,
 -- however they were cut into pieces.
 use Rattle.std.specs.Prelude.{◌≡◌, List, Some, Result, Ok, Err}
 use Rattle.ninja_text.specs.Bytes.{Bytes}
@@ -15,7 +15,7 @@ pub record AreReadTo {Class Value State : Type 0} (format : LineFormat Class Val
   pub texts : AreTextsOfClasses format lent classes
   pub led : leads classes state
 
--- The reader was fed these bytes in all, and has refused none.
+-- The reader was fed these bytes in all, and has rejected none.
 pub record HasRead {Class Value State Refusal : Type 0} (format : LineFormat Class Value)
     (leads : List Class → State → Type 0) (bytes : Bytes) (r : LinesRead State Refusal)
     : Type 0 where
@@ -23,8 +23,8 @@ pub record HasRead {Class Value State Refusal : Type 0} (format : LineFormat Cla
   pub has : HasLentAll bytes lent r
   pub read : AreReadTo format leads lent r.state
 
--- What `feed` answers, and what the reader is then, by all bytes fed, this call's with them, to a
--- reader that had refused none: it has read them, or the fault is in them, or memory was refused.
+-- What `feed` returns, and what the reader is then, by all bytes fed, this call's with them, to a
+-- reader that had rejected none: it has read them, the fault is in them, or an allocation failed.
 abbrev pub Reads : {State Refusal : Type 0} → (Bytes → LinesRead State Refusal → Type 0)
     → (Bytes → Refusal → Type 0)
     → Bytes → Result Unit (Failure Refusal) → LinesRead State Refusal → Type 0

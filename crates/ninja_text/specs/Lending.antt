@@ -7,13 +7,13 @@ use Rattle.ninja_text.specs.Lines.{LogicalLine}
 use Rattle.ninja_text.specs.Cutting.{CutterState, after_lending, lent_next, Cuts}
 use Rattle.ninja_text.specs.contracts.cutter.LineCutter.{the_row}
 
--- The line that waited, if any, was lent: it comes after all lines lent before, and none waits now.
+-- The line that waited, if any, was returned: it comes after all earlier ones, and none waits now.
 pub record AfterLending (old new : CutterState) : Type 0 where
   pub value : new ≡ after_lending old
   pub none_waits : new.waits ≡ false
   pub all : (taken : Bytes) (lent : List LogicalLine) → Cuts taken lent old →
       Cuts taken (lent ++ lent_next old) new
 
--- Where the loan ends, the cutter is as after lending.
+-- When the borrow ends, the cutter is as after returning the line.
 abbrev pub EndsLent : MutBor CutterState → Fml
 EndsLent c = Rests the_row c (λ new. AfterLending c.now new)

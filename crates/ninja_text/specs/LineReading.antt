@@ -14,12 +14,12 @@ use Rattle.ninja_text.specs.declared.fault.CutFault.TheVariants.{LineTooLong, Tr
 abbrev pub Passes : Type 0 → Type 1
 Passes S = S → LogicalLine → S → Type 0
 
--- a line is refused in a state, with a fault
+-- a line is rejected in a state, with a fault
 abbrev pub RefusesWith : Type 0 → Type 0 → Type 1
 RefusesWith S F = S → LogicalLine → F → Type 0
 
--- What reading a line answers: it passes and leaves this state, or it is refused with this fault,
--- or memory was refused.
+-- What reading a line returns: it passes and leaves this state, or it is rejected with this fault,
+-- or an allocation failed.
 abbrev pub ReadsLine : {S F : Type 0} → Passes S → RefusesWith S F → S → LogicalLine
     → Result Unit (Failure F) → S → Type 0
 ReadsLine passes refuses old line (Ok u) new = passes old line new
@@ -32,15 +32,15 @@ LeadTo passes old [] new = new ≡ old
 LeadTo {S} passes old (line ∷ lines) new =
     (mid : S) × passes old line mid × LeadTo passes mid lines new
 
--- The cutter took these bytes, has lent all their whole lines, and holds a rest below the limit.
+-- The cutter took these bytes, returned all their whole lines, and holds a rest below the limit.
 pub record HasLent (bytes : Bytes) (lent : List LogicalLine) (cutter : CutterState) : Type 0 where
   pub cuts : Cuts bytes lent cutter
   pub waits_not : cutter.waits ≡ false
   pub works : cutter.failed ≡ false
   pub short : length cutter.bytes < line_limit
 
--- The bytes begin with whole lines, none too long, that are lent as these; this rest follows, and
--- its first line has this number.
+-- The bytes begin with whole lines, none too long, that are returned as these; this rest follows,
+-- and its first line has this number.
 pub record BeginsWith (bytes : Bytes) (lent : List LogicalLine) (number : ℕ) (rest : Bytes)
     : Type 0 where
   pub lines : List Text
@@ -61,7 +61,7 @@ BeginsRefused refuses number rest fault =
     × (seen : LogicalLine) × (seen ≡ record (logical_line [] line) { number = number })
     × refuses seen fault
 
--- After these lines comes one that is too long, or that this state refuses, with this fault. Any
+-- After these lines comes one that is too long, or that this state rejects, with this fault. Any
 -- bytes may come after the line.
 abbrev pub IsNextFault : {S F : Type 0} → RefusesWith S F → (CutFault → F)
     → Bytes → List LogicalLine → S → F → Type 0
@@ -70,43 +70,43 @@ IsNextFault refuses of_cutter bytes lent state fault =
     × ((IsTooLong rest × (fault ≡ of_cutter (LineTooLong number)))
     ⊎ BeginsRefused (refuses state) number rest fault)
 
--- The lines lent before were these; more lines passed, and the next one has this fault.
+-- The lines before were these; more lines passed, and the next one has this fault.
 abbrev pub HasFaultBehind : {S F : Type 0} → Passes S → RefusesWith S F → (CutFault → F)
     → Bytes → List LogicalLine → S → F → Type 0
 HasFaultBehind {S} passes refuses of_cutter bytes lent old fault =
     (more : List LogicalLine) × (mid : S) × LeadTo passes old more mid
     × IsNextFault refuses of_cutter bytes (lent ++ more) mid fault
 
--- Memory was refused, or there is such a fault.
+-- An allocation failed, or there is such a fault.
 abbrev pub HasFailureBehind : {S F : Type 0} → Passes S → RefusesWith S F → (CutFault → F)
     → Bytes → List LogicalLine → S → Failure F → Type 0
 HasFailureBehind passes refuses of_cutter bytes lent old (Fault fault) =
     HasFaultBehind passes refuses of_cutter bytes lent old fault
 HasFailureBehind passes refuses of_cutter bytes lent old Memory = Unit {0}
 
--- a reader of lines: its cutter, the state that the lines so far led to, and what it refused with,
--- if it did
+-- a reader of lines: its cutter, the state that the lines so far led to, and the failure that it
+-- returned, if any
 pub record LinesRead (S F : Type 0) : Type 0 where
   pub cutter : CutterState
   pub state : S
   pub failed : Option (Failure F)
 
--- The reader was fed these bytes in all, their whole lines were lent as these, and it has refused
+-- The reader was fed these bytes in all, their whole lines were read as these, and it has rejected
 -- none.
 pub record HasLentAll {S F : Type 0} (bytes : Bytes) (lent : List LogicalLine)
     (r : LinesRead S F) : Type 0 where
   pub has : HasLent bytes lent r.cutter
   pub works : r.failed ≡ None
 
--- A reader that refused answers the same again, and stays as it is.
+-- A reader that returned a failure returns the same again, and stays as it is.
 abbrev pub StaysRefused : {S F : Type 0} → LinesRead S F → Result Unit (Failure F)
     → LinesRead S F → Type 0
 StaysRefused {S} {F} old result new =
     (failure : Failure F) → old.failed ≡ Some failure → (result ≡ Err failure) × (new ≡ old)
 
--- What `feed` answers and leaves: more lines were lent, and all passed; or the next one after
--- those that passed has this fault, or memory was refused. By all bytes fed, this call's with them,
--- and by the lines lent before.
+-- What `feed` returns and leaves: more lines were read, and all passed; or the next one after those
+-- that passed has this fault, or an allocation failed. By all bytes fed, this call's with them, and
+-- by the lines read before.
 abbrev pub FeedsLines : {S F : Type 0} → Passes S → RefusesWith S F → (CutFault → F)
     → Bytes → List LogicalLine → S → Result Unit (Failure F) → LinesRead S F → Type 0
 FeedsLines passes refuses of_cutter bytes lent old (Ok u) new =
@@ -119,8 +119,8 @@ FeedsLines passes refuses of_cutter bytes lent old (Err failure) new =
 abbrev pub IsTruncated : Bytes → Type 0
 IsTruncated rest = (0 < length rest) × (length rest < line_limit) × (line_end rest ≡ None)
 
--- What `finish` answers: where the bytes are whole lines, the state that they led to, and the
--- number of the line that would come next; else that the last line has no end.
+-- What `finish` returns: if the bytes are whole lines, the state that they led to, and the number
+-- of the line that would come next; else that the last line has no end.
 abbrev pub EndsLines : {S F : Type 0} → (CutFault → F) → Bytes → List LogicalLine → S
     → Result (S × ℕ) (Failure F) → Type 0
 EndsLines of_cutter bytes lent state (Ok end) = (end.0 ≡ state) × BeginsWith bytes lent end.1 []

@@ -1,4 +1,4 @@
--- What is read of a line, joined to what its bytes spell (Ninja 1.11 manual, "Lexical syntax").
+-- What is read of a line, joined to what its bytes stand for (Ninja 1.11 manual, "Lexical syntax").
 use Rattle.std.specs.Prelude.{◌≡◌, ℕ, Bool, false, not, ◌||◌, ◌==◌, IsTrue, [], ◌∷◌, ◌++◌, None}
 use Rattle.ninja_text.specs.Bytes.{Byte, Text, nul, line_feed, carriage_return, space, dollar}
 use Rattle.ninja_text.specs.declared.token.TokenKind.TheVariants.{Word}
@@ -8,13 +8,13 @@ use Rattle.ninja_text.specs.Tokens.{SeenToken, value_of}
 use Rattle.ninja_text.specs.Assignments.{SeenAssignment}
 use Rattle.ninja_text.specs.Escapes.{is_escaped, IsGap, Spells}
 
--- A line that a cutter can lend, that is no comment, and whose text has no lexical fault.
+-- A line that a cutter can return, that is no comment, and whose text has no lexical fault.
 pub record IsFaultless (line : Text) : Type 0 where
   pub is_line : IsLine line
   pub no_comment : is_comment line ≡ false
   pub no_fault : lexical_fault (text_of_line line) ≡ None
 
--- If the token is a word, its bytes spell what is read of them.
+-- If the token is a word, its bytes stand for what is read of them.
 abbrev pub IsReadAsSpelled : SeenToken → Type 0
 IsReadAsSpelled t = t.kind ≡ Word → Spells t.raw (value_of t.raw)
 
@@ -39,6 +39,6 @@ SpellsValue raw (b ∷ bs) = (gap : Text) × (piece : Text) × (rest : Text)
     × IsGap gap × IsValuePiece piece b × (piece ≡ space ∷ [] → gap ≡ [])
     × SpellsValue rest bs × (raw ≡ gap ++ (piece ++ rest))
 
--- The bytes of the assignment's value spell what is read of them.
+-- The bytes of the assignment's value stand for what is read of them.
 abbrev pub IsValueAsSpelled : SeenAssignment → Type 0
 IsValueAsSpelled a = SpellsValue a.raw_value (value_of a.raw_value)

@@ -22,13 +22,12 @@ abbrev pub path_text : Bool → List Component → PathText
 path_text rooted list =
     if rooted then slash ∷ join_with_byte slash list else join_with_byte slash list
 
--- the text that is read: a relative path is taken from the work directory, where there is one
+-- the text that is read: a relative path is taken from the work directory, if there is one
 abbrev pub read_from : Option PathText → PathText → PathText
 read_from None path = path
 read_from (Some work) path = if is_empty work || is_rooted path then path else work ++ slash ∷ path
 
--- the list without those of its first components that are the directory's, where these are not all
--- of it
+-- the list without the directory's components, if it begins with them and has others after them
 abbrev pub below : List Component → List Component → Option (List Component)
 below [] [] = None
 below [] (c ∷ cs) = Some (c ∷ cs)
@@ -51,7 +50,7 @@ seen_from (Some build) rooted list =
 abbrev pub path_limit : ℕ
 path_limit = 4096
 
--- the canonical text, unless a byte of the text that was read has no spelling, or it is too long
+-- the canonical text, unless a byte of the text cannot be escaped, or the path is too long
 abbrev pub checked : Option ℕ → PathText → Result PathText PathFault
 checked (Some place) path = Err (Unwritable place)
 checked None path = if nat_lt path_limit (length path) then Err TooLong else Ok path

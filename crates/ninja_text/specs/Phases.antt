@@ -1,4 +1,4 @@
--- The line at hand, by the cutter's buffer and its phase.
+-- The current line, by the cutter's buffer and its phase.
 use Rattle.std.specs.Prelude.{◌≡◌, ◌<◌, Bool, true, false, [], length}
 use Rattle.ninja_text.specs.Bytes.{Bytes}
 use Rattle.ninja_text.specs.Lines.{line_limit}
@@ -8,7 +8,7 @@ use Rattle.ninja_text.specs.declared.cutter.Phase.TheVariants.{Gathering, Waitin
 use Rattle.ninja_text.specs.declared.scan.ScanState.TheVariants.{Start}
 use Rattle.ninja_text.specs.declared.scan.Scanned.TheVariants.{End, Open}
 
--- the bytes of the line at hand: those of a line that was lent count no more
+-- the bytes of the current line: those of a line that was returned no longer count
 abbrev pub bytes_in : Phase → Bytes → Bytes
 bytes_in (Gathering state) bytes = bytes
 bytes_in (Waiting text_len) bytes = bytes

@@ -7,7 +7,7 @@ use Rattle.ninja_text.specs.declared.scan.ScanState.TheVariants.{Start, Comment,
 use Rattle.ninja_text.specs.declared.scan.Scanned.{Scanned}
 use Rattle.ninja_text.specs.declared.scan.Scanned.TheVariants.{End, Open}
 
--- after a byte that begins a unit: the next state, or None where the line ends
+-- after a byte that begins a unit: the next state, or None if the line ends
 abbrev pub plain_step : ℕ → Option ScanState
 plain_step b =
     if b == line_feed then None

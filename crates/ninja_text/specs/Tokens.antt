@@ -83,7 +83,7 @@ unit_value (Byte b) = b ∷ []
 abbrev pub value_of : Text → Text
 value_of bytes = flat_map unit_value (units bytes)
 
--- the tokens that begin at an index of the text or after it, where a unit begins at that index
+-- the tokens that begin at an index of the text or after it, if a unit begins at that index
 abbrev pub tokens_at : Text → ℕ → List TokenAt
 tokens_at text index = tokens_from index (units (drop index text))
 

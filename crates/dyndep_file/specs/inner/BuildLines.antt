@@ -1,4 +1,4 @@
--- A build line's tokens after its keyword, and what reading each part of them answers.
+-- A build line's tokens after its keyword, and what reading each part of them returns.
 use Rattle.std.specs.Prelude.{◌≡◌, ℕ, false, List, ◌∷◌, ◌++◌, map, codes, Option, Some, Result, Ok, Err}
 use Rattle.ninja_text.specs.Tokens.{value_of}
 use Rattle.ninja_text.specs.declared.failure.Failure.{Failure}
@@ -25,12 +25,12 @@ IsNamed symbols s =
     (output : List ℕ) × (outputs inputs : List (List ℕ)) × Names symbols output outputs inputs
     × (s ≡ statement_with (value_of output) (map value_of outputs) (map value_of inputs) false)
 
--- The failure is this fault, or memory was refused.
+-- The failure is this fault, or an allocation failed.
 abbrev pub IsFailureOf : Option LineFault → Failure LineFault → Type 0
 IsFailureOf fault (Fault found) = fault ≡ Some found
 IsFailureOf fault Memory = Unit {0}
 
--- A part was read so, or its table has this fault, or memory was refused.
+-- A part was read so, or its table has this fault, or an allocation failed.
 abbrev pub TakesOr : {T : Type 0} → Option LineFault → (T → Type 0)
     → Result T (Failure LineFault) → Type 0
 TakesOr fault is (Ok part) = is part

@@ -1,4 +1,4 @@
--- What reading one line answers, row by row of the table of lines.
+-- What reading one line returns, row by row of the table of lines.
 use Rattle.std.specs.Prelude.{◌≡◌, ℕ, nat_lt, IsTrue, if◌then◌else◌, List, length, map, codes, Option, None, Some, Result, Ok, Err}
 use Rattle.ninja_text.specs.Lines.{LogicalLine}
 use Rattle.ninja_text.specs.Tokens.{value_of}
@@ -14,7 +14,7 @@ use Rattle.dyndep_file.specs.declared.fault.ReadFault.{ReadFault}
 use Rattle.dyndep_file.specs.declared.fault.ReadFault.TheVariants.{AtLine, Io}
 
 -- Either the line is of a class that may come here, and the statements are those after it, or it
--- has this fault, or memory was refused.
+-- has this fault, or an allocation failed.
 abbrev pub PassesOr : Option LineFault → (DyndepClass → Type 0) → ProgressValue
     → Result Unit (Failure LineFault) → ProgressValue → Type 0
 PassesOr fault is old (Ok u) new =
@@ -33,7 +33,7 @@ abbrev pub with_name : List ℕ → Option SeenAssignment → Option SeenAssignm
 with_name name None = None
 with_name name (Some a) = if same_bytes a.name name then Some a else None
 
--- The assignment sets `restat`, and the flag is on where the value is not empty.
+-- The assignment sets `restat`, and the flag is on if the value is not empty.
 abbrev pub IsBindingOf : Option SeenAssignment → DyndepClass → Type 0
 IsBindingOf found c =
     (a : SeenAssignment) × (found ≡ Some a) × (a.name ≡ codes "restat")
@@ -49,7 +49,7 @@ IsVersionLineOf found c =
     (a : SeenAssignment) × (found ≡ Some a) × (a.name_start ≡ 0)
     × (a.name ≡ codes "ninja_dyndep_version") × IsVersionOf (value_of a.raw_value) c
 
--- What reading a line answers, and what it does to the statements so far.
+-- What reading a line returns, and what it does to the statements so far.
 abbrev pub ReadsLine : ProgressValue → LogicalLine → Result Unit (Failure ReadFault)
     → ProgressValue → Type 0
 ReadsLine old line (Ok u) new =

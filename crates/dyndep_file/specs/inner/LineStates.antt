@@ -1,5 +1,5 @@
 -- What a line does to the statements so far, as `LineState` of `ninja_text` asks for it, and what
--- is answered at the end.
+-- is returned at the end.
 use Rattle.std.specs.Prelude.{ℕ, List, Result, Ok, Err}
 use Rattle.ninja_text.specs.Lines.{LogicalLine}
 use Rattle.ninja_text.specs.declared.failure.Failure.{Failure}
@@ -28,7 +28,7 @@ abbrev pub fault_of_cutter : CutFault → ReadFault
 fault_of_cutter (cut.LineTooLong line) = AtLine line LineTooLong
 fault_of_cutter (cut.Truncated line) = AtLine line Truncated
 
--- what is answered once all lines were read: the statements, or that no version line came before
+-- what is returned once all lines were read: the statements, or that no version line came before
 -- this line
 abbrev pub answer_at_end : Stage → List StatementValue → ℕ
     → Result (List StatementValue) (Failure ReadFault)

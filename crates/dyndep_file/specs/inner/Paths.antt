@@ -7,6 +7,6 @@ use Rattle.std.specs.declared.alloc.Global.{Global}
 abbrev pub texts : List (Vec ℕ Global) → List (List ℕ)
 texts paths = map (λ path. path.items) paths
 
--- the bytes of paths that are lent
+-- the bytes of borrowed paths
 abbrev pub lent_texts : List (Bor (List ℕ)) → List (List ℕ)
 lent_texts paths = map (λ path. path.now) paths

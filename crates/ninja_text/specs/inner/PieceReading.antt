@@ -7,7 +7,7 @@ use Rattle.ninja_text.specs.declared.failure.Failure.{Failure}
 use Rattle.ninja_text.specs.declared.failure.Failure.TheVariants.{Memory, Fault}
 use Rattle.ninja_text.specs.declared.fault.CutFault.{CutFault}
 
--- What reading a piece answers, and which cutter and state it leaves.
+-- What reading a piece returns, and which cutter and state it leaves.
 abbrev pub ReadsPiece : {S F : Type 0} → Passes S → RefusesWith S F → (CutFault → F)
     → List ℕ → List LogicalLine → S → Result Unit (Failure F) → CutterState → S → Type 0
 ReadsPiece passes refuses of_cutter bytes lent old (Ok u) cutter new =

@@ -7,7 +7,7 @@ use Rattle.clap.specs.Simple.{app_of_fields}
 use Rattle.command_line.specs.inner.Parses.{command_app, top}
 use Rattle.command_line.proofs.arguments.program.Goals as goal
 
--- what is made of an app that may be refused
+-- what is made of an app for which an allocation may fail
 added : (f : App → App) (old new : Result Command AllocError) (a : App) →
     IfOk old (λ above. app_of above ≡ a) →
     IfOk new (λ c. IsOkAnd old (λ above. app_of c ≡ f (app_of above))) →

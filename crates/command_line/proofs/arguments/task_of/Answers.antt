@@ -16,6 +16,6 @@ returns c =
     c.in_ok-command.ensures (all_text arguments) c.in-Err.ensures.kinds
     (λ e. c.in_default.not-OutOfMemory (c.kind.ensures ∙ e))
 
--- said here, so that a body which does something else is refused soon
+-- stated here, so that a body which does something else is rejected soon
 pub returns-in-OutOfMemory : goal.returns-in-OutOfMemory
 returns-in-OutOfMemory c = search rules
