@@ -1,4 +1,4 @@
--- A text stays text where each colon becomes a dash.
+-- UTF-8 stays UTF-8 if each colon becomes a dash.
 use Rattle.std.proofs.Common.{◌≡◌, ℕ, ◌<◌, ◌≤◌, List, [], ◌∷◌, ◌++◌, map, Bool, true, false, IsUtf8, refl, sym, ap, ap₂, ◌∙◌, ◌⊎◌, inl, inr, ◌&&◌, arith, rules, length}
 use Rattle.std.proofs.lemmas.List.{map-append}
 use Rattle.std.specs.Char.{encode_utf8}

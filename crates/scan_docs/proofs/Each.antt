@@ -11,7 +11,7 @@ use Rattle.scan_docs.specs.declared.fault.DocFault.{DocFault}
 use Rattle.scan_docs.specs.Check.{Check, first_refusal, each_from}
 use Rattle.scan_docs.specs.inner.Reading.{first_failure}
 
--- ---- what a call answers, and the refusal
+-- ---- what a call returns, and the rejection
 
 none_of : (holds : Bool) (f : DocFault) (r : Option (Failure DocFault)) (s : Option DocFault) → cond holds r (Some (Fault f)) ≡ None → (r ≡ None → s ≡ None) → cond holds s (Some f) ≡ None
 none_of true f r s e k = k e
@@ -43,12 +43,12 @@ either : {F : Type 0} (holds : Bool) (f : F) (r s : Option F) → cond holds (op
 either true f r s = refl
 either false f r s = refl
 
--- the first checks decide, and where they hold the others
+-- the first checks decide, and if they hold the others decide
 pub failure_of_both : (a b : List Check) → first_failure (a ++ b) ≡ option_or (first_failure a) (first_failure b)
 failure_of_both [] b = refl
 failure_of_both (c ∷ cs) b = ap (λ r. cond c.holds r (Some (Fault c.refusal))) (failure_of_both cs b) ∙ either c.holds (Fault c.refusal) (first_failure cs) (first_failure b)
 
--- where the first checks hold, the others decide
+-- if the first checks hold, the others decide
 pub failure_after : (a b : List Check) → first_failure a ≡ None → first_failure (a ++ b) ≡ first_failure b
 failure_after [] b e = refl
 failure_after (c ∷ cs) b e = none_step c.holds (Fault c.refusal) (first_failure cs) (first_failure (cs ++ b)) (first_failure b) e (failure_after cs b)
@@ -57,7 +57,7 @@ pub refusal_after : (a b : List Check) → first_refusal a ≡ None → first_re
 refusal_after [] b e = refl
 refusal_after (c ∷ cs) b e = none_step c.holds c.refusal (first_refusal cs) (first_refusal (cs ++ b)) (first_refusal b) e (refusal_after cs b)
 
--- a refusal of the first checks is that of all
+-- if the first checks reject, all together reject with the same fault
 pub failure_before : (a b : List Check) (f : Failure DocFault) → first_failure a ≡ Some f → first_failure (a ++ b) ≡ Some f
 failure_before [] b f e = absurd (cc)
 failure_before (c ∷ cs) b f e = some_step c.holds (Fault c.refusal) f (first_failure cs) (first_failure (cs ++ b)) e (failure_before cs b f)

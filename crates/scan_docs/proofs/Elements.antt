@@ -16,6 +16,6 @@ elements_items_of (d ∷ ds) = ap (λ r. d ∷ r) (elements_items_of ds)
 pub All-grow : {A : Type 0} (P : A → Type 0) (xs : List A) (i : ℕ) (x : A) → i < length xs → x ≡ get_or xs i x → P x → All P (take i xs) → All P (take (i + 1) xs)
 All-grow P xs i x lt is p h = All-more P xs i x lt h (subst P is p)
 
--- what holds of the first i holds of all where there are no more
+-- what holds of the first i holds of all if there are no more
 pub All-end : {A : Type 0} (P : A → Type 0) (xs : List A) (i : ℕ) → length xs ≤ i → All P (take i xs) → All P xs
 All-end {A} P xs i le h = let Q : List A → Type 0 = All P in subst Q (take_all i xs le) h

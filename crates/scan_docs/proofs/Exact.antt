@@ -1,4 +1,4 @@
--- Bytes have one answer at most, and the value of an accepted document is that of the function of its bytes.
+-- Bytes have one result at most, and the value of an accepted document is that of the function of its bytes.
 use Rattle.std.proofs.Common.{◌≡◌, ℕ, List, Some, None, sym, ap, ◌∙◌, arith}
 use Rattle.serde_json.specs.Data.{Data}
 use Rattle.scan_docs.specs.declared.fault.DocFault.{DocFault}

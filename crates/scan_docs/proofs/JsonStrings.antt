@@ -72,7 +72,7 @@ passes x = elim (cases_lt x 32) [
   ]
 ]
 
--- a string is read back, where what comes after it makes it a value and no key
+-- a string is read back if what follows makes it a value and not a key
 pub string_read : (s r : List ℕ) (ts : List Token) → tokens (34 ∷ 34 ∷ r) ≡ text_token false [] ∷ ts → tokens (34 ∷ (flat_map escaped s ++ 34 ∷ r)) ≡ text_token false s ∷ ts
 string_read [] r ts h = h
 string_read (x ∷ s) r ts h = ap (λ l. tokens (34 ∷ l)) (append_assoc (escaped x) (flat_map escaped s) (34 ∷ r)) ∙ passes x s _ ts (string_read s r ts h)

@@ -17,4 +17,3 @@ pub mod Sending
 pub mod Outcome
 pub mod AllNames
 pub mod PathTexts
-pub mod Examples

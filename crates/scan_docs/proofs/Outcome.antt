@@ -1,4 +1,4 @@
--- What a document's reader answers, from what the reader of its tree answers.
+-- What a document's reader returns, from what the reader of its tree returns.
 use Rattle.std.proofs.Common.{◌≢◌, ℕ, ◌≤◌, List, length, Result, Ok, Err, IfOk, IfErr}
 use Rattle.ninja_text.specs.Failure.{ForFault}
 use Rattle.ninja_text.specs.declared.failure.Failure.{Failure}
@@ -14,7 +14,7 @@ apart : {F : Type 0} (f : F) → Fault f ≢ Memory
 apart f e = cc
 
 module _ {T V : Type 0} (see : T → V) (checks : Data → List Check) (means : Data → V → Type 0) (bytes : List ℕ) (tree : Data) (small : length bytes ≤ document_limit) (reads : IsTree bytes tree) where
-  -- what follows of an accepted value holds of the answer
+  -- what follows from an accepted value holds of the result
   pub holds : (P : V → Type 0) → ((v : V) → IsAccepted checks means bytes v → P v) → (result : Result T (Failure DocFault)) → Answers (checks tree) (λ x. means tree (see x)) result → IfOk result (λ x. P (see x))
   holds P k (Ok x) h = k (see x) (record { small = small; tree = tree; reads = reads; passes = none_refused (checks tree) h.0; meaning = h.1 })
   holds P k (Err e) h = tt

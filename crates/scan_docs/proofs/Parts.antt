@@ -4,7 +4,7 @@ use Rattle.std.specs.List.{list_all, slice_split, onto_first}
 use Rattle.std.proofs.lemmas.Grind.{common_steps}
 use Rattle.scan_docs.specs.Name.{is_separator, is_not_empty, is_name_byte}
 
--- whether the parts of the rest are full, where the part that is being read is empty so far or not
+-- whether no part of the rest is empty, if the part that is being read is empty so far or not
 abbrev full_from : Bool → List ℕ → Bool
 full_from fresh [] = not fresh
 full_from fresh (x ∷ xs) = if is_separator x then not fresh && full_from true xs else full_from false xs
@@ -43,7 +43,7 @@ onward_all (p ∷ ps) = refl
 full_parts : (xs : List ℕ) → full_from true xs ≡ list_all is_not_empty (slice_split is_separator xs)
 full_parts xs = from_onward true xs ∙ onward_all (slice_split is_separator xs)
 
--- whether the rest has one colon at most, or none where one was read
+-- whether the rest has one colon at most, or none if one was read
 abbrev few_colons : Bool → List ℕ → Bool
 few_colons colon xs = nat_le (count_by (λ b. b == 58) xs) (if colon then 0 else 1)
 

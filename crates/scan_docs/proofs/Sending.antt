@@ -22,7 +22,7 @@ pub entry_sent : {A : Type 0} (f : A → Data) (xs : List A) (i : ℕ) (x : A) (
 entry_sent f xs i x old mid end lt is h rest =
     subst (λ ys. SendsItems (items_of (map f ys)) old end) (sym (drop_more xs i x lt)) (mid, subst (λ y. SendsValue (f y) old mid) is h, rest)
 
--- the whole array, where no entry is left
+-- the whole array, if no entry is left
 pub array_sent : {A : Type 0} (f : A → Data) (xs : List A) (i : ℕ) (old first last new : Log)
     → length xs ≤ i → Logs old first (seq_begins (Some (length xs)))
     → ((end : Log) → SendsItems (items_of (map f (drop i xs))) last end → SendsItems (items_of (map f xs)) first end)

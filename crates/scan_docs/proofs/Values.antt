@@ -1,8 +1,8 @@
 -- What a document means is the value of the functions.
-use Rattle.std.proofs.Common.{◌≡◌, ℕ, List, [], ◌∷◌, map, Bool, false, Option, Some, None, Result, Ok, refl, sym, ap, ap₂, unwrap_or, ◌∙◌}
-use Rattle.std.specs.List.{AllZip}
+use Rattle.std.proofs.Common.{◌≡◌, ℕ, List, [], Bool, false, Option, Some, None, Result, Ok, refl, sym, ap, ap₂, unwrap_or, ◌∙◌}
 use Rattle.serde_json.specs.Data.{Data, null}
 use Rattle.ninja_text.specs.Paths.{path_of, placed}
+use Rattle.ninja_text.proofs.ForCallers.{zip_is_map}
 use Rattle.ninja_text.specs.declared.fault.PathFault.{PathFault}
 use Rattle.scan_docs.specs.declared.member.Member.TheVariants as m
 use Rattle.scan_docs.specs.declared.map_form.MapForm.{MapForm}
@@ -23,12 +23,6 @@ path_is r p e = rw e refl
 some_is : {A : Type 0} (o : Option A) (x other : A) → o ≡ Some x → x ≡ unwrap_or o other
 some_is o x other e = rw e refl
 
-all_are : {A B : Type 0} (R : A → B → Type 0) (f : A → B) → ((a : A) (b : B) → R a b → b ≡ f a) → (xs : List A) (ys : List B) → AllZip R xs ys → ys ≡ map f xs
-all_are R f is [] [] h = refl
-all_are R f is [] (y ∷ ys) h = absurd h
-all_are R f is (x ∷ xs) [] h = absurd h
-all_are R f is (x ∷ xs) (y ∷ ys) h = ap₂ (λ a b. a ∷ b) (is x y h.0) (all_are R f is xs ys h.1)
-
 -- ---- scan documents
 
 module _ (s : SettingValue) where
@@ -41,12 +35,12 @@ module _ (s : SettingValue) where
   rule_is : (d : Data) (rule : RuleValue) → IsRule s d rule → rule ≡ rule_in s d
   rule_is d rule h =
       let object = path_is (object_of s d) rule.object h.object in
-      let provided = all_are (IsProvidedModule s (text m.WorkDirectory d)) (provided_in s (text m.WorkDirectory d)) (provided_is (text m.WorkDirectory d)) (entries_of m.Provides d) rule.provided h.provided in
-      let required = all_are IsRequired (text_of m.LogicalName) required_is (entries_of m.Requires d) rule.required h.required in
+      let provided = zip_is_map (IsProvidedModule s (text m.WorkDirectory d)) (provided_in s (text m.WorkDirectory d)) (provided_is (text m.WorkDirectory d)) (entries_of m.Provides d) rule.provided h.provided in
+      let required = zip_is_map IsRequired (text_of m.LogicalName) required_is (entries_of m.Requires d) rule.required h.required in
       ap₂ (λ a (r : List (List ℕ × List ℕ) × List (List ℕ)). record { object = a; provided = r.0; required = r.1 }) object (ap₂ (λ b c. (b, c)) provided required)
 
   pub rules_are : (d : Data) (rules : List RuleValue) → AreRules s d rules → rules ≡ rules_in s d
-  rules_are d rules h = all_are (IsRule s) (rule_in s) rule_is (entries_of m.Rules d) rules h
+  rules_are d rules h = zip_is_map (IsRule s) (rule_in s) rule_is (entries_of m.Rules d) rules h
 
 -- ---- info documents
 
@@ -57,14 +51,14 @@ module_is : (with_visibility : Bool) (d : Data) (entry : ModuleValue) → IsModu
 module_is with_visibility d entry h =
     let name = some_is (text m.Name d) entry.name [] h.name in
     let file = path_is (path_of (text_of m.Bmi d)) entry.file h.file in
-    let required = all_are IsRequirement requirement_in requirement_is (entries_of m.Requires d) entry.required h.required in
+    let required = zip_is_map IsRequirement requirement_in requirement_is (entries_of m.Requires d) entry.required h.required in
     let visibility = some_is (privacy with_visibility d) entry.is_private false h.visibility in
     ap₂ (λ (p : List ℕ × List ℕ) (r : List (List ℕ × List ℕ) × Bool). record { name = p.0; file = p.1; required = r.0; is_private = r.1 }) (ap₂ (λ a b. (a, b)) name file) (ap₂ (λ a b. (a, b)) required visibility)
 
 pub info_is : (d : Data) (info : InfoValue) → IsInfo d info → info ≡ info_in d
 info_is d info h =
     ap₂ (λ a b. record { target = a; modules = b }) (some_is (text m.Target d) info.target [] h.target)
-    (all_are (IsModule (has_visibility d)) (module_in (has_visibility d)) (module_is (has_visibility d)) (entries_of m.Modules d) info.modules h.modules)
+    (zip_is_map (IsModule (has_visibility d)) (module_in (has_visibility d)) (module_is (has_visibility d)) (entries_of m.Modules d) info.modules h.modules)
 
 -- ---- target documents
 

@@ -24,7 +24,7 @@ pub record RuleValue : Type 0 where
 
 -- ---- what the members stand for
 
--- where the object file lies, if its path is accepted
+-- the path of the object file, if it is accepted
 abbrev pub object_of : SettingValue → Data → Result PathText PathFault
 object_of s rule = placed (text m.WorkDirectory rule) s.build_dir (text_of m.PrimaryOutput rule)
 
@@ -32,7 +32,7 @@ object_of s rule = placed (text m.WorkDirectory rule) s.build_dir (text_of m.Pri
 abbrev pub dashed : ℕ → ℕ
 dashed b = if b == colon then hyphen else b
 
--- the name of a module's file where the document names none
+-- the name of a module's file if the document names none
 abbrev pub joined_file : PathText → Name → Text → PathText
 joined_file dir name ext =
     (if length dir == 0 then [] else dir ++ slash ∷ []) ++ map dashed name ++ ext
@@ -47,7 +47,7 @@ abbrev pub file_from : SettingValue → Option PathText → Name → Option Text
 file_from s work name (Some path) = placed work s.build_dir path
 file_from s work name None = placed None s.build_dir (made_file s name)
 
--- where a provided module's file lies, if its path is accepted
+-- the path of a provided module's file, if it is accepted
 abbrev pub module_file_of : SettingValue → Option PathText → Data → Result PathText PathFault
 module_file_of s work entry =
     file_from s work (text_of m.LogicalName entry) (text m.CompiledModulePath entry)

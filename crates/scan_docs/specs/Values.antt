@@ -14,7 +14,7 @@ use Rattle.scan_docs.specs.Info.{ModuleValue, InfoValue, has_visibility, privacy
 use Rattle.scan_docs.specs.Target.{TargetDocumentValue, build_dir, map_form, restat}
 use Rattle.scan_docs.specs.Project.{ProjectValue}
 
--- the tree of the bytes; where they have none that of `null`, which has no members
+-- the tree of the bytes, or if they have none that of `null`, which has no members
 abbrev pub tree_of : Bytes → Data
 tree_of bytes = unwrap_or (read bytes) null
 

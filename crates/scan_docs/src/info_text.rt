@@ -10,7 +10,7 @@ ghost use Rattle.scan_docs.specs.InfoText.{requirements_tree, module_tree, info_
 ghost use Rattle.scan_docs.specs.Sound.{IsSoundPair, IsSoundModule, IsSoundInfo};
 ghost use Rattle.scan_docs.specs.inner.Writing.{SendsText, BeginsNamedFile};
 
-use crate::info::{Info, InfoModule};
+use crate::info::Info;
 use crate::name::Name;
 use crate::target_name::TargetName;
 use ninja_text::Path;
@@ -79,23 +79,17 @@ fn lent_info<'i>(alloc: Global, info: &'i Info) -> Result<LentInfo<'i>, AllocErr
 {
     let mut modules = Vec::with_capacity(alloc, info.modules.len())?;
     for entry in &info.modules {
-        modules.push(lent_module(entry))?;
+        modules.push(LentModule {
+            name: &entry.name,
+            file: &entry.file,
+            required: &entry.required,
+            is_private: entry.is_private,
+        })?;
     }
     Ok(LentInfo {
         target: &info.target,
         modules,
     })
-}
-
-fn lent_module(entry: &InfoModule) -> LentModule<'_>
-    ensures { result ≡ entry.now }
-{
-    LentModule {
-        name: &entry.name,
-        file: &entry.file,
-        required: &entry.required,
-        is_private: entry.is_private,
-    }
 }
 
 /// Returns the document that [`info_write`] returns for the same info.

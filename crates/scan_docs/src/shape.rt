@@ -14,7 +14,7 @@ use ninja_text::Failure;
 use serde_json::Value;
 use std::alloc::{AllocError, Global};
 
-/// The value has to be an object.
+/// Checks that the value is an object.
 pub(crate) fn check_object(
     value: &Value,
     what: Member,
@@ -29,7 +29,7 @@ pub(crate) fn check_object(
     }
 }
 
-/// The member's value, unless it is absent or null.
+/// Returns the member's value, unless it is absent or null.
 pub(crate) fn given<'v>(object: &'v Value, member: Member) -> Option<&'v Value>
     ensures { option_map (λ v. view v.now) result ≡ given member (view object.now) }
 {
@@ -39,7 +39,7 @@ pub(crate) fn given<'v>(object: &'v Value, member: Member) -> Option<&'v Value>
     }
 }
 
-/// The elements of an array.
+/// Returns the elements of an array.
 #[tactic(auto, using(crate::proofs::Elements::elements_items_of))]
 fn elements<'v>(value: &'v Value) -> Option<&'v [Value]>
     ensures { option_map (λ vs. map view vs.now) result
@@ -51,7 +51,7 @@ fn elements<'v>(value: &'v Value) -> Option<&'v [Value]>
     }
 }
 
-/// The member's text, or nothing where it is absent or null.
+/// Returns the member's string, or `None` if the member is absent or null.
 pub(crate) fn text<'v>(
     object: &'v Value,
     member: Member,
@@ -69,7 +69,7 @@ pub(crate) fn text<'v>(
     }
 }
 
-/// The member's text, which has to be there.
+/// Returns the member's string. The member is required.
 pub(crate) fn required_text<'v>(
     object: &'v Value,
     member: Member,
@@ -84,7 +84,7 @@ pub(crate) fn required_text<'v>(
     }
 }
 
-/// A copy of the member's text, which has to be there.
+/// Returns a copy of the member's string. The member is required.
 pub(crate) fn owned_text(
     alloc: Global,
     object: &Value,
@@ -98,7 +98,7 @@ pub(crate) fn owned_text(
     Ok(String::from_str(alloc, text)?)
 }
 
-/// The member's truth value, or nothing where it is absent or null.
+/// Returns the member's truth value, or `None` if the member is absent or null.
 pub(crate) fn flag(
     object: &Value,
     member: Member,
@@ -116,7 +116,7 @@ pub(crate) fn flag(
     }
 }
 
-/// The member's entries, or none where it is absent or null.
+/// Returns the member's entries, or none if the member is absent or null.
 pub(crate) fn entries<'v>(
     object: &'v Value,
     member: Member,
@@ -134,7 +134,7 @@ pub(crate) fn entries<'v>(
     }
 }
 
-/// The member's entries, which have to be there.
+/// Returns the member's entries. The member is required.
 pub(crate) fn required_entries<'v>(
     object: &'v Value,
     member: Member,
@@ -149,7 +149,7 @@ pub(crate) fn required_entries<'v>(
     }
 }
 
-/// The member's texts, or none where it is absent or null.
+/// Returns the member's strings, or none if the member is absent or null.
 pub(crate) fn texts(
     alloc: Global,
     object: &Value,
@@ -165,7 +165,7 @@ pub(crate) fn texts(
     }
 }
 
-/// The member's texts, which have to be there.
+/// Returns the member's strings. The member is required.
 pub(crate) fn required_texts(
     alloc: Global,
     object: &Value,
@@ -181,7 +181,7 @@ pub(crate) fn required_texts(
     }
 }
 
-/// The values as texts, or None where one is no text.
+/// Returns the values as strings, or `None` if one is not a string.
 fn copy_texts(alloc: Global, values: &[Value]) -> Result<Option<Vec<String>>, AllocError>
     ensures { IfOk result
         (λ found. option_map (λ v. map string_bytes v.items) found
@@ -198,7 +198,7 @@ fn copy_texts(alloc: Global, values: &[Value]) -> Result<Option<Vec<String>>, Al
     Ok(Some(found))
 }
 
-/// Appends the member's text, if it has one.
+/// Appends the member's string, if it has one.
 pub(crate) fn push_text(
     texts: &mut Vec<u8>,
     object: &Value,
@@ -213,14 +213,14 @@ pub(crate) fn push_text(
     }
 }
 
-/// The member's entries, or none if it is no array.
+/// Returns the member's entries, or none if it is not an array.
 pub(crate) fn entries_or_none<'v>(object: &'v Value, member: Member) -> &'v [Value]
     ensures { map view result.now ≡ entries_of member (view object.now) }
 {
     given(object, member).and_then(elements).unwrap_or(&[])
 }
 
-/// Appends the text of the member of each object.
+/// Appends the string of the member of each object.
 pub(crate) fn push_texts(
     texts: &mut Vec<u8>,
     objects: &[Value],

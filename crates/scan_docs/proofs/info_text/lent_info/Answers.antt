@@ -7,7 +7,9 @@ loop-entry-preserved c =
     let modules = c.args.info.now.modules in
     let lt = rw (c.deref-entry-items.ensures.value, ap (λ v. v.modules) c.info.view_is) at c.loop-entry-test.true in
     let is = rw (c.deref-entry-items.ensures.value, ap (λ v. v.modules) c.info.view_is) at c.entry-item.is in
-    rw (c.in_ok-push.ensures.items, c.loop-entry.invariant, c.lent_module.ensures) (sym (take_more modules c.loop-entry.entry-index c.entry-item.result lt ∙ ap (λ v. take c.loop-entry.entry-index modules ++ v ∷ []) (sym is)))
+    rw (c.in_ok-push.ensures.items, c.loop-entry.invariant, c.deref.ensures.value)
+    (ap (λ v. take c.loop-entry.entry-index modules ++ v ∷ []) c.entry.view_is
+    ∙ sym (take_more modules c.loop-entry.entry-index c.entry-item.result lt ∙ ap (λ v. take c.loop-entry.entry-index modules ++ v ∷ []) (sym is)))
 
 pub returns : goal.returns
 returns c =

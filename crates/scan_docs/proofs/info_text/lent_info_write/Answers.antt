@@ -1,5 +1,6 @@
-use Rattle.std.proofs.Common.{◌≡◌, ℕ, List, [], Some, Result, Ok, Err, IfOk, MatchResult, is_ok, subst, sym}
+use Rattle.std.proofs.Common.{◌≡◌, ℕ, List, [], Some, subst, sym}
 use Rattle.std.proofs.lemmas.Result.{IfOk-weaker}
+use Rattle.ninja_text.proofs.ForCallers.{with_other_error}
 use Rattle.serde.specs.Event.{Log}
 use Rattle.serde_json.specs.Events.{SendsValue}
 use Rattle.serde_json.specs.Sent.{IsTextOf}
@@ -9,12 +10,6 @@ use Rattle.scan_docs.specs.InfoText.{info_tree, info_text, ReadsBack}
 use Rattle.scan_docs.proofs.Sending.{info_plain}
 use Rattle.scan_docs.proofs.InfoTexts.{text_again}
 use Rattle.scan_docs.proofs.info_text.lent_info_write.Goals as goal
-
--- an error in another's place leaves what is told of a success
-with_other_error : {A E D : Type 0} (P : A → Type 0) (Q : E → Type 0) (r : Result A E) (s : Result A D) → MatchResult r (λ x. s ≡ Ok x) Q → is_ok s ≡ is_ok r → IfOk r P → IfOk s P
-with_other_error P Q (Ok x) s h same p = subst (λ t. IfOk t P) (sym h) p
-with_other_error P Q (Err e) (Ok x) h same p = absurd cc
-with_other_error P Q (Err e) (Err d) h same p = tt
 
 text_of_info : (info : InfoValue) (log : Log) (text : List ℕ) → SendsValue (info_tree info) (Some []) log → IsTextOf log text → text ≡ info_text info
 unfolding info_text
