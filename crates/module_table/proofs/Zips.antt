@@ -23,6 +23,13 @@ zip_numbered R f g n (x ∷ xs) h =
       zip_numbered R f g (n + 1) xs (λ k y at. let there : n + suc k ≡ (n + 1) + k = omega arith in subst (λ m. R (f y) (g (m, y))) there (h (suc k) y at)),
     )
 
+-- the same with the lists the other way round
+pub zip_flip : {A B : Type 0} (R : A → B → Type 0) (xs : List A) (ys : List B) → AllZip (λ y x. R x y) ys xs → AllZip R xs ys
+zip_flip R [] [] h = tt
+zip_flip R [] (y ∷ ys) h = absurd h
+zip_flip R (x ∷ xs) [] h = absurd h
+zip_flip R (x ∷ xs) (y ∷ ys) h = (h.0, zip_flip R xs ys h.1)
+
 -- what is beside an element
 pub zip_there : {A B : Type 0} (R : A → B → Type 0) (xs : List A) (ys : List B) (k : ℕ) (x : A) → AllZip R xs ys → slice_get xs k ≡ Some x → (y : B) × (slice_get ys k ≡ Some y) × R x y
 zip_there R [] ys k x h at = cc

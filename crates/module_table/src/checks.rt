@@ -13,14 +13,14 @@ ghost use Rattle.module_table.specs.inner.Origins.{origin_of};
 ghost use Rattle.module_table.specs.inner.Found.{AreLookedUp};
 ghost use Rattle.module_table.specs.inner.Passed.{Passed};
 ghost use Rattle.module_table.specs.inner.Numbered.{AreIndexes};
+ghost use Rattle.module_table.specs.inner.Graph.{AreModuleRows};
 ghost use Rattle.module_table.specs.inner.LookUps.{AreLookUps};
 ghost use Rattle.module_table.specs.inner.Views.{paths_of};
 
 use crate::fault::{Maker, TableFault};
-use crate::graph::module_graph;
 use crate::modules::{Module, Modules};
 use crate::pairs::all_pairs;
-use crate::requirements::{InfoRequired, all_required};
+use crate::requirements::{InfoRequired, all_required, object_rows};
 use dep_order::Digraph;
 use indexmap::IndexSet;
 use ninja_text::{Failure, Path};
@@ -51,23 +51,28 @@ pub(crate) struct Index {
 }
 
 impl Index {
-    /// Returns the index of these modules. `indexes[i]` are the modules that object i requires.
+    /// Returns the index of these modules. `needs` is what each module needs, and `indexes[i]` are
+    /// the modules that object i requires.
     fn new(
         alloc: Global,
         modules: Modules<'_>,
+        needs: Vec<Vec<usize>>,
         indexes: Vec<Vec<usize>>,
     ) -> Result<Index, AllocError>
-        requires { AreIndexes modules (rows indexes.items) }
+        requires needs { AreModuleRows modules (rows needs.items) }
+        requires indexes { AreIndexes modules (rows indexes.items) }
         ensures { IfOk result (λ index. AreLookUps modules.entry index.names.keys
             index.origins.items index.graph (map (λ row. row.items) index.required.items)) }
     {
         let required = all_pairs(alloc, &modules, indexes.as_slice())?;
         let origins = all_origins(alloc, modules.provided())?;
-        let graph = module_graph(alloc, &modules, origins.as_slice(), indexes)?;
+        let mut needs = needs;
+        let mut objects = indexes;
+        needs.append(&mut objects)?;
         Ok(Index {
             names: modules.into_names(),
             origins,
-            graph,
+            graph: Digraph::new(needs),
             required,
         })
     }
@@ -94,8 +99,8 @@ pub(crate) fn check_all(
         IsReported (table_with objects.now infos.now) kept.now fault.value)) }
 {
     let modules = check_repetitions(alloc, objects, infos, paths, key)?;
-    let indexes = check_requirements(alloc, &modules, kept)?;
-    let index = Index::new(alloc, modules, indexes)?;
+    let (needs, indexes) = check_requirements(alloc, &modules, kept)?;
+    let index = Index::new(alloc, modules, needs, indexes)?;
     Ok(index)
 }
 
@@ -123,19 +128,21 @@ fn check_repetitions<'t>(
     Ok(modules)
 }
 
-/// Checks M5 to M10 and returns the indexes of the modules that each object requires.
+/// Checks M5 to M10. Returns what each module needs, and the modules that each object requires.
 fn check_requirements(
     alloc: Global,
     modules: &Modules,
     kept: &[Name],
-) -> Result<Vec<Vec<usize>>, Failure<Box<TableFault>>>
+) -> Result<(Vec<Vec<usize>>, Vec<Vec<usize>>), Failure<Box<TableFault>>>
     requires { Passed 5 modules.now kept.now }
-    ensures indexes { IfOk result (λ indexes. AreIndexes modules.now (rows indexes.items)) }
+    ensures needs { IfOk result (λ all. AreModuleRows modules.now (rows all.0.items)) }
+    ensures indexes { IfOk result (λ all. AreIndexes modules.now (rows all.1.items)) }
     ensures passed { OnOk result (Passed 11 modules.now kept.now) }
     ensures fault { IfErr result (ForFault (λ fault. IsReported modules.now kept.now fault.value)) }
 {
     let indexes = check_objects_known(alloc, modules)?;
-    let required = all_required(alloc, modules)?;
+    let mut needs = object_rows(alloc, modules)?;
+    let required = all_required(alloc, modules, &mut needs)?;
     check_looked_up(
         alloc,
         modules,
@@ -143,7 +150,7 @@ fn check_requirements(
         required.as_slice(),
         kept,
     )?;
-    Ok(indexes)
+    Ok((needs, indexes))
 }
 
 /// Checks M6 to M10. `indexes[i]` are the modules that object i requires, and `required` is what

@@ -8,6 +8,7 @@ ghost use Rattle.module_table.specs.Modules.{provisions, object_provisions, info
 ghost use Rattle.ninja_text.specs.Firsts.{AllDiffer};
 ghost use Rattle.module_table.specs.inner.Views.{provision_of, names_of, IsAbsent};
 ghost use Rattle.module_table.specs.inner.Finds.{found};
+ghost use Rattle.module_table.specs.inner.Graph.{index_in};
 ghost use Rattle.module_table.specs.inner.Origins.{origins_of, object_origins, info_origins, origin_of};
 
 use crate::fault::Maker;
@@ -131,13 +132,15 @@ impl<'t> Modules<'t> {
         module_at(self.provided.as_slice(), index).name
     }
 
-    /// Returns the module of that name, if one is provided.
-    pub(crate) fn find(&self, name: &Name) -> Option<&Module<'t>>
-        ensures { option_map (λ p. provision_of p.now) result
+    /// Returns the module of that name and its index, if one is provided.
+    pub(crate) fn find(&self, name: &Name) -> Option<(usize, &Module<'t>)>
+        ensures module { option_map (λ m. provision_of m.1.now) result
             ≡ found (provisions self.now) name.now }
+        ensures index { option_map (λ m. m.0) result
+            ≡ index_in (names_of (provisions self.now)) name.now }
     {
         match index_of(&self.names, name) {
-            Some(index) => Some(module_at(self.provided.as_slice(), index)),
+            Some(index) => Some((index, module_at(self.provided.as_slice(), index))),
             None => None,
         }
     }
@@ -249,6 +252,7 @@ pub(crate) fn module_at<'p, 't>(provided: &'p [Module<'t>], index: usize) -> &'p
 
 /// Returns the index of the name, if it is there.
 pub(crate) fn index_of(names: &IndexSet<Name, TableKey>, name: &Name) -> Option<usize>
+    ensures index { result ≡ index_in names.now.keys name.now }
     ensures found { IfSome result (λ index. slice_get names.now.keys index ≡ Some name.now) }
     ensures none { IfNone result
         ((index : ℕ) → slice_get names.now.keys index ≡ Some name.now → ⊥) }

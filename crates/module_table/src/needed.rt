@@ -2,21 +2,21 @@
 ghost use Rattle.std.specs.Prelude.{◌≡◌, ◌<◌, ◌+◌, ◌^◌, ℕ, List, All, map, length, slice_get, Some, IfOk};
 ghost use Rattle.std.specs.List.{filter_map};
 ghost use Rattle.ninja_text.specs.Bytes.{PathText, Name};
+ghost use Rattle.scan_docs.specs.Info.{ModuleValue};
 ghost use Rattle.module_table.specs.TableValue.{table_with};
 ghost use Rattle.module_table.specs.Needed.{ArePairs, IsNeeded, lent};
 ghost use Rattle.module_table.specs.Sound.{IsSound};
 ghost use Rattle.module_table.specs.inner.Origins.{origins_of};
-ghost use Rattle.module_table.specs.inner.Indexed.{IsNamedAt, IsObjectsPair};
+ghost use Rattle.module_table.specs.inner.Indexed.{IsInfosModule, IsNamedAt, IsObjectsPair};
 ghost use Rattle.module_table.specs.inner.Graph.{IsModuleGraph};
 ghost use Rattle.module_table.specs.Modules.{provisions};
 ghost use Rattle.module_table.specs.inner.Ranks.{pairs_of, AreByName, AreNumbers, AreRanks};
 
 use crate::fault::Maker;
-use crate::graph::module_at;
 use crate::pairs::copy_pair;
 use dep_order::{Digraph, Reaching};
 use ninja_text::Path;
-use scan_docs::{Info, Name, Rule};
+use scan_docs::{Info, InfoModule, Name, Rule};
 use std::alloc::{AllocError, Global};
 use std::marker::Model;
 
@@ -172,10 +172,18 @@ pub(crate) fn named_at<'t>(
             (&pair.0, &pair.1)
         }
         Maker::Info(info) => {
-            let module = module_at(infos, info, origin.1);
+            let module = module_of_info(infos, info, origin.1);
             (&module.name, &module.file)
         }
     }
+}
+
+fn module_of_info(infos: &[Info], info: usize, index: usize) -> &InfoModule
+    requires { (entry : ModuleValue) × IsInfosModule infos.now info index entry }
+    ensures { IsInfosModule infos.now info index result.now }
+{
+    let info = &infos[info];
+    &info.modules[index]
 }
 
 fn pair_of_object(objects: &[Rule], object: usize, index: usize) -> &(Name, Path)

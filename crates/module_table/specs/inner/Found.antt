@@ -11,7 +11,7 @@ use Rattle.module_table.specs.declared.requirements.InfoRequired.{InfoRequired}
 
 -- a requirement, and the module that it was found to be of
 abbrev pub looked_up : InfoRequired → LookedUp
-looked_up r = (requirement_of r, option_map (λ p. provision_of p.now) r.module)
+looked_up r = (requirement_of r, option_map (λ m. provision_of m.1.now) r.module)
 
 -- a requirement, and the module of that name
 abbrev pub with_module : List Provision → InfoRequirement → LookedUp

@@ -1,10 +1,9 @@
 -- What modules and objects need of one another, by index.
-use Rattle.std.specs.Prelude.{◌≡◌, ℕ, ◌+◌, List, [], ◌∷◌, ◌++◌, length, map, slice_get, Option, Some, position, bytes_eq}
+use Rattle.std.specs.Prelude.{◌≡◌, ℕ, ◌+◌, List, [], ◌∷◌, ◌++◌, length, map, slice_get, Option, Some, None, position, bytes_eq}
 use Rattle.std.specs.List.{filter_map, AllZip}
 use Rattle.scan_docs.specs.Info.{InfoValue, ModuleValue}
 use Rattle.module_table.specs.TableValue.{TableValue}
 use Rattle.module_table.specs.Modules.{provisions}
-use Rattle.module_table.specs.inner.Numbered.{AreIndexes}
 use Rattle.module_table.specs.inner.Views.{names_of}
 use Rattle.module_table.specs.inner.Origins.{origins_of}
 use Rattle.module_table.specs.inner.Indexed.{IsInfosModule}
@@ -26,19 +25,25 @@ IsModuleRow names infos (Object object, index) row = row ≡ (length names + obj
 IsModuleRow names infos (Info info, index) row = (entry : ModuleValue)
     × IsInfosModule infos info index entry × (row ≡ indexes_in names entry.required)
 
+-- what each module needs, by index
+abbrev pub AreModuleRows : TableValue → List (List ℕ) → Type 0
+AreModuleRows t modules = AllZip (IsModuleRow (names_of (provisions t)) t.infos) (origins_of t)
+    modules
+
 -- What each module needs, by index, and after all modules what each object needs.
 pub record IsModuleGraph (t : TableValue) (graph : List (List ℕ)) : Type 0 where
   pub modules : List (List ℕ)
   pub objects : List (List ℕ)
   pub all : graph ≡ modules ++ objects
-  pub of_modules : AllZip (IsModuleRow (names_of (provisions t)) t.infos) (origins_of t) modules
+  pub of_modules : AreModuleRows t modules
   pub of_objects : map (λ row. map (slice_get (names_of (provisions t))) row) objects
       ≡ map (λ rule. map (λ name. Some name) rule.required) t.objects
 
--- the names and origins of all modules, the infos, and the rows of indexes of what objects require
-pub record AreGraphParts (t : TableValue) (names : List (List ℕ)) (origins : List (Maker × ℕ))
-    (infos : List InfoValue) (rows : List (List ℕ)) : Type 0 where
-  pub same_names : names ≡ names_of (provisions t)
-  pub same_origins : origins ≡ origins_of t
-  pub same_infos : infos ≡ t.infos
-  pub indexes : AreIndexes t rows
+-- what a module of an object needs, by its origin: the object
+abbrev pub object_row : ℕ → Maker × ℕ → Option (List ℕ)
+object_row count (Object object, index) = Some ((count + object) ∷ [])
+object_row count (Info info, index) = None
+
+-- what each module of an info needs
+abbrev pub info_rows : List (List ℕ) → ℕ × InfoValue → List (List ℕ)
+info_rows names info = map (λ entry. indexes_in names entry.required) info.1.modules

@@ -114,7 +114,7 @@ fn info_of(modules: &Modules, name: &Name) -> usize
     ensures { IsPrivateTo (provisions modules.now) name.now result }
 {
     match modules.find(name) {
-        Some(module) => match module.maker {
+        Some((_, module)) => match module.maker {
             Maker::Info(info) => info,
             Maker::Object(_) => unreachable!(),
         },
@@ -137,7 +137,7 @@ fn is_allowed(required: &InfoRequired) -> bool
     ensures { result ≡ is_allowed (looked_up required.now) }
 {
     match required.module {
-        Some(module) => !module.is_private || is_info_at(module.maker, required.info),
+        Some((_, module)) => !module.is_private || is_info_at(module.maker, required.info),
         None => true,
     }
 }
@@ -167,7 +167,7 @@ fn is_by_object(modules: &Modules, name: &Name) -> bool
     ensures { result ≡ is_by_object (provisions modules.now) name.now }
 {
     match modules.find(name) {
-        Some(module) => match module.maker {
+        Some((_, module)) => match module.maker {
             Maker::Object(_) => true,
             Maker::Info(_) => false,
         },

@@ -155,7 +155,7 @@ fn is_by_info(required: &InfoRequired) -> bool
     ensures { result ≡ is_by_info (looked_up required.now) }
 {
     match required.module {
-        Some(module) => match module.maker {
+        Some((_, module)) => match module.maker {
             Maker::Info(_) => true,
             Maker::Object(_) => false,
         },
@@ -168,7 +168,7 @@ fn agrees(required: &InfoRequired) -> bool
     ensures { result ≡ agrees (looked_up required.now) }
 {
     match required.module {
-        Some(module) => *module.file == *required.file,
+        Some((_, module)) => *module.file == *required.file,
         None => true,
     }
 }

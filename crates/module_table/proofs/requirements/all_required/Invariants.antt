@@ -1,9 +1,15 @@
-use Rattle.std.proofs.Common.{◌≡◌, map, take, ℕ}
+use Rattle.std.proofs.Common.{◌≡◌, ◌++◌, map, take, ℕ}
 use Rattle.std.specs.List.{flat_map, enumerate_from}
 use Rattle.scan_docs.specs.Info.{InfoValue}
 use Rattle.module_table.specs.Modules.{provisions}
+use Rattle.dep_order.specs.Rows.{rows}
+use Rattle.module_table.specs.inner.Views.{names_of}
+use Rattle.module_table.specs.inner.Graph.{info_rows}
 use Rattle.module_table.specs.inner.Found.{looked_up, lookups_of}
 use Rattle.module_table.proofs.requirements.all_required.Given as goal
 
 abbrev pub invariant-loop-info : goal.invariant-loop-info
-invariant-loop-info l = map looked_up l.all.items ≡ flat_map (λ (info : ℕ × InfoValue). flat_map (lookups_of (provisions l.modules) info.0 info.1.target) info.1.modules) (enumerate_from 0 (take l.info l.infos))
+invariant-loop-info l = record {
+  required : map looked_up l.all.items ≡ flat_map (λ (info : ℕ × InfoValue). flat_map (lookups_of (provisions l.modules) info.0 info.1.target) info.1.modules) (enumerate_from 0 (take l.info l.infos));
+  needs : rows l.needs.items ≡ rows l.initial.needs.items ++ flat_map (info_rows (names_of (provisions l.modules))) (enumerate_from 0 (take l.info l.infos));
+}

@@ -3,7 +3,8 @@ use Rattle.std.proofs.lemmas.Option.{slice_get_within}
 use Rattle.module_table.specs.TableValue.{TableValue}
 use Rattle.module_table.specs.inner.Finds.{found}
 use Rattle.module_table.specs.Modules.{Provision, provisions}
-use Rattle.module_table.specs.inner.Views.{provision_of, IsAbsent}
+use Rattle.module_table.specs.inner.Views.{provision_of, names_of, IsAbsent}
+use Rattle.module_table.specs.inner.Graph.{index_in}
 use Rattle.module_table.proofs.Rings.{length_mapped}
 use Rattle.module_table.proofs.Found.{named_found, absent_found}
 use Rattle.module_table.proofs.modules.Modules.find.Goals as goal
@@ -19,8 +20,8 @@ module_at-requires c =
     let as_long = ap length same in
     omega (arith, inside, named, long, as_long)
 
-pub returns-in-Some : goal.returns-in-Some
-returns-in-Some c =
+pub returns-in-Some-clause-module : goal.returns-in-Some-clause-module
+returns-in-Some-clause-module c =
     let t : TableValue = record { objects = c.self.inside.objects.now; infos = c.self.inside.infos.now } in
     let ps = provisions t in
     let k = c.in-Some.index in
@@ -30,8 +31,18 @@ returns-in-Some c =
     subst (λ (u : TableValue). Some (provision_of c.module_at.result.now) ≡ found (provisions u) c.args.name.now) c.self.view_is
     (sym (named_found ps c.args.name.now c.self.invariant.3 k _ (at, named_so)))
 
-pub returns-in-None : goal.returns-in-None
-returns-in-None c =
+pub returns-in-None-clause-module : goal.returns-in-None-clause-module
+returns-in-None-clause-module c =
     let t : TableValue = record { objects = c.self.inside.objects.now; infos = c.self.inside.infos.now } in
     subst (λ (u : TableValue). None ≡ found (provisions u) c.args.name.now) c.self.view_is
     (sym (absent_found (provisions t) c.args.name.now (subst (λ keys. IsAbsent keys c.args.name.now) c.self.invariant.2 c.in-None.ensures.none)))
+
+pub returns-in-Some-clause-index : goal.returns-in-Some-clause-index
+returns-in-Some-clause-index c =
+    subst (λ (u : TableValue). Some c.in-Some.index ≡ index_in (names_of (provisions u)) c.args.name.now) c.self.view_is
+    (c.in-Some.ensures.index ∙ ap (λ keys. index_in keys c.args.name.now) c.self.invariant.2)
+
+pub returns-in-None-clause-index : goal.returns-in-None-clause-index
+returns-in-None-clause-index c =
+    subst (λ (u : TableValue). None ≡ index_in (names_of (provisions u)) c.args.name.now) c.self.view_is
+    (c.in-None.ensures.index ∙ ap (λ keys. index_in keys c.args.name.now) c.self.invariant.2)
