@@ -25,10 +25,9 @@ use Rattle.module_table.specs.Sound.{IsSound}
 use Rattle.module_table.specs.inner.Ranks.{Numbered, AreListed, AreByName, AreNumbers, AreRanks, AreRanked}
 use Rattle.module_table.proofs.Places.{neither_less}
 use Rattle.module_table.proofs.Required.{contained, from_option_map}
-use Rattle.module_table.proofs.ReportLemmas.{element}
 use Rattle.module_table.proofs.Numbering.{placed}
 use Rattle.module_table.proofs.PairLists.{precedes_one_way}
-use Rattle.ninja_text.proofs.ForCallers.{from_push, same_some, to_map, from_map}
+use Rattle.ninja_text.proofs.ForCallers.{from_push, same_some, to_map, from_map, element_at}
 
 abbrev Pair : Type 0
 Pair = List ℕ × List ℕ
@@ -115,7 +114,7 @@ module _ (t : TableValue) (sound : IsSound t) where
           let there = placed made m (Contains-permutation sorted made m (IsPermutation-sym made sorted permuted) (contained sorted m (r, at))) in
           ap (pair_at (provisions t)) (l.numbers there.0 m there.1) ∙ l.pairs there.0 m there.1;
       all = λ k lt.
-          let m = element made k (omega (arith, lt, l.as_many)) in
+          let m = element_at made k (omega (arith, lt, l.as_many)) in
           let there = placed sorted m.0 (Contains-permutation made sorted m.0 permuted (contained made m.0 (k, m.1))) in
           (there.0, m.0, there.1, l.numbers k m.0 m.1);
       rising = rising made sorted permuted in_order apart;

@@ -14,9 +14,6 @@ use Rattle.module_table.proofs.Required.{from_find}
 use Rattle.module_table.proofs.ReportLemmas.{in_row}
 use Rattle.ninja_text.proofs.ForCallers.{same_some, to_map, from_map}
 
-same_bytes : (a b : List ℕ) → bytes_eq a b ≡ true → a ≡ b
-same_bytes a b e = (bytes_decides a b).0 e
-
 find_none : (test : Provision → Bool) (ps : List Provision) (k : ℕ) (p : Provision) → find test ps ≡ None → slice_get ps k ≡ Some p → test p ≡ true → ⊥
 find_none test [] k p e at passes = cc
 find_none test (q ∷ ps) k p e at passes = by (test q) refl e (λ k rest at. find_none test ps k p rest at passes) k at
@@ -31,7 +28,7 @@ module _ (ps : List Provision) (name : List ℕ) where
   called p = bytes_eq name p.name
 
   pub found_named : (q : Provision) → found ps name ≡ Some q → (l : ℕ) × IsNamed ps name l q
-  found_named q e = let f = from_find called ps q e in (f.0.0, (f.0.1, sym (same_bytes name q.name f.1)))
+  found_named q e = let f = from_find called ps q e in (f.0.0, (f.0.1, sym ((bytes_decides name q.name).0 f.1)))
 
   pub none_named : found ps name ≡ None → (k : ℕ) (p : Provision) → IsNamed ps name k p → ⊥
   none_named e k p named = find_none called ps k p e named.0 ((bytes_decides name p.name).1 (sym named.1))
@@ -149,7 +146,7 @@ module _ (ps : List Provision) (differ : AllDiffer (names_of ps)) where
   pub agreeing : (r : InfoRequirement) → MatchBool (agrees (with_module ps r)) (Agrees ps r) (Differs ps r)
   agreeing r =
       turned (agrees (with_module ps r)) _ _ (Agrees ps r) (Differs ps r)
-      (λ h k p named. same_bytes p.file r.file (h k p named))
+      (λ h k p named. (bytes_decides p.file r.file).0 (h k p named))
       (λ h. (h.0, h.1, h.2, λ same. true≢false (sym ((bytes_decides h.1.file r.file).1 same) ∙ h.3)))
       (all_decides ps differ r.name (λ p. bytes_eq p.file r.file))
 

@@ -19,14 +19,11 @@ filter_push q (y ∷ xs) x = by (q y) (filter_push q xs x)
     by true rest = ap (λ ys. y ∷ ys) rest
     by false rest = rest
 
-same_bytes : (x y : List ℕ) → bytes_eq x y ≡ true → x ≡ y
-same_bytes x y e = (bytes_decides x y).0 e
-
 differ_back : (x y : List ℕ) → bytes_eq x y ≡ false → bytes_eq y x ≡ false
 differ_back x y e = by (bytes_eq y x) refl
   where
     by : (b : Bool) → bytes_eq y x ≡ b → b ≡ false
-    by true h = absurd (true≢false (sym ((bytes_decides x y).1 (sym (same_bytes y x h))) ∙ e))
+    by true h = absurd (true≢false (sym ((bytes_decides x y).1 (sym ((bytes_decides y x).0 h))) ∙ e))
     by false h = refl
 
 -- another name stays among those that are not the one
@@ -35,7 +32,7 @@ among_filter x y [] e = refl
 among_filter x y (z ∷ xs) e = by (bytes_eq y z) refl (among_filter x y xs e)
   where
     by : (b : Bool) → bytes_eq y z ≡ b → among x (filter (other_than y) xs) ≡ among x xs → among x (cond (not b) (z ∷ filter (other_than y) xs) (filter (other_than y) xs)) ≡ (bytes_eq x z || among x xs)
-    by true h rest = rest ∙ sym (ap (λ b. b || among x xs) (subst (λ w. bytes_eq x w ≡ false) (same_bytes y z h) e))
+    by true h rest = rest ∙ sym (ap (λ b. b || among x xs) (subst (λ w. bytes_eq x w ≡ false) ((bytes_decides y z).0 h) e))
     by false h rest = ap (λ b. bytes_eq x z || b) rest
 
 abbrev Step : List ℕ → List (List ℕ) → Type 0
@@ -51,7 +48,7 @@ mention_step x (y ∷ xs) = by (bytes_eq x y) refl (mention_step x xs)
         ap (λ ys. y ∷ ys) (by_known (among x (first_mentions xs)) step)
       where
         hidden : cond (other_than y x) (x ∷ []) [] ≡ []
-        hidden = ap (λ b. cond (not b) (x ∷ []) []) ((bytes_decides y x).1 (sym (same_bytes x y e)))
+        hidden = ap (λ b. cond (not b) (x ∷ []) []) ((bytes_decides y x).1 (sym ((bytes_decides x y).0 e)))
 
         by_known : (b : Bool) → first_mentions (xs ++ x ∷ []) ≡ cond b (first_mentions xs) (first_mentions xs ++ x ∷ []) → filter (other_than y) (first_mentions (xs ++ x ∷ [])) ≡ filter (other_than y) (first_mentions xs)
         by_known true h = ap (filter (other_than y)) h

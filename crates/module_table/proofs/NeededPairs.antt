@@ -22,12 +22,11 @@ use Rattle.module_table.specs.inner.Ranks.{AreRanked}
 use Rattle.module_table.specs.declared.fault.Maker.TheVariants.{Object, Info}
 use Rattle.module_table.proofs.Places.{neither_less, object_provision, info_provision}
 use Rattle.module_table.proofs.Required.{contained, from_filter_map}
-use Rattle.module_table.proofs.ReportLemmas.{element}
 use Rattle.module_table.proofs.Rings.{in_filter_map, length_mapped}
 use Rattle.module_table.proofs.Numbering.{placed}
 use Rattle.module_table.proofs.GraphParts.{all_from}
 use Rattle.module_table.proofs.Reaching.{number_at, needed_if_reached, reached_if_needed}
-use Rattle.ninja_text.proofs.ForCallers.{same_some, to_map, from_map}
+use Rattle.ninja_text.proofs.ForCallers.{same_some, to_map, from_map, element_at}
 
 abbrev Pair : Type 0
 Pair = List ℕ × List ℕ
@@ -88,8 +87,8 @@ module _ (t : TableValue) (sound : IsSound t) (graph : List (List ℕ)) (g : IsM
 
   one_rank : (k l x : ℕ) → slice_get ranks k ≡ Some x → slice_get ranks l ≡ Some x → k ≡ l
   one_rank k l x at_k at_l =
-      let p = element (provisions t) k (omega (arith, slice_get_within ranks k x at_k, r.as_many)) in
-      let q = element (provisions t) l (omega (arith, slice_get_within ranks l x at_l, r.as_many)) in
+      let p = element_at (provisions t) k (omega (arith, slice_get_within ranks k x at_k, r.as_many)) in
+      let q = element_at (provisions t) l (omega (arith, slice_get_within ranks l x at_l, r.as_many)) in
       let a = r.each k p.0 p.1 in
       let b = r.each l q.0 q.1 in
       let x_a : a.0 ≡ x = same_some _ _ (sym a.1 ∙ at_k) in
@@ -110,7 +109,7 @@ module _ (t : TableValue) (sound : IsSound t) (graph : List (List ℕ)) (g : IsM
     module_of x has =
         let there = placed found x (Contains-permutation sorted found x (IsPermutation-sym found sorted permuted) has) in
         let from = from_filter_map (slice_get ranks) nodes there.0 x there.1 in
-        let p = element (provisions t) from.0 (omega (arith, slice_get_within ranks from.0 x from.2, r.as_many)) in
+        let p = element_at (provisions t) from.0 (omega (arith, slice_get_within ranks from.0 x from.2, r.as_many)) in
         let a = r.each from.0 p.0 p.1 in
         let rank : x ≡ a.0 = same_some _ _ (sym from.2 ∙ a.1) in
         (from.0, p.0, (p.1, ap (slice_get pairs) rank ∙ a.2, contained nodes from.0 from.1))
@@ -133,7 +132,7 @@ module _ (t : TableValue) (sound : IsSound t) (graph : List (List ℕ)) (g : IsM
           let s = rank_there there.0 (name, file) there.1 in
           let m = module_of s.0 (contained sorted s.0 (there.0, s.1)) in
           let same : (m.1.name, m.1.file) ≡ (name, file) = same_some _ _ (sym m.2.1 ∙ s.2) in
-          let rule = element t.objects object within in
+          let rule = element_at t.objects object within in
           let chain = subst (λ n. Reaches (NodeNeeds graph) (n + object) m.0) many ((reach.exactly m.0).0 m.2.2) in
           subst (λ (x : Pair). IsNeeded t object x.0 x.1) same (needed_if_reached t sound graph g object rule.0 m.0 m.1 rule.1 m.2.0 chain)
 

@@ -17,10 +17,9 @@ use Rattle.module_table.specs.declared.fault.Maker.TheVariants.{Object, Info}
 use Rattle.ninja_text.specs.Firsts.{AllDiffer}
 use Rattle.module_table.proofs.Places.{one_file, offset, provision_by}
 use Rattle.module_table.proofs.Required.{contained, from_numbered, from_mentions}
-use Rattle.module_table.proofs.ReportLemmas.{from_append_at}
 use Rattle.module_table.proofs.ModulePlaces.{one_entry}
 use Rattle.module_table.proofs.Found.{named_found}
-use Rattle.ninja_text.proofs.ForCallers.{to_map, from_map, in_first, in_second}
+use Rattle.ninja_text.proofs.ForCallers.{to_map, from_map, in_first, in_second, in_append}
 
 -- ---- lists
 
@@ -39,7 +38,7 @@ from_flat_map_at : {A B : Type 0} (f : A → List B) (xs : List A) (k : ℕ) (y 
 unfolding offset
 from_flat_map_at f [] k y e = cc
 from_flat_map_at f (x ∷ xs) k y e =
-    elim (from_append_at (f x) (flat_map f xs) k y e) [
+    elim (in_append (f x) (flat_map f xs) k y e) [
       | inl h ↦ (x, 0, k, refl, h, omega arith)
       | inr h ↦ let r = from_flat_map_at f xs h.0 y h.2 in (r.0, suc r.1, r.2, r.3, r.4, omega (arith, h.1, r.5))
     ]
@@ -66,7 +65,7 @@ module _ (t : TableValue) where
 
   module_from : (k : ℕ) (p : Provision) → slice_get (provisions t) k ≡ Some p → IsOwnAt k p ⊎ IsInfosAt k p
   module_from k p e =
-      elim (from_append_at own_modules (flat_map info_provisions (enumerate_from 0 t.infos)) k p e) [
+      elim (in_append own_modules (flat_map info_provisions (enumerate_from 0 t.infos)) k p e) [
         | inl h ↦ inl (own_at k p h)
         | inr h ↦
             let r = from_flat_map_at info_provisions (enumerate_from 0 t.infos) h.0 p h.2 in
@@ -149,7 +148,7 @@ module _ (objects : List RuleValue) (part infos : List InfoValue) (is : IsEnough
 
   claim_from : (k : ℕ) (c : Claim) → slice_get (claims t) k ≡ Some c → IsOwnClaim k c ⊎ IsInfosClaim k c
   claim_from k c e =
-      elim (from_append_at (own_claims objects) (map as_claim (provisions t)) k c e) [
+      elim (in_append (own_claims objects) (map as_claim (provisions t)) k c e) [
         | inl h ↦
             let r = from_map (λ (o : ℕ × RuleValue). let x : Claim = record { maker = Object o.0; file = o.1.object; is_module = false } in x) (enumerate_from 0 objects) k c h in
             let n = from_numbered 0 objects k r.0 r.1 in

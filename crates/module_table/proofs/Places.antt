@@ -1,5 +1,5 @@
 -- Where modules are in the lists of all modules and all files.
-use Rattle.std.proofs.Common.{⊎_elim, ◌≡◌, ℕ, zero, suc, ◌+◌, ◌<◌, ◌⊎◌, Bool, true, false, List, [], ◌∷◌, length, map, Some, ◌||◌, IsTrue, refl, ap, subst, sym, ◌∙◌, inl, inr, arith, slice_get}
+use Rattle.std.proofs.Common.{⊎_elim, ◌≡◌, ℕ, zero, suc, ◌+◌, ◌<◌, Bool, true, false, List, [], ◌∷◌, length, map, Some, ◌||◌, IsTrue, refl, ap, subst, sym, ◌∙◌, inl, inr, arith, slice_get}
 use Rattle.std.specs.List.{flat_map, enumerate_from}
 use Rattle.scan_docs.specs.Scan.{RuleValue}
 use Rattle.scan_docs.specs.Info.{InfoValue, ModuleValue}
@@ -12,7 +12,7 @@ use Rattle.module_table.specs.Sound.{IsSound}
 use Rattle.module_table.specs.Added.{AddedNeeds, AddedOrderable, FilesOnce, FilesApart, OneFile}
 use Rattle.module_table.specs.declared.fault.Maker.{Maker}
 use Rattle.module_table.specs.declared.fault.Maker.TheVariants.{Object, Info}
-use Rattle.ninja_text.proofs.ForCallers.{same_some, to_map, in_first, in_second}
+use Rattle.ninja_text.proofs.ForCallers.{same_some, to_map, in_first, in_second, three_ways}
 
 pub numbered : {X : Type 0} (n : ℕ) (xs : List X) (k : ℕ) (x : X) → slice_get xs k ≡ Some x → slice_get (enumerate_from n xs) k ≡ Some (n + k, x)
 numbered n [] k x e = cc
@@ -48,12 +48,6 @@ info_place t i j = length (own_claims t.objects) + (length (flat_map object_prov
 
 zero_plus : (n : ℕ) → 0 + n ≡ n
 zero_plus n = omega arith
-
-pub three_ways : (a b : ℕ) → (a < b) ⊎ ((a ≡ b) ⊎ (b < a))
-three_ways zero zero = inr (inl refl)
-three_ways zero (suc b) = inl (omega arith)
-three_ways (suc a) zero = inr (inr (omega arith))
-three_ways (suc a) (suc b) = elim (three_ways a b) [ inl h ↦ inl (omega arith) | inr h ↦ inr (elim h [ inl e ↦ inl (ap suc e) | inr m ↦ inr (omega arith) ]) ]
 
 -- numbers of which neither is less are one
 pub neither_less : (a b : ℕ) → (a < b → ⊥) → (b < a → ⊥) → a ≡ b

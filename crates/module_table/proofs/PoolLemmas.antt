@@ -1,4 +1,5 @@
 -- What is looked at of linked info files and of objects, and what is copied of the info files.
+use Rattle.module_table.proofs.Numbering.{placed as index_of}
 use Rattle.std.proofs.Common.{◌≡◌, ℕ, zero, suc, ◌+◌, ◌⊎◌, true, List, [], ◌∷◌, ◌++◌, map, take, Option, Some, None, get_or, refl, ap, subst, sym, ◌∙◌, inl, inr, slice_get, slice_set, bytes_eq, arith, length, length-append, ⊎_elim}
 use Rattle.std.specs.Cmp.Lexicographic.{bytes_decides}
 use Rattle.std.specs.List.{AllZip}
@@ -8,7 +9,7 @@ use Rattle.scan_docs.specs.Info.{InfoValue, ModuleValue}
 use Rattle.module_table.specs.Parts.{HasModule, IsAlike, IsPartOf, KeepsRequired, InfosApart, OwnApart, AreClosed, IsEnough, AreLinked}
 use Rattle.module_table.specs.inner.Pools.{Has, Rows, Lists, StillLists, IsKnownModule, IsSource, SharesWith, IsRelated, HasSource, HasClash, IsPool, ArePlaces, AreFit, IsFitAt, IsApart, IsPicked, IsPickedOf}
 use Rattle.module_table.specs.declared.pool.related.Related.{Related}
-use Rattle.module_table.proofs.RowLemmas.{set_there, set_other, contains_has, last_at}
+use Rattle.module_table.proofs.RowLemmas.{set_there, set_other, last_at}
 use Rattle.ninja_text.proofs.ForCallers.{same_some, same_cons, to_map, from_map, from_push, in_first, from_take, in_take, three_ways}
 
 -- ---- the places of the linked info files
@@ -61,7 +62,7 @@ all_fit linked places related fit = record {
   apart = λ n c h clash. let f = fit n h in f.3 c (subst (λ (r : Related). Has r.clashes.items c) (same_some _ _ (sym clash.1 ∙ f.1)) clash.2);
 }
 
-known_there : (known : List (Option InfoValue)) (n : ℕ) (value : InfoValue) → get_or known n None ≡ Some value → slice_get known n ≡ Some (Some value)
+pub known_there : (known : List (Option InfoValue)) (n : ℕ) (value : InfoValue) → get_or known n None ≡ Some value → slice_get known n ≡ Some (Some value)
 known_there [] n value e = cc
 known_there (x ∷ xs) zero value e = ap Some e
 known_there (x ∷ xs) (suc n) value e = known_there xs n value e
@@ -103,7 +104,7 @@ module _ (known : List (Option InfoValue)) (linked : List ℕ) (infos : List Inf
     are_closed : AreClosed infos
     are_closed i j m name file has needs =
         let x = known_at i j m has in
-        let s = pool.sources x.0 j m (name, file) x.2 (contains_has m.required (name, file) needs) in
+        let s = pool.sources x.0 j m (name, file) x.2 (index_of m.required (name, file) needs) in
         let there = fit.closed x.0 s.0 (i, x.1) s.1 in
         let here = at.from_place s.0 there.0 there.1 in
         (there.0, s.2.0, s.2.1, linked_at there.0 s.0 s.2.0 s.2.1 here s.2.2, s.2.3, s.2.4, λ private. once there.0 i x.0 (here ∙ ap Some (s.2.5 private)) x.1)

@@ -1,5 +1,5 @@
 -- What the checks report.
-use Rattle.std.proofs.Common.{◌≡◌, ℕ, zero, suc, ◌+◌, ◌<◌, ◌≤◌, ◌⊎◌, true, false, List, [], ◌∷◌, ◌++◌, length, map, take, Some, refl, ap, subst, sym, ◌∙◌, inl, inr, ⊎_elim, arith, slice_get, Box, Global}
+use Rattle.std.proofs.Common.{◌≡◌, ℕ, suc, ◌+◌, ◌<◌, ◌≤◌, true, false, List, [], ◌∷◌, ◌++◌, length, map, take, Some, refl, ap, subst, sym, ◌∙◌, ⊎_elim, arith, slice_get, Box, Global}
 use Rattle.std.specs.List.{enumerate_from}
 use Rattle.std.proofs.lemmas.List.{map-append}
 use Rattle.std.proofs.lemmas.Option.{slice_get_within}
@@ -19,7 +19,7 @@ use Rattle.module_table.specs.declared.fault.TableFault.TheVariants.{ProvidedTwi
 use Rattle.module_table.proofs.Places.{either, numbered, object_provision, info_provision}
 use Rattle.module_table.proofs.Required.{from_provisions}
 use Rattle.module_table.proofs.Repetitions.{repetition_of}
-use Rattle.ninja_text.proofs.ForCallers.{in_take, same_some, to_map, in_first, in_second, from_map}
+use Rattle.ninja_text.proofs.ForCallers.{in_take, same_some, to_map, in_first, in_second, from_map, in_append}
 
 pub for_fault : (P Q : Box TableFault Global → Type 0) (failure : Failure (Box TableFault Global)) → ((fault : Box TableFault Global) → P fault → Q fault) → ForFault P failure → ForFault Q failure
 for_fault P Q Memory to h = h
@@ -33,12 +33,6 @@ for_boxed P fault (Fault boxed) is same = subst P (sym same) is
 -- a fault that is another one in other words
 pub reports_same : (code : ℕ) (t : TableValue) (kept : List (List ℕ)) (fault other : TableFault) → fault ≡ other → Reports code t kept other → Reports code t kept fault
 reports_same code t kept fault other e h = subst (Reports code t kept) (sym e) h
-
--- an element for each place below the length
-pub element : {X : Type 0} (xs : List X) (k : ℕ) → k < length xs → (x : X) × (slice_get xs k ≡ Some x)
-element [] k lt = absurd (omega arith)
-element (x ∷ xs) zero lt = (x, refl)
-element (x ∷ xs) (suc k) lt = element xs k (omega arith)
 
 -- ---- M3
 
@@ -95,12 +89,6 @@ length_paths : (rules : List RuleValue) → length (map (λ (rule : RuleValue). 
 length_paths [] = refl
 length_paths (rule ∷ rules) = ap suc (length_paths rules)
 
--- an element of two lists is in the first, or after it in the second
-pub from_append_at : {X : Type 0} (xs ys : List X) (k : ℕ) (x : X) → slice_get (xs ++ ys) k ≡ Some x → (slice_get xs k ≡ Some x) ⊎ ((m : ℕ) × (k ≡ length xs + m) × (slice_get ys m ≡ Some x))
-from_append_at [] ys k x e = inr (k, omega arith, e)
-from_append_at (y ∷ xs) ys zero x e = inl e
-from_append_at (y ∷ xs) ys (suc k) x e = ⊎_elim (λ h. inl h) (λ h. let at = h.1 in inr (h.0, omega arith, h.2)) (from_append_at xs ys k x e)
-
 -- where texts differ in a first list, what is repeated is repeated after it
 pub behind_first : (xs ys : List (List ℕ)) (i j : ℕ) → AllDiffer xs → RepeatsFirst (xs ++ ys) i j → length xs ≤ j
 behind_first xs ys i j all r =
@@ -108,9 +96,9 @@ behind_first xs ys i j all r =
     (λ in_j. ⊎_elim
     (λ in_i. absurd (all.differ i j r.repeated r.earlier in_i in_j))
     (λ out_i. let far = out_i.1 in let lt = r.earlier in let within : j < length xs = slice_get_within xs j r.repeated in_j in absurd (omega arith))
-    (from_append_at xs ys i r.repeated r.here))
+    (in_append xs ys i r.repeated r.here))
     (λ out_j. let far = out_j.1 in omega arith)
-    (from_append_at xs ys j r.repeated r.again)
+    (in_append xs ys j r.repeated r.again)
 
 module _ (t : TableValue) (kept : List (List ℕ)) (i j : ℕ) (fault : TableFault) (all : AllDiffer (map (λ (rule : RuleValue). rule.object) t.objects)) where
   pub reported_made : RepeatsFirst (map (λ (rule : RuleValue). rule.object) t.objects ++ files_of (provisions t)) i j → IsMadeTwice t.objects (provisions t) i j fault → Reports 4 t kept fault
@@ -123,7 +111,7 @@ module _ (t : TableValue) (kept : List (List ℕ)) (i j : ℕ) (fault : TableFau
       ⊎_elim
       (λ own. let within : j < length (own_claims t.objects) = slice_get_within (own_claims t.objects) j found.1 own in absurd (omega (arith, far, within, length_own t.objects (provisions t), length_paths t.objects)))
       (λ out. let from = from_map (λ (p : Provision). let c : Claim = record { maker = p.maker; file = p.file; is_module = true } in c) (provisions t) out.0 found.1 out.2 in ap (λ (c : Claim). c.is_module) (sym from.2))
-      (from_append_at (own_claims t.objects) (module_claims (provisions t)) j found.1 found.2.y_here) in
+      (in_append (own_claims t.objects) (module_claims (provisions t)) j found.1 found.2.y_here) in
       reports_same 4 t kept fault (BmiTwice is.1.file is.0.maker is.1.maker) is.4
       (record {
         present = (

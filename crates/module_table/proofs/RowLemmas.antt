@@ -1,9 +1,9 @@
 -- Rows of entries by keys: an entry that is added is listed, and what was listed still is.
-use Rattle.std.proofs.Common.{◌≡◌, ℕ, zero, suc, ◌+◌, ◌<◌, ◌≤◌, Contains, ◌⊎◌, Bool, true, false, IsTrue, cond, List, [], ◌∷◌, ◌++◌, length, Option, Some, None, Vec, Global, refl, ap, subst, sym, ◌∙◌, inl, inr, arith, length-append, slice_get, slice_set, bytes_eq, true≢false, is_some, IfSome, MatchOption, Bor, get_or}
+use Rattle.std.proofs.Common.{◌≡◌, ℕ, zero, suc, ◌+◌, ◌<◌, ◌≤◌, ◌⊎◌, Bool, true, false, IsTrue, cond, List, [], ◌∷◌, ◌++◌, length, Option, Some, None, Vec, Global, refl, ap, subst, sym, ◌∙◌, inl, inr, arith, length-append, slice_get, slice_set, bytes_eq, true≢false, is_some, IfSome, MatchOption, Bor, get_or}
 use Rattle.std.specs.List.{position_or_len}
 use Rattle.std.specs.Cmp.Lexicographic.{bytes_decides}
 use Rattle.std.proofs.lemmas.Bool.{eqb-true}
-use Rattle.std.proofs.lemmas.Option.{slice_get_within, slice_get-get_or, get_or_from_slice_get, slice_get_read}
+use Rattle.std.proofs.lemmas.Option.{slice_get_within, slice_get_read}
 use Rattle.std.proofs.lemmas.List.Folds.{position_or_len_push}
 use Rattle.module_table.specs.inner.Pools.{Has, Rows, Lists, StillLists, Below}
 use Rattle.ninja_text.proofs.ForCallers.{same_some, in_first, in_second, from_push, three_ways}
@@ -120,12 +120,6 @@ below_map P Q xs i weaker before k x lt at = weaker x (before k x lt at)
 
 pub below_all : {X : Type 0} (P : X → Type 0) (xs : List X) (i : ℕ) → length xs ≤ i → Below P xs i → (x : X) → Has xs x → P x
 below_all P xs i past before x h = each_all (λ k. P) xs i past before h.0 x h.1
-
-pub contains_has : {X : Type 0} (xs : List X) (x : X) → Contains xs x → Has xs x
-contains_has xs x h = (h.0, slice_get-get_or xs h.0 x h.1 ∙ ap Some h.2)
-
-pub has_contains : {X : Type 0} (xs : List X) (x : X) → Has xs x → Contains xs x
-has_contains xs x h = (h.0, slice_get_within xs h.0 x h.1, get_or_from_slice_get xs h.0 x x h.1)
 
 pub below_zero : {X : Type 0} (P : X → Type 0) (xs : List X) → Below P xs 0
 below_zero P xs k x lt at = absurd (omega arith)

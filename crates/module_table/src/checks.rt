@@ -171,23 +171,6 @@ fn check_looked_up(
     check_infos_known(alloc, modules, required)?;
     check_infos_agree(alloc, modules, required)?;
     check_rings(alloc, modules, indexes)?;
-    check_allowed(alloc, modules, indexes, required, kept)
-}
-
-/// Checks M9 and M10.
-fn check_allowed(
-    alloc: Global,
-    modules: &Modules,
-    indexes: &[Vec<usize>],
-    required: &[InfoRequired],
-    kept: &[Name],
-) -> Result<(), Failure<Box<TableFault>>>
-    requires indexes { AreIndexes modules.now (rows indexes.now) }
-    requires required { AreLookedUp modules.now required.now }
-    requires passed { Passed 9 modules.now kept.now }
-    ensures passed { OnOk result (Passed 11 modules.now kept.now) }
-    ensures fault { IfErr result (ForFault (λ fault. IsReported modules.now kept.now fault.value)) }
-{
     check_objects_allowed(alloc, modules, indexes)?;
     check_infos_allowed(alloc, modules, required)?;
     check_kept(alloc, modules, kept)

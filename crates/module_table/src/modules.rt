@@ -124,14 +124,6 @@ impl<'t> Modules<'t> {
         &self.names
     }
 
-    /// Returns the name of the module of that index.
-    pub(crate) fn name_at(&self, index: usize) -> &'t Name
-        requires { index < length (provisions self.now) }
-        ensures { slice_get (names_of (provisions self.now)) index ≡ Some result.now }
-    {
-        module_at(self.provided.as_slice(), index).name
-    }
-
     /// Returns the module of that name and its index, if one is provided.
     pub(crate) fn find(&self, name: &Name) -> Option<(usize, &Module<'t>)>
         ensures module { option_map (λ m. provision_of m.1.now) result

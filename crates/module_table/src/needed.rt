@@ -2,12 +2,11 @@
 ghost use Rattle.std.specs.Prelude.{◌≡◌, ◌<◌, ◌+◌, ◌^◌, ℕ, List, All, map, length, slice_get, Some, IfOk};
 ghost use Rattle.std.specs.List.{filter_map};
 ghost use Rattle.ninja_text.specs.Bytes.{PathText, Name};
-ghost use Rattle.scan_docs.specs.Info.{ModuleValue};
 ghost use Rattle.module_table.specs.TableValue.{table_with};
 ghost use Rattle.module_table.specs.Needed.{ArePairs, IsNeeded, lent};
 ghost use Rattle.module_table.specs.Sound.{IsSound};
 ghost use Rattle.module_table.specs.inner.Origins.{origins_of};
-ghost use Rattle.module_table.specs.inner.Indexed.{IsInfosModule, IsNamedAt, IsObjectsPair};
+ghost use Rattle.module_table.specs.inner.Indexed.{IsNamedAt};
 ghost use Rattle.module_table.specs.inner.Graph.{IsModuleGraph};
 ghost use Rattle.module_table.specs.Modules.{provisions};
 ghost use Rattle.module_table.specs.inner.Ranks.{pairs_of, AreByName, AreNumbers, AreRanks};
@@ -16,7 +15,7 @@ use crate::fault::Maker;
 use crate::pairs::copy_pair;
 use dep_order::{Digraph, Reaching};
 use ninja_text::Path;
-use scan_docs::{Info, InfoModule, Name, Rule};
+use scan_docs::{Info, Name, Rule};
 use std::alloc::{AllocError, Global};
 use std::marker::Model;
 
@@ -98,19 +97,6 @@ impl<'t> Needs<'t> {
         ranks.sort_unstable();
         pairs_at(alloc, self.modules.as_slice(), ranks.as_slice())
     }
-
-    /// Returns copies of what `of` returns.
-    pub(crate) fn copies_of(
-        &mut self,
-        alloc: Global,
-        object: usize,
-    ) -> Result<Vec<(Name, Path)>, AllocError>
-        requires { object < length self.old.objects }
-        ensures { IfOk result (λ pairs. ArePairs (IsNeeded self.old object) pairs.items) }
-    {
-        let pairs = self.of(alloc, object)?;
-        copy_pairs(alloc, pairs.as_slice())
-    }
 }
 
 /// Returns the ranks of the modules among these nodes. Nodes after all modules are objects.
@@ -145,7 +131,10 @@ fn pairs_at<'t>(
 }
 
 /// Returns copies of the pairs.
-fn copy_pairs(alloc: Global, pairs: &[(&Name, &Path)]) -> Result<Vec<(Name, Path)>, AllocError>
+pub(crate) fn copy_pairs(
+    alloc: Global,
+    pairs: &[(&Name, &Path)],
+) -> Result<Vec<(Name, Path)>, AllocError>
     ensures { IfOk result (λ copies. copies.items ≡ map lent pairs.now) }
 {
     let mut copies = Vec::with_capacity(alloc, pairs.len())?;
@@ -168,31 +157,16 @@ pub(crate) fn named_at<'t>(
 {
     match origin.0 {
         Maker::Object(object) => {
-            let pair = pair_of_object(objects, object, origin.1);
+            let rule = &objects[object];
+            let pair = &rule.provided[origin.1];
             (&pair.0, &pair.1)
         }
         Maker::Info(info) => {
-            let module = module_of_info(infos, info, origin.1);
+            let info = &infos[info];
+            let module = &info.modules[origin.1];
             (&module.name, &module.file)
         }
     }
-}
-
-fn module_of_info(infos: &[Info], info: usize, index: usize) -> &InfoModule
-    requires { (entry : ModuleValue) × IsInfosModule infos.now info index entry }
-    ensures { IsInfosModule infos.now info index result.now }
-{
-    let info = &infos[info];
-    &info.modules[index]
-}
-
-fn pair_of_object(objects: &[Rule], object: usize, index: usize) -> &(Name, Path)
-    requires { (name : Name) × (file : PathText)
-        × IsObjectsPair objects.now object index (name, file) }
-    ensures { IsObjectsPair objects.now object index result.now }
-{
-    let rule = &objects[object];
-    &rule.provided[index]
 }
 
 /// Returns the name, the file and the index of each module, in byte order of names.

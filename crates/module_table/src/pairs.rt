@@ -1,7 +1,6 @@
 //! The modules that each object requires, with their files.
-ghost use Rattle.std.specs.Prelude.{◌≡◌, ◌<◌, ◌≤◌, [], All, length, map, IfOk, OnOk};
+ghost use Rattle.std.specs.Prelude.{◌≡◌, ◌<◌, ◌≤◌, All, length, map, IfOk};
 ghost use Rattle.dep_order.specs.Rows.{rows};
-ghost use Rattle.module_table.specs.Modules.{provisions};
 ghost use Rattle.module_table.specs.Added.{required_of};
 ghost use Rattle.module_table.specs.inner.Numbered.{AreIndexes};
 ghost use Rattle.module_table.specs.inner.Mentioned.{AreFirstPairs};
@@ -23,34 +22,15 @@ pub(crate) fn all_pairs(
     ensures { IfOk result (λ all. map (λ row. row.items) all.items
         ≡ map (required_of modules.now) modules.now.objects) }
 {
-    let mut marks = vec![in alloc; 0; modules.provided().len()]?;
-    let mut all = Vec::with_capacity(alloc, required.len())?;
-    add_pairs(alloc, modules, required, &mut marks, &mut all)?;
-    Ok(all)
-}
-
-/// Adds what each object requires to the empty list. A module's mark is the number of the last
-/// object that mentioned it, counted from 1.
-fn add_pairs(
-    alloc: Global,
-    modules: &Modules,
-    required: &[Vec<usize>],
-    marks: &mut Vec<usize>,
-    all: &mut Vec<Vec<(Name, Path)>>,
-) -> Result<(), AllocError>
-    requires indexes { AreIndexes modules.now (rows required.now) }
-    requires as_many { length marks.old.items ≡ length (provisions modules.now) }
-    requires unmarked { All (λ mark. mark ≤ 0) marks.old.items }
-    requires empty { all.old.items ≡ [] }
-    ensures { OnOk result (map (λ row. row.items) all.new.items
-        ≡ map (required_of modules.now) modules.now.objects) }
-{
     let provided = modules.provided();
+    // A module's mark is the number of the last object that mentioned it, counted from 1.
+    let mut marks = vec![in alloc; 0; provided.len()]?;
+    let mut all = Vec::with_capacity(alloc, required.len())?;
     for (object, row) in required.iter().enumerate() {
-        let pairs = first_pairs(alloc, provided, row.as_slice(), object + 1, marks)?;
+        let pairs = first_pairs(alloc, provided, row.as_slice(), object + 1, &mut marks)?;
         all.push(pairs)?;
     }
-    Ok(())
+    Ok(all)
 }
 
 /// Returns the names and files of the modules of these indexes, each once, in order of first

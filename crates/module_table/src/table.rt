@@ -14,7 +14,7 @@ use crate::checks::check_all;
 use crate::fault::{Maker, RefusedTable, TableFault};
 use crate::keys::table_key;
 use crate::modules::index_of;
-use crate::needed::{Needs, named_at};
+use crate::needed::{Needs, copy_pairs, named_at};
 use crate::resolved::Resolved;
 use dep_order::Digraph;
 use indexmap::IndexSet;
@@ -201,7 +201,8 @@ impl Table {
         ensures { IfOk result (λ pairs. ArePairs (IsNeeded self.now object) pairs.items) }
     {
         let mut needs = self.needs(alloc)?;
-        needs.copies_of(alloc, object)
+        let pairs = needs.of(alloc, object)?;
+        copy_pairs(alloc, &pairs)
     }
 
     /// Returns a value that does the same for one object after another. It sorts the names once, so

@@ -14,7 +14,7 @@ ghost use Rattle.module_table.specs.inner.Views.{names_of, provision_of};
 ghost use Rattle.module_table.specs.declared.fault.TableFault.TheVariants.{ModulePrivate};
 
 use crate::fault::{Maker, TableFault, failure_of};
-use crate::modules::{Module, Modules};
+use crate::modules::{Module, Modules, module_at};
 use crate::requirements::InfoRequired;
 use ninja_text::Failure;
 use scan_docs::Name;
@@ -38,7 +38,7 @@ pub(crate) fn check_objects_allowed(
         match first_private(provided, row.as_slice()) {
             None => {}
             Some(index) => {
-                let name = modules.name_at(row[index]);
+                let name = module_at(provided, row[index]).name;
                 return Err(requires_private(alloc, modules, name, Maker::Object(object)));
             }
         }

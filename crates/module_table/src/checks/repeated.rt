@@ -15,7 +15,7 @@ use crate::fault::{Maker, TableFault, failure_of};
 use crate::modules::{Module, Modules, module_at, provided_modules};
 use indexmap::IndexSet;
 use ninja_text::{Failure, Path};
-use scan_docs::{Info, Name, Rule, TargetName};
+use scan_docs::{Info, Name, Rule};
 use std::alloc::{AllocError, Global};
 use table_keys::TableKey;
 
@@ -59,20 +59,6 @@ pub(crate) fn check_infos(
         infos.now ≡ t.infos → Reports 2 t kept fault.value)) }
 {
     let mut targets = IndexSet::with_hasher(alloc, key);
-    add_targets(alloc, infos, &mut targets)
-}
-
-/// Puts the targets of the info files into the empty set, if all differ.
-fn add_targets<'t>(
-    alloc: Global,
-    infos: &'t [Info],
-    targets: &mut IndexSet<&'t TargetName, TableKey>,
-) -> Result<(), Failure<Box<TableFault>>>
-    requires { IsEmpty targets.old }
-    ensures ok { OnOk result (AllDiffer (map (λ info. info.target) infos.now)) }
-    ensures fault { IfErr result (ForFault (λ fault. (t : TableValue) (kept : List Name) →
-        infos.now ≡ t.infos → Reports 2 t kept fault.value)) }
-{
     targets.reserve(infos.len())?;
     for info in infos {
         let (_, is_new) = targets.insert_full(&info.target)?;

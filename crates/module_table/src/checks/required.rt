@@ -55,30 +55,15 @@ fn indexes_of(
 {
     let mut row = Vec::with_capacity(alloc, rule.required.len())?;
     for required in &rule.required {
-        let index = known_index(alloc, names, object, required)?;
-        row.push(index)?;
-    }
-    Ok(row)
-}
-
-/// Returns the index of a name that the object requires, if it is provided.
-fn known_index(
-    alloc: Global,
-    names: &IndexSet<Name, TableKey>,
-    object: usize,
-    required: &Name,
-) -> Result<usize, Failure<Box<TableFault>>>
-    ensures ok { IfOk result (λ index. slice_get names.now.keys index ≡ Some required.now) }
-    ensures fault { IfErr result (ForFault (λ fault. IsAbsent names.now.keys required.now
-        × (fault.value ≡ ModuleUnknown required.now object))) }
-{
-    match index_of(names, required) {
-        Some(index) => Ok(index),
-        None => {
-            let name = required.copy(alloc)?;
-            Err(failure_of(alloc, TableFault::ModuleUnknown { name, object }))
+        match index_of(names, required) {
+            Some(index) => row.push(index)?,
+            None => {
+                let name = required.copy(alloc)?;
+                return Err(failure_of(alloc, TableFault::ModuleUnknown { name, object }));
+            }
         }
     }
+    Ok(row)
 }
 
 /// M6: info files provide what the modules of info files require.

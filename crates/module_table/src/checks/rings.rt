@@ -5,7 +5,6 @@ ghost use Rattle.ninja_text.specs.Bytes.{Name};
 ghost use Rattle.ninja_text.specs.Failure.{ForFault};
 ghost use Rattle.dep_order.specs.Needs.{IsOrderable};
 ghost use Rattle.dep_order.specs.Rows.{rows};
-ghost use Rattle.dep_order.specs.Sortings.{IsSortingOf};
 ghost use Rattle.module_table.specs.Modules.{provisions, DependsOn};
 ghost use Rattle.module_table.specs.inner.Numbered.{AreIndexes, maker_at};
 ghost use Rattle.module_table.specs.inner.Views.{provision_of};
@@ -29,24 +28,12 @@ pub(crate) fn check_rings(
     ensures fault { IfErr result (ForFault
         (λ fault. (kept : List Name) → Reports 8 modules.now kept fault.value)) }
 {
-    match sort_objects(alloc, modules, required)? {
+    let needs = all_needs(alloc, modules.provided(), required)?;
+    let graph = Digraph::new(needs);
+    match order(alloc, &graph)? {
         Sorting::Order(_) => Ok(()),
         Sorting::Cycle(objects) => Err(failure_of(alloc, TableFault::ImportCycle { objects })),
     }
-}
-
-/// Returns the objects in an order, or the least cycle.
-fn sort_objects(
-    alloc: Global,
-    modules: &Modules,
-    required: &[Vec<usize>],
-) -> Result<Sorting, AllocError>
-    requires { AreIndexes modules.now (rows required.now) }
-    ensures { IfOk result (IsSortingOf (length modules.now.objects) (DependsOn modules.now)) }
-{
-    let needs = all_needs(alloc, modules.provided(), required)?;
-    let graph = Digraph::new(needs);
-    order(alloc, &graph)
 }
 
 /// Returns the objects that provide what each object requires.

@@ -7,7 +7,8 @@ use Rattle.module_table.specs.TableValue.{TableValue}
 use Rattle.module_table.specs.Modules.{Provision, provisions}
 use Rattle.module_table.specs.inner.Numbered.{AreIndexes}
 use Rattle.ninja_text.specs.Firsts.{AllDiffer}
-use Rattle.module_table.specs.inner.Views.{names_of}
+use Rattle.module_table.specs.inner.Views.{names_of, provision_of}
+use Rattle.module_table.specs.declared.modules.Module.{Module}
 use Rattle.module_table.specs.inner.Finds.{is_public_at, IsPublic, IsPrivate, RequiresPublic, AcceptsAll, RefusesAt}
 use Rattle.module_table.proofs.IndexRows.{take_all, many_rows, rule_of, name_of_index}
 use Rattle.module_table.proofs.Rings.{length_mapped}
@@ -42,8 +43,8 @@ index-requires c =
     let within = slice_get_within row.items k p.0 p.3 in
     omega (arith, within, row.ok.0)
 
-pub name_at-name-requires : goal.name_at-name-requires
-name_at-name-requires c =
+pub module_at-requires : goal.module_at-requires
+module_at-requires c =
     let ps = provisions c.args.modules.now in
     let i = c.loop-object.object in
     let k = c.in-Some.index in
@@ -53,7 +54,13 @@ name_at-name-requires c =
     let same = c.index.ensures ∙ get_or_from_slice_get row.items k p.0 c.index.result.now p.3 in
     let within = slice_get_within (names_of ps) p.0 p.2 p.6 in
     let long = length_mapped (λ (p : Provision). p.name) ps in
-    omega (arith, within, long, same)
+    let many = length_mapped provision_of c.provided-provided.result.now in
+    omega (arith, within, long, many, ap length c.provided-provided.ensures.provisions, same)
+
+-- the name of a module at an index
+name_there : (provided : List Module) (ps : List Provision) (index : ℕ) (m : Module) → map provision_of provided ≡ ps → slice_get provided index ≡ Some m → slice_get (names_of ps) index ≡ Some m.name.now
+name_there provided ps index m same at =
+    to_map (λ (p : Provision). p.name) ps index (provision_of m) (ap (λ xs. slice_get xs index) (sym same) ∙ to_map provision_of provided index m at)
 
 pub requires_private-requires-clause-private : goal.requires_private-requires-clause-private
 requires_private-requires-clause-private c =
@@ -64,7 +71,7 @@ requires_private-requires-clause-private c =
     let at = slice_get_read c.args.required.now _ i row refl c.loop-object-test.true c.index-required-object.is in
     let p = private_in c.args.modules.now c.args.required.now c.requires c.provided-provided.ensures.differ i row at k c.as_slice.result.now c.as_slice.ensures.value (sym c.in-Some.is ∙ c.first_private.ensures ∙ ap (λ modules. position (λ index. not (is_public_at modules index)) c.as_slice.result.now) c.provided-provided.ensures.provisions) in
     let same = c.index.ensures ∙ get_or_from_slice_get row.items k p.0 c.index.result.now p.3 in
-    let name : p.2 ≡ c.name_at-name.result.now = same_some _ _ (sym p.6 ∙ ap (slice_get (names_of ps)) (sym same) ∙ c.name_at-name.ensures) in
+    let name : p.2 ≡ c.module_at.result.now.name.now = same_some _ _ (sym p.6 ∙ ap (slice_get (names_of ps)) (sym same) ∙ name_there c.provided-provided.result.now _ c.index.result.now c.module_at.result.now c.provided-provided.ensures.provisions c.module_at.ensures) in
     subst (IsPrivate ps) (same_some _ _ (sym p.7.here ∙ p.5) ∙ name) p.7.refused
 
 pub returns-in-Some-clause-fault : goal.returns-in-Some-clause-fault
@@ -76,9 +83,9 @@ returns-in-Some-clause-fault c =
     let at = slice_get_read c.args.required.now _ i row refl c.loop-object-test.true c.index-required-object.is in
     let p = private_in t c.args.required.now c.requires c.provided-provided.ensures.differ i row at k c.as_slice.result.now c.as_slice.ensures.value (sym c.in-Some.is ∙ c.first_private.ensures ∙ ap (λ modules. position (λ index. not (is_public_at modules index)) c.as_slice.result.now) c.provided-provided.ensures.provisions) in
     let same = c.index.ensures ∙ get_or_from_slice_get row.items k p.0 c.index.result.now p.3 in
-    let name : p.2 ≡ c.name_at-name.result.now = same_some _ _ (sym p.6 ∙ ap (slice_get (names_of (provisions t))) (sym same) ∙ c.name_at-name.ensures) in
+    let name : p.2 ≡ c.module_at.result.now.name.now = same_some _ _ (sym p.6 ∙ ap (slice_get (names_of (provisions t))) (sym same) ∙ name_there c.provided-provided.result.now _ c.index.result.now c.module_at.result.now c.provided-provided.ensures.provisions c.module_at.ensures) in
     for_fault _ (λ fault. (kept : List (List ℕ)) → Reports 9 t kept fault.value) _
-    (λ fault is kept. reports_private_object t kept i p.1 k c.name_at-name.result.now is.0 fault.value p.4 c.loop-object.invariant p.7 (p.5 ∙ ap (λ x. Some x) name) is.1 is.2)
+    (λ fault is kept. reports_private_object t kept i p.1 k c.module_at.result.now.name.now is.0 fault.value p.4 c.loop-object.invariant p.7 (p.5 ∙ ap (λ x. Some x) name) is.1 is.2)
     c.requires_private.ensures
 
 pub loop-object-preserved : goal.loop-object-preserved

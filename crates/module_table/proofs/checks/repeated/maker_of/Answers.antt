@@ -1,13 +1,13 @@
 use Rattle.std.proofs.Common.{◌≡◌, ◌+◌, ◌-◌, length, map, refl, true, subst, arith, slice_get, Some}
 use Rattle.module_table.specs.Faults.{Claim, claims_of}
 use Rattle.module_table.specs.inner.Views.{provision_of}
-use Rattle.module_table.proofs.ReportLemmas.{element, own_claim_at, module_claim_at}
+use Rattle.module_table.proofs.ReportLemmas.{own_claim_at, module_claim_at}
 use Rattle.module_table.proofs.checks.repeated.maker_of.Goals as goal
-use Rattle.ninja_text.proofs.ForCallers.{to_map}
+use Rattle.ninja_text.proofs.ForCallers.{to_map, element_at}
 
 pub returns-then-index-objects : goal.returns-then-index-objects
 returns-then-index-objects c =
-    let rule = element c.args.objects.now c.args.index c.if-index-objects.true in
+    let rule = element_at c.args.objects.now c.args.index c.if-index-objects.true in
     (_, own_claim_at c.args.objects.now (map provision_of c.args.provided.now) c.args.index rule.0 rule.1, refl)
 
 pub returns-else-index-objects : goal.returns-else-index-objects

@@ -1,10 +1,11 @@
-use Rattle.std.proofs.Common.{subst}
-use Rattle.module_table.specs.TableValue.{TableValue}
+use Rattle.std.proofs.Common.{◌≡◌, ◌∙◌, ap, sym, subst, map}
 use Rattle.std.proofs.lemmas.Result.{IfOk-weaker}
-use Rattle.module_table.specs.Needed.{ArePairs, IsNeeded}
+use Rattle.module_table.specs.TableValue.{TableValue}
+use Rattle.module_table.specs.Needed.{ArePairs, IsNeeded, lent}
 use Rattle.module_table.proofs.table.Table.needed.Goals as goal
 
 pub returns : goal.returns
 returns c =
-    IfOk-weaker c.copies_of.result _ _
-    (λ copies are. subst (λ (t : TableValue). ArePairs (IsNeeded t c.args.object) copies.items) c.in_ok-needs.ensures are) c.copies_of.ensures
+    let are = subst (λ (t : TableValue). ArePairs (IsNeeded t c.args.object) (map lent c.in_ok-pairs.pairs.items)) c.in_ok-needs.ensures c.in_ok-pairs.ensures.pairs in
+    IfOk-weaker c.copy_pairs.result (λ copies. copies.items ≡ map lent c.deref.result.now) _
+    (λ copies same. subst (ArePairs (IsNeeded c.args.self.now c.args.object)) (sym (same ∙ ap (map lent) c.deref.ensures.value)) are) c.copy_pairs.ensures

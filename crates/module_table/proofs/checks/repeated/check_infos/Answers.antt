@@ -8,7 +8,7 @@ use Rattle.module_table.proofs.Repetitions.{repeats_if_found, keys_if_new, diffe
 use Rattle.module_table.proofs.ReportLemmas.{reports_same, for_boxed}
 use Rattle.module_table.specs.inner.Reported.{Reports}
 use Rattle.module_table.specs.TableValue.{TableValue}
-use Rattle.module_table.proofs.checks.repeated.add_targets.Goals as goal
+use Rattle.module_table.proofs.checks.repeated.check_infos.Goals as goal
 use Rattle.ninja_text.proofs.ForCallers.{to_map}
 
 abbrev text_of : Bor (List ℕ) → List ℕ
@@ -19,7 +19,7 @@ target_of info = info.target
 
 pub loop-info-init : goal.loop-info-init
 loop-info-init c = record {
-  same = ap (map text_of) (c.in_ok-reserve.ensures.keys ∙ c.requires);
+  same = ap (map text_of) (c.in_ok-reserve.ensures.keys ∙ c.with_hasher-targets.ensures.empty);
   differ = record { differ = λ i j x lt at again. cc };
 }
 
