@@ -144,7 +144,7 @@ empty-is : (xs : List ℕ) → is_empty xs ≡ true → xs ≡ []
 empty-is [] e = refl
 empty-is (x ∷ xs) e = absurd cc
 
--- nothing was written where no line is read
+-- nothing was written if no line is read
 none-written : {X : Type 0} (line : X → List ℕ) (entry : X → MapEntry)
     (Q : List MapEntry → X → Type 0) (entries : List MapEntry) (lines : List (List ℕ))
     (found : List MapEntry) → join_with_byte 10 lines ≡ [] → entries ≡ found →

@@ -1,4 +1,4 @@
--- The maps of Clang: where a module is provided, the line that says so and a line with its path;
+-- The maps of Clang: if a module is provided, the line that says so and a line with its path;
 -- then for each needed module a line with its name, `=` and its path, in byte order of names.
 use Rattle.std.specs.Prelude.{◌-◌, Bool, true, List, [], ◌∷◌, ◌++◌, length, map, slice_get, nat_lt, if◌then◌else◌, Option, Some, None, Result, Ok, Err, bytes_eq, codes}
 use Rattle.std.specs.List.{flat_map}

@@ -49,7 +49,7 @@ name_in text = if is_utf8 text && is_name text then Some text else None
 abbrev pub cut : Byte → Text → Option (Text × Text)
 cut mark text = option_map (λ i. (take i text, drop (i + 1) text)) (position (λ b. b == mark) text)
 
--- both, where both are there
+-- both, if both are there
 abbrev pub both : Option Name → Option PathText → Option (Name × PathText)
 both None path = None
 both (Some name) None = None

@@ -58,7 +58,7 @@ no-line-end-behind : (front text : List ℕ) → list_all (λ b. not (b == 10)) 
 no-line-end-behind front text others lacking =
     All-append (λ b. (b == 10) ≡ false) front text (no-line-end front others) lacking
 
--- the line of a needed module is read as it, where its name rises
+-- the line of a needed module is read as that module, if its name rises
 file-back : (entries : List MapEntry) (x : List ℕ × List ℕ) → IsModulePair x → is_fit x.1 ≡ true →
     RisesBehind entries x.0 → clang_form entries (file_line x) ≡ Some (named x)
 file-back entries x is fit rises =
