@@ -1,4 +1,4 @@
--- A line is of at most one class, and of one where the table has no fault.
+-- A line is of at most one class, and of one if the table has no fault.
 use Rattle.std.proofs.Common.{inl, inr, ◌≡◌, ℕ, ◌==◌, ◌&&◌, Bool, true, false, List, [], ◌∷◌, ◌++◌, length, map, refl, sym, ap, ◌∙◌, Some, None, arith}
 use Rattle.std.specs.Prelude.{Option, IsTrue, codes, is_some, if◌then◌else◌, nat_lt}
 use Rattle.std.proofs.lemmas.Bool.{cases_Bool, eqb-true, and_parts}
@@ -101,7 +101,7 @@ rest_after : (words : List (List ℕ)) (more : List Symbol) → after_colon (map
 rest_after [] more = refl
 rest_after (w ∷ words) more = rest_after words more
 
--- where there is no `:`, all words are before it
+-- if there is no `:`, all words are before it
 words_in_all : (words : List (List ℕ)) → words_before_colon (map WordSymbol words) ≡ words
 words_in_all [] = refl
 words_in_all (w ∷ words) = ap (λ l. w ∷ l) (words_in_all words)
@@ -187,7 +187,7 @@ module _ (ss : List StatementValue) (text : List ℕ) (sound : lexical_fault tex
   no_tokens [] h = refl
   no_tokens (t ∷ ts) h = absurd (let x : false ≡ true = h in cc)
 
-  -- where a value is assigned to a name, there is such an assignment
+  -- if a value is assigned to a name, there is such an assignment
   named_so : (name : List ℕ) (o : Option SeenAssignment) (n : ℕ) (v : List ℕ) → value_assigned name o ≡ Some (n, v)
       → (a : SeenAssignment) × (o ≡ Some a) × (a.name_start ≡ n) × (a.name ≡ name) × (value_of a.raw_value ≡ v)
   named_so name None n v h = absurd (let x : ◌≡◌ {A = Option (ℕ × List ℕ)} None (Some (n, v)) = h in cc)

@@ -1,4 +1,4 @@
--- What the reader refuses with is the first fault in the bytes.
+-- What the reader rejects with is the first fault in the bytes.
 use Rattle.std.proofs.Common.{inl, inr, ◌≡◌, ℕ, ◌<◌, ◌≤◌, List, [], ◌∷◌, ◌++◌, length, refl, sym, ap, ◌∙◌, subst, Option, Some, None, Ok, Err}
 use Rattle.std.specs.Prelude.{Result}
 use Rattle.std.specs.Option.{option_and_then}
@@ -49,7 +49,7 @@ pub fault_is : (classes : List DyndepClass) (line : List ℕ) (progress : Progre
 fault_is classes line progress f ran short h =
     rw (le-ltb line_limit (length line) short) (subst (λ s. text_line_fault s (text_of_line line) (is_comment line) ≡ Some f) (stage_runs classes progress ran) h)
 
--- a line that is refused is the first faulty one
+-- a line that is rejected is the first faulty one
 fault_of_line : (bytes : List ℕ) (lent : List LogicalLine) (number : ℕ) (rest : List ℕ) (progress : ProgressValue) (read : AreReadTo dyndep_format LeadToStatements lent progress) → BeginsWith bytes lent number rest
     → (line after : List ℕ) (view : LogicalLine) (n : ℕ) (f : LineFault) → rest ≡ line ++ after → IsLine line → length line ≤ line_limit
     → view ≡ record (logical_line [] line) { number = number } → n ≡ view.number → text_line_fault progress.stage view.text view.comment ≡ Some f → IsReadFaultIn bytes (AtLine n f)
@@ -79,17 +79,17 @@ steps_on : (classes : List DyndepClass) (old new : ProgressValue) (line : Logica
 steps_on classes old new line led (c, is, steps) =
     (c, is, run_more classes (c ∷ []) BeforeVersion [] old led ∙ ap (option_and_then (λ (s : ProgressValue). run s.stage s.statements [])) steps)
 
--- what reading a piece answers and leaves
+-- what reading a piece returns and leaves
 pub fed : (bytes all : List ℕ) (old : DyndepReaderState) (result : Result Unit (Failure ReadFault)) (new : DyndepReaderState) → HasReadDyndep bytes old
     → ((lent : List LogicalLine) → HasLentAll bytes lent old → FeedsLines PassesLine RefusesLine fault_of_cutter all lent old.state result new) → FeedsDyndep all result new
 fed bytes all old result new has feeds = lines.fed dyndep_format LeadToStatements PassesLine RefusesLine fault_of_cutter steps_on IsReadFaultIn fault_of_next bytes all old result new has feeds
 
--- the answer by what the reader of lines ends with
+-- the result by what the reader of lines ends with
 abbrev pub answer_of : Result (ProgressValue × ℕ) (Failure ReadFault) → Result (List StatementValue) (Failure ReadFault)
 answer_of (Ok end) = answer_at_end end.0.stage end.0.statements end.1
 answer_of (Err failure) = Err failure
 
--- what is answered once all of the text was fed, and all lines read
+-- what is returned once all of the text was fed, and all lines read
 answered : (bytes : List ℕ) (lent : List LogicalLine) (classes : List DyndepClass) (stage : Stage) (statements : List StatementValue) (line : ℕ) → BeginsWith bytes lent line []
     → AreTextsOfClasses dyndep_format lent classes → LeadToStatements classes (record { stage = stage; statements = statements }) → EndsDyndepFile bytes (answer_at_end stage statements line)
 answered bytes lent classes BeforeVersion statements line begins texts led =
@@ -100,7 +100,7 @@ answered bytes lent classes NoneOpen statements line begins texts led =
 answered bytes lent classes Open statements line begins texts led =
     all_lent dyndep_format bytes lent line classes statements begins texts (run_is_file classes (record { stage = Open; statements = statements }) led refl)
 
--- what is answered at the end of all bytes fed
+-- what is returned at the end of all bytes fed
 pub ended : (bytes : List ℕ) (r : DyndepReaderState) (result : Result (ProgressValue × ℕ) (Failure ReadFault)) → HasReadDyndep bytes r
     → ((lent : List LogicalLine) → HasLentAll bytes lent r → EndsLines fault_of_cutter bytes lent r.state result) → EndsDyndepFile bytes (answer_of result)
 ended bytes r (Ok end) has ends =

@@ -111,7 +111,7 @@ decided = record {
 pub one_list : (bytes : List ℕ) (ss ts : List StatementValue) → StandsFor bytes ss → StandsFor bytes ts → ss ≡ ts
 one_list bytes ss ts a b = lines.one_value dyndep_format dyndep_faults decided bytes ss ts a b
 
--- and where it does, it has no fault
+-- and if it does, it has no fault
 pub not_both : (bytes : List ℕ) (ss : List StatementValue) (found : FaultAt) → StandsFor bytes ss → HasReadFault bytes found → ⊥
 not_both bytes ss found a f = lines.not_both dyndep_format dyndep_faults decided bytes ss found.line found.fault a f
 

@@ -109,7 +109,7 @@ module _ (text : List ℕ) (sound : lexical_fault text ≡ None) where
     go [] e h = absurd (let x : head ∷ others ≡ [] = h in cc)
     go (t ∷ ts) e h = record { token = t; rest = ts; are = e; is = let x : with_raw text t ≡ head = cc in x }
 
-  -- the text's fault, where it has a token
+  -- the text's fault, if it has a token
   with_tokens : (head : SeenToken) (others : List SeenToken) → head ∷ others ≡ seen_tokens text → is_empty (tokens text) ≡ false
   with_tokens head others h = let f = first head others h in ap is_empty f.are
 
@@ -187,6 +187,6 @@ pub binds : (stage : Stage) (before after : List StatementValue) (flag other : B
     → step stage before (Binding flag) ≡ Some (record { stage = NoneOpen; statements = after })
 binds stage before after flag other open_now same set = rw (open_now, same, set) refl
 
--- a list is not empty where its length is not 0
+-- a list is not empty if its length is not 0
 pub not_empty : (bytes : List ℕ) (len : ℕ) (empty : Bool) → empty ≡ (len == 0) → len ≡ length bytes → nat_lt 0 (length bytes) ≡ not empty
 not_empty bytes len empty e is = grind (arith, nat_tests)

@@ -1,4 +1,4 @@
--- The paths of a part, as they are lent and as lists, and what is written of the first of them.
+-- The paths of a part, as they are borrowed and as lists, and what is written of the first of them.
 use Rattle.std.proofs.Common.{◌≡◌, ℕ, suc, ◌+◌, ◌<◌, List, [], ◌∷◌, ◌++◌, length, get_or, take, codes, true, false, Bor, ap, refl, sym, ◌∙◌, ◌==◌, subst, arith, append_assoc, length-append}
 use Rattle.std.specs.Prelude.{All}
 use Rattle.std.specs.List.{flat_map}
@@ -22,7 +22,7 @@ flat_map_next f xs i x lt is =
     ∙ flat_map-append f (take i xs) (x ∷ [])
     ∙ ap (λ t. flat_map f (take i xs) ++ t) (append-nil (f x))
 
--- the same of a path, given as it is lent
+-- the same of a path, given as it is borrowed
 pub flat_map_next_path : (f : List ℕ → List ℕ) (paths : List (Bor (List ℕ))) (i : ℕ) (other : Bor (List ℕ)) → i < length paths → flat_map f (take (i + 1) (lent_texts paths)) ≡ flat_map f (take i (lent_texts paths)) ++ f (get_or paths i other).now
 flat_map_next_path f paths i other lt =
     let path = (get_or paths i other).now in

@@ -33,7 +33,7 @@ consumes_more (Some p) None c x y h k = absurd h
 consumes_more (Some p) (Some q) None x y h k = absurd k
 consumes_more (Some p) (Some q) (Some r) x y h k = h ∙ ap (λ l. x ++ l) k ∙ sym (append_assoc x y r)
 
--- the same, where the last read took nothing
+-- the same, if the last read took nothing
 consumes_kept : (a b c : Option (List ℕ)) (x : List ℕ) → Consumes a b x → Keeps b c → Consumes a c (x ++ [])
 consumes_kept None b c x h k = tt
 consumes_kept (Some p) None c x h k = absurd h
@@ -55,7 +55,7 @@ unrefused bytes r has line fault refused = lines.none_refused dyndep_format Lead
   found (inl f) = inl f
   found (inr e) = inr (e.0, too_long fault e.0.rest e.0.classes e.1 e.0.reason)
 
--- what a refused `feed` answers is the answer of the call
+-- what a failed `feed` returns is the result of the call
 err_is : (result : Result (List StatementValue) (Failure ReadFault)) (failure : Failure ReadFault) → IsErrAnd result (λ e. e ≡ failure) → Err failure ≡ result
 err_is (Ok statements) failure h = absurd h
 err_is (Err e) failure h = ap Err (sym h)
@@ -96,7 +96,7 @@ some_bytes reads now turn bytes calls gives so_far =
     rw length-append (let len : length (take turn.count turn.buffer) ≡ turn.count = length-take-le turn.count turn.buffer (omega (arith, gives.within, gives.buffer)) in
     omega (arith, gives.some))
 
--- a call that gave bytes which were not refused
+-- a call that gave bytes which were not rejected
 pub one_more_call : {R : Type 0} (remaining : R → Option (List ℕ)) (reads : Call R) (old now : R) (before after : DyndepReaderState) (calls : ℕ) (turn : ReadTurn R)
     → (s : ReadSoFar remaining reads old now before calls) → GivesSome reads now turn → Consumes (remaining now) (remaining turn.reader) (bytes_of turn)
     → HasReadDyndep (bytes_read s.turns ++ bytes_of turn) after → ReadSoFar remaining reads old turn.reader after (calls + 1)
@@ -110,9 +110,9 @@ one_more_call remaining reads old now before after calls turn s gives consumed f
       counted = subst (λ x. calls + 1 ≤ length x) bytes (some_bytes reads now turn (bytes_read s.turns) calls gives s.counted);
     }
 
--- ---- the answers
+-- ---- the results
 
--- the count of failed calls where none has failed
+-- the count of failed calls if none has failed
 kept : {R : Type 0} (old new : Counted R) → failures new ≡ failures old → Counts false (failures old) (failures new)
 kept old new h = h
 
@@ -151,7 +151,7 @@ failed remaining reads old new now reader calls buffer error s room call keeps c
   at_end = λ e. absurd (cc);
 }
 
--- a call gave bytes that were refused
+-- a call gave bytes that were rejected
 pub refused : {R : Type 0} (remaining : R → Option (List ℕ)) (reads : Call R) (old new : Counted R) (now : R) (reader : DyndepReaderState) (calls : ℕ) (buffer : List ℕ) (count : ℕ) (failure : Failure ReadFault)
     (result : Result (List StatementValue) (Failure ReadFault)) → (s : ReadSoFar remaining reads (held old) now reader calls)
     → GivesSome reads now (record { reader = held new; buffer = buffer; count = count })

@@ -40,7 +40,7 @@ with_last_restat-push (s ∷ t ∷ ss) output outputs inputs flag = ap (λ xs. s
 progress_same : {x y : ProgressValue} → ◌≡◌ {A = Option ProgressValue} (Some x) (Some y) → x ≡ y
 progress_same h = cc
 
--- what may follow where no statement is open may follow where one is
+-- what may follow if no statement is open may follow if one is
 open_runs : (classes : List DyndepClass) (start result : List StatementValue) → RunsTo NoneOpen start classes result → RunsTo Open start classes result
 open_runs [] start result r =
     let same : start ≡ result = ap (λ s. s.statements) (progress_same r.is) in
@@ -103,7 +103,7 @@ record Added (classes : List DyndepClass) (start : List StatementValue) (end : P
   are : end.statements ≡ start ++ statements
   grammar : IsDyndepBody classes statements
 
--- the statements that any run over these lines adds, where no statement is open and where one is
+-- the statements that any run over these lines adds, if no statement is open and if one is
 record RunAdds (classes : List DyndepClass) : Type 0 where
   none : (start : List StatementValue) (end : ProgressValue) → run NoneOpen start classes ≡ Some end → Added classes start end
   one : (start : List StatementValue) (o : List ℕ) (outs ins : List (List ℕ)) (end : ProgressValue) → run Open (start ++ statement o outs ins false ∷ []) classes ≡ Some end
@@ -196,7 +196,7 @@ runs_begin (Version ∷ classes) end h =
 runs_begin (Build o outs ins ∷ classes) end h = never h
 runs_begin (Binding flag ∷ classes) end h = never h
 
--- the stage after these lines, where no statement was open before them and where one was
+-- the stage after these lines, if no statement was open before them and if one was
 record Stages (classes : List DyndepClass) : Type 0 where
   none : (start : List StatementValue) (end : ProgressValue) → run NoneOpen start classes ≡ Some end → end.stage ≡ (if is_open classes then Open else NoneOpen)
   one : (start : List StatementValue) (end : ProgressValue) → run Open start classes ≡ Some end → end.stage ≡ (if list_all is_comment_class classes || is_open classes then Open else NoneOpen)

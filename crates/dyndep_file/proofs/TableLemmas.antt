@@ -42,7 +42,7 @@ pub inputs_pass : (words : List (List ℕ)) (more : List Symbol) → implicit_in
 inputs_pass [] more = refl
 inputs_pass (w ∷ words) more = inputs_pass words more
 
--- nor has what comes after the rule, where it is a part of implicit inputs
+-- nor has what comes after the rule, if it is a part of implicit inputs
 after_rule_passes : (after : List Symbol) (words : List (List ℕ)) → IsPart Bar after words → after_rule_fault after ≡ None
 after_rule_passes after words (inl h) = ap after_rule_fault h.0
 after_rule_passes after words (inr h) = ap after_rule_fault (h ∙ ap (λ s. SignSymbol Bar ∷ s) (sym (append-nil (map WordSymbol words)))) ∙ inputs_pass words []
@@ -52,7 +52,7 @@ pub outputs_pass : (words : List (List ℕ)) (more : List Symbol) → implicit_o
 outputs_pass [] more = refl
 outputs_pass (w ∷ words) more = outputs_pass words more
 
--- nor has what comes after the output, where it is a part of implicit outputs
+-- nor has what comes after the output, if it is a part of implicit outputs
 pub after_output_passes : (before : List Symbol) (words : List (List ℕ)) (more : List Symbol) → IsPart Bar before words → after_output_fault (before ++ SignSymbol Colon ∷ more) ≡ rule_fault more
 after_output_passes before words more (inl h) = ap (λ b. after_output_fault (b ++ SignSymbol Colon ∷ more)) h.0
 after_output_passes before words more (inr h) = ap (λ b. after_output_fault (b ++ SignSymbol Colon ∷ more)) h ∙ outputs_pass words (SignSymbol Colon ∷ more)
@@ -114,7 +114,7 @@ names_apart text t a h start name at word =
     let b : get_or text 0 0 ≡ 98 = slice_first text t.end 98 _ (ap (λ k. slice_range text k t.end) (sym at) ∙ word) in
     omega arith
 
--- a text of each class, where it may stand
+-- a text of each class, if it may stand
 module _ (text : List ℕ) where
   -- a text that is no comment and has no lexical fault has the fault of its tokens
   without_lexical_fault : (stage : Stage) (comment : Bool) → comment ≡ false → lexical_fault text ≡ None → text_fault stage text ≡ None → text_line_fault stage text comment ≡ None
@@ -154,7 +154,7 @@ module _ (text : List ℕ) where
     ]
   ]
 
-  -- where the tokens begin at the first byte, the first of them does
+  -- if the tokens begin at the first byte, the first of them does
   pub starts : (t : TokenAt) (ts : List TokenAt) → tokens text ≡ t ∷ ts → IsTrue (begins_at_start (tokens text)) → t.start ≡ 0
   starts t ts e h = let zero : (t.start == 0) ≡ true = subst (λ x. IsTrue (begins_at_start x)) e h in eqb-true t.start 0 zero
 
@@ -183,7 +183,7 @@ module _ (text : List ℕ) where
     | inr e ↦ rw (e, indent) (ap (λ v. indented_fault Open (is_some v)) (value_at (codes "restat") assigns.0 assigns.1 assigns.3))
   ]
 
--- where a line may not stand, no progress comes of it
+-- if a line may not stand, no progress comes of it
 pub never : {end : ProgressValue} {A : Type 0} → ◌≡◌ {A = Option ProgressValue} None (Some end) → A
 never h = absurd (cc)
 

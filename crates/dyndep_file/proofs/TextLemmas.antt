@@ -54,7 +54,7 @@ no_path : (s : StatementValue) (index : ℕ) → position (λ path. not (is_writ
     → statement_fault index s ≡ cond (nat_lt line_limit (length (build_line s))) (Some (StatementTooLong index)) None
 no_path s index none = ap (λ o. option_or (option_map (λ path. Unwritable index path) o) (cond (nat_lt line_limit (length (build_line s))) (Some (StatementTooLong index)) None)) none
 
--- a path has no spelling
+-- a path cannot be escaped
 pub unwritable : (s : StatementValue) (index path : ℕ) → position (λ p. not (is_writable p)) (paths_of s) ≡ Some path → statement_fault index s ≡ Some (Unwritable index path)
 unwritable s index path found = ap (λ o. option_or (option_map (λ p. Unwritable index p) o) (cond (nat_lt line_limit (length (build_line s))) (Some (StatementTooLong index)) None)) found
 
@@ -115,7 +115,7 @@ counted statements bytes same =
     let both : length (dyndep_text statements) ≡ length version_line + length (flat_map statement_text statements) = length-append version_line (flat_map statement_text statements) in
     omega (arith, both, ap length same, lines_within statements)
 
--- ---- what is answered where a statement has a fault
+-- ---- what is returned if a statement has a fault
 
 -- behind statements without one, its fault is that of all
 pub refused_behind : (before : List StatementValue) (s : StatementValue) (after : List StatementValue) (count : ℕ) (failure : Failure WriteFault) → write_fault before ≡ None → count ≡ length before

@@ -21,12 +21,12 @@ use Rattle.dyndep_file.specs.declared.fault.WriteFault.{WriteFault}
 use Rattle.dyndep_file.specs.declared.fault.WriteFault.TheVariants.{Unwritable, StatementTooLong, Io}
 use Rattle.dyndep_file.proofs.Positions.{position_none}
 
--- what holds where a choice between some value and another answer gives none
+-- what holds if a choice between some value and another result gives none
 cond_none : {X : Type 0} (b : Bool) (x : X) (o : Option X) → cond b (Some x) o ≡ None → (b ≡ false) × (o ≡ None)
 cond_none true x o h = cc
 cond_none false x o h = (refl, h)
 
--- none of two answers is there
+-- none of two results is there
 or_none : {X : Type 0} (a b : Option X) → option_or a b ≡ None → (a ≡ None) × (b ≡ None)
 or_none None b h = (refl, h)
 or_none (Some x) b h = cc
@@ -36,7 +36,7 @@ map_none : {X Y : Type 0} (f : X → Y) (o : Option X) → option_map f o ≡ No
 map_none f None h = refl
 map_none f (Some x) h = cc
 
--- where no element is found, each fails the test
+-- if no element is found, each fails the test
 fails_each : {X : Type 0} (p : X → Bool) (i : ℕ) (xs : List X) → position_from p i xs ≡ None → All (λ x. p x ≡ false) xs
 fails_each p i [] h = All-nil (λ x. p x ≡ false)
 fails_each p i (x ∷ xs) h =
@@ -50,7 +50,7 @@ not_not : (b : Bool) → not b ≡ false → IsTrue b
 not_not true h = refl
 not_not false h = cc
 
--- where no path is found that has no spelling, each has one
+-- if no path is found that cannot be escaped, each can be escaped
 pub paths_written : (paths : List (List ℕ)) → position (λ path. not (is_writable path)) paths ≡ None → All IsWritable paths
 paths_written paths h k d lt =
     (is_writable-meaning (get_or paths k d)).0
@@ -110,7 +110,7 @@ none_faulty index (s ∷ ss) a =
     ap (λ o. option_or o (fault_from (index + 1) ss)) (statement_unfaulty index s (a 0 s (omega arith)))
     ∙ none_faulty (index + 1) ss (tail_of s ss a)
 
--- the first of two answers, or else the second
+-- the first of two results, or else the second
 or_some : {X : Type 0} (a b : Option X) (x : X) → option_or a b ≡ Some x → (a ≡ Some x) ⊎ (b ≡ Some x)
 or_some None b x h = inr h
 or_some (Some a) b x h = inl h
@@ -157,12 +157,12 @@ pub reported : (fault : Option WriteFault) (statements : List StatementValue) (a
 reported None statements answer h = cc
 reported (Some fault) statements answer h = cc
 
--- the text that is made where there is no fault
+-- the text that is made if there is no fault
 given : (fault : Option WriteFault) (statements : List StatementValue) (text : List ℕ) → text_unless fault statements ≡ Ok text → (fault ≡ None) × (text ≡ dyndep_text statements)
 given None statements text h = (refl, let same : dyndep_text statements ≡ text = cc in sym same)
 given (Some fault) statements text h = cc
 
--- A failure to make the text is what a call may answer before the first byte.
+-- A failure to make the text is what a call may return before the first byte.
 pub failed : {W : Type 0} (contents : W → Option (List ℕ)) (out : Counted W) (text : List ℕ) (statements : List StatementValue) (failure : Failure WriteFault)
     → Gives {T = Vec ℕ Global} (λ made. made.items) (Err failure) (text_or_fault statements)
     → LeavesWriter contents out out text failure × AnswersWriteFault {T = Unit {0}} (write_fault statements) (Err failure)

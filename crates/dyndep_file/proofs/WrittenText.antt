@@ -42,7 +42,7 @@ restat_assigns = let restat : SeenAssignment = record { name_start = 2; name = c
 restat_classed : IsOfClass dyndep_format restat_line (Binding true)
 restat_classed = (omega arith, (refl, refl, refl, 2, codes "1", restat_assigns, refl))
 
--- the lines of a statement, its binding only where the flag is set, and their classes
+-- the lines of a statement, its binding only if the flag is set, and their classes
 abbrev pub flag_lines : Bool → List (List ℕ)
 flag_lines flag = if flag then restat_line ∷ [] else []
 

@@ -19,7 +19,7 @@ pub record Facts (build : Option (List ℕ)) (text path : List ℕ) : Type 0 whe
   pub made : seen_from build (is_rooted text) (reduced (components text)) ≡ path
   pub short : nat_lt 4096 (length path) ≡ false
 
--- a test that answers a fault failed where there is a path
+-- if there is a path, each test that returns a fault failed
 err_or : (b : Bool) (f : PathFault) (r : Result (List ℕ) PathFault) (p : List ℕ) → cond b (Err f) r ≡ Ok p → (b ≡ false) × (r ≡ Ok p)
 err_or true f r p h = cc
 err_or false f r p h = (refl, h)
@@ -29,12 +29,12 @@ long_or : (b : Bool) (last p : List ℕ) → cond b (Err TooLong) (Ok last) ≡ 
 long_or true last p h = cc
 long_or false last p h = (refl, cc)
 
--- what held at the last two tests where there is a path
+-- what held at the last two tests if there is a path
 checked_ok : (o : Option ℕ) (last p : List ℕ) → checked o last ≡ Ok p → (o ≡ None) × (last ≡ p) × (nat_lt 4096 (length p) ≡ false)
 checked_ok None last p h = let k = long_or (nat_lt 4096 (length last)) last p h in (refl, k.1, ap (λ l. nat_lt 4096 (length l)) (sym k.1) ∙ k.0)
 checked_ok (Some n) last p h = cc
 
--- where a text has a path, these facts hold
+-- if a text has a path, these facts hold
 pub facts : (build : Option (List ℕ)) (text p : List ℕ) → canonical_of build text ≡ Ok p → Facts build text p
 unfolding canonical_of
 facts build text p h =
@@ -43,7 +43,7 @@ facts build text p h =
     let k = checked_ok (position is_unwritable text) (seen_from build (is_rooted text) (reduced (components text))) p b.1 in
     record { some = a.0; inside = b.0; clean = k.0; made = k.1; short = k.2 }
 
--- and where they hold, it has that path
+-- and if they hold, it has that path
 pub from_facts : (build : Option (List ℕ)) (text p : List ℕ) → Facts build text p → canonical_of build text ≡ Ok p
 unfolding canonical_of
 from_facts build text p f =
@@ -56,7 +56,7 @@ from_facts build text p f =
 
 -- ---- no unwritable byte
 
--- each byte has a spelling
+-- each byte can be escaped
 abbrev pub IsClean : List ℕ → Type 0
 IsClean text = AllByRecursion (λ b. is_unwritable b ≡ false) text
 
@@ -75,7 +75,7 @@ rooted-list [] (y ∷ ys) f e = let g = f.0 in cc
 rooted-list (b ∷ bs) [] f e = e.0.0
 rooted-list (b ∷ bs) (y ∷ ys) f e = e.0.0
 
--- a path begins at the root where it is written so
+-- a path begins at the root if it is written so
 pub rooted-text : (rooted : Bool) (list : List (List ℕ)) → IsWhole rooted list → is_rooted (path_text rooted list) ≡ rooted
 rooted-text true list w = refl
 rooted-text false [] w = let h = w.some in cc
@@ -257,7 +257,7 @@ directory-is build directory h r e = cons-tail 47 directory (list_text (reduced 
 each-reduced : (text : List ℕ) → EachLacksSlash (reduced (components text))
 each-reduced text = reduced-each LacksSlash (components text) (components-lack text)
 
--- where both prefixes were taken off, what is left is the list below the directory
+-- if both prefixes were taken off, what is left is the list below the directory
 pub below-found : (build directory list rest r text : List ℕ) → IsPath build → directory ≡ list_text (reduced (components build)) → list ≡ list_text (reduced (components text)) → list ≡ directory ++ rest → rest ≡ (47 ∷ []) ++ r
     → option_map list_text (below (reduced (components build)) (reduced (components text))) ≡ Some r
 below-found build directory list rest r text h d e k m =
@@ -266,7 +266,7 @@ below-found build directory list rest r text h d e k m =
     ap (λ l. option_map list_text (below l (reduced (components text)))) f.2
     ∙ below-is f.0 f.1 (reduced (components text)) r (subst EachLacksSlash f.2 (each-reduced build)) (each-reduced text) whole
 
--- where one of them was not there, no list is below the directory
+-- if one of them was not there, no list is below the directory
 pub below-missed : (build directory list text : List ℕ) → IsPath build → directory ≡ list_text (reduced (components build)) → list ≡ list_text (reduced (components text)) → ((r : List ℕ) → list ≡ directory ++ 47 ∷ r → ⊥)
     → option_map list_text (below (reduced (components build)) (reduced (components text))) ≡ None
 below-missed build directory list text h d e absent =
@@ -274,7 +274,7 @@ below-missed build directory list text h d e absent =
     ap (λ l. option_map list_text (below l (reduced (components text)))) f.2
     ∙ below-not f.0 f.1 (reduced (components text)) (λ r k. absent r (e ∙ k ∙ ap (λ x. x ++ 47 ∷ r) (sym (d ∙ ap list_text f.2))))
 
--- ---- each fault, where it is the lowest
+-- ---- each fault, if it is the lowest
 
 -- the tests behind that of the root
 abbrev last_tests : Option (List ℕ) → List ℕ → Result (List ℕ) PathFault
@@ -302,7 +302,7 @@ is-above build text h k = go-on build text h ∙ ap (λ b. cond b (Err AboveRoot
 go-last : (build : Option (List ℕ)) (text : List ℕ) → is_empty (reduced (components text)) ≡ false → (is_rooted text && list_any is_parent (reduced (components text))) ≡ false → canonical_of build text ≡ last_tests build text
 go-last build text h k = go-on build text h ∙ ap (λ b. cond b (Err AboveRoot) (last_tests build text)) k
 
--- a byte of the text has no spelling
+-- a byte of the text cannot be escaped
 pub is-unwritable : (build : Option (List ℕ)) (text : List ℕ) (index : ℕ) → is_empty (reduced (components text)) ≡ false → (is_rooted text && list_any is_parent (reduced (components text))) ≡ false → position is_unwritable text ≡ Some index → canonical_of build text ≡ Err (Unwritable index)
 is-unwritable build text index h k m = go-last build text h k ∙ ap (λ o. checked o (seen_from build (is_rooted text) (reduced (components text)))) m
 
@@ -318,7 +318,7 @@ is-long build text last h k m e lt = go-checked build text last h k m e ∙ ap (
 pub is-path : (build : Option (List ℕ)) (text last : List ℕ) → is_empty (reduced (components text)) ≡ false → (is_rooted text && list_any is_parent (reduced (components text))) ≡ false → position is_unwritable text ≡ None → last ≡ seen_from build (is_rooted text) (reduced (components text)) → length last ≤ 4096 → canonical_of build text ≡ Ok last
 is-path build text last h k m e le = go-checked build text last h k m e ∙ ap (λ b. cond b (Err TooLong) (Ok last)) (le-ltb 4096 (length last) le)
 
--- the last tests never answer that no component is left
+-- the last tests never return that no component is left
 checked-not-empty : (o : Option ℕ) (last : List ℕ) → checked o last ≡ Err Empty → ⊥
 checked-not-empty (Some n) last e = cc
 checked-not-empty None last e = go (nat_lt 4096 (length last)) e
@@ -335,7 +335,7 @@ some-not-empty build text h e = go (is_rooted text && list_any is_parent (reduce
     go true k = cc
     go false k = checked-not-empty (position is_unwritable text) (seen_from build (is_rooted text) (reduced (components text))) k
 
--- a list is empty where its text is
+-- a list is empty if its text is
 pub nothing-is : (list : List (List ℕ)) → IsFixed list → (length (list_text list) == 0) ≡ is_empty list
 nothing-is [] f = refl
 nothing-is ([] ∷ []) f = cc

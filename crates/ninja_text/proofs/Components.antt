@@ -109,7 +109,7 @@ components-some r = go (components r) refl
     go [] h = absurd (never r h)
     go (p ∷ ps) h = (p, ps, h)
 
--- the text begins with the directory and a slash exactly where the directory is a proper beginning
+-- the text begins with the directory and a slash if and only if the directory is a proper beginning
 pub below-text : (d : List ℕ) (ds : List (List ℕ)) (cs : List (List ℕ)) (r : List ℕ) → EachLacksSlash (d ∷ ds) → EachLacksSlash cs → (c : List ℕ) × (l : List (List ℕ)) × (cs ≡ c ∷ l) → list_text cs ≡ list_text (d ∷ ds) ++ 47 ∷ r → below (d ∷ ds) cs ≡ Some (components r)
 below-text d ds cs r each lacks some e =
     let k : cs ≡ (d ∷ ds) ++ components r =
@@ -134,7 +134,7 @@ below-is d ds [] r each lacks e = absurd (no (list_text (d ∷ ds)) e)
     no (x ∷ xs) h = cc
 below-is d ds (c ∷ cs) r each lacks e = ap (option_map list_text) (below-text d ds (c ∷ cs) r each lacks (c, cs, refl) e) ∙ ap Some (join_with_byte-slice_split 47 r)
 
--- nothing is below where the text does not begin with the directory and a slash
+-- nothing is below if the text does not begin with the directory and a slash
 pub below-not : (d : List ℕ) (ds cs : List (List ℕ)) → ((r : List ℕ) → list_text cs ≡ list_text (d ∷ ds) ++ 47 ∷ r → ⊥) → option_map list_text (below (d ∷ ds) cs) ≡ None
 below-not d ds cs absent = go (below (d ∷ ds) cs) refl
   where

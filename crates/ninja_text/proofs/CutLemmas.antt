@@ -140,9 +140,9 @@ module _ (taken : List ℕ) (lent : List LogicalLine) (number : ℕ) (bytes : Li
     number = cuts.number;
   }
 
--- whatever was taken and lent before, a step takes what it answers
+-- whatever was taken and returned before, a step takes what it returns
 module _ (taken : List ℕ) (lent : List LogicalLine) where
-  -- the same where memory is there
+  -- the same if no allocation fails
   abbrev TakesAll : List ℕ → Result ℕ CutFault → CutterState → Type 0
   TakesAll piece (Ok n) new = Cuts (taken ++ take n piece) lent new
   TakesAll piece (Err fault) new = Cuts taken lent new

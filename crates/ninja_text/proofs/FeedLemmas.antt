@@ -1,4 +1,4 @@
--- What a cutter's calls do where no line waits: when a feed is refused, and what it leaves.
+-- What a cutter's calls do if no line waits: when a feed fails, and what it leaves.
 use Rattle.std.proofs.Common.{inl, inr, ◌≡◌, ℕ, ◌+◌, ◌<◌, ◌≤◌, Bool, true, false, List, [], ◌∷◌, ◌++◌, length, take, drop, refl, sym, ap, ◌∙◌, subst, append_assoc, Some, None, Ok}
 use Rattle.std.proofs.Common.{Err, arith, min}
 use Rattle.std.specs.Prelude.{Option, Result, nat_le, if◌then◌else◌}
@@ -17,7 +17,7 @@ use Rattle.ninja_text.proofs.ReachLemmas.{take_shorter}
 abbrev pub working : ℕ → List ℕ → CutterState
 working number bytes = record { number = number; bytes = bytes; waits = false; failed = false }
 
--- a cutter where no line waits, and that has not failed, is a working one
+-- a cutter for which no line waits and that has not failed is a working one
 pub is_working : (h : CutterState) → h.waits ≡ false → h.failed ≡ false → h ≡ working h.number h.bytes
 is_working h i j = rebuilt i j where
   rebuilt : {p q : Bool} → p ≡ false → q ≡ false → ◌≡◌ {A = CutterState} (record { number = h.number; bytes = h.bytes; waits = p; failed = q }) (working h.number h.bytes)
@@ -27,7 +27,7 @@ is_working h i j = rebuilt i j where
 pub moves_on : (front rest all : List ℕ) (n : ℕ) → front ++ rest ≡ all → (front ++ take n rest) ++ drop n rest ≡ all
 moves_on front rest all n h = append_assoc front (take n rest) (drop n rest) ∙ ap (λ r. front ++ r) (take-append-drop n rest) ∙ h
 
--- where a feed succeeds and no line waits after it, the rest is below the limit; by the first end of a line
+-- if a feed succeeds and no line waits after it, the rest is below the limit; by the first end of a line
 below_up_to : (h : CutterState) (piece : List ℕ) (n : ℕ) (new : CutterState) (o : Option LineEnd) → feed_outcome_at h piece o ≡ (Ok n, new) → new.waits ≡ false
     → (length new.bytes < line_limit) × (new.failed ≡ h.failed)
 below_up_to h piece n new (Some e) is waits = absurd (let x : true ≡ false = ap (λ p. p.1.waits) is ∙ waits in cc)
@@ -42,7 +42,7 @@ below_at_work : (number : ℕ) (bytes piece : List ℕ) (n : ℕ) (new : CutterS
     → (length new.bytes < line_limit) × (new.failed ≡ false)
 below_at_work number bytes piece n new is waits = below_up_to (working number bytes) piece n new (line_end (take line_limit (bytes ++ piece))) is waits
 
--- the same, of a feed of any cutter that has not failed and lends no line
+-- the same, of a feed of any cutter that has not failed and returns no line
 pub below_limit : (h : CutterState) (piece : List ℕ) (n : ℕ) (new : CutterState) → h.failed ≡ false → h.waits ≡ false → feed_outcome h piece ≡ (Ok n, new) → new.waits ≡ false
     → length new.bytes < line_limit
 below_limit h piece n new works waits is waits' = (below_at_work h.number h.bytes piece n new (subst (λ k. feed_outcome k piece ≡ (Ok n, new)) (is_working h waits works) is) waits').0
@@ -54,7 +54,7 @@ lends_none h new is works waits = is ∙ same h.number h.bytes h.waits h.failed 
       → after_lending (record { number = number; bytes = bytes; waits = p; failed = q }) ≡ record { number = number; bytes = bytes; waits = p; failed = q }
   same number bytes p q i j = rw (i, j) refl
 
--- a cutter that lends its line holds nothing of the next
+-- a cutter that returns its line holds nothing of the next
 pub lends_some : (h new : CutterState) → new ≡ after_lending h → h.failed ≡ false → h.waits ≡ true → (new.waits ≡ false) × (new.failed ≡ false) × (new.bytes ≡ []) × (lent_next h ≡ waiting_line h ∷ [])
 lends_some h new is works waits = (ap (λ k. k.waits) it, ap (λ k. k.failed) it, ap (λ k. k.bytes) it, next h.waits h.failed waits works) where
   after : (number : ℕ) (bytes : List ℕ) (p q : Bool) → p ≡ true → q ≡ false
@@ -67,7 +67,7 @@ lends_some h new is works waits = (ap (λ k. k.waits) it, ap (λ k. k.failed) it
   next : (p q : Bool) → p ≡ true → q ≡ false → (if q then [] else if p then waiting_line h ∷ [] else []) ≡ waiting_line h ∷ []
   next p q i j = rw (i, j) refl
 
--- where a feed is refused, a line waits only if one waited before; by the first end of a line
+-- if a feed fails, a line waits only if one waited before; by the first end of a line
 waits_up_to : (h : CutterState) (piece : List ℕ) (e : CutFault) (new : CutterState) (o : Option LineEnd) → feed_outcome_at h piece o ≡ (Err e, new) → new.waits ≡ h.waits
 waits_up_to h piece e new (Some at) is = absurd (let x : ◌≡◌ {A = Result ℕ CutFault} (Ok _) (Err e) = ap (λ p. p.0) is in cc)
 waits_up_to h piece e new None is = elim (cases_Bool (nat_le line_limit (length (h.bytes ++ piece)))) [
@@ -75,18 +75,18 @@ waits_up_to h piece e new None is = elim (cases_Bool (nat_le line_limit (length 
   | inr f ↦ absurd (let x : ◌≡◌ {A = Result ℕ CutFault} (Ok _) (Err e) = ap (λ p. p.0) (rw f at is) in cc)
 ]
 
--- a refused feed of a cutter where no line waits leaves none waiting
+-- if no line waits, a failed feed leaves none waiting
 fed_waits : (number : ℕ) (bytes : List ℕ) (failed : Bool) (piece : List ℕ) (e : CutFault) (new : CutterState)
     → feed_outcome (record { number = number; bytes = bytes; waits = false; failed = failed }) piece ≡ (Err e, new) → new.waits ≡ false
 fed_waits number bytes true piece e new is = sym (ap (λ p. p.1.waits) is)
 fed_waits number bytes false piece e new is = waits_up_to (working number bytes) piece e new (line_end (take line_limit (bytes ++ piece))) is
 
--- a feed that is refused for a fault leaves no line waiting
+-- a feed that fails with a fault leaves no line waiting
 err_fed : (h : CutterState) (piece : List ℕ) (e : CutFault) (new : CutterState) → h.waits ≡ false → feed_outcome h piece ≡ (Err e, new) → new.waits ≡ false
 err_fed h piece e new waits is =
     fed_waits h.number h.bytes h.failed piece e new (subst (λ b. feed_outcome (record { number = h.number; bytes = h.bytes; waits = b; failed = h.failed }) piece ≡ (Err e, new)) waits is)
 
--- a refused feed leaves no line waiting, want of memory included
+-- a failed feed leaves no line waiting, a failed allocation included
 pub err_waits : (h : CutterState) (piece : List ℕ) (e : Failure CutFault) (new : CutterState) → h.waits ≡ false → Feeds h piece (Err e) new → new.waits ≡ false
 err_waits h piece Memory new waits is = ap (λ k. k.waits) is.2 ∙ waits
 err_waits h piece (Fault fault) new waits is = err_fed h piece fault new waits is
@@ -104,7 +104,7 @@ too_long bytes e none some = elim (cases_lt line_limit e.line_len) [
       absurd (let clash : ◌≡◌ {A = Option LineEnd} None (Some e) = sym none ∙ found in cc)
 ]
 
--- a feed refuses a line as too long where there is no end and the bytes reach the limit; by the first end of a line
+-- a feed rejects a line as too long if there is no end and the bytes reach the limit; by the first end of a line
 too_long_up_to : (h : CutterState) (piece : List ℕ) (l : ℕ) (new : CutterState) (o : Option LineEnd) → feed_outcome_at h piece o ≡ (Err (LineTooLong l), new)
     → (o ≡ None) × (line_limit ≤ length (h.bytes ++ piece)) × (l ≡ h.number)
 too_long_up_to h piece l new (Some e) is = absurd (let x : ◌≡◌ {A = Result ℕ CutFault} (Ok _) (Err (LineTooLong l)) = ap (λ p. p.0) is in cc)
@@ -118,7 +118,7 @@ pub too_long_at_work : (number : ℕ) (bytes piece : List ℕ) (l : ℕ) (new : 
     → (line_end (take line_limit (bytes ++ piece)) ≡ None) × (line_limit ≤ length (bytes ++ piece)) × (l ≡ number)
 too_long_at_work number bytes piece l new is = too_long_up_to (working number bytes) piece l new (line_end (take line_limit (bytes ++ piece))) is
 
--- a feed refuses no line as truncated; by the first end of a line
+-- a feed rejects no line as truncated; by the first end of a line
 never_truncated_up_to : (h : CutterState) (piece : List ℕ) (l : ℕ) (new : CutterState) (o : Option LineEnd) → feed_outcome_at h piece o ≡ (Err (Truncated l), new) → ⊥
 never_truncated_up_to h piece l new (Some e) is = let x : ◌≡◌ {A = Result ℕ CutFault} (Ok _) (Err (Truncated l)) = ap (λ p. p.0) is in cc
 never_truncated_up_to h piece l new None is = elim (cases_Bool (nat_le line_limit (length (h.bytes ++ piece)))) [
@@ -138,7 +138,7 @@ works_up_to h piece n new None is = elim (cases_Bool (nat_le line_limit (length 
   | inr f ↦ sym (ap (λ p. p.1.failed) (rw f at is))
 ]
 
--- a feed succeeds only where the cutter has not failed, and leaves it so
+-- a feed succeeds only if the cutter has not failed, and leaves it so
 works_fed : (number : ℕ) (bytes : List ℕ) (waits failed : Bool) (piece : List ℕ) (n : ℕ) (new : CutterState)
     → feed_outcome (record { number = number; bytes = bytes; waits = waits; failed = failed }) piece ≡ (Ok n, new) → new.failed ≡ false
 works_fed number bytes waits true piece n new is = absurd (let x : ◌≡◌ {A = Result ℕ CutFault} (Err (LineTooLong number)) (Ok n) = ap (λ p. p.0) is in cc)
@@ -150,7 +150,7 @@ pub never_failed : (h : CutterState) (piece : List ℕ) (n : ℕ) (new : CutterS
 never_failed h piece n new is failed = let x : false ≡ true = sym (works_fed h.number h.bytes h.waits h.failed piece n new is) ∙ failed in cc
 
 module _ (h : CutterState) (works : h.failed ≡ false) where
-  -- a cutter that has not failed and refuses the end holds bytes, and reports them as truncated
+  -- a cutter that has not failed and rejects the end holds bytes, and reports them as truncated
   pub finish_err : (e : CutFault) → Finishes h (Err e) → (length h.bytes ≡ 0 → ⊥) × (e ≡ Truncated h.number)
   finish_err e f = elim (cases_Bool (nat_le (length h.bytes) 0)) [
     | inl t ↦ absurd (let x : ◌≡◌ {A = Result Unit CutFault} (Err e) (Ok tt) = rw (works, t) at f in cc)

@@ -21,7 +21,7 @@ pub use Rattle.ninja_text.proofs.StartLemmas.{Parts, assignment_parts}
 pub use Rattle.ninja_text.proofs.StartLemmas.{slice_first}
 -- A text that is an assignment has a token.
 pub use Rattle.ninja_text.proofs.AssignmentLemmas.{assignment_has_token, assignment_not_empty}
--- A unit is sound where it is an escape that a path may need, or a byte by itself that neither ends a
+-- A unit is sound if it is an escape that a path may need, or a byte by itself that neither ends a
 -- line nor is a fault.
 pub use Rattle.ninja_text.proofs.SpelledUnits.{is_sound}
 -- The bytes of a unit, and those of units one after another; sound units are read back from them.
@@ -30,15 +30,15 @@ pub use Rattle.ninja_text.proofs.SpelledUnits.{unit_text, text_of_units, units_r
 pub use Rattle.ninja_text.proofs.SpelledLines.{units_are, lexical_none}
 -- With an LF behind it, such a text is a line, whose text it is.
 pub use Rattle.ninja_text.proofs.SpelledLines.{is_line, text_is}
--- The units that a path is spelled by: they are its spelling, are sound, and are pieces of a word.
+-- The units of an escaped path: they are its escaped form, are sound, and are pieces of a word.
 pub use Rattle.ninja_text.proofs.SpelledPaths.{path_unit, path_units, path_text, path_sound, path_pieces}
--- Of a path that can be spelled, each byte has a spelling.
+-- If a path can be escaped, each of its bytes can be escaped.
 pub use Rattle.ninja_text.proofs.SpelledPaths.{has_spelling}
--- What is read of a spelled path is the path.
+-- What is read of an escaped path is the path.
 pub use Rattle.ninja_text.proofs.SpelledPaths.{value_of_escaped}
--- A word goes on where a piece follows; pieces behind which no piece follows are one word.
+-- A word goes on if a piece follows; pieces behind which no piece follows are one word.
 pub use Rattle.ninja_text.proofs.SpelledTokens.{goes_on_piece, word_and, word_token}
--- Units yield tokens, seen by their kinds and bytes, where those are their tokens wherever the units stand.
+-- Units yield tokens, seen by their kinds and bytes, if those are their tokens wherever the units stand.
 pub use Rattle.ninja_text.proofs.SpelledTokens.{viewed, Yields}
 -- What no units yield, and what a space, a `:`, a `|` and a path yield in front of others.
 pub use Rattle.ninja_text.proofs.SpelledTokens.{no_units, space_yields, colon_yields, bar_yields, path_yields}
@@ -66,9 +66,9 @@ pub use Rattle.ninja_text.proofs.Repetitions.{differ_push, not_among, found_if, 
 pub use Rattle.ninja_text.proofs.LineFormats.{one_value, not_both, value_or_fault, one_fault}
 -- Lines of some classes, and after them lines of others; the bytes of one line more.
 pub use Rattle.ninja_text.proofs.LineFormats.{AreOfClasses-append, one_more_line}
--- What a reader lent of a format's lines: all of a text, or what comes next is faulty.
+-- What was read of a format's lines: all of a text, or what comes next is faulty.
 pub use Rattle.ninja_text.proofs.FormatReading.{all_lent, faulty_next, faulty_rest, faulty_at_limit}
--- What a reader of a format's lines answers and leaves.
+-- What a reader of a format's lines returns and leaves.
 pub use Rattle.ninja_text.proofs.FormatReading.{fed, none_refused}
 -- The test of what can be escaped means what the record says.
 pub use Rattle.ninja_text.proofs.Writable.{writable as is_writable-meaning}

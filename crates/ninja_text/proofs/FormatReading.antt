@@ -1,4 +1,4 @@
--- Readers of a format's lines: what is lent is read, and what is refused is the first fault in the bytes.
+-- Readers of a format's lines: what is returned is read, and what is rejected is the first fault in the bytes.
 use Rattle.std.proofs.Common.{inl, inr, ◌⊎◌, ◌≡◌, ℕ, ◌<◌, ◌≤◌, length, take, drop, List, [], ◌∷◌, ◌++◌, Option, None, Some, Ok, Err, refl, sym, ap, subst, append_assoc, arith}
 use Rattle.std.specs.Prelude.{Result}
 use Rattle.std.specs.List.{AllByRecursion}
@@ -25,7 +25,7 @@ module _ {C V : Type 0} (format : LineFormat C V) where
   texts_push (l ∷ lines) [] line c p is = absurd p
   texts_push (l ∷ lines) (d ∷ classes) line c p is = (p.0, texts_push lines classes line c p.1 is)
 
-  -- the classes of the texts lent are those of the lines
+  -- the classes of the texts returned are those of the lines
   pub lines_classed : (before : List ℕ) (lines : List (List ℕ)) (classes : List C) → AllByRecursion (λ line. length line ≤ line_limit) lines
       → AreTextsOfClasses format (logical_lines before lines) classes → AreOfClasses format lines classes
   lines_classed before [] [] short texts = tt
@@ -33,7 +33,7 @@ module _ {C V : Type 0} (format : LineFormat C V) where
   lines_classed before (line ∷ lines) [] short texts = texts
   lines_classed before (line ∷ lines) (c ∷ classes) short texts = ((short.0, texts.0), lines_classed (before ++ line) lines classes short.1 texts.1)
 
-  -- whole lines that were lent are of their classes
+  -- whole lines that were returned are of their classes
   begins_classed : (bytes : List ℕ) (lent : List LogicalLine) (number : ℕ) (rest : List ℕ) (classes : List C) (begins : BeginsWith bytes lent number rest) → AreTextsOfClasses format lent classes
       → AreOfClasses format begins.lines classes
   begins_classed bytes lent number rest classes begins texts = lines_classed [] begins.lines classes begins.short (subst (λ l. AreTextsOfClasses format l classes) begins.lent_are texts)
@@ -49,7 +49,7 @@ module _ {C V : Type 0} (format : LineFormat C V) where
     grammar = grammar;
   }
 
-  -- what comes after whole lines that were lent, with which some text begins
+  -- what comes after whole lines that were returned, with which some text begins
   module _ {F : Type 0} (faults : LineFaults C F) (bytes : List ℕ) (lent : List LogicalLine) (number : ℕ) (rest : List ℕ) (classes : List C) (begins : BeginsWith bytes lent number rest)
       (texts : AreTextsOfClasses format lent classes) (begun : Begins format classes) where
     -- a line with which none goes on, and which has a fault
@@ -115,7 +115,7 @@ module _ {C V S E : Type 0} (format : LineFormat C V) (leads : List C → S → 
       failure_in bytes lent old (Fault f) read (more, mid, on, next) = refused bytes (lent ++ more) mid f (read_on lent more old mid read on) next
       failure_in bytes lent old Memory read h = tt
 
-      -- what reading a piece answers and leaves
+      -- what reading a piece returns and leaves
       pub fed : (bytes all : List ℕ) (old : LinesRead S E) (result : Result Unit (Failure E)) (new : LinesRead S E) → HasRead format leads bytes old
           → ((lent : List LogicalLine) → HasLentAll bytes lent old → FeedsLines passes refuses of_cutter all lent old.state result new)
           → Reads (HasRead format leads) is_fault_in all result new
@@ -126,7 +126,7 @@ module _ {C V S E : Type 0} (format : LineFormat C V) (leads : List C → S → 
           let f = feeds has.lent has.has in
           (f.0, failure_in all has.lent old.state failure has.read f.1)
 
-  -- what was fed to a reader that has refused none has no faulty line, and no end that reaches the limit
+  -- what was fed to a reader that has rejected none has no faulty line, and no end that reaches the limit
   pub none_refused : {F : Type 0} (faults : LineFaults C F) → IsDecided format faults → ((classes : List C) (state : S) → leads classes state → Begins format classes) → (bytes : List ℕ) (r : LinesRead S E) → HasRead format leads bytes r → (n : ℕ) (fault : F)
       → (FaultyLine format faults bytes n fault ⊎ ((e : FaultyEnd format faults bytes n fault) × (line_limit ≤ length e.rest))) → ⊥
   none_refused faults decided begun bytes r has n fault refused = go refused where

@@ -194,7 +194,7 @@ blank_else u p colon bar = elim (cases_Bool (is_blank u)) [
   | inr b ↦ absurd (let x : true ≡ false = sym (piece_else u b colon bar) ∙ p in cc)
 ]
 
--- what a unit adds in front is a list of tokens again, where a `|` in front is one alone
+-- what a unit adds in front is a list of tokens again, if a `|` in front is one alone
 with_unit_lexes : (index : ℕ) (u : LineUnit) (us : List LineUnit) (rest : List TokenAt) → (is_byte 124 u ≡ true → (begins_with 124 us ≡ false) × (begins_with 64 us ≡ false))
     → LexesAs (index + unit_len u) us rest → LexesAs index (u ∷ us) (with_unit index u us rest)
 with_unit_lexes index u us rest longest h = elim (cases_Bool (is_piece u)) [

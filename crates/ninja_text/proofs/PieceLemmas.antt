@@ -1,4 +1,4 @@
--- What one turn of reading a piece keeps, and what it refuses with, by all bytes read and all lines lent.
+-- What one turn of reading a piece keeps, and what it rejects with, by all bytes read and all lines returned.
 use Rattle.std.proofs.Common.{inl, inr, ◌≡◌, ℕ, ◌≤◌, Bool, true, false, List, [], ◌∷◌, ◌++◌, length, refl, sym, ap, ◌∙◌, subst, append_assoc, Ok, Err, arith}
 use Rattle.std.specs.List.{flat_map, AllByRecursion}
 use Rattle.std.proofs.lemmas.List.{append-nil}
@@ -23,7 +23,7 @@ pub lead_on : {S : Type 0} (passes : S → LogicalLine → S → Type 0) (old : 
 lead_on passes old [] mid new line h p = (new, subst (λ s. passes s line new) h p, refl)
 lead_on passes old (l ∷ lines) mid new line h p = (h.0, h.1, lead_on passes h.0 lines mid new line h.2 p)
 
--- what was lent, one by one more
+-- what was returned, one by one more
 pub lent_more : (bytes : List ℕ) (lent more : List LogicalLine) (line : LogicalLine) (cutter : CutterState) → Cuts bytes ((lent ++ more) ++ line ∷ []) cutter
     → Cuts bytes (lent ++ (more ++ line ∷ [])) cutter
 lent_more bytes lent more line cutter cuts = subst (λ l. Cuts bytes l cutter) (append_assoc lent more (line ∷ [])) cuts
@@ -44,7 +44,7 @@ joined_more : (lines : List (List ℕ)) (line : List ℕ) → flat_map (λ l. l)
 joined_more [] line = append-nil line
 joined_more (l ∷ lines) line = ap (λ x. l ++ x) (joined_more lines line) ∙ sym (append_assoc l (flat_map (λ l. l) lines) line)
 
--- what a working cutter was fed begins with the lines that it lent
+-- what a working cutter was fed begins with the lines that it returned
 pub begins_with : (bytes : List ℕ) (lent : List LogicalLine) (number : ℕ) (held : List ℕ) → Cuts bytes lent (working number held) → BeginsWith bytes lent number held
 begins_with bytes lent number held cuts = record {
   lines = cuts.lines;
@@ -91,7 +91,7 @@ module _ {S F : Type 0} (passes : S → LogicalLine → S → Type 0) (refuses :
   failure_fed front rest all lent more h old state (Fault fault) new split has led is =
       (more, state, led, fault_fed front rest all (lent ++ more) h state fault new split has is)
 
-  -- the fault of the line that the cutter lends is that of the next line
+  -- the fault of the line that the cutter returns is that of the next line
   fault_of_line : (taken rest all : List ℕ) (lent : List LogicalLine) (new : CutterState) (state : S) (line : LogicalLine) (f : F) → taken ++ rest ≡ all
       → Cuts taken lent new → new.waits ≡ true → line ≡ waiting_line new → refuses state line f → IsNextFault refuses of_cutter all lent state f
   fault_of_line taken rest all lent new state line f split cuts waits is refused = go new.number new.bytes new.waits new.failed waits cuts is where
@@ -131,7 +131,7 @@ ends_truncated of_cutter bytes lent h state e has is =
     let cuts = working_cuts bytes lent h has in
     (h.number, h.bytes, begins_with bytes lent h.number h.bytes cuts, (omega (arith, left.0), has.short, cuts.divided.partial), ap of_cutter left.1)
 
--- and where none are left, the bytes are whole lines
+-- and if none are left, the bytes are whole lines
 pub ends_well : (bytes : List ℕ) (lent : List LogicalLine) (h : CutterState) (u : Unit) → HasLent bytes lent h → Finishes h (Ok u) → BeginsWith bytes lent h.number []
 ends_well bytes lent h u has is =
     subst (BeginsWith bytes lent h.number) (no_bytes h.bytes (finish_ok h has.works u is)) (begins_with bytes lent h.number h.bytes (working_cuts bytes lent h has))

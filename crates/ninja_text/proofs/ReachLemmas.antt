@@ -103,7 +103,7 @@ module _ (B P : List ℕ) (s : ScanState) (reach : ℕ) (room : length B < line_
 abbrev pub at_work : ℕ → List ℕ → CutterState
 at_work number bytes = record { number = number; bytes = bytes; waits = false; failed = false }
 
--- what a cutter holds where no line waits
+-- what a cutter holds if no line waits
 pub is_at_work : (phase : Phase) (bytes B : List ℕ) (number : ℕ) (h : CutterState) → state_in phase bytes number ≡ h → h.waits ≡ false → h.failed ≡ false → bytes_in phase bytes ≡ B → h ≡ at_work number B
 is_at_work phase bytes B number h v w f e = sym v ∙ rebuilt e (ap (λ k. k.waits) v ∙ w) (ap (λ k. k.failed) v ∙ f) where
   rebuilt : {x y : List ℕ} {p q : Bool} → x ≡ y → p ≡ false → q ≡ false → ◌≡◌ {A = CutterState} (record { number = number; bytes = x; waits = p; failed = q }) (at_work number y)
@@ -131,7 +131,7 @@ feeds_past number bytes piece reaches =
     let full : nat_le line_limit (length (bytes ++ piece)) ≡ true = rw length-append (grind (arith, nat_tests)) in
     rw (reaches.1, full) refl
 
--- a feed that was refused memory
+-- a feed for which an allocation failed
 pub refused : (old new : CutterState) (piece : List ℕ) (r : Result ℕ (Failure CutFault)) → IsErr r → IsErrAnd r (λ e. e ≡ Memory) → old.failed ≡ false → old.waits ≡ false → new ≡ old → Feeds old piece r new
 refused old new piece (Ok n) err memory f w is = absurd (let clash : false ≡ true = err in cc)
 refused old new piece (Err Memory) err memory f w is = (f, w, is)

@@ -1,4 +1,4 @@
--- What is read of words and values is what they spell.
+-- What is read of words and values is what they stand for.
 use Rattle.std.proofs.Common.{inl, inr, ◌⊎◌, ◌≡◌, ℕ, ◌+◌, Bool, true, false, List, [], ◌∷◌, ◌++◌, map, refl, sym, ap, ◌∙◌, subst, ◌==◌, ◌&&◌, ◌||◌, not, IsTrue, Some, None, append_assoc}
 use Rattle.std.specs.Prelude.{Option, nat_lt, All, slice_range, drop}
 use Rattle.std.specs.Option.{ForSome}
@@ -28,7 +28,7 @@ use Rattle.ninja_text.proofs.FaultlessLines.{faultless_units}
 
 -- ---- words
 
--- the byte that a piece stands for, and that its bytes spell it
+-- the byte that a piece stands for, and that its bytes stand for it
 record Spelled (u : LineUnit) (own : List ℕ) : Type 0 where
   byte : ℕ
   value : unit_value u ≡ byte ∷ []

@@ -151,7 +151,7 @@ pub steps-reduced : (n : ℕ) (old new : List (List ℕ)) → Steps n old new �
 steps-reduced zero old new h = ap reduced h
 steps-reduced (suc n) old new h = step-reduced old h.0 h.1 ∙ steps-reduced n h.0 new h.2
 
--- ---- no step applies exactly where the list is fixed
+-- ---- no step applies if and only if the list is fixed
 
 -- a step behind one more component
 pub step-behind : (c : List ℕ) (old new : List (List ℕ)) → ReductionStep old new → ReductionStep (c ∷ old) (c ∷ new)
@@ -184,7 +184,7 @@ or-absurd : (b : Bool) → (b ≡ true → ⊥) → b ≡ false
 or-absurd true h = absurd (h refl)
 or-absurd false h = refl
 
--- where no step applies, the list is fixed
+-- if no step applies, the list is fixed
 pub final-fixed : (xs : List (List ℕ)) → IsReduced xs → IsFixed xs
 final-fixed [] h = tt
 final-fixed (c ∷ []) h = or-absurd (is_current c) (λ k. h [] (step-current c [] k))
@@ -303,7 +303,7 @@ behind-pair xs init last c e h k =
     fixed-front (a ∷ []) (b ∷ rest) f = f.0
     fixed-front (a ∷ b ∷ init) rest f = (f.0, f.1, fixed-front (b ∷ init) rest f.2)
 
--- no step applies to a list with one more component behind it, where that one stays
+-- no step applies to a list with one more component behind it, if that one stays
 fixed-snoc : (init : List (List ℕ)) (last c : List ℕ) → IsFixed (init ++ last ∷ []) → is_current c ≡ false → (is_named_component last && is_parent c) ≡ false → IsFixed (init ++ last ∷ c ∷ [])
 fixed-snoc [] last c f h k = (f, k, h)
 fixed-snoc (a ∷ []) last c f h k = (f.0, f.1, (f.2, k, h))

@@ -18,7 +18,7 @@ use Rattle.ninja_text.proofs.Canonical.{facts, none-clean, whole-list, rooted-te
 
 -- ---- the names stand behind the `..`
 
--- the second of two tests fails where the first holds and not both do
+-- the second of two tests fails if the first holds and not both do
 and-other : (n u : Bool) → n ≡ true → (n && u) ≡ false → u ≡ false
 and-other n u h k = sym (ap (λ b. b && u) h) ∙ k
 
@@ -41,7 +41,7 @@ behind-parents (c ∷ cs) f = elim (either_way (is_parent c)) [
       subst (λ n. AllByRecursion (λ n. is_named_component n ≡ true) (drop n (c ∷ cs))) (sym e) (all-names c cs f h)
 ]
 
--- no `..` is in front where there is none
+-- no `..` is in front if there is none
 no-parents : (l : List (List ℕ)) → list_any is_parent l ≡ false → prefix_len is_parent l ≡ 0
 no-parents [] h = refl
 no-parents (c ∷ cs) h = elim (either_way (is_parent c)) [
@@ -70,7 +70,7 @@ path-some false ([] ∷ y ∷ ys) f h e = let g = f.0 in cc
 path-some false ((b ∷ bs) ∷ []) f h e = cc
 path-some false ((b ∷ bs) ∷ y ∷ ys) f h e = cc
 
--- a path can be spelled
+-- a path can be escaped
 pub writable : (path : List ℕ) → IsPath path → IsWritable path
 writable path h =
     let f = facts None path path h in
@@ -105,7 +105,7 @@ meaning text path h =
 is-nothing : (l : List (List ℕ)) → [] ≡ l → is_empty l ≡ true
 is-nothing l e = ap is_empty (sym e)
 
--- a text has no path for want of components exactly where they come to none
+-- a text has no path, because no component is left, if and only if its components reduce to none
 pub empty : (text : List ℕ) → (path_of text ≡ Err Empty → ReducesTo (components text) []) × (ReducesTo (components text) [] → path_of text ≡ Err Empty)
 empty text = (λ h. go h (reduced (components text)) refl, λ r. is-empty None text (is-nothing (reduced (components text)) (reaches-only (components text) [] r)))
   where

@@ -1,4 +1,4 @@
--- The units of a path as it is spelled, and what they stand for.
+-- The units of a path in its escaped form, and what they stand for.
 use Rattle.std.proofs.Common.{inl, inr, ◌≡◌, ℕ, true, false, List, [], ◌∷◌, map, refl, sym, ap, ◌∙◌, ◌==◌}
 use Rattle.std.specs.Prelude.{if◌then◌else◌}
 use Rattle.std.specs.List.{flat_map, list_all, list_any, AllByRecursion}
@@ -11,21 +11,21 @@ use Rattle.ninja_text.specs.Tokens.{is_piece, unit_value, value_of}
 use Rattle.ninja_text.specs.Escapes.{is_unwritable, IsWritable, is_escaped, escaped_byte, escaped}
 use Rattle.ninja_text.proofs.SpelledUnits.{is_sound, unit_text, text_of_units, units_read}
 
--- the unit that a byte of a path is spelled by
+-- the unit that a byte of a path is escaped as
 abbrev pub path_unit : ℕ → LineUnit
 path_unit b = if is_escaped b then Escape b else Byte b
 
 abbrev pub path_units : List ℕ → List LineUnit
 path_units path = map path_unit path
 
--- no byte that has no spelling
+-- no byte that cannot be escaped
 abbrev HasSpelling : List ℕ → Type 0
 HasSpelling path = AllByRecursion (λ b. is_unwritable b ≡ false) path
 
 pub has_spelling : (path : List ℕ) → IsWritable path → HasSpelling path
 has_spelling path w = recursion_from_All (λ b. is_unwritable b ≡ false) path w.each
 
--- they are its spelling, and stand for the path
+-- they are its escaped form, and stand for the path
 byte_text : (b : ℕ) → unit_text (path_unit b) ≡ escaped_byte b
 byte_text b = elim (cases_Bool (is_escaped b)) [ inl e ↦ rw e refl | inr e ↦ rw e refl ]
 
@@ -40,7 +40,7 @@ path_meant : (path : List ℕ) → flat_map unit_value (path_units path) ≡ pat
 path_meant [] = refl
 path_meant (b ∷ path) = rw (byte_meant b, path_meant path) refl
 
--- a byte that is not escaped, and can be spelled
+-- a byte that is not escaped, and can be escaped
 record Ordinary (b : ℕ) : Type 0 where
   no_dollar : (b == 36) ≡ false
   no_space : (b == 32) ≡ false
@@ -80,14 +80,14 @@ pub path_pieces : (path : List ℕ) → HasSpelling path → list_all is_piece (
 path_pieces [] can = refl
 path_pieces (b ∷ path) can = and_from _ _ (byte_piece b can.0) (path_pieces path can.1)
 
--- a path without such a byte is spelled as it is
+-- a path without such a byte is its own escaped form
 pub escaped_none : (path : List ℕ) → list_any is_escaped path ≡ false → escaped path ≡ path
 escaped_none [] none = refl
 escaped_none (b ∷ path) none =
     let p = or_parts (is_escaped b) (list_any is_escaped path) none in
     rw p.0 (ap (λ bytes. b ∷ bytes) (escaped_none path p.1))
 
--- what is read of a spelled path is the path
+-- what is read of an escaped path is the path
 pub value_of_escaped : (path : List ℕ) → IsWritable path → value_of (escaped path) ≡ path
 value_of_escaped path w =
     ap value_of (sym (path_text path) ∙ sym (append-nil (text_of_units (path_units path))))

@@ -29,7 +29,7 @@ piece_no_bar (Continuation len) h = refl
 piece_no_bar (Escape b) h = refl
 piece_no_bar (Byte b) h = (or_parts _ (b == 124) (not-true _ h)).1
 
--- a piece goes on where one follows, and ends its word where none does
+-- a piece goes on if one follows, and ends its word if none does
 pub piece_alone : (n : ℕ) (u : LineUnit) (vs : List LineUnit) → is_piece u ≡ true → goes_on vs ≡ false
     → tokens_from n (u ∷ vs) ≡ record { kind = Word; start = n; end = n + unit_len u } ∷ tokens_from (n + unit_len u) vs
 piece_alone n u vs p g = tokens_with n u vs (piece_no_bar u p) ∙ rw (p, g) refl
@@ -42,7 +42,7 @@ piece_before n u vs p g = tokens_with n u vs (piece_no_bar u p) ∙ rw (p, g) re
 abbrev pub word_and : ℕ → ℕ → List LineUnit → List TokenAt
 word_and start end vs = record { kind = Word; start = start; end = end } ∷ tokens_from end vs
 
--- pieces are one word, where no piece follows
+-- pieces are one word, if no piece follows
 pub word_token : (u : LineUnit) (us vs : List LineUnit) (n : ℕ) → list_all is_piece (u ∷ us) ≡ true → goes_on vs ≡ false
     → tokens_from n (u ∷ (us ++ vs)) ≡ word_and n (n + length (text_of_units (u ∷ us))) vs
 word_token u [] vs n h g =
@@ -109,7 +109,7 @@ module _ {X : Type 0} (view : TokenKind → List ℕ → X) where
   bar_yields vs xs later front =
       same_cons (ap (view Bar) (bytes_between front (Byte 124 ∷ []) (Byte 32 ∷ vs))) (past front (Byte 124 ∷ []) (Byte 32 ∷ vs) xs later)
 
-  -- a path as it is spelled is one word
+  -- a path in its escaped form is one word
   pub path_yields : (path : List ℕ) (vs : List LineUnit) (xs : List X) → IsWritable path → goes_on vs ≡ false → Yields vs xs
       → Yields (path_units path ++ vs) (view Word (escaped path) ∷ xs)
   path_yields [] vs xs writable g later = absurd (writable.some refl)

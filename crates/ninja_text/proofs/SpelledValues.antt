@@ -1,4 +1,4 @@
--- The bytes of an assignment's value spell one value.
+-- The bytes of an assignment's value stand for one value.
 use Rattle.std.proofs.Common.{◌≡◌, ℕ, true, false, IsTrue, inl, inr, List, [], ◌∷◌, ◌++◌, refl, sym, ◌∙◌, ap, subst, append_assoc}
 use Rattle.std.specs.List.{concat, AllByRecursion}
 use Rattle.std.proofs.lemmas.List.{append-nil}
@@ -24,7 +24,7 @@ same_piece (d ∷ b ∷ []) (g ∷ c ∷ []) v w x y h k e = let t = tail-of d g
 same_piece (d ∷ b ∷ []) (g ∷ c ∷ f ∷ more) v w x y h k e = absurd k
 same_piece (d ∷ b ∷ f ∷ more) q v w x y h k e = absurd h
 
--- What stands behind a gap: no continuation, and no space where there is one.
+-- What stands behind a gap: no continuation, and no space if there is one.
 record Behind (parts : List (List ℕ)) (text : List ℕ) : Type 0 where
   no_continuation : (rest : List ℕ) (n : ℕ) → is_escaped n ≡ false → text ≡ 36 ∷ n ∷ rest → ⊥
   no_space : (part : List ℕ) (more : List (List ℕ)) → parts ≡ part ∷ more → (rest : List ℕ) → text ≡ 32 ∷ rest → ⊥
@@ -98,7 +98,7 @@ gap_alone raw v vs h k =
     (same_behind h.0 k.3.0 [] (k.1 ++ k.2) h.1 k.3.1 (nothing h.0) (behind k.3.0 k.0 k.1 v k.2 k.3.1 k.3.2 k.4 k.5)
     (append-nil (concat h.0) ∙ sym h.2 ∙ k.7 ∙ ap (λ l. l ++ (k.1 ++ k.2)) k.3.2))
 
--- a value's bytes spell one value
+-- a value's bytes stand for one value
 pub value_same : (raw a b : List ℕ) → SpellsValue raw a → SpellsValue raw b → a ≡ b
 value_same raw [] [] h k = refl
 value_same raw [] (w ∷ ws) h k = absurd (gap_alone raw w ws h k)

@@ -1,4 +1,4 @@
--- A spelling stands for one value.
+-- An escaped form stands for one value.
 use Rattle.std.proofs.Common.{◌≡◌, ◌≢◌, ℕ, zero, suc, Bool, true, false, not, ◌||◌, cond, IsTrue, ◌⊎◌, inl, inr, List, [], ◌∷◌, ◌++◌, replicate, refl, sym, ◌∙◌, ap, subst, append_assoc, arith}
 use Rattle.std.proofs.lemmas.List.{append-nil}
 use Rattle.std.proofs.lemmas.List.Elements.{recursion_from_All}
@@ -136,12 +136,12 @@ gap-same (p ∷ ps) (q ∷ qs) x y a b f g e =
     (part-same p q a.0 b.0 (concat ps ++ x) (concat qs ++ y) (λ r. gap-space ps x r a.1 f) (λ r. gap-space qs y r b.1 g)
     (sym (append_assoc p (concat ps) x) ∙ e ∙ append_assoc q (concat qs) y))
 
--- a spelling begins with a piece
+-- an escaped form begins with a piece
 spells-begins : (raw : List ℕ) (c : ℕ) (cs : List ℕ) → Spells raw (c ∷ cs) → Begins raw
 spells-begins raw c [] h = record { piece = raw; value = c; rest = []; is_piece = h; is = sym (append-nil raw) }
 spells-begins raw c (d ∷ ds) h = record { piece = h.0; value = c; rest = h.1 ++ h.2; is_piece = h.3; is = h.6 }
 
--- nothing follows a piece where a gap and another piece do
+-- nothing follows a piece if a gap and another piece do
 not-nothing : (gap rest : List ℕ) → Begins rest → [] ≡ gap ++ rest → ⊥
 not-nothing [] rest b e = go b.piece b.is_piece (e ∙ b.is)
   where
@@ -150,7 +150,7 @@ not-nothing [] rest b e = go b.piece b.is_piece (e ∙ b.is)
     go (c ∷ p) h k = cc
 not-nothing (g ∷ gap) rest b e = cc
 
--- a spelling stands for one value
+-- an escaped form stands for one value
 pub spells-same : (raw a b : List ℕ) → Spells raw a → Spells raw b → a ≡ b
 spells-same raw [] b h k = absurd h
 spells-same raw (v ∷ []) [] h k = absurd k
@@ -168,14 +168,14 @@ spells-same raw (v ∷ v2 ∷ vs) (w ∷ w2 ∷ ws) h k =
 
 -- ---- what `escape_into` writes
 
--- a byte as it is spelled is a piece that stands for it
+-- a byte in its escaped form is a piece that stands for it
 piece-is : (b : ℕ) → is_unwritable b ≡ false → IsPiece (escaped_byte b) b
 piece-is b h = elim (either_way (is_escaped b)) [
   | inl k ↦ subst (λ t. IsPiece (cond t (36 ∷ b ∷ []) (b ∷ [])) b) (sym k) (refl, refl, is_true _ k)
   | inr k ↦ subst (λ t. IsPiece (cond t (36 ∷ b ∷ []) (b ∷ [])) b) (sym k) (refl, is_true _ (ap (λ t. not (t || is_unwritable b)) k ∙ ap not h))
 ]
 
--- a path as it is spelled stands for the path
+-- a path in its escaped form stands for the path
 pub escaped-spells : (path : List ℕ) → path ≢ [] → AllByRecursion (λ b. is_unwritable b ≡ false) path → Spells (escaped path) path
 escaped-spells [] some clean = absurd (some refl)
 escaped-spells (b ∷ []) some clean = subst (λ l. IsPiece l b) (sym (append-nil (escaped_byte b))) (piece-is b clean.0)

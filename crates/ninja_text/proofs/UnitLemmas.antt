@@ -16,7 +16,7 @@ units_byte b [] h = refl
 units_byte b (c ∷ []) h = rw h refl
 units_byte b (c ∷ d ∷ bytes) h = rw h refl
 
--- where there is no `$`, each byte is a unit by itself
+-- if there is no `$`, each byte is a unit by itself
 pub units_bytes : (bytes : List ℕ) → list_any is_dollar bytes ≡ false → units bytes ≡ map Byte bytes
 units_bytes [] none = refl
 units_bytes (b ∷ bytes) none =

@@ -94,7 +94,7 @@ unit_texts (a ∷ b ∷ c ∷ bytes) = elim (cases_Bool (a == 36)) [
   | inr d ↦ rw d (a ∷ [], b ∷ c ∷ bytes, refl, no_continuation, unit_texts (b ∷ c ∷ bytes), refl)
 ]
 
--- fewer units begin with a space only where more do
+-- fewer units begin with a space only if more do
 begins_less : (us vs : List LineUnit) → begins_with 32 (us ++ vs) ≡ false → begins_with 32 us ≡ false
 begins_less [] vs h = refl
 begins_less (u ∷ us) vs h = h

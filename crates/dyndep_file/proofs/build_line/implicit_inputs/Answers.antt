@@ -4,7 +4,7 @@ use Rattle.dyndep_file.specs.BuildTokens.{symbols_left}
 use Rattle.dyndep_file.proofs.PartLemmas.{next_is, takes_rest}
 use Rattle.dyndep_file.proofs.build_line.implicit_inputs.Goals as goal
 
--- said here, so that a body which takes words where `|` has to come is refused soon
+-- stated here, so that a body which takes words in place of `|` is rejected soon
 pub returns-in-Bar : goal.returns-in-Bar
 returns-in-Bar c =
     takes_rest (symbols_left c.args.words) (symbols_left c.next.new.self) c.words_to_end.result

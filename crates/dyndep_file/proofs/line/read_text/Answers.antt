@@ -14,7 +14,7 @@ use Rattle.dyndep_file.specs.inner.LineReading.{PassesOr, IsBuildOf, IsBindingOf
 use Rattle.dyndep_file.proofs.LineLemmas.{passes_as, blank, keyword_text, keyword_class, indented_text, binding_class, other_text, version_class}
 use Rattle.dyndep_file.proofs.line.read_text.Goals as goal
 
--- the answer for a line that is no comment
+-- the result for a line that is no comment
 uncommented : (line : LogicalLine) (old new : ProgressValue) (answer : Result Unit (Failure LineFault)) → line.comment ≡ false
     → PassesOr (text_line_fault old.stage line.text false) (IsDyndepLine line.text false) old answer new
     → PassesOr (text_line_fault old.stage line.text line.comment) (IsDyndepLine line.text line.comment) old answer new

@@ -12,7 +12,7 @@ use Rattle.ninja_text.proofs.Shape.{canonical-text}
 use Rattle.ninja_text.proofs.Refusals.{refused_gives, refused_ok}
 use Rattle.ninja_text.proofs.paths.canonical.Goals as goal
 
--- the list is empty where its text is
+-- the list is empty if its text is
 nothing : (text : List ℕ) (list : Vec ℕ Global) (empty : Bool) → list.items ≡ reduced_text text → empty ≡ (vec_len list == 0) → is_empty (reduced (components text)) ≡ empty
 nothing text list empty same e =
     sym (e ∙ ap (λ n. n == 0) list.ok.0 ∙ ap (λ items. length items == 0) same ∙ nothing-is (reduced (components text)) (reduced-fixed (components text)))

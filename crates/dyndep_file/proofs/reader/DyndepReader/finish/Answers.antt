@@ -16,7 +16,7 @@ returns-in_err-progress-clause-all c = λ bytes before.
     let p = err_from_is_err_and c.from_residual.result c.from_residual.ensures.1 in
     rw (p.1, p.2) (ended bytes c.self.inside.lines (Err c.in_err-progress.field-0.0) has (c.in_err-progress.ensures.all bytes))
 
--- what is answered, by the parts of the progress
+-- what is returned, by the parts of the progress
 at_stage : (bytes : Bytes) (progress end : ProgressValue) (stage : Stage) (line : ℕ) → progress ≡ end → progress.stage ≡ stage
     → EndsDyndepFile bytes (answer_at_end end.stage end.statements line) → EndsDyndepFile bytes (answer_at_end stage progress.statements line)
 at_stage bytes progress end stage line same is all =

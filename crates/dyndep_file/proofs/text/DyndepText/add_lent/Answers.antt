@@ -8,7 +8,7 @@ use Rattle.dyndep_file.specs.Texts.{IsTextOf}
 use Rattle.dyndep_file.specs.inner.Paths.{texts, lent_texts}
 use Rattle.dyndep_file.proofs.text.DyndepText.add_lent.Goals as goal
 
--- a statement whose paths are lent
+-- a statement whose paths are borrowed
 lent_is : (s : StatementValue) (output : Text) (outputs inputs : List Text) (restat : Bool) → output ≡ s.output → outputs ≡ s.implicit_outputs → inputs ≡ s.implicit_inputs → restat ≡ s.restat
     → ◌≡◌ {A = StatementValue} (record { output = output; implicit_outputs = outputs; implicit_inputs = inputs; restat = restat }) s
 lent_is s output outputs inputs restat a b c d = rw (a, b, c, d) refl

@@ -3,7 +3,7 @@ use Rattle.std.specs.Io.KnownBytes.{ReadConsumes}
 use Rattle.ninja_text.specs.Counting.{held}
 use Rattle.ninja_text.proofs.counting.Counted.read.Goals as goal
 
--- said here, so that `read_answers_another_error` is refused soon
+-- stated here, so that `read_answers_another_error` is rejected soon
 pub returns-then-is_err-clause-bound : goal.returns-then-is_err-clause-bound
 returns-then-is_err-clause-bound g c = c.read_call-answer.ensures.bound
 

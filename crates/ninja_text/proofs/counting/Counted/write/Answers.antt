@@ -3,7 +3,7 @@ use Rattle.std.specs.Io.KnownBytes.{WriteAppends}
 use Rattle.ninja_text.specs.Counting.{held}
 use Rattle.ninja_text.proofs.counting.Counted.write.Goals as goal
 
--- said here, so that `failed_write_is_tried_again` is refused soon
+-- stated here, so that `failed_write_is_tried_again` is rejected soon
 pub returns-then-failed-clause-bytes : goal.returns-then-failed-clause-bytes
 returns-then-failed-clause-bytes g c =
     subst (λ after. WriteAppends (g.W.WriteCall.contents (held c.args.self.now)) (g.W.WriteCall.contents after) c.write_call-answer.result c.args.piece.now) (sym c.count_failure.ensures.held) c.write_call-answer.ensures.bytes
