@@ -22,7 +22,7 @@ from pathlib import Path
 TOP = Path(__file__).resolve().parent.parent / "crates"
 PAGE = TOP.parent / "docs/PROVED.md"
 CRATES = [line.split(":")[0] for line in (TOP.parent / "crates.txt").read_text().splitlines()]
-COMMANDS = ("one_run", "collate_run", "project_run", "effect_run", "order_run", "show_run")
+COMMANDS = ("collate_scan", "collate_target", "collate_project", "apply_dyndep", "order_edges", "show_dyndep")
 # How the table calls a theorem; its crate, its call, and its clause, or "" for the whole contract.
 THEOREMS = [(f"`{call}`", "commands", call, "") for call in COMMANDS] + [("the headline", "collate_core", "collate", "headline")]
 HEAD = [f"| file in `crates/*/specs/` | its lines | to read for {' | '.join(theorem[0] for theorem in THEOREMS)} | names |",

@@ -25,7 +25,7 @@ use std::alloc::{AllocError, Global};
 /// map of each object, if the document asks for maps, then the info file, and last the dyndep file.
 /// If the document names a listing of edges, they must have an order after the effect of that
 /// dyndep file. No file of a rejected document is read.
-pub fn collate_run<F: Folder>(
+pub fn collate_target<F: Folder>(
     alloc: Global,
     document: &[u8],
     folder: &mut F,

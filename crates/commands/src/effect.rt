@@ -13,7 +13,7 @@ use std::alloc::Global;
 
 /// Runs `effect NAME EDGES DYNDEP` on the name and the bytes of the two files. The name is checked
 /// first, then the listing, and then the dyndep file.
-pub fn effect_run(alloc: Global, name: &str, edges: &[u8], dyndep: &[u8]) -> Result<Output, Stop>
+pub fn apply_dyndep(alloc: Global, name: &str, edges: &[u8], dyndep: &[u8]) -> Result<Output, Stop>
     ensures { EffectRun name.now edges.now dyndep.now [] result }
 {
     let name = read_name(alloc, name)?;

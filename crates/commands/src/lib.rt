@@ -6,11 +6,12 @@
 //! - [`program_run`] is the whole program: the task of its arguments, the run, the writing and the
 //!   printing (`specs/Program.antt`).
 //! - [`task_run`] reads the file of a task from a folder and calls the command (`specs/Runs.antt`).
-//! - [`collate_run`] and [`project_run`] are the commands of these names. They read the files that
-//!   their document names from the folder, each when its turn comes and once
+//! - [`collate_target`] and [`collate_project`] are the commands `collate` and `project`. They read
+//!   the files that their document names from the folder, each when its turn comes and once
 //!   (`specs/CollateCommand.antt`, `ProjectCommand.antt`, `Files.antt`, `Folder.antt`).
-//! - [`one_run`], [`effect_run`], [`order_run`] and [`show_run`] are the others, on the bytes of
-//!   their files (`specs/One.antt`, `Effect.antt`, `Order.antt`, `Show.antt`).
+//! - [`collate_scan`], [`apply_dyndep`], [`order_edges`] and [`show_dyndep`] are the commands
+//!   `one`, `effect`, `order` and `show`, on the bytes of their files (`specs/One.antt`,
+//!   `Effect.antt`, `Order.antt`, `Show.antt`).
 //! - [`write_files`] writes the files of an output to a folder (`specs/Files.antt`).
 //! - [`Answer`] is what a run leaves as a value, with the line of a failure, and [`print`] writes
 //!   its texts and returns the exit status (`specs/Answers.antt`, `Printing.antt`).
@@ -57,14 +58,14 @@ mod stop;
 mod table_fault;
 
 pub use answer::Answer;
-pub use collate::collate_run;
-pub use effect::effect_run;
+pub use collate::collate_target;
+pub use effect::apply_dyndep;
 pub use folder::Folder;
-pub use one::one_run;
-pub use order::order_run;
+pub use one::collate_scan;
+pub use order::order_edges;
 pub use printing::print;
 pub use program::program_run;
-pub use project::project_run;
+pub use project::collate_project;
 pub use run::{task_run, write_files};
-pub use show::show_run;
+pub use show::show_dyndep;
 pub use stop::{Line, Output, OutputFile, Stop};

@@ -11,7 +11,7 @@ use std::alloc::{AllocError, Global};
 /// Runs `one SCAN DIR EXT` on the bytes of the scan document, the directory that modules are
 /// compiled to and the ending of their file names. The document is collated as a target by itself:
 /// a module that a rule requires is looked up among those that the document's own rules provide.
-pub fn one_run(alloc: Global, scan: &[u8], dir: &str, ext: &str) -> Result<Output, Stop>
+pub fn collate_scan(alloc: Global, scan: &[u8], dir: &str, ext: &str) -> Result<Output, Stop>
     ensures { OneRun scan.now dir.now ext.now [] result }
 {
     let name = target_name(alloc)?;

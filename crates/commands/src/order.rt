@@ -12,7 +12,7 @@ use dep_order::Sorting;
 use std::alloc::{AllocError, Global};
 
 /// Runs `order EDGES` on the bytes of the edge listing. Each edge is named by its first output.
-pub fn order_run(alloc: Global, edges: &[u8]) -> Result<Output, Stop>
+pub fn order_edges(alloc: Global, edges: &[u8]) -> Result<Output, Stop>
     ensures { OrderRun edges.now [] result }
 {
     let graph = read_listing(alloc, edges)?;

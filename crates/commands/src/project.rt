@@ -29,7 +29,7 @@ use std::alloc::{AllocError, Global};
 ///
 /// The output has the files of `collate`, target by target; info files that targets link are not
 /// read, since the project writes them.
-pub fn project_run<F: Folder>(
+pub fn collate_project<F: Folder>(
     alloc: Global,
     document: &[u8],
     folder: &mut F,

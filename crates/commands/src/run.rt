@@ -7,14 +7,14 @@ ghost use Rattle.commands.specs.Folder.{MakesCalls};
 ghost use Rattle.commands.specs.Outcomes.{Runs};
 ghost use Rattle.commands.specs.Runs.{TaskRun};
 
-use crate::collate::collate_run;
-use crate::effect::effect_run;
+use crate::collate::collate_target;
+use crate::effect::apply_dyndep;
 use crate::folder::Folder;
-use crate::one::one_run;
-use crate::order::order_run;
-use crate::project::project_run;
+use crate::one::collate_scan;
+use crate::order::order_edges;
+use crate::project::collate_project;
 use crate::reading::read;
-use crate::show::show_run;
+use crate::show::show_dyndep;
 use crate::stop::{self, Output, OutputFile, Stop};
 use command_line::Task;
 use std::alloc::Global;
@@ -29,15 +29,15 @@ pub fn task_run<F: Folder>(alloc: Global, task: &Task, folder: &mut F) -> Result
     let file = read(alloc, task.file(), folder)?;
     let text = file.as_slice();
     match task {
-        Task::One { dir, ext, .. } => one_run(alloc, text, dir, ext),
-        Task::Collate { .. } => collate_run(alloc, text, folder),
-        Task::Show { .. } => show_run(alloc, text),
+        Task::One { dir, ext, .. } => collate_scan(alloc, text, dir, ext),
+        Task::Collate { .. } => collate_target(alloc, text, folder),
+        Task::Show { .. } => show_dyndep(alloc, text),
         Task::Effect { name, dyndep, .. } => {
             let dyndep = read(alloc, dyndep, folder)?;
-            effect_run(alloc, name, text, &dyndep)
+            apply_dyndep(alloc, name, text, &dyndep)
         }
-        Task::Order { .. } => order_run(alloc, text),
-        Task::Project { .. } => project_run(alloc, text, folder),
+        Task::Order { .. } => order_edges(alloc, text),
+        Task::Project { .. } => collate_project(alloc, text, folder),
     }
 }
 

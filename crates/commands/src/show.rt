@@ -9,7 +9,7 @@ use std::alloc::Global;
 
 /// Runs `show DYNDEP` on the bytes of the dyndep file. A line that was read can be too long to be
 /// written.
-pub fn show_run(alloc: Global, text: &[u8]) -> Result<Output, Stop>
+pub fn show_dyndep(alloc: Global, text: &[u8]) -> Result<Output, Stop>
     ensures { ShowRun text.now [] result }
 {
     let dyndep = read_dyndep(alloc, text)?;

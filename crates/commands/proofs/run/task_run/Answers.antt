@@ -31,15 +31,15 @@ returns-in_err-file g c =
 
 pub returns-in-One : goal.returns-in-One
 returns-in-One g c =
-    ran_once _ _ (task_value c.args.task.now) _ _ c.in_ok-file.file _ c.one_run.result c.file.ensures (ap task_value c.in-One.is) c.as_slice-text.ensures.value c.in_ok-file.ensures c.one_run.ensures
+    ran_once _ _ (task_value c.args.task.now) _ _ c.in_ok-file.file _ c.collate_scan.result c.file.ensures (ap task_value c.in-One.is) c.as_slice-text.ensures.value c.in_ok-file.ensures c.collate_scan.ensures
 
 pub returns-in-Collate : goal.returns-in-Collate
 returns-in-Collate g c =
-    ran _ _ _ (task_value c.args.task.now) _ _ c.in_ok-file.file _ _ c.file.ensures (ap task_value c.in-Collate.is) c.as_slice-text.ensures.value c.in_ok-file.ensures c.collate_run.ensures
+    ran _ _ _ (task_value c.args.task.now) _ _ c.in_ok-file.file _ _ c.file.ensures (ap task_value c.in-Collate.is) c.as_slice-text.ensures.value c.in_ok-file.ensures c.collate_target.ensures
 
 pub returns-in-Show : goal.returns-in-Show
 returns-in-Show g c =
-    ran_once _ _ (task_value c.args.task.now) _ _ c.in_ok-file.file _ c.show_run.result c.file.ensures (ap task_value c.in-Show.is) c.as_slice-text.ensures.value c.in_ok-file.ensures c.show_run.ensures
+    ran_once _ _ (task_value c.args.task.now) _ _ c.in_ok-file.file _ c.show_dyndep.result c.file.ensures (ap task_value c.in-Show.is) c.as_slice-text.ensures.value c.in_ok-file.ensures c.show_dyndep.ensures
 
 pub returns-in_err-dyndep-in-Effect : goal.returns-in_err-dyndep-in-Effect
 returns-in_err-dyndep-in-Effect g c =
@@ -52,12 +52,12 @@ returns-in-Effect g c =
     let dyndep = c.in_ok-dyndep-in-Effect.dyndep in
     ran _ _ _ (task_value c.args.task.now) _ _ c.in_ok-file.file _ _ c.file.ensures (ap task_value c.in-Effect.is) c.as_slice-text.ensures.value c.in_ok-file.ensures
     (run_next (ReadsFile _) (λ (text : List ℕ). EffectRun _ _ text) _ _ _ (Ok dyndep.items) dyndep.items _ c.in_ok-dyndep-in-Effect.ensures refl
-    (at_once _ (EffectRun _ _ dyndep.items) c.effect_run.result (rw c.deref.ensures.value at c.effect_run.ensures)))
+    (at_once _ (EffectRun _ _ dyndep.items) c.apply_dyndep.result (rw c.deref.ensures.value at c.apply_dyndep.ensures)))
 
 pub returns-in-Order : goal.returns-in-Order
 returns-in-Order g c =
-    ran_once _ _ (task_value c.args.task.now) _ _ c.in_ok-file.file _ c.order_run.result c.file.ensures (ap task_value c.in-Order.is) c.as_slice-text.ensures.value c.in_ok-file.ensures c.order_run.ensures
+    ran_once _ _ (task_value c.args.task.now) _ _ c.in_ok-file.file _ c.order_edges.result c.file.ensures (ap task_value c.in-Order.is) c.as_slice-text.ensures.value c.in_ok-file.ensures c.order_edges.ensures
 
 pub returns : goal.returns
 returns g c =
-    ran _ _ _ (task_value c.args.task.now) _ _ c.in_ok-file.file _ _ c.file.ensures (ap task_value c.in-Project.is) c.as_slice-text.ensures.value c.in_ok-file.ensures c.project_run.ensures
+    ran _ _ _ (task_value c.args.task.now) _ _ c.in_ok-file.file _ _ c.file.ensures (ap task_value c.in-Project.is) c.as_slice-text.ensures.value c.in_ok-file.ensures c.collate_project.ensures

@@ -4,7 +4,7 @@ use Rattle.scan_docs.specs.Scan.{SettingValue}
 use Rattle.collate_core.specs.Values.{TargetValue}
 use Rattle.commands.specs.One.{PrintsDyndep}
 use Rattle.commands.specs.Outcomes.{stops}
-use Rattle.commands.proofs.one.one_run.Goals as goal
+use Rattle.commands.proofs.one.collate_scan.Goals as goal
 
 pub returns-in_err-name : goal.returns-in_err-name
 returns-in_err-name c = stops Memory refl (search rules)

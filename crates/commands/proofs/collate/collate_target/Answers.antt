@@ -12,7 +12,7 @@ use Rattle.commands.specs.Outcomes.{LineValue, Outcome, OutputValue, Part, Runs,
 use Rattle.commands.specs.Targets.{TargetOf}
 use Rattle.commands.proofs.Commands.{objects_text}
 use Rattle.commands.proofs.Outcomes.{at_once, next, last, run_as, run_next, run_last, passed}
-use Rattle.commands.proofs.collate.collate_run.Goals as goal
+use Rattle.commands.proofs.collate.collate_target.Goals as goal
 
 abbrev Document : Type 0
 Document = document.TargetDocumentValue

@@ -5,7 +5,7 @@ use Rattle.dyndep_file.specs.FaultTexts.{write_fault_text}
 use Rattle.commands.specs.Outcomes.{seen}
 use Rattle.commands.specs.Show.{DyndepTextOf}
 use Rattle.commands.proofs.Outcomes.{given_seen, next, last, next_seen, last_seen}
-use Rattle.commands.proofs.show.show_run.Goals as goal
+use Rattle.commands.proofs.show.show_dyndep.Goals as goal
 
 -- the bytes of a text
 bytes : Vec ℕ Global → List ℕ

@@ -8,7 +8,7 @@ use Rattle.commands.specs.EdgeFaults.{cycle_text}
 use Rattle.commands.specs.Order.{order_text, PrintsOrder}
 use Rattle.commands.specs.Outcomes.{refusal, printed}
 use Rattle.commands.proofs.Outcomes.{next, last, said}
-use Rattle.commands.proofs.order.order_run.Goals as goal
+use Rattle.commands.proofs.order.order_edges.Goals as goal
 
 pub returns-in_err-graph : goal.returns-in_err-graph
 returns-in_err-graph c = last c.read_listing.ensures c.in_err-graph.was (search rules)

@@ -7,7 +7,7 @@ use Rattle.commands.specs.Outcomes.{Outcome, OutputValue, Part, Runs, ◌>>=◌}
 use Rattle.commands.specs.ProjectCommand.{ReadTargetValue, ProjectDocumentOf, ProjectRun, TargetsAfter, TargetsRun}
 use Rattle.commands.specs.inner.ProjectTargets.{LinkEarlier}
 use Rattle.commands.proofs.Outcomes.{at_once, run_as, run_next, run_last, passed}
-use Rattle.commands.proofs.project.project_run.Goals as goal
+use Rattle.commands.proofs.project.collate_project.Goals as goal
 
 -- what comes after the project document
 abbrev AfterDocument : ProjectValue → Part OutputValue

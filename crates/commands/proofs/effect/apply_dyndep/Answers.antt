@@ -1,5 +1,5 @@
 use Rattle.commands.proofs.Outcomes.{next, last, passed}
-use Rattle.commands.proofs.effect.effect_run.Goals as goal
+use Rattle.commands.proofs.effect.apply_dyndep.Goals as goal
 
 pub returns-in_err-name : goal.returns-in_err-name
 returns-in_err-name c = last c.read_name.ensures c.in_err-name.was (passed c.from_residual.ensures)
