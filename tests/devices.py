@@ -353,6 +353,34 @@ class Inputs(Devices):
         self.same(self.caller.run("show", f"/proc/{os.getpid()}/fd/{end}"), SHOW.printed())
         os.close(end)
 
+    def test_files_without_an_end(self):
+        """A document is read up to its limit, and a file of lines up to the limit of a line."""
+        document, line = b"S8 TooLarge document", b"line 1: N5 LineTooLong"
+        lay({"t.dd": TWO, "t.edges": b"", "scan.json": target(b',"scans":["/dev/zero"]'), "info.json": target(b',"linked":["/dev/zero"]'),
+             "edges.json": target(b',"edges":"/dev/zero"'), "project.json": b'{"version":1,"targets":["/dev/zero"]}'})
+        for words, answer in (
+                (["one", "/dev/zero", "m", ".pcm"], b"scan 0: " + document), (["collate", "/dev/zero"], b"target: " + document),
+                (["project", "/dev/zero"], b"project: " + document), (["project", "project.json"], b"target 0: target: " + document),
+                (["collate", "scan.json"], b"scan 0: " + document), (["collate", "info.json"], b"info 0: " + document),
+                (["collate", "edges.json"], b"edges: " + line), (["show", "/dev/zero"], line), (["order", "/dev/zero"], b"edges: " + line),
+                (["effect", "t.dd", "/dev/zero", "t.dd"], b"edges: " + line), (["effect", "t.dd", "t.edges", "/dev/zero"], line)):
+            self.same(self.caller.run(*words), refused(answer), " ".join(words))
+
+    def test_a_pipe_that_stays_open_after_a_faulty_line(self):
+        """The run ends with the fault while the writer still has the pipe open, and more could come."""
+        lay({"t.dd": TWO, "t.edges": b"", "edges.json": target(b',"edges":"pipe"')})
+        for words, text, answer in (
+                (["show", "pipe"], V + b"rule r\n", b"line 2: Y1 NoStatement"), (["order", "pipe"], b"rule r\n", b"edges: line 1: E3 Form"),
+                (["effect", "t.dd", "pipe", "t.dd"], b"rule r\n", b"edges: line 1: E3 Form"),
+                (["effect", "t.dd", "t.edges", "pipe"], V + b"rule r\n", b"line 2: Y1 NoStatement"),
+                (["collate", "edges.json"], b"rule r\n", b"edges: line 1: E3 Form")):
+            os.mkfifo("pipe")
+            pipe = os.open("pipe", os.O_RDWR)
+            os.write(pipe, text)
+            self.same(self.caller.run(*words), refused(answer), " ".join(words))
+            os.close(pipe)
+            os.remove("pipe")
+
     def test_a_pipe_gives_its_text_to_the_first_that_reads_it(self):
         """So of a file that is named twice, each reading counts."""
         lay({"t.target.json": target(b',"scans":["/dev/stdin","/dev/stdin"]')})
@@ -415,11 +443,10 @@ class Rights(Case):
             self.same((ran.returncode, ran.stdout, ran.stderr), cannot("read", name), it.name)
 
     def test_no_memory_for_a_file(self):
-        """It has no bytes on the disk, and more than the memory that the program may have."""
-        lay({"t.target.json": target(b',"scans":["huge"]')})
-        write("huge", b"")
-        os.truncate("huge", 1 << 30)
-        for words in ["show", "huge"], ["collate", "t.target.json"]:
+        """What it means needs more memory than the program may have, although it has no more bytes than it may have."""
+        lay({"t.target.json": target(b',"scans":["huge"]'), "huge": b"[" + b"0," * 8_000_000 + b"0]",
+             "huge.dd": V + b"".join(b"build %d: dyndep\n" % it for it in range(1_000_000))})
+        for words in ["show", "huge.dd"], ["collate", "t.target.json"]:
             ran = subprocess.run(["sh", "-c", 'ulimit -v 131072 && exec "$@"', "sh", PROGRAM] + words, stdin=subprocess.DEVNULL,
                                  capture_output=True, check=False)
             self.same((ran.returncode, ran.stdout, ran.stderr), (3, b"", b"dyncollate: out of memory\n"), words[0])

@@ -1,5 +1,5 @@
 -- The definitions on examples whose answers are known.
-use Rattle.std.proofs.Common.{◌≡◌, ℕ, List, [], ◌∷◌, ◌++◌, Some, None, false, codes, refl}
+use Rattle.std.proofs.Common.{◌≡◌, ℕ, List, [], ◌∷◌, ◌++◌, Some, None, true, false, length, codes, refl}
 use Rattle.scan_docs.specs.Scan.{RuleValue}
 use Rattle.module_table.specs.declared.fault.Maker.TheVariants.{Object, Info}
 use Rattle.module_table.specs.declared.fault.TableFault.TheVariants.{InfoTwice, ProvidedTwice, InfoUnknown, InfoDisagrees, ModulePrivate, PrivateUnknown}
@@ -18,9 +18,10 @@ use Rattle.std.specs.IoError.{error_kind}
 use Rattle.std.specs.declared.io.ErrorKind.TheVariants.{OutOfMemory}
 use Rattle.ninja_text.specs.declared.failure.Failure.TheVariants.{Fault}
 use Rattle.commands.specs.Files.{FilesOf, TargetFilesValue}
-use Rattle.commands.specs.Folder.{FileCall, reading}
-use Rattle.commands.specs.Outcomes.{goes_on, stops, failed}
-use Rattle.commands.proofs.Outcomes.{all_read}
+use Rattle.commands.specs.Folder.{FileCall, FileRead, reading, up_to}
+use Rattle.commands.specs.Listings.{ListingRead, IsListingRead}
+use Rattle.commands.specs.Outcomes.{goes_on, stops, failed, document_most}
+use Rattle.commands.proofs.Outcomes.{all_read, document_call}
 
 -- `a.o` provides `A` and requires `B`, which `b.o` provides
 abbrev two_rules : List RuleValue
@@ -96,26 +97,38 @@ named = record {
   restat = false;
 }
 
-abbrev its_files : TargetFilesValue
-its_files = record { scans = codes "A" ∷ []; infos = codes "K" ∷ []; listing = Some (codes "E") }
+-- what is read of the listing
+abbrev edges_read : FileRead
+edges_read = record { bytes = codes "E"; ended = true }
+
+abbrev its_files : ListingRead → TargetFilesValue
+its_files listing = record { scans = codes "A" ∷ []; infos = codes "K" ∷ []; listing = Some listing }
 
 abbrev listing_call : List FileCall
-listing_call = reading (codes "edges") (Ok (codes "E")) ∷ []
+listing_call = reading (codes "edges") (Ok edges_read) ∷ []
 
 abbrev info_calls : List FileCall
-info_calls = reading (codes "k.info") (Ok (codes "K")) ∷ listing_call
+info_calls = document_call (codes "k.info") (codes "K") ∷ listing_call
 
 -- they are read in this order, each once
-in_order : FilesOf named (codes "k.info" ∷ []) (reading (codes "a.ddi") (Ok (codes "A")) ∷ info_calls) (Ok its_files)
-in_order =
-    goes_on (codes "A" ∷ []) (reading (codes "a.ddi") (Ok (codes "A")) ∷ []) info_calls refl (all_read (codes "a.ddi" ∷ []) (codes "A" ∷ []) refl)
-    (goes_on (codes "K" ∷ []) (reading (codes "k.info") (Ok (codes "K")) ∷ []) listing_call refl (all_read (codes "k.info" ∷ []) (codes "K" ∷ []) refl)
-    (goes_on (Some (codes "E")) listing_call [] refl (goes_on (codes "E") listing_call [] refl refl (refl, refl)) (refl, refl)))
+in_order : (listing : ListingRead) → IsListingRead edges_read listing →
+    FilesOf named (codes "k.info" ∷ []) (document_call (codes "a.ddi") (codes "A") ∷ info_calls) (Ok (its_files listing))
+in_order listing is =
+    goes_on (codes "A" ∷ []) (document_call (codes "a.ddi") (codes "A") ∷ []) info_calls refl (all_read (codes "a.ddi" ∷ []) (codes "A" ∷ []) refl)
+    (goes_on (codes "K" ∷ []) (document_call (codes "k.info") (codes "K") ∷ []) listing_call refl (all_read (codes "k.info" ∷ []) (codes "K" ∷ []) refl)
+    (goes_on (Some listing) listing_call [] refl (goes_on listing listing_call [] refl (edges_read, refl, is) (refl, refl)) (refl, refl)))
 
 -- none is read after one that can't be
 one_unread : (error : Error) → (error_kind error ≡ OutOfMemory → ⊥) →
-    FilesOf named (codes "k.info" ∷ []) (reading (codes "a.ddi") (Ok (codes "A")) ∷ reading (codes "k.info") (Err error) ∷ [])
+    FilesOf named (codes "k.info" ∷ []) (document_call (codes "a.ddi") (codes "A") ∷ reading (codes "k.info") (Err error) ∷ [])
     (Err (Fault (failed 3 (codes "cannot read k.info"))))
 one_unread error other =
-    goes_on (codes "A" ∷ []) (reading (codes "a.ddi") (Ok (codes "A")) ∷ []) (reading (codes "k.info") (Err error) ∷ []) refl (all_read (codes "a.ddi" ∷ []) (codes "A" ∷ []) refl)
+    goes_on (codes "A" ∷ []) (document_call (codes "a.ddi") (codes "A") ∷ []) (reading (codes "k.info") (Err error) ∷ []) refl (all_read (codes "a.ddi" ∷ []) (codes "A" ∷ []) refl)
     (stops _ (stops _ ((error, refl, other), refl) refl) refl)
+
+-- a document of which one byte more was read than it may have has not ended, and one that has as many as it may have has
+too_large : (bytes : List ℕ) → length bytes ≡ 16777217 → (up_to document_most bytes).ended ≡ false
+too_large bytes e = rw e refl
+
+largest : (bytes : List ℕ) → length bytes ≡ 16777216 → (up_to document_most bytes).ended ≡ true
+largest bytes e = rw e refl

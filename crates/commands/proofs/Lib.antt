@@ -2,6 +2,7 @@ pub mod Commands
 pub mod Loops
 pub mod Examples
 pub mod FileCalls
+pub mod ForCallers
 pub mod Listings
 pub mod Outcomes
 pub mod ProjectRuns

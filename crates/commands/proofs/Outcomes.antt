@@ -8,8 +8,8 @@ use Rattle.ninja_text.specs.Bytes.{Bytes, Text}
 use Rattle.ninja_text.specs.Failure.{ForFault}
 use Rattle.ninja_text.specs.declared.failure.Failure.{Failure}
 use Rattle.ninja_text.specs.declared.failure.Failure.TheVariants.{Memory, Fault}
-use Rattle.commands.specs.Outcomes.{LineValue, Outcome, Part, InTurn, goes_on, stops, Returns, Reports, Runs, ReadsFile, ReadsAll, seen, failed, refusal}
-use Rattle.commands.specs.Folder.{FileCall, Adds, MakesCalls, reading}
+use Rattle.commands.specs.Outcomes.{LineValue, Outcome, Part, InTurn, goes_on, stops, Returns, Reports, Runs, IsUnread, ReadsAll, document_most, seen, failed, refusal}
+use Rattle.commands.specs.Folder.{FileCall, Adds, MakesCalls, reading, up_to}
 use Rattle.commands.proofs.FileCalls.{both_made, none_made}
 
 -- ---- parts that make no call
@@ -36,6 +36,22 @@ pub given : {V F : Type 0} (IsValue : V → Type 0) (IsFault : F → Type 0) (te
 given IsValue IsFault text Post (Ok value) s to ok err h = subst (Returns IsValue IsFault text []) (sym h) (refl, ok)
 given IsValue IsFault text Post (Err failure) (Err stop) to ok err h = fault_reported IsValue IsFault text failure stop err (to failure stop h)
 given IsValue IsFault text Post (Err failure) (Ok value) to ok err h = absurd h
+
+-- of a value or a failure that was there before
+pub held : {V F : Type 0} (text : F → Text) (Post : Failure F → Failure LineValue → Type 0) (r : Result V (Failure F)) (s : Outcome V) →
+    ((failure : Failure F) (stop : Failure LineValue) → Post failure stop → Reports text failure stop) →
+    MatchResult r (λ value. s ≡ Ok value) (λ failure. IsErrAnd s (Post failure)) →
+    Returns (λ value. r ≡ Ok value) (λ fault. r ≡ Err (Fault fault)) text [] s
+held text Post r s to h = given (λ value. r ≡ Ok value) (λ fault. r ≡ Err (Fault fault)) text Post r s to (own_value r) (own_fault r) h
+  where
+    own_value : {V F : Type 0} (r : Result V F) → IfOk r (λ value. r ≡ Ok value)
+    own_value (Ok value) = refl
+    own_value (Err failure) = tt
+
+    own_fault : {V F : Type 0} (r : Result V (Failure F)) → IfErr r (ForFault (λ fault. r ≡ Err (Fault fault)))
+    own_fault (Ok value) = tt
+    own_fault (Err Memory) = tt
+    own_fault (Err (Fault fault)) = refl
 
 -- viewed like this
 pub given_seen : {T V F : Type 0} (view : T → V) (IsValue : V → Type 0) (IsFault : F → Type 0) (text : F → Text) (Post : Failure F → Failure LineValue → Type 0)
@@ -154,23 +170,27 @@ leads_end old mid new Left Whole outcome (before, so_far, leads) (calls, after, 
 -- a file that can't be read
 pub unread : (name : List ℕ) (error : Error) (stop : Failure LineValue) → (error_kind error ≡ OutOfMemory → ⊥) →
     ForFault (λ l. l ≡ failed 3 (codes "cannot read " ++ name)) stop →
-    ReadsFile name (reading name (Err error) ∷ []) (Err stop)
+    IsUnread name (reading name (Err error) ∷ []) stop
 unread name error Memory other h = inr (error, refl)
 unread name error (Fault l) other h = ((error, refl, other), h)
 
--- the calls that read these files
+-- the call that read a document
+abbrev pub document_call : Text → Bytes → FileCall
+document_call name file = reading name (Ok (up_to document_most file))
+
+-- the calls that read these documents
 abbrev pub reads_of : List Text → List Bytes → List FileCall
 reads_of [] files = []
 reads_of (name ∷ names) [] = []
-reads_of (name ∷ names) (file ∷ files) = reading name (Ok file) ∷ reads_of names files
+reads_of (name ∷ names) (file ∷ files) = document_call name file ∷ reads_of names files
 
 -- and one file more
 pub reads_next : (names : List Text) (files : List Bytes) (name : Text) (file : Bytes) → length names ≡ length files →
-    reads_of (names ++ name ∷ []) (files ++ file ∷ []) ≡ reads_of names files ++ reading name (Ok file) ∷ []
+    reads_of (names ++ name ∷ []) (files ++ file ∷ []) ≡ reads_of names files ++ document_call name file ∷ []
 reads_next [] [] name file e = refl
 reads_next [] (f ∷ files) name file e = cc
 reads_next (n ∷ names) [] name file e = cc
-reads_next (n ∷ names) (f ∷ files) name file e = ap (λ calls. reading n (Ok f) ∷ calls) (reads_next names files name file (cc))
+reads_next (n ∷ names) (f ∷ files) name file e = ap (λ calls. document_call n f ∷ calls) (reads_next names files name file (cc))
 
 -- all files were read
 pub all_read : (names : List Text) (files : List Bytes) → length names ≡ length files → ReadsAll names (reads_of names files) (Ok files)
@@ -178,7 +198,7 @@ all_read [] [] e = (refl, refl)
 all_read [] (f ∷ files) e = cc
 all_read (n ∷ names) [] e = cc
 all_read (n ∷ names) (f ∷ files) e =
-    goes_on f (reading n (Ok f) ∷ []) (reads_of names files) refl refl
+    goes_on f (document_call n f ∷ []) (reads_of names files) refl refl
     (goes_on files (reads_of names files) [] (sym (append-nil (reads_of names files))) (all_read names files (cc)) (refl, refl))
 
 -- the run stops at one of the others
@@ -188,7 +208,7 @@ read_until [] others [] calls stop e h = h
 read_until [] others (f ∷ files) calls stop e h = cc
 read_until (n ∷ names) others [] calls stop e h = cc
 read_until (n ∷ names) others (f ∷ files) calls stop e h =
-    goes_on f (reading n (Ok f) ∷ []) (reads_of names files ++ calls) refl refl (stops stop (read_until names others files calls stop (cc) h) refl)
+    goes_on f (document_call n f ∷ []) (reads_of names files ++ calls) refl refl (stops stop (read_until names others files calls stop (cc) h) refl)
 
 -- memory can run out at any point
 pub read_no_more : (names : List Text) → ReadsAll names [] (Err Memory)

@@ -15,7 +15,7 @@ use Rattle.collate_core.specs.Refusals.{IsRefusal, WasRead}
 use Rattle.collate_core.specs.declared.fault.Refusal.{Refusal}
 use Rattle.collate_core.specs.declared.fault.RefusedTarget.{RefusedTarget}
 use Rattle.collate_core.specs.declared.fault.Refusal.TheVariants.{Scan, Info, Table, StatementTooLong, Map, LinkedLater}
-use Rattle.commands.specs.Outcomes.{LineValue, Outcome, Reports, refusal}
+use Rattle.commands.specs.Outcomes.{LineValue, Outcome, Reports}
 use Rattle.commands.specs.RefusalTexts.{map_text, refusal_by_names, refusal_text}
 use Rattle.commands.specs.TableFaults.{fault_text}
 use Rattle.commands.specs.Targets.{TargetOf}

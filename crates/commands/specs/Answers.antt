@@ -1,5 +1,5 @@
 -- What a run returns as a value: its exit status, its two texts, and the files to be written.
-use Rattle.std.specs.Prelude.{◌≡◌, ⊤, ℕ, ◌||◌, ◌==◌, nat_lt, if◌then◌else◌, List, [], ◌∷◌, ◌++◌, map, Result, Ok, Err, string_bytes, codes}
+use Rattle.std.specs.Prelude.{◌≡◌, ⊤, ℕ, ◌||◌, ◌==◌, nat_lt, if◌then◌else◌, [], ◌∷◌, ◌++◌, map, Result, Ok, Err, string_bytes, codes}
 use Rattle.std.specs.declared.alloc.AllocError.{AllocError}
 use Rattle.ninja_text.specs.Bytes.{Text, line_feed, space, question_mark, delete}
 use Rattle.ninja_text.specs.declared.failure.Failure.TheVariants.{Memory, Fault}

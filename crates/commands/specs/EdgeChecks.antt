@@ -1,5 +1,5 @@
 -- The check of the edges that a target document names, once the target was collated.
-use Rattle.std.specs.Prelude.{◌≡◌, ℕ, List, length, Option, Some, None, Vec}
+use Rattle.std.specs.Prelude.{ℕ, List, length, Option, Some, None, Vec}
 use Rattle.std.specs.Global.{Global}
 use Rattle.ninja_text.specs.Bytes.{Text, PathText}
 use Rattle.dep_order.specs.Needs.{IsOrderable}
@@ -9,7 +9,7 @@ use Rattle.build_effect.specs.EdgeValue.{EdgeValue}
 use Rattle.build_effect.specs.Graphs.{EdgeNeeds}
 use Rattle.collate_core.specs.Rehearsal.{HasEffect, LacksEffect}
 use Rattle.commands.specs.EdgeFaults.{effect_text, cycle_text}
-use Rattle.commands.specs.Listings.{ListingOf}
+use Rattle.commands.specs.Listings.{ListingRead, ListingOf}
 use Rattle.commands.specs.Outcomes.{Part, Returns, Done, ◌>>=◌}
 
 -- the edges after the effect of a dyndep text, as that of the file of this name
@@ -33,8 +33,8 @@ GraphPasses old name dyndep = do
   OrderableOf old new
 
 -- the edges of a listing, if there is one, can be put in order after that effect
-abbrev pub EdgesPass : Option Text → PathText → Text → Part (Unit {0})
+abbrev pub EdgesPass : Option ListingRead → PathText → Text → Part (Unit {0})
 EdgesPass None name dyndep = Done tt
-EdgesPass (Some text) name dyndep = do
-  old ← ListingOf text
+EdgesPass (Some listing) name dyndep = do
+  old ← ListingOf listing
   GraphPasses old name dyndep

@@ -7,10 +7,11 @@ use Rattle.build_effect.specs.EdgeValue.{EdgeValue}
 use Rattle.build_effect.specs.Effect.{OnlyEffect}
 use Rattle.build_effect.specs.ListingWriting.{listing_text_or_fault}
 use Rattle.collate_core.specs.Rehearsal.{IsWithoutEffect}
-use Rattle.commands.specs.Dyndeps.{DyndepOf}
+use Rattle.commands.specs.Dyndeps.{DyndepRead, IsDyndepRead, DyndepOf}
 use Rattle.commands.specs.EdgeFaults.{name_fault_text, listing_write_text, effect_text}
-use Rattle.commands.specs.Listings.{ListingOf}
-use Rattle.commands.specs.Outcomes.{Part, OutputValue, Returns, Prints, ◌>>=◌}
+use Rattle.commands.specs.Folder.{whole}
+use Rattle.commands.specs.Listings.{ListingRead, IsListingRead, ListingOf}
+use Rattle.commands.specs.Outcomes.{Part, OutputValue, Comes, Returns, Prints, ◌>>=◌}
 
 -- the path of a name
 abbrev pub NameOf : Text → Part PathText
@@ -36,12 +37,20 @@ PrintsListing edges = do
   text ← ListingTextOf edges
   Prints text
 
+-- What a run prints for a name, and for an edge listing and the dyndep file of that name that were
+-- read.
+abbrev pub EffectOfRead : Text → ListingRead → DyndepRead → Part OutputValue
+EffectOfRead name listing dyndep = do
+  path ← NameOf name
+  old ← ListingOf listing
+  statements ← DyndepOf dyndep
+  new ← EffectOf old path statements
+  PrintsListing new
+
 -- What a run prints for a name, and for these bytes of an edge listing and of the dyndep file of
 -- that name.
 abbrev pub EffectRun : Text → Text → Text → Part OutputValue
 EffectRun name edges dyndep = do
-  path ← NameOf name
-  old ← ListingOf edges
-  statements ← DyndepOf dyndep
-  new ← EffectOf old path statements
-  PrintsListing new
+  listing ← Comes (IsListingRead (whole edges))
+  read ← Comes (IsDyndepRead (whole dyndep))
+  EffectOfRead name listing read

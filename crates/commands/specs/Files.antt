@@ -3,19 +3,19 @@ use Rattle.std.specs.Prelude.{◌≡◌, ◌⊎◌, List, [], ◌∷◌, ◌++�
 use Rattle.std.specs.declared.io.Error.{Error}
 use Rattle.ninja_text.specs.Bytes.{Text, PathText}
 use Rattle.ninja_text.specs.Failure.{ForFault}
-use Rattle.ninja_text.specs.declared.failure.Failure.{Failure}
 use Rattle.scan_docs.specs.Target as document
 use Rattle.commands.specs.Folder.{FileCall, comparing, writing}
-use Rattle.commands.specs.Outcomes.{Part, FileValue, LineValue, Outcome, OutputValue, ReadsAll, ReadsIfNamed, Done, failed, ◌>>=◌}
+use Rattle.commands.specs.Listings.{ListingRead, ReadsListing}
+use Rattle.commands.specs.Outcomes.{Part, FileValue, Outcome, OutputValue, ReadsAll, ReadsIfNamed, Done, failed, ◌>>=◌}
 
 -- ---- files that are read
 
--- the bytes of the files of a target: its scan documents, the info files that it links, and its
--- listing of edges, if it names one
+-- the files of a target: the bytes of its scan documents and of the info files that it links, and
+-- the result of reading its listing of edges, if it names one
 pub record TargetFilesValue : Type 0 where
   pub scans : List Text
   pub infos : List Text
-  pub listing : Option Text
+  pub listing : Option ListingRead
 
 -- a part that reads the files of a target in this order: the scan documents that its document names,
 -- info files of these names, and the listing of edges
@@ -23,7 +23,7 @@ abbrev pub FilesOf : document.TargetDocumentValue → List PathText → Part Tar
 FilesOf spec linked = do
   scans ← ReadsAll spec.scans
   infos ← ReadsAll linked
-  listing ← ReadsIfNamed spec.edges
+  listing ← ReadsIfNamed ReadsListing spec.edges
   Done (record { scans = scans; infos = infos; listing = listing })
 
 -- ---- files that are written

@@ -1,20 +1,33 @@
 -- The calls by which files are read, compared and written.
-use Rattle.std.specs.Prelude.{◌≡◌, ℕ, List, ◌++◌, Bool, Option, option_map, Result, Ok, Err, Vec}
+use Rattle.std.specs.Prelude.{◌≡◌, ◌⊎◌, ℕ, nat_lt, List, ◌∷◌, [], ◌++◌, length, Bool, true, false, Option, option_map, Result, Ok, Err, Vec}
 use Rattle.std.specs.Global.{Global}
 use Rattle.std.specs.declared.io.Error.{Error}
 use Rattle.ninja_text.specs.Bytes.{Bytes, PathText}
 
+-- what was read of a file: its bytes, or those that it begins with, and whether it ended there
+pub record FileRead : Type 0 where
+  pub bytes : Bytes
+  pub ended : Bool
+
+-- all bytes of a file
+abbrev pub whole : Bytes → FileRead
+whole bytes = record { bytes = bytes; ended = true }
+
 -- one call, by the name of the file, the bytes that it is compared with or that are written, and the
--- answer
+-- result
 pub data FileCall : Type 0 where
-  reading : PathText → Result Bytes Error → FileCall
+  reading : PathText → Result FileRead Error → FileCall
   comparing : PathText → Bytes → Bool → FileCall
   writing : PathText → Bytes → Result (Unit {0}) Error → FileCall
 
--- the bytes that a call read, or its error
-abbrev pub answer_of : Result (Vec ℕ Global) Error → Result Bytes Error
-answer_of (Ok bytes) = Ok bytes.items
-answer_of (Err error) = Err error
+-- the bytes of a file of which at most this many were read: it ended if they are fewer
+abbrev pub up_to : ℕ → Bytes → FileRead
+up_to most bytes = record { bytes = bytes; ended = nat_lt (length bytes) most }
+
+-- what a call read of at most this many bytes, or its error
+abbrev pub answer_of : ℕ → Result (Vec ℕ Global) Error → Result FileRead Error
+answer_of most (Ok bytes) = Ok (up_to most bytes.items)
+answer_of most (Err error) = Err error
 
 -- these calls were made, in this order, and no other, where it is known which were made before
 abbrev pub Adds : Option (List FileCall) → Option (List FileCall) → List FileCall → Type 0
@@ -24,3 +37,27 @@ Adds old new calls = new ≡ option_map (λ before. before ++ calls) old
 abbrev pub MakesCalls : Option (List FileCall) → Option (List FileCall) → (List FileCall → Type 0)
     → Type 0
 MakesCalls old new Holds = (calls : List FileCall) × Adds old new calls × Holds calls
+
+-- ---- files that are read in pieces
+
+-- what a reader is after a piece, by all bytes that it was given: it reads on, or it has failed
+abbrev pub ReadsOn : {R : Type 0} → (Bytes → R → Type 0) → (Bytes → R → Type 0) → Bytes → Bool → R
+    → Type 0
+ReadsOn has_read has_failed bytes true reader = has_read bytes reader
+ReadsOn has_read has_failed bytes false reader = has_failed bytes reader
+
+-- The reader was given what was read of a file: all bytes, or those up to a piece at which it has
+-- failed.
+abbrev pub WasGiven : {R : Type 0} → (Bytes → R → Type 0) → (Bytes → R → Type 0) → FileRead → R
+    → Type 0
+WasGiven has_read has_failed file reader =
+    (has_read file.bytes reader × (file.ended ≡ true)) ⊎ has_failed file.bytes reader
+
+-- The call gave the reader what it read of the file of this name, or returned an error.
+abbrev pub GivesPieces : {R : Type 0} → (Bytes → R → Type 0) → (Bytes → R → Type 0) → PathText
+    → Option (List FileCall) → Option (List FileCall) → Result Unit Error → R → Type 0
+GivesPieces has_read has_failed name old new (Ok done) reader =
+    (file : FileRead) × Adds old new (reading name (Ok file) ∷ [])
+    × WasGiven has_read has_failed file reader
+GivesPieces has_read has_failed name old new (Err error) reader =
+    Adds old new (reading name (Err error) ∷ [])

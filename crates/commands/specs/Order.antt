@@ -10,8 +10,9 @@ use Rattle.build_effect.specs.EdgeValue.{EdgeValue}
 use Rattle.build_effect.specs.Graphs.{EdgeNeeds}
 use Rattle.commands.specs.Answers.{visible}
 use Rattle.commands.specs.EdgeFaults.{first_output, cycle_text}
-use Rattle.commands.specs.Listings.{ListingOf}
-use Rattle.commands.specs.Outcomes.{Part, OutputValue, Returns, printed, ◌>>=◌}
+use Rattle.commands.specs.Folder.{whole}
+use Rattle.commands.specs.Listings.{ListingRead, IsListingRead, ListingOf}
+use Rattle.commands.specs.Outcomes.{Part, OutputValue, Comes, Returns, printed, ◌>>=◌}
 
 -- the first output of each of these edges, one a line
 abbrev pub order_text : List EdgeValue → Numbers → Text
@@ -31,8 +32,14 @@ OrderOf edges =
     (λ (cycle : Vec ℕ Global). IsSortingOf (length edges) (EdgeNeeds edges) (Cycle cycle))
     (λ cycle. cycle_text edges cycle.items)
 
+-- What a run prints for an edge listing that was read.
+abbrev pub OrderOfRead : ListingRead → Part OutputValue
+OrderOfRead listing = do
+  graph ← ListingOf listing
+  OrderOf graph
+
 -- What a run prints for these bytes of an edge listing.
 abbrev pub OrderRun : Text → Part OutputValue
 OrderRun edges = do
-  graph ← ListingOf edges
-  OrderOf graph
+  listing ← Comes (IsListingRead (whole edges))
+  OrderOfRead listing

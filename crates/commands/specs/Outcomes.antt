@@ -7,7 +7,7 @@ use Rattle.std.specs.declared.io.ErrorKind.TheVariants.{OutOfMemory}
 use Rattle.ninja_text.specs.Bytes.{Bytes, Text, PathText}
 use Rattle.ninja_text.specs.declared.failure.Failure.{Failure}
 use Rattle.ninja_text.specs.declared.failure.Failure.TheVariants.{Memory, Fault}
-use Rattle.commands.specs.Folder.{FileCall, reading, MakesCalls}
+use Rattle.commands.specs.Folder.{FileCall, FileRead, reading, up_to, MakesCalls}
 
 -- a file: its name, its bytes, and whether it is left alone if it has them already
 pub record FileValue : Type 0 where
@@ -70,6 +70,11 @@ Returns IsValue IsFault text calls (Err Memory) = calls ≡ []
 Returns {V} {F} IsValue IsFault text calls (Err (Fault stop)) =
     (calls ≡ []) × ((fault : F) × IsFault fault × (stop ≡ refusal (text fault)))
 
+-- a part that makes no call, and has a value of which this holds
+abbrev pub Comes : {V : Type 0} → (V → Type 0) → Part V
+Comes Holds calls (Ok value) = (calls ≡ []) × Holds value
+Comes Holds calls (Err stop) = ⊥
+
 -- a part that makes no call and has this value, unless memory runs out
 abbrev pub Done : {V : Type 0} → V → Part V
 Done value = Returns (λ other. other ≡ value) (λ (none : ⊥). ⊥) (λ none. [])
@@ -92,32 +97,46 @@ Writes files = Done (written files)
 
 -- ---- parts that read
 
--- A part that reads the file of this name: its value is the file's bytes; or the file can't be read,
--- and the run stops with its name; or memory runs out, before the call or in it. A call that ran
--- out of memory is never reported as a file that can't be read.
-abbrev pub ReadsFile : PathText → Part Bytes
-ReadsFile name calls (Ok bytes) = calls ≡ reading name (Ok bytes) ∷ []
-ReadsFile name calls (Err Memory) =
+-- The file of this name can't be read, and the run stops with its name; or memory runs out, before
+-- the call or in it. A call that ran out of memory is never reported as a file that can't be read.
+abbrev pub IsUnread : PathText → List FileCall → Failure LineValue → Type 0
+IsUnread name calls Memory =
     (calls ≡ []) ⊎ ((error : Error) × (calls ≡ reading name (Err error) ∷ []))
-ReadsFile name calls (Err (Fault stop)) =
+IsUnread name calls (Fault stop) =
     ((error : Error) × (calls ≡ reading name (Err error) ∷ [])
     × (error_kind error ≡ OutOfMemory → ⊥))
     × (stop ≡ failed 3 (codes "cannot read " ++ name))
 
--- a part that reads the files of these names, one after another
+-- how many bytes of a document are read at most: one more than the longest document has
+abbrev pub document_most : ℕ
+document_most = 16777217
+
+-- A part that reads the document of this name: its value is the document's bytes. If there are more
+-- than the longest document has, they are the first of them, which is enough to reject it.
+abbrev pub ReadsDocument : PathText → Part Bytes
+ReadsDocument name calls (Ok bytes) = calls ≡ reading name (Ok (up_to document_most bytes)) ∷ []
+ReadsDocument name calls (Err stop) = IsUnread name calls stop
+
+-- a part that reads the file of this name, and whose value is one that follows from what it read
+abbrev pub ReadsAs : {V : Type 0} → (FileRead → V → Type 0) → PathText → Part V
+ReadsAs Follows name calls (Ok value) =
+    (file : FileRead) × (calls ≡ reading name (Ok file) ∷ []) × Follows file value
+ReadsAs Follows name calls (Err stop) = IsUnread name calls stop
+
+-- a part that reads the documents of these names, one after another
 abbrev pub ReadsAll : List PathText → Part (List Bytes)
 ReadsAll [] = Done []
 ReadsAll (name ∷ names) = do
-  bytes ← ReadsFile name
+  bytes ← ReadsDocument name
   others ← ReadsAll names
   Done (bytes ∷ others)
 
 -- a part that reads the file of a name, if there is one
-abbrev pub ReadsIfNamed : Option PathText → Part (Option Bytes)
-ReadsIfNamed None = Done None
-ReadsIfNamed (Some name) = do
-  bytes ← ReadsFile name
-  Done (Some bytes)
+abbrev pub ReadsIfNamed : {V : Type 0} → (PathText → Part V) → Option PathText → Part (Option V)
+ReadsIfNamed Reads None = Done None
+ReadsIfNamed Reads (Some name) = do
+  value ← Reads name
+  Done (Some value)
 
 -- ---- failures
 

@@ -23,7 +23,8 @@ use Rattle.collate_core.specs.declared.fault.Refusal.{Refusal}
 use Rattle.commands.specs.CollateCommand.{SpecOf, style_of, files_of, spec_text}
 use Rattle.commands.specs.EdgeChecks.{EdgesPass}
 use Rattle.commands.specs.Files.{TargetFilesValue, FilesOf}
-use Rattle.commands.specs.Outcomes.{Part, Outcome, OutputValue, LineValue, FileValue, Returns, Done, ReadsFile, Writes, failed, ◌>>=◌}
+use Rattle.commands.specs.Listings.{ListingRead}
+use Rattle.commands.specs.Outcomes.{Part, Outcome, OutputValue, LineValue, FileValue, Returns, Done, ReadsDocument, Writes, failed, ◌>>=◌}
 use Rattle.commands.specs.RefusalTexts.{refusal_by_names}
 
 -- ---- a part of a run about one target
@@ -54,12 +55,12 @@ At {V} index Holds calls outcome =
 -- ---- the targets that are read
 
 -- A target that was read: the members of its document, the indexes of the targets that it links,
--- and the bytes of its scan documents and of the listing of edges, if it names one.
+-- the bytes of its scan documents, and the result of reading its listing of edges, if it names one.
 pub record ReadTargetValue : Type 0 where
   pub spec : document.TargetDocumentValue
   pub linked : Numbers
   pub scans : List Text
-  pub listing : Option Text
+  pub listing : Option ListingRead
 
 -- the index in a list, if its tail has one, and else that of the head, if that is meant
 abbrev pub index_or_head : Option ℕ → Bool → Option ℕ
@@ -117,7 +118,7 @@ TargetAfter earlier bytes = do
 -- the target after earlier ones of the document of this name
 abbrev pub TargetOfFile : List ReadTargetValue → PathText → Part ReadTargetValue
 TargetOfFile earlier name = do
-  bytes ← ReadsFile name
+  bytes ← ReadsDocument name
   TargetAfter earlier bytes
 
 -- the targets of the documents of these names, which are read one after another, after earlier ones

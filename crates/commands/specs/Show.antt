@@ -4,8 +4,9 @@ use Rattle.ninja_text.specs.Bytes.{Text}
 use Rattle.dyndep_file.specs.FaultTexts.{write_fault_text}
 use Rattle.dyndep_file.specs.StatementValue.{StatementValue}
 use Rattle.dyndep_file.specs.WriteFaults.{text_or_fault}
-use Rattle.commands.specs.Dyndeps.{DyndepOf}
-use Rattle.commands.specs.Outcomes.{Part, OutputValue, Returns, Prints, ◌>>=◌}
+use Rattle.commands.specs.Dyndeps.{DyndepRead, IsDyndepRead, DyndepOf}
+use Rattle.commands.specs.Folder.{whole}
+use Rattle.commands.specs.Outcomes.{Part, OutputValue, Comes, Returns, Prints, ◌>>=◌}
 
 -- the text of the statements of a dyndep file, or why they can't be written
 abbrev pub DyndepTextOf : List StatementValue → Part Text
@@ -14,9 +15,15 @@ DyndepTextOf statements =
     (λ fault. text_or_fault statements ≡ Err fault)
     write_fault_text
 
--- What a run prints for these bytes of a dyndep file.
-abbrev pub ShowRun : Text → Part OutputValue
-ShowRun dyndep = do
+-- What a run prints for a dyndep file that was read.
+abbrev pub ShowOfRead : DyndepRead → Part OutputValue
+ShowOfRead dyndep = do
   statements ← DyndepOf dyndep
   text ← DyndepTextOf statements
   Prints text
+
+-- What a run prints for these bytes of a dyndep file.
+abbrev pub ShowRun : Text → Part OutputValue
+ShowRun dyndep = do
+  read ← Comes (IsDyndepRead (whole dyndep))
+  ShowOfRead read

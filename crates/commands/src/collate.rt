@@ -35,7 +35,7 @@ pub fn collate_target<F: Folder>(
     let spec = read_spec(alloc, document)?;
     let files = TargetFiles::read(alloc, &spec, &spec.linked, folder)?;
     let collated = collated(alloc, &spec, &files)?;
-    pass_edges(alloc, files.listing(), &spec.dyndep_path, &collated)?;
+    pass_edges(alloc, &files.listing, &spec.dyndep_path, &collated)?;
     write_collated(alloc, collated, &spec)
 }
 

@@ -1,31 +1,59 @@
 //! Dyndep files that commands read.
 
-ghost use Rattle.std.specs.Prelude.{[], IfOk, IfErr};
-ghost use Rattle.ninja_text.specs.Failure.{ForFault};
-ghost use Rattle.dyndep_file.specs.Reading.{StandsFor};
-ghost use Rattle.commands.specs.Dyndeps.{DyndepOf};
-ghost use Rattle.collate_core.specs.Rehearsal.{IsReadFaultOf};
+ghost use Rattle.std.specs.Prelude.{[]};
+ghost use Rattle.commands.specs.Dyndeps.{IsDyndepRead, DyndepOf, ReadsDyndep};
+ghost use Rattle.commands.specs.Folder.{whole};
+ghost use Rattle.commands.specs.Outcomes.{Runs};
 
+use crate::folder::{Folder, PieceReader};
 use crate::stop::{self, Stop};
 use dyndep_file::{Dyndep, DyndepReader, ReadFault};
 use ninja_text::Failure;
 use std::alloc::Global;
 
-/// Returns the statements of a dyndep text.
-fn dyndep_read(alloc: Global, text: &[u8]) -> Result<Dyndep, Failure<ReadFault>>
-    ensures read { IfOk result (StandsFor text.now) }
-    ensures refused { IfErr result (ForFault (IsReadFaultOf text.now)) }
-{
-    let mut reader = DyndepReader::new(alloc);
-    match reader.feed(text) {
-        Ok(()) => reader.finish(),
-        Err(failure) => Err(failure),
+/// The result of reading a dyndep file.
+pub(crate) type DyndepRead = Result<Dyndep, Failure<ReadFault>>;
+
+impl PieceReader for DyndepReader {
+    ghost use Rattle.dyndep_file.specs.Reader.{HasReadDyndep};
+    ghost use Rattle.commands.specs.Dyndeps.{HasFailedDyndep};
+
+    ghost has_read = { HasReadDyndep };
+
+    ghost has_failed = { HasFailedDyndep };
+
+    fn read_piece(&mut self, piece: &[u8]) -> bool {
+        self.feed(piece).is_ok()
     }
 }
 
-/// Returns the statements that a dyndep text stands for.
-pub(crate) fn read_dyndep(alloc: Global, text: &[u8]) -> Result<Dyndep, Stop>
-    ensures { DyndepOf text.now [] result }
+/// Reads the dyndep file of this name, up to its end or to the first line that is rejected.
+pub(crate) fn read_dyndep<F: Folder>(
+    alloc: Global,
+    name: &str,
+    folder: &mut F,
+) -> Result<DyndepRead, Stop>
+    ensures { Runs (F.calls folder.old) (F.calls folder.new) (ReadsDyndep name.now) result }
 {
-    dyndep_read(alloc, text).map_err(|f| stop::of_dyndep(alloc, f))
+    let mut reader = DyndepReader::new(alloc);
+    match folder.feed(name, &mut reader) {
+        Ok(()) => Ok(reader.finish()),
+        Err(error) => Err(stop::of_unread(alloc, name, error)),
+    }
+}
+
+/// Returns the result of reading a dyndep file of these bytes.
+pub(crate) fn dyndep_of(alloc: Global, text: &[u8]) -> DyndepRead
+    ensures { IsDyndepRead (whole text.now) result }
+{
+    let mut reader = DyndepReader::new(alloc);
+    reader.feed(text)?;
+    reader.finish()
+}
+
+/// Returns the statements of a dyndep file that was read.
+pub(crate) fn statements_of(alloc: Global, dyndep: DyndepRead) -> Result<Dyndep, Stop>
+    ensures { DyndepOf dyndep [] result }
+{
+    dyndep.map_err(|f| stop::of_dyndep(alloc, f))
 }

@@ -1,9 +1,9 @@
 //! The check of the edges that a target document names.
 
-ghost use Rattle.std.specs.Prelude.{option_copied, []};
+ghost use Rattle.std.specs.Prelude.{[]};
 ghost use Rattle.commands.specs.EdgeChecks.{EdgesPass, GraphPasses};
 
-use crate::listing::read_listing;
+use crate::listing::ListingRead;
 use crate::stop::{self, Stop};
 use build_effect::Graph;
 use collate_core::{Collated, check_edges};
@@ -11,21 +11,23 @@ use dep_order::Sorting;
 use ninja_text::Path;
 use std::alloc::Global;
 
-/// Checks that the edges of a listing, if there is one, can be put in order after the effect of a
-/// collated target's dyndep file, which has that name.
+/// Checks that the edges of a listing that was read, if there is one, can be put in order after the
+/// effect of a collated target's dyndep file, which has that name.
 pub(crate) fn pass_edges(
     alloc: Global,
-    listing: Option<&[u8]>,
+    listing: &Option<ListingRead>,
     name: &Path,
     collated: &Collated,
 ) -> Result<(), Stop>
-    ensures { EdgesPass (option_copied listing.entry) name.now collated.now.dyndep [] result }
+    ensures { EdgesPass listing.now name.now collated.now.dyndep [] result }
 {
-    let Some(text) = listing else {
+    let Some(listing) = listing else {
         return Ok(());
     };
-    let graph = read_listing(alloc, text)?;
-    pass_graph(alloc, &graph, name, collated)
+    match listing {
+        Ok(graph) => pass_graph(alloc, graph, name, collated),
+        Err(failure) => Err(stop::of_listing(alloc, failure)),
+    }
 }
 
 /// Checks that the edges of a graph can be put in order after the effect.

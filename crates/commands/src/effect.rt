@@ -1,24 +1,41 @@
 //! The command `effect`: a listing after the effect of a dyndep file.
 
 ghost use Rattle.std.specs.Prelude.{[]};
-ghost use Rattle.commands.specs.Effect.{NameOf, EffectOf, PrintsListing, EffectRun};
+ghost use Rattle.commands.specs.Effect.{NameOf, EffectOf, PrintsListing, EffectOfRead, EffectRun};
 
-use crate::dyndep_text::read_dyndep;
-use crate::listing::read_listing;
+use crate::dyndep_text::{DyndepRead, dyndep_of, statements_of};
+use crate::listing::{ListingRead, graph_of, listing_of};
 use crate::stop::{self, Output, Stop};
 use build_effect::{Graph, apply};
 use dyndep_file::Dyndep;
 use ninja_text::Path;
 use std::alloc::Global;
 
-/// Runs `effect NAME EDGES DYNDEP` on the name and the bytes of the two files. The name is checked
-/// first, then the listing, and then the dyndep file.
+/// Runs `effect NAME EDGES DYNDEP` on the name and the bytes of the two files.
 pub fn apply_dyndep(alloc: Global, name: &str, edges: &[u8], dyndep: &[u8]) -> Result<Output, Stop>
     ensures { EffectRun name.now edges.now dyndep.now [] result }
 {
+    effect_read(
+        alloc,
+        name,
+        listing_of(alloc, edges),
+        dyndep_of(alloc, dyndep),
+    )
+}
+
+/// Runs `effect NAME EDGES DYNDEP` on the name and the two files, once they were read. The name is
+/// checked first, then the listing, and then the dyndep file.
+pub(crate) fn effect_read(
+    alloc: Global,
+    name: &str,
+    listing: ListingRead,
+    dyndep: DyndepRead,
+) -> Result<Output, Stop>
+    ensures { EffectOfRead name.now listing dyndep [] result }
+{
     let name = read_name(alloc, name)?;
-    let old = read_listing(alloc, edges)?;
-    let dyndep = read_dyndep(alloc, dyndep)?;
+    let old = graph_of(alloc, listing)?;
+    let dyndep = statements_of(alloc, dyndep)?;
     let new = applied(alloc, &old, &name, &dyndep)?;
     print_listing(alloc, &new)
 }

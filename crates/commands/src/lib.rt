@@ -5,7 +5,9 @@
 //!
 //! - [`program_run`] is the whole program: the task of its arguments, the run, the writing and the
 //!   printing (`specs/Program.antt`).
-//! - [`task_run`] reads the file of a task from a folder and calls the command (`specs/Runs.antt`).
+//! - [`task_run`] reads the files of a task from a folder and calls the command (`specs/Runs.antt`).
+//!   No file is read further than its result needs: a document up to its limit, and a file of lines
+//!   up to its first fault ([`Folder`], [`PieceReader`]).
 //! - [`collate_target`] and [`collate_project`] are the commands `collate` and `project`. They read
 //!   the files that their document names from the folder, each when its turn comes and once
 //!   (`specs/CollateCommand.antt`, `ProjectCommand.antt`, `Files.antt`, `Folder.antt`).
@@ -60,7 +62,7 @@ mod table_fault;
 pub use answer::Answer;
 pub use collate::collate_target;
 pub use effect::apply_dyndep;
-pub use folder::Folder;
+pub use folder::{Folder, PieceReader};
 pub use one::collate_scan;
 pub use order::order_edges;
 pub use printing::print;

@@ -1,30 +1,59 @@
 //! Edge listings that commands read.
 
-ghost use Rattle.std.specs.Prelude.{[], IfOk, IfErr};
-ghost use Rattle.ninja_text.specs.Failure.{ForFault};
-ghost use Rattle.build_effect.specs.ListingReading.{Lists};
-ghost use Rattle.commands.specs.Listings.{IsListingFault, ListingOf};
+ghost use Rattle.std.specs.Prelude.{[]};
+ghost use Rattle.commands.specs.Listings.{IsListingRead, ListingOf, ReadsListing};
+ghost use Rattle.commands.specs.Folder.{whole};
+ghost use Rattle.commands.specs.Outcomes.{Runs};
 
+use crate::folder::{Folder, PieceReader};
 use crate::stop::{self, Stop};
 use build_effect::{Graph, ListFault, ListingReader};
 use ninja_text::Failure;
 use std::alloc::Global;
 
-/// Returns the graph of the edges that a text lists, or why there is none.
-fn listed(alloc: Global, text: &[u8]) -> Result<Graph, Failure<ListFault>>
-    ensures listed { IfOk result (Lists text.now) }
-    ensures refused { IfErr result (ForFault (IsListingFault text.now)) }
-{
-    let mut reader = ListingReader::new(alloc);
-    match reader.feed(text) {
-        Ok(()) => reader.finish(),
-        Err(failure) => Err(failure),
+/// The result of reading a listing.
+pub(crate) type ListingRead = Result<Graph, Failure<ListFault>>;
+
+impl PieceReader for ListingReader {
+    ghost use Rattle.build_effect.specs.ListingReaders.{HasReadListing};
+    ghost use Rattle.commands.specs.Listings.{HasFailedListing};
+
+    ghost has_read = { HasReadListing };
+
+    ghost has_failed = { HasFailedListing };
+
+    fn read_piece(&mut self, piece: &[u8]) -> bool {
+        self.feed(piece).is_ok()
     }
 }
 
-/// Returns the graph of the edges that a text lists.
-pub(crate) fn read_listing(alloc: Global, text: &[u8]) -> Result<Graph, Stop>
-    ensures { ListingOf text.now [] result }
+/// Reads the listing of this name, up to its end or to the first line that is rejected.
+pub(crate) fn read_listing<F: Folder>(
+    alloc: Global,
+    name: &str,
+    folder: &mut F,
+) -> Result<ListingRead, Stop>
+    ensures { Runs (F.calls folder.old) (F.calls folder.new) (ReadsListing name.now) result }
 {
-    listed(alloc, text).map_err(|f| stop::of_listing(alloc, f))
+    let mut reader = ListingReader::new(alloc);
+    match folder.feed(name, &mut reader) {
+        Ok(()) => Ok(reader.finish()),
+        Err(error) => Err(stop::of_unread(alloc, name, error)),
+    }
+}
+
+/// Returns the result of reading a listing of these bytes.
+pub(crate) fn listing_of(alloc: Global, text: &[u8]) -> ListingRead
+    ensures { IsListingRead (whole text.now) result }
+{
+    let mut reader = ListingReader::new(alloc);
+    reader.feed(text)?;
+    reader.finish()
+}
+
+/// Returns the graph of a listing that was read.
+pub(crate) fn graph_of(alloc: Global, listing: ListingRead) -> Result<Graph, Stop>
+    ensures { ListingOf listing [] result }
+{
+    listing.map_err(|f| stop::of_listing(alloc, &f))
 }

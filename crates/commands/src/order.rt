@@ -1,11 +1,11 @@
 //! The command `order`: the edges of a listing in an order in which they can run.
 
 ghost use Rattle.std.specs.Prelude.{◌≡◌, [], IfOk};
-ghost use Rattle.commands.specs.Order.{order_text, OrderRun};
+ghost use Rattle.commands.specs.Order.{order_text, OrderOfRead, OrderRun};
 
 use crate::answer::push_line;
 use crate::edge_fault::first_output;
-use crate::listing::read_listing;
+use crate::listing::{ListingRead, graph_of, listing_of};
 use crate::stop::{self, Output, Stop};
 use build_effect::{Edge, edge_order};
 use dep_order::Sorting;
@@ -15,7 +15,14 @@ use std::alloc::{AllocError, Global};
 pub fn order_edges(alloc: Global, edges: &[u8]) -> Result<Output, Stop>
     ensures { OrderRun edges.now [] result }
 {
-    let graph = read_listing(alloc, edges)?;
+    order_read(alloc, listing_of(alloc, edges))
+}
+
+/// Runs `order EDGES` on the edge listing, once it was read.
+pub(crate) fn order_read(alloc: Global, listing: ListingRead) -> Result<Output, Stop>
+    ensures { OrderOfRead listing [] result }
+{
+    let graph = graph_of(alloc, listing)?;
     match edge_order(alloc, &graph)? {
         Sorting::Order(order) => {
             let text = order_text(alloc, graph.edges(), &order)?;

@@ -207,7 +207,7 @@ fn all_pass(alloc: Global, targets: &[ReadTarget], outs: &[Collated]) -> Result<
     ensures { AllEdgesPass 0 (zip targets.now outs.now) [] result }
 {
     for (index, target) in targets.iter().enumerate() {
-        let listing = target.files.listing();
+        let listing = &target.files.listing;
         let passed = pass_edges(alloc, listing, &target.spec.dyndep_path, &outs[index]);
         stop::at_target(alloc, index, passed)?;
     }

@@ -1,31 +1,34 @@
 //! How a run reads files from a folder: each when its turn comes, and none after one that can't be
 //! read.
 
-ghost use Rattle.std.specs.Prelude.{◌≡◌, ◌++◌, ◌∷◌, [], map, string_bytes, option_map, option_copied, IfOk, OnOk};
+ghost use Rattle.std.specs.Prelude.{◌≡◌, ◌++◌, ◌∷◌, [], map, string_bytes, option_map, IfOk, OnOk};
+ghost use Rattle.commands.specs.Listings.{ReadsListing};
 ghost use Rattle.commands.specs.Files.{FilesOf};
-ghost use Rattle.commands.specs.Outcomes.{Runs, ReadsFile, ReadsAll, ReadsIfNamed, seen};
+ghost use Rattle.commands.specs.Outcomes.{Runs, ReadsDocument, ReadsAll, ReadsIfNamed, seen};
 ghost use Rattle.commands.specs.inner.Parts.{bytes_of, contents};
 
 use crate::folder::Folder;
+use crate::listing::{ListingRead, read_listing};
 use crate::stop::{self, Stop};
-use ninja_text::Failure;
-use scan_docs::TargetSpec;
+use scan_docs::{DOCUMENT_LIMIT, TargetSpec};
 use std::alloc::{AllocError, Global};
-use std::io::ErrorKind;
 use std::marker::Model;
 
-/// Reads the file of this name.
+/// How many bytes of a document are read at most: with one more than it may have it is rejected.
+const DOCUMENT_MOST: usize = DOCUMENT_LIMIT + 1;
+
+/// Reads the document of this name.
 pub(crate) fn read<F: Folder>(alloc: Global, name: &str, folder: &mut F) -> Result<Vec<u8>, Stop>
-    ensures { Runs (F.calls folder.old) (F.calls folder.new) (ReadsFile name.now) (seen bytes_of result) }
+    ensures { Runs (F.calls folder.old) (F.calls folder.new) (ReadsDocument name.now)
+        (seen bytes_of result) }
 {
-    match folder.read(name) {
+    match folder.read(name, DOCUMENT_MOST) {
         Ok(file) => Ok(file),
-        Err(error) if error.kind() == ErrorKind::OutOfMemory => Err(Failure::Memory),
-        Err(_) => Err(stop::of_unread(alloc, name)),
+        Err(error) => Err(stop::of_unread(alloc, name, error)),
     }
 }
 
-/// Reads the files of these names, one after another.
+/// Reads the documents of these names, one after another.
 fn read_all<F: Folder>(
     alloc: Global,
     names: &[String],
@@ -42,44 +45,43 @@ fn read_all<F: Folder>(
     Ok(files)
 }
 
-/// Reads the file of a name, if there is one.
+/// Reads the listing of a name, if there is one.
 fn read_if_named<F: Folder>(
     alloc: Global,
     name: &Option<String>,
     folder: &mut F,
-) -> Result<Option<Vec<u8>>, Stop>
+) -> Result<Option<ListingRead>, Stop>
     ensures { Runs (F.calls folder.old) (F.calls folder.new)
-        (ReadsIfNamed (option_map string_bytes name.now)) (seen (option_map bytes_of) result) }
+        (ReadsIfNamed ReadsListing (option_map string_bytes name.now)) result }
 {
     let Some(name) = name else {
         return Ok(None);
     };
-    let file = read(alloc, name.as_str(), folder)?;
-    Ok(Some(file))
+    let listing = read_listing(alloc, name.as_str(), folder)?;
+    Ok(Some(listing))
 }
 
-/// The bytes of the files of a target.
+/// The files of a target.
 #[derive(Drop)]
 pub(crate) struct TargetFiles {
-    /// The scan documents.
+    /// The bytes of the scan documents.
     pub scans: Vec<Vec<u8>>,
-    /// The info files of targets that it links.
+    /// The bytes of the info files of targets that it links.
     pub infos: Vec<Vec<u8>>,
-    /// The listing of edges, if its document names one.
-    pub listing: Option<Vec<u8>>,
+    /// The result of reading the listing of edges, if its document names one.
+    pub listing: Option<ListingRead>,
 }
 
 impl Model for TargetFiles {
-    ghost use Rattle.std.specs.Prelude.{option_map};
     ghost use Rattle.commands.specs.Files.{TargetFilesValue};
-    ghost use Rattle.commands.specs.inner.Parts.{bytes_of, contents};
+    ghost use Rattle.commands.specs.inner.Parts.{contents};
 
     ghost Value = { TargetFilesValue };
 
     ghost view = { λ f. record {
       scans = contents f.scans;
       infos = contents f.infos;
-      listing = option_map bytes_of f.listing;
+      listing = f.listing;
     } };
 }
 
@@ -103,16 +105,6 @@ impl TargetFiles {
             infos,
             listing,
         })
-    }
-
-    /// Returns the listing of edges, if there is one.
-    pub(crate) fn listing(&self) -> Option<&[u8]>
-        ensures { option_copied result ≡ self.now.listing }
-    {
-        match &self.listing {
-            Some(bytes) => Some(bytes.as_slice()),
-            None => None,
-        }
     }
 }
 

@@ -8,13 +8,15 @@ ghost use Rattle.commands.specs.Outcomes.{Runs};
 ghost use Rattle.commands.specs.Runs.{TaskRun};
 
 use crate::collate::collate_target;
-use crate::effect::apply_dyndep;
+use crate::dyndep_text::read_dyndep;
+use crate::effect::effect_read;
 use crate::folder::Folder;
+use crate::listing::read_listing;
 use crate::one::collate_scan;
-use crate::order::order_edges;
+use crate::order::order_read;
 use crate::project::collate_project;
 use crate::reading::read;
-use crate::show::show_dyndep;
+use crate::show::show_read;
 use crate::stop::{self, Output, OutputFile, Stop};
 use command_line::Task;
 use std::alloc::Global;
@@ -26,18 +28,36 @@ pub fn task_run<F: Folder>(alloc: Global, task: &Task, folder: &mut F) -> Result
     ensures { Runs (F.calls folder.old) (F.calls folder.new) (TaskRun (task_value task.now))
         result }
 {
-    let file = read(alloc, task.file(), folder)?;
-    let text = file.as_slice();
     match task {
-        Task::One { dir, ext, .. } => collate_scan(alloc, text, dir, ext),
-        Task::Collate { .. } => collate_target(alloc, text, folder),
-        Task::Show { .. } => show_dyndep(alloc, text),
-        Task::Effect { name, dyndep, .. } => {
-            let dyndep = read(alloc, dyndep, folder)?;
-            apply_dyndep(alloc, name, text, &dyndep)
+        Task::One { scan, dir, ext } => {
+            let scan = read(alloc, scan, folder)?;
+            collate_scan(alloc, &scan, dir, ext)
         }
-        Task::Order { .. } => order_edges(alloc, text),
-        Task::Project { .. } => collate_project(alloc, text, folder),
+        Task::Collate { target } => {
+            let document = read(alloc, target, folder)?;
+            collate_target(alloc, &document, folder)
+        }
+        Task::Show { dyndep } => {
+            let dyndep = read_dyndep(alloc, dyndep, folder)?;
+            show_read(alloc, dyndep)
+        }
+        Task::Effect {
+            name,
+            edges,
+            dyndep,
+        } => {
+            let listing = read_listing(alloc, edges, folder)?;
+            let dyndep = read_dyndep(alloc, dyndep, folder)?;
+            effect_read(alloc, name, listing, dyndep)
+        }
+        Task::Order { edges } => {
+            let listing = read_listing(alloc, edges, folder)?;
+            order_read(alloc, listing)
+        }
+        Task::Project { document } => {
+            let document = read(alloc, document, folder)?;
+            collate_project(alloc, &document, folder)
+        }
     }
 }
 

@@ -1,13 +1,14 @@
 //! What a run leaves that succeeds, and why a run stops. For each type of fault one function makes
 //! the message.
 
-ghost use Rattle.std.specs.Prelude.{◌≡◌, ◌++◌, map, IfOk, codes};
+ghost use Rattle.std.specs.Prelude.{◌≡◌, ◌∷◌, ◌++◌, [], Err, map, IfOk, codes};
 ghost use Rattle.ninja_text.specs.Failure.{ForFault};
 ghost use Rattle.dyndep_file.specs.FaultTexts.{read_fault_text, write_fault_text};
 ghost use Rattle.scan_docs.specs.FaultTexts.{doc_fault_text};
 ghost use Rattle.commands.specs.Answers.{file_value};
 ghost use Rattle.commands.specs.EdgeFaults.{edges_fault_text, effect_text, listing_write_text, name_fault_text, cycle_text};
-ghost use Rattle.commands.specs.Outcomes.{failed, refusal, printed, written, Reports};
+ghost use Rattle.commands.specs.Folder.{reading};
+ghost use Rattle.commands.specs.Outcomes.{failed, refusal, printed, written, IsUnread, Reports};
 ghost use Rattle.commands.specs.ProjectCommand.{IsTargetOutcome, IsTargetStop, target_text};
 ghost use Rattle.commands.specs.inner.Refusals.{refused_line};
 ghost use Rattle.commands.specs.inner.Stops.{IsStoppedWith};
@@ -20,6 +21,8 @@ use dyndep_file::{ReadFault, WriteFault};
 use ninja_text::{Failure, PathFault};
 use scan_docs::DocFault;
 use std::alloc::{AllocError, Global};
+use std::io;
+use std::io::ErrorKind;
 use std::marker::Model;
 
 /// What a run leaves that succeeds: its text for standard output, and the files to be written, in
@@ -105,10 +108,13 @@ pub(crate) fn of_usage(alloc: Global) -> Stop
     stopped(2, Vec::from_slice(alloc, b"usage"))
 }
 
-/// Stops the run at a file that can't be read.
-pub(crate) fn of_unread(alloc: Global, name: &str) -> Stop
-    ensures { ForFault (λ l. l ≡ failed 3 (codes "cannot read " ++ name.now)) result }
+/// Stops the run at a file that can't be read, or because memory ran out in the call.
+pub(crate) fn of_unread(alloc: Global, name: &str, error: io::Error) -> Stop
+    ensures { IsUnread name.now (reading name.now (Err error) ∷ []) result }
 {
+    if error.kind() == ErrorKind::OutOfMemory {
+        return Failure::Memory;
+    }
     let message = format!(in alloc; "cannot read {name}");
     stopped(3, message.map(String::into_bytes))
 }
@@ -144,13 +150,13 @@ pub(crate) fn of_name(alloc: Global, failure: Failure<PathFault>) -> Stop
 }
 
 /// Stops the run at a listing that gives no graph.
-pub(crate) fn of_listing(alloc: Global, failure: Failure<ListFault>) -> Stop
-    ensures { Reports edges_fault_text failure result }
+pub(crate) fn of_listing(alloc: Global, failure: &Failure<ListFault>) -> Stop
+    ensures { Reports edges_fault_text failure.now result }
 {
-    let Failure::Fault(fault) = failure else {
-        return Failure::Memory;
-    };
-    stopped(1, edges_fault_text(alloc, &fault))
+    match failure {
+        Failure::Memory => Failure::Memory,
+        Failure::Fault(fault) => stopped(1, edges_fault_text(alloc, fault)),
+    }
 }
 
 /// Stops the run at a dyndep text that is rejected.

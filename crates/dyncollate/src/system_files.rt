@@ -1,11 +1,14 @@
 //! The files of the system, as a folder.
 //!
+//! A file is read no further than it has to be: a document up to the bytes that were asked for, and
+//! a file of lines up to the first piece that its reader rejects.
+//!
 //! A file is replaced whole: its bytes go to a new file next to it, which is then renamed. Whoever
 //! opens the name meanwhile, or after a run that was killed, finds the bytes from before or the new
 //! ones. What no new file can take the place of, as a device, a pipe, or a file in a folder that
 //! may not be written, is written in place.
 
-use commands::Folder;
+use commands::{Folder, PieceReader};
 use std::fs::{File, OpenFile, Permissions};
 use std::io::{ErrorKind, Read, Write};
 use std::random::RandomSource;
@@ -23,8 +26,29 @@ impl<R: Files + RandomSource + AllocGlobal> Folder for SystemFiles<'_, R> {
 
     ghost calls = { λ _. None };
 
-    fn read(&mut self, name: &str) -> io::Result<Vec<u8>> {
-        fs::read(self.rt, name)
+    fn read(&mut self, name: &str, most: usize) -> io::Result<Vec<u8>> {
+        let mut bytes = Vec::new(self.rt.alloc());
+        let mut file = File::open(self.rt, name)?.take(most as u64);
+        file.read_to_end(&mut bytes)?;
+        Ok(bytes)
+    }
+
+    fn feed<P: PieceReader>(&mut self, name: &str, reader: &mut P) -> io::Result<()> {
+        let mut file = File::open(self.rt, name)?;
+        let mut piece = [0; 65536];
+        for _ in 0..u64::MAX {
+            match file.read(&mut piece) {
+                Ok(0) => return Ok(()),
+                Ok(count) => {
+                    if !reader.read_piece(&piece[..count]) {
+                        return Ok(());
+                    }
+                }
+                Err(error) if error.kind() == ErrorKind::Interrupted => {}
+                Err(error) => return Err(error),
+            }
+        }
+        Err(ErrorKind::FileTooLarge.into())
     }
 
     fn has(&mut self, name: &str, bytes: &[u8]) -> bool {

@@ -1,14 +1,14 @@
-use Rattle.std.proofs.Common.{rules, ◌≡◌, ◌∙◌, ℕ, List, [], Option, map, string_bytes, refl, ap, subst, sym}
-use Rattle.std.specs.Prelude.{All, IsUtf8, Ok, Err}
+use Rattle.std.proofs.Common.{◌≡◌, ◌∙◌, ℕ, List, [], Option, map, string_bytes, refl, ap, subst}
+use Rattle.std.specs.Prelude.{Ok, Err}
 use Rattle.ninja_text.specs.Bytes.{Bytes, Text}
-use Rattle.ninja_text.specs.declared.failure.Failure.{Failure}
 use Rattle.scan_docs.specs.Target as document
 use Rattle.collate_core.specs.Values.{CollatedValue}
 use Rattle.commands.specs.CollateCommand.{SpecOf, CollateRun, files_of, style_of, target_with}
 use Rattle.commands.specs.EdgeChecks.{EdgesPass}
 use Rattle.commands.specs.Files.{TargetFilesValue, FilesOf}
 use Rattle.commands.specs.Folder.{FileCall}
-use Rattle.commands.specs.Outcomes.{LineValue, Outcome, OutputValue, Part, Runs, Writes, ◌>>=◌}
+use Rattle.commands.specs.Listings.{ListingRead}
+use Rattle.commands.specs.Outcomes.{Outcome, OutputValue, Part, Runs, Writes, ◌>>=◌}
 use Rattle.commands.specs.Targets.{TargetOf}
 use Rattle.commands.proofs.Commands.{objects_text}
 use Rattle.commands.proofs.Outcomes.{at_once, next, last, run_as, run_next, run_last, passed}
@@ -41,7 +41,7 @@ files_next old new spec linked files s named read rest =
     (at_once new (AfterFiles spec files) s rest)
 
 -- the listing and the path of the target
-passes_as : (spec : Document) (files : TargetFilesValue) (listing : Option Text) (path dyndep : List ℕ) (s : Outcome (Unit {0})) → listing ≡ files.listing → path ≡ spec.dyndep_path →
+passes_as : (spec : Document) (files : TargetFilesValue) (listing : Option ListingRead) (path dyndep : List ℕ) (s : Outcome (Unit {0})) → listing ≡ files.listing → path ≡ spec.dyndep_path →
     EdgesPass listing path dyndep [] s → EdgesPass files.listing spec.dyndep_path dyndep [] s
 passes_as spec files listing path dyndep s l p h =
     subst (λ x. EdgesPass x spec.dyndep_path dyndep [] s) l (subst (λ x. EdgesPass listing x dyndep [] s) p h)
@@ -85,7 +85,7 @@ returns-in_err-pass_edges g c =
     spec_next _ _ c.args.document.now spec _ c.in_ok-spec.ensures
     (files_next _ _ spec _ files _ named c.in_ok-files.ensures
     (next c.in_ok-collated.ensures refl
-    (last (passes_as spec files _ _ c.in_ok-collated.collated.dyndep _ c.listing.ensures (ap (λ (s : Document). s.dyndep_path) c.spec.view_is) c.in_err-pass_edges.ensures) refl (passed c.from_residual-in_err-pass_edges.ensures))))
+    (last (passes_as spec files _ _ c.in_ok-collated.collated.dyndep _ (ap (λ (f : TargetFilesValue). f.listing) c.files.view_is) (ap (λ (s : Document). s.dyndep_path) c.spec.view_is) c.in_err-pass_edges.ensures) refl (passed c.from_residual-in_err-pass_edges.ensures))))
 
 pub returns : goal.returns
 returns g c =
@@ -97,5 +97,5 @@ returns g c =
     spec_next _ _ c.args.document.now spec _ c.in_ok-spec.ensures
     (files_next _ _ spec _ files _ named c.in_ok-files.ensures
     (next c.in_ok-collated.ensures refl
-    (next (passes_as spec files _ _ collated.dyndep _ c.listing.ensures (ap (λ (s : Document). s.dyndep_path) c.spec.view_is) c.in_ok-pass_edges.ensures) refl
+    (next (passes_as spec files _ _ collated.dyndep _ (ap (λ (f : TargetFilesValue). f.listing) c.files.view_is) (ap (λ (s : Document). s.dyndep_path) c.spec.view_is) c.in_ok-pass_edges.ensures) refl
     c.write_collated.ensures)))

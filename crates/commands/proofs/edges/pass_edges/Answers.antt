@@ -1,20 +1,42 @@
-use Rattle.std.proofs.Common.{◌≡◌, ℕ, List, [], Option, None, refl, subst, sym}
-use Rattle.std.specs.Prelude.{option_copied, Ok}
-use Rattle.std.specs.Borrow.{Bor}
-use Rattle.commands.specs.EdgeChecks.{EdgesPass}
-use Rattle.commands.specs.Outcomes.{Outcome}
-use Rattle.commands.proofs.Outcomes.{next, last, passed}
+use Rattle.std.proofs.Common.{◌≡◌, ◌∙◌, ap, ℕ, List, [], Option, Some, refl, subst, sym}
+use Rattle.std.specs.Prelude.{Ok, Err}
+use Rattle.ninja_text.specs.declared.failure.Failure.{Failure}
+use Rattle.ninja_text.specs.declared.failure.Failure.TheVariants.{Memory, Fault}
+use Rattle.build_effect.specs.EdgeValue.{EdgeValue}
+use Rattle.build_effect.specs.declared.fault.ListFault.{ListFault}
+use Rattle.commands.specs.EdgeChecks.{EdgesPass, GraphPasses}
+use Rattle.commands.specs.EdgeFaults.{edges_fault_text}
+use Rattle.commands.specs.Listings.{ListingRead, ListingOf}
+use Rattle.commands.specs.Outcomes.{LineValue, Outcome, goes_on, stops, Reports}
 use Rattle.commands.proofs.edges.pass_edges.Goals as goal
 
 -- of this listing
-of_listing : (given is : Option (Bor (List ℕ))) (name dyndep : List ℕ) (s : Outcome (Unit {0})) → given ≡ is →
-    EdgesPass (option_copied is) name dyndep [] s → EdgesPass (option_copied given) name dyndep [] s
-of_listing given is name dyndep s e h = subst (λ l. EdgesPass (option_copied l) name dyndep [] s) (sym e) h
+of_listing : (given is : Option ListingRead) (name dyndep : List ℕ) (s : Outcome (Unit {0})) → given ≡ is →
+    EdgesPass is name dyndep [] s → EdgesPass given name dyndep [] s
+of_listing given is name dyndep s e h = subst (λ l. EdgesPass l name dyndep [] s) (sym e) h
 
-pub returns-in_err-graph : goal.returns-in_err-graph
-returns-in_err-graph c =
-    of_listing _ _ _ _ _ c.in-Some.is (last c.read_listing.ensures c.in_err-graph.was (passed c.from_residual.ensures))
+-- what it is
+its_value : (given : Option ListingRead) (field is : ListingRead) → given ≡ Some field → field ≡ is → given ≡ Some is
+its_value given field is e same = e ∙ ap Some same
 
-pub returns : goal.returns
-returns c =
-    of_listing _ _ _ _ _ c.in-Some.is (next c.read_listing.ensures c.in_ok-graph.was c.pass_graph.ensures)
+-- one that gives a graph
+passed_on : (given : Option ListingRead) (edges : List EdgeValue) (name dyndep : List ℕ) (s : Outcome (Unit {0})) → given ≡ Some (Ok edges) →
+    GraphPasses edges name dyndep [] s → EdgesPass given name dyndep [] s
+passed_on given edges name dyndep s e h = of_listing given (Some (Ok edges)) name dyndep s e (goes_on edges [] [] refl (refl, refl) h)
+
+-- and one that does not
+reported : (failure : Failure ListFault) (stop : Failure LineValue) → Reports edges_fault_text failure stop → ListingOf (Err failure) [] (Err stop)
+reported Memory Memory h = refl
+reported Memory (Fault l) h = absurd (let e : Fault l ≡ Memory = h in cc)
+reported (Fault fault) Memory h = refl
+reported (Fault fault) (Fault l) h = (refl, (fault, refl, h))
+
+rejected : (given : Option ListingRead) (failure : Failure ListFault) (name dyndep : List ℕ) (stop : Failure LineValue) → given ≡ Some (Err failure) →
+    Reports edges_fault_text failure stop → EdgesPass given name dyndep [] (Err stop)
+rejected given failure name dyndep stop e h = of_listing given (Some (Err failure)) name dyndep (Err stop) e (stops stop (reported failure stop h) refl)
+
+pub returns-in-Ok : goal.returns-in-Ok
+returns-in-Ok c = passed_on _ _ _ _ _ (its_value _ _ _ c.in-Some.is c.in-Ok.is) c.pass_graph.ensures
+
+pub returns-in-Err : goal.returns-in-Err
+returns-in-Err c = rejected _ _ _ _ _ (its_value _ _ _ c.in-Some.is c.in-Err.is) c.of_listing.ensures

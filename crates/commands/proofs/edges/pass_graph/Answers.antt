@@ -1,4 +1,4 @@
-use Rattle.std.proofs.Common.{◌≡◌, ℕ, List, [], length, refl, ap₂, subst, ◌∙◌}
+use Rattle.std.proofs.Common.{◌≡◌, ℕ, List, [], length, refl, ap₂, subst}
 use Rattle.std.specs.Prelude.{Vec, Ok, Err}
 use Rattle.std.specs.Global.{Global}
 use Rattle.ninja_text.specs.Failure.{ForFault}

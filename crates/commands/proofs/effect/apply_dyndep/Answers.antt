@@ -1,22 +1,6 @@
-use Rattle.commands.proofs.Outcomes.{next, last, passed}
+use Rattle.std.proofs.Common.{[], refl}
+use Rattle.commands.specs.Outcomes.{goes_on}
 use Rattle.commands.proofs.effect.apply_dyndep.Goals as goal
 
-pub returns-in_err-name : goal.returns-in_err-name
-returns-in_err-name c = last c.read_name.ensures c.in_err-name.was (passed c.from_residual.ensures)
-
-pub returns-in_err-old : goal.returns-in_err-old
-returns-in_err-old c = next c.read_name.ensures c.in_ok-name.was (last c.read_listing.ensures c.in_err-old.was (passed c.from_residual-in_err-old.ensures))
-
-pub returns-in_err-dyndep : goal.returns-in_err-dyndep
-returns-in_err-dyndep c =
-    next c.read_name.ensures c.in_ok-name.was (next c.read_listing.ensures c.in_ok-old.was (last c.read_dyndep.ensures c.in_err-dyndep.was (passed c.from_residual-in_err-dyndep.ensures)))
-
-pub returns-in_err-new : goal.returns-in_err-new
-returns-in_err-new c =
-    next c.read_name.ensures c.in_ok-name.was (next c.read_listing.ensures c.in_ok-old.was (next c.read_dyndep.ensures c.in_ok-dyndep.was
-    (last c.applied.ensures c.in_err-new.was (passed c.from_residual-in_err-new.ensures))))
-
 pub returns : goal.returns
-returns c =
-    next c.read_name.ensures c.in_ok-name.was (next c.read_listing.ensures c.in_ok-old.was (next c.read_dyndep.ensures c.in_ok-dyndep.was
-    (next c.applied.ensures c.in_ok-new.was c.print_listing.ensures)))
+returns c = goes_on c.listing_of.result [] [] refl (refl, c.listing_of.ensures) (goes_on c.dyndep_of.result [] [] refl (refl, c.dyndep_of.ensures) c.effect_read.ensures)

@@ -1,33 +1,6 @@
-use Rattle.std.proofs.Common.{rules, ◌≡◌, ◌∙◌, refl, ap, ap₂, subst, length, ℕ}
-use Rattle.std.specs.Prelude.{Vec}
-use Rattle.std.specs.Global.{Global}
-use Rattle.ninja_text.specs.Failure.{ForFault}
-use Rattle.dep_order.specs.Sortings.{IsSortingOf}
-use Rattle.build_effect.specs.Graphs.{EdgeNeeds}
-use Rattle.commands.specs.EdgeFaults.{cycle_text}
-use Rattle.commands.specs.Order.{order_text, PrintsOrder}
-use Rattle.commands.specs.Outcomes.{refusal, printed}
-use Rattle.commands.proofs.Outcomes.{next, last, said}
+use Rattle.std.proofs.Common.{[], refl}
+use Rattle.commands.specs.Outcomes.{goes_on}
 use Rattle.commands.proofs.order.order_edges.Goals as goal
 
-pub returns-in_err-graph : goal.returns-in_err-graph
-returns-in_err-graph c = last c.read_listing.ensures c.in_err-graph.was (search rules)
-
-pub returns-in_err-order : goal.returns-in_err-order
-returns-in_err-order c = next c.read_listing.ensures c.in_ok-graph.was (search rules)
-
-pub returns-in_err-text-in-Order : goal.returns-in_err-text-in-Order
-returns-in_err-text-in-Order c = next c.read_listing.ensures c.in_ok-graph.was (search rules)
-
-pub returns-in-Order : goal.returns-in-Order
-returns-in-Order c =
-    let sorting = subst (IsSortingOf (length c.in_ok-graph.graph) (EdgeNeeds c.in_ok-graph.graph)) c.in-Order.is c.in_ok-order.ensures in
-    let text = c.in_ok-text-in-Order.ensures ∙ ap₂ order_text c.edges.ensures.edges c.deref.ensures.value in
-    next c.read_listing.ensures c.in_ok-graph.was (refl, (c.in-Order.order, sorting, c.text.ensures ∙ ap printed text))
-
 pub returns : goal.returns
-returns c =
-    let graph = c.in_ok-graph.graph in
-    let sorting = subst (IsSortingOf (length graph) (EdgeNeeds graph)) c.in-Cycle.is c.in_ok-order.ensures in
-    let stop = subst (λ t. ForFault (λ l. l ≡ refusal t) c.of_cycle.result) (ap₂ cycle_text c.edges-in-Cycle.ensures.edges c.deref-in-Cycle.ensures.value) c.of_cycle.ensures in
-    next c.read_listing.ensures c.in_ok-graph.was (said (PrintsOrder graph) _ (λ (cycle : Vec ℕ Global). cycle_text graph cycle.items) c.in-Cycle.cycle c.of_cycle.result sorting stop)
+returns c = goes_on c.listing_of.result [] [] refl (refl, c.listing_of.ensures) c.order_read.ensures

@@ -1,4 +1,4 @@
-use Rattle.std.proofs.Common.{[], refl}
+use Rattle.std.proofs.Common.{refl}
 use Rattle.std.specs.Prelude.{Ok, Err}
 use Rattle.command_line.specs.Tasks.{TaskValue, task_value}
 use Rattle.commands.specs.Files.{WritesFiles}

@@ -1,6 +1,6 @@
-use Rattle.std.proofs.Common.{rules, ◌≡◌, ◌∙◌, ℕ, List, [], Option, map, string_bytes, refl, ap, subst, sym}
+use Rattle.std.proofs.Common.{◌≡◌, ◌∙◌, List, [], Option, map, string_bytes, refl, ap, subst, sym}
 use Rattle.std.specs.Prelude.{Ok, Err}
-use Rattle.ninja_text.specs.Bytes.{Bytes, Text}
+use Rattle.ninja_text.specs.Bytes.{Bytes}
 use Rattle.scan_docs.specs.Project.{ProjectValue}
 use Rattle.commands.specs.Folder.{FileCall}
 use Rattle.commands.specs.Outcomes.{Outcome, OutputValue, Part, Runs, ◌>>=◌}

@@ -1,19 +1,18 @@
-use Rattle.std.proofs.Common.{rules, ◌≡◌, ◌∙◌, ℕ, List, [], map, Option, Some, refl, ap, subst, sym}
-use Rattle.std.specs.Prelude.{IfOk, Ok, Err, Result, Vec, slice_get}
+use Rattle.std.proofs.Common.{◌≡◌, ◌∙◌, ℕ, List, [], map, Option, refl, ap, subst}
+use Rattle.std.specs.Prelude.{IfOk, Ok, Err, Result, Vec}
 use Rattle.std.specs.Global.{Global}
 use Rattle.std.specs.declared.alloc.AllocError.{AllocError}
-use Rattle.ninja_text.specs.Bytes.{Text}
 use Rattle.ninja_text.specs.Failure.{ForFault}
 use Rattle.ninja_text.specs.declared.failure.Failure.{Failure}
 use Rattle.ninja_text.specs.declared.failure.Failure.TheVariants.{Memory, Fault}
 use Rattle.module_maps.specs.Maps.{Written}
 use Rattle.module_table.specs.TableValue.{table_with}
-use Rattle.collate_core.specs.Projects.{CollatesProject, IsProjectRefusal, WasReadAt}
+use Rattle.collate_core.specs.Projects.{IsProjectRefusal, WasReadAt}
 use Rattle.collate_core.specs.declared.fault.RefusedTarget.{RefusedTarget}
 use Rattle.commands.specs.CollateCommand.{style_of}
-use Rattle.commands.specs.Outcomes.{LineValue, seen}
-use Rattle.commands.specs.ProjectCommand.{ReadTargetValue, ProjectOf, IsRejectedAt, RejectedAt, rejected_text, project_target, form_of, names_at, target_text}
-use Rattle.commands.specs.inner.ProjectTargets.{LinkEarlier, IsReportable, ReportsAt}
+use Rattle.commands.specs.Outcomes.{LineValue}
+use Rattle.commands.specs.ProjectCommand.{ReadTargetValue, ProjectOf, RejectedAt, project_target, form_of, names_at, target_text}
+use Rattle.commands.specs.inner.ProjectTargets.{LinkEarlier, ReportsAt}
 use Rattle.commands.specs.inner.Stops.{IsStoppedWith}
 use Rattle.commands.proofs.ProjectRuns.{reported, line_is}
 use Rattle.commands.proofs.project.collated.Goals as goal

@@ -1,4 +1,4 @@
-use Rattle.std.proofs.Common.{rules, ◌≡◌, ◌∙◌, ℕ, ◌+◌, List, [], ◌∷◌, ◌++◌, Option, drop, map, string_bytes, refl, inl, ap, subst, sym}
+use Rattle.std.proofs.Common.{rules, ◌≡◌, ℕ, ◌+◌, List, [], ◌∷◌, ◌++◌, drop, map, string_bytes, refl, inl, subst, sym}
 use Rattle.std.specs.Prelude.{Ok, Err, String}
 use Rattle.std.specs.Global.{Global}
 use Rattle.ninja_text.specs.Bytes.{Text}

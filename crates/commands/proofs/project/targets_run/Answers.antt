@@ -1,10 +1,9 @@
-use Rattle.std.proofs.Common.{rules, ◌≡◌, ◌∙◌, ℕ, List, [], length, map, zip, refl, ap, subst, sym}
+use Rattle.std.proofs.Common.{◌≡◌, ◌∙◌, List, [], length, map, zip, refl, ap, subst}
 use Rattle.std.proofs.lemmas.List.{length-map}
-use Rattle.std.specs.Prelude.{Ok, Err, All, IsUtf8}
+use Rattle.std.specs.Prelude.{Ok, Err}
 use Rattle.collate_core.specs.Values.{CollatedValue}
 use Rattle.commands.specs.CollateCommand.{style_of}
-use Rattle.commands.specs.Outcomes.{Part, OutputValue, Writes, seen, ◌>>=◌}
-use Rattle.commands.specs.ProjectCommand.{ReadTargetValue, AllEdgesPass, ProjectOf, all_files, form_of, project_target}
+use Rattle.commands.specs.ProjectCommand.{AllEdgesPass, form_of, project_target}
 use Rattle.commands.proofs.Outcomes.{next, last, passed}
 use Rattle.commands.proofs.ProjectRuns.{objects_are_text}
 use Rattle.commands.proofs.project.targets_run.Goals as goal

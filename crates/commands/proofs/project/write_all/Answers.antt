@@ -1,4 +1,4 @@
-use Rattle.std.proofs.Common.{ℕ, List, length, zip, refl, ap, sym, subst, ◌∙◌, arith}
+use Rattle.std.proofs.Common.{ℕ, length, zip, refl, ap, sym, subst, ◌∙◌, arith}
 use Rattle.std.specs.Prelude.{All, IsUtf8}
 use Rattle.std.proofs.lemmas.Iterator.{YieldsList-from_slice, YieldsList-from_zip}
 use Rattle.std.proofs.lemmas.Iterator.Adapters.{YieldsList-from_vec}
@@ -7,7 +7,7 @@ use Rattle.std.proofs.lemmas.List.{length_push, take_all}
 use Rattle.std.proofs.lemmas.List.Elements.{All-get_or}
 use Rattle.collate_core.specs.Values.{CollatedValue}
 use Rattle.commands.specs.CollateCommand.{files_of}
-use Rattle.commands.specs.Outcomes.{FileValue, written}
+use Rattle.commands.specs.Outcomes.{written}
 use Rattle.commands.specs.ProjectCommand.{ReadTargetValue, all_files}
 use Rattle.commands.proofs.Loops.{at_index}
 use Rattle.commands.proofs.ProjectRuns.{second_all, files_next}

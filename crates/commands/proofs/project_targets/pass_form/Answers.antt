@@ -1,4 +1,4 @@
-use Rattle.std.proofs.Common.{rules, ◌≡◌, [], refl}
+use Rattle.std.proofs.Common.{rules, ◌≡◌, refl}
 use Rattle.ninja_text.specs.declared.failure.Failure.TheVariants.{Fault}
 use Rattle.scan_docs.specs.declared.fault.DocFault.{DocFault}
 use Rattle.scan_docs.specs.declared.fault.DocFault.TheVariants.{BadShape}

@@ -1,15 +1,12 @@
-use Rattle.std.proofs.Common.{rules, ◌≡◌, ◌∙◌, ◌<◌, ℕ, List, [], Option, length, map, string_bytes, refl, ap, subst, sym}
-use Rattle.std.specs.Prelude.{Ok, Err, All, IfOk, Vec}
-use Rattle.std.specs.Global.{Global}
-use Rattle.ninja_text.specs.Bytes.{Bytes, Text}
-use Rattle.ninja_text.specs.declared.failure.Failure.{Failure}
+use Rattle.std.proofs.Common.{◌≡◌, ◌∙◌, ℕ, List, [], length, map, string_bytes, refl, ap, subst}
+use Rattle.std.specs.Prelude.{Ok, Err}
+use Rattle.ninja_text.specs.Bytes.{Text}
 use Rattle.dep_order.specs.Numbers.{Numbers}
 use Rattle.scan_docs.specs.Target as document
 use Rattle.commands.specs.CollateCommand.{SpecOf}
 use Rattle.commands.specs.Files.{TargetFilesValue, FilesOf}
-use Rattle.commands.specs.Folder.{FileCall}
-use Rattle.commands.specs.Outcomes.{LineValue, Outcome, Part, Runs, Done, seen, ◌>>=◌}
-use Rattle.commands.specs.ProjectCommand.{ReadTargetValue, read_target, At, FormOf, IsTargetOutcome, LinksOf, LinksTo, TargetAfter}
+use Rattle.commands.specs.Outcomes.{Part, Done, seen, ◌>>=◌}
+use Rattle.commands.specs.ProjectCommand.{ReadTargetValue, read_target, At, FormOf, LinksOf}
 use Rattle.commands.specs.inner.Parts.{bytes_of}
 use Rattle.commands.proofs.Outcomes.{at_once, pure_next, pure_last, run_next, run_last, passed}
 use Rattle.commands.proofs.ProjectTargets.{links_within, at_target, at_target_seen, at_value}

@@ -6,12 +6,12 @@ use Rattle.ninja_text.specs.declared.failure.Failure.{Failure}
 use Rattle.ninja_text.specs.declared.failure.Failure.TheVariants.{Memory}
 use Rattle.std.proofs.lemmas.List.{map_push, length-map, length_push, take-append-drop, take_all}
 use Rattle.std.proofs.lemmas.Option.{slice_get-map}
-use Rattle.commands.specs.Folder.{FileCall, Adds, reading}
-use Rattle.commands.specs.Outcomes.{LineValue, Runs, ReadsFile, ReadsAll, stops, seen}
+use Rattle.commands.specs.Folder.{FileCall, Adds}
+use Rattle.commands.specs.Outcomes.{LineValue, Runs, ReadsDocument, ReadsAll, stops, seen}
 use Rattle.commands.specs.inner.Parts.{bytes_of, contents}
 use Rattle.commands.proofs.FileCalls.{both_made, none_made}
 use Rattle.commands.proofs.Loops.{at_index, take_next, drop_next}
-use Rattle.commands.proofs.Outcomes.{reads_of, reads_next, all_read, read_until, read_no_more}
+use Rattle.commands.proofs.Outcomes.{document_call, reads_of, reads_next, all_read, read_until, read_no_more}
 use Rattle.commands.proofs.reading.read_all.Goals as goal
 
 -- the run stops at what is left
@@ -26,15 +26,15 @@ stopped old mid new names files i stop e so_far (calls, made, h) = (
 
 -- at the file of this name
 at_name : (names : List Text) (i : ℕ) (name : Text) (calls : List FileCall) (stop : Failure LineValue) → slice_get names i ≡ Some name →
-    ReadsFile name calls (Err stop) → ReadsAll (drop i names) calls (Err stop)
+    ReadsDocument name calls (Err stop) → ReadsAll (drop i names) calls (Err stop)
 at_name names i name calls stop here h = subst (λ ns. ReadsAll ns calls (Err stop)) (sym (drop_next names i name here)) (stops stop h refl)
 
 -- one file more was read
 one_more : (old mid new : Option (List FileCall)) (names : List Text) (files : List Bytes) (i : ℕ) (name : Text) (file : Bytes) → length (take i names) ≡ length files → slice_get names i ≡ Some name →
-    Adds old mid (reads_of (take i names) files) → Adds mid new (reading name (Ok file) ∷ []) → Adds old new (reads_of (take (i + 1) names) (files ++ file ∷ []))
+    Adds old mid (reads_of (take i names) files) → Adds mid new (document_call name file ∷ []) → Adds old new (reads_of (take (i + 1) names) (files ++ file ∷ []))
 one_more old mid new names files i name file e here so_far more =
     subst (Adds old new) (sym (ap (λ ns. reads_of ns (files ++ file ∷ [])) (take_next names i name here) ∙ reads_next (take i names) files name file e))
-    (both_made old mid new (reads_of (take i names) files) (reading name (Ok file) ∷ []) so_far more)
+    (both_made old mid new (reads_of (take i names) files) (document_call name file ∷ []) so_far more)
 
 -- and as many names
 one_counted : (names : List Text) (files : List Bytes) (i : ℕ) (name : Text) (file : Bytes) → length (take i names) ≡ length files → slice_get names i ≡ Some name →
@@ -48,7 +48,7 @@ named : (names : List (String Global)) (i : ℕ) (name : String Global) (text : 
 named names i name text within is e = slice_get-map string_bytes names i ∙ ap (option_map string_bytes) (at_index names i name within is) ∙ ap Some (sym e)
 
 -- the call that read a file
-read_call : (old new : Option (List FileCall)) (name : Text) (file : Vec ℕ Global) → Runs old new (ReadsFile name) (Ok (bytes_of file)) → Adds old new (reading name (Ok file.items) ∷ [])
+read_call : (old new : Option (List FileCall)) (name : Text) (file : Vec ℕ Global) → Runs old new (ReadsDocument name) (Ok (bytes_of file)) → Adds old new (document_call name file.items ∷ [])
 read_call old new name file (calls, made, e) = subst (Adds old new) e made
 
 pub returns-in_err-files : goal.returns-in_err-files
@@ -70,7 +70,7 @@ returns-in_err-file g c =
     let failure = c.in_err-file.field-0.0 in
     let is : c.from_residual-in_err-file.result ≡ Err failure = search rules in
     let here = named c.args.names.now i c.name-item.result c.as_str.result.now c.loop-name-test.true c.name-item.is c.as_str.ensures.value in
-    let read : Runs before behind (ReadsFile c.as_str.result.now) (Err failure) = subst (λ r. Runs before behind (ReadsFile c.as_str.result.now) (seen bytes_of r)) c.in_err-file.was c.read.ensures in
+    let read : Runs before behind (ReadsDocument c.as_str.result.now) (Err failure) = subst (λ r. Runs before behind (ReadsDocument c.as_str.result.now) (seen bytes_of r)) c.in_err-file.was c.read.ensures in
     subst (λ s. Runs (g.F.Folder.calls c.args.folder.now) behind (ReadsAll names) (seen contents s)) (sym is)
     (stopped (g.F.Folder.calls c.args.folder.now) before behind names (contents c.loop-name.files) i failure c.loop-name.invariant.0 c.loop-name.invariant.1
     (read.0, read.1, at_name names i c.as_str.result.now read.0 failure here read.2))
@@ -86,7 +86,7 @@ returns-in_err-files-2 g c =
     let file = c.in_ok-file.file in
     let is : c.from_residual-in_err-files-2.result ≡ Err Memory = search rules in
     let here = named c.args.names.now i c.name-item.result c.as_str.result.now c.loop-name-test.true c.name-item.is c.as_str.ensures.value in
-    let read : Runs before behind (ReadsFile c.as_str.result.now) (Ok (bytes_of file)) = subst (λ r. Runs before behind (ReadsFile c.as_str.result.now) (seen bytes_of r)) c.in_ok-file.was c.read.ensures in
+    let read : Runs before behind (ReadsDocument c.as_str.result.now) (Ok (bytes_of file)) = subst (λ r. Runs before behind (ReadsDocument c.as_str.result.now) (seen bytes_of r)) c.in_ok-file.was c.read.ensures in
     let more = one_more start before behind names (contents c.loop-name.files) i c.as_str.result.now file.items c.loop-name.invariant.0 here c.loop-name.invariant.1 (read_call before behind c.as_str.result.now file read) in
     let count = one_counted names (contents c.loop-name.files) i c.as_str.result.now file.items c.loop-name.invariant.0 here in
     subst (λ s. Runs start behind (ReadsAll names) (seen contents s)) (sym is)
@@ -102,7 +102,7 @@ loop-name-preserved g c =
     let behind = g.F.Folder.calls c.read.new.folder in
     let file = c.in_ok-file.file in
     let here = named c.args.names.now i c.name-item.result c.as_str.result.now c.loop-name-test.true c.name-item.is c.as_str.ensures.value in
-    let read : Runs before behind (ReadsFile c.as_str.result.now) (Ok (bytes_of file)) = subst (λ r. Runs before behind (ReadsFile c.as_str.result.now) (seen bytes_of r)) c.in_ok-file.was c.read.ensures in
+    let read : Runs before behind (ReadsDocument c.as_str.result.now) (Ok (bytes_of file)) = subst (λ r. Runs before behind (ReadsDocument c.as_str.result.now) (seen bytes_of r)) c.in_ok-file.was c.read.ensures in
     let more = one_more start before behind names (contents c.loop-name.files) i c.as_str.result.now file.items c.loop-name.invariant.0 here c.loop-name.invariant.1 (read_call before behind c.as_str.result.now file read) in
     let pushed : contents c.in_ok-files-2.files ≡ contents c.loop-name.files ++ file.items ∷ [] = ap (map bytes_of) c.in_ok-files-2.ensures ∙ map_push bytes_of c.loop-name.files.items file in
     let count = one_counted names (contents c.loop-name.files) i c.as_str.result.now file.items c.loop-name.invariant.0 here in

@@ -1,10 +1,9 @@
 use Rattle.std.proofs.Common.{◌≡◌, ℕ, ◌+◌, ◌<◌, ◌≤◌, [], ◌∷◌, ◌++◌, List, Some, drop, get_or, length, map, take, refl, ap, sym, subst, append_assoc, append-nil, ◌∙◌, arith}
-use Rattle.std.specs.Prelude.{Result, Ok, Err, slice_get, option_map}
-use Rattle.std.specs.declared.io.Error.{Error}
+use Rattle.std.specs.Prelude.{Ok, Err, slice_get, option_map}
 use Rattle.std.proofs.lemmas.List.{length-map, take-append-drop, take_all}
 use Rattle.std.proofs.lemmas.Option.{slice_get-map}
 use Rattle.commands.specs.Answers.{file_value}
-use Rattle.commands.specs.Files.{StopsAt, WritesFile, WritesAll, WritesFiles, all_written, one_unwritten}
+use Rattle.commands.specs.Files.{StopsAt, WritesFile, WritesAll, all_written, one_unwritten}
 use Rattle.commands.specs.Folder.{FileCall}
 use Rattle.commands.specs.Outcomes.{FileValue, OutputValue}
 use Rattle.commands.specs.declared.stop.OutputFile.{OutputFile}

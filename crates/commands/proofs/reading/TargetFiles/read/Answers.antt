@@ -1,20 +1,19 @@
-use Rattle.std.proofs.Common.{rules, ◌≡◌, ◌∙◌, ℕ, List, [], Option, map, string_bytes, refl, ap, subst, sym}
-use Rattle.std.specs.Prelude.{Ok, Err, Vec, option_map}
-use Rattle.std.specs.Global.{Global}
+use Rattle.std.proofs.Common.{rules, ◌≡◌, ◌∙◌, List, Option, map, string_bytes, refl, ap, subst}
+use Rattle.std.specs.Prelude.{Ok, Err, option_map}
 use Rattle.ninja_text.specs.Bytes.{Text}
-use Rattle.ninja_text.specs.declared.failure.Failure.{Failure}
 use Rattle.scan_docs.specs.Target as document
 use Rattle.commands.specs.Files.{TargetFilesValue, FilesOf}
 use Rattle.commands.specs.Folder.{FileCall}
-use Rattle.commands.specs.Outcomes.{LineValue, Outcome, Part, Runs, ReadsAll, ReadsIfNamed, Done, seen, ◌>>=◌}
-use Rattle.commands.specs.inner.Parts.{bytes_of, contents}
+use Rattle.commands.specs.Listings.{ReadsListing}
+use Rattle.commands.specs.Outcomes.{Outcome, Part, Runs, ReadsAll, ReadsIfNamed, Done, ◌>>=◌}
+use Rattle.commands.specs.inner.Parts.{contents}
 use Rattle.commands.proofs.Outcomes.{at_once, run_as, run_next, run_last}
 use Rattle.commands.proofs.reading.TargetFiles.read.Goals as goal
 
 -- what comes after the scan documents, and after the info files
 abbrev AfterInfos : document.TargetDocumentValue → List Text → List Text → Part TargetFilesValue
 AfterInfos spec scans infos =
-    ReadsIfNamed spec.edges >>= (λ listing. Done (record { scans = scans; infos = infos; listing = listing }))
+    ReadsIfNamed ReadsListing spec.edges >>= (λ listing. Done (record { scans = scans; infos = infos; listing = listing }))
 
 abbrev AfterScans : document.TargetDocumentValue → List Text → List Text → Part TargetFilesValue
 AfterScans spec linked scans = ReadsAll linked >>= (λ infos. AfterInfos spec scans infos)
@@ -67,8 +66,8 @@ returns-in_err-listing g c =
     let is : c.from_residual-in_err-listing.result ≡ Err failure = search rules in
     scans_next _ _ _ spec linked _ scans _ named c.in_ok-scans.ensures
     (infos_next _ _ _ spec linked scans infos _ c.in_ok-infos.ensures
-    (run_last (ReadsIfNamed spec.edges) (λ listing. Done (record { scans = scans; infos = infos; listing = listing })) _ _ (Err failure) failure _
-    (run_as ReadsIfNamed _ _ (Err failure) edges c.in_err-listing.ensures) refl is))
+    (run_last (ReadsIfNamed ReadsListing spec.edges) (λ listing. Done (record { scans = scans; infos = infos; listing = listing })) _ _ (Err failure) failure _
+    (run_as (ReadsIfNamed ReadsListing) _ _ (Err failure) edges c.in_err-listing.ensures) refl is))
 
 pub returns : goal.returns
 returns g c =
@@ -76,13 +75,13 @@ returns g c =
     let spec = c.args.spec.now in
     let scans = contents c.in_ok-scans.scans in
     let infos = contents c.in_ok-infos.infos in
-    let listing = option_map bytes_of c.in_ok-listing.listing in
+    let listing = c.in_ok-listing.listing in
     let files : TargetFilesValue = record { scans = scans; infos = infos; listing = listing } in
     let named : map string_bytes c.deref.result.now ≡ spec.scans =
     ap (map string_bytes) c.deref.ensures.value ∙ ap (λ (s : document.TargetDocumentValue). s.scans) c.spec.view_is in
     let edges : option_map string_bytes c.spec.inside.edges ≡ spec.edges = ap (λ (s : document.TargetDocumentValue). s.edges) c.spec.view_is in
     scans_next _ _ _ spec linked _ scans _ named c.in_ok-scans.ensures
     (infos_next _ _ _ spec linked scans infos _ c.in_ok-infos.ensures
-    (run_next (ReadsIfNamed spec.edges) (λ listing. Done (record { scans = scans; infos = infos; listing = listing })) _ _ _ (Ok listing) listing _
-    (run_as ReadsIfNamed _ _ (Ok listing) edges c.in_ok-listing.ensures) refl
+    (run_next (ReadsIfNamed ReadsListing spec.edges) (λ listing. Done (record { scans = scans; infos = infos; listing = listing })) _ _ _ (Ok listing) listing _
+    (run_as (ReadsIfNamed ReadsListing) _ _ (Ok listing) edges c.in_ok-listing.ensures) refl
     (at_once _ (Done files) (Ok files) (refl, refl))))

@@ -1,0 +1,14 @@
+use Rattle.std.proofs.Common.{None, true, false, refl, inl, inr}
+use Rattle.dyncollate.proofs.system_files.SystemFilesFolder.feed.Goals as goal
+
+-- the file has ended
+pub returns-in-Ok-eq0 : goal.returns-in-Ok-eq0
+returns-in-Ok-eq0 g c = λ new.
+    let (bytes, read) = c.loop.invariant new in
+    (record { bytes = bytes; ended = true }, refl {a = None}, inl (read, refl {a = true}))
+
+-- the reader has failed
+pub returns-then-not-read_piece : goal.returns-then-not-read_piece
+returns-then-not-read_piece g c = λ new.
+    let (bytes, read) = c.loop.invariant new in
+    (record { bytes = _; ended = false }, refl {a = None}, inr (c.if-not-read_piece.ensures bytes read))
