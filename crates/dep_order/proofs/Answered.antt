@@ -1,4 +1,4 @@
--- What the calls answer, from what their steps leave.
+-- What the public functions return, from what their steps leave.
 use Rattle.std.proofs.Common.{◌≡◌, ◌≢◌, ℕ, ◌+◌, ◌<◌, ◌≤◌, List, [], ◌∷◌, ◌++◌, length, get_or, Option, None, sym, ◌∙◌, ap, subst, inl, inr, ◌⊎◌, ⊎_elim, arith, zero, suc}
 use Rattle.std.specs.List.{Contains, All}
 use Rattle.std.proofs.lemmas.Bool.{cases_eq, cases_lt, false_from_ne_true}
@@ -85,7 +85,7 @@ some_left needs ordered (suc k) le =
     (has_or_not ordered k))
     (some_left needs ordered k (omega (arith, le)))
 
--- where not all are ordered, some node is left
+-- if not all are ordered, some node is left
 pub one_left : (needs : List (List ℕ)) (ordered : List ℕ) → length ordered ≢ length needs → AreOrdered needs ordered → (node : ℕ) × IsLeft needs ordered node
 one_left needs ordered ne h =
     ⊎_elim
@@ -93,7 +93,7 @@ one_left needs ordered ne h =
     (λ all. absurd (ne (let e : length ordered ≡ length needs = omega (arith, not_more (length needs) (NodeNeeds needs) ordered h.each, le-length_from_below ordered (length needs) (λ q lt. any_from_has ordered q (all q lt))) in e)))
     (some_left needs ordered (length needs) (omega arith))
 
--- where not all are ordered, there is no numbering, and there is a cycle
+-- if not all are ordered, there is no numbering, and there is a cycle
 pub not_all_ordered : (needs : List (List ℕ)) (ordered : List ℕ) → NeedsAreNodes needs → length ordered ≢ length needs → AreOrdered needs ordered → (¬ IsOrderable (length needs) (NodeNeeds needs)) × HasCycle (NodeNeeds needs)
 not_all_ordered needs ordered nodes ne h =
     let left = one_left needs ordered ne h in (

@@ -249,7 +249,7 @@ more_so_far needs users postorder left rest root numbers new_numbers u p e h in_
         subst (λ x. Reaches (NodeNeeds needs) x b) root_at (subst (Reaches (NodeNeeds needs) (slice_index postorder (length rest))) at back))
         f.1
 
--- where chains of needs lead the numbers never rise
+-- along chains of needs the numbers never rise
 never_rises : (needs users : List (List ℕ)) (numbers : List (Option ℕ)) (lowest x : ℕ) (xs : List ℕ) (end number : ℕ) → AreUsers needs users → AreNumbersFrom users lowest numbers → IsChain (NodeNeeds needs) (x ∷ xs) end → mark_of numbers end ≡ Some number → (higher : ℕ) × (mark_of numbers x ≡ Some higher) × (number ≤ higher)
 never_rises needs users numbers lowest x [] end number u l h is = l.never_falls end x number is (used needs users u end x h)
 never_rises needs users numbers lowest x (next ∷ xs) end number u l h is =

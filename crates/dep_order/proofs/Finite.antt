@@ -43,7 +43,7 @@ first_ready graph ordered (suc k) le =
     (has_or_not ordered k))
     (first_ready graph ordered k (omega (arith, le)))
 
--- so many nodes are in order
+-- this many nodes are in order
 record AreFirstOrdered (graph : List (List ℕ)) (steps : ℕ) : Type 0 where
   ordered : List ℕ
   each : EachSmallest (length graph) (NodeNeeds graph) ordered

@@ -7,9 +7,9 @@ pub use Rattle.dep_order.proofs.Transfers.{layered}
 -- What is orderable has no cycle, and a digraph is orderable or has one.
 pub use Rattle.dep_order.proofs.Chains.{no_cycle}
 pub use Rattle.dep_order.proofs.Finite.{orderable_or_cycle}
--- The least cycle has no more things than there are, and where there is no least cycle there is none.
+-- The least cycle has no more things than there are. If there is no least cycle, there is no cycle.
 pub use Rattle.dep_order.proofs.Least.{least_is_short, no_cycle_without_least}
--- What has an order by smallest numbers is orderable, where the needs are among the things, as a digraph's are.
+-- If an order by smallest numbers exists, and the needs are among the things, as in a digraph, then they are orderable.
 pub use Rattle.dep_order.proofs.Orders.{AreWithin, orderable}
 pub use Rattle.dep_order.proofs.Answered.{within}
 -- At most one list is the order by smallest numbers, and at most one is the least cycle.

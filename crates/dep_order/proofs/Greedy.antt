@@ -15,7 +15,7 @@ use Rattle.dep_order.specs.inner.Marks.{mark_of}
 use Rattle.dep_order.proofs.Chains.{chain_append, chain_split}
 use Rattle.dep_order.proofs.Searches.{one_value}
 
--- Both lists begin alike, and where they first differ the first is less.
+-- Both lists begin alike, and at the first difference the first is less.
 pub record IsBefore (xs ys : List ℕ) : Type 0 where
   pub alike : List ℕ
   pub less : ℕ
@@ -85,7 +85,7 @@ none_shorter count fewest graph first steps s f (x ∷ next ∷ others) h e =
     let c = chain_steps count (NodeNeeds graph) first steps s next others (subst (IsChain (NodeNeeds graph) (next ∷ others)) e h.1) in
     omega (arith, f.1 next c.0 (subst (λ z. NodeNeeds graph z next) e h.0) c.1, c.2)
 
--- so many things of the cycle are chosen
+-- this many things of the cycle are chosen
 pub record IsChosen (graph : List (List ℕ)) (first fewest : ℕ) (steps : List (Option ℕ)) (cycle : List ℕ) (node chosen : ℕ) : Type 0 where
   pub as_many : length cycle ≡ chosen + 1
   pub front : List ℕ

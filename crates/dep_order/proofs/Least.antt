@@ -16,7 +16,7 @@ use Rattle.dep_order.proofs.Orders.{AreWithin, next_on_cycle}
 use Rattle.dep_order.proofs.Unique.{has_first}
 use Rattle.dep_order.proofs.Answered.{least_of_all}
 
--- ---- what holds where it holds of all that is lower, holds
+-- ---- what holds if it holds of all that is lower, holds
 
 below_all : (P : ℕ → Type 0) → ((n : ℕ) → ((m : ℕ) → m < n → P m) → P n) → (n : ℕ) → P n
 below_all P step n = so_far (suc n) n (omega arith)
@@ -122,7 +122,7 @@ module _ (Needs : ℕ → ℕ → Type 0) where
         (λ twice. absurd (shorter_twice cycle least twice))
         (distinct_or_twice cycle)
 
-  -- ---- where there is no least cycle there is none
+  -- ---- if there is no least cycle, there is no cycle
 
   module _ (none : (cycle : List ℕ) → IsLeastCycle Needs cycle → ⊥) where
     abbrev NoneFrom : ℕ → Type 0

@@ -21,11 +21,11 @@ same_itself x = nat_eq_equiv.refl x
 pub other_number : (x y : ℕ) → x ≢ y → eqb x y ≡ false
 other_number x y h = grind (arith, nat_tests)
 
--- a list has a number where the search says so
+-- a list has a number if the search says so
 pub has_from_any : (xs : List ℕ) (x : ℕ) → list_any (eqb x) xs ≡ true → Contains xs x
 has_from_any xs x h = Contains-from_any same x xs h
 
--- where a list has a number the search says so
+-- if a list has a number, the search says so
 pub any_from_has : (xs : List ℕ) (x : ℕ) → Contains xs x → list_any (eqb x) xs ≡ true
 any_from_has xs x h = list_any-from_Contains nat_eq_equiv x xs h
 

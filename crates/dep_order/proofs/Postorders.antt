@@ -87,7 +87,7 @@ seen_where needs seen scanned path left node h e =
     (λ none. inr (has_from_count node path (omega (arith, one, none))))
     (cases_lt 0 (count_of node left))
 
--- a node is counted where it comes onto the path
+-- a node is counted when it comes onto the path
 counted_push : (seen : List Bool) (path left : List ℕ) (next : ℕ) → next < length seen → is_seen seen next ≡ false → ((node : ℕ) → count_of node left + count_of node path ≡ one_if (is_seen seen node)) → (node : ℕ) → count_of node left + count_of node (path ++ next ∷ []) ≡ one_if (is_seen (set seen next true) node)
 counted_push seen path left next lt unseen h node =
     ⊎_elim
@@ -113,7 +113,7 @@ begun needs seen scanned path left root e lt unseen h = record {
   settled = λ index needed in' need. ⊎_elim (λ s. inl s) (λ p. absurd (has_none needed p.0)) (h.settled index needed in' need);
 }
 
--- the search goes on to a node that the last of the path needs
+-- the search continues with a node that the last of the path needs
 pub entered : (needs : List (List ℕ)) (seen : List Bool) (scanned rest path left : List ℕ) (node index next : ℕ) → path ≡ rest ++ node ∷ [] → node < length needs → next < length needs → index < length (needs_of needs node) → slice_index (needs_of needs node) index ≡ next → is_seen seen next ≡ false → ((k : ℕ) → slice_index scanned node ≤ k → k < index → is_seen seen (slice_index (needs_of needs node) k) ≡ true) → IsInDepth needs seen scanned path left → IsInDepth needs (set seen next true) (set scanned node (index + 1)) ((rest ++ node ∷ []) ++ next ∷ []) left
 entered needs seen scanned rest path left node index next e lt next_lt in_row at unseen before h = record {
   seen_each = length-set seen next true ∙ h.seen_each;

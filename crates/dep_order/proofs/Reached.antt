@@ -16,7 +16,7 @@ use Rattle.dep_order.proofs.Members.{has_from_any, has_none, has_head, has_cons_
 use Rattle.dep_order.proofs.Releases.{has_more, has_more_front, has_more_last}
 use Rattle.dep_order.proofs.Chains.{chain_append}
 
--- where a list has a number, by the number itself
+-- an index at which a list has a number
 index_of : (xs : List ℕ) (x : ℕ) → Contains xs x → (k : ℕ) × (k < length xs) × (slice_index xs k ≡ x)
 index_of xs x has = (has.0, has.1, get_or_default xs has.0 0 x has.1 ∙ has.2)
 
@@ -29,7 +29,7 @@ all_of : (P : ℕ → Type 0) (xs : List ℕ) → ((x : ℕ) → Contains xs x �
 all_of P xs h k d lt = h (get_or xs k d) (Contains-get_or xs k d lt)
 
 module _ (indexes found : List ℕ) (f : AreFound indexes found) where
-  -- a node is found where it is at its index
+  -- a node is found if it is at its index
   pub found_there : (node index : ℕ) → slice_index indexes node ≡ index → index < length found → slice_index found index ≡ node → Contains found node
   found_there node index at lt is = subst (Contains found) is (Contains-get_or found index 0 lt)
 
@@ -56,7 +56,7 @@ module _ (indexes found : List ℕ) (f : AreFound indexes found) where
   pub found_few : length found ≤ length indexes
   found_few = length-le_from_distinct_below found (length indexes) (distinct found found_once) (λ q h. found_in_range q (has_from_any found q h))
 
-  -- one node more is found, and its index is kept
+  -- one more node is found, and its index is stored
   pub found_more : (node : ℕ) → node < length indexes → (Contains found node → ⊥) → AreFound (set indexes node (length found)) (found ++ node ∷ [])
   found_more node lt fresh = record {
     nodes = all_of (λ n. n < length (set indexes node (length found))) (found ++ node ∷ []) (λ n has. ⊎_elim
@@ -185,9 +185,6 @@ module _ (needs : List (List ℕ)) (from next : ℕ) (indexes found new_indexes 
   reach_falls = let few = found_few indexes found h.are_found in omega (arith, few, lt, h.as_many)
 
 module _ (needs : List (List ℕ)) (from next : ℕ) (indexes found : List ℕ) (h : AreReachedSoFar needs from next indexes found) where
-  pub next_in_range : next < length found → slice_index found next < length needs
-  next_in_range lt = omega (arith, found_in_range indexes found h.are_found (slice_index found next) (Contains-get_or found next 0 lt), h.as_many)
-
   module _ (done : length found ≤ next) where
     closed : (node needed : ℕ) → Contains found node → NodeNeeds needs node needed → Contains found needed
     closed node needed has need =

@@ -35,7 +35,7 @@ read_none steps i o b lt is e t = sym (get_or_read steps i o lt is None) ∙ not
     nothing None e = refl
     nothing (Some k) e = absurd (false≢true (sym e))
 
--- the same where there is a value
+-- the same if there is a value
 pub read_some : (steps : List (Option ℕ)) (i : ℕ) (o : Option ℕ) (b : Bool) → i < length steps → o ≡ get_or steps i o → is_some o ≡ not b → b ≡ false → (k : ℕ) × (mark_of steps i ≡ Some k)
 read_some steps i o b lt is e t = let s = something o (e ∙ ap not t) in (s.0, sym (get_or_read steps i o lt is None) ∙ s.1)
   where
@@ -116,7 +116,7 @@ advanced_more rows frontier i count first steps new_steps next new_next lt h v =
   accounted = omega (arith, h.accounted, v.accounted);
 }
 
--- after so many levels: what they reached is exact, and the frontier is what the last of them reached
+-- after this many levels: what they reached is exact, and the frontier is what the last of them reached
 pub record IsSearching (rows : List (List ℕ)) (from : ℕ) (steps : List (Option ℕ)) (frontier : List ℕ) (count : ℕ) : Type 0 where
   pub as_many : length steps ≡ length rows
   pub start : mark_of steps from ≡ Some 0

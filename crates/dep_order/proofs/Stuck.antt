@@ -22,7 +22,7 @@ no_number count IsLeft Needs numbers n stuck (suc k) thing left lt =
     let next = stuck thing left in
     no_number count IsLeft Needs numbers n stuck k next.0 next.2 (omega (arith, n.below thing next.0 next.1, lt))
 
--- where something is left there is no numbering
+-- if something is left, there is no numbering
 pub not_orderable : (count : ℕ) (IsLeft : ℕ → Type 0) (Needs : ℕ → ℕ → Type 0) (thing : ℕ) → IsStuck IsLeft Needs → IsLeft thing → ¬ IsOrderable count Needs
 not_orderable count IsLeft Needs thing stuck left o =
     no_number count IsLeft Needs o.0 o.1 stuck (suc (slice_index o.0 thing)) thing left (omega arith)

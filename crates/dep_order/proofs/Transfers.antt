@@ -12,7 +12,7 @@ use Rattle.dep_order.specs.declared.Sorting.{Sorting}
 use Rattle.dep_order.specs.declared.Sorting.TheVariants.{Order, Cycle}
 use Rattle.dep_order.proofs.Orders.{AreWithin}
 
--- where the one needs it, so does the other
+-- if one needs it, so does the other
 abbrev pub Implies : (ℕ → ℕ → Type 0) → (ℕ → ℕ → Type 0) → Type 0
 Implies Needs Other = (thing needed : ℕ) → Needs thing needed → Other thing needed
 

@@ -88,16 +88,7 @@ fn fewest(row: &[usize], steps: &[Option<usize>]) -> Option<usize>
     requires { All (λ node. node < length steps.now) row.now }
     ensures { IsFewest row.now steps.now result }
 {
-    let mut best: Option<usize> = None;
-    for node in row {
-        if let Some(count) = steps[*node] {
-            best = Some(match best {
-                None => count,
-                Some(least) => count.min(least),
-            });
-        }
-    }
-    best
+    row.iter().filter_map(|node| steps[*node]).min()
 }
 
 /// Returns the least of the shortest cycles that begin with this node. `count` is the distance of its
@@ -134,15 +125,8 @@ fn least_at(row: &[usize], steps: &[Option<usize>], count: usize) -> usize
     requires some { SomeIsAway row.now steps.now count }
     ensures { IsLeastAt row.now steps.now count result }
 {
-    let mut least: Option<usize> = None;
-    for node in row {
-        if steps[*node] == Some(count) {
-            least = Some(match least {
-                None => *node,
-                Some(other) => other.min(*node),
-            });
-        }
-    }
+    let nodes = row.iter().copied();
+    let least = nodes.filter(|node| steps[*node] == Some(count)).min();
     match least {
         Some(node) => node,
         None => unreachable!(),

@@ -13,7 +13,7 @@ abbrev pub LeadToEachOther : List (List ℕ) → ℕ → ℕ → Type 0
 LeadToEachOther needs node other =
     Reaches (NodeNeeds needs) node other × Reaches (NodeNeeds needs) other node
 
--- Two nodes have the same number exactly where each leads to the other.
+-- Two nodes have the same number if and only if each leads to the other.
 pub record AreComponents (needs : List (List ℕ)) (components : List (Option ℕ)) : Type 0 where
   pub each : length components ≡ length needs
   pub same : (node other : ℕ) → node < length needs → other < length needs →

@@ -21,7 +21,7 @@ pub record IsLeastFrom (Needs : ℕ → ℕ → Type 0) (first : ℕ) (list : Li
 abbrev pub NoneFrom : (ℕ → ℕ → Type 0) → ℕ → Type 0
 NoneFrom Needs first = (cycle : List ℕ) → IsCycle Needs cycle → first_of cycle ≡ first → ⊥
 
--- the least cycle that begins with the first thing, or none where no cycle begins with it
+-- the least cycle that begins with the first thing, or none if no cycle begins with it
 abbrev pub IsLeastFromIfAny : (ℕ → ℕ → Type 0) → ℕ → Option (Vec ℕ Global) → Type 0
 IsLeastFromIfAny Needs first found =
     MatchOption found (NoneFrom Needs first) (λ cycle. IsLeastFrom Needs first cycle.items)

@@ -18,7 +18,7 @@ abbrev pub KeepsMarks : List (Option ℕ) → List (Option ℕ) → Type 0
 KeepsMarks marks new_marks =
     (node k : ℕ) → mark_of marks node ≡ Some k → mark_of new_marks node ≡ Some k
 
--- the nodes of the row that had no mark have this one, and come next too
+-- the nodes of the row that had no mark have this one, and are appended to the next nodes
 pub record AreMarked (row : List ℕ) (mark : ℕ) (marks new_marks : List (Option ℕ))
     (next new_next : List ℕ) : Type 0 where
   pub as_many : length new_marks ≡ length marks

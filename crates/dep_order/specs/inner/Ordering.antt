@@ -4,8 +4,8 @@ use Rattle.dep_order.specs.Needs.{NodeNeeds}
 use Rattle.dep_order.specs.Orders.{EachSmallest}
 use Rattle.dep_order.specs.inner.Users.{count_of}
 
--- Each user has one missing need less for each time that it is listed, and those with none left are
--- ready too.
+-- Each user has one missing need less for each time that it is listed. A user without missing needs
+-- becomes ready.
 pub record AreReleased (users missing new_missing ready new_ready : List ℕ) : Type 0 where
   pub as_many : length new_missing ≡ length missing
   pub counts : (node : ℕ) →

@@ -42,8 +42,8 @@ IsOnPathAndLeads needs path left index node =
     Contains path node
     × ((k : ℕ) → index ≤ k → k < length left → Reaches (NodeNeeds needs) node (slice_index left k))
 
--- A search in depth: the nodes that it left, and the path to the node where it is. Of each node's
--- row the first nodes are scanned, as many as its number says, and these are seen.
+-- A depth-first search: the nodes that it left, and the path to the current node. The first nodes of
+-- each node's row are scanned, as many as its number says, and these are seen.
 pub record IsInDepth (needs : List (List ℕ)) (seen : List Bool)
     (scanned path left : List ℕ) : Type 0 where
   pub seen_each : length seen ≡ length needs
@@ -66,8 +66,8 @@ abbrev pub AreSeen : List ℕ → List Bool → ℕ → ℕ → Type 0
 AreSeen row seen from end =
     (k : ℕ) → from ≤ k → k < end → is_seen seen (slice_index row k) ≡ true
 
--- the first index from that one on whose node isn't seen, none exactly where all from there on are;
--- nothing is said of the nodes before
+-- the first index, from this one on, whose node is not seen; none if and only if all nodes from
+-- there on are seen. Nothing is said about the nodes before.
 abbrev pub IsFirstUnseen : List ℕ → List Bool → ℕ → Option ℕ → Type 0
 IsFirstUnseen row seen from None = AreSeen row seen from (length row)
 IsFirstUnseen row seen from (Some index) =

@@ -19,8 +19,8 @@ pub record AreSteps (count : ℕ) (Leads : ℕ → ℕ → Type 0) (from : ℕ)
 abbrev pub IsLedTo : List (List ℕ) → List ℕ → ℕ → Type 0
 IsLedTo rows frontier node = (before : ℕ) × Contains frontier before × NodeNeeds rows before node
 
--- the nodes that the frontier leads to and that no steps led to are now so many steps away, and
--- they are next
+-- the nodes that the frontier leads to and that had no distance now have this one, and they are the
+-- next frontier
 pub record AreAdvanced (rows : List (List ℕ)) (frontier : List ℕ) (count : ℕ)
     (steps new_steps : List (Option ℕ)) (next : List ℕ) : Type 0 where
   pub as_many : length new_steps ≡ length steps
@@ -33,7 +33,7 @@ pub record AreAdvanced (rows : List (List ℕ)) (frontier : List ℕ) (count : �
   pub next_came : (node : ℕ) → Contains next node → mark_of new_steps node ≡ Some count
   pub accounted : unmarked new_steps + length next ≡ unmarked steps
 
--- a node of the row is so many steps away
+-- a node of the row has this distance
 abbrev pub SomeIsAway : List ℕ → List (Option ℕ) → ℕ → Type 0
 SomeIsAway row steps count = (node : ℕ) × Contains row node × (mark_of steps node ≡ Some count)
 
@@ -49,12 +49,12 @@ IsFewest row steps best =
     ((node : ℕ) → Contains row node → mark_of steps node ≡ None)
     (λ count. SomeIsAway row steps count × NoneIsNearer row steps count)
 
--- the least node of the row that is so many steps away
+-- the least node of the row at this distance
 pub record IsLeastAt (row : List ℕ) (steps : List (Option ℕ)) (count node : ℕ) : Type 0 where
   pub in_row : Contains row node
   pub steps_away : mark_of steps node ≡ Some count
   pub least : (other : ℕ) → Contains row other → mark_of steps other ≡ Some count → node ≤ other
 
--- where the one needs the other, the other leads back to it
+-- if one thing needs the other, the other leads back to it
 abbrev pub LeadsBack : (ℕ → ℕ → Type 0) → ℕ → ℕ → Type 0
 LeadsBack Needs needed thing = Needs thing needed

@@ -48,7 +48,7 @@ index-requires-in-Some c =
     let seen = path_seen (lists c.args.needs.now) c.loop-node.seen.items c.loop-node.scanned.items c.loop-node.path.items c.loop-node.left.items c.in-Some.node c.loop-node.invariant.in_depth has in
     omega (arith, seen_in_range c.loop-node.seen.items c.in-Some.node seen, c.loop-node.invariant.in_depth.seen_each, c.loop-node.invariant.in_depth.scanned_each)
 
--- Rattle's own name of this goal: the search goes on from the node to one that isn't seen.
+-- Rattle's own name of this goal: the search continues from the node with one that is not seen.
 pub loop-node-preserved-in-Continue-branch-3 : goal.loop-node-preserved-in-Continue-branch-3
 loop-node-preserved-in-Continue-branch-3 c =
     let has : Contains c.loop-node.path.items c.in-Some.node = subst (λ xs. Contains xs c.in-Some.node) (sym c.in-Some.ensures.items) (Contains-push c.pop.new.self.items c.in-Some.node) in

@@ -9,7 +9,7 @@ use Rattle.std.proofs.lemmas.List.{take_all, get_or_read}
 use Rattle.dep_order.proofs.reaching.find_row.Goals as goal
 use Rattle.dep_order.proofs.reaching.find_row.Goals.{then-index-len, else-index-len, then-not-is_found+in_ok-push, else-not-is_found}
 
--- a node is found where it is at its index, and only there
+-- a node is found if and only if it is at its index
 tells_in : (indexes found : List ℕ) (node index there : ℕ) (known : Bool) → AreFound indexes found → index ≡ slice_index indexes node → index < length found
     → there ≡ slice_index found index → known ≡ eqb there node → (known ≡ true → Contains found node) × (Contains found node → known ≡ true)
 tells_in indexes found node index there known are at lt is e = (
@@ -17,7 +17,7 @@ tells_in indexes found node index there known are at lt is e = (
   (λ has. e ∙ ap (λ n. eqb n node) (is ∙ ap (slice_index found) at ∙ (there_if_found indexes found are node has).1) ∙ same_itself node),
 )
 
--- and not where its index is past those that are found
+-- and it is not found if its index is past those that are found
 tells_out : (indexes found : List ℕ) (node index len : ℕ) (known : Bool) → AreFound indexes found → index ≡ slice_index indexes node → len ≡ length found → len ≤ index
     → known ≡ ltb index len → (known ≡ true → Contains found node) × (Contains found node → known ≡ true)
 tells_out indexes found node index len known are at all past e = (
