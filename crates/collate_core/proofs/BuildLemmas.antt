@@ -1,4 +1,5 @@
 -- No race and no false wait, from what the edges of objects gain.
+use Rattle.ninja_text.proofs.ForCallers.{element_at, same_some, from_map, to_map, in_append, in_first, in_second}
 use Rattle.std.proofs.Common.{◌≡◌, ◌⊎◌, ℕ, ◌+◌, ◌<◌, List, ◌++◌, length, Some, subst, sym, ◌∙◌, inl, inr, arith, slice_get, Contains}
 use Rattle.std.specs.Prelude.{slice_index}
 use Rattle.std.proofs.lemmas.Option.{slice_get_within, get_or_from_slice_get}
@@ -12,7 +13,6 @@ use Rattle.module_table.specs.Added.{required_of, RequiredFiles, AllRequired, On
 use Rattle.collate_core.specs.Statements.{module_files}
 use Rattle.collate_core.specs.Headline.{Modules, with_modules}
 use Rattle.collate_core.specs.Builds.{IsMaker, IsReader, RequiresFile, ProvidesFile, IsRunOrder, HasNoRace, HasReason, required, listed, HasNoFalseWait}
-use Rattle.collate_core.proofs.ByIndex.{element_at, same_some, from_map, to_map, in_append, in_first, in_second}
 use Rattle.collate_core.proofs.LinkedLemmas.{index_of}
 
 -- ---- one edge and what its object adds

@@ -1,4 +1,5 @@
 -- No false rebuild and no false cycle, where no wait is false.
+use Rattle.ninja_text.proofs.ForCallers.{element_at, choose, same_some, from_map, to_map}
 use Rattle.std.proofs.Common.{◌≡◌, ◌⊎◌, ℕ, zero, suc, ◌<◌, Bool, true, false, List, [], ◌∷◌, length, Option, Some, None, Contains, get_or, refl, ap, subst, sym, ◌∙◌, inl, inr, arith, slice_get, bytes_eq, true≢false}
 use Rattle.std.proofs.lemmas.Bool.{cases_lt}
 use Rattle.std.proofs.lemmas.List.{length-map}
@@ -13,7 +14,6 @@ use Rattle.module_table.specs.TableValue.{TableValue}
 use Rattle.module_table.specs.Added.{required_of, RequiredFiles, AllRequired, OneFile}
 use Rattle.collate_core.specs.Headline.{with_modules}
 use Rattle.collate_core.specs.Builds.{IsMaker, HasReason, HasNoFalseWait, HasSameChains, without_order_only, rebuild_graph, HasNoFalseRebuild, HasNoFalseCycle}
-use Rattle.collate_core.proofs.ByIndex.{element_at, choose, same_some, from_map, to_map}
 use Rattle.collate_core.proofs.LinkedLemmas.{index_of, contained}
 use Rattle.collate_core.proofs.BuildLemmas.{IsOfObject, Gained, no_false_wait}
 

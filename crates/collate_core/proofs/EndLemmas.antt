@@ -1,4 +1,5 @@
 -- The graph after all targets of a project can be ordered.
+use Rattle.ninja_text.proofs.ForCallers.{element_at, from_map, to_map, same_some}
 use Rattle.std.proofs.Common.{◌≡◌, ℕ, zero, suc, ◌<◌, ◌≤◌, List, [], ◌∷◌, length, map, Option, Some, refl, ap, subst, sym, ◌∙◌, inl, inr, arith, slice_get, Contains}
 use Rattle.std.specs.List.{zip}
 use Rattle.std.proofs.lemmas.Option.{slice_get_within, get_or_from_slice_get}
@@ -9,7 +10,6 @@ use Rattle.build_effect.specs.Premises.{AddsAt, AddedOnce}
 use Rattle.build_effect.specs.Files.{NamedFile, FilesMeet, AreFileIndices, Applies, GainsExactly}
 use Rattle.build_effect.specs.Numbering.{HasOutputsOnly, IsRisingNumbering, IsAboveOthers, AreOrdered, rank_at, FilesOrder}
 use Rattle.module_maps.specs.Maps.{Written}
-use Rattle.collate_core.proofs.ByIndex.{element_at, from_map, to_map, same_some}
 use Rattle.module_table.specs.TableValue.{TableValue}
 use Rattle.module_table.specs.Added.{Task, tasks_of, required_of, RequiredFiles}
 use Rattle.dyndep_file.specs.StatementValue.{StatementValue}

@@ -1,4 +1,5 @@
 -- What edges wait for, on a small build whose answers are known.
+use Rattle.ninja_text.proofs.ForCallers.{same_some}
 use Rattle.std.proofs.Common.{◌≡◌, ℕ, zero, suc, ◌<◌, List, [], ◌∷◌, Some, None, codes, refl, ap, subst, sym, ◌∙◌, inl, inr, arith, slice_get, Contains, bytes_eq, false, true≢false}
 use Rattle.std.proofs.lemmas.Slice.Eq.{bytes_eq-Decides}
 use Rattle.scan_docs.specs.Scan.{RuleValue}
@@ -8,7 +9,6 @@ use Rattle.module_table.specs.TableValue.{TableValue}
 use Rattle.module_table.specs.Modules.{Provides, Requires}
 use Rattle.module_table.specs.declared.fault.Maker.TheVariants.{Object}
 use Rattle.collate_core.specs.Builds.{IsMaker, IsReader, IsEdgeOf, RequiresFile, ProvidesFile, ComesAfter, IsRunOrder, HasNoRace, HasReason, required, listed, HasNoFalseWait, HasNoFalseCycle}
-use Rattle.collate_core.proofs.ByIndex.{same_some}
 use Rattle.collate_core.proofs.LinkedLemmas.{index_of, contained}
 
 -- `a.o` provides `A` and requires `B`, which `b.o` provides

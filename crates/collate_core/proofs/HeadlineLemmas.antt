@@ -1,4 +1,5 @@
 -- What a table without a fault gives has exactly one effect, which adds exactly what the objects add.
+use Rattle.ninja_text.proofs.ForCallers.{from_map, to_map, same_some}
 use Rattle.std.proofs.Common.{◌≡◌, ℕ, List, [], ◌∷◌, ◌++◌, length, map, Option, Some, refl, ap, subst, sym, ◌∙◌, slice_get}
 use Rattle.std.specs.Prelude.{All}
 use Rattle.std.proofs.lemmas.List.{length-map}
@@ -13,7 +14,6 @@ use Rattle.build_effect.specs.Graphs.{Names}
 use Rattle.build_effect.specs.Effect.{IsCanonical, AreCanonical, Extends, extended}
 use Rattle.build_effect.specs.Premises.{AddsAt, AddedOnce, AdditionNeeds, MeetsPremises, OneEffect}
 use Rattle.module_maps.specs.Maps.{Written}
-use Rattle.collate_core.proofs.ByIndex.{from_map, to_map, same_some}
 use Rattle.module_table.specs.TableValue.{TableValue}
 use Rattle.module_table.specs.Modules.{Provides}
 use Rattle.module_table.specs.Sound.{IsSound}

@@ -1,4 +1,5 @@
 -- What the infos of a project's targets are read as: one more target.
+use Rattle.ninja_text.proofs.ForCallers.{from_push}
 use Rattle.std.proofs.Common.{◌≡◌, ℕ, List, ◌∷◌, [], ◌++◌, length, Option, Some, None, IfSome, subst, sym, inl, inr, arith, length-append, ◌⊎◌, ◌<◌}
 use Rattle.std.specs.Prelude.{slice_get}
 use Rattle.std.proofs.lemmas.Option.{slice_get_within}
@@ -6,7 +7,6 @@ use Rattle.scan_docs.specs.Info.{InfoValue}
 use Rattle.collate_core.specs.Values.{CollatedValue}
 use Rattle.module_table.specs.Parts.{IsAdded}
 use Rattle.collate_core.specs.inner.ReadInfos.{IsReadAs, AreKnown}
-use Rattle.collate_core.proofs.LoopLemmas.{in_push}
 
 module _ (outs : List CollatedValue) (known : List (Option InfoValue)) (are : AreKnown outs known) (out : CollatedValue) (entry : Option InfoValue) (read : IfSome entry (IsReadAs out.info)) where
   -- the target is an earlier one, and so is what is known, or both are the last
@@ -19,7 +19,7 @@ module _ (outs : List CollatedValue) (known : List (Option InfoValue)) (are : Ar
   known_push : AreKnown (outs ++ out ∷ []) (known ++ entry ∷ [])
   known_push = record {
     count = omega (arith, length-append outs (out ∷ []), length-append known (entry ∷ []), are.count);
-    each = λ k o info at also. each_more k o info (in_push outs out k o at) (in_push known entry k (Some info) also);
+    each = λ k o info at also. each_more k o info (from_push outs out k o at) (from_push known entry k (Some info) also);
   }
 
 -- so it is when the pool has the info, or nothing in its place

@@ -1,8 +1,8 @@
 -- Numbers of two levels.
+use Rattle.ninja_text.proofs.ForCallers.{same_some}
 use Rattle.std.proofs.Common.{◌≡◌, ℕ, zero, suc, ◌+◌, ◌*◌, ◌<◌, ◌≤◌, ◌⊎◌, List, [], ◌∷◌, Some, ap, inl, inr, arith}
 use Rattle.std.specs.Prelude.{slice_get}
 use Rattle.std.proofs.Math.Nat.{mul-le-mul_right}
-use Rattle.collate_core.proofs.ByIndex.{same_some}
 
 below_of : (y : ℕ) (xs : List ℕ) (n : ℕ) → ((k x : ℕ) → slice_get xs k ≡ Some x → x < n) → (k x : ℕ) → slice_get (y ∷ xs) k ≡ Some x → x < suc y + n
 below_of y xs n rest zero x e = let same : y ≡ x = same_some _ _ e in omega arith

@@ -1,4 +1,3 @@
-pub mod ByIndex
 pub mod Levels
 pub mod Lists
 pub mod PrivateNames

@@ -1,4 +1,5 @@
 -- What the infos of a project's tables are.
+use Rattle.ninja_text.proofs.ForCallers.{element_at, from_map, to_map, same_some}
 use Rattle.std.proofs.Common.{◌≡◌, ℕ, ◌<◌, List, [], length, map, Option, Some, refl, ap, subst, sym, ◌∙◌, arith, slice_get, Contains}
 use Rattle.std.specs.Option.{option_map_or}
 use Rattle.std.proofs.lemmas.Option.{slice_get_within, get_or_from_slice_get, slice_get_read}
@@ -6,7 +7,6 @@ use Rattle.scan_docs.specs.Info.{InfoValue, IsInfo}
 use Rattle.scan_docs.specs.InfoChecks.{info_checks}
 use Rattle.scan_docs.specs.Document.{IsAccepted}
 use Rattle.module_maps.specs.Maps.{Written}
-use Rattle.collate_core.proofs.ByIndex.{element_at, from_map, to_map, same_some}
 use Rattle.module_table.specs.TableValue.{TableValue}
 use Rattle.module_table.specs.Sound.{IsSound}
 use Rattle.scan_docs.specs.Values.{info_of}

@@ -1,4 +1,5 @@
 -- A part of what is known of linked infos is enough for the target that links them.
+use Rattle.ninja_text.proofs.ForCallers.{element_at}
 use Rattle.std.proofs.Common.{◌≡◌, ℕ, zero, suc, ◌<◌, List, [], ◌∷◌, map, Option, Some, None, length, get_or, refl, ap, ap₂, subst, sym, arith, Bool, IsTrue}
 use Rattle.std.specs.Prelude.{slice_get, All, IfSome}
 use Rattle.std.specs.Option.{option_map_or, option_map, option_copied, is_some}
@@ -16,7 +17,6 @@ use Rattle.collate_core.specs.Documents.{IsInfoAccepted, AreScansAccepted, all_r
 use Rattle.collate_core.specs.Projects.{linked_infos}
 use Rattle.collate_core.specs.inner.ReadInfos.{IsReadAs, AreReadAs, AreKnown}
 use Rattle.collate_core.specs.inner.PartTables.{IsEnoughFor}
-use Rattle.collate_core.proofs.ByIndex.{element_at}
 use Rattle.collate_core.proofs.Lists.{all_at}
 use Rattle.collate_core.proofs.LinkedLemmas.{contained, index_of}
 

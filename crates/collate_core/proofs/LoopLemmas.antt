@@ -1,5 +1,6 @@
 -- One more target of a project.
-use Rattle.std.proofs.Common.{◌≡◌, ℕ, zero, suc, ◌+◌, ◌<◌, ◌≤◌, ◌⊎◌, List, [], ◌∷◌, ◌++◌, length, map, take, Option, Some, None, Result, refl, ap, subst, sym, ◌∙◌, inl, inr, arith, slice_get, get_or, length-append}
+use Rattle.ninja_text.proofs.ForCallers.{element_at, in_first, from_push}
+use Rattle.std.proofs.Common.{◌≡◌, ℕ, suc, ◌<◌, ◌≤◌, ◌⊎◌, List, [], ◌∷◌, ◌++◌, length, map, take, Option, Some, None, Result, refl, ap, subst, sym, ◌∙◌, inl, inr, arith, slice_get, get_or, length-append}
 use Rattle.std.specs.Prelude.{All, IfSome}
 use Rattle.std.specs.Option.{option_map, option_map_or}
 use Rattle.std.proofs.lemmas.Option.{slice_get_within}
@@ -7,7 +8,6 @@ use Rattle.module_maps.specs.Values.{ModuleMapValue}
 use Rattle.module_maps.specs.Maps.{Written, AreStyleLaws}
 use Rattle.module_maps.specs.declared.fault.MapFault.{MapFault}
 use Rattle.module_maps.specs.declared.module_map.MapEntry.{MapEntry}
-use Rattle.collate_core.proofs.ByIndex.{element_at, in_first, in_append, same_some}
 use Rattle.collate_core.specs.Values.{CollatedValue, ProjectTargetValue}
 use Rattle.collate_core.specs.Collation.{Collates}
 use Rattle.collate_core.specs.Projects.{target_of, linked_infos, CollatesProject, project_tables, IsLinkedRefusal, IsProjectRefusal}
@@ -16,19 +16,11 @@ use Rattle.collate_core.specs.Laws.{ProjectMaps}
 use Rattle.collate_core.specs.declared.fault.Refusal.{Refusal}
 use Rattle.std.proofs.lemmas.List.{map-append, length-take-le}
 
-last : {X : Type 0} (xs : List X) (x : X) (k : ℕ) (y : X) (m : ℕ) → k ≡ length xs + m → slice_get (x ∷ []) m ≡ Some y → (k ≡ length xs) × (x ≡ y)
-last xs x k y zero e h = (omega (arith, e), same_some _ _ h)
-last xs x k y (suc m) e h = cc
-
--- an element of a list with one more at its end is in the list, or the last one
-pub in_push : {X : Type 0} (xs : List X) (x : X) (k : ℕ) (y : X) → slice_get (xs ++ x ∷ []) k ≡ Some y → (slice_get xs k ≡ Some y) ⊎ ((k ≡ length xs) × (x ≡ y))
-in_push xs x k y e = elim (in_append xs (x ∷ []) k y e) [ inl h ↦ inl h | inr h ↦ inr (last xs x k y h.0 h.1 h.2) ]
-
 at_first : {X : Type 0} (xs : List X) (x : X) (k : ℕ) (y : X) → k < length xs → slice_get (xs ++ x ∷ []) k ≡ Some y → slice_get xs k ≡ Some y
-at_first xs x k y within e = elim (in_push xs x k y e) [ inl h ↦ h | inr h ↦ absurd (omega (arith, h.0, within)) ]
+at_first xs x k y within e = elim (from_push xs x k y e) [ inl h ↦ h | inr h ↦ absurd (omega (arith, h.0, within)) ]
 
 at_last : {X : Type 0} (xs : List X) (x : X) (k : ℕ) (y : X) → k ≡ length xs → slice_get (xs ++ x ∷ []) k ≡ Some y → x ≡ y
-at_last xs x k y is e = elim (in_push xs x k y e) [ inl h ↦ absurd (let within : k < length xs = slice_get_within _ _ _ h in omega (arith, is)) | inr h ↦ h.1 ]
+at_last xs x k y is e = elim (from_push xs x k y e) [ inl h ↦ absurd (let within : k < length xs = slice_get_within _ _ _ h in omega (arith, is)) | inr h ↦ h.1 ]
 
 abbrev pub bytes_at : List CollatedValue → ℕ → List ℕ
 bytes_at outs k = option_map_or (λ (c : CollatedValue). c.info) (slice_get outs k) []
@@ -72,8 +64,8 @@ module _ (style : Option Written) (targets : List ProjectTargetValue) (outs : Li
   pub project_push : CollatesProject style (targets ++ p ∷ []) (outs ++ c ∷ [])
   project_push = record {
     count = omega (arith, length-append outs (c ∷ []), length-append targets (p ∷ []), project.count);
-    earlier = λ n q at. earlier_more n q (in_push targets p n q at);
-    each = λ n q d at at_d. each_more n q d (in_push targets p n q at) at_d;
+    earlier = λ n q at. earlier_more n q (from_push targets p n q at);
+    each = λ n q d at at_d. each_more n q d (from_push targets p n q at) at_d;
   }
 
 -- a style, where one is given, reads the maps back

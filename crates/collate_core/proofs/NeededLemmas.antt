@@ -1,4 +1,5 @@
 -- What an object needs in the table of its target is what it needs in the project.
+use Rattle.ninja_text.proofs.ForCallers.{from_map, to_map, same_some, offset, in_flat_map, from_flat_map}
 use Rattle.std.proofs.Common.{◌≡◌, ℕ, ◌+◌, ◌⊎◌, List, [], ◌∷◌, ◌++◌, Option, Some, Result, refl, ap, subst, sym, ◌∙◌, inl, inr, slice_get, Contains}
 use Rattle.std.specs.Prelude.{◌↔◌}
 use Rattle.std.specs.List.{flat_map}
@@ -9,7 +10,6 @@ use Rattle.module_maps.specs.Values.{ModuleMapValue}
 use Rattle.module_maps.specs.Maps.{Written, AreEntriesOf, AreStyleLaws}
 use Rattle.module_maps.specs.declared.fault.MapFault.{MapFault}
 use Rattle.module_maps.specs.declared.module_map.MapEntry.{MapEntry}
-use Rattle.collate_core.proofs.ByIndex.{from_map, to_map, same_some, offset, in_flat_map, from_flat_map}
 use Rattle.module_table.specs.TableValue.{TableValue}
 use Rattle.module_table.specs.Modules.{Provides, Requires, InfoProvides, IsProvided, IsProvidedBy}
 use Rattle.module_table.specs.Sound.{IsSound}

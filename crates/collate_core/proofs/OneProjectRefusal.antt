@@ -1,4 +1,5 @@
 -- A project has one refusal at most.
+use Rattle.ninja_text.proofs.ForCallers.{same_some, three_ways}
 use Rattle.std.proofs.Common.{◌≡◌, ℕ, ◌<◌, ◌≤◌, List, length, take, Option, subst, sym, ◌∙◌, inl, inr, arith}
 use Rattle.std.proofs.lemmas.List.{length-take-le}
 use Rattle.std.proofs.lemmas.Option.{slice_get_within}
@@ -9,7 +10,6 @@ use Rattle.collate_core.specs.Refusals.{IsRefusal}
 use Rattle.collate_core.specs.Projects.{CollatesProject, IsLinkedRefusal, IsProjectRefusal, target_of}
 use Rattle.collate_core.specs.Laws.{IsSameRefusal, OneProjectRefusal}
 use Rattle.collate_core.specs.declared.fault.Refusal.{Refusal}
-use Rattle.collate_core.proofs.ByIndex.{same_some, three_ways}
 use Rattle.collate_core.proofs.Lists.{in_take, take_less}
 use Rattle.collate_core.proofs.Outcomes.{OneAnswer}
 use Rattle.collate_core.proofs.OneRefusal.{equal, one_refusal}

@@ -1,4 +1,5 @@
 -- A target has one refusal at most.
+use Rattle.ninja_text.proofs.ForCallers.{same_some, three_ways}
 use Rattle.std.proofs.Common.{◌≡◌, ℕ, ◌+◌, ◌<◌, ◌⊎◌, List, length, take, Some, None, Err, ap, ap₂, subst, sym, ◌∙◌, inl, inr, arith, slice_get}
 use Rattle.std.specs.Prelude.{All}
 use Rattle.dyndep_file.specs.declared.fault.WriteFault.TheVariants as write
@@ -13,7 +14,6 @@ use Rattle.module_table.specs.TableValue.{TableValue}
 use Rattle.module_table.specs.Outcomes.{OneTableFault}
 use Rattle.module_maps.specs.Maps.{Written}
 use Rattle.module_maps.specs.declared.fault.MapFault.{MapFault}
-use Rattle.collate_core.proofs.ByIndex.{same_some, three_ways}
 use Rattle.scan_docs.specs.Values.{rules_of}
 use Rattle.collate_core.specs.Values.{TargetValue}
 use Rattle.collate_core.specs.Documents.{IsScanAccepted, IsInfoAccepted, AreScansAccepted, all_rules, rule_limit, table_of}

@@ -1,4 +1,5 @@
 -- A target that collates has no refusal.
+use Rattle.ninja_text.proofs.ForCallers.{element_at, take_next}
 use Rattle.std.proofs.Common.{◌≡◌, ℕ, ◌+◌, ◌<◌, List, ◌++◌, length, take, get_or, Some, None, Ok, Err, ap, ap₂, sym, ◌∙◌, inl, inr, arith, slice_get, length-append}
 use Rattle.std.specs.Prelude.{All}
 use Rattle.std.proofs.lemmas.List.Folds.{length-flat_map-take}
@@ -16,7 +17,6 @@ use Rattle.module_table.proofs.ForCallers.{one_list_of_pairs}
 use Rattle.module_maps.specs.Values.{ModuleMapValue}
 use Rattle.module_maps.specs.Maps.{Written}
 use Rattle.module_maps.specs.declared.fault.MapFault.{MapFault}
-use Rattle.collate_core.proofs.ByIndex.{element_at}
 use Rattle.scan_docs.specs.Values.{rules_of, info_of}
 use Rattle.collate_core.specs.Documents.{all_rules, table_of, IsScanAccepted, IsInfoAccepted, AreScansAccepted}
 use Rattle.collate_core.specs.Statements.{statements_of}
@@ -25,7 +25,7 @@ use Rattle.collate_core.specs.Collation.{AreMaps}
 use Rattle.collate_core.specs.Refusals.{IsScanFault, IsScanRefusal, IsInfoRefusal, IsMapFault, IsMapWritten, IsMapRefusal}
 use Rattle.collate_core.specs.Laws.{CollatedIsNotRefused}
 use Rattle.collate_core.specs.declared.fault.Refusal.TheVariants.{Scan, Info, Table, StatementTooLong, Map, LinkedLater}
-use Rattle.collate_core.proofs.Lists.{all_at, take_next, flat_map_last}
+use Rattle.collate_core.proofs.Lists.{all_at, flat_map_last}
 use Rattle.collate_core.proofs.Writing.{no_fault}
 
 -- an object has one map

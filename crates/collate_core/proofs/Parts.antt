@@ -1,4 +1,5 @@
 -- From the parts of collating to the whole.
+use Rattle.ninja_text.proofs.ForCallers.{element_at, in_append, same_some}
 use Rattle.std.proofs.Common.{◌≡◌, ℕ, zero, suc, ◌+◌, ◌<◌, List, [], ◌∷◌, ◌++◌, length, map, Option, Some, None, Result, Ok, Err, ap, subst, sym, ◌∙◌, inl, inr, arith}
 use Rattle.std.specs.Prelude.{slice_get, Vec, IfOk, OnOk}
 use Rattle.std.specs.declared.alloc.Global.{Global}
@@ -14,7 +15,6 @@ use Rattle.module_table.specs.Faults.{IsFault}
 use Rattle.module_table.specs.Sound.{IsSound, PrivateAreProvided}
 use Rattle.module_table.specs.declared.fault.TableFault.{TableFault}
 use Rattle.module_maps.specs.Maps.{Written}
-use Rattle.collate_core.proofs.ByIndex.{element_at, in_append, same_some}
 use Rattle.collate_core.specs.Values.{TargetValue, CollatedValue}
 use Rattle.collate_core.specs.Documents.{table_of, AreAccepted, IsResolved}
 use Rattle.collate_core.specs.Statements.{statements_of}

@@ -1,11 +1,11 @@
 -- The names of private modules, as a set.
+use Rattle.ninja_text.proofs.ForCallers.{take_next}
 use Rattle.std.proofs.Common.{◌≡◌, ℕ, ◌+◌, ◌||◌, Bool, true, false, cond, List, [], ◌∷◌, ◌++◌, map, take, Some, refl, ap, ap₂, sym, ◌∙◌, slice_get, bytes_eq}
 use Rattle.std.specs.List.{list_any}
 use Rattle.std.proofs.lemmas.Slice.Eq.{bytes_eq-Decides}
 use Rattle.indexmap.specs.IndexSet.{insert_key}
 use Rattle.scan_docs.specs.Info.{ModuleValue}
 use Rattle.collate_core.specs.Infos.{is_private_name, module_of}
-use Rattle.collate_core.proofs.Lists.{take_next}
 
 or_assoc : (a b c : Bool) → ((a || b) || c) ≡ (a || (b || c))
 or_assoc true b c = refl

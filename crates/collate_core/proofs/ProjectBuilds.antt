@@ -1,4 +1,5 @@
 -- What the edges of objects gain after targets of a project.
+use Rattle.ninja_text.proofs.ForCallers.{element_at, same_some, from_map, to_map}
 use Rattle.std.proofs.Common.{◌≡◌, ◌≢◌, ◌⊎◌, ℕ, zero, suc, ◌<◌, List, [], ◌∷◌, length, Option, Some, None, refl, ap, subst, sym, ◌∙◌, inl, inr, arith, slice_get, Contains}
 use Rattle.std.specs.List.{zip, filter_map, cons_option}
 use Rattle.std.proofs.lemmas.Option.{slice_get_within}
@@ -20,7 +21,6 @@ use Rattle.collate_core.specs.Projects.{target_of, project_tables}
 use Rattle.collate_core.specs.ProjectOrders.{dyndep_files, AllOrders, IsProjectOrdered}
 use Rattle.collate_core.specs.Builds.{IsMaker, RequiresFile, HasNoRace}
 use Rattle.collate_core.specs.BuildLaws.{IsAfterProject, tables_of}
-use Rattle.collate_core.proofs.ByIndex.{element_at, same_some, from_map, to_map}
 use Rattle.collate_core.proofs.LinkedLemmas.{index_of, contained, sound_of}
 use Rattle.collate_core.proofs.NeededLemmas.{task_in}
 use Rattle.collate_core.proofs.ProjectLemmas.{in_zip, as_file}

@@ -1,11 +1,11 @@
 -- The dyndep files of a project.
+use Rattle.ninja_text.proofs.ForCallers.{from_map, same_some}
 use Rattle.std.proofs.Common.{◌≡◌, ℕ, zero, suc, List, [], ◌∷◌, Option, Some, ap, subst, slice_get}
 use Rattle.std.specs.List.{zip}
 use Rattle.build_effect.specs.Effect.{AreCanonical}
 use Rattle.build_effect.specs.Premises.{AddedOnce}
 use Rattle.build_effect.specs.Files.{NamedFile, AreFiles, AnyOrder, OrdersEndAlike}
 use Rattle.module_maps.specs.Maps.{Written}
-use Rattle.collate_core.proofs.ByIndex.{from_map, same_some}
 use Rattle.module_table.specs.TableValue.{TableValue}
 use Rattle.module_table.specs.Added.{AddedOrderable, FilesOnce, FilesApart, RequiredFiles}
 use Rattle.collate_core.specs.Values.{CollatedValue, ProjectTargetValue}

@@ -1,4 +1,5 @@
 -- One numbering of all objects of a project.
+use Rattle.ninja_text.proofs.ForCallers.{element_at, same_some, choose, offset, in_flat_map}
 use Rattle.std.proofs.Common.{◌≡◌, ℕ, ◌+◌, ◌*◌, ◌<◌, List, length, Option, Some, refl, ap, subst, sym, ◌∙◌, inl, inr, arith, slice_get}
 use Rattle.std.specs.Prelude.{slice_index}
 use Rattle.std.specs.Option.{option_map_or}
@@ -6,7 +7,6 @@ use Rattle.std.specs.List.{flat_map}
 use Rattle.std.proofs.lemmas.Option.{slice_get_within, get_or_from_slice_get}
 use Rattle.build_effect.specs.Numbering.{rank_at}
 use Rattle.module_maps.specs.Maps.{Written}
-use Rattle.collate_core.proofs.ByIndex.{element_at, same_some, choose, offset, in_flat_map}
 use Rattle.collate_core.proofs.Levels.{above, two_levels}
 use Rattle.module_table.specs.TableValue.{TableValue}
 use Rattle.module_table.specs.Modules.{Provides, Requires, IsProvided, DependsOn}

@@ -1,4 +1,5 @@
 -- A project whose targets all collate has no refusal.
+use Rattle.ninja_text.proofs.ForCallers.{element_at, three_ways}
 use Rattle.std.proofs.Common.{◌≡◌, ℕ, zero, suc, ◌<◌, ◌≤◌, List, [], ◌∷◌, length, take, Option, Some, refl, ap, subst, sym, ◌∙◌, inl, inr, arith, slice_get}
 use Rattle.std.specs.Prelude.{All}
 use Rattle.std.specs.Option.{option_map_or}
@@ -6,7 +7,6 @@ use Rattle.std.proofs.lemmas.List.{length-take-le}
 use Rattle.std.proofs.lemmas.Option.{slice_get_within}
 use Rattle.scan_docs.specs.InfoText.{info_text}
 use Rattle.module_maps.specs.Maps.{Written}
-use Rattle.collate_core.proofs.ByIndex.{element_at, three_ways}
 use Rattle.collate_core.specs.Values.{TargetValue, CollatedValue, ProjectTargetValue}
 use Rattle.collate_core.specs.Documents.{table_of}
 use Rattle.collate_core.specs.Infos.{info_of_table}

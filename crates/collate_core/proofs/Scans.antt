@@ -1,4 +1,5 @@
 -- The documents of a target, read one after another.
+use Rattle.ninja_text.proofs.ForCallers.{take_next}
 use Rattle.std.proofs.Common.{◌≡◌, ℕ, zero, suc, ◌+◌, ◌<◌, ◌≤◌, List, [], ◌∷◌, ◌++◌, length, map, take, get_or, Some, refl, ap, ap₂, subst, sym, ◌∙◌, inl, inr}
 use Rattle.std.specs.Prelude.{slice_get, All, option_map}
 use Rattle.std.proofs.lemmas.Option.{slice_get-map, slice_get_read}
@@ -21,7 +22,7 @@ use Rattle.scan_docs.specs.declared.fault.Place.TheVariants.{Document}
 use Rattle.collate_core.specs.Documents.{all_rules, rule_limit, IsScanAccepted, IsInfoAccepted, AreScansAccepted}
 use Rattle.collate_core.specs.Refusals.{IsScanRefusal, IsInfoRefusal}
 use Rattle.collate_core.specs.inner.ReadInfos.{IsReadAs, AreReadAs}
-use Rattle.collate_core.proofs.Lists.{take_next, flat_map_last}
+use Rattle.collate_core.proofs.Lists.{flat_map_last}
 
 -- The first scan documents are accepted, and these are their rules.
 pub record ScansSoFar (s : SettingValue) (scans : List (List ℕ)) (i : ℕ) (rules : List RuleValue) : Type 0 where

@@ -1,4 +1,5 @@
 -- What the edges of objects gain, after a target and after targets of a project.
+use Rattle.ninja_text.proofs.ForCallers.{same_some, from_map, to_map}
 use Rattle.std.proofs.Common.{◌≡◌, ◌≢◌, ◌⊎◌, ℕ, zero, suc, Bool, true, false, List, [], ◌∷◌, map, Option, Some, None, refl, ap, subst, sym, ◌∙◌, inl, inr, slice_get, Contains, bytes_eq, true≢false}
 use Rattle.std.proofs.lemmas.Slice.Eq.{bytes_eq-Decides}
 use Rattle.dyndep_file.specs.StatementValue.{StatementValue}
@@ -16,7 +17,6 @@ use Rattle.collate_core.specs.Statements.{statement_of, statements_of}
 use Rattle.collate_core.specs.Headline.{with_modules, AddsExactly}
 use Rattle.collate_core.specs.Builds.{IsMaker}
 use Rattle.collate_core.specs.BuildLaws.{IsAfterTarget}
-use Rattle.collate_core.proofs.ByIndex.{same_some, from_map, to_map}
 use Rattle.collate_core.proofs.LinkedLemmas.{index_of, contained}
 use Rattle.collate_core.proofs.NeededLemmas.{task_in}
 use Rattle.collate_core.proofs.BuildLemmas.{IsOfObject, Gained}

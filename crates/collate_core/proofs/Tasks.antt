@@ -1,4 +1,5 @@
 -- One more object, with what it requires, and all objects.
+use Rattle.ninja_text.proofs.ForCallers.{take_next}
 use Rattle.std.proofs.Common.{◌≡◌, ℕ, ◌+◌, ◌≤◌, List, [], ◌∷◌, ◌++◌, length, map, take, Some, refl, ap, subst, sym, ◌∙◌}
 use Rattle.std.specs.Prelude.{slice_get, option_map}
 use Rattle.std.specs.List.{flat_map}
@@ -11,7 +12,7 @@ use Rattle.module_table.specs.TableValue.{TableValue}
 use Rattle.module_table.specs.Added.{Task, tasks_of, required_of}
 use Rattle.collate_core.specs.Statements.{statement_of, statements_of}
 use Rattle.collate_core.specs.Infos.{modules_of}
-use Rattle.collate_core.proofs.Lists.{take_next, flat_map_last}
+use Rattle.collate_core.proofs.Lists.{flat_map_last}
 
 -- the task of an object
 task_here : (t : TableValue) (index : ℕ) (rule : RuleValue) (required : List (List ℕ × List ℕ)) →

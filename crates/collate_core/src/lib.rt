@@ -75,7 +75,6 @@ pub use laws::{
     headline, no_false_cycle, no_false_rebuild, no_false_wait, no_race, one_outcome, project_maps,
     project_orders,
 };
-pub use module_maps::{Clang, Gcc, MapEntry, MapFault, MapStyle, ModuleMap};
 pub use projects::{ProjectOut, ProjectTarget, project, project_or_refused};
 pub use rehearsal::rehearse;
 pub use table::RULE_LIMIT;

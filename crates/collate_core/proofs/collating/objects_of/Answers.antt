@@ -1,8 +1,8 @@
+use Rattle.ninja_text.proofs.ForCallers.{take_next}
 use Rattle.std.proofs.Common.{map, take, ap, refl, sym, ◌∙◌}
 use Rattle.std.proofs.lemmas.List.{take_all}
 use Rattle.std.proofs.lemmas.Option.{slice_get_read}
 use Rattle.scan_docs.specs.Scan.{RuleValue}
-use Rattle.collate_core.proofs.Lists.{take_next}
 use Rattle.collate_core.proofs.LoopLemmas.{map_push}
 use Rattle.collate_core.proofs.collating.objects_of.Goals as goal
 

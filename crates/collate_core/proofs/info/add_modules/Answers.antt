@@ -1,7 +1,7 @@
+use Rattle.ninja_text.proofs.ForCallers.{take_next}
 use Rattle.std.proofs.Common.{rules, ◌≡◌, ◌+◌, ◌++◌, ◌∷◌, [], ℕ, List, take, map, ap, refl, append_assoc}
 use Rattle.std.proofs.lemmas.Option.{slice_get_read}
 use Rattle.collate_core.specs.Infos.{module_of}
-use Rattle.collate_core.proofs.Lists.{take_next}
 use Rattle.collate_core.proofs.LoopLemmas.{map_push}
 use Rattle.collate_core.proofs.info.add_modules.Goals as goal
 

@@ -1,8 +1,8 @@
+use Rattle.ninja_text.proofs.ForCallers.{take_next}
 use Rattle.std.proofs.Common.{take, map, refl, ap, sym, ◌∙◌}
 use Rattle.std.proofs.lemmas.List.{take_all}
 use Rattle.std.proofs.lemmas.Option.{slice_get_read}
 use Rattle.module_table.specs.Needed.{lent}
-use Rattle.collate_core.proofs.Lists.{take_next}
 use Rattle.collate_core.proofs.LoopLemmas.{map_push}
 use Rattle.collate_core.proofs.pairs.copy_lent.Goals as goal
 

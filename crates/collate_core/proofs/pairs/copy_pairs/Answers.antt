@@ -1,7 +1,7 @@
+use Rattle.ninja_text.proofs.ForCallers.{take_next}
 use Rattle.std.proofs.Common.{◌++◌, ◌∷◌, [], refl, sym, ap₂, ◌∙◌, List, ℕ}
 use Rattle.std.proofs.lemmas.List.{take_all}
 use Rattle.std.proofs.lemmas.Option.{slice_get_read}
-use Rattle.collate_core.proofs.Lists.{take_next}
 use Rattle.collate_core.proofs.pairs.copy_pairs.Goals as goal
 
 pub loop-pair-preserved : goal.loop-pair-preserved

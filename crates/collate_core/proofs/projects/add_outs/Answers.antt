@@ -1,3 +1,4 @@
+use Rattle.ninja_text.proofs.ForCallers.{take_next}
 use Rattle.std.proofs.Common.{◌≡◌, ℕ, ◌+◌, List, [], ◌∷◌, ◌++◌, take, length, Option, Some, refl, subst, sym}
 use Rattle.std.specs.Prelude.{slice_get}
 use Rattle.std.specs.Option.{option_copied, option_map}
@@ -13,7 +14,6 @@ use Rattle.collate_core.specs.declared.fault.RefusedTarget.{RefusedTarget}
 use Rattle.collate_core.specs.inner.Parts.{CollatesLinked}
 use Rattle.collate_core.specs.inner.ReadInfos.{AreKnown}
 use Rattle.collate_core.proofs.Known.{known_added}
-use Rattle.collate_core.proofs.Lists.{take_next}
 use Rattle.collate_core.proofs.LoopLemmas.{project_push, refused_here}
 use Rattle.collate_core.proofs.Turning.{turned}
 use Rattle.collate_core.proofs.projects.add_outs.Goals as goal
