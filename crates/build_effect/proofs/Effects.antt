@@ -68,7 +68,8 @@ Becomes name additions e x = ((e.dyndep ≢ Some name) × (x ≡ e)) ⊎ (Names 
 abbrev pub ComesTo : List EdgeValue → List ℕ → List StatementValue → ℕ → EdgeValue → Type 0
 ComesTo g name additions i x = (e : EdgeValue) × (slice_get g i ≡ Some e) × Becomes name additions e x
 
--- where a file that an edge makes afterwards comes from: it was made before, or addition k adds it, as the one with index m
+-- what an edge produces afterwards was produced before, or addition k adds it, as the one with
+-- index m
 abbrev pub Origin : List EdgeValue → List StatementValue → ℕ → ℕ → List ℕ → Type 0
 Origin g additions i j file =
     MakesAt g i j file

@@ -72,7 +72,7 @@ all_paths s a (suc j) text c at =
     ]
 
 module _ (g : List EdgeValue) (name : List ℕ) (additions : List StatementValue) (new : List EdgeValue) (once : MadeOnce g) (gives : Extends g name additions new) where
-  -- where an added output stands afterwards
+  -- the index of an added output afterwards
   InNew : ℕ → ℕ → StatementValue → List ℕ → Type 0
   InNew m n a file = (i : ℕ) × (e : EdgeValue) × (slice_get g i ≡ Some e) × Names name e × IsOn a e × MakesAt new i (length (made_by e) + n) file
 

@@ -18,7 +18,7 @@ pub unchanged : (e after : EdgeValue) (additions : List StatementValue) (stateme
 unchanged e after additions None none same = same
 unchanged e after additions (Some k) none same = absurd (none k refl)
 
--- what holds of the statement on an edge holds where there is one
+-- what holds of the statement on an edge holds if there is one
 pub within_if : (P : ℕ → Type 0) (o : Option ℕ) → ((k : ℕ) → o ≡ Some k → P k) → IfSome o P
 within_if P None holds = tt
 within_if P (Some k) holds = holds k refl
@@ -109,7 +109,7 @@ module _ (g : List EdgeValue) (name : List ℕ) (ss additions : List StatementVa
       let same = given_are r.0 r.1 in
       (subst (Extends g name additions) same r.1, subst (OnlyEffect g name ss) same r.2)
 
-  -- where each edge of the new graph comes from
+  -- each edge of the new graph comes from one of the old
   from_old : (i : ℕ) (x : EdgeValue) → slice_get new i ≡ Some x → (e : EdgeValue) × (slice_get g i ≡ Some e) × ((x ≡ e) ⊎ ((a : StatementValue) × (x ≡ extended e a)))
   from_old i x at_x =
       let within = slice_get_within new i x at_x in

@@ -25,7 +25,7 @@ last_set change (x ∷ y ∷ es) (suc n) e len at = ap (λ l. x ∷ l) (last_set
 abbrev pub HaveOutputs : List EdgeValue → Type 0
 HaveOutputs es = All (λ e. e.outputs ≢ []) es
 
--- and so they have with the last one changed, where its outputs are kept
+-- and so they have with the last one changed, if its outputs are kept
 pub outputs_kept : (change : EdgeValue → EdgeValue) → ((e : EdgeValue) → (change e).outputs ≡ e.outputs) → (es : List EdgeValue) → HaveOutputs es → HaveOutputs (with_last change es)
 outputs_kept change same [] all k d lt = absurd (omega arith)
 outputs_kept change same (e ∷ []) all zero d lt = λ h. all zero d (omega arith) (sym (same e) ∙ h)
@@ -55,7 +55,7 @@ pub build_passes : (binding : Binding) (es new : List EdgeValue) (edge : EdgeVal
     → new ≡ es ++ edge ∷ [] → (c : ListingClass) × (build_class paths ≡ Ok c) × (step binding es c ≡ Some (record { edges = new; binding = Open false false }))
 build_passes binding es new edge paths t is same pushed = (Build t, ap build_class is, rw (pushed, same) refl)
 
--- paths, and those behind them or their fault
+-- paths, and those after them or their fault
 abbrev pub behind : List (List ℕ) → Result (List (List ℕ)) PathFault → Result (List (List ℕ)) PathFault
 behind paths (Ok more) = Ok (paths ++ more)
 behind paths (Err fault) = Err fault
@@ -66,16 +66,16 @@ pub behind_one_more : (paths : List (List ℕ)) (path : List ℕ) (found : Resul
 behind_one_more paths path found (Ok more) is = rw is (ap Ok (sym (append_assoc paths (path ∷ []) more)))
 behind_one_more paths path found (Err fault) is = rw is refl
 
--- before the first path stand those to come
+-- before the first path are those to come
 pub behind_nothing : (more : Result (List (List ℕ)) PathFault) → behind [] more ≡ more
 behind_nothing (Ok more) = refl
 behind_nothing (Err fault) = refl
 
--- and behind the last one stand no more
+-- and after the last one are no more
 pub nothing_behind : (paths : List (List ℕ)) → behind paths (paths_of []) ≡ Ok paths
 nothing_behind paths = ap Ok (append-nil paths)
 
--- the text at hand is the first of those to come
+-- the present text is the first of those to come
 text_at_hand : (texts : List (Vec ℕ Global)) (i : ℕ) (text : Vec ℕ Global) → i < length texts → text ≡ get_or texts i text
     → paths_of (rows (drop i texts)) ≡ with_path (path_of text.items) (paths_of (rows (drop (i + 1) texts)))
 text_at_hand texts i text within is =

@@ -31,7 +31,7 @@ use Rattle.build_effect.proofs.ListingForms.{none_left, edge_holds, edge_found}
 
 -- ---- rows
 
--- equal answers are of one row
+-- equal results are of one row
 row_same : {r s : Row} → ◌≡◌ {A = Result Row LineCause} (Ok r) (Ok s) → r ≡ s
 row_same h = cc
 
@@ -67,7 +67,7 @@ dyndep_named a h = rw h refl
 restat_named : (a : SeenAssignment) → a.name ≡ codes "restat" → binding_row (Some a) ≡ Ok (RestatRow (nat_lt 0 (length (value_of a.raw_value))))
 restat_named a h = rw h refl
 
--- what a line is: of a row, or not, for one reason
+-- a line is of a row, or it is not, for one reason
 pub data RowCases (text : List ℕ) (comment : Bool) : Type 0 where
   row_is : (row : Row) → TextIsOfRow text comment row → RowCases text comment
   lexical_is : (fault : LexFault) → comment ≡ false → lexical_fault text ≡ Some fault → RowCases text comment
@@ -162,7 +162,7 @@ paths_found (text ∷ texts) (path ∷ paths) are =
     let more : ArePaths texts paths = (let y : map path_of texts ≡ map (λ p. Ok p) paths = cc in y) in
     rw (first, paths_found texts paths more) refl
 
--- and so is the first text that is none
+-- and so is the first text that is not a valid path
 refused_at : (before : List (List ℕ)) (text : List ℕ) (after paths : List (List ℕ)) (fault : PathFault) → ArePaths before paths → path_of text ≡ Err fault
     → paths_of (before ++ text ∷ after) ≡ Err fault
 refused_at [] text after paths fault are refused = rw refused refl
@@ -203,7 +203,7 @@ refused_after xs ps ys fault are r = record {
   refused = r.refused;
 }
 
--- texts are paths, or the first of them that is none is refused
+-- texts are paths, or the first of them that is not a valid path is the error
 abbrev PathCases : List (List ℕ) → Type 0
 PathCases texts = ((paths : List (List ℕ)) × ArePaths texts paths) ⊎ ((fault : PathFault) × IsFirstRefused texts fault)
 
@@ -365,7 +365,7 @@ one_class text comment c d p q =
     let b = finds_class text comment d q in
     class_same (sym b.2 ∙ ap class_of_row (row_same (sym b.1 ∙ a.1)) ∙ a.2)
 
--- ---- where a line may stand
+-- ---- lines that are allowed at a point
 
 -- A class of the kind of a row, whatever its texts and its flag are.
 abbrev IsOfKind : Row → ListingClass → Type 0
@@ -389,7 +389,7 @@ row_kind (BuildRow texts) = (texts, refl)
 row_kind (DyndepRow text) = (text, refl)
 row_kind (RestatRow flag) = (flag, refl)
 
--- a line of a row that may stand does something
+-- a line of a row that is allowed does something
 kind_steps : (binding : Binding) (row : Row) (c : ListingClass) (es : List EdgeValue) → may_stand binding row ≡ true → IsOfKind row c → (next : ListingValue) × (step binding es c ≡ Some next)
 kind_steps binding CommentRow c es stands is = (record { edges = es; binding = binding }, ap (step binding es) is)
 kind_steps binding BlankRow c es stands is = (record { edges = es; binding = Closed }, ap (step binding es) is)
@@ -404,7 +404,7 @@ kind_steps (Open dyndep false) (RestatRow flag) c es stands is = (record { edges
 no_step : {A : Type 0} {next : ListingValue} → ◌≡◌ {A = Option ListingValue} None (Some next) → A
 no_step h = absurd (cc)
 
--- and one that does something may stand
+-- and one that does something is allowed
 step_stands : (binding : Binding) (row : Row) (c : ListingClass) (es : List EdgeValue) (next : ListingValue) → IsOfKind row c → step binding es c ≡ Some next → may_stand binding row ≡ true
 step_stands binding CommentRow c es next is steps = refl
 step_stands binding BlankRow c es next is steps = refl
@@ -422,14 +422,14 @@ one_step None end h = no_step h
 one_step (Some next) end h = (next, refl)
 
 module _ (classes : List ListingClass) (row : Row) (c : ListingClass) (kind : IsOfKind row c) where
-  -- a listing goes on with a line that may stand
+  -- an edge list continues with a line that is allowed
   stands_begins : BeginsListing classes → may_stand (open_from Closed classes) row ≡ true → BeginsListing (classes ++ c ∷ [])
   stands_begins begun stands =
       let front = begins_runs classes begun in
       let next = kind_steps front.0.binding row c front.0.edges (ap (λ b. may_stand b row) (binding_runs classes Closed [] front.0 front.1) ∙ stands) kind in
       runs_begin (classes ++ c ∷ []) next.0 (run_more classes (c ∷ []) Closed [] front.0 front.1 ∙ ap (option_and_then (λ s. run s.binding s.edges [])) next.1)
 
-  -- and a line may stand with which one goes on
+  -- and a line is allowed with which one continues
   begins_stands : BeginsListing (classes ++ c ∷ []) → may_stand (open_from Closed classes) row ≡ true
   begins_stands begun =
       let whole = begins_runs (classes ++ c ∷ []) begun in
@@ -446,7 +446,7 @@ cause_same h = cc
 no_cause : {A : Type 0} {x : LineCause} → ◌≡◌ {A = Option LineCause} None (Some x) → A
 no_cause h = absurd (cc)
 
--- a row that may not stand is a binding
+-- a row that is not allowed is a binding
 misplaced : (binding : Binding) (text : List ℕ) (comment : Bool) (row : Row) → TextIsOfRow text comment row → may_stand binding row ≡ false → (comment ≡ false) × (lexical_fault text ≡ None)
 misplaced binding text comment CommentRow is h = absurd (let x : true ≡ false = h in cc)
 misplaced binding text comment BlankRow is h = (is.0, is.1)
@@ -454,7 +454,8 @@ misplaced binding text comment (BuildRow t) is h = (is.0, is.1)
 misplaced binding text comment (DyndepRow value) is h = (is.0, is.1)
 misplaced binding text comment (RestatRow flag) is h = (is.0, is.1)
 
--- What a line is after lines of these classes: of a class that may stand, or it has a cause, and that is found.
+-- A line after lines of these classes is of a class that is allowed, or it has a cause, and that is
+-- found.
 pub data LineCases (classes : List ListingClass) (text : List ℕ) (comment : Bool) : Type 0 where
   goes_on : (c : ListingClass) → IsListingLine text comment c → BeginsListing (classes ++ c ∷ []) → text_cause (open_from Closed classes) text comment ≡ None → LineCases classes text comment
   stops_by : (cause : LineCause) → IsTextCause classes text comment cause → text_cause (open_from Closed classes) text comment ≡ Some cause → LineCases classes text comment
@@ -472,7 +473,7 @@ module _ (classes : List ListingClass) (begun : BeginsListing classes) (text : L
   abbrev standing : Row → Bool
   standing row = may_stand (open_from Closed classes) row
 
-  -- the cause that is found of a row, by whether it may stand
+  -- the cause that is found of a row, by whether it is allowed
   cause_of_row : (row : Row) (o : Bool) → TextIsOfRow text comment row → standing row ≡ o → text_cause (open_from Closed classes) text comment ≡ (if o then path_cause (class_of_row row) else Some Form)
   cause_of_row row o is h = ap (row_cause (open_from Closed classes)) (row_found text comment row is) ∙ rw h refl
 
@@ -503,7 +504,7 @@ module _ (classes : List ListingClass) (begun : BeginsListing classes) (text : L
     | stops_by other is found ↦ subst (IsTextCause classes text comment) (cause_same (sym found ∙ h)) is
   ]
 
-  -- and no listing goes on with it
+  -- and no edge list continues with it
   pub cause_stops : (cause : LineCause) (c : ListingClass) → IsTextCause classes text comment cause → IsListingLine text comment c → BeginsListing (classes ++ c ∷ []) → ⊥
   cause_stops cause c is of on =
       let form = subst (IsTextCause classes text comment) (class_has_form classes text comment cause c is of) is in

@@ -1,4 +1,5 @@
--- What is found of a build line is what it says: the walk over its tokens answers just what the whole list of them is.
+-- What is found of a build line is what it says: the walk over its tokens returns what the whole
+-- list of them is.
 use Rattle.std.proofs.Common.{inl, inr, append_assoc, ◌≡◌, ◌≢◌, ℕ, ◌&&◌, Bool, true, false, List, [], ◌∷◌, ◌++◌, map, refl, sym, ap, ◌∙◌, subst, Option, Some, None}
 use Rattle.std.specs.Prelude.{IsTrue, codes, not, if◌then◌else◌}
 use Rattle.std.proofs.lemmas.List.{append-nil}
@@ -14,7 +15,7 @@ use Rattle.build_effect.proofs.ListingLineLemmas.{left_texts, right_are}
 
 -- ---- what is found is there
 
--- the words at the front, as they are spelled
+-- the words at the front, as they are escaped
 abbrev raw_words : List Symbol → List (List ℕ)
 raw_words [] = []
 raw_words (WordSymbol word ∷ more) = word ∷ raw_words more
@@ -35,7 +36,7 @@ some_raw [] h = absurd (let x : true ≡ false = h in cc)
 some_raw (WordSymbol word ∷ more) h = λ e. (let x : word ∷ raw_words more ≡ [] = e in cc)
 some_raw (SignSymbol sign ∷ more) h = absurd (let x : true ≡ false = h in cc)
 
--- the part that a sign begins, or nothing, and its words as they are spelled
+-- the part that a sign begins, or nothing, and its words as they are escaped
 abbrev part_symbols : TokenKind → Option (List Symbol) → List Symbol
 part_symbols sign None = []
 part_symbols sign (Some more) = SignSymbol sign ∷ map WordSymbol (raw_words more)
@@ -125,7 +126,7 @@ right_at outputs implicit_outputs (Some (WordSymbol rule ∷ more)) t h = elim (
   | inr f ↦ absurd (let x : ◌≡◌ {A = Option EdgeTexts} None (Some t) = rw f at h in cc)
 ]
 
--- the words of what is said, as they are spelled
+-- the words of what is said, as they are escaped
 abbrev raw_texts : List Symbol → Option (List Symbol) → List ℕ → List Symbol → EdgeTexts
 raw_texts ss made rule more = record {
   rule = rule;
@@ -183,7 +184,7 @@ edge_holds ss t h =
 
 -- ---- and what is there is found
 
--- No word stands at the front.
+-- No word is at the front.
 record Stops (ss : List Symbol) : Type 0 where
   none : front_words ss ≡ []
   all : past_words ss ≡ ss
@@ -201,7 +202,7 @@ past_is : (words : List (List ℕ)) (rest : List Symbol) → Stops rest → past
 past_is [] rest s = s.all
 past_is (word ∷ words) rest s = past_is words rest s
 
--- and so is a part, where its sign does not follow it
+-- and so is a part, if its sign does not follow it
 module _ (sign : TokenKind) (same : is_sign sign sign ≡ true) (rest : List Symbol) (s : Stops rest) (apart : past_sign sign rest ≡ None) where
   part_is : (part : List Symbol) (words : List (List ℕ)) → IsPart sign part words → part_words (past_sign sign (part ++ rest)) ≡ map value_of words
   part_is part words (inl p) = ap (λ x. part_words (past_sign sign (x ++ rest))) p.0 ∙ ap part_words apart ∙ sym (ap (map value_of) p.1)

@@ -17,7 +17,7 @@ use Rattle.build_effect.proofs.ListingRuns.{one_list_of_edges, begins_runs, run_
 use Rattle.build_effect.proofs.ListingFinds.{one_class, goes_on, stops_by, line_cases, cause_stops, one_text_cause, class_has_form}
 use Rattle.build_effect.proofs.ListingLemmas.{cause_of_text}
 
--- ---- a line has a class with which a listing goes on, or a cause
+-- ---- a line has a class with which an edge list continues, or a cause
 
 -- the cause of a line, by whether it keeps the limit
 cause_parts : (classes : List ListingClass) (line : List ℕ) (cause : LineCause) → IsLineCause classes line cause

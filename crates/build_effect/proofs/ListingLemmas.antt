@@ -1,4 +1,4 @@
--- What the reader of edge listings answers, by the lines that it has read.
+-- What the reader of edge lists returns, by the lines that it has read.
 use Rattle.std.proofs.Common.{inl, inr, ◌≡◌, ℕ, ◌≤◌, List, [], ◌∷◌, ◌++◌, length, refl, sym, ap, ◌∙◌, subst, Some, Ok, Err}
 use Rattle.std.specs.Prelude.{Result}
 use Rattle.std.specs.Option.{option_and_then}
@@ -41,7 +41,7 @@ cause_of_text classes line (causes.BadPath fault) short is = (short, is)
 ran : (classes : List ListingClass) (value : ListingValue) → LeadToEdges classes value → run Closed [] classes ≡ Some value
 ran classes value led = listing_is_run classes value led.0 led.1
 
--- a line that is refused is the first faulty one
+-- a line that is rejected is the first faulty one
 fault_of_line : (bytes : List ℕ) (lent : List LogicalLine) (number : ℕ) (rest : List ℕ) (value : ListingValue) (read : AreReadTo listing_format LeadToEdges lent value) → BeginsWith bytes lent number rest
     → (line after : List ℕ) (seen : LogicalLine) (f : LineFault) → rest ≡ line ++ after → IsLine line → length line ≤ line_limit
     → seen ≡ record (logical_line [] line) { number = number } → f.line ≡ seen.number → text_cause value.binding seen.text seen.comment ≡ Some f.cause → HasFaultyLine bytes f

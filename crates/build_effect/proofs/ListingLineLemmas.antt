@@ -23,7 +23,7 @@ use Rattle.build_effect.specs.ListingLines.{CommentRow, BlankRow, is_rule_name}
 use Rattle.build_effect.specs.inner.ListingWalk.{row_of, binding_row, unindented_row, edge_texts, right_texts, front_words, past_words, past_sign, part_words, past_part}
 use Rattle.build_effect.specs.declared.fault.LineCause.TheVariants.{Lexical}
 
--- where there is a first token, the line is not blank
+-- if there is a first token, the line is not blank
 not_blank : (text : List ℕ) (ts : List TokenAt) (head : SeenToken) (others : List SeenToken) → head ∷ others ≡ map (with_raw text) ts → is_empty ts ≡ false
 not_blank text [] head others h = absurd (let x : head ∷ others ≡ [] = h in cc)
 not_blank text (t ∷ ts) head others h = refl
@@ -36,7 +36,7 @@ comment_row text comment is = rw is refl
 pub faulty_row : (text : List ℕ) (comment : Bool) (fault : LexFault) → comment ≡ false → lexical_fault text ≡ Some fault → row_of text comment ≡ Err (Lexical fault)
 faulty_row text comment fault no_comment is = rw (no_comment, is) refl
 
--- where there is no token, the line is blank
+-- if there is no token, the line is blank
 no_token : (text : List ℕ) (ts : List TokenAt) → [] ≡ map (with_raw text) ts → is_empty ts ≡ true
 no_token text [] h = refl
 no_token text (t ∷ ts) h = absurd (let x : [] ≡ with_raw text t ∷ map (with_raw text) ts = h in cc)
@@ -87,7 +87,7 @@ module _ (text : List ℕ) (comment : Bool) (no_comment : comment ≡ false) (so
       → row_of text comment ≡ unindented_row (if builds then Some (map symbol_of others) else None)
   unindented builds space is = some_row ∙ rw space (ap unindented_row (built text (tokens text) head others all ∙ ap (λ b. if b then Some (map symbol_of others) else None) (sym is)))
 
--- what a build line says, by what stands on the left of the colon
+-- what a build line says, by what is on the left of the colon
 pub left_texts : (symbols s1 s2 : List Symbol) (outputs implicit_outputs : List (List ℕ)) → outputs ≡ front_words symbols → s1 ≡ past_words symbols
     → implicit_outputs ≡ part_words (past_sign Bar s1) → s2 ≡ past_part (past_sign Bar s1) s1 → edge_texts symbols ≡ right_texts outputs implicit_outputs (past_sign Colon s2)
 left_texts symbols s1 s2 outputs implicit_outputs o a i b = rw (o, i, b, a) refl
@@ -105,7 +105,7 @@ words_go_on values new value word all symbols more at is pushed so_far =
     ap (λ vs. vs ++ front_words more) (ap rows pushed ∙ map-append (λ (v : Vec ℕ Global). v.items) values (value ∷ [])) ∙ append_assoc (rows values) (value.items ∷ []) (front_words more)
     ∙ ap (λ w. rows values ++ w ∷ front_words more) is ∙ ap (λ s. rows values ++ front_words s) (sym at) ∙ so_far
 
--- what it says by what stands on the right of the colon
+-- what it says by what is on the right of the colon
 pub right_are : (outputs implicit_outputs inputs implicit_inputs order_only : List (List ℕ)) (rule name : List ℕ) (s0 s1 s2 s3 : List Symbol) → name ≡ rule → inputs ≡ front_words s0
     → s1 ≡ past_words s0 → implicit_inputs ≡ part_words (past_sign Bar s1) → s2 ≡ past_part (past_sign Bar s1) s1 → order_only ≡ part_words (past_sign DoubleBar s2)
     → s3 ≡ past_part (past_sign DoubleBar s2) s2 → (whole : Bool) → whole ≡ not (is_empty outputs) && is_rule_name rule && is_empty s3

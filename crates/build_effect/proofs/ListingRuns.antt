@@ -14,11 +14,11 @@ use Rattle.build_effect.specs.declared.listing.state.Binding.TheVariants.{Closed
 pub value_same : {x y : ListingValue} → ◌≡◌ {A = Option ListingValue} (Some x) (Some y) → x ≡ y
 value_same h = cc
 
--- where a line may not stand, nothing comes of it
+-- a line that is not allowed gives nothing
 never : {end : ListingValue} {A : Type 0} → ◌≡◌ {A = Option ListingValue} None (Some end) → A
 never h = absurd (cc)
 
--- a step either comes to something or does not
+-- a step either gives something or does not
 cases_step : (o : Option ListingValue) → (o ≡ None) ⊎ ((next : ListingValue) × (o ≡ Some next))
 cases_step None = inl refl
 cases_step (Some next) = inr (next, refl)
@@ -42,7 +42,7 @@ record RunsTo (binding : Binding) (start : List EdgeValue) (classes : List Listi
   final : Binding
   is : run binding start classes ≡ Some (record { edges = result; binding = final })
 
--- what may follow where no edge is open may follow where one is
+-- what may follow if no edge is open may follow if one is
 open_runs : (binding : Binding) (classes : List ListingClass) (start result : List EdgeValue) → RunsTo Closed start classes result → RunsTo binding start classes result
 open_runs binding [] start result r =
     let same : start ≡ result = ap (λ s. s.edges) (value_same r.is) in
@@ -104,13 +104,13 @@ one_list_of_edges {classes} {es} {fs} a b =
     let q = listing_runs [] b in
     ap (λ s. s.edges) (value_same (sym r.is ∙ q.is))
 
--- the edges that a run adds, where none is open
+-- the edges that a run adds, if none is open
 record Added (classes : List ListingClass) (start : List EdgeValue) (end : ListingValue) : Type 0 where
   edges : List EdgeValue
   are : end.edges ≡ start ++ edges
   grammar : IsListing classes edges
 
--- the bindings and the edges that a run adds, where one is open with these bindings
+-- the bindings and the edges that a run adds, if one is open with these bindings
 record Bound (classes : List ListingClass) (start : List EdgeValue) (t : EdgeTexts) (dyndep : Option (List ℕ)) (restat : Option Bool) (end : ListingValue) : Type 0 where
   d : Option (List ℕ)
   r : Option Bool
@@ -235,7 +235,7 @@ run_front (c ∷ classes) more binding start end h = elim (cases_step (step bind
   | inr o ↦ let later = run_front classes more o.0.binding o.0.edges end (rw o.1 at h) in (later.0, rw o.1 later.1, later.2)
 ]
 
--- and goes on from there
+-- and continues from there
 pub run_more : (classes more : List ListingClass) (binding : Binding) (start : List EdgeValue) (mid : ListingValue) → run binding start classes ≡ Some mid
     → run binding start (classes ++ more) ≡ run mid.binding mid.edges more
 run_more [] more binding start mid h = ap (λ s. run s.binding s.edges more) (value_same h)

@@ -1,4 +1,4 @@
--- Tables of makers.
+-- Tables of producers.
 use Rattle.std.proofs.Common.{◌≡◌, ℕ, zero, suc, ◌+◌, ◌⊎◌, Bool, true, false, List, [], ◌∷◌, ◌++◌, length, take, Option, Some, refl, ap, subst, sym, ◌∙◌, inl, inr, arith, slice_get, bytes_eq, cond, Bor}
 use Rattle.std.specs.HashMap as hash
 use Rattle.std.specs.HashMap.{HashMap}

@@ -1,4 +1,4 @@
--- Texts that are paths, and the first that is none.
+-- Strings that are paths, and the first that is not.
 use Rattle.std.proofs.Common.{◌≡◌, ℕ, zero, suc, ◌+◌, ◌<◌, List, [], ◌∷◌, ◌++◌, length, map, take, Some, Result, Ok, Err, refl, ap, sym, subst, ◌∙◌, inl, inr, arith, slice_get, length-append}
 use Rattle.std.proofs.lemmas.List.{map-append}
 use Rattle.std.proofs.lemmas.Option.{slice_get_within}
@@ -27,7 +27,7 @@ more_paths texts paths i text path at are ok =
     ap (map path_of) (take_next texts i text at) ∙ map-append path_of (take i texts) (text ∷ []) ∙ ap (λ xs. xs ++ path_of text ∷ []) are ∙ ap (λ x. map (λ p. Ok p) paths ++ x ∷ []) ok
     ∙ sym (map-append {B = Result (List ℕ) PathFault} (λ p. Ok p) paths (path ∷ []))
 
--- the first text that is none
+-- the first string that is not a valid path
 pub first_bad : (texts paths : List (List ℕ)) (i statement_index from : ℕ) (text : List ℕ) (fault : EffectFault) → slice_get texts i ≡ Some text → ArePaths (take i texts) paths → IsBadText text statement_index (from + i) fault → IsBadTextFrom texts statement_index from fault
 first_bad texts paths i statement_index from text fault at are bad =
     (i, text, record { here = at; holds = (bad.0, bad.1); before = λ j y less at_y refused. none_refused (take i texts) paths are j y (in_take i texts j y less at_y) refused }, bad)
@@ -98,7 +98,7 @@ more_statements ss additions i s a at are one =
           ]
         ]
 
--- an element of one of two lists as long stands beside one of the other
+-- an element of one of two lists of one length has one of the other at its index
 beside : {X Y : Type 0} (xs : List X) (ys : List Y) (k : ℕ) (x : X) → length xs ≡ length ys → slice_get xs k ≡ Some x → (y : Y) × (slice_get ys k ≡ Some y)
 beside [] ys k x e at = cc
 beside (z ∷ xs) [] k x e at = absurd (omega arith)

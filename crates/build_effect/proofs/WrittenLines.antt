@@ -153,7 +153,7 @@ no_blank b = elim (cases_Bool (is_escaped b)) [
   | inr f ↦ let p = or_parts (b == 36) _ f in let q = or_parts (b == 32) (b == 58) p.1 in rw f q.0
 ]
 
--- the value begins where the path does
+-- the value begins at the path
 value_place : (path : List ℕ) → path ≢ [] → (after_run is_blank 11 (path_units path)).place ≡ 11
 value_place [] some = absurd (some refl)
 value_place (b ∷ path) some = rw (no_blank b) refl
@@ -178,7 +178,7 @@ module _ (path : List ℕ) (is : IsPath path) where
       option_map (with_bytes (dyndep_text path)) (if begins_with_equals sign.units then Some (record { name_start = 2; name_end = 8; value_start = value.place }) else None)) equals_units
       ∙ ap (λ (n : ℕ). let a : SeenAssignment = record { name_start = 2; name = codes "dyndep"; raw_value = drop n (dyndep_text path) } in Some a) (value_place path (path_writable path is).some)
 
-  -- its symbols, behind the spaces
+  -- its symbols, after the spaces
   abbrev path_symbols : List Symbol
   path_symbols = WordSymbol (escaped path) ∷ []
 

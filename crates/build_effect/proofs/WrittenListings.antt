@@ -157,7 +157,7 @@ both_parts : {X : Type 0} (P : X → Type 0) (xs ys : List X) → AllByRecursion
 both_parts P [] ys each = (tt, each)
 both_parts P (x ∷ xs) ys each = let later = both_parts P xs ys each.1 in ((each.0, later.0), later.1)
 
--- what each element has where it stands
+-- what each element has at its index
 each_of : {X : Type 0} (P : X → Type 0) (xs : List X) → ((i : ℕ) (x : X) → slice_get xs i ≡ Some x → P x) → AllByRecursion P xs
 each_of P [] at = tt
 each_of P (x ∷ xs) at = (at 0 x refl, each_of P xs (λ i y h. at (suc i) y h))

@@ -21,9 +21,9 @@ use Rattle.build_effect.specs.EdgeValue.{EdgeValue}
 use Rattle.build_effect.specs.ListingLines.{EdgeTexts, is_rule_name, IsEdgeLine, meant}
 use Rattle.build_effect.specs.ListingWriting.{marked_text}
 
--- ---- a rule's name is spelled as it is
+-- ---- a rule's name is written as it is
 
--- a byte of a name is none that is not
+-- a byte of a name is not one that has to be escaped
 name_apart : (b c : ℕ) → is_identifier_byte b ≡ true → is_identifier_byte c ≡ false → (b == c) ≡ false
 name_apart b c h none = elim (cases_Bool (b == c)) [
   | inl t ↦ absurd (let x : false ≡ true = sym none ∙ subst (λ n. is_identifier_byte n ≡ true) (eqb-true b c t) h in cc)
@@ -58,7 +58,9 @@ rule_writable (b ∷ rule) h = record { some = λ e. cc; each = All-from_recursi
 
 -- ---- texts put together
 
--- The units of the text are spelled bytes, and its tokens are these symbols; at_word says whether it begins with a word.
+-- The units of the text are escaped bytes, and its tokens are these symbols; at_word says whether
+-- it begins with a
+-- word.
 pub record Spelled (at_word : Bool) (text : List ℕ) (xs : List Symbol) : Type 0 where
   pub sound : list_all is_sound (units text) ≡ true
   pub text_is : text_of_units (units text) ≡ text
@@ -68,7 +70,7 @@ pub record Spelled (at_word : Bool) (text : List ℕ) (xs : List Symbol) : Type 
 pub spelled_none : Spelled false [] []
 spelled_none = record { sound = refl; text_is = refl; begins = refl; yields = no_units symbol }
 
--- the units of two texts, one behind another
+-- the units of two texts, one after another
 pub units_both : (front text : List ℕ) → list_all is_sound (units front) ≡ true → text_of_units (units front) ≡ front → units (front ++ text) ≡ units front ++ units text
 units_both front text sound is = ap (λ t. units (t ++ text)) (sym is) ∙ units_read (units front) text sound
 
@@ -106,7 +108,7 @@ spelled_double_bar text xs later =
     (sym (ap length (flat_map-append unit_text front bars) ∙ length-append (text_of_units front) (text_of_units bars)))
     ∙ later.yields (front ++ bars)))
 
--- the units of a path as it is spelled
+-- the units of the escaped form of a path
 pub escaped_units : (path : List ℕ) → IsWritable path → units (escaped path) ≡ path_units path
 escaped_units path writable = ap units (sym (path_text path)) ∙ units_are (path_units path) (path_sound path (has_spelling path writable))
 
@@ -173,7 +175,7 @@ part_is sign (path ∷ paths) = inr refl
 same_cons : {x y : List ℕ} {xs ys : List (List ℕ)} → x ≡ y → xs ≡ ys → x ∷ xs ≡ y ∷ ys
 same_cons p q = rw (p, q) refl
 
--- what paths are spelled by stands for them
+-- the escaped forms of paths mean the paths
 paths_meant : (paths : List (List ℕ)) → AllByRecursion IsWritable paths → map value_of (map escaped paths) ≡ paths
 paths_meant [] writable = refl
 paths_meant (path ∷ paths) writable = same_cons (value_of_escaped path writable.0) (paths_meant paths writable.1)
@@ -195,7 +197,7 @@ texts_of e = record {
   order_only = e.order_only;
 }
 
--- Its rule may be called so, it has an output, and its paths have spellings.
+-- Its rule may be called so, it has an output, and its paths have escaped forms.
 pub record HasLine (e : EdgeValue) : Type 0 where
   pub rule : IsTrue (is_rule_name e.rule)
   pub some : is_empty e.outputs ≡ false
@@ -221,11 +223,11 @@ colon_symbols e = SignSymbol Colon ∷ WordSymbol e.rule ∷ input_symbols e
 abbrev implicit_output_symbols : EdgeValue → List Symbol
 implicit_output_symbols e = part_symbols Bar e.implicit_outputs ++ colon_symbols e
 
--- all of them behind the keyword
+-- all of them after the keyword
 abbrev pub edge_symbols : EdgeValue → List Symbol
 edge_symbols e = words e.outputs ++ implicit_output_symbols e
 
--- the line without its end, from the rule on, behind the keyword, and whole
+-- the line without its end, from the rule on, after the keyword, and whole
 abbrev behind_colon : EdgeValue → List ℕ
 behind_colon e = e.rule ++ (flat_map spaced e.inputs ++ (marked_text (codes " |") e.implicit_inputs ++ marked_text (codes " ||") e.order_only))
 
@@ -265,7 +267,7 @@ module _ (e : EdgeValue) (has : HasLine e) where
   pub line_written : Spelled true (line_text e) (WordSymbol (codes "build") ∷ edge_symbols e)
   line_written = spelled_name (codes "build") (behind_keyword e) (edge_symbols e) refl behind_written
 
-  -- its words as they are spelled, which stand for what the edge has
+  -- its words as they are escaped, which mean what the edge has
   abbrev pub words_of : EdgeTexts
   words_of = record {
     rule = e.rule;

@@ -1,4 +1,4 @@
--- The faults of a list of edges, and those of statements on a graph.
+-- The faults of a list of edges, and the faults of statements on a graph.
 use Rattle.std.specs.Prelude.{◌≡◌, ◌⊎◌, ℕ, ◌<◌, List, ◌∷◌, ◌++◌, slice_get, Some, Err}
 use Rattle.std.specs.List.{flat_map}
 use Rattle.ninja_text.specs.Bytes.{Text, PathText}
@@ -22,7 +22,7 @@ made_files g = flat_map made_by g
 abbrev pub StandsBefore : List PathText → ℕ → PathText → Type 0
 StandsBefore files k file = (j : ℕ) × (j < k) × (slice_get files j ≡ Some file)
 
--- the edge names a dyndep file that is none of its inputs
+-- the edge names a dyndep file that is not among its inputs
 abbrev pub NamesUnread : EdgeValue → Type 0
 NamesUnread e = (file : PathText) × Names file e × (HasInput e file → ⊥)
 
@@ -32,7 +32,7 @@ abbrev pub IsGraphFault : List EdgeValue → GraphFault → Type 0
 -- the first file that is made a second time
 IsGraphFault g (ProducedTwice file) =
     (k : ℕ) × IsFirstAt (StandsBefore (made_files g)) (made_files g) k file
--- the first edge that names a dyndep file which is none of its inputs, with its first output
+-- the first edge that names a dyndep file which is not among its inputs, with its first output
 IsGraphFault g (DyndepNotInput i output) =
     (e : EdgeValue) × MadeOnce g × IsFirst NamesUnread g i e
     × (slice_get e.outputs 0 ≡ Some output)

@@ -23,7 +23,7 @@ HasInput e file = (j : ℕ) × (slice_get (inputs_of e) j ≡ Some file)
 abbrev pub Names : PathText → EdgeValue → Type 0
 Names file e = e.dyndep ≡ Some file
 
--- edge i makes the file, which has index j among those that it makes
+-- edge i produces the file, which has index j among the files that it produces
 abbrev pub MakesAt : List EdgeValue → ℕ → ℕ → PathText → Type 0
 MakesAt g i j file =
     (e : EdgeValue) × (slice_get g i ≡ Some e) × (slice_get (made_by e) j ≡ Some file)

@@ -1,16 +1,16 @@
--- The form of an edge listing, over the classes of its lines:
+-- The form of an edge list, over the classes of its lines:
 --
 --     listing = ((Comment | Blank)* Build (Comment | Dyndep | Restat)*)* (Comment | Blank)*
 --
--- where the lines after a build line, up to the next that is blank or builds, bind each name at
+-- and the lines after a build line, up to the next that is blank or builds, bind each name at
 -- most once.
 use Rattle.std.specs.Prelude.{Bool, false, List, [], ◌∷◌, ◌++◌, Option, None, Some}
 use Rattle.ninja_text.specs.Bytes.{PathText}
 use Rattle.build_effect.specs.EdgeValue.{EdgeValue}
 use Rattle.build_effect.specs.ListingLines.{EdgeTexts, ListingClass, Comment, Blank, Build, Dyndep, Restat}
 
--- The lines begin with comments and at most one binding of each name, which set these, and go on
--- with other lines.
+-- The lines begin with comments and at most one binding of each name, which set these, and
+-- continue with other lines.
 pub data HasBindings : List ListingClass → Option PathText → Option Bool → List ListingClass
     → Type 0 where
   no_more_bindings : {more : List ListingClass} → HasBindings more None None more
@@ -24,7 +24,7 @@ pub data HasBindings : List ListingClass → Option PathText → Option Bool →
       → HasBindings classes dyndep None more
       → HasBindings (Restat flag ∷ classes) dyndep (Some flag) more
 
--- whether `restat` is on: it is off where there is no binding
+-- whether `restat` is on: it is off if there is no binding
 abbrev pub is_on : Option Bool → Bool
 is_on None = false
 is_on (Some flag) = flag

@@ -28,8 +28,8 @@ is_rule_name name = not (is_empty name) && list_all is_identifier_byte name
 --
 --     build outputs | implicit outputs : rule inputs | implicit inputs || order-only inputs
 --
--- and there is an output. A `|` or `||` may be missing, and then its words are too. The words are
--- given as they are spelled.
+-- and there is an output. A `|` or `||` may be missing, and then so are its words. The words are
+-- escaped, as in the line.
 abbrev pub IsEdgeLine : List Symbol → EdgeTexts → Type 0
 IsEdgeLine symbols words =
     (made needed waited_for : List Symbol) × IsPart Bar made words.implicit_outputs
@@ -62,10 +62,10 @@ pub data Row : Type 0 where
   DyndepRow : Text → Row
   RestatRow : Bool → Row
 
--- A line is of this row, by its text without the end, and by whether it is a comment: one holds any
--- bytes, every other line has no lexical fault. A blank line has no token. A build line begins at
--- its first byte, and its texts are the values of its words. A binding is indented, and `restat` is
--- on where the value is not empty.
+-- A line is of this row, by its text without the end, and by whether it is a comment: a comment has
+-- any bytes, every other line has no lexical fault. A blank line has no token. A build line begins
+-- at its first byte, and its texts are the values of its words. A binding is indented, and `restat`
+-- is on if the value is not empty.
 abbrev pub TextIsOfRow : Text → Bool → Row → Type 0
 TextIsOfRow text comment CommentRow = comment ≡ true
 TextIsOfRow text comment BlankRow =

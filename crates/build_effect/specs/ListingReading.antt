@@ -77,15 +77,15 @@ OneClass =
     (text : Text) (comment : Bool) (c d : ListingClass)
     → IsListingLine text comment c → IsListingLine text comment d → d ≡ c
 
--- Law: after lines that some listing begins with, a line is of a class with which some listing
--- goes on, or it has a cause.
+-- Law: after lines that some edge list begins with, a line is of a class with which some edge
+-- list continues, or it has a cause.
 abbrev pub LineOrCause : Type 0
 LineOrCause =
     (classes : List ListingClass) (line : Text) → BeginsListing classes
     → ((c : ListingClass) × IsOfClass listing_format line c × BeginsListing (classes ++ c ∷ []))
     ⊎ ((cause : LineCause) × IsLineCause classes line cause)
 
--- Law: there, a line that has a cause is of no class with which a listing goes on.
+-- Law: there, a line that has a cause is of no class with which an edge list continues.
 abbrev pub CauseIsFaulty : Type 0
 CauseIsFaulty =
     (classes : List ListingClass) (line : Text) (cause : LineCause) → BeginsListing classes

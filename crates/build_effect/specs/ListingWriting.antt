@@ -79,7 +79,7 @@ LeavesListingWriter contents old new text (Fault (Io written)) =
     IsCutShort contents old new text written
 
 -- which calls of the writer were made: on success some that took all of the text; before the first
--- byte none, and up to an `Io` those that took some bytes, and the one that failed
+-- byte none, and up to an `Io` some calls took bytes, and one failed
 abbrev pub WritesListingInTurn : {W T : Type 0} → Call W → W → W → Text
     → Result T (Failure ListingWriteFault) → Type 0
 WritesListingInTurn writes old new text (Ok done) = IsTakenInTurn writes old new text (length text)

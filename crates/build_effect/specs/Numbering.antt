@@ -25,9 +25,9 @@ pub record HasOutputsOnly (files : List NamedFile) (old new : List EdgeValue) : 
       ((n : ℕ) (f : NamedFile) → slice_get files n ≡ Some f → e.dyndep ≢ Some f.name) →
       slice_get new i ≡ Some e
 
--- Of the graph g, whose edges name the files, and h, which is g with the outputs alone that the
--- files add: the edges of each file have one number, those of a later file none that is smaller,
--- and what an edge of h needs has a smaller one.
+-- The graph g has edges that name the files, and h is g with only the outputs that the files add:
+-- the edges of each file have one number, the edges of a later file have none that is smaller, and
+-- what an edge of h needs has a smaller one.
 pub record IsRisingNumbering (files : List NamedFile) (g h : List EdgeValue) (ranks : Numbers)
     : Type 0 where
   pub each : length ranks ≡ length h

@@ -162,7 +162,7 @@ project_is = record {
   is = refl;
 }
 
--- ---- the first argument behind the program's name, and those behind it
+-- ---- the first argument after the program's name, and those after it
 
 abbrev Parsed : Text → List Text → Type 0
 Parsed word rest = task_found (answered (built program) (word ∷ rest)) ≡ task_in (word ∷ rest)
@@ -205,7 +205,7 @@ either {P = P} word name same differs = go (bytes_eq word name) refl (bytes_eq n
     go false e true f = same (sym ((bytes_eq-Decides name word).0 f))
     go false e false f = differs (e, f)
 
--- the arguments behind the program's name
+-- the arguments after the program's name
 pub parsed : (words : List Text) → All IsUtf8 words →
     task_found (answered (built program) words) ≡ task_in words
 unfolding clap_on_literals

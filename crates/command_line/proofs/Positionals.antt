@@ -28,7 +28,7 @@ pub record HasSingles (c : List Rule) : Type 0 where
 abbrev pub held : List Row → Option (Text × List Text) → Held
 held rows pending = record { rows = rows; pending = pending; skip = 0 }
 
--- between two words, before or behind `--`
+-- between two words, before or after `--`
 abbrev pub at : List Row → Option (Text × List Text) → ℕ → Bool → Walk
 at rows pending position behind = record {
   held = held rows pending;
@@ -50,7 +50,7 @@ abbrev end_fault : Shape → Held → Kinds
 end_fault s h = or_else (settle_fault s.rules s.args_override_self h)
     (or_else (defaults_fault (settled s.rules h).rows s.rules) (check_fault s (finished s.rules h) false))
 
--- what is held behind these words
+-- what is held after these words
 abbrev after : Shape → Walk → List Text → Held
 after s w words = (fold (walked s.rules []) w words).held
 
@@ -71,7 +71,7 @@ next_word s w word rest = go (turn_fault s [] w word) (walked s.rules [] w word)
     go [] then = refl
     go (k ∷ ks) then = refl
 
--- some character stands first
+-- some character is first
 some_char : (b : ℕ) (bs : List ℕ) → IsUtf8 (45 ∷ b ∷ bs) →
     (x : ℕ) × (slice_get (chars (b ∷ bs)) 0 ≡ Some x)
 unfolding chars
@@ -123,7 +123,7 @@ no_flag (a ∷ []) is = go (a == 45) refl
 no_flag (a ∷ b ∷ rest) is = (rw is refl, rw is refl)
 
 module _ (s : Shape) (rows : List Row) (pending : Option (Text × List Text)) (position : ℕ) where
-  -- before or behind `--`
+  -- before or after `--`
   abbrev here : Bool → Walk
   here behind = at rows pending position behind
 
@@ -131,7 +131,7 @@ module _ (s : Shape) (rows : List Row) (pending : Option (Text × List Text)) (p
   abbrev pub put_fault : Kinds
   put_fault = step_fault s position (held rows pending) value
 
-  -- behind a word that went to this one
+  -- after a word that went to this one
   abbrev pub behind_it : Rule → Text → Bool → Walk
   behind_it a word behind =
       at (settled_rows s.rules pending rows) (Some (a.id, word ∷ [])) (next_position a position) behind
@@ -156,7 +156,7 @@ module _ (s : Shape) (rows : List Row) (pending : Option (Text × List Text)) (p
       go true = refl
       go false = refl
 
-  -- it is the pending value, and the walk goes on at the next positional
+  -- it is the pending value, and the walk continues at the next positional
   held_put : (a : Rule) (word : Text) → takes_several a ≡ false →
       positional_held s.rules a word (held rows pending)
       ≡ held (settled_rows s.rules pending rows) (Some (a.id, word ∷ []))
@@ -176,7 +176,7 @@ module _ (s : Shape) (rows : List Row) (pending : Option (Text × List Text)) (p
   put a false word singles found =
       let facts = singles.single position a found in rw found (rw (held_put a word facts.1, facts.0, facts.2) refl)
 
-  -- a word that is an operand, before or behind `--`
+  -- a word that is an operand, before or after `--`
   one_word : (a : Rule) (behind : Bool) (word : Text) (rest : List Text) → HasSingles s.rules →
       arg_by_index s.rules position ≡ Some a → IsPlain behind word →
       read s (here behind) (word ∷ rest) ≡ go_on put_fault (read s (behind_it a word behind) rest)
@@ -222,7 +222,7 @@ stops : (t : Kinds) → go_on t None ≡ None
 stops [] = refl
 stops (k ∷ ks) = refl
 
--- the words are read as their operands are behind `--`
+-- the words are read as their operands are after `--`
 abbrev ReadsAs : Shape → List Row → Option (Text × List Text) → ℕ → List Text → Option (List (List ℕ)) → Type 0
 ReadsAs s rows pending position words given =
     read s (at rows pending position false) words

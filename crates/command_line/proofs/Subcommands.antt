@@ -1,4 +1,4 @@
--- What a parse makes of a command's name and the words behind it.
+-- What a parse makes of a command's name and the words after it.
 use Rattle.std.proofs.Common.{◌≡◌, ◌∙◌, Bool, true, false, List, [], ◌∷◌, Option, Some, None, refl, ap, ap₂, sym, is_some}
 use Rattle.std.specs.Prelude.{option_map, codes, fold, find}
 use Rattle.std.specs.Str.{bytes_eq, IsUtf8}
@@ -41,7 +41,7 @@ leaf_alone leaf rest = go (level_fault leaf [] nothing_held rest false [])
     go (k ∷ ks) = refl
 
 module _ (subs : List Shape) where
-  -- by the faults on the way and where the walk ends
+  -- by the faults on the way and the end of the walk
   abbrev whole : Kinds → Walk → Option (Text × List Row)
   whole faults w = pick (or_else faults (or_else (entered_fault (app subs) w.stopped)
       (or_else (settle_fault [] false w.held)
@@ -49,7 +49,7 @@ module _ (subs : List Shape) where
       (check_fault above (finished [] w.held) (is_some (entered (app subs) w.stopped)))))))
       (entered (app subs) w.stopped)
 
-  -- the name of a command, which reads the words behind it
+  -- the name of a command, which reads the words after it
   pub hit : (leaf : Shape) (rest : List Text) →
       subcommand_met (names_of (app subs)) idle leaf.name ≡ Some leaf.name →
       bytes_eq leaf.name (codes "help") ≡ false →

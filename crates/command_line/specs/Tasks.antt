@@ -37,8 +37,8 @@ abbrev pub is_flag : Argument → Bool
 is_flag (first ∷ _ ∷ _) = first == dash
 is_flag _ = false
 
--- The operands among the arguments behind a command, unless one of them is a flag. The first `--`
--- is dropped, and every argument behind it is an operand.
+-- The operands among the arguments after a command, unless one of them is a flag. The first `--`
+-- is dropped, and every argument after it is an operand.
 abbrev pub operands : List Argument → Option (List Argument)
 operands [] = Some []
 operands (argument ∷ arguments) =

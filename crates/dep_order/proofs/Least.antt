@@ -1,4 +1,4 @@
--- Where there is a cycle there is a least one, with no more things than there are.
+-- If there is a cycle there is a least one, with no more things than there are.
 use Rattle.std.proofs.Common.{◌≡◌, ℕ, zero, suc, ◌<◌, ◌≤◌, ◌⊎◌, false, List, [], ◌∷◌, ◌++◌, length, eqb, refl, sym, ◌∙◌, ap, subst, inl, inr, ⊎_elim, arith, length-append}
 use Rattle.std.specs.Ordering.{nat_cmp, ordering_then}
 use Rattle.std.specs.declared.cmp.Ordering.TheVariants.{Less, Equal, Greater}

@@ -1,4 +1,5 @@
--- Where each thing that is left needs another that is left: there is no numbering, and there is a cycle.
+-- If each thing that is left needs another that is left: there is no numbering, and there is a
+-- cycle.
 use Rattle.std.proofs.Common.{◌≡◌, ℕ, ◌<◌, List, [], ◌∷◌, ◌++◌, length, slice_index, eqb, refl, subst, inl, inr, ◌⊎◌, ⊎_elim, arith, zero, suc}
 use Rattle.std.specs.List.{All, IsDistinct}
 use Rattle.std.proofs.lemmas.Bool.{false_from_ne_true}

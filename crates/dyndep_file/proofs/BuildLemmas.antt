@@ -66,7 +66,7 @@ record Divided (symbols : List Symbol) : Type 0 where
   pub is_before : IsPart Bar before (words_before_colon symbols)
   pub rule : rule_fault (after_colon symbols) ≡ None
 
--- implicit outputs without fault are words, and behind them `:` and the rest
+-- implicit outputs without fault are words, and after them `:` and the rest
 outputs_are : (symbols : List Symbol) → implicit_outputs_fault symbols ≡ None
     → (symbols ≡ map WordSymbol (words_before_colon symbols) ++ SignSymbol Colon ∷ after_colon symbols) × (rule_fault (after_colon symbols) ≡ None)
 outputs_are [] h = faulty h

@@ -96,7 +96,7 @@ words_before : (words : List (List ℕ)) (more : List Symbol) → words_before_c
 words_before [] more = refl
 words_before (w ∷ words) more = ap (λ l. w ∷ l) (words_before words more)
 
--- and behind the `:` comes the rest
+-- and after the `:` comes the rest
 rest_after : (words : List (List ℕ)) (more : List Symbol) → after_colon (map WordSymbol words ++ SignSymbol Colon ∷ more) ≡ more
 rest_after [] more = refl
 rest_after (w ∷ words) more = rest_after words more
@@ -111,7 +111,7 @@ part_before : (part : List Symbol) (words : List (List ℕ)) (more : List Symbol
 part_before part words more (inl h) = ap (λ p. words_before_colon (p ++ SignSymbol Colon ∷ more)) h.0 ∙ sym h.1
 part_before part words more (inr h) = ap (λ p. words_before_colon (p ++ SignSymbol Colon ∷ more)) h ∙ words_before words more
 
--- what comes behind the `:` after a part
+-- what comes after the `:` after a part
 part_after : (part : List Symbol) (words : List (List ℕ)) (more : List Symbol) → IsPart Bar part words → after_colon (part ++ SignSymbol Colon ∷ more) ≡ more
 part_after part words more (inl h) = ap (λ p. after_colon (p ++ SignSymbol Colon ∷ more)) h.0
 part_after part words more (inr h) = ap (λ p. after_colon (p ++ SignSymbol Colon ∷ more)) h ∙ rest_after words more
@@ -157,7 +157,7 @@ class_one text comment (Binding flag) (Binding other) p q =
     ap Binding (p.6 ∙ ap (λ (v : List ℕ). nat_lt 0 (length v)) value ∙ sym q.6)
 class_one text comment c d p q = absurd (let e : class_index c ≡ class_index d = sym (index_of_class text comment c p) ∙ index_of_class text comment d q in omega arith)
 
--- a class that a text is of, and that may stand at a stage
+-- a class that a text is of, and that is allowed at a stage
 pub record CanStand (stage : Stage) (ss : List StatementValue) (text : List ℕ) (comment : Bool) : Type 0 where
   pub class : DyndepClass
   pub is : IsDyndepLine text comment class
@@ -169,13 +169,13 @@ passes : (stage : Stage) (ss : List StatementValue) (text : List ℕ) (comment :
     → ((next : ProgressValue) × (step stage ss c ≡ Some next)) → CanStand stage ss text comment
 passes stage ss text comment c is s = record { class = c; is = is; next = s.0; steps = s.1 }
 
--- a comment may stand at each stage
+-- a comment is allowed at each stage
 comment_steps : (stage : Stage) (ss : List StatementValue) → (next : ProgressValue) × (step stage ss Comment ≡ Some next)
 comment_steps BeforeVersion ss = (_, refl)
 comment_steps NoneOpen ss = (_, refl)
 comment_steps Open ss = (_, refl)
 
--- a blank line may stand at each stage
+-- a blank line is allowed at each stage
 blank_steps : (stage : Stage) (ss : List StatementValue) → (next : ProgressValue) × (step stage ss Blank ≡ Some next)
 blank_steps BeforeVersion ss = (_, refl)
 blank_steps NoneOpen ss = (_, refl)
@@ -252,7 +252,8 @@ module _ (ss : List StatementValue) (text : List ℕ) (sound : lexical_fault tex
       )
       (steps (value_of p.output) (map value_of (words_before_colon p.more)) (map value_of (words_before_colon p.after)))
 
-  -- a text that is neither indented nor a version line, and has no fault, is a build line that may stand
+  -- a text that is neither indented nor a version line, and has no fault, is a build line that is
+  -- allowed
   build_or_not : (stage : Stage) (build : Option (List Symbol)) → after_build (begins_at_start (tokens text)) (symbols text) ≡ build → build_or_other_fault stage build ≡ None
       → CanStand stage ss text false
   build_or_not stage None e h = faulty h
@@ -260,7 +261,8 @@ module _ (ss : List StatementValue) (text : List ℕ) (sound : lexical_fault tex
   build_or_not NoneOpen (Some more) e h = built NoneOpen more e (λ o os ins. (_, refl)) h
   build_or_not Open (Some more) e h = built Open more e (λ o os ins. (_, refl)) h
 
-  -- a text that is not indented, and has no fault, is a version line or a build line that may stand
+  -- a text that is not indented, and has no fault, is a version line or a build line that is
+  -- allowed
   unindented : (stage : Stage) (v : Option (ℕ × List ℕ)) → value_assigned (codes "ninja_dyndep_version") (assignment_of text) ≡ v
       → unindented_fault stage v (after_build (begins_at_start (tokens text)) (symbols text)) ≡ None → CanStand stage ss text false
   unindented stage None e h = build_or_not stage _ refl h
@@ -271,7 +273,7 @@ module _ (ss : List StatementValue) (text : List ℕ) (sound : lexical_fault tex
         version stage p.1 (a.0, a.1, a.2 ∙ eqb-true p.0 0 t, a.3, a.4) (rw t at h)
   ]
 
-  -- a text without any fault is blank, a binding, a version line or a build line that may stand
+  -- a text without any fault is blank, a binding, a version line or a build line that is allowed
   sound_text : (stage : Stage) → text_fault stage text ≡ None → CanStand stage ss text false
   sound_text stage h = elim (cases_Bool (is_empty (tokens text))) [
     | inl t ↦ passes stage ss text false Blank (refl, sound, no_tokens (tokens text) t) (blank_steps stage ss)
@@ -281,7 +283,7 @@ module _ (ss : List StatementValue) (text : List ℕ) (sound : lexical_fault tex
     ]
   ]
 
--- a line's text without fault is of a class that may stand there
+-- a line's text without fault is of a class that is allowed there
 pub can_stand : (stage : Stage) (ss : List StatementValue) (text : List ℕ) (comment : Bool) → text_line_fault stage text comment ≡ None → CanStand stage ss text comment
 can_stand stage ss text true h = passes stage ss text true Comment refl (comment_steps stage ss)
 can_stand stage ss text false h = lexed (lexical_fault text) refl h where

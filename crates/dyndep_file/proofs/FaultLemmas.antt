@@ -28,7 +28,7 @@ use Rattle.dyndep_file.proofs.TableLemmas.{no_fault}
 use Rattle.dyndep_file.proofs.Runs.{runs_begin, begins_runs, run_more, run_is_file, stage_runs}
 use Rattle.dyndep_file.proofs.EndLemmas.{no_version}
 
--- no dyndep file goes on with a line that has a fault
+-- no dyndep file continues with a line that has a fault
 pub faulty_after : (classes : List DyndepClass) (line : List ℕ) (progress : ProgressValue) (f : LineFault) → run BeforeVersion [] classes ≡ Some progress
     → text_line_fault progress.stage (text_of_line line) (is_comment line) ≡ Some f → IsFaultyAfter dyndep_format classes line
 faulty_after classes line progress f ran fault c is begun =

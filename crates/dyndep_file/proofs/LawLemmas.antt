@@ -40,7 +40,8 @@ fault_cases : (o : Option LineFault) → (o ≡ None) ⊎ ((fault : LineFault) �
 fault_cases None = inl refl
 fault_cases (Some fault) = inr (fault, refl)
 
--- a line is of a class with which a dyndep file goes on, or it has a fault, and none goes on with it
+-- a line is of a class with which a dyndep file continues, or it has a fault, and none continues
+-- with it
 line_decided : (classes : List DyndepClass) (line : List ℕ) → Begins dyndep_format classes
     → ((c : DyndepClass) × IsOfClass dyndep_format line c × Begins dyndep_format (classes ++ c ∷ []))
     ⊎ ((fault : LineFault) × (line_fault (stage_after classes) line ≡ Some fault) × IsFaultyAfter dyndep_format classes line)
@@ -79,7 +80,7 @@ end_decided classes (b ∷ rest) begun = elim (cases_lt (length (b ∷ rest)) li
   | inr le ↦ inr (LineTooLong, le)
 ]
 
--- equal answers are of equal faults
+-- equal results are of equal faults
 fault_same : {f g : LineFault} → ◌≡◌ {A = Option LineFault} (Some f) (Some g) → f ≡ g
 fault_same h = cc
 

@@ -1,4 +1,4 @@
--- What reading the parts of a build line, one after another, comes to.
+-- What reading the parts of a build line, one after another, gives.
 use Rattle.std.proofs.Common.{inr, ◌≡◌, ℕ, List, [], ◌∷◌, ◌++◌, map, false, Vec, Global, Ok, Err, refl, sym, ap, ◌∙◌, subst, append_assoc}
 use Rattle.std.specs.Prelude.{Option, Result, codes}
 use Rattle.std.specs.Result.{IsErrAnd}
@@ -19,7 +19,7 @@ use Rattle.dyndep_file.specs.inner.Paths.{texts}
 use Rattle.dyndep_file.specs.declared.fault.LineFault.{LineFault}
 use Rattle.dyndep_file.proofs.TableLemmas.{inputs_pass, outputs_pass, after_output_passes}
 
--- one more word behind words that were read
+-- one more word after words that were read
 pub takes_more : (old : List Symbol) (values : List (List ℕ)) (word value : List ℕ) (new : List Symbol)
     → TakesWords old values (WordSymbol word ∷ new) → value ≡ value_of word → TakesWords old (values ++ value ∷ []) new
 takes_more old values word value new t is = record {
@@ -75,7 +75,7 @@ pub next_is : (words new : Words) (token : Token) (kind : TokenKind) → tokens_
     → symbols_left words ≡ symbol kind token.raw.now ∷ symbols_left new
 next_is words new token kind steps is = ap (map symbol_of) steps ∙ ap (λ k. symbol k token.raw.now ∷ symbols_left new) (sym is)
 
--- one more word's value behind those of the words before it
+-- one more word's value after those of the words before it
 pub takes_next : (all : List Symbol) (values new_values : List (Vec ℕ Global)) (value : Vec ℕ Global) (words new : Words) (token : Token)
     → TakesWords all (texts values) (symbols_left words) → tokens_left words ≡ seen_token token ∷ tokens_left new → Word ≡ token.kind
     → value.items ≡ value_of token.raw.now → new_values ≡ values ++ value ∷ [] → TakesWords all (texts new_values) (symbols_left new)
@@ -85,7 +85,7 @@ takes_next all values new_values value words new token taken steps is_word is pu
     (takes_more all (texts values) token.raw.now value.items (symbols_left new)
     (subst (TakesWords all (texts values)) (next_is words new token Word steps is_word) taken) is)
 
--- the fault behind words among the implicit outputs is that of all
+-- the fault after words among the implicit outputs is that of all
 pub fault_in_outputs : (all : List Symbol) (values : List (List ℕ)) (left : List Symbol) → TakesWords all values left → implicit_outputs_fault all ≡ implicit_outputs_fault left
 fault_in_outputs all values left taken = ap implicit_outputs_fault taken.are ∙ outputs_pass taken.words left
 
@@ -99,7 +99,7 @@ pub refuses : {T : Type 0} (fault other : Option LineFault) (is : T → Type 0) 
 refuses fault other is failure (Ok value) e same h = absurd e
 refuses fault other is failure (Err reason) e same h = subst (IsFailureOf other) (sym e) (subst (λ f. IsFailureOf f failure) same h)
 
--- `|`, the words behind it and a `:` are a part of implicit outputs and that `:`
+-- `|`, the words after it and a `:` are a part of implicit outputs and that `:`
 pub takes_bar : (old between new : List Symbol) (result : Result (Vec (Vec ℕ Global) Global) (Failure LineFault)) → old ≡ SignSymbol Bar ∷ between
     → TakesOr (implicit_outputs_fault between) (λ outputs. TakesWords between (texts outputs.items) (SignSymbol Colon ∷ new)) result
     → TakesOr (after_output_fault old) (λ outputs. TakesOutputs old (texts outputs.items) new) result
@@ -112,7 +112,7 @@ takes_bar old between new (Ok outputs) e t = record {
 }
 takes_bar old between new (Err failure) e t = subst (λ f. IsFailureOf f failure) (sym (ap after_output_fault e)) t
 
--- `|` and the words behind it are a part of implicit inputs
+-- `|` and the words after it are a part of implicit inputs
 pub takes_rest : (old between : List Symbol) (result : Result (Vec (Vec ℕ Global) Global) (Failure LineFault)) → old ≡ SignSymbol Bar ∷ between
     → TakesOr (implicit_inputs_fault between) (λ inputs. TakesWords between (texts inputs.items) []) result
     → TakesOr (after_rule_fault old) (λ inputs. TakesInputs old (texts inputs.items)) result

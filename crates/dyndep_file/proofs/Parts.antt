@@ -28,7 +28,7 @@ flat_map_next_path f paths i other lt =
     let path = (get_or paths i other).now in
     flat_map_next f (lent_texts paths) i path (subst (λ n. i < n) (sym (same_length paths)) lt) (text_at paths i other path lt)
 
--- a path that is written behind what stands there
+-- a path that is written after what is there
 pub written_next : (start front text path : List ℕ) (byte : ℕ) → ((start ++ (front ++ text)) ++ byte ∷ []) ++ path ≡ start ++ (front ++ (text ++ byte ∷ path))
 written_next start front text path byte =
     append_assoc (start ++ (front ++ text)) (byte ∷ []) path

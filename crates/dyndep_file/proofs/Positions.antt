@@ -1,4 +1,4 @@
--- Where the first element that passes a test stands, in a list and in lists behind one another.
+-- Where the first element that passes a test is, in a list and in lists after one another.
 use Rattle.std.proofs.Common.{◌≡◌, ℕ, ◌+◌, ◌<◌, Bool, true, false, cond, List, [], ◌∷◌, ◌++◌, length, map, get_or, Option, Some, None, option_map, refl, ap, sym, ◌∙◌, arith, add_assoc}
 use Rattle.std.specs.Prelude.{position, nat_lt}
 use Rattle.std.specs.List.{position_from}
@@ -37,7 +37,7 @@ joined p i n (x ∷ xs) ys e =
       | false ↦ joined p (i + 1) n xs ys (omega (arith, e))
     ]
 
--- the first index in a list behind an element that does not pass
+-- the first index in a list after an element that does not pass
 pub position-cons : {X : Type 0} (p : X → Bool) (x : X) (xs : List X) → p x ≡ false → position p (x ∷ xs) ≡ option_map (λ k. 1 + k) (position p xs)
 position-cons p x xs h =
     position_from-zero p (x ∷ xs)
@@ -54,7 +54,7 @@ position-append p xs ys =
     ∙ ap (λ o. option_or o (option_map (λ k. length xs + k) (position_from p 0 ys))) (sym (position_from-zero p xs))
     ∙ ap (λ o. option_or (position p xs) (option_map (λ k. length xs + k) o)) (sym (position_from-zero p ys))
 
--- ---- behind an element that does not pass, in the first or in the second of two lists
+-- ---- after an element that does not pass, in the first or in the second of two lists
 
 -- the index is in the first list
 pub in_first : {X : Type 0} (p : X → Bool) (x : X) (xs ys : List X) (index : ℕ) → p x ≡ false → position p xs ≡ Some index → Some (1 + index) ≡ position p (x ∷ (xs ++ ys))

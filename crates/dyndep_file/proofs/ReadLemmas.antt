@@ -80,13 +80,13 @@ no_call remaining reads old reader h = record {
   counted = omega arith;
 }
 
--- one more call behind the others
+-- one more call after the others
 one_more_turn : {R : Type 0} (reads : Call R) (old now : R) (turns : List (ReadTurn R)) (turn : ReadTurn R) → ReadsInTurn reads old turns now → GivesSome reads now turn
     → ReadsInTurn reads old (turns ++ turn ∷ []) turn.reader
 one_more_turn reads old now [] turn h gives = (subst (λ r. GivesSome reads r turn) (sym h) gives, refl)
 one_more_turn reads old now (first ∷ turns) turn h gives = (h.0, one_more_turn reads first.reader now turns turn h.1 gives)
 
--- its bytes are behind the others'
+-- its bytes are after the others'
 bytes_more : {R : Type 0} (turns : List (ReadTurn R)) (turn : ReadTurn R) → bytes_read turns ++ bytes_of turn ≡ bytes_read (turns ++ turn ∷ [])
 bytes_more turns turn = flat_map_more bytes_of [] turns turn
 

@@ -1,4 +1,6 @@
--- The grammar of a dyndep file, and runs over its lines: they give the same statements, and go on with the same lines.
+-- The grammar of a dyndep file, and runs over its lines: they give the same statements, and
+-- continue with the same
+-- lines.
 use Rattle.std.proofs.Common.{inl, inr, ◌⊎◌, ◌||◌, ◌≡◌, ℕ, Bool, true, false, List, [], ◌∷◌, ◌++◌, refl, sym, ap, ◌∙◌, subst, append_assoc, Some, None}
 use Rattle.std.specs.Prelude.{Option, if◌then◌else◌}
 use Rattle.std.specs.List.{list_all}
@@ -36,7 +38,7 @@ with_last_restat-push [] output outputs inputs flag = refl
 with_last_restat-push (s ∷ []) output outputs inputs flag = refl
 with_last_restat-push (s ∷ t ∷ ss) output outputs inputs flag = ap (λ xs. s ∷ xs) (with_last_restat-push (t ∷ ss) output outputs inputs flag)
 
--- equal answers are of equal progress
+-- equal results are of equal progress
 progress_same : {x y : ProgressValue} → ◌≡◌ {A = Option ProgressValue} (Some x) (Some y) → x ≡ y
 progress_same h = cc
 
@@ -59,7 +61,7 @@ binding_runs start result o outs ins (binding_here {flag} {more}) r =
     record { final = r.final; is = ap (λ ss. run NoneOpen ss more) (with_last_restat-push start o outs ins flag) ∙ r.is; past = r.past }
 binding_runs start result o outs ins (comment_before b) r = let later = binding_runs start result o outs ins b r in record { final = later.final; is = later.is; past = later.past }
 
--- statements added behind one that was added are added with it
+-- statements added after one that was added are added with it
 pushed_runs : (stage : Stage) (classes : List DyndepClass) (start : List StatementValue) (s : StatementValue) (ss : List StatementValue)
     → RunsTo stage (start ++ s ∷ []) classes ((start ++ s ∷ []) ++ ss) → RunsTo stage (start ++ s ∷ []) classes (start ++ s ∷ ss)
 pushed_runs stage classes start s ss r = subst (RunsTo stage (start ++ s ∷ []) classes) (append_assoc start (s ∷ []) ss) r
@@ -91,7 +93,7 @@ one_list_of_statements {classes} {ss} {ts} a b =
     let q = file_runs b in
     ap (λ s. s.statements) (progress_same (sym r.is ∙ q.is))
 
--- a comment may stand behind a build line
+-- a comment is allowed after a build line
 insert_comment : {o : List ℕ} {outs ins : List (List ℕ)} {classes : List DyndepClass} {ss : List StatementValue} → IsDyndepBody (Build o outs ins ∷ classes) ss
     → IsDyndepBody (Build o outs ins ∷ Comment ∷ classes) ss
 insert_comment (body_build b) = body_build (body_comment b)
@@ -166,7 +168,7 @@ run_front (c ∷ classes) more stage start end h = elim (cases_step (step stage 
   cases_step None = inl refl
   cases_step (Some next) = inr (next, refl)
 
--- and goes on from there
+-- and continues from there
 pub run_more : (classes more : List DyndepClass) (stage : Stage) (start : List StatementValue) (mid : ProgressValue) → run stage start classes ≡ Some mid
     → run stage start (classes ++ more) ≡ run mid.stage mid.statements more
 run_more [] more stage start mid h = ap (λ s. run s.stage s.statements more) (progress_same h)

@@ -15,7 +15,7 @@ use Rattle.dyndep_file.specs.declared.fault.LineFault.{LineFault}
 use Rattle.dyndep_file.specs.declared.fault.LineFault.TheVariants.{LineTooLong}
 use Rattle.dyndep_file.specs.declared.fault.ReadFault.TheVariants.{AtLine}
 
--- bytes behind a text go behind its last part
+-- bytes after a text go after its last part
 more_behind : (bytes front after more : List ℕ) → bytes ≡ front ++ after → bytes ++ more ≡ front ++ (after ++ more)
 more_behind bytes front after more e = ap (λ x. x ++ more) e ∙ append_assoc front after more
 

@@ -1,4 +1,6 @@
--- A line of a class that may stand at a stage has no fault there: the tables of faults agree with the classes of lines.
+-- A line of a class that is allowed at a stage has no fault there: the tables of faults agree with
+-- the classes of
+-- lines.
 use Rattle.std.proofs.Common.{inl, inr, ◌≡◌, ℕ, Bool, true, false, List, [], ◌∷◌, ◌++◌, map, get_or, refl, sym, ap, ◌∙◌, subst, Some, None, arith, ◌==◌, eq-eqb}
 use Rattle.std.specs.Prelude.{Option, IsTrue, if◌then◌else◌, codes, slice_range, is_some}
 use Rattle.std.proofs.lemmas.List.{append-nil}
@@ -84,7 +86,7 @@ first_word text word more (t ∷ ts) e h =
     let head : symbol t.kind (raw text t) ≡ WordSymbol word = cc in
     record { token = t; rest = ts; are = e; bytes = symbol_is_word t.kind (raw text t) word head }
 
--- a text whose first token stands at its first byte is not indented
+-- a text whose first token is at its first byte is not indented
 pub no_indent_at_token : (text : List ℕ) → IsTrue (begins_at_start (tokens text)) → begins_with_space text ≡ false
 no_indent_at_token [] h = refl
 no_indent_at_token (b ∷ bytes) h = elim (cases_Bool (b == 32)) [
@@ -187,7 +189,7 @@ module _ (text : List ℕ) where
 pub never : {end : ProgressValue} {A : Type 0} → ◌≡◌ {A = Option ProgressValue} None (Some end) → A
 never h = absurd (cc)
 
--- a line of a class that may stand at a stage has no fault there
+-- a line of a class that is allowed at a stage has no fault there
 pub no_fault : (stage : Stage) (ss : List StatementValue) (text : List ℕ) (comment : Bool) (c : DyndepClass) (next : ProgressValue) → IsDyndepLine text comment c
     → step stage ss c ≡ Some next → text_line_fault stage text comment ≡ None
 no_fault stage ss text comment Comment next is steps = rw is refl

@@ -35,7 +35,7 @@ or_none : {X : Type 0} (o : Option X) → option_or o None ≡ o
 or_none None = refl
 or_none (Some x) = refl
 
--- behind statements without a fault, the fault is that of the next one, or of those behind it
+-- after statements without a fault, the fault is that of the next one, or of those after it
 behind : (before : List StatementValue) (s : StatementValue) (after : List StatementValue) → write_fault before ≡ None
     → write_fault (before ++ s ∷ after) ≡ option_or (statement_fault (length before) s) (fault_from (length before + 1) after)
 behind before s after none =
@@ -117,7 +117,7 @@ counted statements bytes same =
 
 -- ---- what is returned if a statement has a fault
 
--- behind statements without one, its fault is that of all
+-- after statements without one, its fault is that of all
 pub refused_behind : (before : List StatementValue) (s : StatementValue) (after : List StatementValue) (count : ℕ) (failure : Failure WriteFault) → write_fault before ≡ None → count ≡ length before
     → ForFault (λ fault. statement_fault count s ≡ Some fault) failure → Gives {T = Vec ℕ Global} (λ text. text.items) (Err failure) (text_or_fault (before ++ s ∷ after))
 refused_behind before s after count Memory none is h = tt

@@ -87,7 +87,7 @@ test_of false h = cc
 no_longer : (n : ℕ) → n ≤ line_limit → nat_lt line_limit n ≡ false
 no_longer n h = grind (arith, h)
 
--- among paths that have spellings none is found without
+-- among paths that have escaped forms none is found without
 pub all_found : (paths : List (List ℕ)) → All IsWritable paths → position (λ path. not (is_writable path)) paths ≡ None
 all_found paths w =
     position_none (λ path. not (is_writable path)) paths [] (λ k lt. test_of (is_writable (get_or paths k [])) ((is_writable-meaning (get_or paths k [])).1 (w k [] lt)))
@@ -115,7 +115,7 @@ or_some : {X : Type 0} (a b : Option X) (x : X) → option_or a b ≡ Some x →
 or_some None b x h = inr h
 or_some (Some a) b x h = inl h
 
--- ---- statements whose paths have spellings
+-- ---- statements whose paths have escaped forms
 
 -- the fault of such a statement is a build line that is too long
 pub one_too_long : (index : ℕ) (s : StatementValue) (fault : WriteFault) → All IsWritable (paths_of s) → statement_fault index s ≡ Some fault → fault ≡ StatementTooLong index

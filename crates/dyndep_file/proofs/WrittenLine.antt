@@ -50,7 +50,8 @@ module _ (text : List ℕ) (xs : List Symbol) (later : Written symbol false text
       written_space symbol (124 ∷ 32 ∷ ((escaped path ++ paths_text paths) ++ text)) (SignSymbol Bar ∷ words)
       (written_bar symbol ((escaped path ++ paths_text paths) ++ text) words (first_path_written path paths writable.0 (paths_written paths writable.1)))
 
--- A build line without its end, from its rule, from behind its output, and whole; and the symbols of each.
+-- A build line without its end, from its rule, from after its output, and whole; and the symbols of
+-- each.
 abbrev rule_text : StatementValue → List ℕ
 rule_text s = codes "dyndep" ++ part_text s.implicit_inputs
 

@@ -19,7 +19,7 @@ pub data DyndepClass : Type 0 where
   Build : PathText → List PathText → List PathText → DyndepClass
   Binding : Bool → DyndepClass
 
--- a token of a build line: a word with its bytes as they are spelled, or one of the signs `|`,
+-- a token of a build line: a word with its escaped bytes, or one of the signs `|`,
 -- `||`, `|@` and `:`
 pub data Symbol : Type 0 where
   WordSymbol : Text → Symbol
@@ -49,7 +49,7 @@ IsPart sign part words =
     ((part ≡ []) × (words ≡ [])) ⊎ (part ≡ SignSymbol sign ∷ map WordSymbol words)
 
 -- The line is `build output | outputs : dyndep | inputs`, and begins at its first byte; the words
--- are given as they are spelled.
+-- are given escaped.
 abbrev pub IsBuild : Text → PathText → List PathText → List PathText → Type 0
 IsBuild text output outputs inputs =
     (before after : List Symbol) × IsPart Bar before outputs × IsPart Bar after inputs

@@ -1,4 +1,4 @@
--- How the faults of a dyndep file are printed: the code, the name, and where the fault is.
+-- How the faults of a dyndep file are printed: the code, the name, and the position.
 use Rattle.std.specs.Prelude.{◌++◌, codes}
 use Rattle.std.specs.Fmt.{decimal}
 use Rattle.ninja_text.specs.Bytes.{Text}

@@ -55,7 +55,7 @@ stage_after classes =
     else NoneOpen
 
 -- ---- the table of build lines: the tokens after the keyword `build`, by the first that may not
--- ---- be where it is
+-- ---- be there
 
 -- the fault of what comes among the implicit inputs
 abbrev pub implicit_inputs_fault : List Symbol → Option LineFault

@@ -8,7 +8,7 @@ use Rattle.ninja_text.specs.Bytes.{PathText}
 use Rattle.dyndep_file.specs.StatementValue.{StatementValue, statement_with}
 use Rattle.dyndep_file.specs.Classes.{DyndepClass, Comment, Blank, Version, Build, Binding}
 
--- The lines begin with comments and a binding of `restat` to this flag, and go on with these.
+-- The lines begin with comments and a binding of `restat` to this flag, and continue with these.
 pub data HasBinding : List DyndepClass → Bool → List DyndepClass → Type 0 where
   binding_here : {flag : Bool} {more : List DyndepClass}
       → HasBinding (Binding flag ∷ more) flag more

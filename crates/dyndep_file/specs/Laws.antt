@@ -33,7 +33,7 @@ abbrev pub OneReadFault : Type 0
 OneReadFault = (bytes : Bytes) (found other : FaultAt)
     → HasReadFault bytes found → HasReadFault bytes other → found ≡ other
 
--- What was fed to a reader that goes on has no fault but what its end may bring.
+-- What was fed to a reader that continues has no fault but what its end may bring.
 abbrev pub GoesOnUnrefused : Type 0
 GoesOnUnrefused = (bytes : Bytes) (reader : DyndepReaderState) → HasReadDyndep bytes reader
     → IsUnrefused bytes
@@ -44,19 +44,19 @@ FaultStays = (bytes more : Bytes) (line : ℕ) (fault : LineFault)
     → IsReadFaultIn bytes (AtLine line fault)
     → HasReadFault (bytes ++ more) (record { line = line; fault = fault })
 
--- Statements whose paths all have spellings have no fault but a build line that is too long.
+-- Statements whose paths all have escaped forms have no fault but a build line that is too long.
 abbrev pub OnlyTooLong : Type 0
 OnlyTooLong = (statements : List StatementValue) (fault : WriteFault)
     → All (λ s. All IsWritable (paths_of s)) statements → write_fault statements ≡ Some fault
     → (index : ℕ) × (fault ≡ StatementTooLong index)
 
--- A statement whose paths all have spellings has no other fault either.
+-- A statement whose paths all have escaped forms has no other fault either.
 abbrev pub TooLongIfWritable : Type 0
 TooLongIfWritable = (index : ℕ) (s : StatementValue) (fault : WriteFault)
     → All IsWritable (paths_of s) → statement_fault index s ≡ Some fault
     → fault ≡ StatementTooLong index
 
--- The fault of a statement after some that have none is that of the list.
+-- The fault of a statement after statements without a fault is the fault of the list.
 abbrev pub FirstFault : Type 0
 FirstFault = (before : List StatementValue) (s : StatementValue) (after : List StatementValue)
     (fault : WriteFault) → write_fault before ≡ None

@@ -40,7 +40,7 @@ IsEndFault rest classes Truncated = (0 < length rest) × (length rest < line_lim
 IsEndFault rest classes NoVersion = (rest ≡ []) × (list_any is_version classes ≡ false)
 IsEndFault rest classes other = ⊥
 
--- The faults of a line are those of the tables.
+-- The tables give the faults of a line.
 abbrev pub dyndep_faults : LineFaults DyndepClass LineFault
 dyndep_faults = record {
   of_line = λ classes line fault. line_fault (stage_after classes) line ≡ Some fault;

@@ -15,7 +15,7 @@ use Rattle.dyndep_file.specs.declared.fault.ReadFault.{ReadFault}
 use Rattle.dyndep_file.specs.declared.fault.ReadFault.TheVariants.{AtLine, Io}
 
 -- No line of the bytes is faulty, and the rest without an end is below the limit: whatever follows,
--- a reader goes on.
+-- a reader continues.
 abbrev pub IsUnrefused : Bytes → Type 0
 IsUnrefused bytes = (line : ℕ) (fault : LineFault) → IsReadFaultIn bytes (AtLine line fault) → ⊥
 

@@ -2,7 +2,7 @@
 use Rattle.std.specs.Prelude.{Bool, List}
 use Rattle.ninja_text.specs.Bytes.{PathText}
 
--- Its paths are the bytes that their spellings stand for.
+-- Its paths are the bytes that their escaped forms stand for.
 pub record StatementValue : Type 0 where
   pub output : PathText
   pub implicit_outputs : List PathText

@@ -17,7 +17,7 @@ use Rattle.dyndep_file.specs.declared.fault.WriteFault.TheVariants.{Unwritable, 
 abbrev pub paths_of : StatementValue → List PathText
 paths_of s = s.output ∷ (s.implicit_outputs ++ s.implicit_inputs)
 
--- the fault of the statement at an index: the first path that has no spelling, else too long a
+-- the fault of the statement at an index: the first path that has no escaped form, else too long a
 -- build line
 abbrev pub statement_fault : ℕ → StatementValue → Option WriteFault
 statement_fault index s = option_or
@@ -43,7 +43,8 @@ text_unless (Some fault) statements = Err fault
 abbrev pub text_or_fault : List StatementValue → Result Text WriteFault
 text_or_fault statements = text_unless (write_fault statements) statements
 
--- A statement that can be written: each path has a spelling, and the build line keeps the limit.
+-- A statement that can be written: each path has an escaped form, and the build line keeps the
+-- limit.
 pub record CanBeWritten (s : StatementValue) : Type 0 where
   pub paths : All IsWritable (paths_of s)
   pub line : length (build_line s) ≤ line_limit
@@ -58,7 +59,7 @@ LeavesWriter contents old new text (Fault (StatementTooLong statement)) = new �
 LeavesWriter contents old new text (Fault (Io written)) = IsCutShort contents old new text written
 
 -- which calls of the writer a call has made that failed: before the first byte none, and up to an
--- `Io` those that took some bytes, and the one that failed
+-- `Io` some calls took bytes, and one failed
 abbrev pub StopsInTurn : {W : Type 0} → Call W → W → W → Text → Failure WriteFault → Type 0
 StopsInTurn writes old new text Memory = new ≡ old
 StopsInTurn writes old new text (Fault (Unwritable statement path)) = new ≡ old

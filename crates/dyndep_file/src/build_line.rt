@@ -13,7 +13,7 @@ use crate::statement::Statement;
 use ninja_text::{Failure, Token, TokenKind, Words};
 use std::alloc::{AllocError, Global};
 
-/// Returns the statement of a build line, or the error of the first token that must not be where it is.
+/// Returns the statement of a build line, or the error of the first token that is not allowed.
 pub(crate) fn statement(alloc: Global, words: Words<'_>) -> Result<Statement, Failure<LineFault>>
     ensures { TakesOr (output_fault (symbols_left words.entry))
         (λ statement. IsNamed (symbols_left words.entry) statement) result }

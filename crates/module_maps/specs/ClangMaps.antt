@@ -12,7 +12,7 @@ use Rattle.module_maps.specs.declared.module_map.MapEntry.{MapEntry}
 use Rattle.module_maps.specs.declared.fault.MapFault.{MapFault}
 use Rattle.module_maps.specs.declared.fault.MapFault.TheVariants.{MapPath, TwoProvided, BadMapLine}
 
--- the line before that of the provided module's path
+-- the line before the line with the provided module's path
 abbrev pub module_flag : Text
 module_flag = codes "-x c++-module"
 
@@ -37,7 +37,7 @@ abbrev pub clang_text : ModuleMapValue → Text
 clang_text m =
     flat_map output_text m.provided ++ flat_map (λ pair. ended_line (file_line pair)) m.needed
 
--- the lines, unless a path is unfit, or else two modules are provided
+-- the lines, unless a path is unfit, or otherwise two modules are provided
 abbrev pub clang_result : ModuleMapValue → Option PathText → Result Text MapFault
 clang_result m (Some path) = Err (MapPath path)
 clang_result m None = if nat_lt 1 (length m.provided) then Err TwoProvided else Ok (clang_text m)
@@ -50,7 +50,7 @@ clang_written m = clang_result m (first_unfit (pairs_of m))
 abbrev pub clang_kept : ModuleMapValue → List MapEntry
 clang_kept m = map nameless m.provided ++ map named m.needed
 
--- the names rise from that of the entry before, if it has one
+-- the names rise from the name of the entry before, if it has one
 abbrev pub rises : Option Name → Name → Bool
 rises None name = true
 rises (Some before) name = is_lt (slice_cmp nat_cmp before name)

@@ -29,7 +29,7 @@ pub record IsModuleMap (m : ModuleMapValue) : Type 0 where
   pub needed : All IsModulePair m.needed
   pub rising : IsRising m.needed
 
--- The entries are those of the pairs, in order; a name may be left out.
+-- The entries are the pairs, in order; a name may be left out.
 pub record AreEntriesOf (pairs : List (Name × PathText)) (entries : List MapEntry) : Type 0 where
   pub paths : map (λ e. e.path) entries ≡ map (λ p. p.1) pairs
   pub names : (k : ℕ) (e : MapEntry) (name : Name) →
@@ -56,7 +56,7 @@ abbrev pub ReadsWritten : Written → (ModuleMapValue → List MapEntry) → Ent
 ReadsWritten written kept entries = (m : ModuleMapValue) (text : Text) →
     IsModuleMap m → written m ≡ Ok text → entries text ≡ Ok (kept m)
 
--- what the style keeps are the map's paths in order, each name given being that of its pair
+-- what the style keeps are the map's paths in order, and each name given is the name of its pair
 abbrev pub KeepsPairs : (ModuleMapValue → List MapEntry) → Type 0
 KeepsPairs kept = (m : ModuleMapValue) → IsModuleMap m → AreEntriesOf (pairs_of m) (kept m)
 

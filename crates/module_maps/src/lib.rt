@@ -1,4 +1,4 @@
-//! Module maps: texts that tell a compiler, for one object, where the compiled modules are that the
+//! Module maps: texts that tell a compiler, for one object, the files of the modules that the
 //! object provides and needs.
 //!
 //! - [`ModuleMap`] holds the modules that the object provides, in order of provision, and the modules

@@ -12,7 +12,7 @@ use crate::module_map::{MapEntry, ModuleMap};
 use ninja_text::Failure;
 use std::alloc::{AllocError, Global};
 
-/// A style of module maps: how a text tells a compiler where modules are.
+/// A style of module maps: how a text tells a compiler the files of modules.
 pub trait MapStyle {
     /// The text that the style writes for a map, or why it cannot.
     ghost written: { Self → ModuleMapValue → Result Text MapFault };

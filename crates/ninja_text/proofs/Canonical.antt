@@ -276,11 +276,11 @@ below-missed build directory list text h d e absent =
 
 -- ---- each fault, if it is the lowest
 
--- the tests behind that of the root
+-- the tests after that of the root
 abbrev last_tests : Option (List ℕ) → List ℕ → Result (List ℕ) PathFault
 last_tests build text = checked (position is_unwritable text) (seen_from build (is_rooted text) (reduced (components text)))
 
--- the tests behind the first
+-- the tests after the first
 abbrev later_tests : Option (List ℕ) → List ℕ → Result (List ℕ) PathFault
 later_tests build text = cond (is_rooted text && list_any is_parent (reduced (components text))) (Err AboveRoot) (last_tests build text)
 

@@ -52,18 +52,18 @@ pub any-parent : (list : List (List ℕ)) → EachLacksSlash list → list_any i
 any-parent [] e = refl
 any-parent (x ∷ xs) e = ap (list_any is_parent) (components-list x xs e)
 
--- ---- a proper beginning
+-- ---- a proper prefix
 
 -- a text is equal to itself
 bytes-same : (d : List ℕ) → bytes_eq d d ≡ true
 bytes-same d = (bytes_eq-Decides d d).1 refl
 
--- what stands behind a directory is below it
+-- what is after a directory is below it
 pub below-front : (ds : List (List ℕ)) (x : List ℕ) (xs : List (List ℕ)) → below ds (ds ++ x ∷ xs) ≡ Some (x ∷ xs)
 below-front [] x xs = refl
 below-front (d ∷ ds) x xs = ap (λ b. cond b (below ds (ds ++ x ∷ xs)) None) (bytes-same d) ∙ below-front ds x xs
 
--- what is below a directory stands behind it, and is not empty
+-- what is below a directory is after it, and is not empty
 pub below-some : (ds cs rest : List (List ℕ)) → below ds cs ≡ Some rest → (cs ≡ ds ++ rest) × (rest ≢ [])
 below-some [] [] rest e = cc
 below-some [] (c ∷ cs) rest e = let k : c ∷ cs ≡ rest = cc in (k, λ h. let j : c ∷ cs ≡ [] = k ∙ h in cc)
@@ -77,12 +77,12 @@ below-some (d ∷ ds) (c ∷ cs) rest e = go (below-some ds cs rest) (bytes_eq d
         (ap (λ x. x ∷ cs) (sym s) ∙ ap (λ l. d ∷ l) k.0, k.1)
     go more false h = let k : None ≡ Some rest = ap (λ b. cond b (below ds cs) None) (sym h) ∙ e in cc
 
--- two lists that are not empty, written out one behind the other
+-- two lists that are not empty, written out one after the other
 pub list_text-append : (x : List ℕ) (xs : List (List ℕ)) (y : List ℕ) (ys : List (List ℕ)) → list_text ((x ∷ xs) ++ y ∷ ys) ≡ list_text (x ∷ xs) ++ 47 ∷ list_text (y ∷ ys)
 list_text-append x [] y ys = refl
 list_text-append x (z ∷ zs) y ys = ap (λ t. x ++ 47 ∷ t) (list_text-append z zs y ys) ∙ sym (append_assoc x (47 ∷ list_text (z ∷ zs)) (47 ∷ list_text (y ∷ ys)))
 
--- the components of a text behind a list and a slash
+-- the components of a text after a list and a slash
 components-behind : (x : List ℕ) (xs : List (List ℕ)) (r : List ℕ) → EachLacksSlash (x ∷ xs) → components (list_text (x ∷ xs) ++ 47 ∷ r) ≡ (x ∷ xs) ++ components r
 components-behind x [] r e = components-at x r e.0
 components-behind x (y ∷ ys) r e =
@@ -117,7 +117,7 @@ below-text d ds cs r each lacks some e =
     let p = components-some r in
     ap (below (d ∷ ds)) (k ∙ ap (λ l. (d ∷ ds) ++ l) p.2) ∙ below-front (d ∷ ds) p.0 p.1 ∙ ap Some (sym p.2)
 
--- a list below a directory is written behind it and a slash
+-- a list below a directory is written after it and a slash
 pub text-below : (d : List ℕ) (ds cs rest : List (List ℕ)) → below (d ∷ ds) cs ≡ Some rest → list_text cs ≡ list_text (d ∷ ds) ++ 47 ∷ list_text rest
 text-below d ds cs rest e = let k = below-some (d ∷ ds) cs rest e in go rest k.0 k.1
   where
@@ -125,7 +125,7 @@ text-below d ds cs rest e = let k = below-some (d ∷ ds) cs rest e in go rest k
     go [] h n = absurd (n refl)
     go (y ∷ ys) h n = ap list_text h ∙ list_text-append d ds y ys
 
--- what is left of a text without the directory and the slash behind it
+-- what is left of a text without the directory and the slash after it
 pub below-is : (d : List ℕ) (ds cs : List (List ℕ)) (r : List ℕ) → EachLacksSlash (d ∷ ds) → EachLacksSlash cs → list_text cs ≡ list_text (d ∷ ds) ++ 47 ∷ r → option_map list_text (below (d ∷ ds) cs) ≡ Some r
 below-is d ds [] r each lacks e = absurd (no (list_text (d ∷ ds)) e)
   where

@@ -78,7 +78,7 @@ end_in_part room bytes e h =
     let within : e.line_len ≤ room = omega (arith, fits.within) in
     (within, omega (arith, fits.within), ap line_end (sym (take_shorter e.line_len room bytes within)) ∙ line_end-take (take room bytes) e h)
 
--- the bytes at hand have no end, so the end that more bytes bring is past them
+-- the bytes so far have no end, so the end that more bytes bring is past them
 past_held : (bytes piece : List ℕ) (room : ℕ) (e : LineEnd) → line_end bytes ≡ None → line_end (take room (bytes ++ piece)) ≡ Some e → length bytes < e.line_len
 past_held bytes piece room e none some = elim (cases_lt (length bytes) e.line_len) [
   | inl lt ↦ lt

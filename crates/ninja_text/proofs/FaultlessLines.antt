@@ -106,7 +106,7 @@ past_return bytes index end rest = record {
   moved : (n : ℕ) → index + 3 + n ≡ index + suc (suc (suc n))
   moved n = omega arith
 
--- what `$` begins, by the bytes behind it
+-- what `$` begins, by the bytes after it
 module _ (b c : ℕ) (bytes : List ℕ) (index : ℕ) (end : LineEnd) where
   by_feed : (b == 10) ≡ true → InnerUpTo (index + 2) end (c ∷ bytes) → InnerUpTo index end (36 ∷ b ∷ c ∷ bytes)
   by_feed f rest = subst (λ n. InnerUpTo index end (36 ∷ n ∷ c ∷ bytes)) (sym (eqb-true b 10 f)) (past_feed (c ∷ bytes) index end rest)

@@ -47,7 +47,7 @@ pub below_limit : (h : CutterState) (piece : List ℕ) (n : ℕ) (new : CutterSt
     → length new.bytes < line_limit
 below_limit h piece n new works waits is waits' = (below_at_work h.number h.bytes piece n new (subst (λ k. feed_outcome k piece ≡ (Ok n, new)) (is_working h waits works) is) waits').0
 
--- a cutter with no line to lend stays as it is
+-- a cutter with no line to return stays as it is
 pub lends_none : (h new : CutterState) → new ≡ after_lending h → h.failed ≡ false → h.waits ≡ false → new ≡ h
 lends_none h new is works waits = is ∙ same h.number h.bytes h.waits h.failed waits works where
   same : (number : ℕ) (bytes : List ℕ) (p q : Bool) → p ≡ false → q ≡ false

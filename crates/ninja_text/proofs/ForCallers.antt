@@ -5,9 +5,9 @@ pub use Rattle.ninja_text.proofs.Shape.{shape, writable as path_writable}
 -- A list of paths that is not empty, by the test and by the fact.
 pub use Rattle.ninja_text.proofs.Shape.{empty-not}
 pub use Rattle.ninja_text.proofs.Canonical.{some-list}
--- What holds of each element of two lists holds of each element of both, one behind the other.
+-- What holds of each element of two lists holds of each element of both, one after the other.
 pub use Rattle.ninja_text.proofs.CutLemmas.{AllByRecursion-append}
--- Lines put one behind another.
+-- Lines put one after another.
 pub use Rattle.ninja_text.proofs.CutLemmas.{joined}
 -- What follows a line changes nothing of its end.
 pub use Rattle.ninja_text.proofs.CutLemmas.{line_end-append}
@@ -15,7 +15,7 @@ pub use Rattle.ninja_text.proofs.CutLemmas.{line_end-append}
 pub use Rattle.ninja_text.proofs.CutLemmas.{divides_some}
 -- In a text that begins with a space, neither a token nor an assignment's name begins at the first byte.
 pub use Rattle.ninja_text.proofs.StartLemmas.{token_indented, name_indented}
--- The name of an assignment is a slice of the text, and begins behind the first blank run.
+-- The name of an assignment is a slice of the text, and begins after the first blank run.
 pub use Rattle.ninja_text.proofs.StartLemmas.{Parts, assignment_parts}
 -- A slice from the front of a text begins with the text's first byte.
 pub use Rattle.ninja_text.proofs.StartLemmas.{slice_first}
@@ -28,7 +28,7 @@ pub use Rattle.ninja_text.proofs.SpelledUnits.{is_sound}
 pub use Rattle.ninja_text.proofs.SpelledUnits.{unit_text, text_of_units, units_read}
 -- The units of a text made of sound units are those, and it has no lexical fault.
 pub use Rattle.ninja_text.proofs.SpelledLines.{units_are, lexical_none}
--- With an LF behind it, such a text is a line, whose text it is.
+-- With an LF after it, such a text is a line, whose text it is.
 pub use Rattle.ninja_text.proofs.SpelledLines.{is_line, text_is}
 -- The units of an escaped path: they are its escaped form, are sound, and are pieces of a word.
 pub use Rattle.ninja_text.proofs.SpelledPaths.{path_unit, path_units, path_text, path_sound, path_pieces}
@@ -48,9 +48,9 @@ pub use Rattle.ninja_text.proofs.SpelledTexts.{Written, is_word}
 pub use Rattle.ninja_text.proofs.SpelledTexts.{written_none, written_word, written_path, written_space, written_colon, written_bar}
 -- Such a text has its tokens and no lexical fault.
 pub use Rattle.ninja_text.proofs.SpelledTexts.{written_tokens, written_sound}
--- With an LF behind it, it is a line, whose text it is, unless it is a comment.
+-- With an LF after it, it is a line, whose text it is, unless it is a comment.
 pub use Rattle.ninja_text.proofs.SpelledTexts.{written_line, written_text}
--- The first token of one that begins with a word stands at its beginning.
+-- The first token of one that begins with a word is at its beginning.
 pub use Rattle.ninja_text.proofs.SpelledTexts.{First, written_first}
 -- The elements of lists, by index: of mapped lists, of two lists, and of the first few of a list.
 pub use Rattle.ninja_text.proofs.Indexed.{same_some, same_cons, element_at, from_map, to_map, in_append, in_first, in_second, from_push, from_take, in_take, map_take, take_next, to_the_end, zip_is_map}

@@ -52,7 +52,7 @@ module _ {C V : Type 0} (format : LineFormat C V) where
   -- what comes after whole lines that were returned, with which some text begins
   module _ {F : Type 0} (faults : LineFaults C F) (bytes : List ℕ) (lent : List LogicalLine) (number : ℕ) (rest : List ℕ) (classes : List C) (begins : BeginsWith bytes lent number rest)
       (texts : AreTextsOfClasses format lent classes) (begun : Begins format classes) where
-    -- a line with which none goes on, and which has a fault
+    -- a line with which none continues, and which has a fault
     pub faulty_next : (line after : List ℕ) (fault : F) → rest ≡ line ++ after → IsLine line → IsFaultyAfter format classes line → faults.of_line classes line fault → FaultyLine format faults bytes number fault
     faulty_next line after fault split is faulty reason = record {
       before = begins.lines;

@@ -8,7 +8,7 @@ use Rattle.ninja_text.specs.LineFormats.{LineFormat, LineFaults, IsOfClass, AreO
 use Rattle.ninja_text.proofs.Indexed.{same_cons}
 use Rattle.ninja_text.proofs.CutLemmas.{AllByRecursion-append, divides_one, divides_some}
 
--- the lines go on after these, this one, and perhaps more
+-- the lines continue after these, this one, and perhaps more
 abbrev GoesBeyond : List (List ℕ) → List ℕ → List (List ℕ) → Type 0
 GoesBeyond before line lines = (more : List (List ℕ)) × (lines ≡ (before ++ line ∷ []) ++ more)
 
@@ -71,7 +71,7 @@ module _ {C V : Type 0} (format : LineFormat C V) where
         let classes = classes_one b.lines a.classes b.classes (subst (λ ls. AreOfClasses format ls a.classes) same a.classed) b.classed in
         decided.one_value b.classes v w (subst (λ cs. format.grammar cs v) classes a.grammar) b.grammar
 
-    -- the classes of all lines go on from those before a line
+    -- the classes of all lines continue from those before a line
     record Split (line : List ℕ) (cs ds : List C) : Type 0 where
       class : C
       more : List C

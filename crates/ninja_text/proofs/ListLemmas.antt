@@ -28,12 +28,12 @@ word_then start end after = record { kind = Word; start = start; end = end } ∷
 word_at : (start m n : ℕ) (after : List LineUnit) → m ≡ n → word_then start m after ≡ word_then start n after
 word_at start m n after e = ap (λ k. word_then start k after) e
 
--- a word goes on in these units, which begin at an index
+-- a word continues in these units, which begin at an index
 record GoesOn (start index : ℕ) (us after : List LineUnit) : Type 0 where
   on : goes_on (us ++ after) ≡ true
   word : with_first_start start (tokens_from index (us ++ after)) ≡ word_then start (index + total_len us) after
 
--- it ends here, or goes on
+-- it ends here, or continues
 abbrev Follows : Bool → ℕ → ℕ → List LineUnit → List LineUnit → Type 0
 Follows may_end start index us after = ((us ≡ []) × (may_end ≡ true)) ⊎ GoesOn start index us after
 
@@ -110,7 +110,7 @@ total_len-append : (us vs : List LineUnit) → total_len (us ++ vs) ≡ total_le
 total_len-append [] vs = omega arith
 total_len-append (u ∷ us) vs = let later = total_len-append us vs in omega arith
 
--- past blank units alone no word goes on
+-- past blank units alone no word continues
 blank_stops : (us : List LineUnit) → AreBlank us → goes_on us ≡ false
 blank_stops [] h = refl
 blank_stops (Continuation len ∷ us) h = blank_stops us h.1
@@ -120,14 +120,14 @@ blank_stops (Byte b ∷ us) h = rw h.0 refl
 abbrev AreContinuations : List LineUnit → Type 0
 AreContinuations us = AllByRecursion (λ u. is_continuation u ≡ true) us
 
--- blank units over which a word goes on are continuations
+-- blank units over which a word continues are continuations
 gap_continues : (gap us : List LineUnit) → AreBlank gap → goes_on (gap ++ us) ≡ true → AreContinuations gap × (goes_on us ≡ true)
 gap_continues [] us blank h = (tt, h)
 gap_continues (Continuation len ∷ gap) us blank h = let later = gap_continues gap us blank.1 h in ((refl, later.0), later.1)
 gap_continues (Escape b ∷ gap) us blank h = absurd (let x : false ≡ true = blank.0 in cc)
 gap_continues (Byte b ∷ gap) us blank h = absurd (let x : false ≡ true = rw blank.0 at h in cc)
 
--- the token in which a word goes on
+-- the token in which a word continues
 record GoesOnIn (kind : TokenKind) (own after : List LineUnit) : Type 0 where
   kind_is : kind ≡ Word
   own_is : is_word own ≡ true
@@ -146,7 +146,7 @@ word_over [] [] may_end g w = absurd (let x : false ≡ true = w in cc)
 word_over [] (u ∷ us) may_end g w = let both = and_parts (is_piece u) (may_follow true us) w in rw both.0 both.1
 word_over (u ∷ gap) own may_end g w = rw (no_piece u g.0, g.0) (word_over gap own false g.1 w)
 
--- a piece in front of the word that goes on after it
+-- a piece in front of the word that continues after it
 piece_joins : (index : ℕ) (u : LineUnit) (us : List LineUnit) (rest : List TokenAt) → is_piece u ≡ true → goes_on us ≡ true → LexesAs (index + unit_len u) us rest → LexesAs index (u ∷ us) (with_first_start index rest)
 piece_joins index u us [] p g h = absurd (let x : true ≡ false = sym g ∙ blank_stops us h in cc)
 piece_joins index u us (t ∷ ts) p g h =

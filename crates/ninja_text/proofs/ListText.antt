@@ -13,18 +13,18 @@ pub ends : (l : List (List ℕ)) → (l ≡ []) ⊎ ((init : List (List ℕ)) ×
 ends [] = inl refl
 ends (c ∷ cs) = elim (ends cs) [ inl h ↦ inr ([], c, ap (λ l. c ∷ l) h) | inr w ↦ inr (c ∷ w.0, w.1, ap (λ l. c ∷ l) w.2) ]
 
--- a component behind a list is written behind it and a slash
+-- a component after a list is written after it and a slash
 pub list_text-behind : (x : List ℕ) (xs : List (List ℕ)) (c : List ℕ) → list_text ((x ∷ xs) ++ c ∷ []) ≡ list_text (x ∷ xs) ++ 47 ∷ c
 list_text-behind x [] c = refl
 list_text-behind x (y ∷ ys) c = ap (λ t. x ++ 47 ∷ t) (list_text-behind y ys c) ∙ sym (append_assoc x (47 ∷ list_text (y ∷ ys)) (47 ∷ c))
 
--- a component behind a list whose first component is not empty
+-- a component after a list whose first component is not empty
 pub list_text-appended : (x : List ℕ) (xs : List (List ℕ)) (c : List ℕ) → is_current x ≡ false → list_text ((x ∷ xs) ++ c ∷ []) ≡ appended (list_text (x ∷ xs)) c
 list_text-appended [] xs c h = cc
 list_text-appended (b ∷ bs) [] c h = refl
 list_text-appended (b ∷ bs) (y ∷ ys) c h = list_text-behind (b ∷ bs) (y ∷ ys) c
 
--- ---- where the last component begins
+-- ---- the start of the last component
 
 -- no byte of a component is a slash
 lacks-at : (l : List ℕ) (k : ℕ) → LacksSlash l → k < length l → get_or l k 0 ≢ 47
@@ -45,7 +45,7 @@ pub list_text-last : (init : List (List ℕ)) (last : List ℕ) → list_text (i
 list_text-last [] last = refl
 list_text-last (x ∷ xs) last = list_text-behind x xs last ∙ sym (append_assoc (list_text (x ∷ xs)) (47 ∷ []) last)
 
--- the index behind the last slash is where the last component begins
+-- the index after the last slash is the start of the last component
 not-after : (p last : List ℕ) (start : ℕ) → LacksSlash last → start ≤ length (p ++ last) → (0 < start → get_or (p ++ last) (start - 1) 0 ≡ 47) → length p < start → ⊥
 not-after p last start h bound slash lt =
     let k : ℕ = start - 1 - length p in
@@ -94,12 +94,12 @@ start-of list init last start e h bound slash rest =
     let f : P (up_to_last init ++ last) = subst P (e ∙ list_text-last init last) (bound, slash, rest) in
     start-is init last start h f.0 f.1 f.2
 
--- what stands from there on is the last component
+-- what follows from there on is the last component
 pub last-of : (list : List ℕ) (init : List (List ℕ)) (last : List ℕ) (start : ℕ) → list ≡ list_text (init ++ last ∷ []) → start ≡ length (up_to_last init) → take (length list - start) (drop start list) ≡ last
 last-of list init last start e s =
     to_the_end start list ∙ ap (drop start) (e ∙ list_text-last init last) ∙ ap (λ n. drop n (up_to_last init ++ last)) s ∙ drop-append_seam (up_to_last init) last
 
--- what stands before the slash in front of it is the rest of the list
+-- what is before the slash in front of it is the rest of the list
 pub init-of : (list : List ℕ) (init : List (List ℕ)) (last : List ℕ) (start n : ℕ) → list ≡ list_text (init ++ last ∷ []) → start ≡ length (up_to_last init) → n ≡ start - 1 → take n list ≡ list_text init
 init-of list init last start n e s k =
     ap (take n) (e ∙ list_text-last init last) ∙ ap (λ m. take m (up_to_last init ++ last)) (k ∙ ap (λ m. m - 1) s) ∙ without-last init last
@@ -111,7 +111,7 @@ not-all list init (b ∷ bs) start e s h k =
     let total : length list ≡ length (up_to_last init) + (1 + length bs) = ap length (e ∙ list_text-last init (b ∷ bs)) ∙ length-append (up_to_last init) (b ∷ bs) ∙ omega arith in
     omega arith
 
--- ---- a component behind a canonical list
+-- ---- a component after a canonical list
 
 -- the last component of a canonical list is not empty and no `.`
 fixed-last : (init : List (List ℕ)) (last : List ℕ) → IsFixed (init ++ last ∷ []) → is_current last ≡ false
@@ -129,7 +129,7 @@ fixed-first : (x : List ℕ) (xs : List (List ℕ)) → IsFixed (x ∷ xs) → i
 fixed-first x [] f = f
 fixed-first x (y ∷ ys) f = f.0
 
--- a component that goes behind a canonical list as it is
+-- a component that goes after a canonical list as it is
 list_text-fixed : (init : List (List ℕ)) (last c : List ℕ) → IsFixed (init ++ last ∷ []) → list_text (init ++ last ∷ c ∷ []) ≡ appended (list_text (init ++ last ∷ [])) c
 list_text-fixed [] last c f = list_text-appended last [] c (fixed-first last [] f)
 list_text-fixed (a ∷ init) last c f =
@@ -140,7 +140,7 @@ none-parent : (n u : Bool) → u ≡ false → (n && u) ≡ false
 none-parent true u h = h
 none-parent false u h = refl
 
--- `..` behind a list that ends in a name
+-- `..` after a list that ends in a name
 pub put-parent : (before : List (List ℕ)) (c list : List ℕ) (n : ℕ) → EachLacksSlash before → list ≡ list_text (reduced before) → is_parent c ≡ true
     → (list ≡ [] → Some n ≡ None)
     → ((init : List (List ℕ)) (last : List ℕ) → LacksSlash last → is_current last ≡ false → list ≡ list_text (init ++ last ∷ []) → (is_parent last ≡ false) × (take n list ≡ list_text init))
@@ -156,7 +156,7 @@ put-parent before c list n each e goes_up empty parent =
           p.1 ∙ ap list_text (sym (behind-pair before w.0 w.1 c w.2 (name-of (is_current w.1) (is_parent w.1) not_current p.0) goes_up))
     ]
 
--- any other component, and `..` behind a list that ends in none
+-- any other component, and `..` after a list that does not end in a name
 pub put-behind : (before : List (List ℕ)) (c list new : List ℕ) → EachLacksSlash before → list ≡ list_text (reduced before) → is_current c ≡ false
     → (is_parent c ≡ false) ⊎ ((init : List (List ℕ)) (last : List ℕ) → LacksSlash last → is_current last ≡ false → list ≡ list_text (init ++ last ∷ []) → is_parent last ≡ true)
     → new ≡ appended list c

@@ -55,7 +55,7 @@ begins_with bytes lent number held cuts = record {
   number_is = cuts.number;
 }
 
--- more bytes behind
+-- more bytes after
 pub begins_more : (bytes more : List ℕ) (lent : List LogicalLine) (number : ℕ) (rest : List ℕ) → BeginsWith bytes lent number rest → BeginsWith (bytes ++ more) lent number (rest ++ more)
 begins_more bytes more lent number rest b = record {
   lines = b.lines;
@@ -84,7 +84,7 @@ module _ {S F : Type 0} (passes : S → LogicalLine → S → Type 0) (refuses :
         inl ((t.1, t.0), ap (λ n. of_cutter (LineTooLong n)) t.2),
       )
 
-  -- what the cutter fails with is want of memory or the fault of the next line
+  -- the error of the cutter is `Memory` or the fault of the next line
   pub failure_fed : (front rest all : List ℕ) (lent more : List LogicalLine) (h : CutterState) (old state : S) (e : Failure CutFault) (new : CutterState) → front ++ rest ≡ all
       → HasLent front (lent ++ more) h → LeadTo passes old more state → Feeds h rest (Err e) new → HasFailureBehind passes refuses of_cutter all lent old (failure_of of_cutter e)
   failure_fed front rest all lent more h old state Memory new split has led is = tt
@@ -115,7 +115,7 @@ module _ {S F : Type 0} (passes : S → LogicalLine → S → Type 0) (refuses :
           inr (bytes, rest, refl, lines.1, shorts.1, line, l, refused),
         )
 
-  -- what reading a line fails with is want of memory or the fault of the next line
+  -- the error of reading a line is `Memory` or the fault of the next line
   pub line_refused : (taken rest all : List ℕ) (lent more : List LogicalLine) (new : CutterState) (old state now : S) (line : LogicalLine) (e : Failure F) → taken ++ rest ≡ all
       → Cuts taken (lent ++ more) new → new.waits ≡ true → line ≡ waiting_line new → LeadTo passes old more state → ReadsLine passes refuses state line (Err e) now
       → HasFailureBehind passes refuses of_cutter all lent old e

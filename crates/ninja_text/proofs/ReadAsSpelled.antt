@@ -113,7 +113,7 @@ follows (Byte b ∷ us) may_end bytes m p h = elim (cases_Bool (is_piece (Byte b
   | inr none ↦ absurd (let x : false ≡ true = rw none at m in cc)
 ]
 
--- the bytes of a word spell its units' values
+-- the bytes of a word mean its units' values
 word_spells : (us : List LineUnit) (bytes : List ℕ) → is_word us ≡ true → list_all is_proper us ≡ true → AreUnitTexts us bytes → Spells bytes (flat_map unit_value us)
 word_spells [] bytes w p h = absurd (let x : false ≡ true = w in cc)
 word_spells (u ∷ us) bytes w p h =

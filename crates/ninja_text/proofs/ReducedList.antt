@@ -39,7 +39,7 @@ pub in_front-current : (c : List ℕ) (r : List (List ℕ)) → is_current c ≡
 in_front-current c [] h = ap (λ b. cond b [] (c ∷ [])) h
 in_front-current c (d ∷ ds) h = ap (λ b. cond b (d ∷ ds) (cond (is_named_component c && is_parent d) ds (c ∷ d ∷ ds))) h
 
--- a name and the `..` behind it go
+-- a name and the `..` after it go
 pub in_front-pair : (c d : List ℕ) (ds : List (List ℕ)) → is_current c ≡ false → (is_named_component c && is_parent d) ≡ true → in_front c (d ∷ ds) ≡ ds
 in_front-pair c d ds h k = ap (λ b. cond b (d ∷ ds) (cond (is_named_component c && is_parent d) ds (c ∷ d ∷ ds))) h ∙ ap (λ b. cond b ds (c ∷ d ∷ ds)) k
 
@@ -90,7 +90,7 @@ names-fixed (c ∷ d ∷ ds) none =
     and-none true u h = h
     and-none false u h = refl
 
--- ---- a step leaves what the list comes to
+-- ---- a step leaves what the list reduces to
 
 -- a name is not empty and no `.`
 current-not-name : (i u : Bool) → not (i || u) ≡ true → i ≡ false
@@ -129,7 +129,7 @@ in_front-name_parent c d r h k =
     ap (in_front c) (in_front-parent d r k)
     ∙ in_front-pair c d r (current-not-name (is_current c) (is_parent c) h) (ap (λ b. b && is_parent d) h ∙ k)
 
--- lists that come to one list do so behind others
+-- lists that reduce to one list do so after others
 pub reduced-context : (front xs ys : List (List ℕ)) → reduced xs ≡ reduced ys → reduced (front ++ xs) ≡ reduced (front ++ ys)
 reduced-context [] xs ys h = h
 reduced-context (c ∷ front) xs ys h = ap (in_front c) (reduced-context front xs ys h)
@@ -141,7 +141,7 @@ reduced-gone (c ∷ []) back h = in_front-current c (reduced back) (true_is _ h)
 reduced-gone (c ∷ d ∷ []) back h = in_front-name_parent c d (reduced back) (true_is _ h.0) (true_is _ h.1)
 reduced-gone (c ∷ d ∷ e ∷ more) back h = absurd h
 
--- a step leaves what the list comes to
+-- a step leaves what the list reduces to
 pub step-reduced : (old new : List (List ℕ)) → ReductionStep old new → reduced old ≡ reduced new
 step-reduced old new s =
     ap reduced s.before ∙ reduced-context s.front (s.gone ++ s.back) s.back (reduced-gone s.gone s.back s.deletable) ∙ sym (ap reduced s.after)
@@ -153,7 +153,7 @@ steps-reduced (suc n) old new h = step-reduced old h.0 h.1 ∙ steps-reduced n h
 
 -- ---- no step applies if and only if the list is fixed
 
--- a step behind one more component
+-- a step after one more component
 pub step-behind : (c : List ℕ) (old new : List (List ℕ)) → ReductionStep old new → ReductionStep (c ∷ old) (c ∷ new)
 step-behind c old new s = record { front = c ∷ s.front; gone = s.gone; back = s.back; deletable = s.deletable; before = ap (λ l. c ∷ l) s.before; after = ap (λ l. c ∷ l) s.after }
 
@@ -171,7 +171,7 @@ and-right : (a b : Bool) → (a && b) ≡ true → b ≡ true
 and-right true b h = h
 and-right false b h = cc
 
--- the step that deletes a name and the `..` behind it in front
+-- the step that deletes a name and the `..` after it in front
 step-pair : (c d : List ℕ) (ds : List (List ℕ)) → (is_named_component c && is_parent d) ≡ true → ReductionStep (c ∷ d ∷ ds) ds
 step-pair c d ds h = record { front = []; gone = c ∷ d ∷ []; back = ds; deletable = (is_true _ (and-left (is_named_component c) (is_parent d) h), is_true _ (and-right (is_named_component c) (is_parent d) h)); before = refl; after = refl }
 
@@ -194,7 +194,7 @@ final-fixed (c ∷ d ∷ ds) h = (
   final-fixed (d ∷ ds) (reduced-tail c (d ∷ ds) h),
 )
 
--- what stands behind in a fixed list is fixed
+-- what follows in a fixed list is fixed
 pub fixed-behind : (front xs : List (List ℕ)) → IsFixed (front ++ xs) → IsFixed xs
 fixed-behind [] xs h = h
 fixed-behind (c ∷ front) xs h = fixed-behind front xs (fixed-tail c (front ++ xs) h)
@@ -217,7 +217,7 @@ fixed-final xs f next s = fixed-gone s.gone s.back s.deletable (fixed-behind s.f
 abbrev LeadsTo : List (List ℕ) → List (List ℕ) → Type 0
 LeadsTo old new = (n : ℕ) × Steps n old new
 
--- steps behind one more component
+-- steps after one more component
 leads-behind : (c : List ℕ) (n : ℕ) (old new : List (List ℕ)) → Steps n old new → Steps n (c ∷ old) (c ∷ new)
 leads-behind c zero old new h = ap (λ l. c ∷ l) h
 leads-behind c (suc n) old new h = (c ∷ h.0, step-behind c old h.0 h.1, leads-behind c n h.0 new h.2)
@@ -256,7 +256,7 @@ reaches xs = let l = leads-reduced xs in record { count = l.0; steps = l.1; fina
 pub reaches-only : (xs ys : List (List ℕ)) → ReducesTo xs ys → ys ≡ reduced xs
 reaches-only xs ys r = sym (fixed-reduced ys (final-fixed ys r.final)) ∙ sym (steps-reduced r.count xs ys r.steps)
 
--- ---- a component behind a list
+-- ---- a component after a list
 
 -- a step in front of other components
 step-ahead : (old new ys : List (List ℕ)) → ReductionStep old new → ReductionStep (old ++ ys) (new ++ ys)
@@ -274,20 +274,20 @@ leads-ahead : (n : ℕ) (old new ys : List (List ℕ)) → Steps n old new → S
 leads-ahead zero old new ys h = ap (λ l. l ++ ys) h
 leads-ahead (suc n) old new ys h = (h.0 ++ ys, step-ahead old h.0 ys h.1, leads-ahead n h.0 new ys h.2)
 
--- what stands in front may be reduced first
+-- what is in front may be reduced first
 pub reduced-ahead : (xs ys : List (List ℕ)) → reduced (xs ++ ys) ≡ reduced (reduced xs ++ ys)
 reduced-ahead xs ys = let l = leads-reduced xs in steps-reduced l.0 (xs ++ ys) (reduced xs ++ ys) (leads-ahead l.0 xs (reduced xs) ys l.1)
 
--- nothing behind a list
+-- nothing after a list
 append-nil : (xs : List (List ℕ)) → xs ++ [] ≡ xs
 append-nil [] = refl
 append-nil (x ∷ xs) = ap (λ l. x ∷ l) (append-nil xs)
 
--- an empty component or `.` behind a list goes
+-- an empty component or `.` after a list goes
 pub behind-current : (xs : List (List ℕ)) (c : List ℕ) → is_current c ≡ true → reduced (xs ++ c ∷ []) ≡ reduced xs
 behind-current xs c h = reduced-context xs (c ∷ []) [] (in_front-current c [] h) ∙ ap reduced (append-nil xs)
 
--- `..` behind a list that ends in a name goes with it
+-- `..` after a list that ends in a name goes with it
 pub behind-pair : (xs init : List (List ℕ)) (last c : List ℕ) → reduced xs ≡ init ++ last ∷ [] → is_named_component last ≡ true → is_parent c ≡ true → reduced (xs ++ c ∷ []) ≡ init
 behind-pair xs init last c e h k =
     reduced-ahead xs (c ∷ [])
@@ -309,7 +309,7 @@ fixed-snoc [] last c f h k = (f, k, h)
 fixed-snoc (a ∷ []) last c f h k = (f.0, f.1, (f.2, k, h))
 fixed-snoc (a ∷ b ∷ init) last c f h k = (f.0, f.1, fixed-snoc (b ∷ init) last c f.2 h k)
 
--- any other component stays behind a list
+-- any other component stays after a list
 pub behind-stays : (xs init : List (List ℕ)) (last c : List ℕ) → reduced xs ≡ init ++ last ∷ [] → is_current c ≡ false → (is_named_component last && is_parent c) ≡ false → reduced (xs ++ c ∷ []) ≡ init ++ last ∷ c ∷ []
 behind-stays xs init last c e h k =
     reduced-ahead xs (c ∷ [])
@@ -317,7 +317,7 @@ behind-stays xs init last c e h k =
     ∙ ap reduced (append_assoc init (last ∷ []) (c ∷ []))
     ∙ fixed-reduced (init ++ last ∷ c ∷ []) (fixed-snoc init last c (subst IsFixed e (reduced-fixed xs)) h k)
 
--- and behind none
+-- and after an empty one
 pub behind-none : (xs : List (List ℕ)) (c : List ℕ) → reduced xs ≡ [] → is_current c ≡ false → reduced (xs ++ c ∷ []) ≡ c ∷ []
 behind-none xs c e h = reduced-ahead xs (c ∷ []) ∙ ap (λ l. reduced (l ++ c ∷ [])) e ∙ in_front-alone c h
 

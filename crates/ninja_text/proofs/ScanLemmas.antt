@@ -63,7 +63,7 @@ module _ (bytes : List ℕ) (later : Agrees bytes) where
     ]
   ]
 
-  -- after a CR of its own the next byte is scanned as any other, but for an LF
+  -- after a CR of its own the next byte is scanned as any other, except for an LF
   return_more : (b n : ℕ) → end_of (scan_from (n + 1) Return (b ∷ bytes)) ≡ end_from n (Byte 13 ∷ units (b ∷ bytes))
   return_more b n = elim (cases_Bool (b == 10)) [
     | inl f ↦ subst (λ x. end_of (scan_from (n + 1) Return (x ∷ bytes)) ≡ end_from n (Byte 13 ∷ units (x ∷ bytes))) (sym (eqb-true b 10 f))

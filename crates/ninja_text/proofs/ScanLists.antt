@@ -22,7 +22,7 @@ ends_at index Plain = record { text = index; text_fits = omega arith; is = refl 
 ends_at index Dollar = record { text = index; text_fits = omega arith; is = refl }
 ends_at index DollarReturn = record { text = index; text_fits = omega arith; is = refl }
 
--- an open scan goes on
+-- an open scan continues
 open_more : (index : ℕ) (s s' : ScanState) (k : ScanState → Scanned) (o : Option ScanState) → goes_on_from (scan_end index s) k o ≡ Open s' → (next : ScanState) × (o ≡ Some next) × (k next ≡ Open s')
 open_more index s s' k None h = let e : Open s' ≡ End (ends_at index s).text (index + 1) = sym h ∙ (ends_at index s).is in cc
 open_more index s s' k (Some next) h = (next, refl, h)

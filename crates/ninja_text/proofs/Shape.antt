@@ -16,20 +16,20 @@ use Rattle.ninja_text.proofs.ReducedList.{IsFixed, fixed-tail, name-of, either_w
 use Rattle.ninja_text.proofs.Components.{below-some}
 use Rattle.ninja_text.proofs.Canonical.{facts, none-clean, whole-list, rooted-text, reduced-text, is-empty, some-not-empty}
 
--- ---- the names stand behind the `..`
+-- ---- the names are after the `..`
 
 -- the second of two tests fails if the first holds and not both do
 and-other : (n u : Bool) → n ≡ true → (n && u) ≡ false → u ≡ false
 and-other n u h k = sym (ap (λ b. b && u) h) ∙ k
 
--- behind a name there are only names
+-- after a name there are only names
 all-names : (c : List ℕ) (cs : List (List ℕ)) → IsFixed (c ∷ cs) → is_parent c ≡ false → AllByRecursion (λ n. is_named_component n ≡ true) (c ∷ cs)
 all-names c [] f h = (name-of (is_current c) (is_parent c) f h, tt)
 all-names c (d ∷ ds) f h =
     let n = name-of (is_current c) (is_parent c) f.0 h in
     (n, all-names d ds f.2 (and-other (is_named_component c) (is_parent d) n f.1))
 
--- behind the `..` in front there are only names
+-- after the `..` in front there are only names
 behind-parents : (l : List (List ℕ)) → IsFixed l → AllByRecursion (λ n. is_named_component n ≡ true) (drop (prefix_len is_parent l) l)
 behind-parents [] f = tt
 behind-parents (c ∷ cs) f = elim (either_way (is_parent c)) [
@@ -92,7 +92,7 @@ shape path h =
       short = at-most 4096 (length path) f.short;
     }
 
--- the path of a text has its root, and the components that its components come to
+-- the path of a text has its root, and the components that its components reduce to
 pub meaning : (text path : List ℕ) → path_of text ≡ Ok path → (is_rooted path ≡ is_rooted text) × ReducesTo (components text) (parts path)
 meaning text path h =
     let f = facts None text path h in
@@ -135,7 +135,7 @@ slash-ascii : (i : ℕ) → get_or (47 ∷ []) i 0 < 128
 slash-ascii zero = lit< tt
 slash-ascii (suc i) = lit< tt
 
--- a text behind a slash
+-- a text after a slash
 slash-text : (t : List ℕ) → IsUtf8 t → IsUtf8 (47 ∷ t)
 slash-text t u = IsUtf8-append (47 ∷ []) t (IsUtf8-from_ascii (47 ∷ []) slash-ascii) u
 
@@ -172,6 +172,6 @@ canonical-text build text p h u =
     let a = parts-text (components text) (subst IsUtf8 (sym (join_with_byte-slice_split 47 text)) u) in
     subst IsUtf8 (facts build text p h).made (seen-text build (is_rooted text) (reduced (components text)) (reduced-each IsUtf8 (components text) a))
 
--- a relative path behind its work directory
+-- a relative path after its work directory
 pub joined-text : (w p t : List ℕ) → IsUtf8 w → IsUtf8 p → t ≡ w ++ 47 ∷ p → IsUtf8 t
 joined-text w p t u v e = subst IsUtf8 (sym e) (IsUtf8-append w (47 ∷ p) u (slash-text p v))

@@ -46,7 +46,9 @@ total_units (a ∷ b ∷ c ∷ bytes) = elim (cases_Bool (a == 36)) [
   | inr d ↦ rw d (let later = total_units (b ∷ c ∷ bytes) in omega arith)
 ]
 
--- from an index up to a limit each token has at least one byte, and begins where the one before it ends, or after that
+-- from an index up to a limit each token has at least one byte, and begins at the end of the one
+-- before it, or after
+-- that
 abbrev Rise : ℕ → ℕ → List TokenAt → Type 0
 Rise index limit [] = index ≤ limit
 Rise index limit (t ∷ ts) = (index ≤ t.start) × (t.start < t.end) × Rise t.end limit ts

@@ -47,7 +47,7 @@ text_both : (us vs : List LineUnit) (x y : List ℕ) → text_of_units us ≡ x 
 text_both us vs x y p q = flat_map-append unit_text us vs ∙ ap (λ t. t ++ text_of_units vs) p ∙ ap (λ t. x ++ t) q
 
 module _ {X : Type 0} (view : TokenKind → List ℕ → X) where
-  -- what stands in front of a text: nothing more, a word, a path, a space, a sign
+  -- what precedes a text: nothing more, a word, a path, a space, a sign
   pub written_none : Written view false [] []
   written_none = record { units = []; text_is = refl; sound = refl; begins = refl; yields = no_units view }
 
@@ -109,14 +109,14 @@ module _ {X : Type 0} (view : TokenKind → List ℕ → X) where
     pub written_text : is_comment (text ++ 10 ∷ []) ≡ false → text_of_line (text ++ 10 ∷ []) ≡ text
     written_text said = ap (λ t. text_of_line (t ++ 10 ∷ [])) (sym w.text_is) ∙ text_is w.units w.sound (ap (λ t. is_comment (t ++ 10 ∷ [])) w.text_is ∙ said) ∙ w.text_is
 
--- a first token, and where it stands
+-- a first token, and its index
 pub record First (index : ℕ) (ts : List TokenAt) : Type 0 where
   pub token : TokenAt
   pub rest : List TokenAt
   pub are : ts ≡ token ∷ rest
   pub at : token.start ≡ index
 
--- the first token of what begins with a word stands at its beginning
+-- the first token of what begins with a word is at its beginning
 word_first : (us : List LineUnit) (n : ℕ) → list_all is_sound us ≡ true → goes_on us ≡ true → First n (tokens_from n us)
 word_first [] n h g = absurd (let e : false ≡ true = g in cc)
 word_first (u ∷ us) n h g =

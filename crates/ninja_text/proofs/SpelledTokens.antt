@@ -1,4 +1,4 @@
--- The tokens of units, one after another, wherever in a text they stand.
+-- The tokens of units, one after another, wherever in a text they are.
 use Rattle.std.proofs.Common.{◌≡◌, ℕ, ◌+◌, ◌-◌, true, false, List, [], ◌∷◌, ◌++◌, length, map, take, refl, sym, ap, ◌∙◌, subst, arith, length-append, ◌==◌}
 use Rattle.std.specs.Prelude.{slice_range}
 use Rattle.std.specs.List.{list_all}
@@ -72,7 +72,7 @@ module _ {X : Type 0} (view : TokenKind → List ℕ → X) where
   abbrev pub viewed : List ℕ → TokenAt → X
   viewed text t = view t.kind (raw text t)
 
-  -- These are the tokens of the units, wherever they stand.
+  -- These are the tokens of the units, wherever they are.
   abbrev pub Yields : List LineUnit → List X → Type 0
   Yields us xs = (front : List LineUnit) → map (viewed (text_of_units (front ++ us))) (tokens_from (length (text_of_units front)) us) ≡ xs
 

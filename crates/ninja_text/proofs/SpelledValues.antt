@@ -66,7 +66,7 @@ front_continuation part c more text parts b e = elim (part-of part c more) [
   | inr s ↦ b.no_continuation _ 13 refl (e ∙ s)
 ]
 
--- no space behind a continuation: another one, or what stands behind the gap
+-- no space after a continuation: another one, or what is after the gap
 gap_no_space : (part : List ℕ) (parts : List (List ℕ)) (x rest : List ℕ) → AllByRecursion IsContinuation parts → Behind (part ∷ parts) x → concat parts ++ x ≡ 32 ∷ rest → ⊥
 gap_no_space part [] x rest a b e = b.no_space part [] refl rest e
 gap_no_space part (p ∷ ps) x rest a b e = elim a.0.1 [

@@ -14,7 +14,7 @@ tail-of b c x y e = cc
 pub head-of : (b c : ℕ) (x y : List ℕ) → b ∷ x ≡ c ∷ y → b ≡ c
 head-of b c x y e = cc
 
--- an ordinary byte is none that is escaped
+-- an ordinary byte is not one that is escaped
 not-escaped : (b : ℕ) → IsTrue (not (is_escaped b || is_unwritable b)) → is_escaped b ≡ false
 not-escaped b h = go (is_escaped b) (is_unwritable b) (true_is _ h)
   where
@@ -30,7 +30,7 @@ plain-dollar b e h = let k : is_escaped 36 ≡ false = ap is_escaped (sym e) ∙
 plain-space : (b : ℕ) → b ≡ 32 → is_escaped b ≡ false → ⊥
 plain-space b e h = let k : is_escaped 32 ≡ false = ap is_escaped (sym e) ∙ h in cc
 
--- what is not escaped does not stand behind a `$`
+-- what is not escaped is not after a `$`
 pub escaped-not : (b n : ℕ) → b ≡ n → is_escaped n ≡ false → IsTrue (is_escaped b) → ⊥
 escaped-not b n e h t = let k : is_escaped n ≡ true = ap is_escaped (sym e) ∙ true_is _ t in let j : false ≡ true = sym h ∙ k in cc
 

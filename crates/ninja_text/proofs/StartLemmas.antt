@@ -1,4 +1,4 @@
--- Where tokens and names may begin: indexes only grow, so nothing of an indented text stands at its first byte.
+-- Tokens and names begin at growing indexes, so nothing of an indented text is at its first byte.
 use Rattle.std.proofs.Common.{inl, inr, ◌≡◌, ℕ, ◌+◌, ◌-◌, ◌<◌, ◌≤◌, Bool, List, [], ◌∷◌, take, get_or, refl, sym, ap, ◌∙◌, subst, Some, None, arith, zero, suc}
 use Rattle.std.specs.Prelude.{Option, nat_lt, ◌&&◌, slice_range}
 use Rattle.std.proofs.lemmas.Bool.{cases_Bool}

@@ -81,7 +81,7 @@ continuation_blank (Continuation len) h = refl
 continuation_blank (Escape b) h = absurd (let x : false ≡ true = h in cc)
 continuation_blank (Byte b) h = absurd (let x : false ≡ true = h in cc)
 
--- a unit that stands at an index, and its length
+-- a unit that is at an index, and its length
 pub record Stands (text : List ℕ) (index n : ℕ) (u : LineUnit) : Type 0 where
   pub len : n ≡ unit_len u
   pub first : units (drop index text) ≡ u ∷ units (drop (index + n) text)

@@ -3,7 +3,7 @@ use Rattle.std.proofs.Common.{◌≡◌, ℕ, zero, suc, ◌<◌, ◌≤◌, ◌
 use Rattle.std.specs.declared.io.Error.{Error}
 use Rattle.ninja_text.specs.Counting.{Call, write_failed, TakesInTurn, IsTakenInTurn}
 
--- one more call behind the others
+-- one more call after the others
 takes-one-more : {W : Type 0} (writes : Call W) (text : List ℕ) (out : W) (index : ℕ) (turns : List (W × ℕ)) (last : W) (end : ℕ) (next : W) (n : ℕ)
     → TakesInTurn writes text out index turns last end → 0 < n → writes last next (Ok n) (drop end text)
     → TakesInTurn writes text out index (turns ++ (next, n) ∷ []) next (end + n)

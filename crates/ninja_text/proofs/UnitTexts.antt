@@ -28,7 +28,7 @@ abbrev pub AreUnitTexts : List LineUnit → List ℕ → Type 0
 AreUnitTexts [] bytes = bytes ≡ []
 AreUnitTexts (u ∷ us) bytes = (own : List ℕ) × (rest : List ℕ) × IsUnitText u own × TakesSpaces u us × AreUnitTexts us rest × (bytes ≡ own ++ rest)
 
--- so many spaces, and one more
+-- that many spaces, and one more
 abbrev spaces : ℕ → List ℕ
 spaces n = replicate n 32
 

@@ -17,7 +17,7 @@ is_name_unit (Continuation len) = false
 is_name_unit (Escape b) = false
 is_name_unit (Byte b) = is_identifier_byte b
 
--- units, and the index where they begin
+-- units, and the index at which they begin
 pub record Rest : Type 0 where
   pub place : ℕ
   pub units : List LineUnit
@@ -37,7 +37,7 @@ abbrev pub tail_units : List LineUnit → List LineUnit
 tail_units [] = []
 tail_units (u ∷ us) = us
 
--- The indexes of the name and the value, where the text is: a blank run, a name, a blank run, `=`,
+-- The indexes of the name and the value, if the text is: a blank run, a name, a blank run, `=`,
 -- a blank run, a value. Each run is the longest at its index, the name has at least one byte, and
 -- the value is all that is left.
 abbrev pub assignment_indexes : Text → Option AssignmentIndexes

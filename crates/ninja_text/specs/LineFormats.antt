@@ -54,20 +54,20 @@ pub record StandsForValue {Class Value : Type 0} (format : LineFormat Class Valu
 
 -- ---- faults
 
--- After lines of these classes, no text of the format goes on with this line.
+-- After lines of these classes, no text of the format continues with this line.
 abbrev pub IsFaultyAfter : {Class Value : Type 0} → LineFormat Class Value
     → List Class → Text → Type 0
 IsFaultyAfter {Class} format classes line =
     (c : Class) → IsOfClass format line c → Begins format (classes ++ c ∷ []) → ⊥
 
 -- What can be wrong with a text of a format: with a line after lines of these classes, and with an
--- end where after lines of these classes these bytes are left over.
+-- end if these bytes are left over after lines of these classes.
 pub record LineFaults (Class Fault : Type 0) : Type 1 where
   pub of_line : List Class → Text → Fault → Type 0
   pub of_end : List Class → Bytes → Fault → Type 0
 
 -- A line of the text is the first faulty one: some text of the format begins with the lines before
--- it, and none goes on with this line. The number is that of the line's first physical line. Any
+-- it, and none continues with this line. The number is that of the line's first physical line. Any
 -- bytes may come after the line.
 pub record FaultyLine {Class Value Fault : Type 0} (format : LineFormat Class Value)
     (faults : LineFaults Class Fault) (bytes : Bytes) (line_number : ℕ) (fault : Fault)
@@ -117,7 +117,7 @@ pub record IsDecided {Class Value Fault : Type 0} (format : LineFormat Class Val
   -- lines of these classes stand for one value at most
   pub one_value : (classes : List Class) (v w : Value) → format.grammar classes v
       → format.grammar classes w → v ≡ w
-  -- a line is of a class with which a text goes on, or none goes on with it and it has a fault
+  -- a line is of a class with which a text continues, or none continues with it and it has a fault
   pub line : (classes : List Class) (line : Text) → Begins format classes
       → ((c : Class) × IsOfClass format line c × Begins format (classes ++ c ∷ []))
       ⊎ ((fault : Fault) × faults.of_line classes line fault × IsFaultyAfter format classes line)

@@ -1,5 +1,5 @@
 -- Lines that are read one by one into a state, by a text that comes in pieces: which lines were
--- read, and where the fault is.
+-- read, and the line of the fault.
 use Rattle.std.specs.Prelude.{◌≡◌, ℕ, ◌<◌, ◌≤◌, false, List, [], ◌∷◌, ◌++◌, length, take, Option, Some, None, Result, Ok, Err, ◌⊎◌}
 use Rattle.std.specs.List.{flat_map, AllByRecursion}
 use Rattle.ninja_text.specs.Bytes.{Bytes, Text}

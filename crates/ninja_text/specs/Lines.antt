@@ -20,7 +20,7 @@ is_comment (b ∷ bytes) = if b == space then is_comment bytes else b == hash
 abbrev pub line_units : Bytes → List LineUnit
 line_units bytes = if is_comment bytes then map Byte bytes else units bytes
 
--- where a line ends: the length of what is before the end, and that of the line
+-- the end of a line: the length of what is before the end, and the length of the line
 pub record LineEnd : Type 0 where
   pub text_len : ℕ
   pub line_len : ℕ
@@ -30,7 +30,7 @@ begins_with_line_feed [] = false
 begins_with_line_feed (u ∷ us) = is_byte line_feed u
 
 -- The first end among units that begin at an index: an LF that is a unit by itself, with the CR
--- directly before it if that is one too.
+-- directly before it if that is also one.
 abbrev pub end_from : ℕ → List LineUnit → Option LineEnd
 end_from index [] = None
 end_from index (u ∷ us) =

@@ -32,7 +32,7 @@ IsValuePiece (d ∷ b ∷ c ∷ more) value = ⊥
 
 -- The raw text of a value stands for these bytes: it is a piece for each of them, with a gap before
 -- each piece and at the end. The spaces after a continuation are the gap's, so that a space is a
--- piece only where there is no gap before it.
+-- piece only if there is no gap before it.
 abbrev pub SpellsValue : Text → Text → Type 0
 SpellsValue raw [] = IsGap raw
 SpellsValue raw (b ∷ bs) = (gap : Text) × (piece : Text) × (rest : Text)

@@ -18,7 +18,7 @@ parents path = prefix_len is_parent (parts path)
 abbrev pub names : PathText → List Component
 names path = drop (parents path) (parts path)
 
--- The shape of a canonical path: perhaps a slash, then `..`s, or else none, then names.
+-- The shape of a canonical path: perhaps a slash, otherwise any number of `..`, then names.
 pub record IsShaped (path : PathText) : Type 0 where
   pub text : path ≡ path_text (is_rooted path) (parts path)
   pub some : parts path ≢ []

@@ -34,7 +34,7 @@ below [] (c ∷ cs) = Some (c ∷ cs)
 below (d ∷ ds) [] = None
 below (d ∷ ds) (c ∷ cs) = if bytes_eq d c then below ds cs else None
 
--- the components below a directory as a relative path, or else all of them as an absolute one
+-- the components below a directory as a relative path, otherwise all of them as an absolute one
 abbrev pub relative_or : List Component → Option (List Component) → PathText
 relative_or list None = path_text true list
 relative_or list (Some rest) = path_text false rest

@@ -27,7 +27,7 @@ failed_in (Waiting text_len) = false
 failed_in Lent = false
 failed_in Failed = true
 
--- what a phase says of the buffer: the state of its scan, or where the line's end was found
+-- what a phase says of the buffer: the state of its scan, or the line's end that was found
 abbrev pub PhaseFits : Phase → Bytes → Type 0
 PhaseFits (Gathering state) bytes =
     (length bytes < line_limit) × (scan_from 0 Start bytes ≡ Open state)

@@ -35,7 +35,7 @@ pub record ReductionStep (old new : List Component) : Type 0 where
   pub before : old ≡ front ++ (gone ++ back)
   pub after : new ≡ front ++ back
 
--- so many steps, one after another, each of them any that applies
+-- that many steps, one after another, each of them any that applies
 abbrev pub Steps : ℕ → List Component → List Component → Type 0
 Steps zero old new = old ≡ new
 Steps (suc n) old new = (mid : List Component) × ReductionStep old mid × Steps n mid new

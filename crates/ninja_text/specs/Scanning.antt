@@ -45,12 +45,12 @@ scan_end index Plain = End index (index + 1)
 scan_end index Dollar = End index (index + 1)
 scan_end index DollarReturn = End index (index + 1)
 
--- goes on from the next state, if there is one
+-- continues from the next state, if there is one
 abbrev pub goes_on_from : Scanned → (ScanState → Scanned) → Option ScanState → Scanned
 goes_on_from ended later None = ended
 goes_on_from ended later (Some next) = later next
 
--- where a scan comes to whose bytes begin at an index of the line
+-- the end of a scan whose bytes begin at an index of the line
 abbrev pub scan_from : ℕ → ScanState → Bytes → Scanned
 scan_from index state [] = Open state
 scan_from index state (b ∷ bytes) =

@@ -15,7 +15,7 @@ abbrev pub total_len : List LineUnit → ℕ
 total_len [] = 0
 total_len (u ∷ us) = unit_len u + total_len us
 
--- whether units may follow in a word: continuations and pieces, of which the last is a piece; where
+-- whether units may follow in a word: continuations and pieces, of which the last is a piece; if
 -- there are none, whether the word may end
 abbrev pub may_follow : Bool → List LineUnit → Bool
 may_follow may_end [] = may_end
@@ -31,7 +31,7 @@ abbrev pub begins_with : ℕ → List LineUnit → Bool
 begins_with byte [] = false
 begins_with byte (u ∷ us) = is_byte byte u
 
--- Units are a token of this kind, the longest that fits where these units come after them.
+-- Units are a token of this kind, the longest that fits if these units come after them.
 abbrev pub IsToken : TokenKind → List LineUnit → List LineUnit → Type 0
 IsToken Word us after = (is_word us ≡ true) × (goes_on after ≡ false)
 IsToken Bar us after =

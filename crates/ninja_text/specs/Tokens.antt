@@ -26,7 +26,7 @@ is_piece (Continuation len) = false
 is_piece (Escape b) = true
 is_piece (Byte b) = not ((b == space) || (b == colon) || (b == vertical_bar))
 
--- whether, past continuations, a piece follows: a word before them goes on
+-- whether, past continuations, a piece follows: a word before them continues
 abbrev pub goes_on : List LineUnit → Bool
 goes_on [] = false
 goes_on (Continuation len ∷ us) = goes_on us
@@ -43,8 +43,8 @@ abbrev pub token_of : TokenKind → ℕ → ℕ → TokenAt
 token_of kind index len = record { kind = kind; start = index; end = index + len }
 
 -- What a unit at an index adds in front of the tokens of the units after it. A piece belongs to the
--- word that goes on after it, or else it is the end of a word, here the whole of it; a blank unit
--- adds none.
+-- word that continues after it, otherwise it is the end of a word, here the whole of it; a blank
+-- unit adds none.
 abbrev pub with_unit : ℕ → LineUnit → List LineUnit → List TokenAt → List TokenAt
 with_unit index u us ts =
     if is_piece u then
@@ -108,7 +108,7 @@ pub record IsSlice (text : Text) (t : SeenToken) : Type 0 where
   pub within : t.end ≤ length text
   pub raw : t.raw ≡ slice_range text t.start t.end
 
--- Each token begins where the one before it ends, or after that; the first one, at this index or
+-- Each token begins at the end of the one before it, or after that; the first one, at this index or
 -- after it.
 abbrev pub RiseFrom : ℕ → List SeenToken → Type 0
 RiseFrom index [] = Unit {0}

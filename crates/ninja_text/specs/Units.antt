@@ -29,7 +29,7 @@ is_continuation (Continuation len) = true
 is_continuation (Escape b) = false
 is_continuation (Byte b) = false
 
--- A continuation of so many bytes, in front of units: it takes the spaces that they begin with.
+-- A continuation of that many bytes, in front of units: it takes the spaces that they begin with.
 abbrev pub with_continuation : ℕ → List LineUnit → List LineUnit
 with_continuation len [] = Continuation len ∷ []
 with_continuation len (Byte b ∷ us) =

@@ -30,7 +30,7 @@ ascii_before (x ∷ xs) r e u =
     let small = ltb-true _ _ p.0 in
     IsUtf8-append (x ∷ []) (xs ++ r) (subst IsUtf8 (encode_ascii x small) (IsUtf8-encode x (low_scalar x (omega arith)))) (ascii_before xs r p.1 u)
 
--- what stands on either side of a byte of ASCII
+-- what is on either side of a byte of ASCII
 sides : (p s : List ℕ) (x : ℕ) → x < 128 → IsUtf8 (p ++ x ∷ s) → IsUtf8 p × IsUtf8 s
 sides p s x small u =
     let total : length (p ++ x ∷ s) ≡ length p + (1 + length s) = length-append p (x ∷ s) ∙ omega arith in

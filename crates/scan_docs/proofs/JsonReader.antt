@@ -1,5 +1,5 @@
 -- The lexer and the parser over which `serde_json` says what a text is read as. Their library is
--- none of this crate's, so each has its name here from an equation that holds by computation.
+-- not this crate's, so each has its name here from an equation that holds by computation.
 use Rattle.std.proofs.Common.{◌≡◌, ℕ, suc, List, [], ◌∷◌, ◌++◌, true, false, length, Option, option_map, option_and_then, refl}
 use Rattle.std.specs.List.{flat_map}
 use Rattle.serde_json.specs.Data.{Data, string}
@@ -96,7 +96,7 @@ abbrev pub value : ℕ → List Token → Option Parsed
 value = the (λ f. (text : List ℕ) (ts : List Token) (m : ℕ) → tokens text ≡ ts → 127 ≡ m → (h : Json → Option Data) × (k : Parsed → Option Json) × (d : Option Data) × (then h (then k (f m ts)) ≡ d)) _
     (λ text ts m e l. (_, _, _, rw (e, l, is_then {A = Parsed}, is_then {A = Json}) at (same {A = Option Data} (read text))))
 
--- the values of an array, in so many turns at most
+-- the values of an array, in that many turns at most
 abbrev pub items : ℕ → ℕ → List Token → Option ParsedItems
 unfolding serde_json_on_literals
 items = the (λ f. (m : ℕ) (ts : List Token) (n : ℕ) → length ts ≡ n → (g : ParsedItems → Parsed) × (r : Option Parsed) × (mapped g (f m n ts) ≡ r)) _

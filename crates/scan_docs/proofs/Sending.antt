@@ -15,7 +15,7 @@ entries_count : {A : Type 0} (f : A → Data) (xs : List A) → length xs ≡ it
 entries_count f [] = refl
 entries_count f (x ∷ xs) = ap suc (entries_count f xs)
 
--- an entry, and what ends the array well behind it
+-- an entry, and what ends the array well after it
 pub entry_sent : {A : Type 0} (f : A → Data) (xs : List A) (i : ℕ) (x : A) (old mid end : Log)
     → i < length xs → x ≡ get_or xs i x → SendsValue (f x) old mid
     → SendsItems (items_of (map f (drop (i + 1) xs))) mid end → SendsItems (items_of (map f (drop i xs))) old end

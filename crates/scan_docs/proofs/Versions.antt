@@ -33,7 +33,7 @@ target_versions (Some zero) = refl
 target_versions (Some (suc zero)) = refl
 target_versions (Some (suc (suc n))) = grind (arith, nat_tests)
 
--- what is checked of a scan document's head behind its version
+-- what is checked of a scan document's head after its version
 abbrev pub rules_checks : Data → List Check
 rules_checks d = shape_check place.Document m.Rules (is_some (entries m.Rules d)) ∷ (scan.is_short (entries_of m.Rules d) otherwise TooLarge place.Document) ∷ []
 

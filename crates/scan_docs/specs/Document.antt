@@ -26,8 +26,8 @@ pub record IsAccepted {V : Type 0} (checks : Data → List Check) (means : Data 
   pub passes : first_refusal (checks tree) ≡ None
   pub meaning : means tree value
 
--- The bytes are too many, or else have no tree, or else this is the fault of the first check that is
--- false.
+-- The bytes are too many, otherwise they have no tree, otherwise this is the fault of the first
+-- check that is false.
 pub data IsRefused (checks : Data → List Check) (bytes : Bytes) (fault : DocFault) : Type 0 where
   large : document_limit < length bytes → fault ≡ TooLarge place.Document →
       IsRefused checks bytes fault

@@ -49,7 +49,7 @@ info_tree info =
 unfoldable pub info_text : InfoValue → Text
 info_text info = compact_text (info_tree info)
 
--- the module's paths are text, as those of all documents are
+-- the module's paths are text, as the paths of all documents are
 pub record IsModuleText (entry : ModuleValue) : Type 0 where
   pub file : IsText entry.file
   pub required : All (λ pair. IsText pair.1) entry.required

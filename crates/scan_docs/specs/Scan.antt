@@ -9,7 +9,7 @@ use Rattle.scan_docs.specs.declared.member.Member.TheVariants as m
 use Rattle.scan_docs.specs.Shape.{text, text_of, flag, entries_of}
 use Rattle.scan_docs.specs.Name.{IsName}
 
--- where a target's modules are compiled to, and the directory that Ninja runs in
+-- the files that a target's modules are compiled to, and the directory that Ninja runs in
 pub record SettingValue : Type 0 where
   pub module_dir : PathText
   pub module_ext : Text
@@ -37,7 +37,7 @@ abbrev pub joined_file : PathText → Name → Text → PathText
 joined_file dir name ext =
     (if length dir == 0 then [] else dir ++ slash ∷ []) ++ map dashed name ++ ext
 
--- where a module is compiled to by its name
+-- the file that a module is compiled to by its name
 abbrev pub made_file : SettingValue → Name → PathText
 made_file s name = joined_file s.module_dir name s.module_ext
 

@@ -1,4 +1,4 @@
--- The infos that can be written and read again.
+-- The info files that can be written and read again.
 use Rattle.std.specs.List.{All}
 use Rattle.ninja_text.specs.Bytes.{PathText, Name}
 use Rattle.ninja_text.specs.Paths.{IsPath}
@@ -12,12 +12,12 @@ pub record IsSoundPair (name : Name) (path : PathText) : Type 0 where
   pub canonical : IsPath path
   pub is_text : IsText path
 
--- so are those of a module
+-- so are the names and paths of a module
 pub record IsSoundModule (entry : ModuleValue) : Type 0 where
   pub named : IsSoundPair entry.name entry.file
   pub required : All (λ pair. IsSoundPair pair.0 pair.1) entry.required
 
--- so are those of an info, and the target's name is accepted
+-- so are the names and paths of an info, and its target name is accepted
 pub record IsSoundInfo (info : InfoValue) : Type 0 where
   pub target : IsTargetName info.target
   pub modules : All IsSoundModule info.modules

@@ -10,7 +10,7 @@ use Rattle.scan_docs.specs.declared.map_form.MapForm.TheVariants.{Gcc, Clang}
 use Rattle.scan_docs.specs.Shape.{text, flag, texts_of}
 use Rattle.scan_docs.specs.Scan.{SettingValue}
 
--- the members of a target document: texts as they stand, and the dyndep file also as Ninja sees it
+-- the members of a target document: texts as they are, and the dyndep file also as Ninja sees it
 pub record TargetDocumentValue : Type 0 where
   pub target : Name
   pub setting : SettingValue
@@ -54,7 +54,7 @@ restat d = unwrap_or (flag m.Restat d) false
 
 -- ---- the meaning
 
--- the members as they stand in the document, and the dyndep file as Ninja sees it
+-- the members as they are in the document, and the dyndep file as Ninja sees it
 pub record IsTarget (d : Data) (t : TargetDocumentValue) : Type 0 where
   pub target : text m.Target d ≡ Some t.target
   pub module_dir : text m.ModuleDir d ≡ Some t.setting.module_dir

@@ -34,7 +34,7 @@ name_checks d =
     ∷ (is_target_name (text_of m.Target d) otherwise BadName place.Document)
     ∷ []
 
--- where modules are compiled to, and where Ninja runs
+-- the files that modules are compiled to, and the directory that Ninja runs in
 unfoldable pub directory_checks : Data → List Check
 directory_checks d =
     shape_check place.Document m.ModuleDir (is_some (text m.ModuleDir d))

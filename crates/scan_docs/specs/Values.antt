@@ -72,7 +72,7 @@ info_of bytes = info_in (tree_of bytes)
 
 -- ---- target documents
 
--- where a target's modules are compiled to, and where Ninja runs
+-- the files that a target's modules are compiled to, and the directory that Ninja runs in
 abbrev pub target_setting : Data → SettingValue
 target_setting d = record {
   module_dir = text_of m.ModuleDir d;

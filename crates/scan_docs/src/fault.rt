@@ -11,7 +11,8 @@ use ninja_text::{Failure, Path, PathFault};
 use std::fmt;
 use thiserror::Error;
 
-/// Where a document is faulty. Rules, modules and entries are given by their index in the list.
+/// The place of a fault in a document. Rules, modules and entries are given by their index in the
+/// list.
 #[derive(Clone, Copy, Debug, PartialEq, Eq)]
 pub enum Place {
     /// The document itself.
@@ -95,7 +96,7 @@ impl fmt::Display for DocFault {
     }
 }
 
-/// The fault of a value that has the wrong type or is missing.
+/// Returns the fault of a value that has the wrong type or is missing.
 pub(crate) fn bad_shape(place: Place, member: Member) -> Failure<DocFault>
     ensures { result ≡ Failure.Fault (DocFault.BadShape place member) }
 {

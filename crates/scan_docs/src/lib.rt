@@ -28,7 +28,7 @@
 //! `proofs/`.
 //!
 //! `must-fail/` has a wrong body for each public function except the laws, which have no bodies.
-//! The clause that refuses `name_bytes_of_another` is also that of [`Name::text`] and
+//! The clause that rejects `name_bytes_of_another` is also that of [`Name::text`] and
 //! [`TargetName::text`]. `name_copy_of_another` also stands for the copies of [`TargetName`],
 //! `first_module_written_for_each` for both functions that write an info, and
 //! `indexes_of_a_place_swapped` for the texts of [`DocFault`] and [`Member`].

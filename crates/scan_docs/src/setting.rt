@@ -1,9 +1,9 @@
-//! Where a target's modules are compiled to.
+//! The files that a target's modules are compiled to.
 
 use ninja_text::Path;
 use std::marker::Model;
 
-/// Where a target's modules are compiled to.
+/// The files that a target's modules are compiled to.
 #[derive(Drop)]
 pub struct Setting {
     /// The directory of the BMIs, or an empty string.

@@ -33,7 +33,7 @@ use std::marker::Model;
 #[derive(Drop)]
 pub struct TargetSpec {
     pub target: TargetName,
-    /// Where modules are compiled to, and the directory that Ninja runs in: the members
+    /// The files that modules are compiled to, and the directory that Ninja runs in: the members
     /// `module-dir`, `module-ext` and `build-dir`.
     pub setting: Setting,
     /// The scan documents.
@@ -166,7 +166,7 @@ fn read_build_dir(alloc: Global, tree: &Value) -> Result<Option<Path>, Failure<D
     }
 }
 
-/// The members `scans`, `linked` and `private`.
+/// Returns the members `scans`, `linked` and `private`.
 #[tactic(auto, unfolding(crate::specs::TargetChecks::list_checks, crate::specs::TargetChecks::kept_checks))]
 fn read_inputs(
     alloc: Global,
@@ -207,7 +207,7 @@ fn read_names(alloc: Global, texts: &[String]) -> Result<Vec<Name>, Failure<DocF
     Ok(names)
 }
 
-/// The member `dyndep` and its path, which has to be one as Ninja sees it.
+/// Returns the member `dyndep` and its path, which has to be one as Ninja sees it.
 #[tactic(auto, unfolding(crate::specs::TargetChecks::dyndep_checks))]
 fn read_dyndep(
     alloc: Global,
@@ -226,7 +226,7 @@ fn read_dyndep(
     Ok((dyndep, path))
 }
 
-/// The members `info`, `map`, `edges` and `restat`.
+/// Returns the members `info`, `map`, `edges` and `restat`.
 #[tactic(auto, unfolding(crate::specs::TargetChecks::file_checks))]
 fn read_outputs(
     alloc: Global,

@@ -14,11 +14,11 @@ FindsMade g files None =
     (k : ℕ) (file : List ℕ) → slice_get files k ≡ Some file → IsMadeBefore g files k file → ⊥
 FindsMade g files (Some k) = (file : List ℕ) × IsFirstAt (IsMadeBefore g files) files k file
 
--- the same in every graph that has these makers
+-- the same in every graph that has these producers
 abbrev pub FindsMadeIn : (List ℕ → Option ℕ) → List (List ℕ) → Option ℕ → Type 0
 FindsMadeIn maker files found = (g : List EdgeValue) → AreMakers g maker → FindsMade g files found
 
--- in every graph that has these makers, no added output is made by an edge or added twice
+-- in every graph that has these producers, no added output is made by an edge or added twice
 abbrev pub AddsFresh : (List ℕ → Option ℕ) → List StatementValue → Type 0
 AddsFresh maker additions = (g : List EdgeValue) → AreMakers g maker → NoneMadeBefore g additions
 
@@ -29,7 +29,7 @@ IsFirstMade g additions fault =
     × IsFirstAt (IsMadeBefore g (added_outputs additions)) (added_outputs additions) k file
     × (fault ≡ AddedTwice file)
 
--- the same in every graph that has these makers
+-- the same in every graph that has these producers
 abbrev pub AddsMade : (List ℕ → Option ℕ) → List StatementValue → EffectFault → Type 0
 AddsMade maker additions fault =
     (g : List EdgeValue) → AreMakers g maker → IsFirstMade g additions fault

@@ -133,7 +133,7 @@ with_path (Err fault) paths = Err fault
 with_path (Ok path) (Err fault) = Err fault
 with_path (Ok path) (Ok paths) = Ok (path ∷ paths)
 
--- the paths of texts, or the fault of the first that is none
+-- the paths of texts, or the fault of the first that is not a valid path
 abbrev pub paths_of : List (List ℕ) → Result (List (List ℕ)) PathFault
 paths_of [] = Ok []
 paths_of (text ∷ texts) = with_path (path_of text) (paths_of texts)
@@ -144,7 +144,7 @@ abbrev pub then_paths : {T : Type 0} → Result (List (List ℕ)) PathFault
 then_paths (Err fault) next = Err fault
 then_paths (Ok paths) next = next paths
 
--- a build line's paths, or the fault of its first text that is none
+-- a build line's paths, or the fault of its first text that is not a valid path
 abbrev pub edge_paths : EdgeTexts → Result EdgeTexts PathFault
 edge_paths t =
     then_paths (paths_of t.outputs) (λ outputs.
@@ -181,7 +181,7 @@ abbrev pub FindsClass : List ℕ → Bool → ListingClass → Type 0
 FindsClass text comment c =
     (row : Row) × (row_of text comment ≡ Ok row) × (class_of_row row ≡ Ok c)
 
--- ---- where it may come
+-- ---- the points at which it is allowed
 
 -- whether a line may come after lines that leave this open: a binding only once under a build
 -- line
@@ -201,7 +201,7 @@ abbrev pub path_cause : Result ListingClass PathFault → Option LineCause
 path_cause (Ok c) = None
 path_cause (Err fault) = Some (BadPath fault)
 
--- the cause of a line of this row: its form does not fit here, or a path of it is none
+-- the cause of a line of this row: its form does not fit here, or a path of it is not valid
 abbrev pub row_cause : Binding → Result Row LineCause → Option LineCause
 row_cause binding (Err cause) = Some cause
 row_cause binding (Ok row) =
@@ -233,7 +233,7 @@ with_last_dyndep path es = with_last (λ e. record e { dyndep = Some path }) es
 abbrev pub with_last_restat : Bool → List EdgeValue → List EdgeValue
 with_last_restat flag es = with_last (λ e. record e { restat = flag }) es
 
--- What a line of this class does, where it may come. A comment changes nothing. A blank line
+-- What a line of this class does, if it is allowed. A comment changes nothing. A blank line
 -- closes the open edge. A build line opens an edge. A binding sets what it names in the open edge,
 -- once.
 abbrev pub step : Binding → List EdgeValue → ListingClass → Option ListingValue

@@ -3,7 +3,7 @@ use Rattle.std.specs.Prelude.{◌≡◌, ℕ, ◌+◌, ◌<◌, ◌≤◌, Bool,
 use Rattle.dep_order.specs.Needs.{needs_of, NodeNeeds, Reaches}
 use Rattle.dep_order.specs.inner.Users.{one_if, count_of}
 
--- whether the search has come to a node
+-- whether the search has reached a node
 abbrev pub is_seen : List Bool → ℕ → Bool
 is_seen seen node = slice_index_or seen node false
 

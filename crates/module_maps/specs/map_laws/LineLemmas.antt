@@ -162,7 +162,7 @@ some-line (b ∷ bs) =
     by true parts line lines e = ([], parts, refl)
     by false parts line lines e = (b ∷ line, lines, ap (onto_first b) e)
 
--- how reading goes on after a line with this entry, or with none
+-- how reading continues after a line with this entry, or with none
 abbrev pub read_on : LineForm → List MapEntry → ℕ → List (List ℕ) → Option MapEntry →
     Result (List MapEntry) MapFault
 read_on form entries n lines None = Err (BadMapLine n)
@@ -194,7 +194,7 @@ line-bad form entries n line text e =
 
 -- ---- what was written is read
 
--- bytes of which a test holds are none of those of which it does not
+-- bytes of which a test holds are not among those of which it does not
 pub lacks : (test : ℕ → Bool) (mark : ℕ) → test mark ≡ false → (xs : List ℕ) →
     list_all test xs ≡ true → Lacks mark xs
 lacks test mark outside xs all k d within = by (get_or xs k d == mark) refl
@@ -252,7 +252,7 @@ pub fit-lacks : (mark : ℕ) (path : List ℕ) → is_map_byte mark ≡ false �
     Lacks mark path
 fit-lacks mark path outside fit = lacks is_map_byte mark outside path fit
 
--- the bytes of the two are none that neither may have
+-- the bytes of the two are not those that neither may have
 pub pair-lacks : (mark between : ℕ) (pair : List ℕ × List ℕ) → is_name_byte mark ≡ false →
     is_map_byte mark ≡ false → (between == mark) ≡ false → IsModulePair pair →
     is_fit pair.1 ≡ true → Lacks mark (pair.0 ++ between ∷ pair.1)

@@ -2,11 +2,11 @@
 use Rattle.std.specs.Prelude.{ℕ, Bool, not, ◌==◌, ◌||◌}
 use Rattle.ninja_text.specs.Bytes.{nul, carriage_return, space, dollar, colon, vertical_bar}
 
--- Where a text has none of these, each byte is a unit by itself
+-- If a text has none of these, each byte is a unit by itself
 abbrev pub is_dollar : ℕ → Bool
 is_dollar b = b == dollar
 
--- Where a text has none of these, it has no lexical fault
+-- If a text has none of these, it has no lexical fault
 abbrev pub is_suspect : ℕ → Bool
 is_suspect b = b == dollar || (b == nul || b == carriage_return)
 

@@ -1,4 +1,4 @@
--- How far the line at hand goes into a piece.
+-- How far the present line goes into a piece.
 use Rattle.std.specs.Prelude.{◌≡◌, ℕ, ◌+◌, ◌<◌, ◌≤◌, false, List, ◌++◌, length, take, Option, Some, None}
 use Rattle.ninja_text.specs.Lines.{line_limit, LineEnd, line_end}
 use Rattle.ninja_text.specs.Phases.{waits_in, failed_in, PhaseFits}
@@ -13,8 +13,8 @@ IsGoing phase = (waits_in phase ≡ false) × (failed_in phase ≡ false)
 abbrev pub end_within : List ℕ → List ℕ → Option LineEnd
 end_within bytes piece = line_end (take line_limit (bytes ++ piece))
 
--- the end that the line has in a piece, by its phase then: one after so many bytes of the piece, or
--- none
+-- the end that the line has in a piece, by its phase then: one after that many bytes of the piece,
+-- or none
 abbrev pub EndsBy : List ℕ → List ℕ → ℕ → Phase → Type 0
 EndsBy bytes piece taken (Waiting text_len) =
     end_within bytes piece ≡ Some (record { text_len = text_len; line_len = length bytes + taken })
@@ -23,7 +23,7 @@ EndsBy bytes piece taken (Gathering next) =
 EndsBy bytes piece taken Lent = ⊥
 EndsBy bytes piece taken Failed = ⊥
 
--- the line takes so many bytes of a piece, and is in this phase then
+-- the line takes that many bytes of a piece, and is in this phase then
 abbrev pub Takes : List ℕ → List ℕ → ℕ → Phase → Type 0
 Takes bytes piece taken phase =
     (taken ≤ length piece) × (0 < length piece → 0 < taken) × (length bytes + taken ≤ line_limit)

@@ -20,8 +20,8 @@ abbrev pub first_failure : List Check → Option (Failure DocFault)
 first_failure [] = None
 first_failure (c ∷ cs) = if c.holds then first_failure cs else Some (Fault c.refusal)
 
--- A reader returns a value that P holds of if all checks hold, and otherwise the first fault, memory
--- aside.
+-- A reader returns a value that P holds of if all checks hold, and otherwise the first fault,
+-- unless memory runs out.
 abbrev pub Answers : {T : Type 0} → List Check → (T → Type 0) → Result T (Failure DocFault) → Type 0
 Answers checks P result =
     MatchResult result (λ x. (first_failure checks ≡ None) × P x)
@@ -39,7 +39,7 @@ abbrev pub AnswersPath : Place → Result (List ℕ) PathFault → Result (List 
 AnswersPath place outcome result =
     Answers (path_checks place outcome) (λ path. (outcome ≡ Ok path) × IsText path) result
 
--- the bytes are too many, or else have no tree
+-- the bytes are too many, otherwise they have no tree
 abbrev pub IsNoTree : List ℕ → Failure DocFault → Type 0
 IsNoTree bytes e =
     ((document_limit < length bytes) × (e ≡ Fault (TooLarge place.Document)))
