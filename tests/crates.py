@@ -49,6 +49,16 @@ class Crates(unittest.TestCase):
         rows = re.findall(r"^\| \[`(\w+)`\]\(\.\./crates/\1\) \|", PAGE.read_text(), re.M)
         self.assertEqual(rows, list(uses((TOP / "crates.txt").read_text())))
 
+    def test_public_paths(self):
+        """An item of a library has one public path: its root takes items from private modules of its own alone."""
+        crates = list(uses((TOP / "crates.txt").read_text()))
+        for crate in crates:
+            root = TOP / "crates" / crate / "src/lib.rt"
+            text = root.read_text() if root.exists() else ""
+            taken = set(re.findall(r"^pub use (?:crate::|self::)?(\w+)", text, re.M))
+            with self.subTest(crate):
+                self.assertLessEqual(taken, set(re.findall(r"^mod (\w+);", text, re.M)))
+
 
 if __name__ == "__main__":
     if sys.argv[1:] != ["--write"]:
