@@ -19,7 +19,7 @@ ghost use Rattle.module_table.specs.inner.Views.{paths_of};
 
 use crate::fault::{Maker, TableFault};
 use crate::modules::{Module, Modules};
-use crate::pairs::all_pairs;
+use crate::needed::all_pairs;
 use crate::requirements::{InfoRequired, all_required, object_rows};
 use dep_order::Digraph;
 use indexmap::IndexSet;

@@ -35,13 +35,14 @@
 //!   fails. `checks/repeated.rt` has M1 to M4, `checks/required.rt` M5 to M7, `checks/rings.rt` M8,
 //!   and `checks/privacy.rt` M9 and M10. M8 calls `order` of `dep_order`. `requirements.rt` looks
 //!   up once what the modules of info files require. M6, M7 and M9 use what it finds.
-//! - `table.rt`: a table has the objects and what each requires with the files (`resolved.rt`,
-//!   `pairs.rt`). Names and paths have numbers, which are their indexes in two hash tables. By these
-//!   numbers the table has the producer of each module and all requirements, as a graph. In the
-//!   graph an object needs the modules that it requires, a module of an object needs the object, and
-//!   a module of an info file needs the modules that it requires.
-//! - `needed.rt`: [`Needs`] calls `Reaching` of `dep_order` in that graph, and sorts what it finds
-//!   by the ranks of the names, which are computed once.
+//! - `table.rt`: a table has the objects and what each requires with the files (`resolved.rt`).
+//!   Names and paths have numbers, which are their indexes in two hash tables. By these numbers the
+//!   table has the producer of each module and all requirements, as a graph. In the graph an object
+//!   needs the modules that it requires, a module of an object needs the object, and a module of an
+//!   info file needs the modules that it requires.
+//! - `needed.rt` lists the modules that each object requires, with their files. [`Needs`] calls
+//!   `Reaching` of `dep_order` in the graph, and sorts what it finds by the ranks of the names, which
+//!   are computed once.
 //! - `pool.rt`: a pool lists the modules of its info files by name and by file (`rows.rt`), and for
 //!   each info file the others that it requires modules of or shares names and files with
 //!   (`related.rt`). By these numbers it finds out whether a part of the linked modules is enough
@@ -66,7 +67,6 @@ mod keys;
 mod laws;
 mod modules;
 mod needed;
-mod pairs;
 mod pool;
 mod requirements;
 mod resolved;

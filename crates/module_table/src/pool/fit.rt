@@ -41,20 +41,14 @@ pub(crate) fn are_fit(linked: &[usize], places: &[Option<usize>], related: &[Rel
     ensures { IsTrue result → AreFit linked.now places.now related.now }
 {
     for number in linked {
-        if *number >= related.len() || !is_fit(places, &related[*number]) {
+        let Some(relations) = related.get(*number) else {
+            return false;
+        };
+        if !are_linked(places, &relations.sources) || !are_unlinked(places, &relations.clashes) {
             return false;
         }
     }
     true
-}
-
-fn is_fit(places: &[Option<usize>], related: &Related) -> bool
-    ensures sources { IsTrue result
-        → (s : ℕ) → Has related.now.sources.items s → IsLinked places.now s }
-    ensures clashes { IsTrue result
-        → (c : ℕ) → Has related.now.clashes.items c → IsLinked places.now c → ⊥ }
-{
-    are_linked(places, &related.sources) && are_unlinked(places, &related.clashes)
 }
 
 fn are_linked(places: &[Option<usize>], numbers: &[usize]) -> bool

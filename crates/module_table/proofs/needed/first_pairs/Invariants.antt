@@ -1,7 +1,7 @@
 use Rattle.std.proofs.Common.{◌≡◌, length, map, take}
 use Rattle.module_table.specs.inner.Mentioned.{ArePairsSoFar}
 use Rattle.module_table.specs.inner.Views.{provision_of}
-use Rattle.module_table.proofs.pairs.first_pairs.Given as goal
+use Rattle.module_table.proofs.needed.first_pairs.Given as goal
 
 abbrev pub invariant-loop-index : goal.invariant-loop-index
 invariant-loop-index l = record {

@@ -10,8 +10,8 @@ use Rattle.module_table.specs.inner.Views.{provision_of}
 use Rattle.module_table.proofs.IndexRows.{take_all}
 use Rattle.module_table.proofs.Rings.{length_mapped}
 use Rattle.module_table.proofs.Marks.{mark_new, no_pairs, pairs_new, pairs_old}
-use Rattle.module_table.proofs.pairs.first_pairs.Goals as goal
-use Rattle.module_table.proofs.pairs.first_pairs.Goals.{then-index-mark+in_ok-pair+in_ok-push, else-index-mark}
+use Rattle.module_table.proofs.needed.first_pairs.Goals as goal
+use Rattle.module_table.proofs.needed.first_pairs.Goals.{then-index-mark+in_ok-pair+in_ok-push, else-index-mark}
 use Rattle.ninja_text.proofs.ForCallers.{to_map}
 
 abbrev pair : Provision → List ℕ × List ℕ

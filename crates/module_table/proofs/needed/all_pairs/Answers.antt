@@ -13,7 +13,7 @@ use Rattle.module_table.specs.inner.Mentioned.{AreFirstPairs}
 use Rattle.module_table.proofs.Rings.{length_mapped}
 use Rattle.module_table.proofs.IndexRows.{take_all, many_rows, rule_of, name_of_index}
 use Rattle.module_table.proofs.Marks.{row_names, pairs_found}
-use Rattle.module_table.proofs.pairs.all_pairs.Goals as goal
+use Rattle.module_table.proofs.needed.all_pairs.Goals as goal
 use Rattle.ninja_text.proofs.ForCallers.{take_next, to_map}
 
 abbrev items_of : Vec ℕ Global → List ℕ

@@ -2,7 +2,7 @@ use Rattle.std.proofs.Common.{◌≡◌, ◌≤◌, length, map, take}
 use Rattle.std.specs.Prelude.{All}
 use Rattle.module_table.specs.Modules.{provisions}
 use Rattle.module_table.specs.Added.{required_of}
-use Rattle.module_table.proofs.pairs.all_pairs.Given as goal
+use Rattle.module_table.proofs.needed.all_pairs.Given as goal
 
 abbrev pub invariant-loop-object : goal.invariant-loop-object
 invariant-loop-object l = record {
