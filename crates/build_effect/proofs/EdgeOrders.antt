@@ -85,7 +85,7 @@ module _ (files : List NamedFile) (g h new : List EdgeValue) (order ranks : List
         )
       ]
 
-  -- a file that an edge produces in the end comes from the edge or from an addition
+  -- the origin of a file that an edge makes in the end
   abbrev Origin : ℕ → ℕ → List ℕ → Type 0
   Origin b j file = MakesAt g b j file ⊎ ((e : EdgeValue) × (n : ℕ) × (k : ℕ) × (a : StatementValue) × (m : ℕ) × (slice_get g b ≡ Some e) × Has e n k a × (slice_get a.implicit_outputs m ≡ Some file))
 
@@ -144,7 +144,7 @@ module _ (files : List NamedFile) (g h new : List EdgeValue) (order ranks : List
         ]
       ]
 
-  -- the edges of a file are not above those of a later one
+  -- the edges of a file have no larger number than those of a later one
   not_above : (n m i j : ℕ) (f d : NamedFile) (x y : EdgeValue) → m ≤ n → slice_get files n ≡ Some f → slice_get files m ≡ Some d → slice_get g i ≡ Some x → slice_get g j ≡ Some y → Names f.name x → Names d.name y → slice_index ranks j ≤ slice_index ranks i
   not_above n m i j f d x y order_of at_f at_d at_x at_y names_x names_y =
       elim (three_ways m n) [
@@ -166,7 +166,7 @@ module _ (files : List NamedFile) (g h new : List EdgeValue) (order ranks : List
         let at : (x : ℕ) × (slice_get xs i ≡ Some x) = element_at xs i (omega (arith, count)) in
         get_or_from_slice_get xs i at.0 0 at.1 ∙ each i at.0 at.1 n k a e here has
 
-    -- the producer of an added input is below
+    -- the edge that makes an added input has a smaller number
     added_falls : (a b j : ℕ) (e : EdgeValue) (n k : ℕ) (x : StatementValue) (m : ℕ) (file : List ℕ) → slice_get g a ≡ Some e → Has e n k x → slice_get x.implicit_inputs m ≡ Some file → MakesAt h b j file → Origin b j file → Falls xs a b
     unfolding Falls
     added_falls a b j e n k x m file here has at in_h (inl old) =

@@ -1,4 +1,4 @@
--- Edges need each other as their rows of producers say.
+-- An edge needs another if and only if its row of makers contains it.
 use Rattle.std.proofs.Common.{◌≡◌, ℕ, zero, suc, ◌+◌, ◌<◌, List, [], ◌∷◌, ◌++◌, length, map, take, get_or, Option, Some, None, Contains, refl, ap, subst, sym, ◌∙◌, arith, slice_get}
 use Rattle.std.specs.List.{filter_map, cons_option}
 use Rattle.std.proofs.lemmas.List.{length-map, map-append}

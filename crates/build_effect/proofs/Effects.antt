@@ -34,12 +34,12 @@ same_additions ss xs ys c d =
     let at : (s : StatementValue) × (slice_get ss k ≡ Some s) = element_at ss k (omega (arith, c.count)) in
     same_addition at.0 x y (c.each k at.0 x at.1 ex) (d.each k at.0 y at.1 ey))
 
--- an effect is what the statements give, once their paths are canonical
+-- an effect is what the statements give when their paths are made canonical
 pub effect_gives : EffectGives
 effect_gives g new name ss additions canonical effect =
     subst (λ xs. Extends g name xs new) (same_additions ss effect.additions additions effect.canonical canonical) effect.gives
 
--- statements give one graph at most
+-- statements give at most one graph
 pub same_gives : (g : List EdgeValue) (name : List ℕ) (xs : List StatementValue) (new other : List EdgeValue) → Extends g name xs new → Extends g name xs other → new ≡ other
 same_gives g name xs new other c d =
     same_lists new other (c.same_edges ∙ sym d.same_edges) (λ i x y ex ey.
@@ -68,8 +68,7 @@ Becomes name additions e x = ((e.dyndep ≢ Some name) × (x ≡ e)) ⊎ (Names 
 abbrev pub ComesTo : List EdgeValue → List ℕ → List StatementValue → ℕ → EdgeValue → Type 0
 ComesTo g name additions i x = (e : EdgeValue) × (slice_get g i ≡ Some e) × Becomes name additions e x
 
--- what an edge produces afterwards was produced before, or addition k adds it, as the one with
--- index m
+-- the origin of a file that an edge makes afterwards: it was made before, or addition k adds it, as the one with index m
 abbrev pub Origin : List EdgeValue → List StatementValue → ℕ → ℕ → List ℕ → Type 0
 Origin g additions i j file =
     MakesAt g i j file

@@ -1,4 +1,4 @@
--- The faults are exactly what keeps statements from having an effect.
+-- Statements have an effect if and only if they have no fault.
 use Rattle.std.proofs.Common.{◌≡◌, ℕ, zero, suc, ◌+◌, ◌<◌, List, ◌++◌, length, Some, Result, Ok, Err, ap, subst, sym, ◌∙◌, inl, inr, arith, append_assoc}
 use Rattle.std.specs.Prelude.{slice_get}
 use Rattle.std.proofs.lemmas.Option.{slice_get_within}
@@ -57,7 +57,7 @@ pub checks_suffice : ChecksSuffice
 checks_suffice g name statements additions once canonical bound single mentioned fresh =
     one_effect g name statements additions canonical (added_once g name additions once bound single mentioned fresh) (meets g name additions once bound single mentioned fresh)
 
--- a text among canonical ones is a path
+-- a string of a statement with a canonical form is a valid path
 pub path_at : (texts : List (List ℕ)) (paths : List (List ℕ)) (j : ℕ) (text : List ℕ) → ArePaths texts paths → slice_get texts j ≡ Some text → (p : List ℕ) × (path_of text ≡ Ok p)
 path_at texts paths j text e at =
     let f = from_map {B = Result (List ℕ) PathFault} (λ p. Ok p) paths j (path_of text) (ap (λ xs. slice_get xs j) (sym e) ∙ to_map path_of texts j text at) in

@@ -13,12 +13,12 @@ use Rattle.build_effect.proofs.Lists.{same_lists}
 use Rattle.ninja_text.proofs.ForCallers.{same_some, in_append, in_first, element_at, from_push, from_take, in_take, take_next}
 use Rattle.build_effect.proofs.InputSearch.{has_first, has_second}
 
--- an edge without statement is as it was
+-- an edge without a statement stays as it is
 pub unchanged : (e after : EdgeValue) (additions : List StatementValue) (statement : Option ℕ) → ((k : ℕ) → statement ≡ Some k → ⊥) → after ≡ e → IsEdgeAfter e additions statement after
 unchanged e after additions None none same = same
 unchanged e after additions (Some k) none same = absurd (none k refl)
 
--- what holds of the statement on an edge holds if there is one
+-- what holds of any statement on an edge holds if there is one
 pub within_if : (P : ℕ → Type 0) (o : Option ℕ) → ((k : ℕ) → o ≡ Some k → P k) → IfSome o P
 within_if P None holds = tt
 within_if P (Some k) holds = holds k refl
@@ -77,13 +77,13 @@ more_extended g additions statement_of new i e x at are comes =
               ap (slice_get (new ++ x ∷ [])) (p.0 ∙ sym are.as_many) ∙ last_at new x ∙ ap (λ z. Some z) same
         ]
 
--- a statement is on the edge, or none is
+-- a statement is on the edge, or there is none
 pub on_or_not : (o : Option ℕ) → (o ≡ None) ⊎ ((k : ℕ) × (o ≡ Some k))
 on_or_not None = inl refl
 on_or_not (Some k) = inr (k, refl)
 
 module _ (g : List EdgeValue) (name : List ℕ) (ss additions : List StatementValue) (statement_of : List (Option ℕ)) (new : List EdgeValue) (checked : AreChecked g name ss additions statement_of) (are : AreExtended g additions statement_of new) where
-  -- they are what the statements give
+  -- the new edges are what the statements give
   given_are : (given : List EdgeValue) → Extends g name additions given → given ≡ new
   given_are given gives =
       same_lists given new (gives.same_edges ∙ sym are.as_many) (λ i x y at_x at_y.
@@ -109,7 +109,7 @@ module _ (g : List EdgeValue) (name : List ℕ) (ss additions : List StatementVa
       let same = given_are r.0 r.1 in
       (subst (Extends g name additions) same r.1, subst (OnlyEffect g name ss) same r.2)
 
-  -- each edge of the new graph comes from one of the old
+  -- the origin of each edge of the new graph
   from_old : (i : ℕ) (x : EdgeValue) → slice_get new i ≡ Some x → (e : EdgeValue) × (slice_get g i ≡ Some e) × ((x ≡ e) ⊎ ((a : StatementValue) × (x ≡ extended e a)))
   from_old i x at_x =
       let within = slice_get_within new i x at_x in

@@ -1,4 +1,4 @@
--- Files that do not touch one another may be applied in any order.
+-- Files that add to different edges may be applied in any order.
 use Rattle.std.proofs.Common.{◌≡◌, ◌≢◌, ℕ, zero, suc, ◌<◌, ◌⊎◌, List, [], ◌∷◌, length, Some, refl, ap, subst, sym, ◌∙◌, inl, inr, arith}
 use Rattle.std.specs.Prelude.{slice_get}
 use Rattle.std.proofs.lemmas.Option.{slice_get_within}
@@ -13,7 +13,7 @@ use Rattle.ninja_text.proofs.ForCallers.{same_some, element_at}
 use Rattle.build_effect.proofs.Effects.{ComesTo, origin_in, one_effect}
 use Rattle.dyndep_file.specs.StatementValue.{StatementValue}
 
--- what an edge of the graph after an effect comes from
+-- the origin of an edge of the graph after an effect
 pub comes_to : (g : List EdgeValue) (name : List ℕ) (additions : List StatementValue) (new : List EdgeValue) → Extends g name additions new → (i : ℕ) (x : EdgeValue) → slice_get new i ≡ Some x → ComesTo g name additions i x
 comes_to g name additions new gives i x here =
     let within : i < length new = slice_get_within _ _ _ here in
@@ -23,7 +23,7 @@ comes_to g name additions new gives i x here =
       | inr others ↦ (at.0, at.1, inl (others, same_some _ _ (sym here ∙ gives.others i at.0 at.1 others)))
     ]
 
--- an edge that names another file is untouched
+-- an edge that names another file stays as it is
 module _ (g : List EdgeValue) (name : List ℕ) (additions : List StatementValue) (new : List EdgeValue) (gives : Extends g name additions new) (other : List ℕ) (differ : name ≢ other) where
   not_both : (e : EdgeValue) → Names other e → e.dyndep ≢ Some name
   not_both e names same = differ (same_some _ _ (sym same ∙ names))
@@ -56,7 +56,7 @@ module _ (g : List EdgeValue) (name : List ℕ) (additions : List StatementValue
             ];
       }
 
--- what stays of the premises for the files that are left
+-- the premises for the files that are left
 record RestMeets (files : List NamedFile) (g : List EdgeValue) (order : List ℕ) : Type 0 where
   each : (p n : ℕ) (f : NamedFile) → slice_get order p ≡ Some n → slice_get files n ≡ Some f → MeetsPremises g f.name f.additions
 

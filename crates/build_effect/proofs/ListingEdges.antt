@@ -25,7 +25,7 @@ last_set change (x ∷ y ∷ es) (suc n) e len at = ap (λ l. x ∷ l) (last_set
 abbrev pub HaveOutputs : List EdgeValue → Type 0
 HaveOutputs es = All (λ e. e.outputs ≢ []) es
 
--- and so they have with the last one changed, if its outputs are kept
+-- this still holds if the last edge is changed and keeps its outputs
 pub outputs_kept : (change : EdgeValue → EdgeValue) → ((e : EdgeValue) → (change e).outputs ≡ e.outputs) → (es : List EdgeValue) → HaveOutputs es → HaveOutputs (with_last change es)
 outputs_kept change same [] all k d lt = absurd (omega arith)
 outputs_kept change same (e ∷ []) all zero d lt = λ h. all zero d (omega arith) (sym (same e) ∙ h)
@@ -33,7 +33,7 @@ outputs_kept change same (e ∷ []) all (suc k) d lt = absurd (omega arith)
 outputs_kept change same (e ∷ f ∷ es) all zero d lt = all zero d (omega arith)
 outputs_kept change same (e ∷ f ∷ es) all (suc k) d lt = outputs_kept change same (f ∷ es) (λ k d lt. all (suc k) d (omega arith)) k d (omega arith)
 
--- or with one more that has
+-- and if an edge with an output is added
 pub outputs_pushed : (es : List EdgeValue) (e : EdgeValue) → HaveOutputs es → e.outputs ≢ [] → HaveOutputs (es ++ e ∷ [])
 outputs_pushed [] e all some zero d lt = some
 outputs_pushed [] e all some (suc k) d lt = absurd (omega arith)
@@ -55,7 +55,7 @@ pub build_passes : (binding : Binding) (es new : List EdgeValue) (edge : EdgeVal
     → new ≡ es ++ edge ∷ [] → (c : ListingClass) × (build_class paths ≡ Ok c) × (step binding es c ≡ Some (record { edges = new; binding = Open false false }))
 build_passes binding es new edge paths t is same pushed = (Build t, ap build_class is, rw (pushed, same) refl)
 
--- paths, and those after them or their fault
+-- paths, and then more paths or their fault
 abbrev pub behind : List (List ℕ) → Result (List (List ℕ)) PathFault → Result (List (List ℕ)) PathFault
 behind paths (Ok more) = Ok (paths ++ more)
 behind paths (Err fault) = Err fault
@@ -66,23 +66,23 @@ pub behind_one_more : (paths : List (List ℕ)) (path : List ℕ) (found : Resul
 behind_one_more paths path found (Ok more) is = rw is (ap Ok (sym (append_assoc paths (path ∷ []) more)))
 behind_one_more paths path found (Err fault) is = rw is refl
 
--- before the first path are those to come
+-- before the first path all paths are to come
 pub behind_nothing : (more : Result (List (List ℕ)) PathFault) → behind [] more ≡ more
 behind_nothing (Ok more) = refl
 behind_nothing (Err fault) = refl
 
--- and after the last one are no more
+-- and after the last path none is to come
 pub nothing_behind : (paths : List (List ℕ)) → behind paths (paths_of []) ≡ Ok paths
 nothing_behind paths = ap Ok (append-nil paths)
 
--- the present text is the first of those to come
+-- the current string is the first of those to come
 text_at_hand : (texts : List (Vec ℕ Global)) (i : ℕ) (text : Vec ℕ Global) → i < length texts → text ≡ get_or texts i text
     → paths_of (rows (drop i texts)) ≡ with_path (path_of text.items) (paths_of (rows (drop (i + 1) texts)))
 text_at_hand texts i text within is =
     at_drop_more (λ ts. paths_of (rows ts)) texts i text within
     ∙ ap (λ (t : Vec ℕ Global). with_path (path_of t.items) (paths_of (rows (drop (i + 1) texts)))) (sym is)
 
--- one more path in a loop over the texts
+-- one more path in a loop over the strings
 pub paths_go_on : (texts : List (Vec ℕ Global)) (i : ℕ) (text : Vec ℕ Global) (paths new : List (List ℕ)) (path : List ℕ) → i < length texts → text ≡ get_or texts i text
     → path_of text.items ≡ Ok path → new ≡ paths ++ path ∷ [] → paths_of (rows texts) ≡ behind paths (paths_of (rows (drop i texts)))
     → paths_of (rows texts) ≡ behind new (paths_of (rows (drop (i + 1) texts)))
@@ -90,7 +90,7 @@ paths_go_on texts i text paths new path within is found pushed so_far =
     let more = paths_of (rows (drop (i + 1) texts)) in
     so_far ∙ ap (behind paths) (text_at_hand texts i text within is) ∙ behind_one_more paths path (path_of text.items) more found ∙ ap (λ ps. behind ps more) (sym pushed)
 
--- texts that are there have a path for each
+-- if there are strings, there are paths
 pub paths_somehow : (texts paths : List (List ℕ)) → paths_of texts ≡ Ok paths → texts ≢ [] → paths ≢ []
 paths_somehow [] paths is some = absurd (some refl)
 paths_somehow (text ∷ texts) [] is some = absurd (no_path (path_of text) (paths_of texts) is) where

@@ -1,4 +1,4 @@
--- What is found of a line is what it is: its row, its class and its cause.
+-- The row, the class and the cause that the walk finds for a line are those of its definition.
 use Rattle.std.proofs.Common.{inl, inr, ◌⊎◌, ◌≡◌, ℕ, Bool, true, false, List, [], ◌∷◌, ◌++◌, append_assoc, length, map, Ok, Err, refl, sym, ap, ◌∙◌, subst, Option, Some, None}
 use Rattle.std.specs.Prelude.{codes, nat_lt, Result, ◌&&◌, if◌then◌else◌}
 use Rattle.std.specs.Option.{option_and_then}
@@ -31,11 +31,11 @@ use Rattle.build_effect.proofs.ListingForms.{none_left, edge_holds, edge_found}
 
 -- ---- rows
 
--- equal results are of one row
+-- equal results have the same row
 row_same : {r s : Row} → ◌≡◌ {A = Result Row LineCause} (Ok r) (Ok s) → r ≡ s
 row_same h = cc
 
--- a row is no cause
+-- a row is not a cause
 no_row : {A : Type 0} {cause : LineCause} {row : Row} → ◌≡◌ {A = Result Row LineCause} (Err cause) (Ok row) → A
 no_row h = absurd (cc)
 
@@ -67,18 +67,18 @@ dyndep_named a h = rw h refl
 restat_named : (a : SeenAssignment) → a.name ≡ codes "restat" → binding_row (Some a) ≡ Ok (RestatRow (nat_lt 0 (length (value_of a.raw_value))))
 restat_named a h = rw h refl
 
--- a line is of a row, or it is not, for one reason
+-- a line has a row, or exactly one reason why it has none
 pub data RowCases (text : List ℕ) (comment : Bool) : Type 0 where
   row_is : (row : Row) → TextIsOfRow text comment row → RowCases text comment
   lexical_is : (fault : LexFault) → comment ≡ false → lexical_fault text ≡ Some fault → RowCases text comment
   form_is : comment ≡ false → lexical_fault text ≡ None → row_of text comment ≡ Err Form → RowCases text comment
 
 module _ (text : List ℕ) (comment : Bool) where
-  -- a line that is no comment and has no lexical fault has the row of its tokens
+  -- a line without a lexical fault that is not a comment has the row of its tokens
   sound_found : comment ≡ false → lexical_fault text ≡ None → (row : Result Row LineCause) → sound_row text ≡ row → row_of text comment ≡ row
   sound_found c l row h = rw (c, l) h
 
-  -- the row is found that a line is of
+  -- the walk finds the row of a line
   pub row_found : (row : Row) → TextIsOfRow text comment row → row_of text comment ≡ Ok row
   row_found CommentRow is = rw is refl
   row_found BlankRow is = sound_found is.0 is.1 (Ok BlankRow) (rw (ap is_empty is.2) refl)
@@ -134,11 +134,11 @@ module _ (text : List ℕ) (comment : Bool) where
   pub row_cases : RowCases text comment
   row_cases = elim (cases_Bool comment) [ inl c ↦ row_is CommentRow c | inr c ↦ sound_cases c (lexical_fault text) refl ]
 
-  -- a line is of one row at most
+  -- a line has at most one row
   pub one_row : (row other : Row) → TextIsOfRow text comment row → TextIsOfRow text comment other → row ≡ other
   one_row row other a b = row_same (sym (row_found row a) ∙ row_found other b)
 
-  -- a line is of the row that is found
+  -- the row that the walk finds is that of the line
   pub row_holds : (row : Row) → row_of text comment ≡ Ok row → TextIsOfRow text comment row
   row_holds row h = elim (row_cases) [
     | row_is other is ↦ subst (TextIsOfRow text comment) (row_same (sym (row_found other is) ∙ h)) is
@@ -151,7 +151,7 @@ module _ (text : List ℕ) (comment : Bool) where
 same_ok : {p q : List ℕ} → ◌≡◌ {A = Result (List ℕ) PathFault} (Ok p) (Ok q) → p ≡ q
 same_ok h = cc
 
--- canonical paths are found
+-- the walk finds canonical paths
 pub paths_found : (texts paths : List (List ℕ)) → ArePaths texts paths → paths_of texts ≡ Ok paths
 paths_found [] [] are = refl
 paths_found [] (path ∷ paths) are = absurd (let x : ◌≡◌ {A = List (Result (List ℕ) PathFault)} [] (Ok path ∷ map (λ p. Ok p) paths) = are in cc)
@@ -162,7 +162,7 @@ paths_found (text ∷ texts) (path ∷ paths) are =
     let more : ArePaths texts paths = (let y : map path_of texts ≡ map (λ p. Ok p) paths = cc in y) in
     rw (first, paths_found texts paths more) refl
 
--- and so is the first text that is not a valid path
+-- and the first string that is not a valid path
 refused_at : (before : List (List ℕ)) (text : List ℕ) (after paths : List (List ℕ)) (fault : PathFault) → ArePaths before paths → path_of text ≡ Err fault
     → paths_of (before ++ text ∷ after) ≡ Err fault
 refused_at [] text after paths fault are refused = rw refused refl
@@ -176,7 +176,7 @@ refused_at (b ∷ before) text after (path ∷ paths) fault are refused =
 pub refused_found : (texts : List (List ℕ)) (fault : PathFault) → IsFirstRefused texts fault → paths_of texts ≡ Err fault
 refused_found texts fault r = ap paths_of r.whole ∙ refused_at r.before r.text r.after r.paths fault r.are r.refused
 
--- texts one after another
+-- strings, one list after another
 are_both : (xs ys ps qs : List (List ℕ)) → ArePaths xs ps → ArePaths ys qs → ArePaths (xs ++ ys) (ps ++ qs)
 are_both xs ys ps qs a b =
     map-append path_of xs ys ∙ ap (λ r. r ++ map path_of ys) a ∙ ap (λ r. map (λ p. Ok p) ps ++ r) b ∙ sym (map-append {B = Result (List ℕ) PathFault} (λ p. Ok p) ps qs)
@@ -203,7 +203,7 @@ refused_after xs ps ys fault are r = record {
   refused = r.refused;
 }
 
--- texts are paths, or the first of them that is not a valid path is the error
+-- all strings are valid paths, or the first one that is not has a fault
 abbrev PathCases : List (List ℕ) → Type 0
 PathCases texts = ((paths : List (List ℕ)) × ArePaths texts paths) ⊎ ((fault : PathFault) × IsFirstRefused texts fault)
 
@@ -223,7 +223,7 @@ class_same h = cc
 no_class : {A : Type 0} {fault : PathFault} {c : ListingClass} → ◌≡◌ {A = Result ListingClass PathFault} (Err fault) (Ok c) → A
 no_class h = absurd (cc)
 
--- the class is found that a row is of
+-- the walk finds the class of a row
 pub class_found : (row : Row) (c : ListingClass) → RowIsOfClass row c → class_of_row row ≡ Ok c
 class_found CommentRow c is = ap Ok (sym is)
 class_found BlankRow c is = ap Ok (sym is)
@@ -242,7 +242,7 @@ class_found (BuildRow t) c is =
 class_found (DyndepRow text) c is = ap dyndep_class is.1 ∙ ap Ok (sym is.2)
 class_found (RestatRow flag) c is = ap Ok (sym is)
 
--- the texts of a build line, each list in front of all that follows it
+-- the strings of a build line, each list before all that follows it
 abbrev from_implicit_inputs : EdgeTexts → List (List ℕ)
 from_implicit_inputs t = t.implicit_inputs ++ t.order_only
 
@@ -258,15 +258,15 @@ from_outputs t = t.outputs ++ from_implicit_outputs t
 side_by_side : (t : EdgeTexts) → path_texts (BuildRow t) ≡ from_outputs t
 side_by_side t = simp append_assoc
 
--- what texts are: paths, and then the row is of a class, or not, for one reason
+-- the strings are valid paths and the row has a class, or there is exactly one reason why not
 abbrev TextsCases : List (List ℕ) → Row → Type 0
 TextsCases texts row = ((c : ListingClass) × RowIsOfClass row c) ⊎ ((fault : PathFault) × IsFirstRefused texts fault × (class_of_row row ≡ Err fault))
 
--- those of a row
+-- the strings of a row
 abbrev ClassCases : Row → Type 0
 ClassCases row = TextsCases (path_texts row) row
 
--- those of a build line
+-- the strings of a build line
 edge_cases : (t : EdgeTexts) → PathCases t.outputs → PathCases t.implicit_outputs → PathCases t.inputs → PathCases t.implicit_inputs → PathCases t.order_only → TextsCases (from_outputs t) (BuildRow t)
 edge_cases t (inr o) i n m w =
     inr (o.0, refused_front t.outputs (from_implicit_outputs t) o.0 o.1, rw (refused_found t.outputs o.0 o.1) refl)
@@ -317,7 +317,7 @@ class_cases (DyndepRow text) = named (path_of text) refl where
   named (Err fault) e = inr (fault, record { before = []; text = text; after = []; whole = refl; paths = []; are = refl; refused = e }, ap dyndep_class e)
 class_cases (RestatRow flag) = inl (Restat flag, refl)
 
--- of a row that is of a class, all texts are paths
+-- if a row has a class, all its strings are valid paths
 all_paths : (row : Row) (c : ListingClass) → RowIsOfClass row c → (paths : List (List ℕ)) × ArePaths (path_texts row) paths
 all_paths CommentRow c is = ([], refl)
 all_paths BlankRow c is = ([], refl)
@@ -333,7 +333,7 @@ all_paths (BuildRow t) c is =
 all_paths (DyndepRow text) c is = (is.0 ∷ [], ap (λ r. r ∷ []) is.1)
 all_paths (RestatRow flag) c is = ([], refl)
 
--- the first text of a row that is no path is found
+-- the walk finds the first string of a row that is not a valid path
 pub refused_class : (row : Row) (fault : PathFault) → IsFirstRefused (path_texts row) fault → class_of_row row ≡ Err fault
 refused_class row fault r = elim (class_cases row) [
   | inl c ↦
@@ -344,30 +344,30 @@ refused_class row fault r = elim (class_cases row) [
       subst (λ g. class_of_row row ≡ Err g) same f.2
 ]
 
--- a row is of the class that is found
+-- the class that the walk finds is that of the row
 pub class_is_of : (row : Row) (c : ListingClass) → class_of_row row ≡ Ok c → RowIsOfClass row c
 class_is_of row c h = elim (class_cases row) [
   | inl d ↦ subst (RowIsOfClass row) (class_same (sym (class_found row d.0 d.1) ∙ h)) d.1
   | inr f ↦ no_class (sym f.2 ∙ h)
 ]
 
--- a line is of the class that is found, and that is found
+-- the class that the walk finds is that of the line, and the walk finds it
 pub class_holds : (text : List ℕ) (comment : Bool) (c : ListingClass) → FindsClass text comment c → IsListingLine text comment c
 class_holds text comment c (row, is, of) = (row, row_holds text comment row is, class_is_of row c of)
 
 pub finds_class : (text : List ℕ) (comment : Bool) (c : ListingClass) → IsListingLine text comment c → FindsClass text comment c
 finds_class text comment c (row, is, of) = (row, row_found text comment row is, class_found row c of)
 
--- a line is of one class at most
+-- a line has at most one class
 pub one_class : (text : List ℕ) (comment : Bool) (c d : ListingClass) → IsListingLine text comment c → IsListingLine text comment d → d ≡ c
 one_class text comment c d p q =
     let a = finds_class text comment c p in
     let b = finds_class text comment d q in
     class_same (sym b.2 ∙ ap class_of_row (row_same (sym b.1 ∙ a.1)) ∙ a.2)
 
--- ---- lines that are allowed at a point
+-- ---- after which lines a line may come
 
--- A class of the kind of a row, whatever its texts and its flag are.
+-- A class of the kind of a row, whatever its strings and its flag are.
 abbrev IsOfKind : Row → ListingClass → Type 0
 IsOfKind CommentRow c = c ≡ Comment
 IsOfKind BlankRow c = c ≡ Blank
@@ -389,7 +389,7 @@ row_kind (BuildRow texts) = (texts, refl)
 row_kind (DyndepRow text) = (text, refl)
 row_kind (RestatRow flag) = (flag, refl)
 
--- a line of a row that is allowed does something
+-- a line of a row that may come has a step
 kind_steps : (binding : Binding) (row : Row) (c : ListingClass) (es : List EdgeValue) → may_stand binding row ≡ true → IsOfKind row c → (next : ListingValue) × (step binding es c ≡ Some next)
 kind_steps binding CommentRow c es stands is = (record { edges = es; binding = binding }, ap (step binding es) is)
 kind_steps binding BlankRow c es stands is = (record { edges = es; binding = Closed }, ap (step binding es) is)
@@ -404,7 +404,7 @@ kind_steps (Open dyndep false) (RestatRow flag) c es stands is = (record { edges
 no_step : {A : Type 0} {next : ListingValue} → ◌≡◌ {A = Option ListingValue} None (Some next) → A
 no_step h = absurd (cc)
 
--- and one that does something is allowed
+-- and a line that has a step may come
 step_stands : (binding : Binding) (row : Row) (c : ListingClass) (es : List EdgeValue) (next : ListingValue) → IsOfKind row c → step binding es c ≡ Some next → may_stand binding row ≡ true
 step_stands binding CommentRow c es next is steps = refl
 step_stands binding BlankRow c es next is steps = refl
@@ -422,14 +422,14 @@ one_step None end h = no_step h
 one_step (Some next) end h = (next, refl)
 
 module _ (classes : List ListingClass) (row : Row) (c : ListingClass) (kind : IsOfKind row c) where
-  -- an edge list continues with a line that is allowed
+  -- a listing continues with a line that may come
   stands_begins : BeginsListing classes → may_stand (open_from Closed classes) row ≡ true → BeginsListing (classes ++ c ∷ [])
   stands_begins begun stands =
       let front = begins_runs classes begun in
       let next = kind_steps front.0.binding row c front.0.edges (ap (λ b. may_stand b row) (binding_runs classes Closed [] front.0 front.1) ∙ stands) kind in
       runs_begin (classes ++ c ∷ []) next.0 (run_more classes (c ∷ []) Closed [] front.0 front.1 ∙ ap (option_and_then (λ s. run s.binding s.edges [])) next.1)
 
-  -- and a line is allowed with which one continues
+  -- and a line with which a listing continues may come
   begins_stands : BeginsListing (classes ++ c ∷ []) → may_stand (open_from Closed classes) row ≡ true
   begins_stands begun =
       let whole = begins_runs (classes ++ c ∷ []) begun in
@@ -446,7 +446,7 @@ cause_same h = cc
 no_cause : {A : Type 0} {x : LineCause} → ◌≡◌ {A = Option LineCause} None (Some x) → A
 no_cause h = absurd (cc)
 
--- a row that is not allowed is a binding
+-- a row that may not come is a binding
 misplaced : (binding : Binding) (text : List ℕ) (comment : Bool) (row : Row) → TextIsOfRow text comment row → may_stand binding row ≡ false → (comment ≡ false) × (lexical_fault text ≡ None)
 misplaced binding text comment CommentRow is h = absurd (let x : true ≡ false = h in cc)
 misplaced binding text comment BlankRow is h = (is.0, is.1)
@@ -454,13 +454,12 @@ misplaced binding text comment (BuildRow t) is h = (is.0, is.1)
 misplaced binding text comment (DyndepRow value) is h = (is.0, is.1)
 misplaced binding text comment (RestatRow flag) is h = (is.0, is.1)
 
--- A line after lines of these classes is of a class that is allowed, or it has a cause, and that is
--- found.
+-- After lines of these classes a line has a class that may come, or it has a cause, and the walk finds it.
 pub data LineCases (classes : List ListingClass) (text : List ℕ) (comment : Bool) : Type 0 where
   goes_on : (c : ListingClass) → IsListingLine text comment c → BeginsListing (classes ++ c ∷ []) → text_cause (open_from Closed classes) text comment ≡ None → LineCases classes text comment
   stops_by : (cause : LineCause) → IsTextCause classes text comment cause → text_cause (open_from Closed classes) text comment ≡ Some cause → LineCases classes text comment
 
--- a line that is of a class has no cause but its form
+-- the only cause that a line with a class can have is its form
 pub class_has_form : (classes : List ListingClass) (text : List ℕ) (comment : Bool) (cause : LineCause) (c : ListingClass) → IsTextCause classes text comment cause → IsListingLine text comment c → cause ≡ Form
 class_has_form classes text comment (Lexical fault) c is of = no_row (sym (faulty_row text comment fault is.0 is.1) ∙ row_found text comment of.0 of.1)
 class_has_form classes text comment Form c is of = refl
@@ -473,7 +472,7 @@ module _ (classes : List ListingClass) (begun : BeginsListing classes) (text : L
   abbrev standing : Row → Bool
   standing row = may_stand (open_from Closed classes) row
 
-  -- the cause that is found of a row, by whether it is allowed
+  -- the cause that the walk finds for a row, by whether it may come
   cause_of_row : (row : Row) (o : Bool) → TextIsOfRow text comment row → standing row ≡ o → text_cause (open_from Closed classes) text comment ≡ (if o then path_cause (class_of_row row) else Some Form)
   cause_of_row row o is h = ap (row_cause (open_from Closed classes)) (row_found text comment row is) ∙ rw h refl
 
@@ -497,20 +496,20 @@ module _ (classes : List ListingClass) (begun : BeginsListing classes) (text : L
     | form_is c l e ↦ stops_by Form (c, l, λ row is stands. no_row (sym e ∙ row_found text comment row is)) (ap (row_cause (open_from Closed classes)) e)
   ]
 
-  -- a line has the cause that is found
+  -- the cause that the walk finds is that of the line
   pub cause_holds : (cause : LineCause) → text_cause (open_from Closed classes) text comment ≡ Some cause → IsTextCause classes text comment cause
   cause_holds cause h = elim (line_cases) [
     | goes_on c is on none ↦ no_cause (sym none ∙ h)
     | stops_by other is found ↦ subst (IsTextCause classes text comment) (cause_same (sym found ∙ h)) is
   ]
 
-  -- and no edge list continues with it
+  -- and no listing continues with it
   pub cause_stops : (cause : LineCause) (c : ListingClass) → IsTextCause classes text comment cause → IsListingLine text comment c → BeginsListing (classes ++ c ∷ []) → ⊥
   cause_stops cause c is of on =
       let form = subst (IsTextCause classes text comment) (class_has_form classes text comment cause c is of) is in
       form.2 of.0 of.1 (stands_begins classes of.0 (as_class of.0) (row_kind of.0) begun (begins_stands classes of.0 c (class_kind of.0 c of.2) on))
 
--- a line has one cause at most: the cause of one kind leaves no room for another
+-- a line has at most one cause: a cause of one kind excludes the other kinds
 sound_row_of : (text : List ℕ) (comment : Bool) (row : Row) (fault : LexFault) {A : Type 0} → TextIsOfRow text comment row → comment ≡ false → lexical_fault text ≡ Some fault → A
 sound_row_of text comment row fault is c l = no_row (sym (faulty_row text comment fault c l) ∙ row_found text comment row is)
 

@@ -1,5 +1,4 @@
--- What is found of a build line is what it says: the walk over its tokens returns what the whole
--- list of them is.
+-- The walk over the tokens of a build line finds what the definition says about the whole list of tokens.
 use Rattle.std.proofs.Common.{inl, inr, append_assoc, ◌≡◌, ◌≢◌, ℕ, ◌&&◌, Bool, true, false, List, [], ◌∷◌, ◌++◌, map, refl, sym, ap, ◌∙◌, subst, Option, Some, None}
 use Rattle.std.specs.Prelude.{IsTrue, codes, not, if◌then◌else◌}
 use Rattle.std.proofs.lemmas.List.{append-nil}
@@ -13,9 +12,9 @@ use Rattle.build_effect.specs.ListingLines.{EdgeTexts, is_rule_name, IsEdgeLine,
 use Rattle.build_effect.specs.inner.ListingWalk.{front_words, past_words, is_sign, past_sign, part_words, past_part, right_texts, edge_texts}
 use Rattle.build_effect.proofs.ListingLineLemmas.{left_texts, right_are}
 
--- ---- what is found is there
+-- ---- what the walk finds is there
 
--- the words at the front, as they are escaped
+-- the words at the front, in their escaped form
 abbrev raw_words : List Symbol → List (List ℕ)
 raw_words [] = []
 raw_words (WordSymbol word ∷ more) = word ∷ raw_words more
@@ -36,7 +35,7 @@ some_raw [] h = absurd (let x : true ≡ false = h in cc)
 some_raw (WordSymbol word ∷ more) h = λ e. (let x : word ∷ raw_words more ≡ [] = e in cc)
 some_raw (SignSymbol sign ∷ more) h = absurd (let x : true ≡ false = h in cc)
 
--- the part that a sign begins, or nothing, and its words as they are escaped
+-- the part that a sign begins, or nothing, and its words in their escaped form
 abbrev part_symbols : TokenKind → Option (List Symbol) → List Symbol
 part_symbols sign None = []
 part_symbols sign (Some more) = SignSymbol sign ∷ map WordSymbol (raw_words more)
@@ -103,7 +102,7 @@ record IsRight (outputs implicit_outputs : List (List ℕ)) (o : Option (List Sy
   over : after_order more ≡ []
   is : said outputs implicit_outputs rule more ≡ t
 
--- what is found to be empty is
+-- a list that the test finds empty is empty
 pub none_left : {A : Type 0} (ss : List A) → is_empty ss ≡ true → ss ≡ []
 none_left [] h = refl
 none_left (s ∷ ss) h = absurd (let x : false ≡ true = h in cc)
@@ -126,7 +125,7 @@ right_at outputs implicit_outputs (Some (WordSymbol rule ∷ more)) t h = elim (
   | inr f ↦ absurd (let x : ◌≡◌ {A = Option EdgeTexts} None (Some t) = rw f at h in cc)
 ]
 
--- the words of what is said, as they are escaped
+-- the words of a build line, in their escaped form
 abbrev raw_texts : List Symbol → Option (List Symbol) → List ℕ → List Symbol → EdgeTexts
 raw_texts ss made rule more = record {
   rule = rule;
@@ -141,13 +140,13 @@ said_meant : (ss : List Symbol) (made : Option (List Symbol)) (rule : List ℕ) 
 said_meant ss made rule more =
     rw (front_meant ss, part_meant made, front_meant more, part_meant (past_sign Bar (past_words more)), part_meant (past_sign DoubleBar (from_order more))) refl
 
--- the tokens of a build line, each part in front of all that follows it
+-- the tokens of a build line, each part before all that follows it
 side_by_side : (words : EdgeTexts) (made needed waited_for : List Symbol)
     → WordSymbol (codes "build") ∷ map WordSymbol words.outputs ++ made ++ SignSymbol Colon ∷ WordSymbol words.rule ∷ map WordSymbol words.inputs ++ needed ++ waited_for
     ≡ WordSymbol (codes "build") ∷ (map WordSymbol words.outputs ++ (made ++ (SignSymbol Colon ∷ WordSymbol words.rule ∷ (map WordSymbol words.inputs ++ (needed ++ waited_for)))))
 side_by_side words made needed waited_for = simp append_assoc
 
--- a build line of which texts are found says them
+-- a build line says the strings that the walk finds
 pub edge_holds : (ss : List Symbol) (t : EdgeTexts) → edge_texts ss ≡ Some t → (words : EdgeTexts) × IsEdgeLine (WordSymbol (codes "build") ∷ ss) words × (t ≡ meant words)
 edge_holds ss t h =
     let left = past_words ss in
@@ -182,7 +181,7 @@ edge_holds ss t h =
       sym f.is ∙ said_meant ss made f.rule f.more,
     )
 
--- ---- and what is there is found
+-- ---- the walk finds what is there
 
 -- No word is at the front.
 record Stops (ss : List Symbol) : Type 0 where
@@ -216,7 +215,7 @@ module _ (sign : TokenKind) (same : is_sign sign sign ≡ true) (rest : List Sym
       ap (λ x. past_part (past_sign sign (x ++ rest)) (x ++ rest)) e
       ∙ ap (λ (b : Bool). past_part (if b then Some (map WordSymbol words ++ rest) else None) (SignSymbol sign ∷ map WordSymbol words ++ rest)) same ∙ past_is words rest s
 
--- order-only inputs are no implicit ones
+-- order-only inputs are not implicit inputs
 no_bar : (part : List Symbol) (words : List (List ℕ)) → IsPart DoubleBar part words → past_sign Bar part ≡ None
 no_bar part words (inl p) = ap (past_sign Bar) p.0
 no_bar part words (inr e) = ap (past_sign Bar) e
@@ -279,7 +278,7 @@ module _ (words : EdgeTexts) (made needed waited_for : List Symbol) (m : IsPart 
       (sym order_past)
       true is_whole
 
--- of a build line the texts are found that it says
+-- the walk finds the strings that a build line says
 pub edge_found : (all : List Symbol) (words : EdgeTexts) → IsEdgeLine all words → (more : List Symbol) × (all ≡ WordSymbol (codes "build") ∷ more) × (edge_texts more ≡ Some (meant words))
 edge_found all words e =
     (left_symbols words e.0 e.1 e.2 e.3 e.4 e.5 e.6 e.7, e.8 ∙ side_by_side words e.0 e.1 e.2, edge_of_parts words e.0 e.1 e.2 e.3 e.4 e.5 e.6 e.7)

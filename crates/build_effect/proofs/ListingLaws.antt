@@ -17,9 +17,9 @@ use Rattle.build_effect.proofs.ListingRuns.{one_list_of_edges, begins_runs, run_
 use Rattle.build_effect.proofs.ListingFinds.{one_class, goes_on, stops_by, line_cases, cause_stops, one_text_cause, class_has_form}
 use Rattle.build_effect.proofs.ListingLemmas.{cause_of_text}
 
--- ---- a line has a class with which an edge list continues, or a cause
+-- ---- a line has a class with which a listing continues, or a cause
 
--- the cause of a line, by whether it keeps the limit
+-- the cause of a line, by whether it is longer than the limit
 cause_parts : (classes : List ListingClass) (line : List ℕ) (cause : LineCause) → IsLineCause classes line cause
     → ((cause ≡ LineTooLong) × (line_limit < length line)) ⊎ ((length line ≤ line_limit) × IsTextCause classes (text_of_line line) (is_comment line) cause)
 cause_parts classes line LineTooLong is = inl (refl, is)
@@ -48,7 +48,7 @@ cause_is_faulty classes line cause begun is = elim (cause_parts classes line cau
   | inr h ↦ λ c of on. cause_stops classes begun (text_of_line line) (is_comment line) cause c h.1 of.1 on
 ]
 
--- the law: one cause at most
+-- the law: at most one cause
 pub one_cause : (classes : List ListingClass) (line : List ℕ) (cause other : LineCause) → IsLineCause classes line cause → IsLineCause classes line other → other ≡ cause
 one_cause classes line cause other a b = elim (cause_parts classes line cause a) [
   | inl x ↦ elim (cause_parts classes line other b) [
@@ -61,7 +61,7 @@ one_cause classes line cause other a b = elim (cause_parts classes line cause a)
   ]
 ]
 
--- the law: a line of a class has no cause but its form
+-- the law: the only cause that a line with a class can have is its form
 pub line_has_form : (classes : List ListingClass) (line : List ℕ) (cause : LineCause) (c : ListingClass) → IsLineCause classes line cause → IsOfClass listing_format line c → cause ≡ Form
 line_has_form classes line cause c is of = elim (cause_parts classes line cause is) [
   | inl x ↦ absurd (omega (arith, x.1, of.0))
@@ -76,7 +76,7 @@ no_end_cause LineTooLong h = omega arith
 no_end_cause Truncated h = omega (arith, h.0)
 no_end_cause other h = h
 
--- an end has one cause at most
+-- an end has at most one cause
 one_end_cause : (rest : List ℕ) (x y : LineCause) → IsEndCause rest x → IsEndCause rest y → y ≡ x
 one_end_cause rest LineTooLong LineTooLong a b = refl
 one_end_cause rest LineTooLong Truncated a b = absurd (omega (arith, a, b.1))
@@ -115,7 +115,7 @@ decided = record {
   one_end_fault = λ classes rest cause other a b. one_end_cause rest other cause b a;
 }
 
--- the law: one list of edges at most
+-- the law: at most one list of edges
 pub one_list : (bytes : List ℕ) (es fs : List EdgeValue) → Lists bytes es → Lists bytes fs → fs ≡ es
 one_list bytes es fs a b = lines.one_value listing_format listing_faults decided bytes fs es b a
 
@@ -131,6 +131,6 @@ listing_or_fault bytes = elim (lines.value_or_fault listing_format listing_fault
 fault_same : {l m : ℕ} {x y : LineCause} → l ≡ m → x ≡ y → ◌≡◌ {A = LineFault} (record { line = l; cause = x }) (record { line = m; cause = y })
 fault_same e f = rw (e, f) refl
 
--- the law: one fault at most
+-- the law: at most one fault
 pub one_fault : (bytes : List ℕ) (x y : LineFault) → HasListingFault bytes x → HasListingFault bytes y → y ≡ x
 one_fault bytes x y f g = let same = lines.one_fault listing_format listing_faults decided bytes y.line x.line y.cause x.cause g f in fault_same same.0 same.1

@@ -1,4 +1,4 @@
--- What the reader of edge lists returns, by the lines that it has read.
+-- What the reader of edge listings returns, by the lines that it has read.
 use Rattle.std.proofs.Common.{inl, inr, ◌≡◌, ℕ, ◌≤◌, List, [], ◌∷◌, ◌++◌, length, refl, sym, ap, ◌∙◌, subst, Some, Ok, Err}
 use Rattle.std.specs.Prelude.{Result}
 use Rattle.std.specs.Option.{option_and_then}
@@ -29,7 +29,7 @@ use Rattle.build_effect.specs.declared.listing.state.Binding.TheVariants.{Closed
 use Rattle.build_effect.proofs.ListingFinds.{class_holds, cause_holds, cause_stops}
 use Rattle.build_effect.proofs.ListingRuns.{runs_begin, run_more, binding_runs, run_is_listing, listing_is_run}
 
--- the cause of a text is that of a line that keeps the limit
+-- the cause of a text is that of its line, if the line is not too long
 pub cause_of_text : (classes : List ListingClass) (line : List ℕ) (cause : LineCause) → length line ≤ line_limit → IsTextCause classes (text_of_line line) (is_comment line) cause → IsLineCause classes line cause
 cause_of_text classes line causes.LineTooLong short is = absurd is
 cause_of_text classes line causes.Truncated short is = absurd is
@@ -65,7 +65,7 @@ fault_of_next bytes lent value f read (number, rest, begins, inl t) =
 fault_of_next bytes lent value f read (number, rest, begins, inr (line, after, split, is, short, seen, same, refused)) =
     inl (fault_of_line bytes lent number rest value read begins line after seen f split is short same refused.0 refused.1)
 
--- a line that passes is of a class that leads on
+-- a line that passes has a class with which the listing continues
 steps_on : (classes : List ListingClass) (old new : ListingValue) (line : LogicalLine) → LeadToEdges classes old → PassesLine old line new
     → (c : ListingClass) × IsListingLine line.text line.comment c × LeadToEdges (classes ++ c ∷ []) new
 steps_on classes old new line led (c, is, steps) =
@@ -100,12 +100,12 @@ ended bytes r (Fault f) has ends =
     (faulty_rest listing_format listing_faults bytes has.lent e.0 e.1 has.read.classes e.2 has.read.texts (runs_begin has.read.classes r.state (ran has.read.classes r.state has.read.led)) causes.Truncated e.3.2 (e.3.0, e.3.1))
 ended bytes r Memory has ends = absurd (ends has.lent has.has)
 
--- why edges are no graph, as a failure of the listing
+-- why edges are not a graph, as a failure of the listing
 abbrev pub graph_failure : Failure GraphFault → Failure ListFault
 graph_failure Memory = Memory
 graph_failure (Fault fault) = Fault (NoGraph fault)
 
--- why the edges listed are no graph
+-- why the edges listed are not a graph
 pub no_graph : (bytes : List ℕ) (edges : List EdgeValue) (failure : Failure GraphFault) → Lists bytes edges → ForFault (IsGraphFault edges) failure → EndsListing bytes (Err (graph_failure failure))
 no_graph bytes edges (Fault fault) lists is = (edges, lists, is)
 no_graph bytes edges Memory lists is = tt

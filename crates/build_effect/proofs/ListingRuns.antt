@@ -14,11 +14,11 @@ use Rattle.build_effect.specs.declared.listing.state.Binding.TheVariants.{Closed
 pub value_same : {x y : ListingValue} → ◌≡◌ {A = Option ListingValue} (Some x) (Some y) → x ≡ y
 value_same h = cc
 
--- a line that is not allowed gives nothing
+-- a line that may not come has no step
 never : {end : ListingValue} {A : Type 0} → ◌≡◌ {A = Option ListingValue} None (Some end) → A
 never h = absurd (cc)
 
--- a step either gives something or does not
+-- a step has a result or it has none
 cases_step : (o : Option ListingValue) → (o ≡ None) ⊎ ((next : ListingValue) × (o ≡ Some next))
 cases_step None = inl refl
 cases_step (Some next) = inr (next, refl)
@@ -42,7 +42,7 @@ record RunsTo (binding : Binding) (start : List EdgeValue) (classes : List Listi
   final : Binding
   is : run binding start classes ≡ Some (record { edges = result; binding = final })
 
--- what may follow if no edge is open may follow if one is
+-- what may follow if no edge is open may follow if one is open
 open_runs : (binding : Binding) (classes : List ListingClass) (start result : List EdgeValue) → RunsTo Closed start classes result → RunsTo binding start classes result
 open_runs binding [] start result r =
     let same : start ≡ result = ap (λ s. s.edges) (value_same r.is) in
@@ -226,7 +226,7 @@ run_adds (Restat flag ∷ classes) = let later = run_adds classes in record { no
 pub run_is_listing : (classes : List ListingClass) (end : ListingValue) → run Closed [] classes ≡ Some end → IsListing classes end.edges
 run_is_listing classes end h = let a = (run_adds classes).none [] end h in subst (IsListing classes) (sym a.are) a.grammar
 
--- a run over more lines passes through the fewer
+-- a run over more lines passes the result of a run over the first of them
 pub run_front : (classes more : List ListingClass) (binding : Binding) (start : List EdgeValue) (end : ListingValue) → run binding start (classes ++ more) ≡ Some end
     → (mid : ListingValue) × (run binding start classes ≡ Some mid) × (run mid.binding mid.edges more ≡ Some end)
 run_front [] more binding start end h = (record { edges = start; binding = binding }, refl, h)
@@ -267,7 +267,7 @@ left (Open false restat) es (Dyndep path) next h = sym (ap (λ s. s.binding) (va
 left (Open dyndep true) es (Restat flag) next h = never h
 left (Open dyndep false) es (Restat flag) next h = sym (ap (λ s. s.binding) (value_same h))
 
--- and so for a run
+-- and the same holds for a run
 pub binding_runs : (classes : List ListingClass) (binding : Binding) (es : List EdgeValue) (end : ListingValue) → run binding es classes ≡ Some end → end.binding ≡ open_from binding classes
 binding_runs [] binding es end h = sym (ap (λ s. s.binding) (value_same h))
 binding_runs (c ∷ classes) binding es end h = elim (cases_step (step binding es c)) [

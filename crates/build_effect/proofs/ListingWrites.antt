@@ -1,4 +1,4 @@
--- What a call that writes an edge list returns, by the text that was made or not.
+-- What a call that writes a listing returns, by whether its text was made.
 use Rattle.std.proofs.Common.{◌≡◌, ℕ, ◌+◌, ◌<◌, ◌≤◌, suc, Bool, true, false, List, [], ◌∷◌, ◌++◌, length, drop, get_or, add-one, drop-cons, append_assoc, refl, sym, ap, ◌∙◌, Option, Some, None, Ok, Err}
 use Rattle.std.specs.Prelude.{Result, Vec, OnOk, if◌then◌else◌}
 use Rattle.std.specs.Result.{is_ok}
@@ -20,7 +20,7 @@ use Rattle.build_effect.specs.ListingWriting.{edge_line, dyndep_line, restat_lin
 use Rattle.build_effect.specs.declared.fault.ListingWriteFault.{ListingWriteFault}
 use Rattle.build_effect.specs.declared.fault.ListingWriteFault.TheVariants.{ListingTooLong, Io}
 
--- one more part of a line is after those that are after what was there
+-- one more part of a line is appended
 pub grows : {X : Type 0} (f : List X → List ℕ) (start parts now new : List ℕ) (xs ys : List X) → now ≡ start ++ parts → new ≡ now ++ f xs → xs ≡ ys → new ≡ start ++ (parts ++ f ys)
 grows f start parts now new xs ys before more same = more ∙ ap (λ ps. now ++ f ps) same ∙ ap (λ t. t ++ f ys) before ∙ append_assoc start parts (f ys)
 
@@ -34,7 +34,7 @@ reported : (o : Option ℕ) (es : List EdgeValue) (f : ListingWriteFault) → li
 reported None es f h = absurd (let x : ◌≡◌ {A = Result (List ℕ) ListingWriteFault} (Ok (listing_text es)) (Err f) = h in cc)
 reported (Some k) es f h = (k, refl, (let x : ◌≡◌ {A = Result (List ℕ) ListingWriteFault} (Err (ListingTooLong k)) (Err f) = h in cc))
 
--- no text was made, because memory ran out or an edge is too long
+-- no text was made, because an allocation failed or because of this edge
 pub failed : {W : Type 0} (contents : W → Option (List ℕ)) (out : Counted W) (text : List ℕ) (es : List EdgeValue) (failure : Failure ListingWriteFault)
     → Gives {T = Vec ℕ Global} (λ made. made.items) (Err failure) (listing_text_or_fault es) → LeavesListingWriter contents out out text failure × AnswersTooLong {T = Unit {0}} (first_too_long es) (Err failure)
 failed contents out text es Memory h = (refl, tt)
@@ -54,7 +54,7 @@ uncalled writes out text es (Fault (Io written)) h =
     let t = reported (first_too_long es) es (Io written) h in
     absurd (let x : Io written ≡ ListingTooLong t.0 = t.2 in cc)
 
--- a text is that of the edges
+-- the text is that of the edges
 given : (o : Option ℕ) (es : List EdgeValue) (text : List ℕ) → listing_text_unless o es ≡ Ok text → (o ≡ None) × (text ≡ listing_text es)
 given None es text h = (refl, (let x : ◌≡◌ {A = Result (List ℕ) ListingWriteFault} (Ok (listing_text es)) (Ok text) = h in cc))
 given (Some k) es text h = absurd (let x : ◌≡◌ {A = Result (List ℕ) ListingWriteFault} (Err (ListingTooLong k)) (Ok text) = h in cc)
@@ -63,7 +63,7 @@ pub made : (es : List EdgeValue) (text : Vec ℕ Global) → Gives {T = Vec ℕ 
     → (first_too_long es ≡ None) × (text.items ≡ listing_text es)
 made es text h = given (first_too_long es) es text.items h
 
--- the present edge is the next one
+-- the current edge is the next one
 pub drop_item : (edges : List EdgeValue) (i : ℕ) (e : EdgeValue) → i < length edges → e ≡ get_or edges i e → drop i edges ≡ e ∷ drop (i + 1) edges
 drop_item edges i e within is = rw add-one (drop-cons edges i e within ∙ ap (λ z. z ∷ drop (suc i) edges) (sym is))
 
@@ -78,7 +78,7 @@ text_goes_on edges i e text new within is n so_far =
     let is_new : new ≡ text ++ ((edge_line e ++ d) ++ r) = n ∙ ap (λ y. y ++ r) (append_assoc text (edge_line e) d) ∙ append_assoc text (edge_line e ++ d) r in
     ap (λ x. x ++ rest) is_new ∙ append_assoc text ((edge_line e ++ d) ++ r) rest ∙ ap (λ xs. text ++ listing_text xs) (sym (drop_item edges i e within is)) ∙ so_far
 
--- the present edge, in a search from the front in which no build line was too long
+-- the current edge, if no build line before it was too long
 module _ (edges : List EdgeValue) (i : ℕ) (e : EdgeValue) (within : i < length edges) (is : e ≡ get_or edges i e) (none : too_long_from 0 edges ≡ too_long_from i (drop i edges)) where
   looked_at : (long : Bool) → is_too_long e ≡ long → too_long_from 0 edges ≡ if long then Some i else too_long_from (i + 1) (drop (i + 1) edges)
   looked_at long said = none ∙ ap (too_long_from i) (drop_item edges i e within is) ∙ ap (λ b. if b then Some i else too_long_from (i + 1) (drop (i + 1) edges)) said

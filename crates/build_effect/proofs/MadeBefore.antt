@@ -1,4 +1,4 @@
--- Added files that are made already.
+-- Added files that an edge makes or that were added before.
 use Rattle.std.proofs.Common.{◌≡◌, ℕ, ◌+◌, ◌<◌, List, take, Option, Some, None, ap, sym, ◌∙◌, inl, inr, arith, slice_get}
 use Rattle.build_effect.specs.EdgeValue.{EdgeValue}
 use Rattle.build_effect.specs.Faults.{IsMadeBefore}

@@ -9,7 +9,7 @@ use Rattle.build_effect.specs.Graphs.{made_by, MakesAt}
 use Rattle.build_effect.specs.inner.Makers.{maker_in, AreMakers, AreAdded}
 use Rattle.ninja_text.proofs.ForCallers.{same_some, in_append, in_first, in_second, from_push, from_take, in_take, take_next}
 
--- a table that has one more file is as it was at others
+-- a table with one more file has the same for other files
 abbrev Updated : List ℕ → ℕ → (List ℕ → Option ℕ) → (List ℕ → Option ℕ) → Type 0
 Updated file edge maker new = (q : List ℕ) → new q ≡ cond (bytes_eq file q) (Some edge) (maker q)
 

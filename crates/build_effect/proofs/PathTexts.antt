@@ -1,4 +1,4 @@
--- Strings that are paths, and the first that is not.
+-- Strings that are valid paths, and the first one that is not.
 use Rattle.std.proofs.Common.{◌≡◌, ℕ, zero, suc, ◌+◌, ◌<◌, List, [], ◌∷◌, ◌++◌, length, map, take, Some, Result, Ok, Err, refl, ap, sym, subst, ◌∙◌, inl, inr, arith, slice_get, length-append}
 use Rattle.std.proofs.lemmas.List.{map-append}
 use Rattle.std.proofs.lemmas.Option.{slice_get_within}
@@ -62,7 +62,7 @@ one_refused text path ok (suc j) y at refused = cc
 more_refused : (xs ys : List (List ℕ)) → NoneRefused xs → NoneRefused ys → NoneRefused (xs ++ ys)
 more_refused xs ys p q j y at refused = elim (in_append xs ys j y at) [ inl h ↦ p j y h refused | inr h ↦ q h.0 y h.2 refused ]
 
--- which text of a statement is reported
+-- which string of a statement is reported
 pub bad_output : (s : StatementValue) (statement_index : ℕ) (fault : EffectFault) → IsBadText s.output statement_index 0 fault → IsBadTextOf s statement_index fault
 bad_output s statement_index fault bad =
     (0, s.output, record { here = refl; holds = (bad.0, bad.1); before = λ j y less at refused. omega (arith, less) }, bad)
@@ -98,14 +98,14 @@ more_statements ss additions i s a at are one =
           ]
         ]
 
--- an element of one of two lists of one length has one of the other at its index
+-- an element of one of two lists of the same length has a partner in the other
 beside : {X Y : Type 0} (xs : List X) (ys : List Y) (k : ℕ) (x : X) → length xs ≡ length ys → slice_get xs k ≡ Some x → (y : Y) × (slice_get ys k ≡ Some y)
 beside [] ys k x e at = cc
 beside (z ∷ xs) [] k x e at = absurd (omega arith)
 beside (z ∷ xs) (w ∷ ys) zero x e at = (w, refl)
 beside (z ∷ xs) (w ∷ ys) (suc k) x e at = beside xs ys k x (omega arith) at
 
--- the first statement with a text that is no path
+-- the first statement with a string that is not a valid path
 pub first_bad_statement : (ss additions : List StatementValue) (i : ℕ) (s : StatementValue) (fault : EffectFault) → slice_get ss i ≡ Some s → AreCanonical (take i ss) additions → IsBadTextOf s i fault → IsBadStatement ss fault
 first_bad_statement ss additions i s fault at are bad =
     (i, s, record { here = at; holds = (bad.0, bad.1, bad.2.here, bad.2.holds); before = before }, bad)

@@ -15,13 +15,13 @@ module _ {X : Type 0} (f : X → List ℕ) where
       let a = Any-from_list_any (λ k. bytes_eq (f x) (f k)) ks found in
       (a.0, a.1, slice_get_read ks _ a.0 a.1 refl a.2 (sym a.3), a.4)
 
-  -- one more text that is new
+  -- one more string that is new
   pub differ_next : (xs : List X) (i : ℕ) (x : X) → slice_get xs i ≡ Some x → AllDiffer (map f (take i xs)) → list_any (λ k. bytes_eq (f x) (f k)) (take i xs) ≡ false → AllDiffer (map f (take (i + 1) xs))
   differ_next xs i x at all none =
       subst AllDiffer (sym (ap (map f) (take_next xs i x at) ∙ map-append f (take i xs) (x ∷ [])))
       (differ_push (map f (take i xs)) (f x) all (not_among f (take i xs) x none))
 
-  -- one more text that was there
+  -- one more string that was there
   pub repeats : (xs : List X) (i j : ℕ) (x y : X) → slice_get xs j ≡ Some x → AllDiffer (map f (take j xs)) → slice_get (take j xs) i ≡ Some y → bytes_eq (f x) (f y) ≡ true → RepeatsFirst (map f xs) i j
   repeats xs i j x y at all at_y same =
       let from = from_take j xs i y at_y in
@@ -33,7 +33,7 @@ module _ {X : Type 0} (f : X → List ℕ) where
         before = subst AllDiffer (map_take f j xs) all;
       }
 
--- a text is put into a table of the texts before it
+-- a string is put into a table of the strings before it
 module _ {X : Type 0} (f : X → List ℕ) (xs : List X) (j : ℕ) (x : X) (keys new : List X) (at : slice_get xs j ≡ Some x)
     (same : keys ≡ take j xs) (all : AllDiffer (map f (take j xs)))
     (put : new ≡ cond (list_any (λ k. bytes_eq (f x) (f k)) keys) keys (keys ++ x ∷ [])) where

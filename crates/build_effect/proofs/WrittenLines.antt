@@ -1,4 +1,4 @@
--- The lines of an edge as they are written: each is one line, keeps the limit, and is of its class.
+-- The written lines of an edge: each is one line, is not too long, and has its class.
 use Rattle.std.proofs.Common.{inl, inr, ◌≡◌, ◌≢◌, ℕ, ◌+◌, ◌≤◌, ◌==◌, Bool, true, false, List, [], ◌∷◌, ◌++◌, length, map, drop, refl, sym, ap, ◌∙◌, subst, Some, None, arith, length-append}
 use Rattle.std.specs.Prelude.{codes, if◌then◌else◌, option_map, IsTrue}
 use Rattle.std.specs.List.{flat_map, AllByRecursion}
@@ -37,7 +37,7 @@ module _ {at_word : Bool} (text : List ℕ) (xs : List Symbol) (w : Spelled at_w
   spelled_text : is_comment (text ++ 10 ∷ []) ≡ false → text_of_line (text ++ 10 ∷ []) ≡ text
   spelled_text said = ap (λ t. text_of_line (t ++ 10 ∷ [])) (sym w.text_is) ∙ text_is (units text) w.sound (ap (λ t. is_comment (t ++ 10 ∷ [])) w.text_is ∙ said) ∙ w.text_is
 
-  -- the class of the line is that of the text
+  -- the class of the line is that of its text
   spelled_classed : is_comment (text ++ 10 ∷ []) ≡ false → (c : ListingClass) → length (text ++ 10 ∷ []) ≤ line_limit → IsListingLine text false c → IsOfClass listing_format (text ++ 10 ∷ []) c
   spelled_classed said c short is =
       (short, subst (λ b. IsListingLine (text_of_line (text ++ 10 ∷ [])) b c) (sym said) (subst (λ t. IsListingLine t false c) (sym (spelled_text said)) is))
@@ -153,7 +153,7 @@ no_blank b = elim (cases_Bool (is_escaped b)) [
   | inr f ↦ let p = or_parts (b == 36) _ f in let q = or_parts (b == 32) (b == 58) p.1 in rw f q.0
 ]
 
--- the value begins at the path
+-- the value begins with the path
 value_place : (path : List ℕ) → path ≢ [] → (after_run is_blank 11 (path_units path)).place ≡ 11
 value_place [] some = absurd (some refl)
 value_place (b ∷ path) some = rw (no_blank b) refl

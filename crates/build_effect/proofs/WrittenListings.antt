@@ -55,7 +55,7 @@ record IsReadBack (e : EdgeValue) : Type 0 where
   fit : IsFit e
   dyndep : DyndepIsPath e.dyndep
 
--- ---- each line is one, and of its class
+-- ---- each line is one line, and has its class
 
 dyndep_are_lines : (dyndep : Option (List ℕ)) → DyndepIsPath dyndep → AllByRecursion IsLine (dyndep_lines dyndep)
 dyndep_are_lines None is = tt
@@ -91,7 +91,7 @@ are_classed (e ∷ es) each =
 
 -- ---- the classes are a listing of the edges
 
--- the lines of one edge, by its parts, in front of a listing
+-- the lines of one edge, by its parts, before a listing
 one_more : (t : EdgeTexts) (dyndep : Option (List ℕ)) (restat : Bool) (classes : List ListingClass) (es : List EdgeValue) → IsListing classes es
     → IsListing (Build t ∷ (dyndep_classes dyndep ++ restat_classes restat ++ classes)) (record {
       rule = t.rule;
@@ -157,7 +157,7 @@ both_parts : {X : Type 0} (P : X → Type 0) (xs ys : List X) → AllByRecursion
 both_parts P [] ys each = (tt, each)
 both_parts P (x ∷ xs) ys each = let later = both_parts P xs ys each.1 in ((each.0, later.0), later.1)
 
--- what each element has at its index
+-- what holds of the element at each index
 each_of : {X : Type 0} (P : X → Type 0) (xs : List X) → ((i : ℕ) (x : X) → slice_get xs i ≡ Some x → P x) → AllByRecursion P xs
 each_of P [] at = tt
 each_of P (x ∷ xs) at = (at 0 x refl, each_of P xs (λ i y h. at (suc i) y h))

@@ -1,4 +1,4 @@
--- The tokens of a build line as it is written, and that they are one.
+-- The tokens of a written build line, and that they are a build line.
 use Rattle.std.proofs.Common.{inl, inr, ◌≡◌, ◌≢◌, ℕ, ◌+◌, ◌==◌, Bool, true, false, List, [], ◌∷◌, ◌++◌, length, map, refl, sym, ap, ◌∙◌, subst, length-append}
 use Rattle.std.specs.Prelude.{IsTrue, codes}
 use Rattle.std.specs.List.{flat_map, list_all, AllByRecursion}
@@ -21,9 +21,9 @@ use Rattle.build_effect.specs.EdgeValue.{EdgeValue}
 use Rattle.build_effect.specs.ListingLines.{EdgeTexts, is_rule_name, IsEdgeLine, meant}
 use Rattle.build_effect.specs.ListingWriting.{marked_text}
 
--- ---- a rule's name is written as it is
+-- ---- a rule's name needs no escapes
 
--- a byte of a name is not one that has to be escaped
+-- a byte of a name can be written
 name_apart : (b c : ℕ) → is_identifier_byte b ≡ true → is_identifier_byte c ≡ false → (b == c) ≡ false
 name_apart b c h none = elim (cases_Bool (b == c)) [
   | inl t ↦ absurd (let x : false ≡ true = sym none ∙ subst (λ n. is_identifier_byte n ≡ true) (eqb-true b c t) h in cc)
@@ -58,9 +58,7 @@ rule_writable (b ∷ rule) h = record { some = λ e. cc; each = All-from_recursi
 
 -- ---- texts put together
 
--- The units of the text are escaped bytes, and its tokens are these symbols; at_word says whether
--- it begins with a
--- word.
+-- The units of the text are escaped bytes, and its tokens are these symbols; at_word says whether it begins with a word.
 pub record Spelled (at_word : Bool) (text : List ℕ) (xs : List Symbol) : Type 0 where
   pub sound : list_all is_sound (units text) ≡ true
   pub text_is : text_of_units (units text) ≡ text
@@ -70,11 +68,11 @@ pub record Spelled (at_word : Bool) (text : List ℕ) (xs : List Symbol) : Type 
 pub spelled_none : Spelled false [] []
 spelled_none = record { sound = refl; text_is = refl; begins = refl; yields = no_units symbol }
 
--- the units of two texts, one after another
+-- the units of two texts, one after the other
 pub units_both : (front text : List ℕ) → list_all is_sound (units front) ≡ true → text_of_units (units front) ≡ front → units (front ++ text) ≡ units front ++ units text
 units_both front text sound is = ap (λ t. units (t ++ text)) (sym is) ∙ units_read (units front) text sound
 
--- one more text in front
+-- one more text before it
 spelled_more : {at_word now : Bool} (front text : List ℕ) (xs ys : List Symbol) → list_all is_sound (units front) ≡ true → text_of_units (units front) ≡ front → Spelled at_word text xs
     → goes_on (units front ++ units text) ≡ now → Yields symbol (units front ++ units text) ys → Spelled now (front ++ text) ys
 spelled_more front text xs ys sound is later begins yields =
@@ -108,7 +106,7 @@ spelled_double_bar text xs later =
     (sym (ap length (flat_map-append unit_text front bars) ∙ length-append (text_of_units front) (text_of_units bars)))
     ∙ later.yields (front ++ bars)))
 
--- the units of the escaped form of a path
+-- the units of a path in its escaped form
 pub escaped_units : (path : List ℕ) → IsWritable path → units (escaped path) ≡ path_units path
 escaped_units path writable = ap units (sym (path_text path)) ∙ units_are (path_units path) (path_sound path (has_spelling path writable))
 
@@ -128,7 +126,7 @@ pub spelled_name : (name text : List ℕ) (xs : List Symbol) → IsTrue (is_rule
 spelled_name name text xs h later =
     subst (λ r. Spelled true (r ++ text) (WordSymbol r ∷ xs)) (rule_plain name h) (spelled_path name text xs (rule_writable name h) later)
 
--- ---- paths, and a part, in front of a text
+-- ---- paths, and a part, before a text
 
 -- the symbols of paths, and of a part
 abbrev words : List (List ℕ) → List Symbol
@@ -175,7 +173,7 @@ part_is sign (path ∷ paths) = inr refl
 same_cons : {x y : List ℕ} {xs ys : List (List ℕ)} → x ≡ y → xs ≡ ys → x ∷ xs ≡ y ∷ ys
 same_cons p q = rw (p, q) refl
 
--- the escaped forms of paths mean the paths
+-- the value of an escaped path is the path
 paths_meant : (paths : List (List ℕ)) → AllByRecursion IsWritable paths → map value_of (map escaped paths) ≡ paths
 paths_meant [] writable = refl
 paths_meant (path ∷ paths) writable = same_cons (value_of_escaped path writable.0) (paths_meant paths writable.1)
@@ -197,7 +195,7 @@ texts_of e = record {
   order_only = e.order_only;
 }
 
--- Its rule may be called so, it has an output, and its paths have escaped forms.
+-- Its rule has a valid name, it has an output, and its paths can be escaped.
 pub record HasLine (e : EdgeValue) : Type 0 where
   pub rule : IsTrue (is_rule_name e.rule)
   pub some : is_empty e.outputs ≡ false
@@ -207,7 +205,7 @@ pub record HasLine (e : EdgeValue) : Type 0 where
   pub implicit_inputs : AllByRecursion IsWritable e.implicit_inputs
   pub order_only : AllByRecursion IsWritable e.order_only
 
--- its symbols from the order-only inputs on, from the implicit inputs on, and so forth
+-- its symbols from the order-only inputs on, from the implicit inputs on, and so on
 abbrev order_symbols : EdgeValue → List Symbol
 order_symbols e = part_symbols DoubleBar e.order_only ++ []
 
@@ -267,7 +265,7 @@ module _ (e : EdgeValue) (has : HasLine e) where
   pub line_written : Spelled true (line_text e) (WordSymbol (codes "build") ∷ edge_symbols e)
   line_written = spelled_name (codes "build") (behind_keyword e) (edge_symbols e) refl behind_written
 
-  -- its words as they are escaped, which mean what the edge has
+  -- its words in their escaped form, whose values are what the edge has
   abbrev pub words_of : EdgeTexts
   words_of = record {
     rule = e.rule;

@@ -1,4 +1,4 @@
--- The faults are exactly what keeps statements from having an effect.
+-- Statements have an effect if and only if they have no fault.
 use Rattle.std.specs.Prelude.{List}
 use Rattle.ninja_text.specs.Bytes.{PathText}
 use Rattle.dyndep_file.specs.StatementValue.{StatementValue}

@@ -2,7 +2,7 @@
 use Rattle.std.specs.Prelude.{Bool, List, Option}
 use Rattle.ninja_text.specs.Bytes.{PathText, Name}
 
--- The rule and each path are texts; `dyndep` is the file that the edge's binding names.
+-- The rule and each path are strings; `dyndep` is the file that the edge's binding names.
 pub record EdgeValue : Type 0 where
   pub rule : Name
   pub outputs : List PathText

@@ -7,7 +7,7 @@ use Rattle.dyndep_file.specs.StatementValue.{StatementValue}
 use Rattle.build_effect.specs.EdgeValue.{EdgeValue}
 use Rattle.build_effect.specs.Graphs.{made_by, MadeOnce, Names}
 
--- these are the canonical paths of the texts
+-- these are the canonical paths of the strings
 abbrev pub ArePaths : List Text → List PathText → Type 0
 ArePaths texts paths = map path_of texts ≡ map Ok paths
 
@@ -40,7 +40,7 @@ abbrev pub IsBound : List EdgeValue → PathText → StatementValue → Type 0
 IsBound g name a =
     (i : ℕ) × (e : EdgeValue) × (slice_get g i ≡ Some e) × Names name e × IsOn a e
 
--- so is each of the statements
+-- each statement is on an edge that names the file
 abbrev pub AllBound : List EdgeValue → PathText → List StatementValue → Type 0
 AllBound g name additions =
     (k : ℕ) (a : StatementValue) → slice_get additions k ≡ Some a → IsBound g name a
@@ -61,7 +61,7 @@ pub record Extends (old : List EdgeValue) (name : PathText) (additions : List St
   -- an edge that does not name the file stays as it is
   pub others : (i : ℕ) (e : EdgeValue) → slice_get old i ≡ Some e → e.dyndep ≢ Some name →
       slice_get new i ≡ Some e
-  -- an edge that names it has exactly one statement, and gains what that adds
+  -- an edge that names it has exactly one statement, and gains what the statement adds
   pub named : (i : ℕ) (e : EdgeValue) → slice_get old i ≡ Some e → Names name e →
       (k : ℕ) × (a : StatementValue) × IsTheOneOn additions e k a
       × (slice_get new i ≡ Some (extended e a))
@@ -77,7 +77,7 @@ pub record Effect (old : List EdgeValue) (name : PathText) (statements : List St
   pub canonical : AreCanonical statements additions
   pub gives : Extends old name additions new
 
--- the effect, and no other graph is one
+-- the graph is the effect, and no other graph is
 pub record OnlyEffect (old : List EdgeValue) (name : PathText) (statements : List StatementValue)
     (new : List EdgeValue) : Type 0 where
   pub effect : Effect old name statements new
@@ -87,7 +87,7 @@ pub record OnlyEffect (old : List EdgeValue) (name : PathText) (statements : Lis
 abbrev pub HasNoEffect : List EdgeValue → PathText → List StatementValue → Type 0
 HasNoEffect old name statements = (new : List EdgeValue) → Effect old name statements new → ⊥
 
--- an effect of statements is what they give, once their paths are canonical
+-- an effect of statements is what they give when their paths are made canonical
 abbrev pub EffectGives : Type 0
 EffectGives =
     (g new : List EdgeValue) (name : PathText) (statements additions : List StatementValue) →

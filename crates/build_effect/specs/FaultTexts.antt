@@ -8,7 +8,7 @@ use Rattle.build_effect.specs.declared.fault.GraphFault.TheVariants.{ProducedTwi
 use Rattle.build_effect.specs.declared.fault.EffectFault.{EffectFault}
 use Rattle.build_effect.specs.declared.fault.EffectFault.TheVariants.{BadPath, NotBound, StatementTwice, NotMentioned, AddedTwice}
 
--- why edges are no graph
+-- why edges are not a graph
 abbrev pub graph_fault_text : GraphFault → Text
 graph_fault_text (ProducedTwice path) = codes "E1 ProducedTwice"
 graph_fault_text (DyndepNotInput edge output) = codes "E2 DyndepNotInput"
@@ -29,7 +29,7 @@ effect_fault_text (StatementTwice output) = codes "E4 StatementTwice"
 effect_fault_text (NotMentioned output) = codes "E6 NotMentioned"
 effect_fault_text (AddedTwice path) = codes "E7 AddedTwice"
 
--- the file that is reported with it; an invalid path has none
+-- the file that is reported with it; no file is reported with an invalid path
 abbrev pub effect_fault_path : EffectFault → Option PathText
 effect_fault_path (BadPath statement path fault) = None
 effect_fault_path (NotBound output) = Some output

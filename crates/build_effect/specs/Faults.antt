@@ -18,7 +18,7 @@ use Rattle.build_effect.specs.declared.fault.EffectFault.TheVariants.{BadPath, N
 abbrev pub made_files : List EdgeValue → List PathText
 made_files g = flat_map made_by g
 
--- an earlier index of the list has the file, too
+-- an earlier index of the list also has the file
 abbrev pub StandsBefore : List PathText → ℕ → PathText → Type 0
 StandsBefore files k file = (j : ℕ) × (j < k) × (slice_get files j ≡ Some file)
 
@@ -26,18 +26,17 @@ StandsBefore files k file = (j : ℕ) × (j < k) × (slice_get files j ≡ Some 
 abbrev pub NamesUnread : EdgeValue → Type 0
 NamesUnread e = (file : PathText) × Names file e × (HasInput e file → ⊥)
 
--- the fault that keeps a list of edges from being a graph; the second is reported only if the first
--- is not there
+-- why a list of edges is not a graph; the second fault is reported only if the first is not there
 abbrev pub IsGraphFault : List EdgeValue → GraphFault → Type 0
 -- the first file that is made a second time
 IsGraphFault g (ProducedTwice file) =
     (k : ℕ) × IsFirstAt (StandsBefore (made_files g)) (made_files g) k file
--- the first edge that names a dyndep file which is not among its inputs, with its first output
+-- the first edge that names a dyndep file that is not among its inputs, with its first output
 IsGraphFault g (DyndepNotInput i output) =
     (e : EdgeValue) × MadeOnce g × IsFirst NamesUnread g i e
     × (slice_get e.outputs 0 ≡ Some output)
 
--- the texts of a statement that have to be paths: output, implicit outputs, implicit inputs
+-- the strings of a statement that have to be paths: output, implicit outputs, implicit inputs
 abbrev pub path_texts : StatementValue → List PathText
 path_texts s = s.output ∷ s.implicit_outputs ++ s.implicit_inputs
 
@@ -84,7 +83,7 @@ NoneMadeBefore g additions =
     (k : ℕ) (file : PathText) → slice_get (added_outputs additions) k ≡ Some file →
     IsMadeBefore g (added_outputs additions) k file → ⊥
 
--- the fault that is reported: each is reported only if none of those above it is there
+-- the fault that is reported: each is reported only if no fault above it is there
 abbrev pub IsEffectFault : List EdgeValue → PathText → List StatementValue → EffectFault → Type 0
 -- the first statement with an invalid path, and in it the first such string
 IsEffectFault g name statements (BadPath k j fault) =

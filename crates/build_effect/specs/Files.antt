@@ -70,7 +70,7 @@ SameFiles order other =
     ((p n : ℕ) → slice_get order p ≡ Some n → (q : ℕ) × (slice_get other q ≡ Some n))
     × ((p n : ℕ) → slice_get other p ≡ Some n → (q : ℕ) × (slice_get order q ≡ Some n))
 
--- all orders of the same files end alike
+-- all orders of the same files end in the same graph
 abbrev pub OrdersEndAlike : Type 0
 OrdersEndAlike =
     (files : List NamedFile) (g : List EdgeValue) (order other : Numbers)

@@ -26,7 +26,7 @@ abbrev pub listing_line_fault_text : LineFault → Text
 listing_line_fault_text fault =
     codes "line " ++ decimal fault.line ++ codes ": " ++ line_cause_text fault.cause
 
--- why a listing gave no graph
+-- why no graph was read from a listing
 abbrev pub listing_fault_text : ListFault → Text
 listing_fault_text (AtLine fault) = listing_line_fault_text fault
 listing_fault_text (NoGraph fault) = graph_fault_text fault

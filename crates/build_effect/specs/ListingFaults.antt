@@ -12,7 +12,7 @@ use Rattle.build_effect.specs.ListingGrammar.{BeginsListing}
 use Rattle.build_effect.specs.declared.fault.LineCause.{LineCause}
 use Rattle.build_effect.specs.declared.fault.LineCause.TheVariants.{LineTooLong, Lexical, Form, BadPath}
 
--- the texts of a row that are to be paths, from left to right
+-- the strings of a row that have to be paths, from left to right
 abbrev pub path_texts : Row → List PathText
 path_texts CommentRow = []
 path_texts BlankRow = []
@@ -31,7 +31,7 @@ pub record IsFirstRefused (texts : List Text) (fault : PathFault) : Type 0 where
   pub are : ArePaths before paths
   pub refused : path_of text ≡ Err fault
 
--- the class that a row would be of if its texts were paths as they are
+-- the class that a row would have if its strings were canonical paths
 abbrev pub as_class : Row → ListingClass
 as_class CommentRow = Comment
 as_class BlankRow = Blank
@@ -39,13 +39,13 @@ as_class (BuildRow texts) = Build texts
 as_class (DyndepRow text) = Dyndep text
 as_class (RestatRow flag) = Restat flag
 
--- After lines of these classes a line of this row may come, whatever its texts are.
+-- After lines of these classes a line of this row may come, whatever its strings are.
 abbrev pub MayStand : List ListingClass → Row → Type 0
 MayStand classes row = BeginsListing (classes ++ as_class row ∷ [])
 
--- The cause of a line after lines of these classes, by its text without the end, and by whether it
--- is a comment: its first lexical fault; or it has none, and is of no row that may come here; or
--- it is of one, and the first of its strings that is not a valid path has this fault.
+-- The cause of a line after lines of these classes, given its text without the end, and whether it
+-- is a comment: its first lexical fault; otherwise that it has no row that may come here; otherwise
+-- the fault of its first string that is not a valid path.
 abbrev pub IsTextCause : List ListingClass → Text → Bool → LineCause → Type 0
 IsTextCause classes text comment (Lexical fault) =
     (comment ≡ false) × (lexical_fault text ≡ Some fault)
@@ -57,8 +57,8 @@ IsTextCause classes text comment (BadPath fault) =
     × IsFirstRefused (path_texts row) fault
 IsTextCause classes text comment other = ⊥
 
--- The cause of a line, its end included: it passes the limit, or it keeps it and its text has this
--- cause.
+-- The cause of a line, its end included: the line is longer than the limit; otherwise the cause of
+-- its text.
 abbrev pub IsLineCause : List ListingClass → Text → LineCause → Type 0
 IsLineCause classes line LineTooLong = line_limit < length line
 IsLineCause classes line cause =

@@ -2,15 +2,15 @@
 --
 --     listing = ((Comment | Blank)* Build (Comment | Dyndep | Restat)*)* (Comment | Blank)*
 --
--- and the lines after a build line, up to the next that is blank or builds, bind each name at
--- most once.
+-- The lines after a build line, up to the next blank line or build line, bind each name at most
+-- once.
 use Rattle.std.specs.Prelude.{Bool, false, List, [], ◌∷◌, ◌++◌, Option, None, Some}
 use Rattle.ninja_text.specs.Bytes.{PathText}
 use Rattle.build_effect.specs.EdgeValue.{EdgeValue}
 use Rattle.build_effect.specs.ListingLines.{EdgeTexts, ListingClass, Comment, Blank, Build, Dyndep, Restat}
 
--- The lines begin with comments and at most one binding of each name, which set these, and
--- continue with other lines.
+-- The lines begin with comments and at most one binding of each name, which set these values. Other
+-- lines follow.
 pub data HasBindings : List ListingClass → Option PathText → Option Bool → List ListingClass
     → Type 0 where
   no_more_bindings : {more : List ListingClass} → HasBindings more None None more

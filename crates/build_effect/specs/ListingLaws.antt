@@ -1,4 +1,4 @@
--- The law of what is written: it reads back.
+-- The law that a written listing reads back.
 use Rattle.std.specs.Prelude.{◌≡◌, IsTrue, List, All, None}
 use Rattle.ninja_text.specs.Paths.{IsPath}
 use Rattle.build_effect.specs.EdgeValue.{EdgeValue}
@@ -7,13 +7,13 @@ use Rattle.build_effect.specs.ListingLines.{is_rule_name}
 use Rattle.build_effect.specs.ListingWriting.{listing_text, first_too_long}
 use Rattle.build_effect.specs.ListingReading.{Lists}
 
--- An edge as listings have them: a rule may be called as its rule is, and its paths are canonical.
+-- An edge that a listing can have: its rule has a valid name, and its paths are canonical.
 pub record IsListable (e : EdgeValue) : Type 0 where
   pub rule : IsTrue (is_rule_name e.rule)
   pub made : All IsPath (made_by e)
   pub read : All IsPath (inputs_of e)
 
--- Law: the text of a graph of such edges, none of whose build lines is too long, lists that graph.
+-- Law: the text of a graph of such edges lists that graph, if no build line is too long.
 abbrev pub WrittenListing : Type 0
 WrittenListing =
     (g : List EdgeValue) → IsGraph g → All IsListable g → first_too_long g ≡ None

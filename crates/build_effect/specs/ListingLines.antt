@@ -1,5 +1,4 @@
--- The lines of an edge listing, by what they are (Ninja 1.11 manual, "Build statements", "Lexical
--- syntax").
+-- The kinds of lines of an edge listing (Ninja 1.11 manual, "Build statements", "Lexical syntax").
 use Rattle.std.specs.Prelude.{◌≡◌, ◌≢◌, ℕ, Bool, true, false, ◌&&◌, not, nat_lt, IsTrue, List, [], ◌∷◌, ◌++◌, length, map, codes, None, Ok}
 use Rattle.std.specs.List.{list_all}
 use Rattle.ninja_text.specs.Bytes.{Text, PathText, Name}
@@ -11,7 +10,7 @@ use Rattle.ninja_text.specs.declared.token.TokenKind.TheVariants.{Bar, DoubleBar
 use Rattle.dyndep_file.specs.Classes.{Symbol, WordSymbol, SignSymbol, symbols, begins_at_start, begins_with_space, Assigns, IsPart}
 use Rattle.build_effect.specs.Effect.{ArePaths}
 
--- What a build line says: the name of a rule, and words, texts or paths in five places.
+-- What a build line says: the name of a rule, and five lists of words, strings or paths.
 pub record EdgeTexts : Type 0 where
   pub rule : Name
   pub outputs : List PathText
@@ -20,7 +19,8 @@ pub record EdgeTexts : Type 0 where
   pub implicit_inputs : List PathText
   pub order_only : List PathText
 
--- whether a rule may be called so: it has letters, digits, `_`, `.` and `-` only, and one at least
+-- whether a rule may have this name: it has at least one letter, digit, `_`, `.` or `-`, and
+-- nothing else
 abbrev pub is_rule_name : Name → Bool
 is_rule_name name = not (is_empty name) && list_all is_identifier_byte name
 
@@ -28,8 +28,8 @@ is_rule_name name = not (is_empty name) && list_all is_identifier_byte name
 --
 --     build outputs | implicit outputs : rule inputs | implicit inputs || order-only inputs
 --
--- and there is an output. A `|` or `||` may be missing, and then so are its words. The words are
--- escaped, as in the line.
+-- and there is an output. A `|` or `||` may be missing together with its words. The words are in
+-- their escaped form.
 abbrev pub IsEdgeLine : List Symbol → EdgeTexts → Type 0
 IsEdgeLine symbols words =
     (made needed waited_for : List Symbol) × IsPart Bar made words.implicit_outputs
@@ -40,7 +40,7 @@ IsEdgeLine symbols words =
     ++ SignSymbol Colon ∷ WordSymbol words.rule ∷ map WordSymbol words.inputs ++ needed
     ++ waited_for)
 
--- what the words stand for, without escapes; a rule's name has none
+-- the strings of the words, without escapes; a rule's name has no escapes
 abbrev pub meant : EdgeTexts → EdgeTexts
 meant words = record {
   rule = words.rule;
@@ -51,7 +51,7 @@ meant words = record {
   order_only = map value_of words.order_only;
 }
 
--- ---- rows: what a line is, before its paths are looked at
+-- ---- rows: the kind of a line, with strings in the place of its paths
 
 -- A comment, a blank line, a build line, or an indented assignment to `dyndep`, with its value, or
 -- to `restat`, on or off.
@@ -62,10 +62,10 @@ pub data Row : Type 0 where
   DyndepRow : Text → Row
   RestatRow : Bool → Row
 
--- A line is of this row, by its text without the end, and by whether it is a comment: a comment has
--- any bytes, every other line has no lexical fault. A blank line has no token. A build line begins
--- at its first byte, and its texts are the values of its words. A binding is indented, and `restat`
--- is on if the value is not empty.
+-- A line has this row, given its text without the end, and whether it is a comment. A comment holds
+-- any bytes; every other line has no lexical fault. A blank line has no token. A build line begins
+-- at its first byte, and its strings are the values of its words. A binding is indented, and
+-- `restat` is on if the value is not empty.
 abbrev pub TextIsOfRow : Text → Bool → Row → Type 0
 TextIsOfRow text comment CommentRow = comment ≡ true
 TextIsOfRow text comment BlankRow =
@@ -81,7 +81,7 @@ TextIsOfRow text comment (RestatRow flag) =
     × (start : ℕ) × (value : Text) × Assigns text (codes "restat") start value
     × (flag ≡ nat_lt 0 (length value))
 
--- ---- classes: what a line is, with its paths
+-- ---- classes: the kind of a line, with its paths
 
 -- A comment, a blank line, a build line with its paths, or a binding of `dyndep` or `restat`.
 pub data ListingClass : Type 0 where
@@ -91,7 +91,7 @@ pub data ListingClass : Type 0 where
   Dyndep : PathText → ListingClass
   Restat : Bool → ListingClass
 
--- The build line has the rule of the texts, and their canonical paths.
+-- The build line has this rule, and the canonical paths of these strings.
 pub record AreEdgePaths (texts paths : EdgeTexts) : Type 0 where
   pub rule : paths.rule ≡ texts.rule
   pub outputs : ArePaths texts.outputs paths.outputs
@@ -100,8 +100,8 @@ pub record AreEdgePaths (texts paths : EdgeTexts) : Type 0 where
   pub implicit_inputs : ArePaths texts.implicit_inputs paths.implicit_inputs
   pub order_only : ArePaths texts.order_only paths.order_only
 
--- A line of this row is of this class: each text that is to be a path is one, and the class has the
--- canonical paths.
+-- A line of this row has this class: each string that has to be a path is valid, and the class has
+-- the canonical paths.
 abbrev pub RowIsOfClass : Row → ListingClass → Type 0
 RowIsOfClass CommentRow c = c ≡ Comment
 RowIsOfClass BlankRow c = c ≡ Blank
@@ -110,6 +110,6 @@ RowIsOfClass (BuildRow texts) c =
 RowIsOfClass (DyndepRow text) c = (path : PathText) × (path_of text ≡ Ok path) × (c ≡ Dyndep path)
 RowIsOfClass (RestatRow flag) c = c ≡ Restat flag
 
--- A line of this text, which is a comment or not, is of this class.
+-- A line of this text, which is a comment or not, has this class.
 abbrev pub IsListingLine : Text → Bool → ListingClass → Type 0
 IsListingLine text comment c = (row : Row) × TextIsOfRow text comment row × RowIsOfClass row c

@@ -31,14 +31,14 @@ ListingReaderState = LinesRead ListingValue LineFault
 abbrev pub HasReadListing : Bytes → ListingReaderState → Type 0
 HasReadListing bytes r = lines.HasRead listing_format LeadToEdges bytes r
 
--- The fault is in the bytes: a line of them is the first faulty one, or their end has reached the
--- limit of a line. It is the fault of every text that begins with them.
+-- The fault is in the bytes: it is that of the first faulty line, or the bytes after the last line
+-- have reached the limit of a line. Every text that begins with these bytes has this fault.
 abbrev pub IsListingFaultIn : Bytes → LineFault → Type 0
 IsListingFaultIn bytes fault =
     HasFaultyLine bytes fault ⊎ (HasFaultyEnd bytes fault × (fault.cause ≡ LineTooLong))
 
--- What `feed` returns, and what the reader is then, by all bytes fed, this call's with them, to a
--- reader that had failed at none: it has read them, or the fault is in them, or an allocation
+-- What `feed` returns, and what the reader is then, by all bytes fed, including those of this call,
+-- if no call failed before: it has read the bytes, or the fault is in them, or an allocation
 -- failed.
 abbrev pub FeedsListing : Bytes → Result Unit (Failure ListFault) → ListingReaderState → Type 0
 FeedsListing bytes (Ok u) new = HasReadListing bytes new

@@ -1,4 +1,4 @@
--- Which edges a text lists, and which fault a text has that lists none.
+-- Which edges a text lists, and which fault a text has if it lists no edges.
 use Rattle.std.specs.Prelude.{◌≡◌, ◌⊎◌, ◌<◌, ◌≤◌, Bool, List, [], ◌∷◌, ◌++◌, length}
 use Rattle.ninja_text.specs.Bytes.{Bytes, Text}
 use Rattle.ninja_text.specs.Lines.{line_limit}
@@ -17,12 +17,12 @@ abbrev pub listing_format : LineFormat ListingClass (List EdgeValue)
 listing_format = record { text_is_of = IsListingLine; grammar = IsListing }
 
 -- The text lists the edges: it is divided into lines, with no bytes left over, and the lines are a
--- listing of them.
+-- listing of these edges.
 abbrev pub Lists : Bytes → List EdgeValue → Type 0
 Lists bytes edges = lines.StandsForValue listing_format bytes edges
 
--- What is wrong at the end of a text without a faulty line: the bytes left over hold no end and
--- reach the limit, or they are fewer, but some.
+-- What is wrong at the end of a text without a faulty line: the bytes left over hold no end of a
+-- line. They reach the limit, or there are fewer, but at least one.
 abbrev pub IsEndCause : Bytes → LineCause → Type 0
 IsEndCause rest LineTooLong = line_limit ≤ length rest
 IsEndCause rest Truncated = (0 < length rest) × (length rest < line_limit)
@@ -37,7 +37,7 @@ abbrev pub HasFaultyLine : Bytes → LineFault → Type 0
 HasFaultyLine bytes fault =
     lines.FaultyLine listing_format listing_faults bytes fault.line fault.cause
 
--- No line of the text is faulty, and its end is.
+-- No line of the text is faulty, but its end is.
 abbrev pub HasFaultyEnd : Bytes → LineFault → Type 0
 HasFaultyEnd bytes fault =
     lines.FaultyEnd listing_format listing_faults bytes fault.line fault.cause
@@ -46,7 +46,7 @@ HasFaultyEnd bytes fault =
 abbrev pub HasListingFault : Bytes → LineFault → Type 0
 HasListingFault bytes fault = HasFaultyLine bytes fault ⊎ HasFaultyEnd bytes fault
 
--- Law: a text lists one list of edges at most.
+-- Law: a text lists at most one list of edges.
 abbrev pub OneListing : Type 0
 OneListing =
     (bytes : Bytes) (edges others : List EdgeValue)
@@ -65,39 +65,39 @@ ListingOrFault =
     → ((edges : List EdgeValue) × Lists bytes edges)
     ⊎ ((fault : LineFault) × HasListingFault bytes fault)
 
--- Law: a text has one fault at most, at one line and with one cause.
+-- Law: a text has at most one fault, at one line and with one cause.
 abbrev pub OneListingFault : Type 0
 OneListingFault =
     (bytes : Bytes) (fault other : LineFault)
     → HasListingFault bytes fault → HasListingFault bytes other → other ≡ fault
 
--- Law: a line is of one class at most.
+-- Law: a line has at most one class.
 abbrev pub OneClass : Type 0
 OneClass =
     (text : Text) (comment : Bool) (c d : ListingClass)
     → IsListingLine text comment c → IsListingLine text comment d → d ≡ c
 
--- Law: after lines that some edge list begins with, a line is of a class with which some edge
--- list continues, or it has a cause.
+-- Law: after lines with which some listing begins, a line has a class with which some listing
+-- continues, or it has a cause.
 abbrev pub LineOrCause : Type 0
 LineOrCause =
     (classes : List ListingClass) (line : Text) → BeginsListing classes
     → ((c : ListingClass) × IsOfClass listing_format line c × BeginsListing (classes ++ c ∷ []))
     ⊎ ((cause : LineCause) × IsLineCause classes line cause)
 
--- Law: there, a line that has a cause is of no class with which an edge list continues.
+-- Law: after such lines, a line that has a cause has no class with which a listing continues.
 abbrev pub CauseIsFaulty : Type 0
 CauseIsFaulty =
     (classes : List ListingClass) (line : Text) (cause : LineCause) → BeginsListing classes
     → IsLineCause classes line cause → IsFaultyAfter listing_format classes line
 
--- Law: a line has one cause at most.
+-- Law: a line has at most one cause.
 abbrev pub OneCause : Type 0
 OneCause =
     (classes : List ListingClass) (line : Text) (cause other : LineCause)
     → IsLineCause classes line cause → IsLineCause classes line other → other ≡ cause
 
--- Law: a line that is of a class has no cause but its form: lines of that form may not come there.
+-- Law: the only cause that a line with a class can have is its form: it may not come at this point.
 abbrev pub ClassHasForm : Type 0
 ClassHasForm =
     (classes : List ListingClass) (line : Text) (cause : LineCause) (c : ListingClass)

@@ -5,7 +5,7 @@ use Rattle.build_effect.specs.ListingLines.{ListingClass, Comment, Blank, Build,
 use Rattle.build_effect.specs.declared.listing.state.Binding.{Binding}
 use Rattle.build_effect.specs.declared.listing.state.Binding.TheVariants.{Closed, Open}
 
--- the edges so far, and whether the last is open for bindings, and which of them it has
+-- the edges so far, whether the last edge is open for bindings, and which bindings it has
 pub record ListingValue : Type 0 where
   pub edges : List EdgeValue
   pub binding : Binding

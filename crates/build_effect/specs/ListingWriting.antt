@@ -49,11 +49,11 @@ edge_text e = edge_line e ++ dyndep_line e.dyndep ++ restat_line e.restat
 abbrev pub listing_text : List EdgeValue → Text
 listing_text edges = flat_map edge_text edges
 
--- whether an edge's build line passes the limit
+-- whether an edge's build line is longer than the limit
 abbrev pub is_too_long : EdgeValue → Bool
 is_too_long e = nat_lt line_limit (length (edge_line e))
 
--- the index of the first edge whose build line does, if the first edge of the list has this index
+-- the index of the first edge whose build line is, if the first edge of the list has this index
 abbrev pub too_long_from : ℕ → List EdgeValue → Option ℕ
 too_long_from index [] = None
 too_long_from index (e ∷ es) = if is_too_long e then Some index else too_long_from (index + 1) es
@@ -69,8 +69,8 @@ listing_text_unless (Some edge) edges = Err (ListingTooLong edge)
 abbrev pub listing_text_or_fault : List EdgeValue → Result Text ListingWriteFault
 listing_text_or_fault edges = listing_text_unless (first_too_long edges) edges
 
--- what holds after a call that failed: before the first byte nothing has changed, and an `Io`
--- comes of a failed call
+-- what holds after a call that failed: `Io` means that a call of the writer failed; otherwise
+-- nothing was written
 abbrev pub LeavesListingWriter : {W : Type 0} → (W → Option Bytes) → Counted W → Counted W → Text
     → Failure ListingWriteFault → Type 0
 LeavesListingWriter contents old new text Memory = new ≡ old
@@ -78,8 +78,8 @@ LeavesListingWriter contents old new text (Fault (ListingTooLong edge)) = new �
 LeavesListingWriter contents old new text (Fault (Io written)) =
     IsCutShort contents old new text written
 
--- which calls of the writer were made: on success some that took all of the text; before the first
--- byte none, and up to an `Io` some calls took bytes, and one failed
+-- which calls of the writer were made: on success, calls that took the whole text; with `Io`, calls
+-- that took some bytes and the call that failed; otherwise no call
 abbrev pub WritesListingInTurn : {W T : Type 0} → Call W → W → W → Text
     → Result T (Failure ListingWriteFault) → Type 0
 WritesListingInTurn writes old new text (Ok done) = IsTakenInTurn writes old new text (length text)
@@ -88,7 +88,8 @@ WritesListingInTurn writes old new text (Err (Fault (ListingTooLong edge))) = ne
 WritesListingInTurn writes old new text (Err (Fault (Io written))) =
     IsStoppedInTurn writes old new text written
 
--- if neither memory nor the writer fails, a call reports the first edge whose build line is too long
+-- if no allocation and no call of the writer fails, the first edge whose build line is too long is
+-- reported
 abbrev pub AnswersTooLong : {T : Type 0} → Option ℕ → Result T (Failure ListingWriteFault) → Type 0
 AnswersTooLong edge (Ok done) = edge ≡ None
 AnswersTooLong edge (Err Memory) = ⊤

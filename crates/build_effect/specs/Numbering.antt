@@ -11,11 +11,11 @@ use Rattle.build_effect.specs.Effect.{IsTheOneOn, Extends}
 use Rattle.build_effect.specs.Premises.{AddsAt, AdditionNeeds, MeetsPremises}
 use Rattle.build_effect.specs.Files.{NamedFile, FilesMeet, GainsExactly}
 
--- the edge with the outputs alone that a statement adds
+-- the edge with only the outputs that a statement adds
 abbrev pub with_outputs : EdgeValue → StatementValue → EdgeValue
 with_outputs e a = record e { implicit_outputs = e.implicit_outputs ++ a.implicit_outputs }
 
--- the graph with the outputs alone that these files add
+-- the graph with only the outputs that these files add
 pub record HasOutputsOnly (files : List NamedFile) (old new : List EdgeValue) : Type 0 where
   pub same_edges : length new ≡ length old
   pub named : (n : ℕ) (f : NamedFile) (i : ℕ) (e : EdgeValue) (k : ℕ) (a : StatementValue) →
@@ -25,9 +25,9 @@ pub record HasOutputsOnly (files : List NamedFile) (old new : List EdgeValue) : 
       ((n : ℕ) (f : NamedFile) → slice_get files n ≡ Some f → e.dyndep ≢ Some f.name) →
       slice_get new i ≡ Some e
 
--- The graph g has edges that name the files, and h is g with only the outputs that the files add:
--- the edges of each file have one number, the edges of a later file have none that is smaller, and
--- what an edge of h needs has a smaller one.
+-- The edges of g name the files, and h is g with only the outputs that the files add. The edges of
+-- each file have one number, the number of a later file is not smaller, and what an edge of h needs
+-- has a smaller number.
 pub record IsRisingNumbering (files : List NamedFile) (g h : List EdgeValue) (ranks : Numbers)
     : Type 0 where
   pub each : length ranks ≡ length h
@@ -40,8 +40,8 @@ pub record IsRisingNumbering (files : List NamedFile) (g h : List EdgeValue) (ra
       slice_get g i ≡ Some d → slice_get g j ≡ Some e → Names f.name d → Names l.name e →
       slice_index ranks i ≤ slice_index ranks j
 
--- The same of one file: its edges have one number, and each edge that makes an added input which is
--- no added output has a smaller one.
+-- The same for one file: its edges have one number, and each edge that makes an added input has a
+-- smaller number, unless the input is an added output.
 pub record IsLevelNumbering (f : NamedFile) (g h : List EdgeValue) (ranks : Numbers) : Type 0 where
   pub each : length ranks ≡ length h
   pub below : (a b : ℕ) → EdgeNeeds h a b → slice_index ranks b < slice_index ranks a
@@ -52,8 +52,8 @@ pub record IsLevelNumbering (f : NamedFile) (g h : List EdgeValue) (ranks : Numb
       ((o p : ℕ) → AddsAt f.additions o p file → ⊥) → MakesAt h i j file →
       slice_get g l ≡ Some e → Names f.name e → slice_index ranks i < slice_index ranks l
 
--- Where there is such a numbering, and what is added can be ordered, the graph after the effect can
--- be ordered.
+-- If there is such a numbering, and what is added can be ordered, the graph after the effect can be
+-- ordered.
 abbrev pub LevelOrders : Type 0
 LevelOrders =
     (f : NamedFile) (g h new : List EdgeValue) (ranks : Numbers) →
@@ -66,8 +66,9 @@ LevelOrders =
 abbrev pub rank_at : List Numbers → ℕ → ℕ → ℕ
 rank_at ranks n k = option_map_or (λ row. slice_index row k) (slice_get ranks n) 0
 
--- One numbering of the additions of all files, a row for each file, puts each that adds a file
--- below each that adds it as an input, and the first is of the same file or of an earlier one.
+-- One numbering of the additions of all files, a row for each file: an addition that adds an output
+-- has a smaller number than one that adds it as an input, and is of the same file or of an earlier
+-- one.
 pub record AreOrdered (files : List NamedFile) : Type 0 where
   pub ranks : List Numbers
   pub below : (n m k l i j : ℕ) (f d : NamedFile) (a : StatementValue) (file : PathText) →
@@ -75,7 +76,7 @@ pub record AreOrdered (files : List NamedFile) : Type 0 where
       slice_get f.additions k ≡ Some a → slice_get a.implicit_inputs i ≡ Some file →
       AddsAt d.additions l j file → (m ≤ n) × (rank_at ranks m l < rank_at ranks n k)
 
--- An edge that makes an added input which no file adds as an output has a smaller number than the
+-- If no file adds an added input as an output, the edge that makes it has a smaller number than the
 -- edges of the file that adds the input.
 abbrev pub IsAboveOthers : List NamedFile → List EdgeValue → List EdgeValue → Numbers → Type 0
 IsAboveOthers files g h ranks =
@@ -86,8 +87,8 @@ IsAboveOthers files g h ranks =
     MakesAt h i j file → slice_get g l ≡ Some e → Names f.name e →
     slice_index ranks i < slice_index ranks l
 
--- Where there is such a numbering, and the additions of all files can be ordered, the graph after
--- all files, in whatever order, can be ordered.
+-- If there is such a numbering, and the additions of all files can be ordered, the graph after all
+-- files can be ordered, whatever the order of the files is.
 abbrev pub FilesOrder : Type 0
 FilesOrder =
     (files : List NamedFile) (g h new : List EdgeValue) (order ranks : Numbers) →

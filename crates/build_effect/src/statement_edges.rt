@@ -61,7 +61,6 @@ fn bound_edge(edges: &[Edge], name: &Path, makers: &Makers<'_>, output: &Path) -
     }
 }
 
-/// Returns whether the edge's dyndep binding names the file.
 fn names(edge: &Edge, name: &Path) -> bool
     ensures { MatchBool result (Names name.now edge.now) (Names name.now edge.now → ⊥) }
 {

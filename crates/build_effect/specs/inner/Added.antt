@@ -1,4 +1,4 @@
--- Added outputs that are made already.
+-- Added outputs that an edge makes or that were added before.
 use Rattle.std.specs.Prelude.{◌≡◌, ℕ, List, slice_get, Option, Some, None}
 use Rattle.dyndep_file.specs.StatementValue.{StatementValue}
 use Rattle.build_effect.specs.EdgeValue.{EdgeValue}
@@ -22,7 +22,7 @@ FindsMadeIn maker files found = (g : List EdgeValue) → AreMakers g maker → F
 abbrev pub AddsFresh : (List ℕ → Option ℕ) → List StatementValue → Type 0
 AddsFresh maker additions = (g : List EdgeValue) → AreMakers g maker → NoneMadeBefore g additions
 
--- the fault reports the first added output that is made already
+-- the fault reports the first such added output
 abbrev pub IsFirstMade : List EdgeValue → List StatementValue → EffectFault → Type 0
 IsFirstMade g additions fault =
     (k : ℕ) × (file : List ℕ)

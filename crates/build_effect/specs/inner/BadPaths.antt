@@ -8,8 +8,8 @@ use Rattle.build_effect.specs.Faults.{path_texts, IsNoPath, HasRefused}
 use Rattle.build_effect.specs.declared.fault.EffectFault.{EffectFault}
 use Rattle.build_effect.specs.declared.fault.EffectFault.TheVariants.{BadPath}
 
--- the string is not a valid path, and the fault has these indices of the statement and of the string
--- in it
+-- the string is not a valid path, and the fault has these indices of the statement and of the
+-- string in it
 abbrev pub IsBadText : List ℕ → ℕ → ℕ → EffectFault → Type 0
 IsBadText text k j fault =
     (cause : PathFault) × (path_of text ≡ Err cause) × (fault ≡ BadPath k j cause)

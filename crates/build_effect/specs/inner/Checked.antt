@@ -26,7 +26,7 @@ pub record AreChecked (g : List EdgeValue) (name : List ℕ)
   pub matched : AreMatched g name additions statement_of
   pub fresh : NoneMadeBefore g additions
 
--- the fault that is reported of statements which, with canonical paths, are these
+-- the fault that is reported if these are the statements with canonical paths
 abbrev pub IsFaultOf : List EdgeValue → List ℕ → List StatementValue → EffectFault → Type 0
 IsFaultOf g name additions fault =
     (statements : List StatementValue) → AreCanonical statements additions →

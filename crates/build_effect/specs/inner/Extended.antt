@@ -11,7 +11,7 @@ IsEdgeAfter e additions None new = new ≡ e
 IsEdgeAfter e additions (Some k) new =
     (a : StatementValue) → slice_get additions k ≡ Some a → new ≡ extended e a
 
--- each edge with what the statement on it adds, and the others as they are
+-- each edge with what the statement on it adds; an edge without a statement stays as it is
 pub record AreExtended (old : List EdgeValue) (additions : List StatementValue)
     (statement_of : List (Option ℕ)) (new : List EdgeValue) : Type 0 where
   pub as_many : length new ≡ length old

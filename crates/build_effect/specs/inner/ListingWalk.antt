@@ -60,8 +60,8 @@ abbrev pub past_part : Option (List Symbol) → List Symbol → List Symbol
 past_part (Some more) symbols = past_words more
 past_part None symbols = symbols
 
--- what is on the right of the colon, after these outputs: the rule, then inputs of three kinds
--- and no more
+-- what is on the right of the colon, after these outputs: the rule, then inputs of three kinds, and
+-- nothing else
 abbrev pub right_texts : List (List ℕ) → List (List ℕ) → Option (List Symbol) → Option EdgeTexts
 right_texts outputs implicit_outputs (Some (WordSymbol rule ∷ more)) =
     let bar = past_words more in
@@ -79,7 +79,7 @@ right_texts outputs implicit_outputs (Some (WordSymbol rule ∷ more)) =
     else None
 right_texts outputs implicit_outputs other = None
 
--- the build line of the tokens after the keyword `build`; None if they are not one
+-- the build line of the tokens after the keyword `build`; None if they are not a build line
 abbrev pub edge_texts : List Symbol → Option EdgeTexts
 edge_texts symbols =
     let bar = past_words symbols in
@@ -118,8 +118,8 @@ abbrev pub row_or_fault : Option LexFault → Result Row LineCause → Result Ro
 row_or_fault (Some fault) row = Err (Lexical fault)
 row_or_fault None row = row
 
--- The row of a line's text without its end, and of whether the line is a comment; else that it has
--- a lexical fault or no such form.
+-- The row of a line, given its text without the end, and whether it is a comment; otherwise its
+-- lexical fault or `Form`.
 abbrev pub row_of : List ℕ → Bool → Result Row LineCause
 row_of text comment =
     if comment then Ok CommentRow else row_or_fault (lexical_fault text) (sound_row text)
@@ -133,7 +133,7 @@ with_path (Err fault) paths = Err fault
 with_path (Ok path) (Err fault) = Err fault
 with_path (Ok path) (Ok paths) = Ok (path ∷ paths)
 
--- the paths of texts, or the fault of the first that is not a valid path
+-- the paths of strings, or the fault of the first that is not a valid path
 abbrev pub paths_of : List (List ℕ) → Result (List (List ℕ)) PathFault
 paths_of [] = Ok []
 paths_of (text ∷ texts) = with_path (path_of text) (paths_of texts)
@@ -144,7 +144,7 @@ abbrev pub then_paths : {T : Type 0} → Result (List (List ℕ)) PathFault
 then_paths (Err fault) next = Err fault
 then_paths (Ok paths) next = next paths
 
--- a build line's paths, or the fault of its first text that is not a valid path
+-- a build line's paths, or the fault of its first string that is not a valid path
 abbrev pub edge_paths : EdgeTexts → Result EdgeTexts PathFault
 edge_paths t =
     then_paths (paths_of t.outputs) (λ outputs.
@@ -181,7 +181,7 @@ abbrev pub FindsClass : List ℕ → Bool → ListingClass → Type 0
 FindsClass text comment c =
     (row : Row) × (row_of text comment ≡ Ok row) × (class_of_row row ≡ Ok c)
 
--- ---- the points at which it is allowed
+-- ---- after which lines it may come
 
 -- whether a line may come after lines that leave this open: a binding only once under a build
 -- line
@@ -196,18 +196,18 @@ may_stand (Open dyndep restat) (RestatRow flag) = not restat
 
 -- ---- its cause
 
--- the cause of a line whose paths were looked at
+-- the cause of a line, given the class of its row
 abbrev pub path_cause : Result ListingClass PathFault → Option LineCause
 path_cause (Ok c) = None
 path_cause (Err fault) = Some (BadPath fault)
 
--- the cause of a line of this row: its form does not fit here, or a path of it is not valid
+-- the cause of a line of this row: it may not come here, or one of its paths is not valid
 abbrev pub row_cause : Binding → Result Row LineCause → Option LineCause
 row_cause binding (Err cause) = Some cause
 row_cause binding (Ok row) =
     if may_stand binding row then path_cause (class_of_row row) else Some Form
 
--- the cause of a line's text without its end, and of whether the line is a comment
+-- the cause of a line, given its text without the end, and whether it is a comment
 abbrev pub text_cause : Binding → List ℕ → Bool → Option LineCause
 text_cause binding text comment = row_cause binding (row_of text comment)
 
@@ -233,7 +233,7 @@ with_last_dyndep path es = with_last (λ e. record e { dyndep = Some path }) es
 abbrev pub with_last_restat : Bool → List EdgeValue → List EdgeValue
 with_last_restat flag es = with_last (λ e. record e { restat = flag }) es
 
--- What a line of this class does, if it is allowed. A comment changes nothing. A blank line
+-- What a line of this class does, if it may come here. A comment changes nothing. A blank line
 -- closes the open edge. A build line opens an edge. A binding sets what it names in the open edge,
 -- once.
 abbrev pub step : Binding → List EdgeValue → ListingClass → Option ListingValue

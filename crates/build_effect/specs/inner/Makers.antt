@@ -14,12 +14,12 @@ maker_in m file = get_by (λ k. bytes_eq file k.now) m
 abbrev pub makers_row : (List ℕ → Option ℕ) → EdgeValue → List ℕ
 makers_row maker e = filter_map maker (inputs_of e)
 
--- the table has for a file an edge that makes it, if there is one
+-- if an edge makes a file, the table has the file with such an edge
 pub record AreMakers (g : List EdgeValue) (maker : List ℕ → Option ℕ) : Type 0 where
   pub found : (file : List ℕ) (i : ℕ) → maker file ≡ Some i → (j : ℕ) × MakesAt g i j file
   pub made : (i j : ℕ) (file : List ℕ) → MakesAt g i j file → (k : ℕ) × (maker file ≡ Some k)
 
--- the table has this edge for these files, and for others what it had
+-- the table has this edge for these files, and the same as before for other files
 pub record AreAdded (files : List (List ℕ)) (edge : ℕ) (maker new_maker : List ℕ → Option ℕ)
     : Type 0 where
   pub found : (file : List ℕ) (i : ℕ) → new_maker file ≡ Some i →

@@ -21,7 +21,7 @@ RefusesLine old line fault =
     (fault.line ≡ line.number)
     × (text_cause old.binding line.text line.comment ≡ Some fault.cause)
 
--- the cutter's fault as the reader's
+-- the fault of the reader, given that of the line cutter
 abbrev pub fault_of_cutter : CutFault → LineFault
 fault_of_cutter (cut.LineTooLong line) = record { line = line; cause = LineTooLong }
 fault_of_cutter (cut.Truncated line) = record { line = line; cause = Truncated }

@@ -224,7 +224,6 @@ fn is_rule_name(name: &[u8]) -> bool
     }
 }
 
-/// Returns whether all bytes may be in the name of a rule.
 fn are_name_bytes(bytes: &[u8]) -> bool
     ensures { result ≡ list_all is_identifier_byte bytes.now }
 {
@@ -253,7 +252,6 @@ fn begins_with_space(text: &[u8]) -> bool
     matches!(text, [b' ', ..])
 }
 
-/// Returns whether two slices hold the same bytes.
 fn is_same(bytes: &[u8], other: &[u8]) -> bool
     ensures { result ≡ same_bytes bytes.now other.now }
 {

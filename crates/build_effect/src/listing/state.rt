@@ -117,7 +117,6 @@ fn restat_row(state: &mut ListingState, flag: bool) -> Result<(), Failure<LineCa
     }
 }
 
-/// Sets the dyndep file of the last edge.
 fn set_last_dyndep(edges: &mut Vec<Edge>, path: Path)
     ensures { edges.new.items ≡ with_last_dyndep path edges.old.items }
 {
@@ -126,7 +125,6 @@ fn set_last_dyndep(edges: &mut Vec<Edge>, path: Path)
     }
 }
 
-/// Sets the flag `restat` of the last edge.
 fn set_last_restat(edges: &mut Vec<Edge>, flag: bool)
     ensures { edges.new.items ≡ with_last_restat flag edges.old.items }
 {

@@ -8,7 +8,7 @@ use Rattle.ninja_text.proofs.ForCallers.{to_map}
 use Rattle.build_effect.proofs.MadeFiles.{made_once, first_of_repetition}
 use Rattle.build_effect.proofs.graph.check_made.Goals as goal
 
--- where a file repeats, there is one that was lent
+-- the index of a file that repeats is within the borrowed files
 repeated_within : (files : List (Bor (List ℕ))) (all : List (List ℕ)) (i j : ℕ) → map (λ (x : Bor (List ℕ)). x.now) files ≡ all → RepeatsFirst all i j → j < length files
 repeated_within files all i j are repeated =
     let within = slice_get_within all j repeated.repeated repeated.again in

@@ -7,7 +7,7 @@ use Rattle.build_effect.proofs.Bindings.{more_have}
 use Rattle.build_effect.proofs.statement_edges.check_mentioned.Goals as goal
 use Rattle.build_effect.proofs.statement_edges.check_mentioned.Goals.{else-is_none-via-then-is_none+else-names, else-is_none-via-else-is_none}
 
--- if there is not none, there is a statement
+-- if the test for none is false, there is a statement
 has_statement : (statement : Option ℕ) (none : Bool) → is_some statement ≡ not none → none ≡ false → (k : ℕ) × (statement ≡ Some k)
 has_statement None none test is = absurd (let x : false ≡ true = test ∙ ap not is in cc)
 has_statement (Some k) none test is = (k, refl)
@@ -16,7 +16,7 @@ no_statement : (statement : Option ℕ) (none : Bool) → is_some statement ≡ 
 no_statement None none test is = refl
 no_statement (Some k) none test is = absurd (let x : true ≡ false = test ∙ ap not is in cc)
 
--- said here, so that `edge_without_statement_passed_over` is rejected soon
+-- stated here, so that `edge_without_statement_passed_over` is rejected early
 pub returns-then-names-clause-fault : goal.returns-then-names-clause-fault
 returns-then-names-clause-fault c =
     let i = c.loop-edge_index.edge_index in

@@ -10,7 +10,7 @@ use Rattle.build_effect.proofs.graph.Graph.to_text.Goals as goal
 pub loop-edge_index-init : goal.loop-edge_index-init
 loop-edge_index-init c = record { text = ap (λ t. t ++ listing_text c.edges-edge-items.result.now) c.new-text.ensures.items; none = refl }
 
--- said here, so that an edit of the limit is rejected soon
+-- stated here, so that an edit of the limit is rejected early
 pub returns-then-len-start-gt-LINE_LIMIT : goal.returns-then-len-start-gt-LINE_LIMIT
 returns-then-len-start-gt-LINE_LIMIT c =
     let edges : List EdgeValue = c.edges-edge-items.result.now in

@@ -4,7 +4,7 @@ use Rattle.dyndep_file.specs.BuildTokens.{symbols_left}
 use Rattle.build_effect.specs.inner.ListingWalk.{front_words, past_words}
 use Rattle.build_effect.proofs.listing.rows.front_words.Given as goal
 
--- the words so far and those to come are all, and the same tokens follow them
+-- the words so far and those to come are all words, and the same tokens follow them
 abbrev pub invariant-loop-token : goal.invariant-loop-token
 invariant-loop-token l = record {
   words : rows l.values.items ++ front_words (symbols_left l.tokens) ≡ front_words (symbols_left l.initial.tokens);

@@ -4,6 +4,6 @@ use Rattle.build_effect.specs.inner.ListingWalk.{paths_of}
 use Rattle.build_effect.proofs.ListingEdges.{behind}
 use Rattle.build_effect.proofs.listing.state.paths_of.Given as goal
 
--- the paths so far precede those of the texts to come
+-- the paths so far come before those of the strings to come
 abbrev pub invariant-loop-text : goal.invariant-loop-text
 invariant-loop-text l = paths_of (rows l.texts) ≡ behind l.paths.items (paths_of (rows (drop l.text-index l.texts)))
