@@ -1,8 +1,9 @@
 -- An edge needs another if and only if its row of makers contains it.
-use Rattle.std.proofs.Common.{◌≡◌, ℕ, zero, suc, ◌+◌, ◌<◌, List, [], ◌∷◌, ◌++◌, length, map, take, get_or, Option, Some, None, Contains, refl, ap, subst, sym, ◌∙◌, arith, slice_get}
+use Rattle.std.proofs.Common.{◌≡◌, ℕ, zero, suc, ◌+◌, ◌<◌, List, [], ◌∷◌, ◌++◌, length, map, take, get_or, Option, Some, None, Contains, refl, ap, subst, sym, ◌∙◌, arith, slice_get, ⊎_elim}
 use Rattle.std.specs.List.{filter_map, cons_option}
-use Rattle.std.proofs.lemmas.List.{length-map, map-append}
+use Rattle.std.proofs.lemmas.List.{length-map, map-append, get_or_past}
 use Rattle.std.proofs.lemmas.Option.{slice_get_within, slice_get-get_or, get_or_from_slice_get}
+use Rattle.std.proofs.lemmas.Bool.{cases_lt}
 use Rattle.dep_order.specs.Needs.{NodeNeeds, NeedsAreNodes}
 use Rattle.dep_order.specs.Sortings.{IsSortingOf}
 use Rattle.dep_order.specs.declared.Sorting.{Sorting}
@@ -44,14 +45,6 @@ from_filter_map : {X Y : Type 0} (h : X → Option Y) (xs : List X) (k : ℕ) (y
 from_filter_map h [] k y at = cc
 from_filter_map h (z ∷ xs) k y at = from_cons h z xs (h z) k y refl at (λ l. from_filter_map h xs l y)
 
-row_there : {X : Type 0} (graph : List (List X)) (o k : ℕ) → k < length (get_or graph o []) → slice_get graph o ≡ Some (get_or graph o [])
-row_there [] o k lt = absurd (omega (arith, lt))
-row_there (row ∷ graph) zero k lt = refl
-row_there (row ∷ graph) (suc o) k lt = row_there graph o k lt
-
-contained : {X : Type 0} (xs : List X) (x : X) → Has xs x → Contains xs x
-contained xs x h = (h.0, slice_get_within xs h.0 x h.1, get_or_from_slice_get xs h.0 x x h.1)
-
 module _ (g : List EdgeValue) (maker : List ℕ → Option ℕ) (once : MadeOnce g) (are : AreMakers g maker) where
   abbrev row : EdgeValue → List ℕ
   row e = filter_map maker (inputs_of e)
@@ -64,7 +57,8 @@ module _ (g : List EdgeValue) (maker : List ℕ → Option ℕ) (once : MadeOnce
 
   pub to_needs : (a b : ℕ) → NodeNeeds graph a b → EdgeNeeds g a b
   to_needs a b need =
-      let there = row_there graph a need.0 need.1 in
+      let within : a < length graph = ⊎_elim (λ lt. lt) (λ past. absurd (omega (arith, need.1, ap length (get_or_past graph a [] past)))) (cases_lt a (length graph)) in
+      let there = slice_get-get_or graph a [] within in
       let e = from_map row g a (get_or graph a []) there in
       let at_b : slice_get (row e.0) need.0 ≡ Some b = ap (λ xs. slice_get xs need.0) e.2 ∙ slice_get-get_or (get_or graph a []) need.0 b need.1 ∙ ap (λ x. Some x) need.2 in
       let file = from_filter_map maker (inputs_of e.0) need.0 b at_b in
@@ -77,14 +71,14 @@ module _ (g : List EdgeValue) (maker : List ℕ → Option ℕ) (once : MadeOnce
       let made = are.found file k.0 k.1 in
       let same : k.0 ≡ b = (once k.0 made.0 b j file made.1 makes).0 in
       let has = in_filter_map maker (inputs_of e) reads.0 file b reads.1 (k.1 ∙ ap (λ x. Some x) same) in
-      subst (λ xs. Contains xs b) (sym (get_or_from_slice_get graph a (row e) [] (to_map row g a e at))) (contained (row e) b has)
+      subst (λ xs. Contains xs b) (sym (get_or_from_slice_get graph a (row e) [] (to_map row g a e at))) (has.0, slice_get_within (row e) has.0 b has.1, get_or_from_slice_get (row e) has.0 b b has.1)
 
   pub are_nodes : NeedsAreNodes graph
   are_nodes k d lt k' d' lt' =
       let there = slice_get-get_or graph k d lt in
       let same : get_or graph k [] ≡ get_or graph k d = get_or_from_slice_get graph k (get_or graph k d) [] there in
       let needed = get_or (get_or graph k d) k' d' in
-      let inside = subst (λ xs. Contains xs needed) (sym same) (contained (get_or graph k d) needed (k', slice_get-get_or (get_or graph k d) k' d' lt')) in
+      let inside = subst (λ xs. Contains xs needed) (sym same) (k', lt', get_or_from_slice_get (get_or graph k d) k' needed needed (slice_get-get_or (get_or graph k d) k' d' lt')) in
       let need = to_needs k needed inside in
       omega (arith, slice_get_within g needed need.5.0 need.5.1, as_many)
 

@@ -10,8 +10,14 @@ use Rattle.build_effect.specs.inner.StatementEdges.{statement_on}
 use Rattle.build_effect.specs.inner.Checked.{AreChecked}
 use Rattle.build_effect.specs.inner.Extended.{IsEdgeAfter, AreExtended}
 use Rattle.build_effect.proofs.Lists.{same_lists}
-use Rattle.ninja_text.proofs.ForCallers.{same_some, in_append, in_first, element_at, from_push, from_take, in_take, take_next}
-use Rattle.build_effect.proofs.InputSearch.{has_first, has_second}
+use Rattle.ninja_text.proofs.ForCallers.{same_some, in_append, in_first, in_second, element_at, from_push, from_take, in_take, take_next}
+use Rattle.build_effect.specs.inner.Inputs.{Has}
+
+has_first : (xs ys : List (List ℕ)) (y : List ℕ) → Has xs y → Has (xs ++ ys) y
+has_first xs ys y h = (h.0, in_first xs ys h.0 y h.1)
+
+has_second : (xs ys : List (List ℕ)) (y : List ℕ) → Has ys y → Has (xs ++ ys) y
+has_second xs ys y h = (length xs + h.0, in_second xs ys h.0 y h.1)
 
 -- an edge without a statement stays as it is
 pub unchanged : (e after : EdgeValue) (additions : List StatementValue) (statement : Option ℕ) → ((k : ℕ) → statement ≡ Some k → ⊥) → after ≡ e → IsEdgeAfter e additions statement after

@@ -2,16 +2,13 @@ mod Lists
 mod Repetitions
 mod Decides
 mod Failures
-mod GraphParts
 mod MadeFiles
 mod MakerTables
 mod MadeBefore
-mod InputSearch
 mod PathTexts
 mod Bindings
 mod Effects
 mod Exclusion
-mod EdgeCopies
 mod Extensions
 mod Reports
 mod FileOrders

@@ -1,8 +1,8 @@
 -- Lemmas on lists.
 use Rattle.std.proofs.Common.{◌≡◌, ℕ, zero, suc, ◌<◌, List, [], ◌∷◌, ◌+◌, length, map, Some, Result, Ok, refl, ap, subst, sym, inl, inr, arith}
-use Rattle.std.specs.Prelude.{slice_get}
+use Rattle.std.specs.Prelude.{slice_get, All}
 use Rattle.std.specs.List.{flat_map}
-use Rattle.std.proofs.lemmas.Option.{slice_get_within}
+use Rattle.std.proofs.lemmas.Option.{slice_get_within, get_or_from_slice_get}
 use Rattle.ninja_text.specs.Firsts.{AllDiffer}
 use Rattle.ninja_text.proofs.ForCallers.{same_some, in_first, in_second, three_ways, offset, InPart, in_flat_map}
 
@@ -54,3 +54,7 @@ one_part f (x ∷ xs) all (suc i) j zero l y p q =
 one_part f (x ∷ xs) all (suc i) j (suc k) l y p q =
     let rest = one_part f xs (record { differ = λ a b z less at_a at_b. all.differ (length (f x) + a) (length (f x) + b) z (omega (arith, less)) (in_second (f x) (flat_map f xs) a z at_a) (in_second (f x) (flat_map f xs) b z at_b) }) i j k l y (p.0, p.1, p.2) (q.0, q.1, q.2) in
     (ap suc rest.0, rest.1)
+
+-- what holds of all elements holds of the element at each index
+pub all_at : {X : Type 0} (P : X → Type 0) (xs : List X) → All P xs → (i : ℕ) (x : X) → slice_get xs i ≡ Some x → P x
+all_at P xs all i x at = subst P (get_or_from_slice_get xs i x x at) (all i x (slice_get_within xs i x at))

@@ -17,7 +17,7 @@ use Rattle.ninja_text.specs.LineFormats.{AreOfClasses}
 use Rattle.build_effect.specs.ListingReading.{listing_format, Lists}
 use Rattle.build_effect.specs.ListingWriting.{edge_line, dyndep_line, restat_line, edge_text, listing_text, is_too_long, too_long_from, first_too_long}
 use Rattle.build_effect.specs.ListingLaws.{IsListable, WrittenListing}
-use Rattle.build_effect.proofs.GraphParts.{all_at}
+use Rattle.build_effect.proofs.Lists.{all_at}
 use Rattle.build_effect.proofs.WrittenSymbols.{texts_of}
 use Rattle.build_effect.proofs.WrittenLines.{IsFit, edge_is_line, edge_classed, dyndep_is_line, dyndep_classed, restat_is_line, restat_classed}
 

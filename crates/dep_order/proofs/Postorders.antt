@@ -225,8 +225,7 @@ all_left needs seen scanned left all h = record {
 }
 
 -- If the free nodes are up to the last of them, what leads to that one by free nodes is led to from
--- it, and so is all
--- between.
+-- it, and so is all between.
 pub led_back : (needs : List (List ℕ)) (postorder : List ℕ) (IsFree : ℕ → Type 0) (last : ℕ) → IsPostorder needs postorder → last < length postorder → ((index : ℕ) → index < length postorder → IsFree (slice_index postorder index) → index ≤ last) → (x : ℕ) (things : List ℕ) (index : ℕ) → IsChain (NodeNeeds needs) (x ∷ things) (slice_index postorder last) → IsFree x → All IsFree things → index < length postorder → slice_index postorder index ≡ x → (k : ℕ) → index ≤ k → k ≤ last → Reaches (NodeNeeds needs) (slice_index postorder last) (slice_index postorder k)
 led_back needs postorder IsFree last p in' bound x [] index need free all lt at k ge le =
     let root : ℕ = slice_index postorder last in

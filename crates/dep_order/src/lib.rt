@@ -69,7 +69,7 @@ ghost use Rattle.dep_order.specs.Sortings.{IsSortingOf};
 use cycles::least_cycle;
 use ordering::order_ready;
 pub use reaching::Reaching;
-use rows::{lend_parts, lend_rows};
+use rows::{part_slices, row_slices};
 use std::alloc::{AllocError, Global};
 use std::marker::Model;
 use users::users_of;
@@ -140,10 +140,10 @@ pub enum Sorting {
 pub fn order(alloc: Global, graph: &Digraph) -> Result<Sorting, AllocError>
     ensures { IfOk result (IsSortingOf (length graph.now) (NodeNeeds graph.now)) }
 {
-    let rows = lend_rows(alloc, graph.needs.as_slice())?;
+    let rows = row_slices(alloc, graph.needs.as_slice())?;
     let needs = rows.as_slice();
     let user_parts = users_of(alloc, needs)?;
-    let users = lend_parts(alloc, &user_parts)?;
+    let users = part_slices(alloc, &user_parts)?;
     let ordered = order_ready(alloc, needs, users.as_slice())?;
     if ordered.len() == needs.len() {
         return Ok(Sorting::Order(ordered));

@@ -1,4 +1,4 @@
-use Rattle.std.proofs.Common.{rules, ◌≡◌, ◌∙◌, ◌++◌, ◌||◌, Bool, ℕ, List, ap, refl, sym, subst}
+use Rattle.std.proofs.Common.{Option, rules, ◌≡◌, ◌∙◌, ◌++◌, ◌||◌, Bool, ℕ, List, ap, refl, sym, subst}
 use Rattle.std.specs.List.{each_same}
 use Rattle.std.proofs.lemmas.Option.{slice_get_read, slice_get_within}
 use Rattle.dyndep_file.specs.StatementValue.{StatementValue}
@@ -6,10 +6,25 @@ use Rattle.build_effect.specs.EdgeValue.{EdgeValue}
 use Rattle.build_effect.specs.Effect.{extended}
 use Rattle.build_effect.specs.inner.Extended.{IsEdgeAfter}
 use Rattle.ninja_text.proofs.ForCallers.{same_some}
-use Rattle.build_effect.proofs.EdgeCopies.{same_edge}
 use Rattle.build_effect.proofs.Extensions.{unchanged}
 use Rattle.build_effect.proofs.addition.edge_after.Goals as goal
 use Rattle.build_effect.proofs.addition.edge_after.Goals.{in-Some+in_ok-extend_from_slice+in_ok-extend_from_slice-2, in_default}
+
+abbrev edge_of : List ℕ → List (List ℕ) → List (List ℕ) → List (List ℕ) → List (List ℕ) → List (List ℕ) → Option (List ℕ) → Bool → EdgeValue
+edge_of rule outputs implicit_outputs inputs implicit_inputs order_only dyndep restat = record {
+  rule = rule;
+  outputs = outputs;
+  implicit_outputs = implicit_outputs;
+  inputs = inputs;
+  implicit_inputs = implicit_inputs;
+  order_only = order_only;
+  dyndep = dyndep;
+  restat = restat;
+}
+
+-- edges whose members are the same
+same_edge : {r s : List ℕ} {o p i j l m n q t u : List (List ℕ)} {d e : Option (List ℕ)} {f g : Bool} → s ≡ r → p ≡ o → j ≡ i → m ≡ l → q ≡ n → u ≡ t → e ≡ d → g ≡ f → edge_of s p j m q u e g ≡ edge_of r o i l n t d f
+same_edge a b c d e f g h = rw (a, b, c, d, e, f, g, h) refl
 
 abbrev changed : EdgeValue → List (List ℕ) → List (List ℕ) → Bool → EdgeValue
 changed e outputs inputs restat = record e { implicit_outputs = outputs; implicit_inputs = inputs; restat = restat }

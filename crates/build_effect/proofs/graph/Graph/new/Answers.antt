@@ -2,7 +2,7 @@ use Rattle.std.proofs.Common.{◌≢◌, [], sym, subst, ap, ◌∙◌, slice_ge
 use Rattle.std.specs.Prelude.{All}
 use Rattle.build_effect.specs.EdgeValue.{EdgeValue}
 use Rattle.build_effect.specs.Graphs.{MadeOnce}
-use Rattle.build_effect.proofs.GraphParts.{all_at}
+use Rattle.build_effect.proofs.Lists.{all_at}
 use Rattle.build_effect.proofs.graph.Graph.new.Goals as goal
 
 pub check_dyndeps-requires-clause-made_once : goal.check_dyndeps-requires-clause-made_once
