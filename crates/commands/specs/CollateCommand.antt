@@ -64,7 +64,7 @@ map_files keeps objects maps =
     map (λ pair. output_file keeps (map_name pair.0) pair.1) (zip objects maps)
 
 -- The files of a collated target, in the order in which they are written: the map of each object,
--- the info file, and last the dyndep file. Maps and the info are left alone if they have their
+-- the info file, and last the dyndep file. Maps and the info file are left alone if they have their
 -- bytes and the document asks for it; the dyndep file is always written.
 abbrev pub files_of : document.TargetDocumentValue → CollatedValue → List FileValue
 files_of spec c =

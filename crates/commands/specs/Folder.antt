@@ -29,7 +29,7 @@ abbrev pub answer_of : ℕ → Result (Vec ℕ Global) Error → Result FileRead
 answer_of most (Ok bytes) = Ok (up_to most bytes.items)
 answer_of most (Err error) = Err error
 
--- these calls were made, in this order, and no other, where it is known which were made before
+-- these calls were made, in this order, and no other, if it is known which were made before
 abbrev pub Adds : Option (List FileCall) → Option (List FileCall) → List FileCall → Type 0
 Adds old new calls = new ≡ option_map (λ before. before ++ calls) old
 

@@ -7,7 +7,7 @@ use Rattle.ninja_text.specs.Counting.{IsWritten, IsCutShort}
 use Rattle.commands.specs.declared.answer.Answer.{Answer}
 use Rattle.commands.specs.Answers.{line}
 
--- the status of a run, which may have been refused memory
+-- the status of a run, in which memory may have run out
 abbrev pub status_of : Result Answer AllocError → ℕ
 status_of (Ok answer) = answer.status
 status_of (Err e) = 3

@@ -1,4 +1,4 @@
--- How the refusals of a target are reported.
+-- How the rejection of a target is reported.
 use Rattle.std.specs.Prelude.{ℕ, List, ◌++◌, map, codes}
 use Rattle.std.specs.Fmt.{decimal}
 use Rattle.ninja_text.specs.Bytes.{Text, Name}
@@ -27,8 +27,8 @@ map_text objects object (MapPath path) = codes "K1 MapPath " ++ path
 map_text objects object TwoProvided = codes "K2 TwoProvided " ++ object_path objects object
 map_text objects object (BadMapLine line) = codes "K4 BadMapLine line " ++ decimal line
 
--- Why a target with this setting and these scan documents is refused, which links targets of these
--- names. Objects are named by the paths that the scan documents give, and infos by those names.
+-- Why a target with this setting and these scan documents, which links targets of these names, is
+-- rejected. Objects are named by the paths in the scan documents, and info files by those names.
 abbrev pub refusal_by_names : SettingValue → List Text → List Name → Refusal → Text
 refusal_by_names setting scans names (Scan index fault) = document_text (codes "scan") index fault
 refusal_by_names setting scans names (Info index fault) = document_text (codes "info") index fault
@@ -40,7 +40,7 @@ refusal_by_names setting scans names (Map object fault) =
     map_text (all_rules setting scans) object fault
 refusal_by_names setting scans names LinkedLater = codes "K3 LinkedLater"
 
--- Why a target is refused, where infos are named by the names that stand in them.
+-- Why a target is rejected. Info files are named by the names in them.
 abbrev pub refusal_text : TargetValue → Refusal → Text
 refusal_text target refusal = refusal_by_names target.setting target.scans
     (map (λ info. (info_of info).target) target.infos) refusal

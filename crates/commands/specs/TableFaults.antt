@@ -1,5 +1,5 @@
--- How the faults of a table are reported: objects by their paths, and infos by the names of their
--- targets.
+-- How the faults of a table are reported: objects by their paths, and info files by the names of
+-- their targets.
 use Rattle.std.specs.Prelude.{ℕ, List, [], ◌∷◌, ◌++◌, slice_get, unwrap_or, codes}
 use Rattle.std.specs.List.{flat_map}
 use Rattle.std.specs.Option.{option_map_or}
@@ -16,16 +16,16 @@ use Rattle.module_table.specs.declared.fault.TableFault.TheVariants.{ObjectTwice
 abbrev pub object_path : List RuleValue → ℕ → PathText
 object_path objects index = option_map_or (λ rule. rule.object) (slice_get objects index) []
 
--- the name of the target of the info of that index
+-- the name of the target of the info file of that index
 abbrev pub target_name : List Name → ℕ → Name
 target_name names index = unwrap_or (slice_get names index) []
 
--- who makes a file
+-- who provides a file
 abbrev pub maker_text : List RuleValue → List Name → Maker → Text
 maker_text objects names (Object index) = codes "object " ++ object_path objects index
 maker_text objects names (Info index) = codes "info " ++ target_name names index
 
--- a name or a file, and the two who make it
+-- a name or a file, and the two who provide it
 abbrev pub made_twice_text : List RuleValue → List Name → PathText → Maker → Maker → Text
 made_twice_text objects names made first second =
     made ++ codes " by " ++ maker_text objects names first
@@ -40,7 +40,7 @@ abbrev pub private_text : List RuleValue → List Name → Name → ℕ → Make
 private_text objects names name info user =
     name ++ codes " of " ++ target_name names info ++ codes " in " ++ maker_text objects names user
 
--- the objects of a ring, in its order
+-- the objects of a cycle, in its order
 abbrev pub ring_text : List RuleValue → Numbers → Text
 ring_text objects [] = []
 ring_text objects (first ∷ others) =

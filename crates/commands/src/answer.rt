@@ -1,8 +1,8 @@
 //! What a run returns as a value.
 
-ghost use Rattle.std.specs.Prelude.{◌≡◌, ◌++◌, ◌∷◌, [], map, IfOk, OnOk};
+ghost use Rattle.std.specs.Prelude.{◌≡◌, ◌++◌, ◌∷◌, [], map, OnOk};
 ghost use Rattle.ninja_text.specs.Bytes.{line_feed};
-ghost use Rattle.commands.specs.Answers.{visible, line, IsAnswered};
+ghost use Rattle.commands.specs.Answers.{visible, IsAnswered};
 
 use crate::stop::{Output, OutputFile, Stop};
 use ninja_text::Failure;
@@ -32,23 +32,18 @@ impl Answer {
                 files: output.files,
             }),
             Err(Failure::Memory) => Err(AllocError),
-            Err(Failure::Fault(line)) => Ok(Answer {
-                status: line.status,
-                out: Vec::new(alloc),
-                err: line_of(alloc, &line.message)?,
-                files: Vec::new(alloc),
-            }),
+            Err(Failure::Fault(line)) => {
+                let mut err = Vec::from_slice(alloc, b"dyncollate: ")?;
+                push_line(&mut err, &line.message)?;
+                Ok(Answer {
+                    status: line.status,
+                    out: Vec::new(alloc),
+                    err,
+                    files: Vec::new(alloc),
+                })
+            }
         }
     }
-}
-
-/// Returns the line of a message.
-fn line_of(alloc: Global, message: &[u8]) -> Result<Vec<u8>, AllocError>
-    ensures { IfOk result (λ text. text.items ≡ line message.now) }
-{
-    let mut text = Vec::from_slice(alloc, b"dyncollate: ")?;
-    push_line(&mut text, message)?;
-    Ok(text)
 }
 
 /// Appends a line. Control bytes become `?`.

@@ -113,7 +113,7 @@ pub(crate) fn append_files(
     append_file(alloc, spec.dyndep.as_str(), dyndep_text, false, files)
 }
 
-/// Appends the map files of these objects, where there are maps.
+/// Appends the map files of these objects, if there are maps.
 fn append_maps(
     alloc: Global,
     objects: &[Path],

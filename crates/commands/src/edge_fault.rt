@@ -2,13 +2,13 @@
 //! reported.
 
 ghost use Rattle.std.specs.Prelude.{◌≡◌, IfOk};
-ghost use Rattle.commands.specs.EdgeFaults.{first_output, edges_fault_text, effect_text, listing_write_text, cycle_text};
+ghost use Rattle.commands.specs.EdgeFaults.{first_output, edges_fault_text, effect_text, cycle_text};
 
 use crate::table_fault::{joined, push_next};
-use build_effect::{Edge, EffectFault, ListFault, ListingWriteFault};
+use build_effect::{Edge, EffectFault, ListFault};
 use std::alloc::{AllocError, Global};
 
-/// What is reported of a listing that gives no graph.
+/// Returns what is reported of a listing that gives no graph.
 pub(crate) fn edges_fault_text(alloc: Global, fault: &ListFault) -> Result<Vec<u8>, AllocError>
     ensures { IfOk result (λ text. text.items ≡ edges_fault_text fault.now) }
 {
@@ -24,7 +24,7 @@ pub(crate) fn edges_fault_text(alloc: Global, fault: &ListFault) -> Result<Vec<u
     }
 }
 
-/// What is reported of statements that have no effect.
+/// Returns what is reported of statements that have no effect.
 pub(crate) fn effect_text(alloc: Global, fault: &EffectFault) -> Result<Vec<u8>, AllocError>
     ensures { IfOk result (λ text. text.items ≡ effect_text fault.now) }
 {
@@ -35,28 +35,7 @@ pub(crate) fn effect_text(alloc: Global, fault: &EffectFault) -> Result<Vec<u8>,
     }
 }
 
-/// Returns what is reported of a graph whose listing can't be written. The edge whose build line is
-/// too long is named by its first output.
-pub(crate) fn listing_write_text(
-    alloc: Global,
-    edges: &[Edge],
-    fault: ListingWriteFault,
-) -> Result<Vec<u8>, AllocError>
-    ensures { IfOk result (λ text. text.items ≡ listing_write_text edges.now fault) }
-{
-    match fault {
-        ListingWriteFault::ListingTooLong { edge } => {
-            joined(alloc, &[b"E9 ListingTooLong ", first_output(edges, edge)])
-        }
-        ListingWriteFault::Io { .. } => {
-            let text = format!(in alloc; "{fault}")?;
-            Ok(text.into_bytes())
-        }
-    }
-}
-
-/// What is reported of edges that need each other: each needs the next, and the last needs the
-/// first.
+/// Returns what is reported of a cycle of edges: each needs the next, and the last needs the first.
 pub(crate) fn cycle_text(
     alloc: Global,
     edges: &[Edge],
@@ -75,7 +54,7 @@ pub(crate) fn cycle_text(
     Ok(text)
 }
 
-/// The first output of the edge of that index.
+/// Returns the first output of the edge of that index.
 pub(crate) fn first_output(edges: &[Edge], index: usize) -> &[u8]
     ensures { result.now ≡ first_output edges.now index }
 {

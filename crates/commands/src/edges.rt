@@ -1,11 +1,10 @@
 //! The check of the edges that a target document names.
 
 ghost use Rattle.std.specs.Prelude.{[]};
-ghost use Rattle.commands.specs.EdgeChecks.{EdgesPass, GraphPasses};
+ghost use Rattle.commands.specs.EdgeChecks.{EdgesPass};
 
 use crate::listing::ListingRead;
 use crate::stop::{self, Stop};
-use build_effect::Graph;
 use collate_core::{Collated, check_edges};
 use dep_order::Sorting;
 use ninja_text::Path;
@@ -24,16 +23,10 @@ pub(crate) fn pass_edges(
     let Some(listing) = listing else {
         return Ok(());
     };
-    match listing {
-        Ok(graph) => pass_graph(alloc, graph, name, collated),
-        Err(failure) => Err(stop::of_listing(alloc, failure)),
-    }
-}
-
-/// Checks that the edges of a graph can be put in order after the effect.
-fn pass_graph(alloc: Global, graph: &Graph, name: &Path, collated: &Collated) -> Result<(), Stop>
-    ensures { GraphPasses graph.now name.now collated.now.dyndep [] result }
-{
+    let graph = match listing {
+        Ok(graph) => graph,
+        Err(failure) => return Err(stop::of_listing(alloc, failure)),
+    };
     match check_edges(alloc, collated, name, graph) {
         Ok(Sorting::Order(_)) => Ok(()),
         Ok(Sorting::Cycle(cycle)) => Err(stop::of_cycle(alloc, graph.edges(), &cycle)),

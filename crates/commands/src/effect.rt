@@ -1,13 +1,12 @@
 //! The command `effect`: a listing after the effect of a dyndep file.
 
 ghost use Rattle.std.specs.Prelude.{[]};
-ghost use Rattle.commands.specs.Effect.{NameOf, EffectOf, PrintsListing, EffectOfRead, EffectRun};
+ghost use Rattle.commands.specs.Effect.{PrintsListing, EffectOfRead, EffectRun};
 
 use crate::dyndep_text::{DyndepRead, dyndep_of, statements_of};
 use crate::listing::{ListingRead, graph_of, listing_of};
 use crate::stop::{self, Output, Stop};
 use build_effect::{Graph, apply};
-use dyndep_file::Dyndep;
 use ninja_text::Path;
 use std::alloc::Global;
 
@@ -33,25 +32,11 @@ pub(crate) fn effect_read(
 ) -> Result<Output, Stop>
     ensures { EffectOfRead name.now listing dyndep [] result }
 {
-    let name = read_name(alloc, name)?;
+    let name = Path::of(alloc, name.as_bytes()).map_err(|f| stop::of_name(alloc, f))?;
     let old = graph_of(alloc, listing)?;
     let dyndep = statements_of(alloc, dyndep)?;
-    let new = applied(alloc, &old, &name, &dyndep)?;
+    let new = apply(alloc, &old, &name, &dyndep).map_err(|f| stop::of_effect(alloc, f))?;
     print_listing(alloc, &new)
-}
-
-/// Returns the path of a name.
-fn read_name(alloc: Global, name: &str) -> Result<Path, Stop>
-    ensures { NameOf name.now [] result }
-{
-    Path::of(alloc, name.as_bytes()).map_err(|f| stop::of_name(alloc, f))
-}
-
-/// Returns the graph after the effect of the dyndep file of this name.
-fn applied(alloc: Global, graph: &Graph, name: &Path, dyndep: &Dyndep) -> Result<Graph, Stop>
-    ensures { EffectOf graph.now name.now dyndep.now [] result }
-{
-    apply(alloc, graph, name, dyndep).map_err(|f| stop::of_effect(alloc, f))
 }
 
 /// Prints the listing of a graph.

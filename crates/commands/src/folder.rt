@@ -11,17 +11,17 @@ use std::io;
 /// what order, and with which results. The files of the system are such a folder, of which
 /// nothing is known; where more is known of a folder, it can say so.
 pub trait Folder {
-    // the calls that were made so far, in order, where they are known
+    // the calls that were made so far, in order, if they are known
     ghost calls: { Self → Option (List FileCall) };
 
-    /// Returns the bytes of the file of this name, or at least the first `most` of them if there are
-    /// more.
+    /// Returns the bytes of the file of this name, or at least the first `most` of them if there
+    /// are more.
     fn read(&mut self, name: &str, most: usize) -> io::Result<Vec<u8>>
         ensures { Adds (calls self.old) (calls self.new)
             (reading name.now (answer_of most result) ∷ []) };
 
-    /// Gives the bytes of the file of this name to a new reader, in pieces, as they are read: all of
-    /// them, or those up to the first piece at which the reader has failed. If a folder has the
+    /// Gives the bytes of the file of this name to a new reader, in pieces, as they are read: all
+    /// of them, or those up to the first piece at which the reader has failed. If a folder has the
     /// bytes in memory, all of them are one piece.
     fn feed<R: PieceReader>(&mut self, name: &str, reader: &mut R) -> io::Result<()>
         ensures { R.has_read [] reader.old → GivesPieces R.has_read R.has_failed name.now
@@ -32,8 +32,8 @@ pub trait Folder {
         Ok(())
     }
 
-    /// Returns whether the file of this name has exactly these bytes already; `false` if it can't be
-    /// read.
+    /// Returns whether the file of this name has exactly these bytes already; `false` if it can't
+    /// be read.
     fn has(&mut self, name: &str, bytes: &[u8]) -> bool
         ensures { Adds (calls self.old) (calls self.new)
             (comparing name.now bytes.now result ∷ []) };

@@ -5,9 +5,9 @@
 //!
 //! - [`program_run`] is the whole program: the task of its arguments, the run, the writing and the
 //!   printing (`specs/Program.antt`).
-//! - [`task_run`] reads the files of a task from a folder and calls the command (`specs/Runs.antt`).
-//!   No file is read further than its result needs: a document up to its limit, and a file of lines
-//!   up to its first fault ([`Folder`], [`PieceReader`]).
+//! - [`task_run`] reads the files of a task from a folder and calls the command
+//!   (`specs/Runs.antt`). No file is read further than its result needs: a document up to its limit,
+//!   and a file of lines up to its first fault ([`Folder`], [`PieceReader`]).
 //! - [`collate_target`] and [`collate_project`] are the commands `collate` and `project`. They read
 //!   the files that their document names from the folder, each when its turn comes and once
 //!   (`specs/CollateCommand.antt`, `ProjectCommand.antt`, `Files.antt`, `Folder.antt`).
@@ -17,8 +17,8 @@
 //! - [`write_files`] writes the files of an output to a folder (`specs/Files.antt`).
 //! - [`Answer`] is what a run leaves as a value, with the line of a failure, and [`print`] writes
 //!   its texts and returns the exit status (`specs/Answers.antt`, `Printing.antt`).
-//! - [`Output`] is what a run leaves that succeeds, and [`Stop`] why a run stops: memory ran out, or
-//!   a [`Line`]. Every part of a run returns a `Result` with a [`Stop`], so `?` passes it on
+//! - [`Output`] is what a run leaves that succeeds, and [`Stop`] why a run stops: memory ran out,
+//!   or a [`Line`]. Every part of a run returns a `Result` with a [`Stop`], so `?` passes it on
 //!   (`specs/Outcomes.antt`). `stop` has one function for each type of fault, which makes the
 //!   message.
 //! - `reading` reads files from a folder, and `project_targets` the targets of a project.

@@ -1,7 +1,7 @@
 //! The command `one`: the dyndep text of one scan document.
 
 ghost use Rattle.std.specs.Prelude.{◌≡◌, [], codes, IfOk};
-ghost use Rattle.commands.specs.One.{one_setting, PrintsDyndep, OneRun};
+ghost use Rattle.commands.specs.One.{OneRun};
 
 use crate::stop::{self, Output, Stop};
 use collate_core::{Target, collate_dyndep_or_refused};
@@ -15,7 +15,11 @@ pub fn collate_scan(alloc: Global, scan: &[u8], dir: &str, ext: &str) -> Result<
     ensures { OneRun scan.now dir.now ext.now [] result }
 {
     let name = target_name(alloc)?;
-    let setting = one_setting(alloc, dir, ext)?;
+    let setting = Setting {
+        module_dir: String::from_str(alloc, dir)?,
+        module_ext: String::from_str(alloc, ext)?,
+        build_dir: None,
+    };
     let target = Target {
         name: &name,
         setting: &setting,
@@ -23,7 +27,10 @@ pub fn collate_scan(alloc: Global, scan: &[u8], dir: &str, ext: &str) -> Result<
         infos: &[],
         kept: &[],
     };
-    print_dyndep(alloc, &target)
+    match collate_dyndep_or_refused(alloc, &target) {
+        Ok(text) => Ok(Output::text(alloc, text)),
+        Err(failure) => Err(stop::of_target(alloc, failure)),
+    }
 }
 
 /// Returns the name that the target goes by. It is not printed.
@@ -33,26 +40,5 @@ fn target_name(alloc: Global) -> Result<TargetName, AllocError>
     match TargetName::of(alloc, "t")? {
         Some(name) => Ok(name),
         None => unreachable!(),
-    }
-}
-
-/// Returns the setting of the command, which has no build directory.
-fn one_setting(alloc: Global, dir: &str, ext: &str) -> Result<Setting, AllocError>
-    ensures { IfOk result (λ setting. setting ≡ one_setting dir.now ext.now) }
-{
-    Ok(Setting {
-        module_dir: String::from_str(alloc, dir)?,
-        module_ext: String::from_str(alloc, ext)?,
-        build_dir: None,
-    })
-}
-
-/// Prints the dyndep text of a target.
-fn print_dyndep(alloc: Global, target: &Target<'_>) -> Result<Output, Stop>
-    ensures { PrintsDyndep target.now [] result }
-{
-    match collate_dyndep_or_refused(alloc, target) {
-        Ok(text) => Ok(Output::text(alloc, text)),
-        Err(failure) => Err(stop::of_target(alloc, failure)),
     }
 }

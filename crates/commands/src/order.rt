@@ -32,7 +32,7 @@ pub(crate) fn order_read(alloc: Global, listing: ListingRead) -> Result<Output, 
     }
 }
 
-/// The first output of each of these edges, one per line. Control bytes are printed as `?`.
+/// Returns the first output of each of these edges, one per line. Control bytes are printed as `?`.
 fn order_text(alloc: Global, edges: &[Edge], order: &[usize]) -> Result<Vec<u8>, AllocError>
     ensures { IfOk result (λ text. text.items ≡ order_text edges.now order.now) }
 {

@@ -1,4 +1,4 @@
-//! What a run's answer leaves on two writers.
+//! How the answer of a run is written to two writers.
 
 ghost use Rattle.std.specs.Prelude.{◌≡◌, ◌⊎◌};
 ghost use Rattle.commands.specs.Printing.{status_of, out_of, err_of, IsPrinted, IsUnprinted};
@@ -7,8 +7,8 @@ use crate::answer::Answer;
 use ninja_text::{Counted, WriteCall};
 use std::alloc::AllocError;
 
-/// Writes the texts of a run's answer, and gives the exit status. Where memory was refused, or
-/// standard output can't be written, a line on standard error says so and the status is 3. A call
+/// Writes the texts of a run's answer, and returns the exit status. If memory ran out or standard
+/// output can't be written, a line on standard error says so and the status is 3. A call
 /// of standard error that fails changes nothing: there is nothing left that would report it.
 pub fn print<O: WriteCall, E: WriteCall>(
     answer: &Result<Answer, AllocError>,
@@ -31,7 +31,7 @@ pub fn print<O: WriteCall, E: WriteCall>(
     }
 }
 
-/// The status of a run, and its bytes for standard output and for standard error.
+/// Returns the status of a run, and its bytes for standard output and for standard error.
 fn texts_of(answer: &Result<Answer, AllocError>) -> (u8, &[u8], &[u8])
     ensures status { result.0 ≡ status_of answer.now }
     ensures out { result.1.now ≡ out_of answer.now }

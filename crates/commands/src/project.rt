@@ -6,7 +6,7 @@ ghost use Rattle.module_table.specs.TableValue.{table_with};
 ghost use Rattle.collate_core.specs.Projects.{CollatesProject, IsProjectRefusal, WasReadAt};
 ghost use Rattle.commands.specs.CollateCommand.{style_of};
 ghost use Rattle.commands.specs.Outcomes.{Runs, Writes, seen};
-ghost use Rattle.commands.specs.ProjectCommand.{project_target, form_of, names_at, all_files, AllEdgesPass, ProjectDocumentOf, ProjectOf, ProjectRun, TargetsAfter, TargetsRun};
+ghost use Rattle.commands.specs.ProjectCommand.{project_target, form_of, names_at, all_files, AllEdgesPass, ProjectOf, ProjectRun, TargetsAfter, TargetsRun};
 ghost use Rattle.commands.specs.inner.ProjectTargets.{LinkEarlier, IsReportable, ReportsAt};
 
 use crate::collate::append_files;
@@ -19,7 +19,7 @@ use crate::stop::{self, Output, Stop};
 use collate_core::{Collated, ProjectOut, ProjectTarget, RefusedTarget, project_or_refused};
 use module_maps::{Clang, Gcc};
 use ninja_text::Failure;
-use scan_docs::{MapForm, ProjectSpec, TargetName, project_read};
+use scan_docs::{MapForm, TargetName, project_read};
 use std::alloc::{AllocError, Global};
 
 /// Runs `project FILE` on the bytes of the project document. The files of the targets are read from
@@ -36,16 +36,11 @@ pub fn collate_project<F: Folder>(
 ) -> Result<Output, Stop>
     ensures { Runs (F.calls folder.old) (F.calls folder.new) (ProjectRun document.now) result }
 {
-    let project = read_document(alloc, document)?;
+    let project = project_read(alloc, document).map_err(|f| stop::of_document(
+        alloc, "project", f,
+    ))?;
     let targets = read_targets(alloc, &project.targets, folder)?;
     targets_run(alloc, &targets.into_vec())
-}
-
-/// Reads a project document.
-fn read_document(alloc: Global, document: &[u8]) -> Result<ProjectSpec, Stop>
-    ensures { ProjectDocumentOf document.now [] result }
-{
-    project_read(alloc, document).map_err(|f| stop::of_document(alloc, "project", f))
 }
 
 /// Reads the targets of the documents of these names, one after another.
@@ -83,7 +78,7 @@ fn collated(alloc: Global, targets: &[ReadTarget]) -> Result<Vec<Collated>, Stop
             let message = rejected_text(alloc, targets, index, &refused);
             // Here, by one call: what it holds would be dropped field by field at the end.
             drop(refused);
-            Err(stop::of_rejected(message))
+            Err(stop::stopped(1, message))
         }
     }
 }

@@ -1,4 +1,4 @@
-//! How the refusals of a target are reported.
+//! How the rejection of a target is reported.
 
 ghost use Rattle.std.specs.Prelude.{◌≡◌, map, IfOk};
 ghost use Rattle.commands.specs.RefusalTexts.{document_text, map_text};
@@ -12,7 +12,7 @@ use module_maps::MapFault;
 use scan_docs::{DocFault, Info, Rule, TargetName};
 use std::alloc::{AllocError, Global};
 
-/// What is reported of a target that is refused: infos are named by the names in them.
+/// Returns what is reported of a rejected target. Info files are named by the names in them.
 pub(crate) fn refused_text(alloc: Global, refused: &RefusedTarget) -> Result<Vec<u8>, AllocError>
     ensures { IfOk result (λ text. text.items ≡ refused_line refused.now) }
 {
@@ -20,8 +20,8 @@ pub(crate) fn refused_text(alloc: Global, refused: &RefusedTarget) -> Result<Vec
     refusal_line(alloc, &refused.refusal, &refused.objects, &names)
 }
 
-/// What is reported of a refusal of a target with these objects, which links targets of these
-/// names.
+/// Returns what is reported if a target with these objects, which links targets of these names, is
+/// rejected.
 pub(crate) fn refusal_line(
     alloc: Global,
     refusal: &Refusal,
@@ -47,7 +47,7 @@ pub(crate) fn refusal_line(
     }
 }
 
-/// A faulty document, by its kind and its index.
+/// Returns what is reported of a faulty document: its kind, its index and the fault.
 fn document_text(
     alloc: Global,
     kind: &str,
@@ -60,7 +60,7 @@ fn document_text(
     Ok(text.into_bytes())
 }
 
-/// Why an object has no map.
+/// Returns why an object has no map.
 fn map_text(
     alloc: Global,
     objects: &[Rule],
@@ -79,7 +79,7 @@ fn map_text(
     }
 }
 
-/// The names of the targets of infos.
+/// Returns the names of the targets of info files.
 fn names_of<'i>(alloc: Global, infos: &'i [Info]) -> Result<Vec<&'i TargetName>, AllocError>
     ensures { IfOk result (λ names.
         map (λ name. name.now) names.items ≡ map (λ info. info.target) infos.now) }

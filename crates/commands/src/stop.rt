@@ -9,12 +9,13 @@ ghost use Rattle.commands.specs.Answers.{file_value};
 ghost use Rattle.commands.specs.EdgeFaults.{edges_fault_text, effect_text, listing_write_text, name_fault_text, cycle_text};
 ghost use Rattle.commands.specs.Folder.{reading};
 ghost use Rattle.commands.specs.Outcomes.{failed, refusal, printed, written, IsUnread, Reports};
-ghost use Rattle.commands.specs.ProjectCommand.{IsTargetOutcome, IsTargetStop, target_text};
+ghost use Rattle.commands.specs.ProjectCommand.{IsTargetOutcome, target_text};
 ghost use Rattle.commands.specs.inner.Refusals.{refused_line};
 ghost use Rattle.commands.specs.inner.Stops.{IsStoppedWith};
 
-use crate::edge_fault::{cycle_text, edges_fault_text, effect_text, listing_write_text};
+use crate::edge_fault::{cycle_text, edges_fault_text, effect_text, first_output};
 use crate::refusal::refused_text;
+use crate::table_fault::joined;
 use build_effect::{Edge, EffectFault, Graph, ListFault, ListingWriteFault};
 use collate_core::RefusedTarget;
 use dyndep_file::{ReadFault, WriteFault};
@@ -92,7 +93,7 @@ impl Model for Line {
 pub type Stop = Failure<Line>;
 
 /// Stops the run with this status and message, unless there was no memory for the message.
-fn stopped(status: u8, message: Result<Vec<u8>, AllocError>) -> Stop
+pub(crate) fn stopped(status: u8, message: Result<Vec<u8>, AllocError>) -> Stop
     ensures { IsStoppedWith status message result }
 {
     match message {
@@ -180,7 +181,8 @@ pub(crate) fn of_effect(alloc: Global, failure: Failure<EffectFault>) -> Stop
     stopped(1, effect_text(alloc, &fault))
 }
 
-/// Stops the run at a graph whose listing can't be written.
+/// Stops the run at a graph whose listing can't be written: the edge whose build line is too long
+/// is named by its first output.
 pub(crate) fn of_listing_write(
     alloc: Global,
     graph: &Graph,
@@ -188,10 +190,11 @@ pub(crate) fn of_listing_write(
 ) -> Stop
     ensures { Reports (listing_write_text graph.now) failure result }
 {
-    let Failure::Fault(fault) = failure else {
+    let Failure::Fault(ListingWriteFault::ListingTooLong { edge }) = failure else {
         return Failure::Memory;
     };
-    stopped(1, listing_write_text(alloc, graph.edges(), fault))
+    let output = first_output(graph.edges(), edge);
+    stopped(1, joined(alloc, &[b"E9 ListingTooLong ", output]))
 }
 
 /// Stops the run at statements that can't be written.
@@ -236,25 +239,12 @@ pub(crate) fn at_target<T>(alloc: Global, index: usize, outcome: Result<T, Stop>
 {
     match outcome {
         Ok(value) => Ok(value),
-        Err(stop) => Err(of_target_at(alloc, index, stop)),
+        Err(Failure::Memory) => Err(Failure::Memory),
+        Err(Failure::Fault(line)) => {
+            let message = target_text(alloc, index, &line.message);
+            Err(stopped(line.status, message))
+        }
     }
-}
-
-/// Stops the run at the target of this index, for a reason that does not name it.
-fn of_target_at(alloc: Global, index: usize, stop: Stop) -> Stop
-    ensures { IsTargetStop index stop result }
-{
-    let Failure::Fault(line) = stop else {
-        return Failure::Memory;
-    };
-    stopped(line.status, target_text(alloc, index, &line.message))
-}
-
-/// Stops the run at input that is rejected with this message.
-pub(crate) fn of_rejected(message: Result<Vec<u8>, AllocError>) -> Stop
-    ensures { IsStoppedWith 1 message result }
-{
-    stopped(1, message)
 }
 
 /// Returns the message about the target of this index.

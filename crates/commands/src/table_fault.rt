@@ -2,14 +2,14 @@
 
 ghost use Rattle.std.specs.Prelude.{◌≡◌, ◌++◌, map, IfOk, OnOk, codes};
 ghost use Rattle.std.specs.List.{flat_map};
-ghost use Rattle.commands.specs.TableFaults.{object_path, target_name, maker_text, made_twice_text, requirement_text, private_text, ring_text, fault_subject, fault_text};
+ghost use Rattle.commands.specs.TableFaults.{object_path, target_name, maker_text, made_twice_text, ring_text, fault_subject, fault_text};
 
 use module_table::{Maker, TableFault};
 use scan_docs::{Name, Rule, TargetName};
 use std::alloc::{AllocError, Global};
 
-/// What is reported of a fault of the table of these objects and infos: its code, its name and what
-/// it is about. Objects are named by their paths, and infos by their targets.
+/// Returns what is reported of a fault of the table of these objects and info files: its code, its
+/// name and what it is about. Objects are named by their paths, and info files by their targets.
 pub(crate) fn fault_text(
     alloc: Global,
     fault: &TableFault,
@@ -23,14 +23,14 @@ pub(crate) fn fault_text(
     joined(alloc, &[fault.name().as_bytes(), b" ", &subject])
 }
 
-/// The objects, and the names of the infos' targets, whose indexes a fault has.
+/// The objects, and the names of the targets of info files, whose indexes a fault has.
 #[derive(Clone, Copy)]
 struct Makers<'t> {
     objects: &'t [Rule],
     names: &'t [&'t TargetName],
 }
 
-/// What a fault is about.
+/// Returns what a fault is about.
 fn fault_subject(alloc: Global, fault: &TableFault, makers: Makers) -> Result<Vec<u8>, AllocError>
     ensures { IfOk result (λ text. text.items ≡ fault_subject
         makers.entry.objects.now (map (λ n. n.now) makers.entry.names.now) fault.now) }
@@ -61,16 +61,31 @@ fn fault_subject(alloc: Global, fault: &TableFault, makers: Makers) -> Result<Ve
             target,
             module_name,
             name,
-        } => requirement_text(alloc, target, module_name, name),
+        } => {
+            let module_name = module_name.text().as_bytes();
+            let parts = [
+                target.text().as_bytes(),
+                b" ",
+                module_name,
+                b" ",
+                name.text().as_bytes(),
+            ];
+            joined(alloc, &parts)
+        }
         TableFault::ImportCycle { objects } => ring_text(alloc, objects, makers.objects),
         TableFault::ModulePrivate { name, info, user } => {
-            private_text(alloc, name, *info, *user, makers)
+            let target = target_name(makers.names, *info);
+            let (kind, user) = kind_and_name(*user, makers);
+            joined(
+                alloc,
+                &[name.text().as_bytes(), b" of ", target, b" in ", kind, user],
+            )
         }
         TableFault::PrivateUnknown { name } => Vec::from_slice(alloc, name.text().as_bytes()),
     }
 }
 
-/// What two make.
+/// Returns what is reported of something that two provide.
 fn made_twice_text(
     alloc: Global,
     made: &[u8],
@@ -87,40 +102,7 @@ fn made_twice_text(
     joined(alloc, &parts)
 }
 
-/// A module of a target, and a name that it requires.
-fn requirement_text(
-    alloc: Global,
-    target: &TargetName,
-    module_name: &Name,
-    name: &Name,
-) -> Result<Vec<u8>, AllocError>
-    ensures { IfOk result (λ text.
-        text.items ≡ requirement_text target.now module_name.now name.now) }
-{
-    let target = target.text().as_bytes();
-    let module_name = module_name.text().as_bytes();
-    let name = name.text().as_bytes();
-    joined(alloc, &[target, b" ", module_name, b" ", name])
-}
-
-/// A private module, its target, and who requires it.
-fn private_text(
-    alloc: Global,
-    name: &Name,
-    info: usize,
-    user: Maker,
-    makers: Makers,
-) -> Result<Vec<u8>, AllocError>
-    ensures { IfOk result (λ text. text.items ≡ private_text
-        makers.entry.objects.now (map (λ n. n.now) makers.entry.names.now) name.now info user) }
-{
-    let name = name.text().as_bytes();
-    let target = target_name(makers.names, info);
-    let (kind, user) = kind_and_name(user, makers);
-    joined(alloc, &[name, b" of ", target, b" in ", kind, user])
-}
-
-/// Who makes a file: the word for what it is, and its name.
+/// Returns who provides a file: the word for its kind, and its name.
 fn kind_and_name<'t>(maker: Maker, makers: Makers<'t>) -> (&'t [u8], &'t [u8])
     ensures { result.0.now ++ result.1.now ≡ maker_text
         makers.entry.objects.now (map (λ n. n.now) makers.entry.names.now) maker }
@@ -131,7 +113,7 @@ fn kind_and_name<'t>(maker: Maker, makers: Makers<'t>) -> (&'t [u8], &'t [u8])
     }
 }
 
-/// The objects of a ring, in its order.
+/// Returns the objects of a cycle, in its order.
 fn ring_text(alloc: Global, ring: &[usize], objects: &[Rule]) -> Result<Vec<u8>, AllocError>
     ensures { IfOk result (λ text. text.items ≡ ring_text objects.now ring.now) }
 {
@@ -145,7 +127,7 @@ fn ring_text(alloc: Global, ring: &[usize], objects: &[Rule]) -> Result<Vec<u8>,
     Ok(text)
 }
 
-/// Appends the next name of a ring, after an arrow.
+/// Appends the next name of a cycle, after an arrow.
 pub(crate) fn push_next(text: &mut Vec<u8>, name: &[u8]) -> Result<(), AllocError>
     ensures { OnOk result (text.new.items ≡ text.old.items ++ (codes " -> " ++ name.now)) }
 {
@@ -153,7 +135,7 @@ pub(crate) fn push_next(text: &mut Vec<u8>, name: &[u8]) -> Result<(), AllocErro
     text.extend_from_slice(name)
 }
 
-/// The path of the object of that index.
+/// Returns the path of the object of that index.
 pub(crate) fn object_path(objects: &[Rule], index: usize) -> &[u8]
     ensures { result.now ≡ object_path objects.now index }
 {
@@ -163,7 +145,7 @@ pub(crate) fn object_path(objects: &[Rule], index: usize) -> &[u8]
     }
 }
 
-/// The name of the target of the info of that index.
+/// Returns the name of the target of the info file of that index.
 fn target_name<'t>(names: &[&'t TargetName], index: usize) -> &'t [u8]
     ensures { result.now ≡ target_name (map (λ n. n.now) names.now) index }
 {
@@ -173,7 +155,7 @@ fn target_name<'t>(names: &[&'t TargetName], index: usize) -> &'t [u8]
     }
 }
 
-/// The parts, one after the other.
+/// Returns the parts, one after the other.
 pub(crate) fn joined(alloc: Global, parts: &[&[u8]]) -> Result<Vec<u8>, AllocError>
     ensures { IfOk result (λ text. text.items ≡ flat_map (λ part. part.now) parts.now) }
 {

@@ -1,4 +1,4 @@
--- What is known of the targets of a project, and how they are found by their infos.
+-- What is known of the targets of a project, and how they are found by their info files.
 use Rattle.std.specs.Prelude.{◌≡◌, ℕ, ◌<◌, List, length, slice_get, All, Option, Some, String}
 use Rattle.std.specs.BTreeMap.{BTreeMap, get_by_text}
 use Rattle.collate_core.specs.declared.fault.RefusedTarget.{RefusedTarget}
@@ -6,7 +6,7 @@ use Rattle.ninja_text.specs.Bytes.{Text}
 use Rattle.commands.specs.ProjectCommand.{ReadTargetValue, names_at, target_text}
 use Rattle.commands.specs.inner.Refusals.{refusal_line}
 
--- the index that a table has for an info
+-- the index that a table has for an info file
 abbrev pub writer_of : {Y : Type 0} → BTreeMap (String Y) ℕ → List ℕ → Option ℕ
 writer_of writers info = get_by_text writers info
 

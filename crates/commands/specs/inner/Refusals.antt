@@ -10,7 +10,7 @@ use Rattle.ninja_text.specs.Bytes.{Text, Name}
 use Rattle.commands.specs.RefusalTexts.{document_text, map_text}
 use Rattle.commands.specs.TableFaults.{fault_text}
 
--- what is reported of a refusal of a target with these objects, which links targets of these names
+-- what is reported if a target with these objects, which links targets of these names, is rejected
 abbrev pub refusal_line : List RuleValue → List Name → Refusal → Text
 refusal_line objects names (Scan index fault) = document_text (codes "scan") index fault
 refusal_line objects names (Info index fault) = document_text (codes "info") index fault

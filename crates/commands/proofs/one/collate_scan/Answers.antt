@@ -1,22 +1,40 @@
-use Rattle.std.proofs.Common.{rules, ℕ, List, [], ◌∷◌, refl, ap₂, subst}
+use Rattle.std.proofs.Common.{rules, ◌≡◌, ◌∙◌, ℕ, List, [], ◌∷◌, codes, None, refl, ap, ap₂, subst, sym}
+use Rattle.std.specs.Prelude.{Ok, Err}
 use Rattle.ninja_text.specs.declared.failure.Failure.TheVariants.{Memory}
 use Rattle.scan_docs.specs.Scan.{SettingValue}
 use Rattle.collate_core.specs.Values.{TargetValue}
-use Rattle.commands.specs.One.{PrintsDyndep}
-use Rattle.commands.specs.Outcomes.{stops}
+use Rattle.commands.specs.One.{PrintsDyndep, one_setting, one_target}
+use Rattle.commands.specs.Outcomes.{printed, goes_on, stops}
+use Rattle.commands.proofs.Targets.{target_rejected}
 use Rattle.commands.proofs.one.collate_scan.Goals as goal
 
 pub returns-in_err-name : goal.returns-in_err-name
 returns-in_err-name c = stops Memory refl (search rules)
 
-pub returns-in_err-setting : goal.returns-in_err-setting
-returns-in_err-setting c = stops Memory refl (search rules)
-
 -- the target of this name and setting
 abbrev target : List ℕ → List ℕ → SettingValue → TargetValue
 target scan name setting = record { name = name; setting = setting; scans = scan ∷ []; infos = []; kept = [] }
 
+-- and as they are called for
+named : (scan : List ℕ) (dir ext : List ℕ) (name d e : List ℕ) → name ≡ codes "t" → d ≡ dir → e ≡ ext → target scan name (one_setting d e) ≡ one_target (one_setting dir ext) scan
+named scan dir ext name d e n is_dir is_ext = ap₂ (target scan) n (ap₂ one_setting is_dir is_ext)
+
+pub returns-in_err-from_str : goal.returns-in_err-from_str
+returns-in_err-from_str c = stops Memory refl (search rules)
+
+pub returns-in_err-from_str-2 : goal.returns-in_err-from_str-2
+returns-in_err-from_str-2 c = stops Memory refl (search rules)
+
+-- the text of what the target collates to
+pub returns-in-Ok : goal.returns-in-Ok
+returns-in-Ok c =
+    let dyndep = c.in-Ok.ensures.dyndep in
+    subst (λ t. PrintsDyndep t [] (Ok c.text.result)) (named c.args.scan.now c.args.dir.now c.args.ext.now _ _ _ c.in_ok-name.ensures c.in_ok-from_str.ensures.ok c.in_ok-from_str-2.ensures.ok)
+    (goes_on dyndep.collated [] [] refl (refl, dyndep.collates) (refl, c.text.ensures ∙ ap printed (sym dyndep.same)))
+
+-- its rejection
 pub returns : goal.returns
 returns c =
-    subst (λ t. PrintsDyndep t [] c.print_dyndep.result)
-    (ap₂ (target c.args.scan.now) c.in_ok-name.ensures c.in_ok-setting.ensures) c.print_dyndep.ensures
+    let stop = c.of_target.result in
+    subst (λ t. PrintsDyndep t [] (Err stop)) (named c.args.scan.now c.args.dir.now c.args.ext.now _ _ _ c.in_ok-name.ensures c.in_ok-from_str.ensures.ok c.in_ok-from_str-2.ensures.ok)
+    (stops stop (target_rejected _ None c.in-Err.failure stop c.in-Err.ensures.refused c.in-Err.ensures.read c.of_target.ensures) refl)

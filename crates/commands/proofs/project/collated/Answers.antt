@@ -55,4 +55,4 @@ returns-in-Err-Fault c =
     let targets = c.args.targets.now in
     let refusal = subst (ForFault (λ (r : ℕ × RefusedTarget). IsProjectRefusal (style targets) (map project_target targets) r.0 r.1.refusal)) c.in-Err-Fault.field-0-is c.in-Err-Fault.ensures.refused in
     let read = subst (ForFault (λ (r : ℕ × RefusedTarget). WasReadAt (style targets) (map project_target targets) r.0 r.1.refusal (table_with r.1.objects.items r.1.infos.items))) c.in-Err-Fault.field-0-is c.in-Err-Fault.ensures.read in
-    rejected targets c.in-Err-Fault.index c.in-Err-Fault.refused c.rejected_text-message.result c.of_rejected.result c.requires refusal read c.rejected_text-message.ensures c.of_rejected.ensures
+    rejected targets c.in-Err-Fault.index c.in-Err-Fault.refused c.rejected_text-message.result c.stopped.result c.requires refusal read c.rejected_text-message.ensures c.stopped.ensures
