@@ -14,12 +14,16 @@ use dep_order::Sorting;
 use ninja_text::{Failure, Path};
 use std::alloc::Global;
 
-/// The order of the edges of the graph after the effect of the collated target's dyndep file, which
-/// has that name, or the least cycle; or why the file has no effect on the graph.
+/// Applies the dyndep file of a collated target, which has that name, to the graph. Returns an order
+/// of the edges after the effect, or the least cycle.
 ///
-/// Where the graph meets the headline's premises, and with the added outputs alone it has a
-/// numbering that puts each needed edge below its user, gives the edges of all objects one number,
-/// and each edge that makes a linked file a smaller one, the answer is an order.
+/// The result is an order if the graph meets the headline's premises and can be numbered, with the
+/// added outputs alone, so that each needed edge has a smaller number than its user, the edges of
+/// all objects have one number, and each edge that makes a linked file has a smaller one.
+///
+/// # Errors
+///
+/// Returns the reason why the file has no effect on the graph.
 pub fn check_edges(
     alloc: Global,
     collated: &Collated,
@@ -39,8 +43,8 @@ pub fn check_edges(
     Ok(sorting)
 }
 
-/// The graph after the effect of the collated target's dyndep file. Its text stands for statements,
-/// so that it is always read.
+/// Returns the graph after the effect of the collated target's dyndep file. The reader accepts its
+/// text, because the text stands for statements.
 fn rehearsed(
     alloc: Global,
     collated: &Collated,

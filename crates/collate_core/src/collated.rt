@@ -5,8 +5,8 @@ ghost use Rattle.collate_core.specs.Headline.{HasStatements};
 use ninja_text::Path;
 use std::marker::Model;
 
-/// What a target collates to, as one value, which has the headline: the text of its dyndep file,
-/// that of its info, its objects, and with a style the text of a map for each. Only
+/// What a target collates to: the text of its dyndep file, which has the headline, the text of its
+/// info file, its objects and, with a style, the text of a map for each object. Only
 /// [`collate`](crate::collate) and [`project`](crate::project) make one.
 pub struct Collated {
     dyndep: Vec<u8>,
@@ -27,17 +27,16 @@ impl Drop for Collated {
     }
 }
 
-/// The parts of a [`Collated`], given up: the texts can be written from where they are, with no
-/// copy.
+/// The parts of a [`Collated`] by value, so that the texts are written without a copy.
 #[derive(Drop)]
 pub struct CollatedParts {
     /// The text of the dyndep file.
     pub dyndep: Vec<u8>,
-    /// The text of the info.
+    /// The text of the info file.
     pub info: Vec<u8>,
     /// The objects, by index.
     pub objects: Vec<Path>,
-    /// With a style, the text of each object's map; without one, none.
+    /// The text of each object's map. Without a style the list is empty.
     pub maps: Vec<Vec<u8>>,
 }
 
@@ -99,7 +98,7 @@ impl Collated {
         &self.dyndep
     }
 
-    /// The text of the info.
+    /// The text of the info file.
     pub fn info(&self) -> &[u8]
         ensures { result.now ≡ self.now.info }
     {
@@ -113,14 +112,14 @@ impl Collated {
         &self.objects
     }
 
-    /// With a style, the text of each object's map; without one, none.
+    /// The text of each object's map. Without a style the list is empty.
     pub fn maps(&self) -> &[Vec<u8>]
         ensures { map (λ m. m.items) result.now ≡ self.now.maps }
     {
         &self.maps
     }
 
-    /// Gives up the parts.
+    /// Consumes the value and returns its parts.
     pub fn into_parts(self) -> CollatedParts
         ensures dyndep { result.dyndep.items ≡ self.dyndep }
         ensures info { result.info.items ≡ self.info }

@@ -28,13 +28,17 @@ use scan_docs::laws::info_again;
 use std::alloc::{AllocError, Global};
 
 /// Collates a target: its documents make a table, and the objects of the table make the dyndep
-/// file, the info and, with a style, a map for each object (P1689R5 for the scan documents, the
+/// file, the info file and, with a style, a map for each object (P1689R5 for the scan documents, the
 /// Ninja 1.11 manual, "Dynamic dependencies", for the dyndep file).
 ///
-/// It succeeds exactly where the target has no [`Refusal`], unless memory is refused, and otherwise
-/// reports the first in the order of that type; [`one_outcome`](crate::one_outcome) says so of
-/// both. What is answered has the headline: whatever build names the dyndep file on exactly the
-/// objects, the file adds to each object's edge exactly what the object provides and requires.
+/// The result has the headline: in every build that names the dyndep file on exactly the objects,
+/// the file adds to each object's edge exactly what the object provides and requires.
+///
+/// # Errors
+///
+/// Returns the first [`Refusal`] of the target, in the order of that type. Unless an allocation
+/// fails, the call succeeds if and only if the target has none
+/// ([`one_outcome`](crate::one_outcome)).
 pub fn collate<M: MapStyle>(
     alloc: Global,
     target: &Target<'_>,
@@ -49,8 +53,8 @@ pub fn collate<M: MapStyle>(
     collate_or_refused(alloc, target, style).map_err(refusal_alone)
 }
 
-/// The same, and with a refusal what was read of the target is answered: a caller who names the
-/// objects and infos of the refusal reads no document twice.
+/// Does the same as [`collate`], and returns what was read of the target with an error, so that a
+/// caller who names the objects and info files of the error reads no document twice.
 pub fn collate_or_refused<M: MapStyle>(
     alloc: Global,
     target: &Target<'_>,
@@ -70,7 +74,7 @@ pub fn collate_or_refused<M: MapStyle>(
     with_table(written, table)
 }
 
-/// What was collated, or its failure with what was read of the target, which has this table.
+/// Adds what was read of the target, which has this table, to an error.
 fn with_table(
     collated: Result<Collated, Failure<Refusal>>,
     table: Table,
@@ -105,37 +109,19 @@ pub(crate) fn written_of<M: MapStyle>(
         (option_map M.written (option_copied style.entry)))) }
 {
     added_files();
-    let (text, maps) = dyndep_and_maps(alloc, table, style)?;
+    let text = text_of(alloc, table.resolved())?;
+    let maps = maps_of(alloc, table, style)?;
     let info = info_text_of(alloc, target.name, target.kept, table)?;
     let objects = objects_of(alloc, table)?;
     Ok(Collated::new(text, info, objects, maps))
 }
 
-/// The text of the dyndep file of a table's objects and, with a style, their maps.
-fn dyndep_and_maps<M: MapStyle>(
-    alloc: Global,
-    table: &Table,
-    style: Option<&M>,
-) -> Result<(Vec<u8>, Vec<Vec<u8>>), Failure<Refusal>>
-    ensures text { IfOk result
-        (λ texts. text_or_fault (statements_of table.now) ≡ Ok texts.0.items) }
-    ensures meaning { IfOk result (λ texts. StandsForOnly texts.0.items (statements_of table.now)) }
-    ensures spelled { OnOk result (All HasSpelled (statements_of table.now)) }
-    ensures maps { IfOk result (λ texts.
-        AreMaps table.now (option_map M.written (option_copied style.entry))
-        (map (λ m. m.items) texts.1.items)) }
-    ensures refused { IfErr result (ForFault (IsTextsRefusal table.now
-        (option_map M.written (option_copied style.entry)))) }
-{
-    let text = text_of(alloc, table.resolved())?;
-    let maps = maps_of(alloc, table, style)?;
-    Ok((text, maps))
-}
-
-/// Collates a target to its dyndep text alone: the text that [`collate`] without a style answers.
+/// Collates a target to its dyndep text alone: the text that [`collate`] without a style returns. It
+/// writes no info file, so it takes less time and less memory.
 ///
-/// It succeeds and is refused exactly where that is, and for the same [`Refusal`]. No info is
-/// written, so that it takes less time, and less memory by the info's length.
+/// # Errors
+///
+/// Returns an error if and only if [`collate`] does, and the same [`Refusal`].
 pub fn collate_dyndep(alloc: Global, target: &Target<'_>) -> Result<Vec<u8>, Failure<Refusal>>
     ensures dyndep { IfOk result (λ text. IsDyndepOf target.now text.items) }
     ensures refused { IfErr result (ForFault (IsRefusal target.now None)) }
@@ -143,7 +129,7 @@ pub fn collate_dyndep(alloc: Global, target: &Target<'_>) -> Result<Vec<u8>, Fai
     collate_dyndep_or_refused(alloc, target).map_err(refusal_alone)
 }
 
-/// The same, and with a refusal what was read of the target is answered, as
+/// Does the same as [`collate_dyndep`], and returns what was read of the target with an error, as
 /// [`collate_or_refused`] does.
 pub fn collate_dyndep_or_refused(
     alloc: Global,
@@ -158,7 +144,7 @@ pub fn collate_dyndep_or_refused(
     headline();
     added_files();
     info_again();
-    // The contract speaks of the info too, though it is not written: its name is accepted.
+    // The contract is also about the info file, which is not written. Its name is a valid name.
     let _ = target.name.text();
     let table = table_of(alloc, target)?;
     let resolved = table.into_resolved();
@@ -168,7 +154,7 @@ pub fn collate_dyndep_or_refused(
     }
 }
 
-/// The objects of a table.
+/// Returns copies of the paths of a table's objects.
 fn objects_of(alloc: Global, table: &Table) -> Result<Vec<Path>, AllocError>
     ensures { IfOk result (λ objects. objects.items ≡ map (λ rule. rule.object) table.now.objects) }
 {

@@ -1,4 +1,4 @@
-//! Why a target does not collate, and why a rehearsal has no graph.
+//! Why a target does not collate, and why a dyndep text has no effect on a graph.
 ghost use Rattle.std.specs.Prelude.{◌≡◌};
 ghost use Rattle.ninja_text.specs.Failure.{Turns};
 
@@ -11,15 +11,15 @@ use scan_docs::{DocFault, Info, Rule};
 use std::alloc::Global;
 use thiserror::Error;
 
-/// Why a target does not collate. Of several faults the first in this order is reported, and of one
-/// kind the first by index.
+/// Why a target does not collate. If several apply, the first in this order is reported, and the one
+/// with the lowest index if they are of one kind.
 #[derive(Debug, Drop, Error)]
 pub enum Refusal {
-    /// The scan document of this index is refused (S1 to S8), or takes the target's rules past
-    /// their limit (S8).
+    /// The scan document of this index has a fault (S1 to S8), or the target has too many rules with
+    /// it (S8).
     #[error("scan {index}: {fault}")]
     Scan { index: usize, fault: DocFault },
-    /// The info document of this index is refused (S1 to S8).
+    /// The info document of this index has a fault (S1 to S8).
     #[error("info {index}: {fault}")]
     Info { index: usize, fault: DocFault },
     /// The table of the documents has a fault (M1 to M10).
@@ -36,18 +36,18 @@ pub enum Refusal {
     LinkedLater,
 }
 
-/// A target that does not collate: why, and what was read of it. A refusal has objects and infos by
-/// their indexes in what was read.
+/// Why a target does not collate, and what was read of it. A refusal has objects and info files by
+/// their indexes in these lists.
 #[derive(Drop)]
 pub struct RefusedTarget {
     pub refusal: Refusal,
-    /// The rules of all scan documents, where the refusal is of the table or of a map.
+    /// The rules of all scan documents, if the fault is one of the table or of a map.
     pub objects: Vec<Rule>,
-    /// The infos of the targets that it links, where the refusal is of the table or of a map.
+    /// The info files of the targets that it links, if the fault is one of the table or of a map.
     pub infos: Vec<Info>,
 }
 
-/// The target of a refusal that is neither of the table nor of a map.
+/// Returns the refusal with empty lists, if its fault is neither of the table nor of a map.
 pub(crate) fn without_table(alloc: Global, refusal: Refusal) -> RefusedTarget
     ensures { result.refusal ≡ refusal }
 {
@@ -58,24 +58,24 @@ pub(crate) fn without_table(alloc: Global, refusal: Refusal) -> RefusedTarget
     }
 }
 
-/// The failure of a target whose refusal is neither of the table nor of a map.
+/// Adds empty lists to a failure whose fault is neither of the table nor of a map.
 pub(crate) fn nothing_read(alloc: Global, failure: Failure<Refusal>) -> Failure<RefusedTarget>
     ensures { Turns (λ refusal refused. refused.refusal ≡ refusal) failure result }
 {
     failure.map(|refusal| without_table(alloc, refusal))
 }
 
-/// The failure without what was read.
+/// Returns the failure without what was read.
 pub(crate) fn refusal_alone(failure: Failure<RefusedTarget>) -> Failure<Refusal>
     ensures { Turns (λ refused refusal. refusal ≡ refused.refusal) failure result }
 {
     failure.map(|refused| refused.refusal)
 }
 
-/// Why a rehearsal has no graph.
+/// Why a dyndep text has no effect on a graph.
 #[derive(Debug, Drop, Error)]
 pub enum RehearseFault {
-    /// The text is no dyndep file.
+    /// The text is not a dyndep file.
     #[error(transparent)]
     Read(ReadFault),
     /// Its statements have no effect on the graph.

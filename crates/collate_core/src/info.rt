@@ -17,7 +17,7 @@ use scan_docs::{
 use std::alloc::{AllocError, Global};
 use table_keys::{KeyDigest, TableKey};
 
-/// Returns the text of the info of a target of this name, which keeps these modules private.
+/// Returns the text of the info file of a target of this name. The names in `kept` are private.
 pub(crate) fn info_text_of(
     alloc: Global,
     name: &TargetName,
@@ -35,8 +35,8 @@ pub(crate) fn info_text_of(
     lent_info_write(alloc, &info)
 }
 
-/// Returns what the text of that info is read as. It is made from the table, so that the text is
-/// not parsed. Returns `None` if the text is longer than a document may be.
+/// Returns the info file that this text is read as. It is made from the table, so the text is not
+/// parsed. Returns `None` if the text is longer than a document may be.
 pub(crate) fn info_again(
     alloc: Global,
     name: &TargetName,
@@ -57,8 +57,7 @@ pub(crate) fn info_again(
     Ok(Some(owned_info(alloc, &info)?))
 }
 
-/// Returns the info of a target of this name, which keeps these modules private, with all parts
-/// borrowed.
+/// Returns the info file of a target of this name, with all parts borrowed.
 fn lent_info<'t>(
     alloc: Global,
     name: &'t TargetName,
@@ -103,7 +102,7 @@ fn key_of(names: &[Name]) -> TableKey {
     digest.key()
 }
 
-/// Appends the modules that an object provides, which requires these.
+/// Appends the modules that an object provides. The object requires these modules.
 fn add_modules<'t>(
     private_names: &IndexSet<Name, TableKey>,
     rule: &'t Rule,
@@ -124,7 +123,7 @@ fn add_modules<'t>(
     Ok(())
 }
 
-/// Returns the info with parts of its own.
+/// Returns the info file with copies of its parts.
 fn owned_info(alloc: Global, info: &LentInfo<'_>) -> Result<Info, AllocError>
     ensures { IfOk result (λ copy. copy ≡ info.now) }
 {

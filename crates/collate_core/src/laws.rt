@@ -15,9 +15,9 @@ pub fn headline()
     added_files();
 }
 
-/// Of each project, files of its targets may be applied in any order; one numbering of all objects
-/// puts the maker of each required file below its user; and the graph after all files can be
-/// ordered.
+/// The dyndep files of a project may be applied in any order. All objects can be numbered so that
+/// the producer of each required file has a smaller number than its user. The graph after all files
+/// can be ordered.
 pub fn project_orders()
     ensures orders { ProjectOrders }
     ensures numbered { ProjectNumbered }
@@ -29,9 +29,8 @@ pub fn project_orders()
     value_of_bytes();
 }
 
-/// Of each project in which no file is added by two targets, what an object needs in the table of
-/// its target is what it needs in the project, and every style reads this back from the object's
-/// map.
+/// In a project in which no two targets add the same file, an object needs in the table of its
+/// target what it needs in the project, and every style reads this back from the object's map.
 pub fn project_maps()
     ensures needs { ProjectNeeds }
     ensures maps { ProjectMaps }
@@ -40,9 +39,9 @@ pub fn project_maps()
     value_of_bytes();
 }
 
-/// A target that collates has no refusal, and a target has one at most; and so it is with a project
-/// whose targets all collate, and with any project: `collate` and `project` succeed exactly where
-/// there is none, and otherwise report the one that there is, unless memory is refused.
+/// A target that collates has no refusal, and every target has at most one. The same holds of a
+/// project. So unless an allocation fails, `collate` and `project` succeed if and only if there is
+/// no refusal, and otherwise they report the only one.
 pub fn one_outcome()
     ensures collate { CollatedIsNotRefused }
     ensures one { OneRefusal }
@@ -53,13 +52,12 @@ pub fn one_outcome()
     one_fault();
 }
 
-/// No race: in every order of the edges after the effect in which each is after the makers of its
-/// inputs, the edge of an object comes after the edge that makes the file of each module that the
-/// object requires, wherever in the graph that edge is; and the file of a module that an object
-/// provides is made by the edge of that object. So it is after the dyndep file of a target that has
-/// the headline, and after those of any targets of a project, under the premises of the headline
-/// and of [`project_orders`]. What [`edge_order`](build_effect::edge_order) answers is such an
-/// order.
+/// No race: take any order of the edges after the effect in which each edge comes after the edges
+/// that make its inputs. Then the edge of an object comes after the edges that make the files of the
+/// modules that the object requires, and the edge of an object makes the files of the modules that
+/// the object provides. This holds after the dyndep file of a target that has the headline, and
+/// after the files of any targets of a project, under the premises of the headline and of
+/// [`project_orders`]. [`edge_order`](build_effect::edge_order) returns such an order.
 pub fn no_race()
     ensures target { TargetHasNoRace }
     ensures project { ProjectHasNoRace }
@@ -70,10 +68,10 @@ pub fn no_race()
     project_orders();
 }
 
-/// No false wait, under the same premises: after the effect an edge needs what it needed before;
-/// the edge of an object needs the makers of the files of the modules that the object requires; an
-/// edge that read a file which is now an added output needs the edge that makes it; and no edge
-/// needs anything else.
+/// No false wait, under the same premises: after the effect an edge needs what it needed before. The
+/// edge of an object also needs the edges that make the files of the modules that the object
+/// requires. An edge that read a file which is now an added output needs the edge that makes the
+/// file. No edge needs anything else.
 pub fn no_false_wait()
     ensures target { TargetHasNoFalseWait }
     ensures project { ProjectHasNoFalseWait }

@@ -23,8 +23,8 @@ use ninja_text::Failure;
 use scan_docs::{Info, Rule, info_read};
 use std::alloc::{AllocError, Global};
 
-/// Collates a target with the infos of the targets that it links, all of which have to be earlier.
-/// Returns also what its own info is read as, if that is known.
+/// Collates a target with the info files of the targets that it links, all of which have to be
+/// earlier. Also returns its own info file as it is read, if that is known.
 pub(crate) fn collate_linked<M: MapStyle>(
     alloc: Global,
     target: &ProjectTarget<'_>,
@@ -60,7 +60,7 @@ pub(crate) fn collate_linked<M: MapStyle>(
     }
 }
 
-/// Whether all indexes are below this one.
+/// Returns whether all indexes are below this one.
 fn are_below(indexes: &[usize], bound: usize) -> bool
     ensures { IsTrue result ↔ All (λ k. k < bound) indexes.now }
 {
@@ -72,7 +72,7 @@ fn are_below(indexes: &[usize], bound: usize) -> bool
     true
 }
 
-/// The infos that the targets of these indexes wrote.
+/// Returns the info files that the targets of these indexes wrote.
 fn infos_of<'a>(
     alloc: Global,
     linked: &[usize],
@@ -90,7 +90,7 @@ fn infos_of<'a>(
 }
 
 /// Collates a target by a table of few of the modules that it links. Returns `None` if the table of
-/// all has to be made: the target may have a fault, which is not looked for here.
+/// all has to be built, because the target may have a fault.
 fn collate_by_part<M: MapStyle>(
     alloc: Global,
     target: &Target<'_>,

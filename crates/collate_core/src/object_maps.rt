@@ -16,7 +16,8 @@ use ninja_text::{Failure, Path};
 use scan_docs::Name;
 use std::alloc::{AllocError, Global};
 
-/// With a style, the text of each object's map, or the first that is refused; without one, none.
+/// Returns the text of each object's map, or the fault of the first that has one. Without a style the
+/// list is empty.
 pub(crate) fn maps_of<M: MapStyle>(
     alloc: Global,
     table: &Table,
@@ -37,7 +38,6 @@ pub(crate) fn maps_of<M: MapStyle>(
     }
 }
 
-/// The text of each object's map, or the first that is refused.
 fn map_texts<M: MapStyle>(
     alloc: Global,
     table: &Table,
@@ -57,7 +57,6 @@ fn map_texts<M: MapStyle>(
     Ok(texts)
 }
 
-/// The text of an object's map.
 fn text_of<M: MapStyle>(
     alloc: Global,
     table: &Table,
@@ -78,7 +77,6 @@ fn text_of<M: MapStyle>(
     style.write(alloc, &map).map_err(|failure| failure.map(|fault| Refusal::Map { object, fault }))
 }
 
-/// The map of an object.
 fn map_of(
     alloc: Global,
     table: &Table,
@@ -93,24 +91,10 @@ fn map_of(
         IsMapOf table.now object rule map) }
 {
     let provided = copy_pairs(alloc, table.provided(object))?;
-    let needed = needed_of(alloc, needs, object)?;
+    let lent = needs.of(alloc, object)?;
+    let needed = copy_lent(alloc, &lent)?;
     match ModuleMap::new(provided, needed) {
         Some(map) => Ok(map),
         None => unreachable!(),
     }
-}
-
-/// What an object needs.
-fn needed_of(
-    alloc: Global,
-    needs: &mut Needs<'_>,
-    object: usize,
-) -> Result<Vec<(Name, Path)>, AllocError>
-    requires { object < length needs.old.objects }
-    ensures same { needs.new ≡ needs.old }
-    ensures needed { IfOk result
-        (λ needed. ArePairs (IsNeeded needs.old object) needed.items) }
-{
-    let lent = needs.of(alloc, object)?;
-    copy_lent(alloc, &lent)
 }

@@ -6,7 +6,7 @@ use ninja_text::Path;
 use scan_docs::Name;
 use std::alloc::{AllocError, Global};
 
-/// A copy of the name and of the file, as a pair.
+/// Returns copies of the name and of the file.
 pub(crate) fn copy_pair(alloc: Global, name: &Name, file: &Path) -> Result<(Name, Path), AllocError>
     ensures { IfOk result (λ copy. copy ≡ (name.now, file.now)) }
 {
@@ -15,7 +15,7 @@ pub(crate) fn copy_pair(alloc: Global, name: &Name, file: &Path) -> Result<(Name
     Ok((name, file))
 }
 
-/// The same pairs once more.
+/// Returns copies of the pairs.
 pub(crate) fn copy_pairs(
     alloc: Global,
     pairs: &[(Name, Path)],
@@ -29,7 +29,7 @@ pub(crate) fn copy_pairs(
     Ok(copy)
 }
 
-/// The pairs that are lent, once more.
+/// Returns copies of the borrowed pairs.
 pub(crate) fn copy_lent(
     alloc: Global,
     pairs: &[(&Name, &Path)],

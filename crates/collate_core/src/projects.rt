@@ -20,7 +20,7 @@ use std::marker::Model;
 use table_keys::{KeyDigest, TableKey};
 
 /// A target of a project to collate: a [`Target`](crate::Target) that links earlier ones by index in
-/// place of the infos, which the project writes. It borrows all its parts.
+/// place of the info files, which the project writes. It borrows all its parts.
 #[derive(Drop)]
 pub struct ProjectTarget<'a> {
     pub name: &'a TargetName,
@@ -54,12 +54,13 @@ pub struct ProjectOut {
     pub targets: Vec<Collated>,
 }
 
-/// Collates the targets of a project in order, each with the infos that the targets which it links
-/// wrote, in the order of `linked`.
+/// Collates the targets of a project in order, each with the info files of the targets that it
+/// links, in the order of `linked`.
 ///
-/// The refusal is that of the first target that has one, with the target's index:
-/// [`Refusal::LinkedLater`] before that target's others, else the one that
-/// [`collate`](crate::collate) reports.
+/// # Errors
+///
+/// Returns the refusal of the first target that has one, with the target's index:
+/// [`Refusal::LinkedLater`], or the one that [`collate`](crate::collate) reports.
 pub fn project<M: MapStyle>(
     alloc: Global,
     targets: &[ProjectTarget<'_>],
@@ -68,9 +69,9 @@ pub fn project<M: MapStyle>(
     ensures collated { IfOk result (λ out.
         CollatesProject (option_map M.written (option_copied style.entry))
         targets.now out.targets.items) }
-    // the dyndep files may be applied in any order, and all orders end alike
+    // the dyndep files may be applied in any order, with the same result
     ensures orders { IfOk result (λ out. AllOrders (project_tables targets.now out.targets.items)) }
-    // one numbering of all objects puts the maker of each required file below its user
+    // all objects can be numbered so that producers of files have smaller numbers than users
     ensures numbered { IfOk result (λ out.
         IsProjectOrdered targets.now (project_tables targets.now out.targets.items)) }
     // the style reads in each object's map what the object provides and needs in the project
@@ -91,7 +92,7 @@ pub fn project<M: MapStyle>(
     }
 }
 
-/// The same, and with a refusal what was read of its target is answered, as
+/// Does the same as [`project`], and returns what was read of the target with an error, as
 /// [`collate_or_refused`](crate::collate_or_refused) does.
 pub fn project_or_refused<M: MapStyle>(
     alloc: Global,
@@ -101,9 +102,9 @@ pub fn project_or_refused<M: MapStyle>(
     ensures collated { IfOk result (λ out.
         CollatesProject (option_map M.written (option_copied style.entry))
         targets.now out.targets.items) }
-    // the dyndep files may be applied in any order, and all orders end alike
+    // the dyndep files may be applied in any order, with the same result
     ensures orders { IfOk result (λ out. AllOrders (project_tables targets.now out.targets.items)) }
-    // one numbering of all objects puts the maker of each required file below its user
+    // all objects can be numbered so that producers of files have smaller numbers than users
     ensures numbered { IfOk result (λ out.
         IsProjectOrdered targets.now (project_tables targets.now out.targets.items)) }
     // the style reads in each object's map what the object provides and needs in the project
@@ -128,7 +129,7 @@ pub fn project_or_refused<M: MapStyle>(
     Ok(ProjectOut { targets: outs })
 }
 
-/// Collates the targets in order into the empty list, up to the first that is refused.
+/// Collates the targets in order into the empty list, up to the first that has a refusal.
 fn add_outs<M: MapStyle>(
     alloc: Global,
     targets: &[ProjectTarget<'_>],
@@ -172,7 +173,7 @@ fn key_of(targets: &[ProjectTarget<'_>]) -> TableKey {
     digest.key()
 }
 
-/// The failure of the target of this index.
+/// Adds the target's index to a failure.
 fn of_target(index: usize, failure: Failure<RefusedTarget>) -> Failure<(usize, RefusedTarget)>
     ensures { Turns (λ refused found. found ≡ (index, refused)) failure result }
 {

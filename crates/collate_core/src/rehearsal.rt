@@ -1,4 +1,4 @@
-//! Rehearsing a dyndep text on a graph.
+//! What a dyndep text does to a graph.
 ghost use Rattle.std.specs.Prelude.{[], IfOk, OnOk, IfErr};
 ghost use Rattle.ninja_text.specs.Failure.{ForFault};
 ghost use Rattle.dyndep_file.specs.Reading.{StandsFor};
@@ -15,8 +15,8 @@ use std::alloc::Global;
 /// to a graph as the dyndep file of that name (Ninja 1.11 manual, "Dynamic dependencies"). A length
 /// may be zero, one past the end means the rest, and what remains is the last piece.
 ///
-/// The answer is the same for all lengths: the reader's fault exactly where the text stands for no
-/// statements, else what [`apply`](build_effect::apply) answers for its statements.
+/// The result is the same for all lengths: the reader's fault if and only if the text stands for no
+/// statements, and otherwise what [`apply`](build_effect::apply) returns for its statements.
 pub fn rehearse(
     alloc: Global,
     text: &[u8],
@@ -38,7 +38,7 @@ pub fn rehearse(
     }
 }
 
-/// The statements of a text that is fed in pieces of these lengths.
+/// Returns the statements of a text that is fed in pieces of these lengths.
 fn read_pieces(alloc: Global, text: &[u8], cuts: &[usize]) -> Result<Dyndep, Failure<ReadFault>>
     ensures read { IfOk result (StandsFor text.now) }
     ensures refused { IfErr result (ForFault (IsReadFaultOf text.now)) }

@@ -16,10 +16,11 @@ use ninja_text::{Failure, Path};
 use scan_docs::{Name, Rule};
 use std::alloc::{AllocError, Global};
 
-/// The text of one statement per object, in the order of the objects: its output is the object, its
-/// implicit outputs are the files of the modules that the object provides, in order of provision,
-/// and its implicit inputs the files of those that it requires, in order of first mention. `restat`
-/// is on exactly where it has implicit outputs. Or the first whose build line is too long.
+/// Returns the text of one statement per object, in the order of the objects, or the first statement
+/// whose build line is too long. The output of a statement is the object. Its implicit outputs are
+/// the files of the modules that the object provides, in order of provision, and its implicit inputs
+/// the files of the modules that the object requires, in order of first mention. It has `restat` if
+/// it has implicit outputs.
 pub(crate) fn text_of(alloc: Global, table: &Resolved) -> Result<Vec<u8>, Failure<Refusal>>
     ensures text { IfOk result (λ text. text_or_fault (statements_of table.now) ≡ Ok text.items) }
     ensures meaning { IfOk result (λ text. StandsForOnly text.items (statements_of table.now)) }
@@ -58,7 +59,7 @@ fn add_object<'t>(
     add(text, &lent_statement(rule, outputs, inputs))
 }
 
-/// The statement of an object, with its implicit outputs and inputs as these lists lend them.
+/// Returns the statement of an object, with these implicit outputs and inputs.
 fn lent_statement<'l>(
     rule: &'l Rule,
     outputs: &'l [&'l [u8]],
@@ -79,7 +80,7 @@ fn lent_statement<'l>(
     }
 }
 
-/// Lends the files of modules, in the place of what was lent before.
+/// Replaces what is in the list with the files of these modules.
 fn lend_files<'m>(modules: &'m [(Name, Path)], files: &mut Vec<&'m [u8]>) -> Result<(), AllocError>
     ensures files { OnOk result (lent_files files.new.items ≡ module_files modules.now) }
     ensures spelled { OnOk result (All IsSpelled (lent_files files.new.items)) }
@@ -91,7 +92,7 @@ fn lend_files<'m>(modules: &'m [(Name, Path)], files: &mut Vec<&'m [u8]>) -> Res
     Ok(())
 }
 
-/// Adds a statement to the text. Its paths have spellings, so only its build line can be refused.
+/// Adds a statement to the text. Its paths can be escaped, so only its build line can be too long.
 fn add(text: &mut DyndepText, statement: &LentStatement<'_>) -> Result<(), Failure<Refusal>>
     requires { HasSpelled statement.now }
     ensures added { OnOk result ((statements : List StatementValue) →

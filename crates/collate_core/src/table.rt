@@ -16,11 +16,11 @@ use ninja_text::Failure;
 use scan_docs::{DocFault, Info, Place, Rule, Setting, info_read, scan};
 use std::alloc::Global;
 
-/// The most rules of a target.
+/// The maximum number of rules of a target.
 pub const RULE_LIMIT: usize = 65536;
 
-/// Returns the table of the target's documents, or the fault of the first that has one, or of the
-/// table.
+/// Returns the table of the target's documents, or the fault of the first document that has one, or
+/// of the table.
 pub(crate) fn table_of(alloc: Global, target: &Target<'_>) -> Result<Table, Failure<RefusedTarget>>
     ensures table { IfOk result (λ table. table ≡ table_of target.now) }
     ensures resolved { OnOk result (IsResolved target.now) }
@@ -38,7 +38,7 @@ pub(crate) fn table_of(alloc: Global, target: &Target<'_>) -> Result<Table, Fail
     Table::build_or_refused(alloc, objects, infos, target.kept).map_err(of_table)
 }
 
-/// The failure of a target whose table has a fault, with what was read of it.
+/// Returns the failure of a target whose table has a fault.
 fn of_table(failure: Failure<RefusedTable>) -> Failure<RefusedTarget>
     ensures { Turns IsOfTable failure result }
 {
@@ -51,7 +51,8 @@ fn of_table(failure: Failure<RefusedTable>) -> Failure<RefusedTarget>
     })
 }
 
-/// The rules and the infos of the target's documents, or the fault of the first that is faulty.
+/// Returns the rules and the info files of the target's documents, or the fault of the first that
+/// has one.
 fn documents_of(
     alloc: Global,
     target: &Target<'_>,
@@ -103,7 +104,7 @@ pub(crate) fn rules_of_all(
     Ok(rules)
 }
 
-/// The infos of all info documents.
+/// Returns the info files of all info documents.
 fn infos_of_all(alloc: Global, documents: &[&[u8]]) -> Result<Vec<Info>, Failure<Refusal>>
     ensures read { IfOk result
         (λ infos. AreReadAs (map (λ info. info.now) documents.now) infos.items) }

@@ -1,25 +1,47 @@
-use Rattle.std.proofs.Common.{All}
+use Rattle.std.proofs.Common.{◌≡◌, List, Ok, ap, subst, All}
+use Rattle.std.proofs.lemmas.Result.{err_from_is_err_and}
+use Rattle.dyndep_file.specs.StatementValue.{StatementValue}
+use Rattle.dyndep_file.specs.WriteFaults.{text_or_fault}
+use Rattle.dyndep_file.specs.Reading.{StandsForOnly}
 use Rattle.collate_core.specs.Statements.{statements_of}
 use Rattle.collate_core.specs.Collation.{HasPaths}
+use Rattle.collate_core.specs.inner.Parts.{HasSpelled}
 use Rattle.collate_core.proofs.HeadlineLemmas.{collated_text}
-use Rattle.collate_core.proofs.Writing.{has_paths}
+use Rattle.collate_core.proofs.Parts.{write_refused, maps_refused}
+use Rattle.collate_core.proofs.Writing.{has_paths, no_fault}
 use Rattle.collate_core.proofs.collating.written_of.Goals as goal
+
+pub returns-in_err-text-clause-refused : goal.returns-in_err-text-clause-refused
+returns-in_err-text-clause-refused g c =
+    let statements = statements_of c.resolved.result.now in
+    let p = err_from_is_err_and c.from_residual.result c.from_residual.ensures.1 in
+    rw (p.1, p.2) (write_refused _ c.args.table.now statements (ap statements_of c.resolved.ensures) _ c.in_err-text.ensures.refused)
+
+pub returns-in_err-maps-clause-refused : goal.returns-in_err-maps-clause-refused
+returns-in_err-maps-clause-refused g c =
+    let statements = statements_of c.resolved.result.now in
+    let p = err_from_is_err_and c.from_residual-in_err-maps.result c.from_residual-in_err-maps.ensures.1 in
+    rw (p.1, p.2) (maps_refused _ c.args.table.now statements (ap statements_of c.resolved.ensures) (no_fault statements c.in_ok-text.text.items c.in_ok-text.ensures.text) _ c.in_err-maps.ensures.refused)
 
 pub new-requires : goal.new-requires
 new-requires g c =
     let laws = c.added_files.ensures in
-    let canonical : All HasPaths (statements_of c.args.table.now) = has_paths (statements_of c.args.table.now) c.in_ok-text.ensures.spelled in
-    (statements_of c.args.table.now, collated_text c.args.table.now c.requires.sound laws.orderable laws.once laws.apart laws.required c.in_ok-objects.objects.items c.in_ok-text.text.items c.in_ok-objects.ensures c.in_ok-text.ensures.meaning canonical)
+    let are = ap statements_of c.resolved.ensures in
+    let spelled = subst (All HasSpelled) are c.in_ok-text.ensures.spelled in
+    let meaning = subst (StandsForOnly c.in_ok-text.text.items) are c.in_ok-text.ensures.meaning in
+    let canonical : All HasPaths (statements_of c.args.table.now) = has_paths (statements_of c.args.table.now) spelled in
+    (statements_of c.args.table.now, collated_text c.args.table.now c.requires.sound laws.orderable laws.once laws.apart laws.required c.in_ok-objects.objects.items c.in_ok-text.text.items c.in_ok-objects.ensures meaning canonical)
 
 pub returns-clause-written : goal.returns-clause-written
 returns-clause-written g c =
+    let are = ap statements_of c.resolved.ensures in
     rw c.new.ensures
     (record {
-      spelled = c.in_ok-text.ensures.spelled;
-      stands = c.in_ok-text.ensures.meaning;
-      text = c.in_ok-text.ensures.text;
+      spelled = subst (All HasSpelled) are c.in_ok-text.ensures.spelled;
+      stands = subst (StandsForOnly c.in_ok-text.text.items) are c.in_ok-text.ensures.meaning;
+      text = subst (λ (ss : List StatementValue). text_or_fault ss ≡ Ok c.in_ok-text.text.items) are c.in_ok-text.ensures.text;
       objects = c.in_ok-objects.ensures;
       info = rw (← c.target.view_is) c.in_ok-info.ensures.text;
       reads = rw (← c.target.view_is) c.in_ok-info.ensures.reads_back;
-      maps = c.in_ok-text.ensures.maps;
+      maps = c.in_ok-maps.ensures.maps;
     })
