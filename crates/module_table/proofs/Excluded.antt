@@ -12,7 +12,7 @@ use Rattle.module_table.proofs.Places.{one_file}
 use Rattle.module_table.proofs.Required.{from_flat_map, from_numbered, contained}
 use Rattle.ninja_text.proofs.ForCallers.{from_map}
 
--- a requirement among those of all infos is one of a module of its info
+-- a requirement among those of all info files is one of a module of its info
 requires_at : (t : TableValue) (k : ℕ) (r : InfoRequirement) → slice_get (info_requirements t) k ≡ Some r → (j : ℕ) × (m : ModuleValue) × InfoRequires t r.info j m r.name r.file
 requires_at t k r e =
     let part = from_flat_map requirements_of_info (enumerate_from 0 t.infos) k r e in

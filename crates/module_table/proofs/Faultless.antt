@@ -34,7 +34,7 @@ use Rattle.module_table.proofs.Rings.{as_many, to_depends, from_depends, are_nod
 use Rattle.module_table.proofs.InfoRequirements.{requirement_of, requirement, agreed}
 use Rattle.ninja_text.proofs.ForCallers.{to_map, from_map}
 
--- ---- where nothing is the first there is nothing
+-- ---- if nothing is the first there is nothing
 
 module _ {X : Type 0} (P : X → Type 0) (xs : List X) (none : (place : ℕ) (x : X) → IsFirst P xs place x → ⊥) where
   none_below : (k place : ℕ) (x : X) → place < k → slice_get xs place ≡ Some x → P x → ⊥
@@ -71,7 +71,7 @@ at_one_place : {X : Type 0} (f : X → List ℕ) (xs : List X) → ((i j : ℕ) 
 at_one_place f xs never i j a b at_i at_j same =
     neither_less i j (λ lt. never i j a b lt at_i at_j same) (λ gt. never j i b a gt at_j at_i (sym same))
 
--- where no object is the first that requires such a name, none does
+-- if no object is the first that requires such a name, none does
 none_required : (P : List ℕ → Type 0) (objects : List RuleValue) → ((object : ℕ) (name : List ℕ) → IsFirstRequired P objects object name → ⊥) → (object : ℕ) (rule : RuleValue) (name : List ℕ) → slice_get objects object ≡ Some rule → Contains rule.required name → P name → ⊥
 none_required P objects none object rule name at has holds =
     let there = placed rule.required name has in
@@ -93,7 +93,7 @@ there_or_absent (key ∷ keys) name =
     behind differs absent zero at = let same : key ≡ name = cc in true≢false (sym ((bytes_decides key name).1 same) ∙ differs)
     behind differs absent (suc number) at = absent number at
 
--- a vector of these numbers, as a fault holds its ring
+-- a vector of these numbers, as a fault holds its cycle
 vector_of : (xs : List ℕ) → length xs < 2 ^ 63 → (v : Vec ℕ Global) × (v.items ≡ xs)
 vector_of xs few = (
   record { ptr = null_ptr; len = length xs; cap = length xs; alloc = record { memory = record { seal = tt } }; items = xs; ok = (refl, omega arith); small = few },
@@ -119,7 +119,7 @@ module _ (names : List (List ℕ)) (differ : AllDiffer names) where
 depend_within : (t : TableValue) → AreWithin (length t.objects) (DependsOn t)
 depend_within t o p (name, file, position, needs, provides) = (slice_get_within t.objects o needs.0 needs.1, slice_get_within t.objects p provides.0 provides.1)
 
--- where no name is provided twice all names differ
+-- if no name is provided twice all names differ
 module _ (t : TableValue) (kept : List (List ℕ)) (none : (name : List ℕ) (first second : Maker) → IsFault t kept (ProvidedTwice name first second) → ⊥) where
   pub names_apart : (i j : ℕ) (a b : Provision) → i < j → slice_get (provisions t) i ≡ Some a → slice_get (provisions t) j ≡ Some b → a.name ≡ b.name → ⊥
   names_apart = never_twice (λ (x y : Provision). x.name ≡ y.name) (provisions t) (λ k l x y first. none y.name x.maker y.maker (k, l, x, y, first, refl, refl, refl))

@@ -80,7 +80,7 @@ module _ (t : TableValue) where
       (zip_numbered (λ row origin. IsRow origin row) (λ (m : ModuleValue). indexes_in names m.required) (λ (x : ℕ × ModuleValue). (Info info.0, x.0)) 0 info.1.modules
       (λ j m here. let index : 0 + j ≡ j = omega arith in (m, (info.1, ap (slice_get t.infos) (sym same) ∙ n.1, ap (slice_get info.1.modules) index ∙ here), refl)))
 
-  -- the rows of modules of objects, and after them those of modules of infos
+  -- the rows of modules of objects, and after them the rows of modules of info files
   pub module_rows : (needs : List (List ℕ)) → needs ≡ filter_map row_of (origins_of t) ++ flat_map (info_rows names) (enumerate_from 0 t.infos) → AreModuleRows t needs
   module_rows needs is =
       let objects = flat_map object_origins (enumerate_from 0 t.objects) in

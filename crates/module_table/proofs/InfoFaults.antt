@@ -1,4 +1,4 @@
--- What the checks of infos and of kept names report.
+-- What the checks of info files and of kept names report.
 use Rattle.std.proofs.Common.{◌≡◌, ℕ, List, Some, refl, ap, subst, sym, ◌∙◌, slice_get}
 use Rattle.module_table.specs.TableValue.{TableValue}
 use Rattle.module_table.specs.Modules.{Provides, IsProvidedBy, IsInfoProvided, Provision, provisions, InfoRequirement, info_requirements}
@@ -17,7 +17,7 @@ use Rattle.module_table.proofs.Found.{one_module}
 use Rattle.ninja_text.proofs.ForCallers.{same_some}
 
 module _ (t : TableValue) where
-  -- where the module is that an info provides
+  -- the position of the module that an info provides
   pub by_info : (name file : List ℕ) → IsInfoProvided t name file → (k : ℕ) × (p : Provision) × IsNamed (provisions t) name k p × (p.file ≡ file) × ((i : ℕ) × (p.maker ≡ Info i))
   by_info name file (i, h) = (_, _, (info_provision t i h.0 h.1 h.2, h.3), h.4, (i, refl))
 

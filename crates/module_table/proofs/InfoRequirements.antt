@@ -1,4 +1,4 @@
--- What infos' modules require, among the requirements of all infos.
+-- What info files' modules require, among the requirements of all info files.
 use Rattle.std.proofs.Common.{◌≡◌, ℕ, Bool, true, false, List, [], ◌∷◌, ◌++◌, map, Some, refl, ap, ap₂, subst, sym, ◌∙◌, slice_get, bytes_eq, true≢false}
 use Rattle.std.specs.List.{enumerate_from, flat_map}
 use Rattle.std.proofs.lemmas.List.{map-append}
@@ -20,7 +20,7 @@ abbrev pub requirement_of : ℕ → List ℕ → ModuleValue → List ℕ → Li
 requirement_of info target entry name file = record { info = info; target = target; module_name = entry.name; name = name; file = file }
 
 module _ (t : TableValue) where
-  -- what an info's module requires is among the requirements of all infos
+  -- what an info's module requires is among the requirements of all info files
   pub requirement : (i j : ℕ) (m : ModuleValue) (name file : List ℕ) → InfoRequires t i j m name file → (k : ℕ) × (target : List ℕ) × (slice_get (info_requirements t) k ≡ Some (requirement_of i target m name file))
   requirement i j m name file ((info, at, at_m), has) =
       let pair = slice_get-get_or m.required has.0 (name, file) has.1 ∙ ap (λ x. Some x) has.2 in

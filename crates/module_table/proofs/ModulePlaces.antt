@@ -73,7 +73,7 @@ module _ (t : TableValue) where
         let p = there place at in
         ap (option_map (λ (q : Provision). (q.name, q.file))) p.1 ∙ ap (λ x. Some x) (one_pair t.objects t.infos place (p.0.name, p.0.file) pair p.2.1 named)
 
--- the same place among the same objects and infos
+-- the same place among the same objects and info files
 pub same_place : (objects others : List RuleValue) (infos rest : List InfoValue) (place : Maker × ℕ) (pair : List ℕ × List ℕ) → objects ≡ others → infos ≡ rest → IsNamedAt objects infos place pair → IsNamedAt others rest place pair
 same_place objects others infos rest place pair same_objects same_infos h =
     subst (λ (os : List RuleValue). IsNamedAt os rest place pair) same_objects (subst (λ (is : List InfoValue). IsNamedAt objects is place pair) same_infos h)

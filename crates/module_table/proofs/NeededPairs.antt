@@ -164,7 +164,7 @@ module _ (t : TableValue) (sound : IsSound t) (graph : List (List ℕ)) (g : IsM
         rising = rising;
       }
 
--- ---- pairs that are lent
+-- ---- pairs that are borrowed
 
 abbrev Lent : Type 0
 Lent = Bor (List ℕ) × Bor (List ℕ)

@@ -67,7 +67,7 @@ one_keeper t differ name i j p q =
 by_same : (fault other : TableFault) → fault ≡ other → IsSameFault fault other
 by_same fault other e = subst (IsSameFault fault) e same
 
--- where a fault of that code is reported no name is provided twice
+-- if a fault of that code is reported no name is provided twice
 differ_below : (t : TableValue) (kept : List (List ℕ)) (fault : TableFault) → IsReported t kept fault → 3 < code_number fault → AllDiffer (names_of (provisions t))
 differ_below t kept fault told lt = names_differ t kept (λ name first second h. absurd (omega (arith, lt, told.lowest (ProvidedTwice name first second) h)))
 

@@ -43,7 +43,7 @@ from_flat_map_at f (x ∷ xs) k y e =
       | inr h ↦ let r = from_flat_map_at f xs h.0 y h.2 in (r.0, suc r.1, r.2, r.3, r.4, omega (arith, h.1, r.5))
     ]
 
--- ---- where a module of a table is
+-- ---- the position of a module of a table
 
 module _ (t : TableValue) where
   abbrev own_modules : List Provision
@@ -201,7 +201,7 @@ module _ (objects : List RuleValue) (part infos : List InfoValue) (is : IsEnough
       let one : c.2 ≡ keeps.1 = one_entry infos info keeps.0 c.2 keeps.1 (subst (λ n. HasModule infos n keeps.0 c.2) place.0 (subst (λ n. HasModule infos c.0 n c.2) place.1 c.3)) keeps.2 in
       sym place.0 ∙ c.6 (ap (λ (m : ModuleValue). m.is_private) one ∙ keeps.4)
 
-  -- an object's module is none of an info
+  -- an object's module is not one of an info
   not_both : (o j i k : ℕ) (name file : List ℕ) (m : ModuleValue) → Provides t o j name file → HasModule infos i k m → m.name ≡ name → ⊥
   not_both o j i k name file m provides has same = is.own_apart.names o j i k provides.0 name file m provides.1 provides.2 has (sym same)
 

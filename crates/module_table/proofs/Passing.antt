@@ -52,7 +52,7 @@ module _ (t : TableValue) (kept : List (List ℕ)) where
       let le = passed fault is in
       ⊎_elim (λ same. absurd (lacks fault same is)) (λ other. omega (arith, le, other)) (cases_eq (code_number fault) n)
 
-  -- a fault of this code is the one that is reported, where the checks below have passed
+  -- a fault of this code is the one that is reported, if the checks below have passed
   pub reported : (n : ℕ) (fault : TableFault) → Reports n t kept fault → Passed n t kept → IsReported t kept fault
   reported n fault is passed = record { present = is.present; lowest = λ other h. subst (λ m. m ≤ code_number other) (sym is.coded) (passed other h) }
 

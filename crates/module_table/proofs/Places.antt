@@ -1,4 +1,4 @@
--- Where modules are in the lists of all modules and all files.
+-- The indexes of modules in the lists of all modules and all files.
 use Rattle.std.proofs.Common.{⊎_elim, ◌≡◌, ℕ, zero, suc, ◌+◌, ◌<◌, Bool, true, false, List, [], ◌∷◌, length, map, Some, ◌||◌, IsTrue, refl, ap, subst, sym, ◌∙◌, inl, inr, arith, slice_get}
 use Rattle.std.specs.List.{flat_map, enumerate_from}
 use Rattle.scan_docs.specs.Scan.{RuleValue}
@@ -39,7 +39,7 @@ in_flat_map f (z ∷ xs) (suc i) x j y e h =
 abbrev as_claim : Provision → Claim
 as_claim p = record { maker = p.maker; file = p.file; is_module = true }
 
--- where module j of object o is among all claims
+-- the index of module j of object o among all claims
 object_place : TableValue → ℕ → ℕ → ℕ
 object_place t o j = length (own_claims t.objects) + (offset object_provisions (enumerate_from 0 t.objects) o + j)
 

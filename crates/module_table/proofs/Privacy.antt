@@ -1,4 +1,4 @@
--- Modules that infos keep to themselves.
+-- Modules that info files keep to themselves.
 use Rattle.std.proofs.Common.{◌≡◌, ◌≢◌, ℕ, ◌<◌, true, false, List, take, Some, refl, ap, subst, sym, ◌∙◌, ⊎_elim, arith, slice_get, true≢false}
 use Rattle.std.specs.List.{flat_map, enumerate_from}
 use Rattle.std.proofs.lemmas.Option.{slice_get-get_or}

@@ -1,4 +1,4 @@
--- Chains of needs in the graph lead where names lead from one to the next.
+-- Chains of needs in the graph lead to a node if names lead from one to the next.
 use Rattle.std.proofs.Common.{◌≡◌, ℕ, ◌+◌, ◌<◌, ◌⊎◌, List, [], ◌∷◌, length, map, Some, refl, ap, subst, sym, ◌∙◌, inl, inr, ⊎_elim, arith, slice_get, Contains}
 use Rattle.std.proofs.lemmas.Option.{slice_get_within, get_or_from_slice_get}
 use Rattle.scan_docs.specs.Scan.{RuleValue}

@@ -1,4 +1,4 @@
--- What is asked of each requirement, and the first that is refused.
+-- What is asked of each requirement, and the first that is rejected.
 use Rattle.std.proofs.Common.{◌≡◌, ℕ, ◌+◌, ◌<◌, Bool, true, false, List, [], ◌∷◌, ◌++◌, take, Some, ap, subst, sym, ◌∙◌, ⊎_elim, slice_get, MatchBool, not, true≢false, Option, None, position, arith, get_or, map}
 use Rattle.std.specs.List.{flat_map}
 use Rattle.std.proofs.Common.{append_assoc, append-nil}
@@ -21,7 +21,7 @@ module _ {X : Type 0} (Accepted Refused : X → Type 0) (xs : List X) (place : �
   pub refuses_here : Refused x → RefusesAt Accepted Refused xs place
   refuses_here bad = record { x = x; here = at; refused = bad; accepted = λ k y lt at_k. before.each k y (in_take place xs k y lt at_k) }
 
--- the first element that a test refuses, in a list that says the same as the one that is tested
+-- the first element that a test rejects, in a list that says the same as the one that is tested
 module _ {X Y Z : Type 0} (f : X → Z) (g : Y → Z) (test : Z → Bool) (Accepted Refused : Y → Type 0) (decides : (y : Y) → MatchBool (test (g y)) (Accepted y) (Refused y)) where
   abbrev refuses : X → Bool
   refuses x = not (test (f x))

@@ -89,7 +89,7 @@ length_paths : (rules : List RuleValue) → length (map (λ (rule : RuleValue). 
 length_paths [] = refl
 length_paths (rule ∷ rules) = ap suc (length_paths rules)
 
--- where texts differ in a first list, what is repeated is repeated after it
+-- if texts differ in a first list, what is repeated is repeated after it
 pub behind_first : (xs ys : List (List ℕ)) (i j : ℕ) → AllDiffer xs → RepeatsFirst (xs ++ ys) i j → length xs ≤ j
 behind_first xs ys i j all r =
     ⊎_elim

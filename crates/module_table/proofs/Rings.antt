@@ -27,12 +27,12 @@ filter_map_push : {X Y : Type 0} (h : X → Option Y) (xs : List X) (x : X) → 
 filter_map_push h [] x = refl
 filter_map_push h (y ∷ xs) x = ap (cons_option (h y)) (filter_map_push h xs x) ∙ cons_append (h y) (filter_map h xs) (cons_option (h x) [])
 
--- one more element, where something is made of it
+-- one more element, if something is made of it
 pub takes_some : {X Y : Type 0} (h : X → Option Y) (xs : List X) (i : ℕ) (x : X) (y : Y) (now new : List Y) → slice_get xs i ≡ Some x → now ≡ filter_map h (take i xs) → h x ≡ Some y → new ≡ now ++ y ∷ [] → new ≡ filter_map h (take (i + 1) xs)
 takes_some h xs i x y now new at before is more =
     more ∙ ap (λ ys. ys ++ y ∷ []) before ∙ ap (λ o. filter_map h (take i xs) ++ cons_option o []) (sym is) ∙ sym (ap (filter_map h) (take_next xs i x at) ∙ filter_map_push h (take i xs) x)
 
--- and where nothing is
+-- and if nothing is
 pub takes_none : {X Y : Type 0} (h : X → Option Y) (xs : List X) (i : ℕ) (x : X) (now : List Y) → slice_get xs i ≡ Some x → now ≡ filter_map h (take i xs) → h x ≡ None → now ≡ filter_map h (take (i + 1) xs)
 takes_none h xs i x now at before is =
     before ∙ sym (append-nil (filter_map h (take i xs))) ∙ ap (λ o. filter_map h (take i xs) ++ cons_option o []) (sym is) ∙ sym (ap (filter_map h) (take_next xs i x at) ∙ filter_map_push h (take i xs) x)
@@ -63,7 +63,7 @@ made_by : (o : Option Provision) (p : ℕ) → option_and_then (λ (q : Provisio
 made_by None p e = cc
 made_by (Some q) p e = (q, refl, is_object q.maker p e)
 
--- where an object's module is
+-- the position of an object's module
 module_at : (t : TableValue) (p position : ℕ) (name file : List ℕ) → Provides t p position name file → (m : ℕ) × (slice_get (provisions t) m ≡ Some (record { maker = Object p; name = name; file = file; is_private = false }))
 module_at t p position name file provides = (_, object_provision t p position name file provides)
 

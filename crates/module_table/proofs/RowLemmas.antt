@@ -54,7 +54,7 @@ has_pushed xs y x h = (h.0, in_first xs (y ∷ []) h.0 x h.1)
 pub has_last : {X : Type 0} (xs : List X) (y : X) → Has (xs ++ y ∷ []) y
 has_last xs y = (length xs + 0, in_second xs (y ∷ []) 0 y refl)
 
--- a key is put in, behind its row perhaps an empty one, and an entry into the row
+-- a key is put in, after its row perhaps an empty one, and an entry into the row
 module _ (keys new_keys : List (List ℕ)) (name : List ℕ) (b : Bool) (put : new_keys ≡ cond b keys (keys ++ name ∷ [])) where
   abbrev place : List ℕ → ℕ
   place key = position_or_len (bytes_eq key) keys
@@ -157,7 +157,7 @@ pub at_index : {X : Type 0} (P : X → Type 0) (xs : List X) (i : ℕ) (A : Type
 at_index P xs i A B None e m f = tt
 at_index P xs i A B (Some x) e m f = f x.now (slice_get_read xs _ i x.now refl m.0 e)
 
--- the rows are the old ones, perhaps with one behind them
+-- the rows are the old ones, perhaps with one after them
 pub grown_rows : (rows new : Rows) → (new ≡ rows) ⊎ ((v : Vec (ℕ × ℕ) Global) × (new ≡ rows ++ v ∷ [])) → (n : ℕ) (row : Vec (ℕ × ℕ) Global) → slice_get rows n ≡ Some row → slice_get new n ≡ Some row
 grown_rows rows new (inl same) n row at = ap (λ rs. slice_get rs n) same ∙ at
 grown_rows rows new (inr more) n row at = ap (λ rs. slice_get rs n) more.1 ∙ in_first rows (more.0 ∷ []) n row at

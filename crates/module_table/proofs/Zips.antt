@@ -1,4 +1,4 @@
--- Lists of which each element is beside one of the other.
+-- Lists whose elements have the same indexes as those of the other.
 use Rattle.std.proofs.Common.{◌≡◌, ℕ, zero, suc, ◌+◌, List, [], ◌∷◌, ◌++◌, length, map, take, Some, refl, ap, subst, sym, arith, slice_get}
 use Rattle.std.specs.List.{flat_map, enumerate_from, AllZip}
 use Rattle.ninja_text.proofs.ForCallers.{take_next, same_some}
@@ -30,7 +30,7 @@ zip_flip R [] (y ∷ ys) h = absurd h
 zip_flip R (x ∷ xs) [] h = absurd h
 zip_flip R (x ∷ xs) (y ∷ ys) h = (h.0, zip_flip R xs ys h.1)
 
--- what is beside an element
+-- what has the index of an element
 pub zip_there : {A B : Type 0} (R : A → B → Type 0) (xs : List A) (ys : List B) (k : ℕ) (x : A) → AllZip R xs ys → slice_get xs k ≡ Some x → (y : B) × (slice_get ys k ≡ Some y) × R x y
 zip_there R [] ys k x h at = cc
 zip_there R (z ∷ xs) [] k x h at = absurd h

@@ -57,7 +57,7 @@ RequiredFiles = (t : TableValue) (rule : RuleValue) (k : ℕ) (name : Name) (fil
 abbrev pub AddedOrderable : Type 0
 AddedOrderable = (t : TableValue) → IsSound t → IsOrderable (length t.objects) (AddedNeeds t)
 
--- a file is that of one module of one object at most
+-- a file belongs to at most one module of one object
 abbrev pub FilesOnce : Type 0
 FilesOnce = (t : TableValue) → IsSound t → (o p j k : ℕ) (name other : Name) (file : PathText) →
     Provides t o j name file → Provides t p k other file → (o ≡ p) × (j ≡ k)

@@ -59,7 +59,8 @@ HasPrivate t info name = (index : ℕ) × (entry : ModuleValue) × InfoProvides 
 abbrev pub IsPrivateName : TableValue → Name → Type 0
 IsPrivateName t name = (info : ℕ) × HasPrivate t info name
 
--- the module of that name is private to another target than that of the module that requires it
+-- the module of that name is private, and its target is not the target of the module that requires
+-- it
 abbrev pub IsPrivateElsewhere : TableValue → InfoRequirement → Type 0
 IsPrivateElsewhere t r = (info : ℕ) × HasPrivate t info r.name × (info ≢ r.info)
 
@@ -88,7 +89,7 @@ IsFault t private_names (ObjectTwice path first second) =
     (i : ℕ) × (j : ℕ) × IsFirstRepetition (λ a b. a ≡ b)
     (map (λ rule. rule.object) t.objects) i j path path × (first ≡ Object i)
     × (second ≡ Object j)
--- M2: two infos have one target name
+-- M2: two info files have one target name
 IsFault t private_names (InfoTwice target) =
     (i : ℕ) × (j : ℕ) × IsFirstRepetition (λ a b. a ≡ b)
     (map (λ info. info.target) t.infos) i j target target
@@ -108,11 +109,11 @@ IsFault t private_names (ModuleUnknown name object) =
 IsFault t private_names (InfoUnknown target module_name name) =
     (index : ℕ) × (r : InfoRequirement) × IsFirst (IsInfoUnknown t) (info_requirements t) index r
     × (r.target ≡ target) × (r.module_name ≡ module_name) × (r.name ≡ name)
--- M7: an info's module requires a name with another file than that of the info that provides it
+-- M7: an info's module requires a name with another file than the info that provides it gives
 IsFault t private_names (InfoDisagrees target module_name name) =
     (index : ℕ) × (r : InfoRequirement) × IsFirst (Disagrees t) (info_requirements t) index r
     × (r.target ≡ target) × (r.module_name ≡ module_name) × (r.name ≡ name)
--- M8: objects need each other's modules in a ring
+-- M8: objects need each other's modules in a cycle
 IsFault t private_names (ImportCycle objects) = IsLeastCycle (DependsOn t) objects.items
 -- M9: an object requires a module that is private to the target of an info
 IsFault t private_names (ModulePrivate name info (Object object)) =

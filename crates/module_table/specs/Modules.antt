@@ -1,5 +1,5 @@
--- Who provides and who requires which module. Names and files are texts; objects, infos and what
--- is in a list go by index, from 0.
+-- Who provides and who requires which module. Names and files are texts; objects, info files and
+-- what is in a list go by index, from 0.
 use Rattle.std.specs.Prelude.{◌≡◌, ℕ, Bool, false, List, ◌++◌, map, slice_get, Some, Contains}
 use Rattle.std.specs.List.{flat_map, enumerate_from}
 use Rattle.ninja_text.specs.Bytes.{PathText, Name}
@@ -93,6 +93,6 @@ requirements_of_info info = flat_map (module_requirements info.0 info.1.target) 
 abbrev pub info_requirements_of : List InfoValue → List InfoRequirement
 info_requirements_of infos = flat_map requirements_of_info (enumerate_from 0 infos)
 
--- all requirements of infos' modules: by info, module and index
+-- all requirements of info files' modules: by info, module and index
 abbrev pub info_requirements : TableValue → List InfoRequirement
 info_requirements t = info_requirements_of t.infos

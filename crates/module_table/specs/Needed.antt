@@ -24,11 +24,11 @@ abbrev pub IsNeeded : TableValue → ℕ → Name → PathText → Type 0
 IsNeeded t object name file = (first : Name) × (names : List Name) × Requires t object first
     × Leads t first names name × IsProvided t name file
 
--- The pairs are those of which P holds, in byte order of names.
+-- The pairs are all pairs of which P holds, in byte order of names.
 pub record ArePairs (P : Name → PathText → Type 0) (pairs : List (Name × PathText)) : Type 0 where
   pub each : (name : Name) (file : PathText) → Contains pairs (name, file) ↔ P name file
   pub rising : AllPairs (λ a b. Precedes a.0 b.0) pairs
 
--- the name and the file that are lent
+-- the name and the file that are borrowed
 abbrev pub lent : Bor Name × Bor PathText → Name × PathText
 lent pair = (pair.0.now, pair.1.now)

@@ -1,4 +1,4 @@
--- Which tables have no fault, and which fault is reported of those that have one.
+-- Which tables have no fault, and which fault is reported for the others.
 use Rattle.std.specs.Prelude.{◌≡◌, ℕ, ◌<◌, ◌^◌, List, length, Vec}
 use Rattle.std.specs.declared.alloc.Global.{Global}
 use Rattle.ninja_text.specs.Bytes.{Name}
@@ -18,13 +18,13 @@ SoundHasNoFault = (t : TableValue) (private_names : List Name) →
     IsSound t → PrivateAreProvided t private_names → HasNoFault t private_names
 
 -- A table without a fault is sound, and its objects provide the private names. A fault has objects
--- of a ring in a vector, so they may not be more than a vector holds.
+-- of a cycle in a vector, so they may not be more than a vector holds.
 abbrev pub FaultlessIsSound : Type 0
 FaultlessIsSound = (t : TableValue) (private_names : List Name) →
     length t.objects < 2 ^ 63 → HasNoFault t private_names →
     IsSound t × PrivateAreProvided t private_names
 
--- one fault: what is reported is the same, and of a ring it is the same list of objects
+-- one fault: what is reported is the same, and for a cycle it is the same list of objects
 pub data IsSameFault : TableFault → TableFault → Type 0 where
   same : {fault : TableFault} → IsSameFault fault fault
   same_ring : {ring other : Vec ℕ Global} →

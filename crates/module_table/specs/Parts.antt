@@ -17,7 +17,7 @@ HasModule infos i j m = (value : InfoValue) × (slice_get infos i ≡ Some value
     × (slice_get value.modules j ≡ Some m)
 
 -- The modules have the same name and file and are both private or both public. What m requires, w
--- requires too.
+-- also requires.
 pub record IsAlike (m w : ModuleValue) : Type 0 where
   pub name : m.name ≡ w.name
   pub file : m.file ≡ w.file

@@ -15,13 +15,13 @@ pub record IsSound (t : TableValue) : Type 0 where
   -- no two objects have one path
   pub objects_differ : (o p : ℕ) (a b : RuleValue) → slice_get t.objects o ≡ Some a
       → slice_get t.objects p ≡ Some b → a.object ≡ b.object → o ≡ p
-  -- no two infos have one target name
+  -- no two info files have one target name
   pub infos_differ : (i j : ℕ) (a b : InfoValue) → slice_get t.infos i ≡ Some a
       → slice_get t.infos j ≡ Some b → a.target ≡ b.target → i ≡ j
   -- no name is provided twice
   pub names_differ : (i j : ℕ) (a b : Provision) → slice_get (provisions t) i ≡ Some a
       → slice_get (provisions t) j ≡ Some b → a.name ≡ b.name → i ≡ j
-  -- no file is that of two modules, or of a module and an object
+  -- no file belongs to two modules, or to a module and an object
   pub files_differ : (i j : ℕ) (a b : Claim) → i < j → slice_get (claims t) i ≡ Some a
       → slice_get (claims t) j ≡ Some b → Collides a b → ⊥
   -- what an object requires is provided
@@ -29,7 +29,7 @@ pub record IsSound (t : TableValue) : Type 0 where
   -- what an info's module requires is provided by an info, with the file that it says
   pub infos_known : (i j : ℕ) (m : ModuleValue) (name : Name) (file : PathText)
       → InfoRequires t i j m name file → IsInfoProvided t name file
-  -- no objects need each other's modules in a ring
+  -- no objects need each other's modules in a cycle
   pub acyclic : (cycle : Numbers) → IsCycle (DependsOn t) cycle → ⊥
   pub orderable : IsOrderable (length t.objects) (DependsOn t)
   -- no object requires a module that is private to the target of an info
@@ -39,7 +39,7 @@ pub record IsSound (t : TableValue) : Type 0 where
   pub infos_allowed : (i j info : ℕ) (m : ModuleValue) (name : Name) (file : PathText)
       → InfoRequires t i j m name file → HasPrivate t info name → info ≡ i
 
--- every name that is to be private is one that an object provides
+-- every name that is to be private is provided by an object
 abbrev pub PrivateAreProvided : TableValue → List Name → Type 0
 PrivateAreProvided t private_names =
     (name : Name) → Contains private_names name → (object : ℕ) × (index : ℕ)

@@ -3,11 +3,11 @@ use Rattle.std.specs.Prelude.{List}
 use Rattle.scan_docs.specs.Scan.{RuleValue}
 use Rattle.scan_docs.specs.Info.{InfoValue}
 
--- the objects of a target, and the infos of the targets that it links, both by index
+-- the objects of a target, and the info files of the targets that it links, both by index
 pub record TableValue : Type 0 where
   pub objects : List RuleValue
   pub infos : List InfoValue
 
--- the table of these objects and infos
+-- the table of these objects and info files
 abbrev pub table_with : List RuleValue → List InfoValue → TableValue
 table_with objects infos = record { objects = objects; infos = infos }

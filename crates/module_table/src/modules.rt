@@ -1,5 +1,5 @@
-//! Who provides which module: the modules of a target's objects and of the infos, by index and by
-//! name.
+//! Who provides which module: the modules of a target's objects and of the info files, by index and
+//! by name.
 ghost use Rattle.std.specs.Prelude.{◌≡◌, ◌<◌, ◌++◌, ℕ, map, length, slice_get, Some, IfOk, OnOk, IfSome, IfNone};
 ghost use Rattle.std.specs.List.{flat_map, enumerate_from};
 ghost use Rattle.std.specs.Option.{option_map};

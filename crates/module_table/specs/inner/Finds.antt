@@ -1,5 +1,5 @@
 -- What the checks ask of the modules that they find by name, and which element of a list is the
--- first that is refused.
+-- first that is rejected.
 use Rattle.std.specs.Prelude.{◌≡◌, ◌≢◌, ℕ, ◌<◌, Bool, true, false, not, ◌||◌, List, slice_get, find, bytes_eq, nat_eq, Option, Some, None}
 use Rattle.scan_docs.specs.Scan.{RuleValue}
 use Rattle.module_table.specs.Modules.{Provision, InfoRequirement}
@@ -101,7 +101,7 @@ IsByObject modules name =
 abbrev pub IsNotByObject : List Provision → List ℕ → Type 0
 IsNotByObject modules name = IsByObject modules name → ⊥
 
--- only infos have private modules
+-- only info files have private modules
 abbrev pub ArePrivateByInfos : List Provision → Type 0
 ArePrivateByInfos modules =
     (k : ℕ) (p : Provision) → slice_get modules k ≡ Some p → p.is_private ≡ true → (info : ℕ)
@@ -115,7 +115,7 @@ IsPrivateTo modules name info =
 
 -- ---- in a list
 
--- the first element that is refused, after accepted ones
+-- the first element that is rejected, after accepted ones
 pub record RefusesAt {X : Type 0} (Accepted Refused : X → Type 0) (xs : List X) (index : ℕ)
     : Type 0 where
   pub x : X
@@ -127,7 +127,7 @@ pub record RefusesAt {X : Type 0} (Accepted Refused : X → Type 0) (xs : List X
 pub record AcceptsAll {X : Type 0} (Accepted : X → Type 0) (xs : List X) : Type 0 where
   pub each : (k : ℕ) (y : X) → slice_get xs k ≡ Some y → Accepted y
 
--- the index of the first element that is refused, or none
+-- the index of the first element that is rejected, or none
 abbrev pub FindsRefused : {X : Type 0} → (X → Type 0) → (X → Type 0) → List X → Option ℕ → Type 0
 FindsRefused Accepted Refused xs None = AcceptsAll Accepted xs
 FindsRefused Accepted Refused xs (Some index) = RefusesAt Accepted Refused xs index

@@ -1,4 +1,4 @@
--- What infos' modules require, with the modules of those names.
+-- What info files' modules require, with the modules of those names.
 use Rattle.std.specs.Prelude.{◌≡◌, ℕ, List, map}
 use Rattle.std.specs.Option.{option_map}
 use Rattle.scan_docs.specs.Info.{ModuleValue}
@@ -28,7 +28,8 @@ abbrev pub lookups_of : List Provision → ℕ → List ℕ → ModuleValue → 
 lookups_of modules info target entry =
     map (lookup_of modules info target entry.name) entry.required
 
--- All requirements of infos' modules, each with the module of that name, of which there is one.
+-- All requirements of info files' modules, each with the module of that name, of which there is
+-- one.
 pub record AreLookedUp (t : TableValue) (all : List InfoRequired) : Type 0 where
   pub same : map looked_up all ≡ map (with_module (provisions t)) (info_requirements t)
   pub differ : AllDiffer (names_of (provisions t))

@@ -23,7 +23,7 @@ IsNamedAt objects infos (Object object, index) pair = IsObjectsPair objects obje
 IsNamedAt objects infos (Info info, index) pair = (entry : ModuleValue)
     × IsInfosModule infos info index entry × (entry.name ≡ pair.0) × (entry.file ≡ pair.1)
 
--- the origin is that of one of so many objects, or of a module of these infos
+-- the origin is that of one of that many objects, or of a module of these info files
 abbrev pub IsOriginAmong : ℕ → List InfoValue → Maker × ℕ → Type 0
 IsOriginAmong object_count infos (Object object, index) = object < object_count
 IsOriginAmong object_count infos (Info info, index) = (entry : ModuleValue)

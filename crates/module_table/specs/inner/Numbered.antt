@@ -21,7 +21,7 @@ pub record IsNumbered (t : TableValue) (provided : List Provision) (rows : List 
   pub numbers : map (λ row. map (slice_get (names_of provided)) row) rows
       ≡ map (λ rule. map (λ name. Some name) rule.required) t.objects
 
--- the object, where the maker is one
+-- the object, if the producer is one
 abbrev pub object_of : Maker → Option ℕ
 object_of (Object object) = Some object
 object_of (Info info) = None

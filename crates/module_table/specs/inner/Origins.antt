@@ -1,4 +1,4 @@
--- Where each provided module is.
+-- The position of each provided module.
 use Rattle.std.specs.Prelude.{ℕ, List, ◌++◌, map}
 use Rattle.std.specs.List.{flat_map, enumerate_from}
 use Rattle.scan_docs.specs.Scan.{RuleValue}
@@ -8,7 +8,7 @@ use Rattle.module_table.specs.declared.fault.Maker.{Maker}
 use Rattle.module_table.specs.declared.fault.Maker.TheVariants.{Object, Info}
 use Rattle.module_table.specs.declared.modules.Module.{Module}
 
--- who provides a module, and at which index among its maker's
+-- who provides a module, and at which index among its producer's
 abbrev pub Origin : Type 0
 Origin = Maker × ℕ
 

@@ -142,7 +142,7 @@ fn is_allowed(required: &InfoRequired) -> bool
     }
 }
 
-/// Returns whether the maker is the info file of this index.
+/// Returns whether the producer is the info file of this index.
 fn is_info_at(maker: Maker, index: usize) -> bool
     ensures { result ≡ is_info_at maker index }
 {

@@ -1,4 +1,4 @@
-//! M1 to M4: what is twice among the paths of objects, the targets of infos, the names of
+//! M1 to M4: what is twice among the paths of objects, the targets of info files, the names of
 //! modules and the files.
 ghost use Rattle.std.specs.Prelude.{◌≡◌, ◌<◌, ◌+◌, ◌++◌, ℕ, List, map, length, slice_get, Some, IfOk, IfErr, IfSome, IfNone, OnOk};
 ghost use Rattle.ninja_text.specs.Bytes.{Name};

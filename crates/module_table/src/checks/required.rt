@@ -1,4 +1,5 @@
-//! M5 to M7: what is required is provided. M5 speaks of objects, M6 and M7 of the modules of infos.
+//! M5 to M7: what is required is provided. M5 speaks of objects, M6 and M7 of the modules of info
+//! files.
 ghost use Rattle.std.specs.Prelude.{◌≡◌, ℕ, List, map, slice_get, Some, IfOk, IfErr, OnOk};
 ghost use Rattle.ninja_text.specs.Bytes.{Name};
 ghost use Rattle.ninja_text.specs.Failure.{ForFault};

@@ -39,7 +39,7 @@ pub check_files-requires-clause-differ : goal.check_files-requires-clause-differ
 check_files-requires-clause-differ c =
     subst (λ (t : TableValue). AllDiffer (map (λ (rule : RuleValue). rule.object) t.objects)) (sym c.in_ok-modules.ensures.modules) c.in_ok-check_objects.ensures.differ
 
--- the checks of objects, infos and names have passed for what the modules are
+-- the checks of objects, info files and names have passed for what the modules are
 three_passed : (t u : TableValue) → u ≡ t → AllDiffer (map (λ (rule : RuleValue). rule.object) t.objects) → AllDiffer (map (λ info. info.target) t.infos) → AllDiffer (names_of (provisions u)) → (kept : List (List ℕ)) → Passed 4 u kept
 three_passed t u same objects infos names kept =
     subst (λ v. Passed 4 v kept) (sym same)

@@ -13,7 +13,7 @@ use Rattle.module_table.proofs.checks.repeated.check_files.Goals as goal
 abbrev object_of : RuleValue → List ℕ
 object_of rule = rule.object
 
--- what is repeated behind the paths is the file of a module
+-- what is repeated after the paths is the file of a module
 module_within : (paths : List (List ℕ)) (provided : List Module) (first i : ℕ) → RepeatsFirst (paths ++ files_of (map provision_of provided)) first (length paths + i) → i < length provided
 module_within paths provided first i r =
     let files = files_of (map provision_of provided) in

@@ -42,6 +42,6 @@ pub returns-in-Ok-clause-no_fault : goal.returns-in-Ok-clause-no_fault
 returns-in-Ok-clause-no_fault c =
     rw c.new.ensures (subst (λ u. HasNoFault u c.args.kept.now) (same_table _ _ _ _ c.as_slice-3.ensures.value c.as_slice-4.ensures.value) c.in-Ok.ensures.no_fault)
 
--- said here, so that a body which does something else is refused soon
+-- said here, so that a body which does something else is rejected soon
 pub returns-in-Err-Fault-clause-given : goal.returns-in-Err-Fault-clause-given
 returns-in-Err-Fault-clause-given c = refl
