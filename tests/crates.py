@@ -18,7 +18,7 @@ PICTURE = re.compile(r"(?<=^```mermaid\n).*?(?=^```$)", re.M | re.S)
 
 def uses(text):
     """The repository's crates that each crate uses, in the order of crates.txt."""
-    lines = [line.split(":") for line in text.splitlines()]
+    lines = [line.split(":") for line in text.replace(" staticlib:", ":").splitlines()]
     crates = [name for name, _ in lines]
     return {name: [one for one in crates if one in used.split()] for name, used in lines}
 

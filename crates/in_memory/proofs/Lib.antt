@@ -1,0 +1,5 @@
+mod Cuts
+mod Folders
+mod Histories
+mod Replies
+mod StatementLists

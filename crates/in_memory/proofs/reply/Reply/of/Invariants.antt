@@ -1,0 +1,12 @@
+use Rattle.std.proofs.Common.{◌≡◌, ◌∷◌, ◌++◌, length, take, map}
+use Rattle.std.specs.List.{flat_map}
+use Rattle.commands.specs.Answers.{file_value}
+use Rattle.in_memory.specs.Replies.{file_numbers, file_text}
+use Rattle.in_memory.proofs.reply.Reply.of.Given as goal
+
+-- the parts of the files so far
+abbrev pub invariant-loop-file : goal.invariant-loop-file
+invariant-loop-file l =
+    let files = map file_value (take l.file-index l.file-items) in
+    (l.numbers.items ≡ length l.answer.out.items ∷ length l.answer.err.items ∷ flat_map file_numbers files)
+    × (l.text.items ≡ l.answer.out.items ++ l.answer.err.items ++ flat_map file_text files)

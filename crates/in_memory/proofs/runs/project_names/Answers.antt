@@ -1,0 +1,15 @@
+use Rattle.std.proofs.Common.{rules, subst}
+use Rattle.ninja_text.specs.Failure.{ForFault}
+use Rattle.scan_docs.specs.Document.{IsRefused}
+use Rattle.scan_docs.specs.ProjectChecks.{project_checks}
+use Rattle.in_memory.specs.Runs.{accepted, rejected}
+use Rattle.in_memory.proofs.runs.project_names.Goals as goal
+
+pub returns-in-Ok : goal.returns-in-Ok
+returns-in-Ok c = accepted c.in-Ok.project c.in-Ok.ensures.accepted (search rules)
+
+pub returns-in-Err-Fault : goal.returns-in-Err-Fault
+returns-in-Err-Fault c =
+    rejected c.in-Err-Fault.field-0-0
+    (subst (ForFault (IsRefused project_checks c.args.document.now)) c.in-Err-Fault.field-0-is c.in-Err-Fault.ensures.refused)
+    c.new.ensures.items

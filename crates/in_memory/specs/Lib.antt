@@ -1,0 +1,12 @@
+pub mod Cuts
+pub mod Given
+pub mod Replies
+pub mod Runs
+pub mod Statements
+pub mod inner
+pub use Rattle.commands.specs.CollateCommand
+pub use Rattle.commands.specs.Effect
+pub use Rattle.commands.specs.One
+pub use Rattle.commands.specs.Order
+pub use Rattle.commands.specs.ProjectCommand
+pub use Rattle.commands.specs.Show

@@ -1,0 +1,72 @@
+-- The statements of a dyndep file, as numbers and a text, and what is reported of a faulty one.
+use Rattle.std.specs.Prelude.{◌≡◌, ℕ, List, [], ◌∷◌, ◌++◌, length, map}
+use Rattle.std.specs.List.{flat_map}
+use Rattle.dep_order.specs.Numbers.{Numbers}
+use Rattle.ninja_text.specs.Bytes.{Text, PathText}
+use Rattle.dyndep_file.specs.FaultTexts.{line_fault_text, read_fault_text}
+use Rattle.dyndep_file.specs.Reading.{HasReadFault, StandsFor}
+use Rattle.dyndep_file.specs.StatementValue.{StatementValue}
+use Rattle.dyndep_file.specs.declared.fault.ReadFault.{ReadFault}
+use Rattle.dyndep_file.specs.declared.fault.ReadFault.TheVariants.{AtLine, Io}
+use Rattle.in_memory.specs.Replies.{ReplyValue, as_number}
+
+-- a reply with this number after its numbers
+abbrev pub after_number : ReplyValue → ℕ → ReplyValue
+after_number reply number = record {
+  status = reply.status;
+  numbers = reply.numbers ++ number ∷ [];
+  text = reply.text;
+}
+
+-- a reply with the lengths of these paths after its numbers, and the paths after its text
+abbrev pub after_paths : ReplyValue → List PathText → ReplyValue
+after_paths reply paths = record {
+  status = reply.status;
+  numbers = reply.numbers ++ map length paths;
+  text = reply.text ++ flat_map (λ path. path) paths;
+}
+
+-- the paths of a statement: its output, its implicit outputs, and its implicit inputs
+abbrev pub statement_paths : StatementValue → List PathText
+statement_paths s = s.output ∷ s.implicit_outputs ++ s.implicit_inputs
+
+-- The numbers of a statement: whether it has `restat`, how many implicit outputs and implicit inputs
+-- it has, and the lengths of its paths.
+abbrev pub statement_numbers : StatementValue → Numbers
+statement_numbers s =
+    as_number s.restat ∷ length s.implicit_outputs ∷ length s.implicit_inputs
+    ∷ map length (statement_paths s)
+
+-- a reply with a statement after it
+abbrev pub after_statement : ReplyValue → StatementValue → ReplyValue
+after_statement reply s = record {
+  status = reply.status;
+  numbers = reply.numbers ++ statement_numbers s;
+  text = reply.text ++ flat_map (λ path. path) (statement_paths s);
+}
+
+-- the reply that has these statements, one after another
+abbrev pub statements_reply : List StatementValue → ReplyValue
+statements_reply statements = record {
+  status = 0;
+  numbers = flat_map statement_numbers statements;
+  text = flat_map (λ s. flat_map (λ path. path) (statement_paths s)) statements;
+}
+
+-- the reply that has the line of a fault, counted from 1, and its code and name
+abbrev pub fault_reply : ReadFault → ReplyValue
+fault_reply (AtLine line fault) =
+    record { status = 1; numbers = line ∷ []; text = line_fault_text fault }
+fault_reply Io = record { status = 1; numbers = []; text = read_fault_text Io }
+
+-- the fault is the one that the text has as a dyndep file
+abbrev pub IsFaultOf : Text → ReadFault → Type 0
+IsFaultOf text (AtLine line fault) = HasReadFault text (record { line = line; fault = fault })
+IsFaultOf text Io = ⊥
+
+-- What is reported of a dyndep file: the statements that it stands for, or its fault.
+pub data Tells (text : Text) (reply : ReplyValue) : Type 0 where
+  stands : (statements : List StatementValue) → StandsFor text statements →
+      reply ≡ statements_reply statements → Tells text reply
+  faulty : (fault : ReadFault) → IsFaultOf text fault → reply ≡ fault_reply fault →
+      Tells text reply
