@@ -98,7 +98,7 @@ pub record Gained (tables : List TableValue) (g new : List EdgeValue) : Type 0 w
       slice_get new i ≡ Some (with_modules e rule.provided (required_of t rule))
   pub each : (i : ℕ) (e : EdgeValue) → slice_get g i ≡ Some e → (slice_get new i ≡ Some e) ⊎ IsOfObject tables e
 
--- one edge needs another where it reads a file that the other makes
+-- one edge needs another if it reads a file that the other makes
 needs_by : (g : List EdgeValue) (i maker : ℕ) (file : List ℕ) → IsReader g i file → IsMaker g maker file → EdgeNeeds g i maker
 needs_by g i maker file reader makes = (reader.0, file, makes.0, reader.1, reader.2, makes.1)
 

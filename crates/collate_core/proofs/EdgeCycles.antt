@@ -1,4 +1,4 @@
--- No false rebuild and no false cycle, where no wait is false.
+-- No false rebuild and no false cycle, if no wait is false.
 use Rattle.ninja_text.proofs.ForCallers.{element_at, choose, same_some, from_map, to_map}
 use Rattle.std.proofs.Common.{◌≡◌, ◌⊎◌, ℕ, zero, suc, ◌<◌, Bool, true, false, List, [], ◌∷◌, length, Option, Some, None, Contains, get_or, refl, ap, subst, sym, ◌∙◌, inl, inr, arith, slice_get, bytes_eq, true≢false}
 use Rattle.std.proofs.lemmas.Bool.{cases_lt}
@@ -112,7 +112,7 @@ row_there (row ∷ rows) (suc i) k less = row_there rows i k less
 abbrev IsRow : (ℕ → ℕ → Type 0) → ℕ → ℕ → List ℕ → Type 0
 IsRow Needs count i row = AreThose (Needs i) count row
 
--- where no cycle is, what can be decided can be ordered
+-- if there is no cycle, what can be decided can be ordered
 ordered : (count : ℕ) (Needs : ℕ → ℕ → Type 0) → AreWithin count Needs → ((i j : ℕ) → Decided (Needs i j)) → ((cycle : List ℕ) → IsCycle Needs cycle → ⊥) → IsOrderable count Needs
 ordered count Needs within decide acyclic =
     by (choose (IsRow Needs count) count (λ i less. those (Needs i) (decide i) count))
@@ -138,7 +138,7 @@ ordered count Needs within decide acyclic =
             let inside = contained (get_or rows i d) k (get_or (get_or rows i d) k c) (slice_get-get_or (get_or rows i d) k c less_k) in
             omega (arith, many, ((are i (get_or rows i d) (slice_get-get_or rows i d less)).0 (get_or (get_or rows i d) k c) inside).1)
 
--- ---- chains and cycles, where each need has a reason and each reason is a need
+-- ---- chains and cycles, if each need has a reason and each reason is a need
 
 module _ (tables : List TableValue) (g new : List EdgeValue) (waits : HasNoFalseWait tables g new) where
   pub same_chains : HasSameChains tables g new

@@ -1,4 +1,4 @@
--- What edges wait for, on a small build whose answers are known.
+-- What edges wait for, on a small build whose results are known.
 use Rattle.ninja_text.proofs.ForCallers.{same_some}
 use Rattle.std.proofs.Common.{◌≡◌, ℕ, zero, suc, ◌<◌, List, [], ◌∷◌, Some, None, codes, refl, ap, subst, sym, ◌∙◌, inl, inr, arith, slice_get, Contains, bytes_eq, false, true≢false}
 use Rattle.std.proofs.lemmas.Slice.Eq.{bytes_eq-Decides}
@@ -124,7 +124,7 @@ b_not_for_a new (inr (listed {file} reader (t, o, k, name, inside, is_edge, prov
         let mine : IsEdgeOf before 0 two_objects (suc (suc o)) = subst (λ (u : TableValue). IsEdgeOf before 0 u (suc (suc o))) (sym same) edge_at in
         nothing mine.0 mine.1
 
--- ---- graphs that are refused
+-- ---- graphs that are rejected
 
 -- an input too many is a false wait
 false_wait : HasNoFalseWait tables before (with_inputs (codes "B.bmi" ∷ []) (codes "A.bmi" ∷ [])) → ⊥

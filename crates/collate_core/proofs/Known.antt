@@ -1,4 +1,4 @@
--- What the infos of a project's targets are read as: one more target.
+-- What the info files of a project's targets are read as: one more target.
 use Rattle.ninja_text.proofs.ForCallers.{from_push}
 use Rattle.std.proofs.Common.{◌≡◌, ℕ, List, ◌∷◌, [], ◌++◌, length, Option, Some, None, IfSome, subst, sym, inl, inr, arith, length-append, ◌⊎◌, ◌<◌}
 use Rattle.std.specs.Prelude.{slice_get}

@@ -1,4 +1,4 @@
--- What the infos of a project's tables are.
+-- What the info files of a project's tables are.
 use Rattle.ninja_text.proofs.ForCallers.{element_at, from_map, to_map, same_some}
 use Rattle.std.proofs.Common.{◌≡◌, ℕ, ◌<◌, List, [], length, map, Option, Some, refl, ap, subst, sym, ◌∙◌, arith, slice_get, Contains}
 use Rattle.std.specs.Option.{option_map_or}

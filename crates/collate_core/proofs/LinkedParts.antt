@@ -1,4 +1,4 @@
--- A part of what is known of linked infos is enough for the target that links them.
+-- A part of what is known of linked info files is enough for the target that links them.
 use Rattle.ninja_text.proofs.ForCallers.{element_at}
 use Rattle.std.proofs.Common.{◌≡◌, ℕ, zero, suc, ◌<◌, List, [], ◌∷◌, map, Option, Some, None, length, get_or, refl, ap, ap₂, subst, sym, arith, Bool, IsTrue}
 use Rattle.std.specs.Prelude.{slice_get, All, IfSome}
@@ -53,7 +53,7 @@ module _ (outs : List CollatedValue) (known : List (Option InfoValue)) (are : Ar
         text = all_cons IsInfoText info infos one.text rest.text;
       }
 
--- the paths of a part are paths of the infos
+-- the paths of a part are paths of the info files
 module _ (part infos : List InfoValue) (is : IsPartOf part infos) (text : All IsInfoText infos) where
   module_text : (i j : ℕ) (m : ModuleValue) → HasModule part i j m → IsModuleText m
   module_text i j m has =
@@ -69,7 +69,8 @@ module _ (part infos : List InfoValue) (is : IsPartOf part infos) (text : All Is
   part_text : All IsInfoText part
   part_text = all_from IsInfoText part (λ i value at. all_from IsModuleText value.modules (λ j m here. module_text i j m (value, at, here)))
 
--- the table of a target's objects and of a part that is enough of the known infos that it links
+-- the table of a target's objects and of a part that is enough of the known info files that it
+-- links
 pub enough_for_target : (style : Option Written) (target : TargetValue) (outs : List CollatedValue) (known : List (Option InfoValue)) (linked : List ℕ) (objects : List RuleValue) (part infos : List InfoValue) → AreKnown outs known → All (λ k. k < length outs) linked →
     target.infos ≡ linked_infos outs linked → AreScansAccepted target.setting target.scans → objects ≡ all_rules target.setting target.scans → All IsRuleText objects →
     AreLinked known linked infos → IsEnough objects part infos → IfSome style (λ _. KeepsRequired part infos) → IsEnoughFor target style (table_with objects part)
@@ -83,7 +84,7 @@ enough_for_target style target outs known linked objects part infos are earlier 
       text = record { objects = text; infos = part_text part infos enough.is_part read.text };
     }
 
--- a part keeps what its modules require where there is a style
+-- a part keeps what its modules require if there is a style
 pub keeps_for_style : {S : Type 0} (style : Option (Bor S)) (written : S → Written) (keeps : Bool) (part infos : List InfoValue) → keeps ≡ is_some style → (IsTrue keeps → KeepsRequired part infos) → IfSome (option_map written (option_copied style)) (λ _. KeepsRequired part infos)
 keeps_for_style None written keeps part infos is h = tt
 keeps_for_style (Some s) written keeps part infos is h = h (subst IsTrue (sym is) refl)

@@ -13,7 +13,7 @@ all_at P xs k x all here = subst P (get_or_from_slice_get xs k x x here) (All-ge
 pub flat_map_last : {A B : Type 0} (f : A → List B) (xs : List A) (x : A) → flat_map f (xs ++ x ∷ []) ≡ flat_map f xs ++ f x
 flat_map_last f xs x = flat_map-append f xs (x ∷ []) ∙ ap (λ ys. flat_map f xs ++ ys) (append-nil (f x))
 
--- lists whose elements stand in a relation that is a function
+-- lists whose elements are in a relation that is a function
 pub zip_map : {A B : Type 0} (R : A → B → Type 0) (f : A → B) → ((a : A) (b : B) → R a b → b ≡ f a) → (xs : List A) (ys : List B) → AllZip R xs ys → ys ≡ map f xs
 zip_map R f same [] [] h = refl
 zip_map R f same [] (y ∷ ys) h = absurd h

@@ -25,7 +25,7 @@ at_last xs x k y is e = elim (from_push xs x k y e) [ inl h ↦ absurd (let with
 abbrev pub bytes_at : List CollatedValue → ℕ → List ℕ
 bytes_at outs k = option_map_or (λ (c : CollatedValue). c.info) (slice_get outs k) []
 
--- what a target wrote stays where more targets follow
+-- what a target wrote stays if more targets follow
 same_bytes : (outs more : List CollatedValue) (k : ℕ) → k < length outs → bytes_at (outs ++ more) k ≡ bytes_at outs k
 same_bytes outs more k within =
     let c : (x : CollatedValue) × (slice_get outs k ≡ Some x) = element_at outs k within in
@@ -68,7 +68,7 @@ module _ (style : Option Written) (targets : List ProjectTargetValue) (outs : Li
     each = λ n q d at at_d. each_more n q d (from_push targets p n q at) at_d;
   }
 
--- a style, where one is given, reads the maps back
+-- a style, if one is given, reads the maps back
 pub maps_of_style : {S : Type 0} (o : Option S) (written : S → Written) (kept : S → ModuleMapValue → List MapEntry) (entries : S → List ℕ → Result (List MapEntry) MapFault) →
     ((s : S) → AreStyleLaws (written s) (kept s) (entries s)) → ProjectMaps → (targets : List ProjectTargetValue) (outs : List CollatedValue) → CollatesProject (option_map written o) targets outs →
     IfSome o (λ s. MapsReadBack (entries s) targets (project_tables targets outs) outs)
@@ -78,7 +78,7 @@ maps_of_style (Some s) written kept entries laws maps targets outs project = map
 pub map_push : {A B : Type 0} (f : A → B) (xs : List A) (x : A) (ys : List B) (y : B) → ys ≡ map f xs → y ≡ f x → ys ++ y ∷ [] ≡ map f (xs ++ x ∷ [])
 map_push f xs x ys y e h = rw (map-append, e, h) refl
 
--- the refusal of a target whose predecessors all collate is that of the project
+-- the rejection of a target whose predecessors all collate is that of the project
 pub refused_here : (style : Option Written) (targets : List ProjectTargetValue) (n : ℕ) (outs : List CollatedValue) (p : ProjectTargetValue) → CollatesProject style (take n targets) outs → slice_get targets n ≡ Some p →
     (refusal : Refusal) → IsLinkedRefusal style outs (length outs) p refusal → IsProjectRefusal style targets n refusal
 refused_here style targets n outs p project at refusal h =

@@ -78,7 +78,7 @@ module _ (required : RequiredFiles) (all_required : AllRequired) (one_file : One
       let found = in_flat_map (modules_of kept) (tasks_of u) q j (module_of kept x.1 pair) (x, at, to_map (module_of kept x.1) x.0.provided j pair here) in
       (offset (modules_of kept) (tasks_of u) q + j, subst (λ (v : InfoValue). slice_get v.modules (offset (modules_of kept) (tasks_of u) q + j) ≡ Some (module_of kept x.1 pair)) is found)
 
-  -- an info's module of a table is one that an object of the linked target provides
+  -- an info's module of a table is provided by an object of the linked target
   from_info : (n i j : ℕ) (t : TableValue) (m : ModuleValue) → slice_get tables n ≡ Some t → InfoProvides t i j m →
       (k : ℕ) × (u : TableValue) × (q : ℕ) × (rule : RuleValue) × (slice_get tables k ≡ Some u) × (slice_get u.objects q ≡ Some rule) × Gives n k q m.name m.file × (m.required ≡ required_of u rule)
   from_info n i j t m at provides =

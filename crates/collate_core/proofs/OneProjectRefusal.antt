@@ -1,4 +1,4 @@
--- A project has one refusal at most.
+-- A project has one rejection at most.
 use Rattle.ninja_text.proofs.ForCallers.{same_some, three_ways}
 use Rattle.std.proofs.Common.{◌≡◌, ℕ, ◌<◌, ◌≤◌, List, length, take, Option, subst, sym, ◌∙◌, inl, inr, arith}
 use Rattle.std.proofs.lemmas.List.{length-take-le}
@@ -16,14 +16,14 @@ use Rattle.collate_core.proofs.OneRefusal.{equal, one_refusal}
 use Rattle.collate_core.proofs.ProjectOutcomes.{up_to, targets_agree, project_not_refused}
 
 module _ (answers : OneAnswer) (one_fault : OneTableFault) (style : Option Written) (targets : List ProjectTargetValue) where
-  -- the first refused target is so among those before a later one, which all collate
+  -- the first rejected target is so among those before a later one, which all collate
   later : (n m : ℕ) (refusal other : Refusal) → n < m → IsProjectRefusal style targets n refusal → IsProjectRefusal style targets m other → ⊥
   later n m refusal other less (outs, p, project, at, refused) (others, q, part, at_q, refused_q) =
       let first : IsProjectRefusal style (take m targets) n refusal =
       (outs, p, subst (λ (xs : List ProjectTargetValue). CollatesProject style xs outs) (sym (take_less n m targets (omega arith))) project, in_take targets m n p at less, refused) in
       project_not_refused answers style (take m targets) others n refusal part first
 
-  -- the refusals of one target with the infos that the same earlier targets wrote are one
+  -- the rejections of one target with the info files that the same earlier targets wrote are one
   linked : (n : ℕ) (p : ProjectTargetValue) (outs others : List CollatedValue) (refusal other : Refusal) → n ≤ length targets → CollatesProject style (take n targets) outs → CollatesProject style (take n targets) others
       → IsLinkedRefusal style outs n p refusal → IsLinkedRefusal style others n p other → IsSameRefusal refusal other
   linked n p outs others refusal other inside project part (inl (later, is)) (inl (later_q, is_q)) = equal refusal other (is ∙ sym is_q)

@@ -1,4 +1,4 @@
--- A target has one refusal at most.
+-- A target has one rejection at most.
 use Rattle.ninja_text.proofs.ForCallers.{same_some, three_ways}
 use Rattle.std.proofs.Common.{◌≡◌, ℕ, ◌+◌, ◌<◌, ◌⊎◌, List, length, take, Some, None, Err, ap, ap₂, subst, sym, ◌∙◌, inl, inr, arith, slice_get}
 use Rattle.std.specs.Prelude.{All}
@@ -24,7 +24,7 @@ use Rattle.collate_core.specs.declared.fault.Refusal.TheVariants.{Scan, Info, Ta
 use Rattle.collate_core.proofs.Lists.{in_take, take_less}
 use Rattle.collate_core.proofs.Outcomes.{OneAnswer, no_scan, no_info, no_map_fault, one_map}
 
--- equal refusals are one
+-- equal rejections are one
 pub equal : (refusal other : Refusal) → refusal ≡ other → IsSameRefusal refusal other
 equal refusal other e = subst (IsSameRefusal refusal) e same_refusal
 
@@ -64,7 +64,7 @@ module _ (answers : OneAnswer) (one_fault : OneTableFault) where
     ]
   ]
 
-  -- ---- infos
+  -- ---- info files
 
   info_later : (infos : List (List ℕ)) (i j : ℕ) (fault other : DocFault) → i < j → IsInfoRefusal infos i fault → IsInfoRefusal infos j other → ⊥
   info_later infos i j fault other less r q =
@@ -108,9 +108,9 @@ module _ (answers : OneAnswer) (one_fault : OneTableFault) where
     ]
   ]
 
-  -- ---- all refusals
+  -- ---- all rejections
 
-  -- with accepted scan documents, none of them is refused
+  -- with accepted scan documents, none of them is rejected
   scan_excluded : {X : Type 0} (target : TargetValue) (i : ℕ) (fault : DocFault) → AreScansAccepted target.setting target.scans → IsScanRefusal target.setting target.scans i fault → X
   scan_excluded target i fault all r = absurd (no_scan answers target.setting target.scans i fault all r r.faulty)
 

@@ -1,4 +1,4 @@
--- A target that collates has no refusal.
+-- A target that collates has no rejection.
 use Rattle.ninja_text.proofs.ForCallers.{element_at, take_next}
 use Rattle.std.proofs.Common.{◌≡◌, ℕ, ◌+◌, ◌<◌, List, ◌++◌, length, take, get_or, Some, None, Ok, Err, ap, ap₂, sym, ◌∙◌, inl, inr, arith, slice_get, length-append}
 use Rattle.std.specs.Prelude.{All}
@@ -33,7 +33,7 @@ pub one_map : (t : TableValue) (o : ℕ) (rule : RuleValue) (m n : ModuleMapValu
 one_map t o rule m n p q =
     ap₂ (λ a b. record { provided = a; needed = b }) (p.provided ∙ sym q.provided) (one_list_of_pairs (IsNeeded t o) m.needed n.needed p.needed q.needed)
 
--- ---- refusals
+-- ---- rejections
 
 -- documents have one answer at most
 pub record OneAnswer : Type 0 where
@@ -41,7 +41,7 @@ pub record OneAnswer : Type 0 where
   pub info : (bytes : List ℕ) → HasOneAnswer info_checks IsInfo bytes
 
 module _ (answers : OneAnswer) where
-  -- accepted scan documents have no refusal
+  -- accepted scan documents have no rejection
   pub no_scan : (s : SettingValue) (scans : List (List ℕ)) (i : ℕ) (fault : DocFault) → AreScansAccepted s scans → (r : IsScanRefusal s scans i fault) → IsScanFault s scans i r.scan fault → ⊥
   no_scan s scans i fault all r (inl refused) = (answers.scan s r.scan).not_both (rules_of s r.scan) fault (all_at (IsScanAccepted s) scans i r.scan all.each r.here) refused
   no_scan s scans i fault all r (inr (accepted, past, is)) =
@@ -55,7 +55,7 @@ module _ (answers : OneAnswer) where
   pub no_info : (infos : List (List ℕ)) (i : ℕ) (fault : DocFault) → All IsInfoAccepted infos → IsInfoRefusal infos i fault → ⊥
   no_info infos i fault all r = (answers.info r.info).not_both (info_of r.info) fault (all_at IsInfoAccepted infos i r.info all r.here) r.faulty
 
-  -- a map that is written is not refused
+  -- a map that is written is not rejected
   pub no_map_fault : (t : TableValue) (written : Written) (o : ℕ) (rule : RuleValue) (fault : MapFault) → IsMapWritten t written o rule → IsMapFault t written o rule fault → ⊥
   no_map_fault t written o rule fault good bad =
       let both : Ok good.0 ≡ Err fault = sym good.1.2 ∙ ap written (one_map t o rule good.1.0 bad.0 good.1.1 bad.1) ∙ bad.2 in

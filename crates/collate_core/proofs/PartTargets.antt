@@ -1,4 +1,4 @@
--- What a target collates to, by the table of a part of its infos.
+-- What a target collates to, by the table of a part of its info files.
 use Rattle.std.proofs.Common.{◌≡◌, ℕ, List, map, Option, Some, None, Ok, refl, ap, subst}
 use Rattle.std.specs.Prelude.{All, IfSome}
 use Rattle.std.specs.List.{flat_map}
@@ -38,7 +38,7 @@ module _ (target : TargetValue) (part : List InfoValue) where
   abbrev t : TableValue
   t = table_of target
 
-  -- its table with the part in place of the infos
+  -- its table with the part in place of the info files
   abbrev u : TableValue
   u = table_with t.objects part
 

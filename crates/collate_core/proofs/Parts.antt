@@ -50,7 +50,7 @@ pub built_resolved : {E : Type 0} (target : TargetValue) (read : TableValue) (bu
 built_resolved target read (Ok t) same documents table no_fault sound kept = resolved target t (table ∙ same) documents no_fault sound kept
 built_resolved target read (Err e) same documents table no_fault sound kept = tt
 
--- a refusal of a document is one whatever the style, and needs nothing of what was read
+-- a rejection of a document is one whatever the style, and needs nothing of what was read
 pub document_refused : (target : TargetValue) (refusal : Refusal) → IsDocumentRefusal target refusal → (style : Option Written) → IsRefusal target style refusal
 document_refused target (Scan i fault) h style = h
 document_refused target (Info i fault) h style = h
@@ -72,7 +72,7 @@ pub any_style : (target : TargetValue) (style : Option Written) (failure : Failu
 any_style target style Memory h = tt
 any_style target style (Fault refused) h = h style
 
--- of the table of the target's documents, whatever the refusal
+-- of the table of the target's documents, whatever the rejection
 pub table_read : (target : TargetValue) (refusal : Refusal) (read : TableValue) → read ≡ table_of target → WasRead target refusal read
 table_read target (Scan i fault) read h = tt
 table_read target (Info i fault) read h = tt
@@ -81,7 +81,7 @@ table_read target (StatementTooLong k) read h = tt
 table_read target (Map o fault) read h = h
 table_read target LinkedLater read h = tt
 
--- a refusal of the statements' build lines needs nothing of what was read
+-- a rejection of the statements' build lines needs nothing of what was read
 pub write_read : (target : TargetValue) (ss : List StatementValue) (refusal : Refusal) → IsWriteRefusal ss refusal → (read : TableValue) → WasRead target refusal read
 write_read target ss (Scan i fault) h read = absurd h
 write_read target ss (Info i fault) h read = absurd h
@@ -151,7 +151,7 @@ map_before t written texts object count each p earlier less here =
     let x : (text : List ℕ) × (slice_get (map (λ (m : Vec ℕ Global). m.items) texts) p ≡ Some text) = element_at (map (λ (m : Vec ℕ Global). m.items) texts) p (omega (arith, less, count, length-map texts (λ (m : Vec ℕ Global). m.items))) in
     (x.0, each p earlier x.0 here x.1)
 
--- the first map that is refused is that of this object, where those before are written
+-- the first map that is rejected is that of this object, if those before are written
 pub object_refused : (t : TableValue) (written : Written) (texts : List (Vec ℕ Global)) (object : ℕ) → length texts ≡ object → EachMap t written (map (λ m. m.items) texts) → object < length t.objects →
     (failure : Failure Refusal) → ForFault (IsObjectRefusal t written object) failure → ForFault (IsMapsRefusal t (Some written)) failure
 object_refused t written texts object count each within Memory h = tt

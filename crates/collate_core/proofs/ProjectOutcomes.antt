@@ -1,4 +1,4 @@
--- A project whose targets all collate has no refusal.
+-- A project whose targets all collate has no rejection.
 use Rattle.ninja_text.proofs.ForCallers.{element_at, three_ways}
 use Rattle.std.proofs.Common.{◌≡◌, ℕ, zero, suc, ◌<◌, ◌≤◌, List, [], ◌∷◌, length, take, Option, Some, refl, ap, subst, sym, ◌∙◌, inl, inr, arith, slice_get}
 use Rattle.std.specs.Prelude.{All}
@@ -17,7 +17,7 @@ use Rattle.collate_core.proofs.Lists.{in_take}
 use Rattle.collate_core.proofs.Outcomes.{OneAnswer, not_refused}
 use Rattle.collate_core.proofs.LoopLemmas.{bytes_at}
 
--- the infos are the same where the linked targets wrote the same
+-- the info files are the same if the linked targets wrote the same
 infos_agree : (outs others : List CollatedValue) (bound : ℕ) → ((k : ℕ) → k < bound → bytes_at outs k ≡ bytes_at others k) → (linked : List ℕ) → All (λ k. k < bound) linked → linked_infos outs linked ≡ linked_infos others linked
 infos_agree outs others bound same [] all = refl
 infos_agree outs others bound same (k ∷ ks) all =

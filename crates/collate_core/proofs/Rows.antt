@@ -1,4 +1,4 @@
--- The definitions on tables whose statements and infos are known.
+-- The definitions on tables whose statements and info files are known.
 use Rattle.std.proofs.Common.{◌≡◌, ℕ, List, [], ◌∷◌, codes, refl, true, false}
 use Rattle.dyndep_file.specs.Writing.{dyndep_text}
 use Rattle.module_table.specs.TableValue.{TableValue}

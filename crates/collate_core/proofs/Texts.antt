@@ -1,4 +1,4 @@
--- The info of a table: its paths are text, where those of the table are, and it can be read again.
+-- The info of a table: its paths are text, if those of the table are, and it can be read again.
 use Rattle.std.proofs.Common.{ℕ, List, [], ◌∷◌, ◌++◌, map, get_or, subst}
 use Rattle.std.specs.Prelude.{All}
 use Rattle.std.proofs.lemmas.Option.{slice_get-get_or}
@@ -50,7 +50,7 @@ module _ (t : TableValue) (text : IsTableText t) (files : RequiredFiles) where
       all_parts IsModuleText (modules_of kept) IsTaskText (λ task h. modules kept task h.rule h.pairs) (tasks_of t)
       (map_recursion IsRuleText IsTaskText (λ rule. (rule, required_of t rule)) (λ rule h. record { rule = h; pairs = required rule }) t.objects (recursion_from_All IsRuleText t.objects text.objects))
 
-  -- ---- where the paths of the statements are canonical, the info is sound
+  -- ---- if the paths of the statements are canonical, the info is sound
 
   required_names : (rule : RuleValue) → IsRuleText rule → All (λ pair. IsName pair.0) (required_of t rule)
   required_names rule h k d within =

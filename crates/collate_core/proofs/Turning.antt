@@ -17,7 +17,7 @@ pub turns_weaker : {F G : Type 0} (R S : F → G → Type 0) → ((fault : F) (o
 turns_weaker R S step Memory new turns = turns
 turns_weaker R S step (Fault fault) new turns = (turns.0, step fault turns.0 turns.1, turns.2)
 
--- what holds of the value stays where the error is turned into another one
+-- what holds of the value stays if the error is turned into another one
 pub value_stays : {T E D : Type 0} (P : T → Type 0) (R : E → D → Type 0) (old : Result T E) (new : Result T D) → MatchResult old (λ x. new ≡ Ok x) (λ e. IsErrAnd new (R e)) → IfOk old P → IfOk new P
 value_stays P R (Ok x) new same h = subst (λ r. IfOk r P) (sym same) h
 value_stays P R (Err e) (Ok x) same h = absurd same

@@ -18,14 +18,14 @@ use Rattle.collate_core.specs.inner.Parts.{IsSpelled, HasSpelled, IsLineRefusal,
 use Rattle.collate_core.specs.declared.fault.Refusal.{Refusal}
 use Rattle.collate_core.specs.declared.fault.Refusal.TheVariants.{Scan, Info, Table, StatementTooLong, Map, LinkedLater}
 
--- the paths of a spelled statement
+-- the paths of an escaped statement
 pub all_spelled : (output : List ℕ) (outputs inputs : List (List ℕ)) → IsSpelled output → All IsSpelled outputs → All IsSpelled inputs → All IsSpelled (output ∷ (outputs ++ inputs))
 all_spelled output outputs inputs a b c = All-cons IsSpelled output (outputs ++ inputs) a (All-append IsSpelled outputs inputs b c)
 
 pub has_paths : (ss : List StatementValue) → All HasSpelled ss → All HasPaths ss
 has_paths ss all = All-weaker HasSpelled HasPaths (λ s h. All-weaker IsSpelled IsPath (λ path p. p.canonical) (paths_of s) h) ss all
 
--- and all of them have spellings
+-- and all of them have escaped forms
 pub all_writable : (ss : List StatementValue) → All HasSpelled ss → All (λ s. All IsWritable (paths_of s)) ss
 all_writable ss all = All-weaker HasSpelled (λ s. All IsWritable (paths_of s)) (λ s h. All-weaker IsSpelled IsWritable (λ path p. p.writable) (paths_of s) h) ss all
 
@@ -41,7 +41,7 @@ unless_err : (o : Option WriteFault) (ss : List StatementValue) (fault : WriteFa
 unless_err None ss fault h = absurd (cc)
 unless_err (Some other) ss fault h = cc
 
--- the fault that is answered for the text is that of the statements
+-- the fault that is returned for the text is that of the statements
 pub is_fault : (ss : List StatementValue) (fault : WriteFault) → text_or_fault ss ≡ Err fault → write_fault ss ≡ Some fault
 is_fault ss fault h = unless_err (write_fault ss) ss fault h
 
@@ -62,7 +62,7 @@ line_refusal first before s after count (Table fault) none is h = absurd h
 line_refusal first before s after count (Map o fault) none is h = absurd h
 line_refusal first before s after count LinkedLater none is h = absurd h
 
--- the refusal of a statement's build line, after statements without a fault, is that of all
+-- the rejection of a statement's build line, after statements without a fault, is that of all
 pub line_refused : FirstFault → (before : List StatementValue) (s : StatementValue) (after : List StatementValue) (count : ℕ) (failure : Failure Refusal) → write_fault before ≡ None → count ≡ length before
     → ForFault (IsLineRefusal count s) failure → ForFault (IsWriteRefusal (before ++ s ∷ after)) failure
 line_refused first before s after count Memory none is h = tt

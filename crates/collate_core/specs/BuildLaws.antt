@@ -1,5 +1,5 @@
--- No race, no false wait, no false rebuild and no false cycle after the dyndep file of a target, and
--- after those of a project.
+-- No race, no false wait, no false rebuild and no false cycle after the dyndep file of a target,
+-- and after the dyndep files of a project.
 use Rattle.std.specs.Prelude.{◌≡◌, ℕ, ◌<◌, List, [], ◌∷◌, length, slice_get, Option, Contains}
 use Rattle.std.specs.List.{filter_map}
 use Rattle.ninja_text.specs.Bytes.{PathText}
@@ -81,7 +81,7 @@ ProjectHasNoRace =
     (g new : List EdgeValue) → IsAfterProject targets outs applied g new →
     HasNoRace (tables_of targets outs applied) g new
 
--- After the files of all its targets, the file of each module that an object requires is made.
+-- After the files of all its targets, the file of each module that an object requires is produced.
 abbrev pub ProjectMakesAll : Type 0
 ProjectMakesAll =
     (targets : List ProjectTargetValue) (outs : List CollatedValue) (applied : Numbers)
@@ -111,7 +111,7 @@ ProjectHasNoFalseCycle =
     (g new : List EdgeValue) → IsAfterProject targets outs applied g new →
     HasNoFalseCycle (tables_of targets outs applied) g new
 
--- what `edge_order` answers is an order in which the edges can run
+-- what `edge_order` returns is an order in which the edges can run
 abbrev pub LeastOrderRuns : Type 0
 LeastOrderRuns =
     (g : List EdgeValue) (order : Numbers) →

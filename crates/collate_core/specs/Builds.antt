@@ -1,5 +1,5 @@
--- What the edges of a build wait for: the makers that they have to, so that there is no race, and no
--- others, so that there is no false wait, no false rebuild and no false cycle.
+-- What the edges of a build wait for: the producers that they have to wait for, so that there is no
+-- race, and no others, so that there is no false wait, no false rebuild and no false cycle.
 use Rattle.std.specs.Prelude.{◌≡◌, ◌↔◌, ◌⊎◌, ℕ, ◌<◌, List, [], ◌∷◌, length, map, take, slice_get, Some, Contains}
 use Rattle.ninja_text.specs.Bytes.{PathText, Name}
 use Rattle.dep_order.specs.Numbers.{Numbers}
@@ -11,9 +11,9 @@ use Rattle.build_effect.specs.Graphs.{HasInput, MakesAt, EdgeNeeds}
 use Rattle.module_table.specs.TableValue.{TableValue}
 use Rattle.module_table.specs.Modules.{Provides, Requires, IsProvided}
 
--- ---- objects, their modules, and the edges that make them
+-- ---- objects, their modules, and the edges that produce them
 
--- edge i makes the file
+-- edge i produces the file
 abbrev pub IsMaker : List EdgeValue → ℕ → PathText → Type 0
 IsMaker g i file = (j : ℕ) × MakesAt g i j file
 
@@ -21,18 +21,18 @@ IsMaker g i file = (j : ℕ) × MakesAt g i j file
 abbrev pub IsReader : List EdgeValue → ℕ → PathText → Type 0
 IsReader g i file = (e : EdgeValue) × (slice_get g i ≡ Some e) × HasInput e file
 
--- edge i makes object o
+-- edge i produces object o
 abbrev pub IsEdgeOf : List EdgeValue → ℕ → TableValue → ℕ → Type 0
 IsEdgeOf g i t o =
     (rule : RuleValue) × (slice_get t.objects o ≡ Some rule) × IsMaker g i rule.object
 
--- edge i makes an object that requires a module, and this is the file of the module
+-- edge i produces an object that requires a module, and this is the file of the module
 abbrev pub RequiresFile : List TableValue → List EdgeValue → ℕ → PathText → Type 0
 RequiresFile tables g i file =
     (t : TableValue) × (o : ℕ) × (name : Name) × Contains tables t × IsEdgeOf g i t o
     × Requires t o name × IsProvided t name file
 
--- edge i makes an object that provides a module, and this is the file of the module
+-- edge i produces an object that provides a module, and this is the file of the module
 abbrev pub ProvidesFile : List TableValue → List EdgeValue → ℕ → PathText → Type 0
 ProvidesFile tables g i file =
     (t : TableValue) × (o : ℕ) × (j : ℕ) × (name : Name) × Contains tables t × IsEdgeOf g i t o
@@ -45,8 +45,8 @@ abbrev pub ComesAfter : Numbers → ℕ → ℕ → Type 0
 ComesAfter order i other =
     (p : ℕ) → slice_get order p ≡ Some i → Contains (take p order) other
 
--- An order in which the edges can run: it has all of them, each once, and each after the makers of
--- its inputs of all kinds.
+-- An order in which the edges can run: it has all of them, each once, and each after the producers
+-- of its inputs of all kinds.
 pub record IsRunOrder (g : List EdgeValue) (order : Numbers) : Type 0 where
   pub as_many : length order ≡ length g
   pub all : (i : ℕ) → i < length g → Contains order i
@@ -54,11 +54,11 @@ pub record IsRunOrder (g : List EdgeValue) (order : Numbers) : Type 0 where
 
 -- No race. `g` is the graph before the effect of the dyndep files of these tables, `new` after it.
 pub record HasNoRace (tables : List TableValue) (g new : List EdgeValue) : Type 0 where
-  -- the file of each module that an object provides is made by the edge of that object
+  -- the edge of an object produces the file of each module that the object provides
   pub made : (t : TableValue) (o j : ℕ) (name : Name) (file : PathText) → Contains tables t →
       Provides t o j name file → (i : ℕ) × IsEdgeOf g i t o × IsMaker new i file
   -- in every order in which the edges can run, the edge of an object comes after the edge that
-  -- makes the file of each module that the object requires, wherever in the graph that is
+  -- produces the file of each module that the object requires, wherever in the graph that is
   pub after_makers : (order : Numbers) (i maker : ℕ) (file : PathText) → IsRunOrder new order →
       RequiresFile tables g i file → IsMaker new maker file → ComesAfter order i maker
 
@@ -66,7 +66,7 @@ pub record HasNoRace (tables : List TableValue) (g new : List EdgeValue) : Type 
 
 -- Edge i imports from another edge, through the file of a module.
 pub data Imports (tables : List TableValue) (g new : List EdgeValue) (i maker : ℕ) : Type 0 where
-  -- the object of edge i requires a module whose file the other edge makes
+  -- the object of edge i requires a module whose file the other edge produces
   required : {file : PathText} → RequiresFile tables g i file → IsMaker new maker file →
       Imports tables g new i maker
   -- edge i lists the file as an input of its own, and the object of the other edge provides the
@@ -80,7 +80,7 @@ HasReason tables g new i maker = EdgeNeeds g i maker ⊎ Imports tables g new i 
 
 -- ---- no false wait
 
--- No false wait: after the effect an edge needs exactly those for which it has a reason.
+-- No false wait: after the effect an edge needs exactly the edges for which it has a reason.
 abbrev pub HasNoFalseWait : List TableValue → List EdgeValue → List EdgeValue → Type 0
 HasNoFalseWait tables g new =
     (i maker : ℕ) → EdgeNeeds new i maker ↔ HasReason tables g new i maker
@@ -110,7 +110,7 @@ rebuild_graph g = map without_order_only g
 pub record HasNoFalseRebuild (tables : List TableValue) (g new : List EdgeValue) : Type 0 where
   -- an edge waits for what it waited for, and for what it imports, directly or through others
   pub waits : HasSameChains tables g new
-  -- order-only inputs make no edge run again: without them, too, the chains are the same
+  -- order-only inputs make no edge run again: without them the chains are also the same
   pub rebuilds : HasSameChains tables (rebuild_graph g) (rebuild_graph new)
 
 -- ---- no false cycle

@@ -25,7 +25,7 @@ abbrev pub IsMapText : TableValue → Written → ℕ → RuleValue → Text →
 IsMapText t written object rule text =
     (m : ModuleMapValue) × IsMapOf t object rule m × (written m ≡ Ok text)
 
--- with a style, one text an object, that of its map; without one, none
+-- with a style, the text of the map of each object; without one, no texts
 abbrev pub AreMaps : TableValue → Option Written → List Text → Type 0
 AreMaps t None texts = texts ≡ []
 AreMaps t (Some written) texts =

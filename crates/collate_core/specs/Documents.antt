@@ -1,4 +1,4 @@
--- What the documents of a target mean: one table of rules and infos.
+-- What the documents of a target mean: one table of rules and info files.
 use Rattle.std.specs.Prelude.{ℕ, ◌≤◌, List, length, map, All}
 use Rattle.std.specs.List.{flat_map}
 use Rattle.ninja_text.specs.Bytes.{Text}

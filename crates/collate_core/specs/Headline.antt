@@ -20,9 +20,8 @@ use Rattle.collate_core.specs.Collation.{HasPaths, Collates}
 abbrev pub Modules : Type 0
 Modules = List (Name × PathText)
 
--- The edge with what an object adds that provides and requires these modules: the files of those
--- that it provides as implicit outputs, and with them `restat`, and the files of those that it
--- requires as implicit inputs.
+-- The edge after an object added its modules: the files of the modules that it provides as implicit
+-- outputs, with `restat`, and the files of the modules that it requires as implicit inputs.
 abbrev pub with_modules : EdgeValue → Modules → Modules → EdgeValue
 with_modules e provided required = record e {
   implicit_outputs = e.implicit_outputs ++ module_files provided;
@@ -40,11 +39,11 @@ pub record AddsExactly (t : TableValue) (name : PathText) (old new : List EdgeVa
   pub others : (i : ℕ) (e : EdgeValue) →
       slice_get old i ≡ Some e → e.dyndep ≢ Some name → slice_get new i ≡ Some e
 
--- The headline: the target's documents have no fault; the dyndep text stands for the statements of
--- its objects and for no others; on every graph that names the file on exactly the objects, and
--- makes none of the added outputs, these have exactly one effect, which adds to each object's edge
--- exactly the files that the object provides as outputs and those that it requires as inputs; and
--- what is added can be ordered.
+-- The headline: the target's documents have no fault. The dyndep text stands for the statements of
+-- its objects and for no others. On every graph that names the file on exactly the objects, and
+-- produces none of the added outputs, these statements have exactly one effect, which adds to each
+-- object's edge exactly the files that the object provides as outputs and the files that it
+-- requires as inputs. What is added can be ordered.
 pub record IsHeadline (target : TargetValue) (c : CollatedValue) : Type 0 where
   pub no_fault : IsResolved target
   pub dyndep : StandsForOnly c.dyndep (statements_of (table_of target))
@@ -61,7 +60,7 @@ pub record IsDyndepOf (target : TargetValue) (text : Text) : Type 0 where
   pub headline : IsHeadline target collated
   pub same : collated.dyndep ≡ text
 
--- ---- what the type of collated targets promises of each
+-- ---- what the type of collated targets guarantees
 
 -- The text stands for these statements and for no others. Their paths are canonical, their outputs
 -- are the objects; objects and added outputs are all different files; and what is added can be
@@ -78,6 +77,6 @@ pub record IsCollatedText (objects : List PathText) (text : Text)
       slice_get objects o ≡ Some object → AddsAt statements k m object → ⊥
   pub orderable : IsOrderable (length statements) (AdditionNeeds statements)
 
--- the dyndep text is that of some statements
+-- some statements have this dyndep text
 abbrev pub HasStatements : CollatedValue → Type 0
 HasStatements c = (statements : List StatementValue) × IsCollatedText c.objects c.dyndep statements

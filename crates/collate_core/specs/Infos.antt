@@ -6,7 +6,7 @@ use Rattle.scan_docs.specs.Info.{ModuleValue, InfoValue}
 use Rattle.module_table.specs.TableValue.{TableValue}
 use Rattle.module_table.specs.Added.{Task, tasks_of}
 
--- whether the name is one of those that a target keeps private
+-- whether the name is among the names that a target keeps private
 abbrev pub is_private_name : List Name → Name → Bool
 is_private_name private_names name = list_any (bytes_eq name) private_names
 
@@ -23,8 +23,8 @@ module_of private_names required pair = record {
 abbrev pub modules_of : List Name → Task → List ModuleValue
 modules_of private_names task = map (module_of private_names task.1) task.0.provided
 
--- the info of a target of this name, which keeps these modules to itself: all modules of its
--- objects, in the order of the objects, and of one object in order of provision
+-- the info of a target of this name, which keeps these modules private: all modules of its objects,
+-- in the order of the objects, and for one object in order of provision
 abbrev pub info_of_table : Name → List Name → TableValue → InfoValue
 info_of_table name private_names t = record {
   target = name;

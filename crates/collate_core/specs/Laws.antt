@@ -23,31 +23,31 @@ abbrev pub HeadlineHolds : Type 0
 HeadlineHolds = (target : TargetValue) (style : Option Written) (c : CollatedValue) →
     Collates target style c → IsHeadline target c
 
--- a target that collates has no refusal
+-- a target that collates has no rejection
 abbrev pub CollatedIsNotRefused : Type 0
 CollatedIsNotRefused =
     (target : TargetValue) (style : Option Written) (c : CollatedValue) (refusal : Refusal) →
     Collates target style c → IsRefusal target style refusal → ⊥
 
--- One refusal: the same kind, index and data. Of a ring it is the same list of objects.
+-- One rejection: the same kind, index and data. For a cycle it is the same list of objects.
 pub data IsSameRefusal : Refusal → Refusal → Type 0 where
   same_refusal : {refusal : Refusal} → IsSameRefusal refusal refusal
   same_fault : {fault other : TableFault} →
       IsSameFault fault other → IsSameRefusal (Table fault) (Table other)
 
--- a target has one refusal at most
+-- a target has one rejection at most
 abbrev pub OneRefusal : Type 0
 OneRefusal = (target : TargetValue) (style : Option Written) (refusal other : Refusal) →
     IsRefusal target style refusal → IsRefusal target style other → IsSameRefusal refusal other
 
--- a project whose targets all collate has no refusal
+-- a project whose targets all collate has no rejection
 abbrev pub ProjectIsNotRefused : Type 0
 ProjectIsNotRefused =
     (style : Option Written) (targets : List ProjectTargetValue) (outs : List CollatedValue)
     (n : ℕ) (refusal : Refusal) →
     CollatesProject style targets outs → IsProjectRefusal style targets n refusal → ⊥
 
--- and it has one refusal at most, of one target
+-- and it has one rejection at most, of one target
 abbrev pub OneProjectRefusal : Type 0
 OneProjectRefusal =
     (style : Option Written) (targets : List ProjectTargetValue) (n m : ℕ)
@@ -55,19 +55,20 @@ OneProjectRefusal =
     IsProjectRefusal style targets n refusal → IsProjectRefusal style targets m other →
     (n ≡ m) × IsSameRefusal refusal other
 
--- of each project, files of its targets may be applied in any order
+-- in each project, files of its targets may be applied in any order
 abbrev pub ProjectOrders : Type 0
 ProjectOrders =
     (style : Option Written) (targets : List ProjectTargetValue) (outs : List CollatedValue) →
     CollatesProject style targets outs → AllOrders (project_tables targets outs)
 
--- of each project, one numbering of all objects puts the maker of each required file below its user
+-- in each project, one numbering of all objects puts the producer of each required file below its
+-- user
 abbrev pub ProjectNumbered : Type 0
 ProjectNumbered =
     (style : Option Written) (targets : List ProjectTargetValue) (outs : List CollatedValue) →
     CollatesProject style targets outs → IsProjectOrdered targets (project_tables targets outs)
 
--- Of each project, a numbering of the graph with the added outputs alone that has the targets one
+-- For each project, a numbering of the graph with only the added outputs that has the targets one
 -- above the other is enough for an order after all targets.
 abbrev pub ProjectEndOrderable : Type 0
 ProjectEndOrderable =
@@ -80,14 +81,14 @@ SameNeeds targets tables =
     (n o : ℕ) (t : TableValue) (name : Name) (file : PathText) → slice_get tables n ≡ Some t →
     IsNeeded t o name file ↔ IsProjectNeeded targets tables n o name file
 
--- so it is in each project in which no file is added by two targets
+-- this holds in each project in which no file is added by two targets
 abbrev pub ProjectNeeds : Type 0
 ProjectNeeds =
     (style : Option Written) (targets : List ProjectTargetValue) (outs : List CollatedValue) →
     CollatesProject style targets outs → AddedApart (project_tables targets outs) →
     SameNeeds targets (project_tables targets outs)
 
--- of each project, every style reads the objects' maps back
+-- in each project, every style reads the objects' maps back
 abbrev pub ProjectMaps : Type 0
 ProjectMaps =
     (written : Written) (kept : ModuleMapValue → List MapEntry) (entries : Entries) →

@@ -32,8 +32,8 @@ AddedApart tables =
     slice_get tables n ≡ Some t → slice_get tables m ≡ Some u →
     AddsAt (statements_of t) k i file → AddsAt (statements_of u) l j file → n ≡ m
 
--- The text is read as entries whose paths are those of the provided pairs and of all that object o
--- of target n needs, in byte order of names.
+-- The text is read as entries whose paths are the files of the provided modules and of all modules
+-- that object o of target n needs, in byte order of names.
 pub record MapReadsBack (entries : Entries) (targets : List ProjectTargetValue)
     (tables : List TableValue) (n o : ℕ) (rule : RuleValue) (text : Text) : Type 0 where
   pub needed : List (Name × PathText)
@@ -42,7 +42,7 @@ pub record MapReadsBack (entries : Entries) (targets : List ProjectTargetValue)
   pub reads : entries text ≡ Ok found
   pub are_entries : AreEntriesOf (rule.provided ++ needed) found
 
--- where no file is added by two targets, the style reads each object's map back
+-- if no file is added by two targets, the style reads each object's map back
 abbrev pub MapsReadBack : Entries → List ProjectTargetValue → List TableValue →
     List CollatedValue → Type 0
 MapsReadBack entries targets tables outs =

@@ -27,8 +27,8 @@ abbrev pub dyndep_files : List PathText → List TableValue → List NamedFile
 dyndep_files names tables = map (λ x. dyndep_file x.0 (statements_of x.1)) (zip names tables)
 
 -- On graphs that name each file on exactly its target's objects, any order of any targets' files
--- ends in the graph in which the edge of each object of those targets has gained exactly what its
--- statement adds, and all orders end alike.
+-- ends in the same graph. In it the edge of each object of these targets has gained exactly what
+-- its statement adds.
 pub record AllOrders (tables : List TableValue) : Type 0 where
   pub gains : (g : List EdgeValue) (names : List PathText) (order : Numbers) →
       length names ≡ length tables → FilesMeet g (dyndep_files names tables) →
@@ -57,8 +57,8 @@ ProjectProvides targets tables n m p name file =
     (t : TableValue) × (j : ℕ) × Sees targets n m × (slice_get tables m ≡ Some t)
     × Provides t p j name file
 
--- Every name that an object requires is provided, and one numbering of all objects puts the maker
--- of its file below its user.
+-- Every name that an object requires is provided, and one numbering of all objects puts the
+-- producer of its file below its user.
 pub record IsProjectOrdered (targets : List ProjectTargetValue)
     (tables : List TableValue) : Type 0 where
   pub files : (n o : ℕ) (t : TableValue) (name : Name) →
@@ -71,9 +71,9 @@ pub record IsProjectOrdered (targets : List ProjectTargetValue)
 
 -- ---- the graph after all targets
 
--- Where some numbering of the graph with the added outputs alone puts each needed edge below its
--- user, and gives the edges of each target one number, and those of a later target none that is
--- smaller, the end of all targets in any order can be ordered.
+-- If some numbering of the graph with only the added outputs puts each needed edge below its user,
+-- gives the edges of each target one number, and gives no later target a smaller one, the end of
+-- all targets in any order can be ordered.
 abbrev pub EndIsOrderable : List TableValue → Type 0
 EndIsOrderable tables =
     (g : List EdgeValue) (names : List PathText) (order : Numbers)

@@ -1,4 +1,4 @@
--- The refusal that `collate` reports: the first fault in its order.
+-- The rejection that `collate` reports: the first fault in its order.
 use Rattle.std.specs.Prelude.{◌≡◌, ◌⊎◌, ℕ, ◌+◌, ◌<◌, List, length, take, slice_get, Option, Some, None, Err, All}
 use Rattle.ninja_text.specs.Bytes.{Text}
 use Rattle.dyndep_file.specs.WriteFaults.{write_fault}
@@ -23,7 +23,7 @@ use Rattle.collate_core.specs.Collation.{IsMapText}
 use Rattle.collate_core.specs.declared.fault.Refusal.{Refusal}
 use Rattle.collate_core.specs.declared.fault.Refusal.TheVariants.{Scan, Info, Table, StatementTooLong, Map, LinkedLater}
 
--- the scan document of this index is refused by itself, or takes the rules past the limit
+-- the scan document of this index is rejected by itself, or takes the rules past the limit
 abbrev pub IsScanFault : SettingValue → List Text → ℕ → Text → DocFault → Type 0
 IsScanFault s scans i scan fault =
     IsRefused (scan_checks s) scan fault
@@ -38,14 +38,14 @@ pub record IsScanRefusal (s : SettingValue) (scans : List Text) (i : ℕ)
   pub here : slice_get scans i ≡ Some scan
   pub faulty : IsScanFault s scans i scan fault
 
--- The info document of this index is the first that is refused, and this is its fault.
+-- The info document of this index is the first that is rejected, and this is its fault.
 pub record IsInfoRefusal (infos : List Text) (i : ℕ) (fault : DocFault) : Type 0 where
   pub before : All IsInfoAccepted (take i infos)
   pub info : Text
   pub here : slice_get infos i ≡ Some info
   pub faulty : IsRefused info_checks info fault
 
--- the object's map is refused with this fault
+-- the object's map is rejected with this fault
 abbrev pub IsMapFault : TableValue → Written → ℕ → RuleValue → MapFault → Type 0
 IsMapFault t written o rule fault =
     (m : ModuleMapValue) × IsMapOf t o rule m × (written m ≡ Err fault)
@@ -54,7 +54,7 @@ IsMapFault t written o rule fault =
 abbrev pub IsMapWritten : TableValue → Written → ℕ → RuleValue → Type 0
 IsMapWritten t written o rule = (text : Text) × IsMapText t written o rule text
 
--- The map of the object of this index is the first that is refused, and this is its fault.
+-- The map of the object of this index is the first that is rejected, and this is its fault.
 pub record IsMapRefusal (t : TableValue) (written : Written) (o : ℕ)
     (fault : MapFault) : Type 0 where
   pub before : (p : ℕ) (earlier : RuleValue) →
@@ -67,12 +67,12 @@ pub record IsMapRefusal (t : TableValue) (written : Written) (o : ℕ)
 abbrev pub AllFit : TargetValue → Type 0
 AllFit target = write_fault (statements_of (table_of target)) ≡ None
 
--- the first build line that does not is that of this statement
+-- this statement has the first build line that does not
 abbrev pub IsFirstTooLong : TargetValue → ℕ → Type 0
 IsFirstTooLong target k =
     write_fault (statements_of (table_of target)) ≡ Some (write.StatementTooLong k)
 
--- The refusal is the one that is reported: each is looked for only where none of those above it is.
+-- The rejection is the one that is reported: each is looked for only if none of those above it is.
 abbrev pub IsRefusal : TargetValue → Option Written → Refusal → Type 0
 -- the first faulty scan document
 IsRefusal target style (Scan i fault) = IsScanRefusal target.setting target.scans i fault
@@ -84,14 +84,14 @@ IsRefusal target style (Table fault) =
     AreAccepted target × IsReported (table_of target) target.kept fault
 -- the first statement with too long a build line
 IsRefusal target style (StatementTooLong k) = IsResolved target × IsFirstTooLong target k
--- with a style, the first object whose map is refused
+-- with a style, the first object whose map is rejected
 IsRefusal target None (Map o fault) = ⊥
 IsRefusal target (Some written) (Map o fault) =
     IsResolved target × AllFit target × IsMapRefusal (table_of target) written o fault
 -- of a target by itself there is no other
 IsRefusal target style LinkedLater = ⊥
 
--- what was read of a target with this refusal: where it is of the table or of a map, the table of
+-- what was read of a target with this rejection: if it is of the table or of a map, the table of
 -- the target's documents
 abbrev pub WasRead : TargetValue → Refusal → TableValue → Type 0
 WasRead target (Table fault) read = read ≡ table_of target

@@ -1,4 +1,4 @@
--- What rehearsing a text on a graph answers.
+-- What rehearsing a text on a graph returns.
 use Rattle.std.specs.Prelude.{List, [], ◌∷◌}
 use Rattle.ninja_text.specs.Bytes.{Text, PathText}
 use Rattle.dep_order.specs.Numbers.{Numbers}
@@ -49,7 +49,7 @@ abbrev pub IsUnreadable : Text → ReadFault → Type 0
 IsUnreadable text fault =
     IsReadFaultOf text fault × ((statements : List StatementValue) → StandsFor text statements → ⊥)
 
--- why a rehearsal was refused
+-- why a rehearsal was rejected
 abbrev pub IsRehearseFault : Text → PathText → List EdgeValue → RehearseFault → Type 0
 IsRehearseFault text name old (fault.Read reason) = IsUnreadable text reason
 IsRehearseFault text name old (fault.Effect reason) = LacksEffect text name old reason
@@ -61,8 +61,8 @@ abbrev pub IsOrder : Sorting → Type 0
 IsOrder (Order order) = Unit {0}
 IsOrder (Cycle cycle) = ⊥
 
--- A numbering of the edges of the graph with the added outputs alone: the edges that name the file
--- have one number, those that make what they link a smaller one, and needed edges are below.
+-- A numbering of the edges of the graph with only the added outputs: the edges that name the file
+-- have one number, the edges that produce linked files a smaller one, and needed edges are below.
 pub record IsLevel (name : PathText) (statements : List StatementValue)
     (g : List EdgeValue) : Type 0 where
   pub outputs : List EdgeValue
@@ -70,7 +70,7 @@ pub record IsLevel (name : PathText) (statements : List StatementValue)
   pub ranks : Numbers
   pub level : IsLevelNumbering (dyndep_file name statements) g outputs ranks
 
--- where the graph meets the premises of the headline, and has such a numbering, this is an order
+-- if the graph meets the premises of the headline, and has such a numbering, this is an order
 abbrev pub IsOrderedAt : CollatedValue → PathText → List EdgeValue → Sorting → Type 0
 IsOrderedAt c name g sorting =
     (statements : List StatementValue) → IsCollatedText c.objects c.dyndep statements →

@@ -10,8 +10,8 @@ abbrev pub module_files : List (Name × PathText) → List PathText
 module_files modules = map (λ pair. pair.1) modules
 
 -- An object's statement: its path, with the files of the modules that it provides as implicit
--- outputs, in order of provision, and the files of those that it requires as implicit inputs, in
--- order of first mention. `restat` is on exactly where it provides a module.
+-- outputs, in order of provision, and the files of the modules that it requires as implicit inputs,
+-- in order of first mention. `restat` is on if and only if it provides a module.
 abbrev pub statement_of : Task → StatementValue
 statement_of task = record {
   output = task.0.object;

@@ -4,8 +4,8 @@ use Rattle.ninja_text.specs.Bytes.{Text, PathText, Name}
 use Rattle.dep_order.specs.Numbers.{Numbers}
 use Rattle.scan_docs.specs.Scan.{SettingValue}
 
--- a target: its name, where its modules are compiled to, its scan documents, the infos of the
--- targets that it links, and the names of the modules that it keeps to itself
+-- a target: its name, the setting of its files, its scan documents, the info files of the targets
+-- that it links, and the names of its private modules
 pub record TargetValue : Type 0 where
   pub name : Name
   pub setting : SettingValue
@@ -13,8 +13,8 @@ pub record TargetValue : Type 0 where
   pub infos : List Text
   pub kept : List Name
 
--- what a target collates to: the text of the dyndep file, that of the info, the objects, and with
--- a style the text of a map for each object
+-- what a target collates to: the text of the dyndep file, the text of the info, the objects, and
+-- with a style the text of a map for each object
 pub record CollatedValue : Type 0 where
   pub dyndep : Text
   pub info : Text

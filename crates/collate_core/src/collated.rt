@@ -90,7 +90,7 @@ impl Collated {
         }
     }
 
-    /// The text of the dyndep file.
+    /// Returns the text of the dyndep file.
     pub fn dyndep(&self) -> &[u8]
         ensures bytes { result.now ≡ self.now.dyndep }
         ensures statements { HasStatements self.now }
@@ -105,7 +105,7 @@ impl Collated {
         &self.info
     }
 
-    /// The objects, by index.
+    /// Returns the objects, by index.
     pub fn objects(&self) -> &[Path]
         ensures { result.now ≡ self.now.objects }
     {

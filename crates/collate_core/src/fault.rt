@@ -36,8 +36,8 @@ pub enum Refusal {
     LinkedLater,
 }
 
-/// Why a target does not collate, and what was read of it. A refusal has objects and info files by
-/// their indexes in these lists.
+/// Why a target does not collate, and what was read of it. A rejection has objects and info files
+/// by their indexes in these lists.
 #[derive(Drop)]
 pub struct RefusedTarget {
     pub refusal: Refusal,
@@ -47,7 +47,7 @@ pub struct RefusedTarget {
     pub infos: Vec<Info>,
 }
 
-/// Returns the refusal with empty lists, if its fault is neither of the table nor of a map.
+/// Returns the rejection with empty lists, if its fault is neither of the table nor of a map.
 pub(crate) fn without_table(alloc: Global, refusal: Refusal) -> RefusedTarget
     ensures { result.refusal ≡ refusal }
 {

@@ -39,9 +39,9 @@ pub fn project_maps()
     value_of_bytes();
 }
 
-/// A target that collates has no refusal, and every target has at most one. The same holds of a
+/// A target that collates has no rejection, and every target has at most one. The same holds of a
 /// project. So unless an allocation fails, `collate` and `project` succeed if and only if there is
-/// no refusal, and otherwise they report the only one.
+/// no rejection, and otherwise they report the only one.
 pub fn one_outcome()
     ensures collate { CollatedIsNotRefused }
     ensures one { OneRefusal }
@@ -80,13 +80,14 @@ pub fn no_false_wait()
     project_orders();
 }
 
-/// No false rebuild, under the same premises: after the effect a chain of needs leads from one edge
-/// to another if and only if a chain of earlier needs and of imports does. The same holds if
-/// order-only inputs do not count, as they do not when Ninja decides what to run again. So after a
-/// change Ninja runs what it ran before, and what imports it, directly or through others.
+/// No false rebuild, under the same premises. After the effect a chain of needs leads from one edge
+/// to another if and only if a chain of earlier needs and of imports does. The same holds without
+/// order-only inputs, which do not count when Ninja decides what to run again. So after a change
+/// Ninja runs what it ran before, and what imports it, directly or through others.
 ///
-/// An edge imports from another edge if its object requires a module whose file the other makes, or
-/// if it lists such a file as an input of its own, and the object of the other provides the module.
+/// An edge imports from another edge if its object requires a module whose BMI the other produces,
+/// or if it lists such a file as an input of its own, and the object of the other provides the
+/// module.
 pub fn no_false_rebuild()
     ensures target { TargetHasNoFalseRebuild }
     ensures project { ProjectHasNoFalseRebuild }
@@ -95,9 +96,9 @@ pub fn no_false_rebuild()
     project_orders();
 }
 
-/// No false cycle, under the same premises: if the edges cannot be ordered after the effect, every
-/// step of the least cycle, as of every other, was a need before or is an import. So if earlier
-/// needs and imports have no cycle, the edges can be ordered.
+/// No false cycle, under the same premises. If the edges cannot be ordered after the effect, every
+/// step of a cycle, and so of the least one, was a need before or is an import. So if earlier needs
+/// and imports have no cycle, the edges can be ordered.
 pub fn no_false_cycle()
     ensures target { TargetHasNoFalseCycle }
     ensures project { ProjectHasNoFalseCycle }

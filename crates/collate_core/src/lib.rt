@@ -1,34 +1,34 @@
-//! From the documents of a target to the dyndep file of its objects, the info for those that link
-//! it, and module maps; and what such a file does to a build.
+//! From the documents of a target to the dyndep file of its objects, the info file for targets that
+//! link it, and module maps; and what such a file does to a build.
 //!
-//! - [`collate`] takes the scan documents of a target and the infos of the targets that it links.
-//!   It succeeds if and only if none of the faults of [`Refusal`] is present
-//!   (`specs/Collation.antt`, `Collates`), and otherwise reports the first in that order
-//!   (`specs/Refusals.antt`, `IsRefusal`). The law [`one_outcome`] says that there is never both,
-//!   nor two refusals.
-//!   [`collate_dyndep`] returns the dyndep text alone (`specs/Headline.antt`, `IsDyndepOf`).
-//!   A refusal has objects and infos by their indexes. [`collate_or_refused`] and its like also
+//! - [`collate`] takes the scan documents of a target and the info files of the targets that it
+//!   links. It succeeds if and only if no error of [`Refusal`] is present (`specs/Collation.antt`,
+//!   `Collates`), and otherwise returns the first in that order (`specs/Refusals.antt`,
+//!   `IsRefusal`). The law [`one_outcome`] says that there are never both, nor two errors.
+//!   [`collate_dyndep`] returns only the dyndep text (`specs/Headline.antt`, `IsDyndepOf`). An
+//!   error has objects and info files by their indexes. [`collate_or_refused`] and its like also
 //!   return what was read of the target (`specs/Refusals.antt`, `WasRead`).
-//! - What it returns has the headline (`specs/Headline.antt`, `IsHeadline`): the dyndep text stands
-//!   for one statement per object and for nothing else, and on every build that names the file on
-//!   exactly the objects it has exactly one effect, which adds to each object's edge exactly what
-//!   the object provides and requires.
+//! - The result has the headline (`specs/Headline.antt`, `IsHeadline`): the dyndep text stands for
+//!   one statement per object and for nothing else. On every build that names the file on exactly
+//!   the objects it has exactly one effect, which adds to each object's edge exactly what the
+//!   object provides and requires.
 //! - [`rehearse`] reads any text in any pieces and applies it to a build, and [`check_edges`] puts
 //!   the edges after the effect in order, or returns the least cycle (`specs/Rehearsal.antt`).
 //! - [`project`] collates targets that link earlier ones (`specs/Projects.antt`). Their dyndep
 //!   files may be applied in any order (`ProjectOrders.antt`), and the maps have what each object
 //!   needs over the whole project (`ProjectNeeds.antt`).
 //! - The laws [`no_race`], [`no_false_wait`], [`no_false_rebuild`] and [`no_false_cycle`] say what
-//!   these files mean for a build (`specs/Builds.antt`, `specs/BuildLaws.antt`): in every order in
-//!   which the edges can run, the edge of an object comes after the makers of the files of the
-//!   modules that the object requires; and an edge needs what it needed before and what it imports,
-//!   and nothing else, directly, in a chain or in a cycle.
+//!   these files mean for a build (`specs/Builds.antt`, `specs/BuildLaws.antt`). In every order in
+//!   which the edges can run, the edge of an object comes after the producers of the BMIs that the
+//!   object requires. An edge needs what it needed before and what it imports, and nothing else,
+//!   directly, in a chain or in a cycle.
 //!
-//! The laws are about the definitions. They hold for what is built because every call is proved
-//! against these definitions. The prover rejects the bodies that would make a race, such as
+//! The laws are theorems about the definitions. They hold for the program because every call is
+//! proved against these definitions. The prover rejects the bodies that would make a race, such as
 //! `required_module_left_out`, `nothing_applied` and `order_of_the_graph_before` in `must-fail/`,
-//! and in `build_effect` `implicit_output_is_no_output` and `explicit_inputs_alone_order`; and those
-//! that would make a false wait and a false rebuild, such as `reached_modules_as_inputs`.
+//! and in `build_effect` `implicit_output_is_no_output` and `explicit_inputs_alone_order`. It also
+//! rejects those that would make a false wait and a false rebuild, such as
+//! `reached_modules_as_inputs`.
 //!
 //! The definitions speak of one table, which is a function of the documents' bytes
 //! (`specs/Documents.antt`, `table_of`). A target of a project is collated by the table of a part
@@ -38,17 +38,17 @@
 //! It uses `scan_docs` for documents, `module_table` for modules by name, `module_maps` for their
 //! maps, `dyndep_file` for the texts, `build_effect` and `dep_order` for builds, `ninja_text` for
 //! paths, `indexmap` and `table_keys` for the set of the names of private modules, and `thiserror`
-//! for its refusals.
+//! for its rejections.
 //!
 //! A target has five types, by what is known of it: `TargetSpec` of `scan_docs` is what its target
 //! document says, with the names of its files; a [`Target`] has the files' bytes, and is what
-//! [`collate`] takes; a [`ProjectTarget`] links earlier targets of its project in place of infos,
-//! and is what [`project`] takes; a [`Collated`] is what either returns, and [`CollatedParts`] are
-//! its texts, to be written.
+//! [`collate`] takes; a [`ProjectTarget`] links earlier targets of its project in place of info
+//! files, and is what [`project`] takes; a [`Collated`] is what either returns, and
+//! [`CollatedParts`] are its texts, to be written.
 //!
-//! `must-fail/` has a wrong body of each public function. The laws have none, nor have the calls
+//! `must-fail/` has a wrong body of each public function, except for the laws and for the calls
 //! that only pass on what another returns, with its clauses: [`collate`], [`collate_dyndep`] and
-//! [`project`] return what their `_or_refused` calls do, with the refusal alone.
+//! [`project`] return what their `_or_refused` calls do, without what was read.
 //! `info_lent_as_dyndep` and `no_maps_lent` are for the clauses of [`Collated`].
 #![tactic(auto)]
 

@@ -59,7 +59,7 @@ pub struct ProjectOut {
 ///
 /// # Errors
 ///
-/// Returns the refusal of the first target that has one, with the target's index:
+/// Returns the rejection of the first target that has one, with the target's index:
 /// [`Refusal::LinkedLater`], or the one that [`collate`](crate::collate) reports.
 pub fn project<M: MapStyle>(
     alloc: Global,
@@ -129,7 +129,7 @@ pub fn project_or_refused<M: MapStyle>(
     Ok(ProjectOut { targets: outs })
 }
 
-/// Collates the targets in order into the empty list, up to the first that has a refusal.
+/// Collates the targets in order into the empty list, up to the first that has a rejection.
 fn add_outs<M: MapStyle>(
     alloc: Global,
     targets: &[ProjectTarget<'_>],

@@ -39,7 +39,7 @@ pub(crate) fn text_of(alloc: Global, table: &Resolved) -> Result<Vec<u8>, Failur
     Ok(text.finish())
 }
 
-/// Adds the statement of an object that requires these modules. Files are lent in these lists.
+/// Adds the statement of an object that requires these modules. The lists borrow the files.
 fn add_object<'t>(
     text: &mut DyndepText,
     rule: &'t Rule,

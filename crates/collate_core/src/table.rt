@@ -68,7 +68,7 @@ fn documents_of(
     Ok((objects, infos))
 }
 
-/// The rules of all scan documents, one document after another.
+/// Returns the rules of all scan documents, one document after another.
 pub(crate) fn rules_of_all(
     alloc: Global,
     setting: &Setting,

@@ -1,4 +1,4 @@
--- The definitions on examples whose answers are known.
+-- The definitions on examples whose results are known.
 use Rattle.std.proofs.Common.{◌≡◌, ℕ, List, [], ◌∷◌, ◌++◌, Some, None, true, false, length, codes, refl}
 use Rattle.scan_docs.specs.Scan.{RuleValue}
 use Rattle.module_table.specs.declared.fault.Maker.TheVariants.{Object, Info}

@@ -42,7 +42,7 @@ left xs i x within is = rw add-one (drop-cons xs i x within ∙ ap (λ z. z ∷ 
 
 -- ---- calls that write
 
--- a call that failed answers an error
+-- a call that failed returns an error
 pub error_of : (r : Result (Unit {0}) Error) → true ≡ is_err r → (error : Error) × (r ≡ Err error)
 error_of (Ok done) e = absurd (no e)
   where
@@ -50,7 +50,7 @@ error_of (Ok done) e = absurd (no e)
     no e = cc
 error_of (Err error) e = (error, refl)
 
--- and one that did not answers nothing
+-- and one that did not returns nothing
 pub done_of : (r : Result (Unit {0}) Error) → false ≡ is_err r → r ≡ Ok tt
 done_of (Ok done) e = refl
 done_of (Err error) e = absurd (no e)

@@ -1,4 +1,4 @@
--- What reading an edge listing or a dyndep file comes to.
+-- What reading an edge list or a dyndep file leads to.
 use Rattle.std.proofs.Common.{◌≡◌, true, Some, Result, Ok, Err, ap, subst, sym, inl, inr}
 use Rattle.std.specs.Prelude.{IfOk, IsErr, IsErrAnd, Bool}
 use Rattle.std.specs.Result.{is_ok}

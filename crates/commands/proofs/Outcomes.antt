@@ -1,4 +1,4 @@
--- What the parts of a run have come to.
+-- What the parts of a run have led to.
 use Rattle.std.proofs.Common.{◌≡◌, ◌∙◌, ℕ, List, [], ◌∷◌, ◌++◌, length, inl, inr, Option, Result, Ok, Err, refl, ap, subst, sym, append_assoc, append-nil}
 use Rattle.std.specs.Prelude.{IfOk, IfErr, IsErr, IsErrAnd, MatchResult, codes}
 use Rattle.std.specs.IoError.{error_kind}
@@ -78,7 +78,7 @@ pub passed : {V : Type 0} {r : Outcome V} {stop : Failure LineValue} → IsErr r
 passed {r = Ok value} h = absurd h.1
 passed {r = Err other} h = ap Err h.1
 
--- and of a refused allocation
+-- and of a failed allocation
 pub passed_memory : {V : Type 0} {r : Outcome V} → IsErr r × IsErrAnd r (λ other. other ≡ Memory) → r ≡ Err Memory
 passed_memory h = passed h
 
@@ -139,7 +139,7 @@ run_as Holds old new s is h = subst (λ x. Runs old new (Holds x) s) is h
 
 -- ---- parts in a loop
 
--- With what is left, the whole is done: after the calls that were made, whatever the rest comes to.
+-- With what is left, the whole is done: after the calls that were made, whatever the rest leads to.
 abbrev pub Leads : {V : Type 0} → Option (List FileCall) → Option (List FileCall) → Part V → Part V → Type 0
 Leads {V} old new Left Whole =
     (calls : List FileCall) × Adds old new calls

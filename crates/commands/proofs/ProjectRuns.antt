@@ -25,14 +25,14 @@ use Rattle.commands.proofs.Commands.{objects_text}
 some_same : {X : Type 0} {x y : X} → Some x ≡ Some y → x ≡ y
 some_same e = cc
 
--- ---- the refused target
+-- ---- the rejected target
 
 in_map : {A B : Type 0} (f : A → B) (xs : List A) (n : ℕ) (y : B) → slice_get (map f xs) n ≡ Some y → (x : A) × (slice_get xs n ≡ Some x) × (f x ≡ y)
 in_map f [] n y e = cc
 in_map f (x ∷ xs) zero y e = (x, refl, some_same e)
 in_map f (x ∷ xs) (suc n) y e = in_map f xs n y e
 
--- what is needed to report a refusal
+-- what is needed to report a rejection
 pub reported : (style : Option Written) (targets : List ReadTargetValue) (n : ℕ) (refusal : Refusal) → LinkEarlier targets → IsProjectRefusal style (map project_target targets) n refusal → IsReportable targets n
 reported style targets n refusal links h =
     let found = in_map project_target targets n h.1 h.3 in
@@ -40,7 +40,7 @@ reported style targets n refusal links h =
     let within : n < length targets = slice_get_within targets n t found.1 in
     (t, found.1, λ k d lt. let below : get_or t.linked k d < n = links n t found.1 k d lt in omega (arith, below, within))
 
--- the line of the refusal of this target, by what was read of it
+-- the line of the rejection of this target, by what was read of it
 pub line_is : (style : Option Written) (targets : List ReadTargetValue) (n : ℕ) (refusal : Refusal) (read : TableValue) (t : ReadTargetValue) (names : List (List ℕ)) → slice_get targets n ≡ Some t →
     WasReadAt style (map project_target targets) n refusal read → refusal_line read.objects names refusal ≡ refusal_by_names t.spec.setting t.scans names refusal
 line_is style targets n refusal read t names at h =

@@ -22,7 +22,7 @@ use Rattle.commands.specs.Targets.{TargetOf}
 use Rattle.commands.specs.inner.Refusals.{refusal_line, refused_line}
 use Rattle.commands.proofs.Outcomes.{fault_reported, in_words}
 
--- objects are those of the scan documents where the refusal speaks of them
+-- objects are those of the scan documents if the rejection speaks of them
 pub names_line : (target : TargetValue) (refusal : Refusal) (read : TableValue) (names : List (List ℕ)) → WasRead target refusal read →
     refusal_line read.objects names refusal ≡ refusal_by_names target.setting target.scans names refusal
 names_line target (Scan i f) read names h = refl
@@ -37,7 +37,7 @@ names_same : (infos : List (List ℕ)) → map (λ (i : InfoValue). i.target) (m
 names_same [] = refl
 names_same (i ∷ is) = ap (λ z. (info_of i).target ∷ z) (names_same is)
 
--- and info files have the names that stand in the info documents
+-- and info files have the names that are in the info documents
 infos_line : (target : TargetValue) (refusal : Refusal) (read : TableValue) → WasRead target refusal read →
     refusal_line read.objects (map (λ (i : InfoValue). i.target) read.infos) refusal ≡ refusal_text target refusal
 infos_line target (Scan i f) read h = refl
@@ -53,7 +53,7 @@ infos_line target LinkedLater read h = refl
 abbrev pub IsRejected : TargetValue → Option Written → RefusedTarget → Type 0
 IsRejected target style r = IsRefusal target style r.refusal × WasRead target r.refusal (table_with r.objects.items r.infos.items)
 
--- its line is that of its refusal
+-- its line is that of its rejection
 rejected_line : (target : TargetValue) (style : Option Written) (r : RefusedTarget) → IsRejected target style r →
     (other : Refusal) × IsRefusal target style other × (refused_line r ≡ refusal_text target other)
 rejected_line target style r (is, read) = (r.refusal, is, infos_line target r.refusal (table_with r.objects.items r.infos.items) read)

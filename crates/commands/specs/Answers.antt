@@ -34,7 +34,7 @@ pub record IsStopped (stop : LineValue) (answer : Answer) : Type 0 where
   pub err : answer.err.items ≡ line stop.message
   pub files : answer.files.items ≡ []
 
--- what a run returns that has come to this, unless memory runs out
+-- what a run returns that has led to this, unless memory runs out
 abbrev pub IsAnswered : Outcome OutputValue → Result Answer AllocError → Type 0
 IsAnswered (Ok output) (Ok answer) = IsDone output answer
 IsAnswered (Ok output) (Err refused) = ⊥

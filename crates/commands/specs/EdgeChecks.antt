@@ -12,7 +12,7 @@ use Rattle.commands.specs.EdgeFaults.{effect_text, cycle_text}
 use Rattle.commands.specs.Listings.{ListingRead, ListingOf}
 use Rattle.commands.specs.Outcomes.{Part, Returns, Done, ◌>>=◌}
 
--- the edges after the effect of a dyndep text, as that of the file of this name
+-- the edges after the effect of a dyndep text, which is the text of the file of this name
 abbrev pub TextEffectOf : Text → PathText → List EdgeValue → Part (List EdgeValue)
 TextEffectOf dyndep name old =
     Returns (HasEffect dyndep name old) (LacksEffect dyndep name old) effect_text
@@ -25,8 +25,8 @@ OrderableOf old new =
     (λ (cycle : Vec ℕ Global). IsSortingOf (length new) (EdgeNeeds new) (Cycle cycle))
     (λ cycle. cycle_text old cycle.items)
 
--- these edges can be put in order after the effect of a dyndep text, as that of the file of this
--- name
+-- these edges can be ordered after the effect of a dyndep text, which is the text of the file of
+-- this name
 abbrev pub GraphPasses : List EdgeValue → PathText → Text → Part (Unit {0})
 GraphPasses old name dyndep = do
   new ← TextEffectOf dyndep name old

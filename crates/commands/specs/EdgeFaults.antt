@@ -35,7 +35,7 @@ listing_write_text edges (ListingTooLong index) =
     codes "E9 ListingTooLong " ++ first_output edges index
 listing_write_text edges (Io written) = listing_write_fault_text (Io written)
 
--- the file that an effect's fault is about, behind a space, if it is about one
+-- the file that an effect's fault is about, after a space, if it is about one
 abbrev pub subject_text : Option PathText → Text
 subject_text None = []
 subject_text (Some path) = codes " " ++ path

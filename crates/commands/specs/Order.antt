@@ -14,7 +14,7 @@ use Rattle.commands.specs.Folder.{whole}
 use Rattle.commands.specs.Listings.{ListingRead, IsListingRead, ListingOf}
 use Rattle.commands.specs.Outcomes.{Part, OutputValue, Comes, Returns, printed, ◌>>=◌}
 
--- the first output of each of these edges, one a line
+-- the first output of each of these edges, one per line
 abbrev pub order_text : List EdgeValue → Numbers → Text
 order_text edges order =
     flat_map (λ index. map visible (first_output edges index) ++ line_feed ∷ []) order

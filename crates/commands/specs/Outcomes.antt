@@ -1,5 +1,5 @@
--- How the parts of a run follow one another: each goes on with the value of the one before it, and
--- the first that stops ends the run.
+-- How the parts of a run follow one another: each continues with the value of the one before it,
+-- and the first that stops ends the run.
 use Rattle.std.specs.Prelude.{◌≡◌, ◌⊎◌, ⊤, ℕ, List, [], ◌∷◌, ◌++◌, Bool, Option, Some, None, Result, Ok, Err, codes}
 use Rattle.std.specs.IoError.{error_kind}
 use Rattle.std.specs.declared.io.Error.{Error}
@@ -25,18 +25,18 @@ pub record OutputValue : Type 0 where
   pub text : Text
   pub files : List FileValue
 
--- what a part of a run has come to: a value, or why the run stops
+-- what a part of a run has led to: a value, or why the run stops
 abbrev pub Outcome : Type 0 → Type 0
 Outcome V = Result V (Failure LineValue)
 
--- what is said of a part of a run: by the calls that it makes, and by what it has come to
+-- what is said of a part of a run: by the calls that it makes, and by what it has led to
 abbrev pub Part : Type 0 → Type 1
 Part V = List FileCall → Outcome V → Type 0
 
 -- ---- parts in turn
 
--- Two parts of a run in turn: the second goes on with the value of the first, if the first does not
--- stop the run.
+-- Two parts of a run in turn: the second continues with the value of the first, if the first does
+-- not stop the run.
 pub data InTurn {A B : Type 0} (First : Part A) (Second : A → Part B) (calls : List FileCall)
     (outcome : Outcome B) : Type 0 where
   goes_on : (value : A) (before after : List FileCall) → calls ≡ before ++ after →

@@ -46,8 +46,8 @@ ArgumentsRun words = do
   output ← TaskRun task
   WritesFiles output
 
--- The program makes these calls and no other, and what they come to is what it prints, with the exit
--- status of that.
+-- The program makes these calls and no other, and what they lead to is what it prints, with the
+-- exit status of that.
 pub record IsProgramRun {O E : Type 0} (outs : O → Option Bytes) (errs : E → Option Bytes)
     (old_calls new_calls : Option (List FileCall)) (old_out new_out : Counted O)
     (old_err new_err : Counted E) (words : Words) (number : ℕ) : Type 0 where

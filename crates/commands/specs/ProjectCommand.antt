@@ -41,7 +41,7 @@ IsTargetStop index Memory (Fault line) = ⊥
 IsTargetStop index (Fault own) (Fault line) =
     line ≡ failed own.status (target_text index own.message)
 
--- what a part about the target of this index has come to, by what it comes to for that target alone
+-- what a part about the target of this index has led to, by what it leads to for that target alone
 abbrev pub IsTargetOutcome : {V : Type 0} → ℕ → Outcome V → Outcome V → Type 0
 IsTargetOutcome index (Ok value) outcome = outcome ≡ Ok value
 IsTargetOutcome index (Err stop) (Ok value) = ⊥
@@ -62,7 +62,7 @@ pub record ReadTargetValue : Type 0 where
   pub scans : List Text
   pub listing : Option ListingRead
 
--- the index in a list, if its tail has one, and else that of the head, if that is meant
+-- the index in a list: that in its tail if it has one, otherwise that of the head, if that is meant
 abbrev pub index_or_head : Option ℕ → Bool → Option ℕ
 index_or_head (Some index) is_head = Some (suc index)
 index_or_head None is_head = if is_head then Some 0 else None
@@ -72,23 +72,24 @@ abbrev pub last_with : List ReadTargetValue → PathText → Option ℕ
 last_with [] info = None
 last_with (head ∷ tail) info = index_or_head (last_with tail info) (bytes_eq head.spec.info info)
 
--- the maps of a target have the form of those of the first of these
+-- the maps of a target have the form of the maps of the first of these targets
 abbrev pub HasFormOf : List ReadTargetValue → document.TargetDocumentValue → Type 0
 HasFormOf [] spec = Unit {0}
 HasFormOf (first ∷ others) spec = spec.map_form ≡ first.spec.map_form
 
--- a target whose maps have the form of those of the first of these, or S3 for the member `map`
+-- a target whose maps have the form of the first target's maps, or S3 for the member `map`
 abbrev pub FormOf : List ReadTargetValue → document.TargetDocumentValue → Part (Unit {0})
 FormOf earlier spec =
     Returns (λ (done : Unit {0}). HasFormOf earlier spec)
     (λ fault. (HasFormOf earlier spec → ⊥) × (fault ≡ BadShape Document Map))
     spec_text
 
--- each of these info files is that of a target, and these are the indexes of the last such ones
+-- each of these info files is the info file of a target, and these are the indexes of the last such
+-- targets
 abbrev pub LinksTo : List ReadTargetValue → List PathText → Numbers → Type 0
 LinksTo earlier infos linked = map (last_with earlier) infos ≡ map Some linked
 
--- one of these info files is that of no target
+-- one of these info files is the info file of no target
 abbrev pub LinksLater : List ReadTargetValue → List PathText → Type 0
 LinksLater earlier infos =
     (index : ℕ) × (info : PathText) × (slice_get infos index ≡ Some info)
@@ -100,7 +101,7 @@ LinksOf earlier infos =
     Returns (LinksTo earlier infos) (λ (fault : Unit {0}). LinksLater earlier infos)
     (λ fault. codes "K3 LinkedLater")
 
--- the target with these members, which links those of these indexes, and of these files
+-- the target with these members, which links the targets of these indexes, and has these files
 abbrev pub read_target : document.TargetDocumentValue → Numbers → TargetFilesValue → ReadTargetValue
 read_target spec linked files =
     record { spec = spec; linked = linked; scans = files.scans; listing = files.listing }
@@ -140,7 +141,7 @@ project_target t = record {
   kept = t.spec.kept;
 }
 
--- the form of all maps: that of the first target's
+-- the form of all maps: the form of the first target's maps
 abbrev pub form_of : List ReadTargetValue → Option MapForm
 form_of [] = None
 form_of (first ∷ others) = first.spec.map_form

@@ -21,9 +21,9 @@ use scan_docs::{MapForm, TargetSpec, spec_read};
 use std::alloc::{AllocError, Global};
 
 /// Runs `collate TARGETFILE` on the bytes of the target document. The files that it names are read
-/// from the folder: scan documents, info files, and the listing of edges last. The output has the
+/// from the `Folder`: scan documents, info files, and the edge list last. The output has the
 /// map of each object, if the document asks for maps, then the info file, and last the dyndep file.
-/// If the document names a listing of edges, they must have an order after the effect of that
+/// If the document names an edge list, its edges must have an order after the effect of that
 /// dyndep file. No file of a rejected document is read.
 pub fn collate_target<F: Folder>(
     alloc: Global,

@@ -7,9 +7,9 @@ use std::io;
 
 /// What has files that can be read and written by name.
 ///
-/// What a function does to a folder is said of every folder, by the calls that it makes: which, in
-/// what order, and with which results. The files of the system are such a folder, of which
-/// nothing is known; where more is known of a folder, it can say so.
+/// What a function does to a `Folder` is said of every `Folder`, by the calls that it makes: which,
+/// in what order, and with which results. The system's files are a `Folder` of which nothing is
+/// known. A `Folder` of which more is known can say so.
 pub trait Folder {
     // the calls that were made so far, in order, if they are known
     ghost calls: { Self → Option (List FileCall) };
@@ -21,8 +21,8 @@ pub trait Folder {
             (reading name.now (answer_of most result) ∷ []) };
 
     /// Gives the bytes of the file of this name to a new reader, in pieces, as they are read: all
-    /// of them, or those up to the first piece at which the reader has failed. If a folder has the
-    /// bytes in memory, all of them are one piece.
+    /// of them, or those up to the first piece at which the reader has failed. If a `Folder` has
+    /// the bytes in memory, all of them are one piece.
     fn feed<R: PieceReader>(&mut self, name: &str, reader: &mut R) -> io::Result<()>
         ensures { R.has_read [] reader.old → GivesPieces R.has_read R.has_failed name.now
             (calls self.old) (calls self.new) result reader.new }

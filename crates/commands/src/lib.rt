@@ -5,25 +5,25 @@
 //!
 //! - [`program_run`] is the whole program: the task of its arguments, the run, the writing and the
 //!   printing (`specs/Program.antt`).
-//! - [`task_run`] reads the files of a task from a folder and calls the command
+//! - [`task_run`] reads the files of a task and calls the command
 //!   (`specs/Runs.antt`). No file is read further than its result needs: a document up to its limit,
 //!   and a file of lines up to its first fault ([`Folder`], [`PieceReader`]).
 //! - [`collate_target`] and [`collate_project`] are the commands `collate` and `project`. They read
-//!   the files that their document names from the folder, each when its turn comes and once
+//!   the files that their document names, each once and in order
 //!   (`specs/CollateCommand.antt`, `ProjectCommand.antt`, `Files.antt`, `Folder.antt`).
 //! - [`collate_scan`], [`apply_dyndep`], [`order_edges`] and [`show_dyndep`] are the commands
 //!   `one`, `effect`, `order` and `show`, on the bytes of their files (`specs/One.antt`,
 //!   `Effect.antt`, `Order.antt`, `Show.antt`).
-//! - [`write_files`] writes the files of an output to a folder (`specs/Files.antt`).
+//! - [`write_files`] writes the files of an output (`specs/Files.antt`).
 //! - [`Answer`] is what a run leaves as a value, with the line of a failure, and [`print`] writes
 //!   its texts and returns the exit status (`specs/Answers.antt`, `Printing.antt`).
 //! - [`Output`] is what a run leaves that succeeds, and [`Stop`] why a run stops: memory ran out,
 //!   or a [`Line`]. Every part of a run returns a `Result` with a [`Stop`], so `?` passes it on
 //!   (`specs/Outcomes.antt`). `stop` has one function for each type of fault, which makes the
 //!   message.
-//! - `reading` reads files from a folder, and `project_targets` the targets of a project.
-//! - `listing` and `dyndep_text` read listings and dyndep files, and `edges` checks the edges that
-//!   a target document names.
+//! - `reading` reads files, and `project_targets` the targets of a project.
+//! - `listing` and `dyndep_text` read edge lists and dyndep files, and `edges` checks the edges
+//!   that a target document names.
 //! - `refusal` says why a target is rejected, `table_fault` why its modules have no table, and
 //!   `edge_fault` what is wrong with edges.
 //!

@@ -17,7 +17,7 @@ use std::io;
 use std::io::ErrorKind;
 
 /// Runs the program on its arguments, the program's own name the first of them: runs their task,
-/// writes its files to the folder and its texts to the two writers, and returns the exit status.
+/// writes its files to the `Folder` and its texts to the two writers, and returns the exit status.
 /// Arguments that could not be got are not a valid command line, unless memory ran out.
 pub fn program_run<F: Folder, O: WriteCall, E: WriteCall>(
     alloc: Global,

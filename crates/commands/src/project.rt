@@ -23,8 +23,8 @@ use scan_docs::{MapForm, TargetName, project_read};
 use std::alloc::{AllocError, Global};
 
 /// Runs `project FILE` on the bytes of the project document. The files of the targets are read from
-/// the folder, target by target: the document of each, which may only link targets before it and
-/// has the first one's form of maps, its scan documents and its listing of edges. No file is read
+/// the `Folder`, target by target: the document of each, which may only link targets before it and
+/// has the first one's form of maps, its scan documents and its edge list. No file is read
 /// after a rejected document. All targets are read before the first is collated.
 ///
 /// The output has the files of `collate`, target by target; info files that targets link are not

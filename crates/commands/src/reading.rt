@@ -1,4 +1,4 @@
-//! How a run reads files from a folder: each when its turn comes, and none after one that can't be
+//! How a run reads files: each when its turn comes, and none after one that can't be
 //! read.
 
 ghost use Rattle.std.specs.Prelude.{◌≡◌, ◌++◌, ◌∷◌, [], map, string_bytes, option_map, IfOk, OnOk};

@@ -22,7 +22,7 @@ use command_line::Task;
 use std::alloc::Global;
 use std::io;
 
-/// Runs a task. The files that it names are read from the folder, each when its turn comes; none is
+/// Runs a task. The files that it names are read, each when its turn comes; none is
 /// written.
 pub fn task_run<F: Folder>(alloc: Global, task: &Task, folder: &mut F) -> Result<Output, Stop>
     ensures { Runs (F.calls folder.old) (F.calls folder.new) (TaskRun (task_value task.now))

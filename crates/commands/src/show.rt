@@ -1,4 +1,4 @@
-//! The command `show`: the statements of a dyndep file, as the writer spells them.
+//! The command `show`: the statements of a dyndep file, as the writer writes them.
 
 ghost use Rattle.std.specs.Prelude.{[]};
 ghost use Rattle.commands.specs.Show.{ShowOfRead, ShowRun};

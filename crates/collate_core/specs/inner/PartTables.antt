@@ -7,8 +7,8 @@ use Rattle.collate_core.specs.Values.{TargetValue}
 use Rattle.collate_core.specs.Documents.{table_of, AreAccepted}
 use Rattle.collate_core.specs.inner.Parts.{IsTableText}
 
--- The documents of the target are accepted. The table has the target's objects, and of the target's
--- infos a part that is enough; with a style the part keeps what its modules require.
+-- The documents of the target are accepted. The table has the target's objects, and a part of its
+-- info files that is enough. With a style the part keeps what its modules require.
 pub record IsEnoughFor (target : TargetValue) (style : Option Written) (u : TableValue)
     : Type 0 where
   pub accepted : AreAccepted target

@@ -27,16 +27,16 @@ use Rattle.collate_core.specs.declared.fault.Refusal.TheVariants.{Scan, Info, Ta
 use Rattle.collate_core.specs.declared.fault.RehearseFault.{RehearseFault}
 use Rattle.collate_core.specs.declared.fault.RehearseFault.TheVariants.{Effect}
 
--- All paths of the rules and infos are text.
+-- All paths of the rules and info files are text.
 pub record IsTableText (t : TableValue) : Type 0 where
   pub objects : All IsRuleText t.objects
   pub infos : All IsInfoText t.infos
 
--- the files that are lent
+-- the files that are borrowed
 abbrev pub lent_files : List (Bor (List ℕ)) → List (List ℕ)
 lent_files files = map (λ file. file.now) files
 
--- a canonical path, and so one that has a spelling
+-- a canonical path, and so one that has an escaped form
 pub record IsSpelled (path : List ℕ) : Type 0 where
   pub canonical : IsPath path
   pub writable : IsWritable path
@@ -45,17 +45,17 @@ pub record IsSpelled (path : List ℕ) : Type 0 where
 abbrev pub HasSpelled : StatementValue → Type 0
 HasSpelled s = All IsSpelled (paths_of s)
 
--- the refusal is of a scan document, and this holds of its index and its fault
+-- the rejection is of a scan document, and this holds of its index and its fault
 abbrev pub ForScan : (ℕ → DocFault → Type 0) → Refusal → Type 0
 ForScan P (Scan index fault) = P index fault
 ForScan P other = ⊥
 
--- the refusal is of an info document, and this holds of its index and its fault
+-- the rejection is of an info document, and this holds of its index and its fault
 abbrev pub ForInfo : (ℕ → DocFault → Type 0) → Refusal → Type 0
 ForInfo P (Info index fault) = P index fault
 ForInfo P other = ⊥
 
--- the refusal is of a document of the target, and so the same whatever the style
+-- the rejection is of a document of the target, and so the same whatever the style
 abbrev pub IsDocumentRefusal : TargetValue → Refusal → Type 0
 IsDocumentRefusal target (Scan index fault) =
     IsScanRefusal target.setting target.scans index fault
@@ -68,40 +68,40 @@ abbrev pub ForEffect : (EffectFault → Type 0) → RehearseFault → Type 0
 ForEffect P (Effect fault) = P fault
 ForEffect P other = ⊥
 
--- the refusal is of the statements' build lines
+-- the rejection is of the statements' build lines
 abbrev pub IsWriteRefusal : List StatementValue → Refusal → Type 0
 IsWriteRefusal statements (StatementTooLong k) =
     write_fault statements ≡ Some (write.StatementTooLong k)
 IsWriteRefusal statements refusal = ⊥
 
--- the refusal is of the build line of the statement at this index
+-- the rejection is of the build line of the statement at this index
 abbrev pub IsLineRefusal : ℕ → StatementValue → Refusal → Type 0
 IsLineRefusal index s (StatementTooLong k) =
     statement_fault index s ≡ Some (write.StatementTooLong k)
 IsLineRefusal index s refusal = ⊥
 
--- the refusal is of the objects' maps
+-- the rejection is of the objects' maps
 abbrev pub IsMapsRefusal : TableValue → Option Written → Refusal → Type 0
 IsMapsRefusal t (Some written) (Map o fault) = IsMapRefusal t written o fault
 IsMapsRefusal t style refusal = ⊥
 
--- the refusal is of the map of the object at this index
+-- the rejection is of the map of the object at this index
 abbrev pub IsObjectRefusal : TableValue → Written → ℕ → Refusal → Type 0
 IsObjectRefusal t written o (Map k fault) = (k ≡ o)
     × ((rule : RuleValue) → slice_get t.objects o ≡ Some rule → IsMapFault t written o rule fault)
 IsObjectRefusal t written o refusal = ⊥
 
--- the refusal is the table's fault, and what was read is what was given for the table
+-- the rejection is the table's fault, and what was read is what was given for the table
 abbrev pub IsOfTable : RefusedTable → RefusedTarget → Type 0
 IsOfTable given refused = (refused.refusal ≡ Table given.fault)
     × (refused.objects ≡ given.objects) × (refused.infos ≡ given.infos)
 
--- the refusal with what was read, which has this table
+-- the rejection with what was read, which has this table
 abbrev pub IsReadFrom : TableValue → Refusal → RefusedTarget → Type 0
 IsReadFrom t refusal refused = (refused.refusal ≡ refusal)
     × (table_with refused.objects.items refused.infos.items ≡ t)
 
--- the refusal is that of each target whose documents have this table
+-- the rejection is that of each target whose documents have this table
 abbrev pub IsTextsRefusal : TableValue → Option Written → Refusal → Type 0
 IsTextsRefusal t style refusal = (target : TargetValue) → t ≡ table_of target → IsResolved target
     → IsRefusal target style refusal

@@ -17,7 +17,7 @@ pub record IsReadAs (document : Text) (info : InfoValue) : Type 0 where
   pub value : info ≡ info_of document
   pub text : IsInfoText info
 
--- The documents are accepted, and read as these infos.
+-- The documents are accepted, and read as these info files.
 pub record AreReadAs (documents : List Text) (infos : List InfoValue) : Type 0 where
   pub accepted : All IsInfoAccepted documents
   pub values : infos ≡ map info_of documents
@@ -29,7 +29,7 @@ pub record AreKnown (outs : List CollatedValue) (known : List (Option InfoValue)
   pub each : (k : ℕ) (out : CollatedValue) (info : InfoValue) →
       slice_get outs k ≡ Some out → slice_get known k ≡ Some (Some info) → IsReadAs out.info info
 
--- These are the infos of earlier targets, and what is known of them is what they are read as.
+-- These are the info files of earlier targets, and what is known of them is what they are read as.
 abbrev pub AreLinkedInfos : List (Option InfoValue) → Numbers → List Text → Type 0
 AreLinkedInfos known linked infos =
     (outs : List CollatedValue) × AreKnown outs known × All (λ k. k < length outs) linked

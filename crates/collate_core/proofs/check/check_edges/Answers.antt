@@ -17,7 +17,7 @@ ordered : (count : ℕ) (Needs : ℕ → ℕ → Type 0) → IsOrderable count N
 ordered count Needs orderable (Order order) h = tt
 ordered count Needs orderable (Cycle cycle) h = absurd (h.0 orderable)
 
--- said here, so that the order of another graph is refused soon
+-- said here, so that the order of another graph is rejected soon
 pub returns-clause-sorted : goal.returns-clause-sorted
 returns-clause-sorted c = (c.in_ok-new.new, c.in_ok-new.ensures.effect, c.in_ok-sorting.ensures)
 

@@ -2,7 +2,7 @@ use Rattle.std.proofs.Common.{◌≡◌, refl}
 use Rattle.module_table.specs.TableValue.{table_with}
 use Rattle.collate_core.proofs.collating.with_table.Goals as goal
 
--- said here, so that other objects are refused soon
+-- said here, so that other objects are rejected soon
 pub returns-in-Err-Fault : goal.returns-in-Err-Fault
 returns-in-Err-Fault c =
     let parts = c.into_parts-objects in

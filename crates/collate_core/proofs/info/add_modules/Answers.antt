@@ -5,7 +5,7 @@ use Rattle.collate_core.specs.Infos.{module_of}
 use Rattle.collate_core.proofs.LoopLemmas.{map_push}
 use Rattle.collate_core.proofs.info.add_modules.Goals as goal
 
--- said here, so that a body which does something else is refused soon
+-- said here, so that a body which does something else is rejected soon
 pub loop-pair-preserved : goal.loop-pair-preserved
 loop-pair-preserved c =
     let pairs : List (List ℕ × List ℕ) = c.deref-pair-items.result.now in

@@ -11,7 +11,7 @@ use Rattle.collate_core.proofs.PrivateNames.{modules_same}
 use Rattle.collate_core.proofs.Tasks.{more_modules, all_modules}
 use Rattle.collate_core.proofs.info.lent_info.Goals as goal
 
--- where all objects are done, the modules are those of the table's info
+-- if all objects are done, the modules are those of the table's info
 written : (name : List ℕ) (kept : List (List ℕ)) (t : TableValue) (done : ℕ) (objects : List RuleValue) (modules : List ModuleValue) → objects ≡ t.objects → length objects ≤ done →
     modules ≡ flat_map (modules_of kept) (take done (tasks_of t)) → let info : InfoValue = record { target = name; modules = modules } in info ≡ info_of_table name kept t
 written name kept t done objects modules same all is =

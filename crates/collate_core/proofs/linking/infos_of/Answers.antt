@@ -25,6 +25,6 @@ loop-target-preserved c =
     rw (c.in_ok-push.ensures.items, next, map-append)
     (map_push (λ (x : ℕ). option_map_or (λ (y : CollatedValue). y.info) (slice_get outs x) []) (take i linked) k.0 _ c.info.result.now c.loop-target.invariant value)
 
--- said here, so that a loop over something else is refused soon
+-- said here, so that a loop over something else is rejected soon
 pub returns : goal.returns
 returns c = c.loop-target.invariant ∙ ap (linked_infos c.args.outs.now) (take_all c.loop-target.target-index c.args.linked.now c.loop-target-test.false)

@@ -3,7 +3,7 @@ use Rattle.module_table.specs.Needed.{ArePairs, IsNeeded, lent}
 use Rattle.std.proofs.lemmas.Bool.{false≢true}
 use Rattle.collate_core.proofs.object_maps.map_of.Goals as goal
 
--- said here, so that a body which does something else is refused soon
+-- said here, so that a body which does something else is rejected soon
 pub returns-clause-map : goal.returns-clause-map
 returns-clause-map c = search rules
 

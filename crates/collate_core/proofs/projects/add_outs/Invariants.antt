@@ -4,7 +4,7 @@ use Rattle.collate_core.specs.Projects.{CollatesProject}
 use Rattle.collate_core.specs.inner.ReadInfos.{AreKnown}
 use Rattle.collate_core.proofs.projects.add_outs.Given as goal
 
--- the targets so far collate, and it is known what their infos are read as
+-- the targets so far collate, and it is known what their info files are read as
 abbrev pub invariant-loop-index : goal.invariant-loop-index
 invariant-loop-index g l =
     record {

@@ -6,7 +6,8 @@ use Rattle.collate_core.specs.Statements.{statement_of}
 use Rattle.collate_core.specs.inner.Parts.{lent_files, HasSpelled, IsLineRefusal}
 use Rattle.collate_core.proofs.statements.add_object.Goals as goal
 
--- the statement is that of all required modules: said here, so that one without some is refused soon
+-- the statement is that of all required modules: said here, so that one without some is rejected
+-- soon
 the_statement : (c : goal.After-add) → c.lent_statement.result ≡ statement_of (c.args.rule.now, c.args.required.now)
 the_statement c = c.lent_statement.ensures.statement c.args.required.now (ap lent_files c.deref-3.ensures.value ∙ c.in_ok-lend_files-2.ensures.files)
 

@@ -3,7 +3,7 @@ use Rattle.collate_core.specs.inner.Parts.{lent_files, IsSpelled}
 use Rattle.collate_core.proofs.Writing.{all_spelled}
 use Rattle.collate_core.proofs.statements.lent_statement.Goals as goal
 
--- said here, so that a body which does something else is refused soon
+-- said here, so that a body which does something else is rejected soon
 pub returns-clause-statement : goal.returns-clause-statement
 returns-clause-statement c = search rules
 

@@ -54,7 +54,7 @@ returns-clause-refused c =
     (subst (λ (read : TableValue). IfErr c.build_or_refused.result (ForFault (λ (refused : RefusedTable). IsReported read target.kept refused.fault))) c.in-Ok.ensures.table
     (rw (← c.target.view_is) c.build_or_refused.ensures.fault))
 
--- said here, so that other infos are refused soon
+-- said here, so that other info files are rejected soon
 pub returns-clause-read : goal.returns-clause-read
 returns-clause-read c =
     let target : TargetValue = c.args.target.now in

@@ -1,7 +1,7 @@
 use Rattle.std.proofs.Common.{rules}
 use Rattle.commands.proofs.collate.collate_in.Goals as goal
 
--- said here, so that a body which does something else is refused soon
+-- said here, so that a body which does something else is rejected soon
 pub returns-in-Some-Gcc-clause-collated : goal.returns-in-Some-Gcc-clause-collated
 returns-in-Some-Gcc-clause-collated c = search rules
 

@@ -27,7 +27,7 @@ AfterFiles spec files = TargetOf (target_with spec files) (style_of spec.map_for
 abbrev AfterSpec : Document → Part OutputValue
 AfterSpec spec = FilesOf spec spec.linked >>= AfterFiles spec
 
--- the run goes on after the document
+-- the run continues after the document
 spec_next : (old new : Option (List FileCall)) (bytes : Bytes) (spec : Document) (s : Outcome OutputValue) → SpecOf bytes [] (Ok spec) →
     Runs old new (AfterSpec spec) s → Runs old new (CollateRun bytes) s
 spec_next old new bytes spec s read rest = run_next (SpecOf bytes) AfterSpec old old new (Ok spec) spec s (at_once old (SpecOf bytes) (Ok spec) read) refl rest

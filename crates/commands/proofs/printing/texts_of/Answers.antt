@@ -1,7 +1,7 @@
 use Rattle.std.proofs.Common.{rules}
 use Rattle.commands.proofs.printing.texts_of.Goals as goal
 
--- said here, so that a body which does something else is refused soon
+-- said here, so that a body which does something else is rejected soon
 pub returns-in-Ok-clause-status : goal.returns-in-Ok-clause-status
 returns-in-Ok-clause-status c = search rules
 

@@ -11,7 +11,7 @@ use Rattle.commands.specs.CollateCommand.{style_of}
 use Rattle.commands.specs.ProjectCommand.{project_target}
 use Rattle.commands.proofs.project.collate_all.Goals as goal
 
--- what was read of the refused target of a project of this form
+-- what was read of the rejected target of a project of this form
 abbrev ReadIn : Option MapForm → List ProjectTargetValue → ℕ × RefusedTarget → Type 0
 ReadIn form parts r = WasReadAt (style_of form) parts r.0 r.1.refusal (table_with r.1.objects.items r.1.infos.items)
 
@@ -19,7 +19,7 @@ ReadIn form parts r = WasReadAt (style_of form) parts r.0 r.1.refusal (table_wit
 abbrev CollatesIn : Option MapForm → List ProjectTargetValue → ProjectOut → Type 0
 CollatesIn form parts out = CollatesProject (style_of form) parts out.targets.items
 
--- the refusal of a target of a project of this form
+-- the rejection of a target of a project of this form
 abbrev RefusedIn : Option MapForm → List ProjectTargetValue → ℕ × RefusedTarget → Type 0
 RefusedIn form parts r = IsProjectRefusal (style_of form) parts r.0 r.1.refusal
 

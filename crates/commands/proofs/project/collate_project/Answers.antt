@@ -13,7 +13,7 @@ use Rattle.commands.proofs.project.collate_project.Goals as goal
 abbrev AfterDocument : ProjectValue → Part OutputValue
 AfterDocument project = TargetsAfter [] project.targets >>= TargetsRun
 
--- the run goes on after it
+-- the run continues after it
 document_next : (old new : Option (List FileCall)) (bytes : Bytes) (project : ProjectValue) (s : Outcome OutputValue) → ProjectDocumentOf bytes [] (Ok project) →
     Runs old new (AfterDocument project) s → Runs old new (ProjectRun bytes) s
 document_next old new bytes project s read rest =

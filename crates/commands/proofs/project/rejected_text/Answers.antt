@@ -16,7 +16,7 @@ texts lent = map (λ text. text.now) lent
 pub bounds-targets-index : goal.bounds-targets-index
 bounds-targets-index c = slice_get_within c.args.targets.now c.args.index c.requires.0 c.requires.1
 
--- the target at hand is the one of the index
+-- the present target is the one of the index
 pub linked_names-requires : goal.linked_names-requires
 linked_names-requires c =
     let targets = c.args.targets.now in

@@ -8,7 +8,7 @@ use Rattle.commands.proofs.refusal.document_text.Goals as goal
 put_together : (kind number fault : List ℕ) → kind ++ (32 ∷ (number ++ (58 ∷ 32 ∷ fault))) ≡ kind ++ codes " " ++ number ++ codes ": " ++ fault
 put_together kind number fault = simp append_assoc
 
--- said here, so that a body which does something else is refused soon
+-- said here, so that a body which does something else is rejected soon
 pub returns : goal.returns
 returns c =
     ap (λ text. text.items) c.into_bytes.ensures.value ∙ c.in_ok-text.ensures.ok

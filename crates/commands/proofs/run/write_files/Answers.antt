@@ -54,7 +54,7 @@ loop-file-preserved g c =
     (λ calls more so_far is. subst (λ fs. WritesAll fs (calls ++ more)) (sym (take_next files i (file_value item) here))
     (one_more (take i files) (file_value item) calls more so_far (subst (WritesFile (file_value item) more) done is)))
 
--- said here, so that a call after the last file is refused soon
+-- said here, so that a call after the last file is rejected soon
 pub returns : goal.returns
 returns g c =
     let i : ℕ = c.loop-file.file-index in

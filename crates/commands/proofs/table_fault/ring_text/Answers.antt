@@ -6,7 +6,7 @@ use Rattle.commands.specs.TableFaults.{object_path, ring_text}
 use Rattle.commands.proofs.Loops.{appended_more}
 use Rattle.commands.proofs.table_fault.ring_text.Goals as goal
 
--- a ring that has a first object
+-- a cycle that has a first object
 ring_parts : (objects : List RuleValue) (ring : List ℕ) → 1 ≤ length ring →
     ring_text objects ring ≡ object_path objects (get_or ring 0 0) ++ flat_map (λ next. codes " -> " ++ object_path objects next) (take (length ring - 1) (drop 1 ring))
 ring_parts objects [] some = absurd (omega (arith, some))

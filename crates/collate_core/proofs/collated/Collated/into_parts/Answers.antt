@@ -1,7 +1,7 @@
 use Rattle.std.proofs.Common.{rules}
 use Rattle.collate_core.proofs.collated.Collated.into_parts.Goals as goal
 
--- said here, so that a body which does something else is refused soon
+-- said here, so that a body which does something else is rejected soon
 pub returns-clause-dyndep : goal.returns-clause-dyndep
 returns-clause-dyndep c = search rules
 

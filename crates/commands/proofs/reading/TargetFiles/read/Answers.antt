@@ -18,7 +18,7 @@ AfterInfos spec scans infos =
 abbrev AfterScans : document.TargetDocumentValue → List Text → List Text → Part TargetFilesValue
 AfterScans spec linked scans = ReadsAll linked >>= (λ infos. AfterInfos spec scans infos)
 
--- the run goes on after the scan documents
+-- the run continues after the scan documents
 scans_next : (old mid new : Option (List FileCall)) (spec : document.TargetDocumentValue) (linked names scans : List Text) (s : Outcome TargetFilesValue) → names ≡ spec.scans →
     Runs old mid (ReadsAll names) (Ok scans) → Runs mid new (AfterScans spec linked scans) s → Runs old new (FilesOf spec linked) s
 scans_next old mid new spec linked names scans s named read rest =
