@@ -2,12 +2,12 @@
 //! the files that the command leaves, and ends with the run's status.
 //!
 //! Status 0: success. 1: the input is invalid. 2: the arguments are not a valid command line. 3: a
-//! file could not be read or written, or memory ran out. For each other than 0 one line on standard
-//! error says why.
+//! file could not be read or written, or memory ran out. Every status other than 0 comes with one
+//! line on standard error, which gives the reason.
 //!
-//! What it does between the calls of the system is, with its promises, in the libraries
+//! What it does between the system calls is, with its promises, in the libraries
 //! `command_line` and `commands`. What is left to `main` is to get the arguments, to pass the files
-//! of the system to `commands` as a folder and its two outputs as writers, and to end with the
+//! of the system to `commands` as a `Folder` and its two outputs as writers, and to end with the
 //! status.
 //!
 //! It uses `commands` for the run, and `ninja_text` for writers whose calls are counted.

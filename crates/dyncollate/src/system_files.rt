@@ -1,12 +1,12 @@
-//! The files of the system, as a folder.
+//! The system's files, as a `Folder`.
 //!
 //! A file is read no further than it has to be: a document up to the bytes that were asked for, and
 //! a file of lines up to the first piece that its reader rejects.
 //!
 //! A file is replaced whole: its bytes go to a new file next to it, which is then renamed. Whoever
 //! opens the name meanwhile, or after a run that was killed, finds the bytes from before or the new
-//! ones. What no new file can take the place of, as a device, a pipe, or a file in a folder that
-//! may not be written, is written in place.
+//! ones. If no new file can take its place, as for a device, a pipe, or a file in a directory that
+//! may not be written, it is written in place.
 
 use commands::{Folder, PieceReader};
 use std::fs::{File, OpenFile, Permissions};
@@ -104,7 +104,7 @@ fn write_behind_link<R: Files + RandomSource + AllocGlobal>(
     }
 }
 
-/// Writes a file that is replaced whole where a new one can take its place, with these permissions.
+/// Writes a file that is replaced whole if a new one can take its place, with these permissions.
 fn write_whole<R: Files + RandomSource + AllocGlobal>(
     rt: &R,
     name: &str,
@@ -121,7 +121,7 @@ fn write_whole<R: Files + RandomSource + AllocGlobal>(
     }
 }
 
-/// A name next to this one that no other run has.
+/// Returns a name next to this one that no other run has.
 fn name_beside<R: RandomSource + AllocGlobal>(rt: &R, name: &str) -> io::Result<String> {
     let mut bytes = [0; 8];
     rt.fill_bytes(&mut bytes)?;
@@ -129,7 +129,7 @@ fn name_beside<R: RandomSource + AllocGlobal>(rt: &R, name: &str) -> io::Result<
     Ok(format!(in rt.alloc(); "{name}.{number:016x}.tmp")?)
 }
 
-/// Writes the bytes to the file `new`, and renames it. Answers whether it could be made and
+/// Writes the bytes to the file `new`, and renames it. Returns whether it could be made and
 /// renamed; that the disk is full, or that it could not be written, is an error, and the old file
 /// stays.
 fn replace<R: Files>(
@@ -144,7 +144,7 @@ fn replace<R: Files>(
         Err(error) => return unless_full(error),
     };
     if let Some(permissions) = permissions {
-        // Where this fails the system keeps no such permissions.
+        // If this fails the system keeps no such permissions.
         let _ = file.set_permissions(permissions);
     }
     let written = file.write_all(bytes);
@@ -160,7 +160,7 @@ fn replace<R: Files>(
     ended
 }
 
-/// A file is written in place where it can't be replaced, but not on a full disk.
+/// A file is written in place if it can't be replaced, but not on a full disk.
 fn unless_full(error: io::Error) -> io::Result<bool> {
     match error.kind() {
         ErrorKind::StorageFull | ErrorKind::QuotaExceeded => Err(error),

@@ -1,5 +1,5 @@
-//! Edges of a caller's own, and the order of edges after an effect. What listings, effects and orders
-//! are answered is rows of `tests/rows`.
+//! Edges of a caller's own, and the order of edges after an effect. The results for edge lists,
+//! effects and orders are rows of `tests/rows`.
 ghost use Rattle.std.specs.Prelude.{◌≡◌, ◌≢◌, [], All, IfOk, OnOk};
 
 mod growths;
@@ -21,7 +21,7 @@ pub(crate) const LIBRARY: &[u8] =
 pub(crate) const LIBRARY_AFTER: &[u8] =
     b"build a.o | mod/A.bmi: cxx a.cpp | mod/B.bmi || t.dd\n  dyndep = t.dd\n  restat = 1\nbuild b.o | mod/B.bmi: cxx b.cpp || t.dd\n  dyndep = t.dd\n  restat = 1\nbuild lib: ar a.o b.o\n";
 
-/// The graph of a listing.
+/// The graph of an edge list.
 pub(crate) fn graph_of(alloc: Global, listing: &[u8]) -> Result<Graph, Fail> {
     let mut reader = ListingReader::new(alloc);
     value(reader.feed(listing))?;
@@ -58,12 +58,12 @@ fn add_paths(alloc: Global, edge: &mut Edge) -> Result<(), Fail>
     Ok(())
 }
 
-/// The listing of that edge.
+/// The edge list of that edge.
 pub(crate) const WHOLE_EDGE: &[u8] =
     b"build a.o | a.d: cxx a.cpp | a.h || t.dd\n  dyndep = t.dd\n  restat = 1\n";
 
-/// The listing of a graph, which is no longer than that of the library after the effect. The room
-/// is made first, so that the writer does not fail.
+/// The edge list of a graph, which is no longer than that of the library after the effect. The
+/// vector has its capacity first, so that the writer does not fail.
 pub(crate) fn listing_of(alloc: Global, graph: &Graph) -> Result<Vec<u8>, Fail> {
     let mut out = Counted::new(Vec::with_capacity(alloc, LIBRARY_AFTER.len())?);
     value(listing_write(alloc, graph, &mut out))?;

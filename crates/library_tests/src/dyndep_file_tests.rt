@@ -1,5 +1,5 @@
-//! What no clause says: that a call succeeds where memory is left, texts in every cutting, and
-//! readers and writers that fail. What texts are answered, and how paths are spelled, are rows of
+//! What no clause says: that a call succeeds when memory is available, texts in every cutting, and
+//! readers and writers that fail. The results for texts, and escaped paths, are rows of
 //! `tests/rows`.
 mod growths;
 mod reading;
@@ -81,7 +81,7 @@ fn push_three(
     push_statement(alloc, statements, b"|", &[], &[])
 }
 
-/// What these statements are refused for.
+/// The error of these statements.
 fn fault_among(
     alloc: Global,
     output: &[u8],
@@ -95,7 +95,7 @@ fn fault_among(
     }
 }
 
-/// Whether a path without a spelling is reported with its index, wherever it is.
+/// Whether a path without an escaped form is reported with its index, wherever it is.
 fn is_reported_everywhere(alloc: Global, unwritable: &[u8]) -> bool {
     for path in 0..5 {
         let mut names: [&[u8]; 5] = [b"o", b"p", b"q", b"r", b"s"];
@@ -109,8 +109,8 @@ fn is_reported_everywhere(alloc: Global, unwritable: &[u8]) -> bool {
     true
 }
 
-/// Whether of a path without a spelling and too long a line the path is reported, wherever both
-/// are.
+/// Whether, for a path without an escaped form and a line that is too long, the path is reported,
+/// wherever both are.
 fn path_comes_first(alloc: Global, long: &[u8]) -> bool {
     let first = WriteFault::Unwritable {
         statement: 1,
@@ -162,9 +162,9 @@ fn the_first_fault_of_the_first_statement_counts(rt: HostRuntime) -> Result<(), 
     Ok(())
 }
 
-/// Whether a writer that takes this beginning of the two statements' text, at most that many bytes
-/// per call, gets it in as many calls as that takes, and where it is not the whole text one call more,
-/// which fails and is answered.
+/// Whether a writer that takes this prefix of the two statements' text, at most that many bytes per
+/// call, gets it in as many calls as that takes. If the prefix is not the whole text, one call more
+/// is made, which fails and is returned.
 fn is_answered(
     alloc: Global,
     taken: &[u8],

@@ -1,4 +1,4 @@
-//! What a table of modules answers to its caller.
+//! What a table of modules returns to its caller.
 
 mod growths;
 
@@ -24,7 +24,7 @@ pub(crate) fn table(alloc: Global) -> Result<Table, Fail> {
     Ok(Table::build(alloc, objects, infos, &[])?)
 }
 
-/// Whether the name is found with this file and this maker.
+/// Whether the name is found with this file and this producer.
 fn is_found(
     alloc: Global,
     table: &Table,

@@ -1,5 +1,5 @@
-//! What no clause says: that a call succeeds where memory is left, and readers and writers that
-//! fail. What paths mean, and which texts are none, are rows of `tests/rows`.
+//! What no clause says: that a call succeeds when memory is available, and readers and writers that
+//! fail. What paths mean, and which strings are not paths, are rows of `tests/rows`.
 ghost use Rattle.std.specs.Prelude.{◌≡◌};
 
 mod assigning;
@@ -13,7 +13,7 @@ use std::io;
 use std::io::ErrorKind;
 use std::test::Fail;
 
-/// Whether a call answers that this many bytes went in or out.
+/// Whether a call returns that this many bytes went in or out.
 fn is_count(answer: io::Result<usize>, wanted: usize) -> bool {
     match answer {
         Ok(count) => count == wanted,
@@ -21,7 +21,7 @@ fn is_count(answer: io::Result<usize>, wanted: usize) -> bool {
     }
 }
 
-/// Whether a call answers the error of the tests' readers and writers.
+/// Whether a call returns the error of the tests' readers and writers.
 fn is_interrupted(answer: io::Result<usize>) -> bool {
     match answer {
         Ok(_) => false,
@@ -87,8 +87,8 @@ impl ReadCall for Tally {
     }
 }
 
-/// How many calls of a source two reads make. That the answer is 2 is proved of what the source
-/// says of its calls.
+/// Returns how many calls of a source two reads make. That the result is 2 is proved from what the
+/// source says about its calls.
 fn calls_of_two_reads() -> u64
     ensures { result ≡ 2 }
 {

@@ -1,3 +1,3 @@
-//! What no clause says: that a call succeeds where memory is left. What documents are answered is
-//! rows of `tests/rows`.
+//! What no clause says: that a call succeeds when memory is available. The results for documents
+//! are rows of `tests/rows`.
 mod growths;

@@ -1,7 +1,6 @@
-//! Edges of a caller's own, and edges in order after an effect, whose growths of memory
-//! `tests/growths.py` refuses in turn. A test answers `AllocError` or `Failure::Memory` where a
-//! call answered that memory was refused, and nowhere else; every other answer has to be the
-//! example's.
+//! Edges of a caller's own, and edges in order after an effect, while `tests/growths.py` fails each
+//! allocation in turn. A test returns `AllocError` or `Failure::Memory` if and only if a call did.
+//! Every other result has to be the example's.
 
 use super::{WHOLE_EDGE, is_order, listing_of, order_after_effect, whole_edge};
 use crate::common::value;

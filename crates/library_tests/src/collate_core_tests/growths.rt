@@ -1,6 +1,6 @@
-//! Targets, projects and rehearsals, whose growths of memory `tests/growths.py` refuses in turn. A
-//! test answers `AllocError` or `Failure::Memory` where a call answered that memory was refused,
-//! and nowhere else; every other answer has to be the example's.
+//! Targets, projects and rehearsals, while `tests/growths.py` fails each allocation in turn. A test
+//! returns `AllocError` or `Failure::Memory` if and only if a call did. Every other result has to
+//! be the example's.
 
 use super::rehearsals::{bytewise, checked_order, rehearsed};
 use super::{dyndep_alone, project_texts, texts_in_own_style};

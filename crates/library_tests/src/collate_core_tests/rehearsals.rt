@@ -54,7 +54,7 @@ fn refused(
     }
 }
 
-/// Whether a text is refused for a bad line of this number, in each of five cuttings.
+/// Whether a text is rejected for a bad line of this number, in each of five cuttings.
 fn is_bad_at(alloc: Global, text: &[u8], graph: &Graph, number: u64) -> Result<bool, Fail> {
     let cuttings: &[&[usize]] = &[&[], &[25], &[24, 0, 1, 3], &[32], &[60, 1]];
     for cuts in cuttings {

@@ -1,6 +1,5 @@
-//! Orders and searches of small graphs, where `tests/growths.py` refuses each growth of memory in
-//! turn. The test answers `AllocError` where a call answered that memory was refused, and nowhere
-//! else; every other answer has to be the example's.
+//! Orders and searches of small graphs, while `tests/growths.py` fails each allocation in turn. The
+//! test returns `AllocError` if and only if a call did. Every other result has to be the example's.
 
 use super::{cyclic_graph, finds, graph, loop_graph};
 use dep_order::{Reaching, Sorting, order, reach};
@@ -13,7 +12,7 @@ fn a_cycle_of_three(rt: HostRuntime) -> Result<(), Fail> {
     Ok(())
 }
 
-/// Of two searches the second one finds nothing of the first.
+/// The second of two searches finds nothing of the first.
 #[test]
 fn reached_nodes(rt: HostRuntime) -> Result<(), Fail> {
     let one = loop_graph(rt.alloc())?;

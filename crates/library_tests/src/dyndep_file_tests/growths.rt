@@ -1,7 +1,7 @@
 //! Dyndep files that are read and written in ways that the program does not, byte by byte and by
-//! calls which it does not make, and whose growths of memory `tests/growths.py` refuses in turn. A
-//! test answers `AllocError` or `Failure::Memory` where a call answered that memory was refused, and
-//! nowhere else; every other answer has to be the example's.
+//! calls which it does not make, while `tests/growths.py` fails each allocation in turn. A test
+//! returns `AllocError` or `Failure::Memory` if and only if a call did. Every other result has to
+//! be the example's.
 
 use super::reading::{answers_in_pieces, is_answer, line_fault};
 use super::{Row, TWO_ROWS, TWO_STATEMENTS, dyndep_of, text_of};
@@ -10,8 +10,8 @@ use ninja_text::{Counted, Failure};
 use std::alloc::{AllocError, Global};
 use std::test::Fail;
 
-/// Byte by byte, what is read and what is refused. A reader that answered that memory was refused
-/// answers so again.
+/// Byte by byte, what is read and what is rejected. A reader that ran out of memory returns that
+/// again.
 #[test]
 fn reading_in_pieces(rt: HostRuntime) -> Result<(), Fail> {
     assert!(rt; answers_in_pieces(rt.alloc(), TWO_STATEMENTS, 1, Ok(TWO_STATEMENTS))?);
@@ -29,7 +29,7 @@ fn reading_to_the_end(rt: HostRuntime) -> Result<(), Fail> {
     Ok(())
 }
 
-/// What is written of these rows to a vector that has this room, or the failure, where nothing is.
+/// What is written of these rows to a vector with this capacity, or the failure if nothing is.
 fn written(alloc: Global, rows: &[Row], room: usize) -> Result<Vec<u8>, Failure<WriteFault>> {
     let mut out = Counted::new(Vec::with_capacity(alloc, room)?);
     let dyndep = dyndep_of(alloc, rows)?;
@@ -41,7 +41,7 @@ fn written(alloc: Global, rows: &[Row], room: usize) -> Result<Vec<u8>, Failure<
     }
 }
 
-/// To a writer and in memory. Where memory was refused, nothing was written.
+/// To a writer and in memory. If memory runs out, nothing was written.
 #[test]
 fn writing(rt: HostRuntime) -> Result<(), Fail> {
     let found = written(rt.alloc(), TWO_ROWS, TWO_STATEMENTS.len())?;

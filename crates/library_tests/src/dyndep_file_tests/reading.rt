@@ -1,4 +1,4 @@
-//! Texts that are read in pieces of every size. The lines that are refused, and further lines that
+//! Texts that are read in pieces of every size. The lines that are rejected, and further lines that
 //! are accepted, are rows of `tests/rows`.
 ghost use Rattle.std.specs.Prelude.{◌≤◌, length};
 
@@ -22,7 +22,7 @@ fn has_text(alloc: Global, dyndep: &Dyndep, text: &[u8]) -> Result<bool, AllocEr
     }
 }
 
-/// Whether a reader answered statements that are written so, or this fault.
+/// Whether a reader returned statements that are written so, or this fault.
 pub(super) fn is_answer(
     alloc: Global,
     answer: Result<Dyndep, Failure<ReadFault>>,
@@ -36,8 +36,8 @@ pub(super) fn is_answer(
     }
 }
 
-/// Whether a text that is fed in pieces of this size is answered so. A reader that refused a
-/// piece is fed the others too, and answers at its end as it did then.
+/// Whether a text that is fed in pieces of this size has this result. A reader that rejected a
+/// piece is also fed the others, and returns the same at its end.
 pub(super) fn answers_in_pieces(
     alloc: Global,
     text: &[u8],
@@ -51,7 +51,7 @@ pub(super) fn answers_in_pieces(
     is_answer(alloc, reader.finish(), wanted)
 }
 
-/// Whether a text that is fed in two pieces, the first of this length, is answered so.
+/// Whether a text that is fed in two pieces, the first of this length, has this result.
 fn answers_in_two(
     alloc: Global,
     text: &[u8],
@@ -66,7 +66,7 @@ fn answers_in_two(
     is_answer(alloc, reader.finish(), wanted)
 }
 
-/// Whether the text is answered so in pieces of every size, and cut in two at every place.
+/// Whether the text has this result in pieces of every size, and cut in two at every index.
 fn always_answers(
     alloc: Global,
     text: &[u8],
@@ -124,7 +124,7 @@ fn a_text_is_answered_alike_in_every_cutting(rt: HostRuntime) -> Result<(), Fail
     Ok(())
 }
 
-/// Whether a reader is read with this answer, in that many calls, of which that many failed.
+/// Whether a reader is read with this result, in this many calls, this many of which failed.
 fn reads_as(
     alloc: Global,
     input: Counted<Bytewise<'_>>,

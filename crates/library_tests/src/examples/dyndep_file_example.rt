@@ -1,4 +1,4 @@
-//! A dyndep file is read, and written as this library spells it.
+//! A dyndep file is read, and written as this library writes it.
 use dyndep_file::{Dyndep, DyndepReader, LineFault, ReadFault};
 use ninja_text::Failure;
 use std::alloc::Global;

@@ -1,9 +1,9 @@
-//! A path is made canonical, and spelled as Ninja reads it.
+//! A path is made canonical, and escaped as Ninja reads it.
 use ninja_text::{Failure, Path, PathFault, escape_into};
 use std::alloc::Global;
 use std::test::Fail;
 
-/// The canonical path of the text, as a build line spells it.
+/// The canonical path of the text, escaped for a build line.
 fn spelled(alloc: Global, text: &[u8]) -> Result<Vec<u8>, Failure<PathFault>> {
     let path = Path::of(alloc, text)?;
     let mut line = Vec::new(alloc);

@@ -4,7 +4,7 @@ use scan_docs::{DocFault, Rule, Setting, scan};
 use std::alloc::Global;
 use std::test::Fail;
 
-/// The rules of a document, where modules go to `mod` and their files end in `.pcm`.
+/// The rules of a document. Module files are in `mod` and end in `.pcm`.
 fn rules(alloc: Global, document: &[u8]) -> Result<Vec<Rule>, Failure<DocFault>> {
     let setting = Setting {
         module_dir: String::from_str(alloc, "mod")?,

@@ -1,6 +1,6 @@
-//! Maps and their entries, whose growths of memory `tests/growths.py` refuses in turn. A test
-//! answers `AllocError` or `Failure::Memory` where a call answered that memory was refused, and
-//! nowhere else; every other answer has to be the example's.
+//! Maps and their entries, while `tests/growths.py` fails each allocation in turn. A test returns
+//! `AllocError` or `Failure::Memory` if and only if a call did. Every other result has to be the
+//! example's.
 
 use super::bare::Bare;
 use super::{entries_of_lines, entry_of_pair, is_read_back};

@@ -1,5 +1,5 @@
-//! What the cutter takes, lends and refuses. That lines are the same wherever a text is cut is shown
-//! by the reader that uses it, in `dyndep_file_tests`.
+//! What the cutter takes, returns and rejects. `dyndep_file_tests` shows, by the reader that uses
+//! it, that lines are the same wherever a text is cut.
 use ninja_text::{CutFault, Failure, LINE_LIMIT, LineCutter};
 use std::alloc::Global;
 use std::test::Fail;
@@ -29,7 +29,7 @@ fn takes_up_to_a_line_end_and_nothing_while_the_line_waits(rt: HostRuntime) {
     assert!(rt; takes_in_turn(&mut cutter));
 }
 
-/// Whether a cutter takes the text, which has no line's end, refuses one more byte, and answers the
+/// Whether a cutter takes the text, which has no line's end, rejects one more byte, and returns the
 /// same from then on.
 fn refuses_one_more(alloc: Global, text: &[u8]) -> bool {
     let too_long = CutFault::LineTooLong { line: 1 };

@@ -1,6 +1,6 @@
-//! Lines byte by byte, paths and values, where `tests/growths.py` refuses each growth of memory in
-//! turn. A cutter that answered that memory was refused is as it was, and takes the same byte the
-//! second time; and a vector to which nothing was appended has what it had.
+//! Lines byte by byte, paths and values, while `tests/growths.py` fails each allocation in turn. A
+//! cutter that ran out of memory is unchanged, and takes the same byte the second time. A vector to
+//! which nothing was appended has what it had.
 
 use crate::common::{path, value};
 use ninja_text::{Failure, Line, LineCutter, assignment, escape_into, words};
@@ -14,7 +14,7 @@ fn takes(cutter: &mut LineCutter, piece: &[u8]) -> bool {
         || taken == Err(Failure::Memory) && cutter.feed(piece) == Ok(piece.len())
 }
 
-/// Whether these bytes are taken one by one, and then this line is lent.
+/// Whether these bytes are taken one by one, and then this line is returned.
 fn lends_bytewise(cutter: &mut LineCutter, bytes: &[u8], text: &[u8]) -> bool {
     for byte in bytes {
         if !takes(cutter, &[*byte]) {
@@ -43,8 +43,8 @@ fn lines_byte_by_byte(rt: HostRuntime) {
     }
 }
 
-/// Whether all of these bytes are in a vector after a call that appends to it. Where the call
-/// answered that memory was refused, the vector has to have what it had.
+/// Whether all of these bytes are in a vector after a call that appends to it. If the call ran out
+/// of memory, the vector has to have what it had.
 fn has_all(
     answer: Result<(), AllocError>,
     out: &[u8],

@@ -42,7 +42,7 @@ fn is_divided(alloc: Global, text: &[u8], wanted: &[Span]) -> bool {
     }
 }
 
-/// A word continues over a continuation, and a space before one ends it. Of the bars the longest is
+/// A word continues over a continuation, and a space before one ends it. The longest of the bars is
 /// the token, an escape is part of a word, and so is a tab; spaces alone have no token.
 #[test]
 fn tokens_have_their_spans(rt: HostRuntime) {

@@ -1,6 +1,6 @@
-//! An info that is read and written, and names, whose growths of memory `tests/growths.py` refuses in
-//! turn. A test answers `AllocError` or `Failure::Memory` where a call answered that memory was refused,
-//! and nowhere else; every other answer has to be the example's.
+//! An info that is read and written, and names, while `tests/growths.py` fails each allocation in
+//! turn. A test returns `AllocError` or `Failure::Memory` if and only if a call did. Every other
+//! result has to be the example's.
 
 use crate::common::{name, target_name};
 use scan_docs::{Name, TargetName, info_read, info_write};
