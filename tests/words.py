@@ -1,7 +1,7 @@
 """The pages, the comments of the sources and the subjects of commits are in plain English, as the Rust book and the Ninja manual are.
 
     python3 -m unittest tests.words
-    python3 -m tests.words             prints each turn in the comments of `.rt` and `.antt` files, also those not checked yet
+    python3 -m tests.words             prints each turn in the comments of `.rt` and `.antt` files
 
 TURNS has what is not written, and what is written instead. Code in a text is passed over, and so is what EXCEPTIONS has.
 """
@@ -46,16 +46,28 @@ TURNS = [
     (r"rings?", "cycle", "the least ring", "the least cycle"),
     (r"[Ss]pell(?:s|ed|ing|ings)?", "escapes, writes, the escaped form", "a path's spelling", "a path's escaped form"),
     (r"growths?", "allocation", "a growth that fails", "an allocation that fails"),
-    (r"folders?", "directory", "the folder of a file", "the directory of a file"),
     (r"proper\s+(?:call|beginning|one)s?", "valid, a proper prefix", "the words are no proper call", "the command line is not valid"),
     (r"too(?=[.,;:)])", "also", "a file is read, too.", "a file is also read."),
+    (r"folders?", "directory", "the folder of a file", "the directory of a file"),
 ]
-# How many of the turns, from the first on, the comments of the sources are checked for; and in which files.
-CHECKED_IN_COMMENTS, COMMENTS = 16, ["src/**/*.rt"]
-# What is written all the same: pieces of texts that have a turn, and subjects of commits.
-EXCEPTIONS = ["tests: a run needs no random bytes but for names of new files", "FORMATS: fewer words once more",
-              "bench/random: random projects beside plain C++",
-              "build_effect: the checks of a graph and the tables of files are one file each"]
+# The turns that comments of the sources are checked for, from the first on: they call a `Folder` a folder.
+CHECKED_IN_COMMENTS = len(TURNS) - 1
+# What is written all the same: subjects of commits, and pieces of comments.
+EXCEPTIONS = [
+    "tests: a run needs no random bytes but for names of new files", "FORMATS: fewer words once more",
+    "bench/random: random projects beside plain C++",
+    "build_effect: the checks of a graph and the tables of files are one file each",
+    # dyndep_file
+    "a text of each class, if it may stand", "if a line may not stand", "or else the second", "want of memory, and `Io` at",
+    # in_memory
+    "two texts that begin alike go on alike", "what is behind the first file", "Replies of commands, by their answers",
+    "put behind others one after another", "a command that comes to one of", "If it is none, nothing was written",
+    "that has come to one of these outcomes", "what a run comes to over these files", "Of the files that the document",
+    # ninja_text
+    "if a word goes on, a piece follows", "the directory is a proper beginning", "A word goes on if a piece follows",
+    "behind which no piece follows", "wherever the units stand", "one more component behind it", "a piece goes on if one follows",
+    "What stands behind a gap", "and goes on if a piece follows", "and else the first fault", "and goes on in a piece",
+]
 # The commit after which subjects are checked.
 CHECKED_SINCE = "dfbbbcd"
 FOUND = [(re.compile(rf"\b(?:{turn})\b"), instead) for turn, instead, _, _ in TURNS]
@@ -80,8 +92,8 @@ def pages():
     return sorted([*TOP.glob("*.md"), *TOP.glob("docs/*.[m1]*"), *TOP.glob("crates/*/README.md"), *TOP.glob("tests/*.md")])
 
 
-def sources(*patterns):
-    return sorted(path for pattern in patterns for path in TOP.glob(f"crates/*/{pattern}") if "out" not in path.relative_to(TOP).parts)
+def sources():
+    return sorted(path for pattern in ("src/**/*.rt", "specs/**/*.antt", "proofs/**/*.antt") for path in TOP.glob(f"crates/*/{pattern}"))
 
 
 class Words(unittest.TestCase):
@@ -98,8 +110,8 @@ class Words(unittest.TestCase):
                 self.assertEqual(list(wrong(page.read_text())), [])
 
     def test_comments(self):
-        self.assertTrue(sources(*COMMENTS))
-        for path in sources(*COMMENTS):
+        self.assertTrue(sources())
+        for path in sources():
             with self.subTest(path.relative_to(TOP).as_posix()):
                 self.assertEqual(list(wrong(comments(path), CHECKED_IN_COMMENTS)), [])
 
@@ -117,8 +129,8 @@ class Words(unittest.TestCase):
 
 
 def main():
-    for path in sources("src/**/*.rt", "**/*.antt"):
-        for one in wrong(comments(path)):
+    for path in sources():
+        for one in wrong(comments(path), CHECKED_IN_COMMENTS):
             print(f"{path.relative_to(TOP).as_posix()} {one}")
 
 
