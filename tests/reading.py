@@ -303,7 +303,7 @@ class Reading(unittest.TestCase):
 
     def test_examples(self):
         """The page of a library quotes its example: python3 -m tests.reading --write"""
-        self.assertEqual(set(EXAMPLES), set(CRATES) - {"command_line", "commands", "dyncollate", "in_memory", "library_tests", "table_keys"})
+        self.assertEqual(set(EXAMPLES), set(CRATES) - {"c_library", "command_line", "commands", "dyncollate", "in_memory", "library_tests", "table_keys"})
         for crate, path in EXAMPLES.items():
             with self.subTest(crate):
                 self.assertIn(example(path), QUOTED.findall(page_of(crate).read_text()))

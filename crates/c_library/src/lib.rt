@@ -1,0 +1,136 @@
+//! The C library `libdyncollate`: the commands of `dyncollate`, and a reader of dyndep files, for
+//! programs in any language that have their files in memory.
+//!
+//! Each export is the function of `in_memory` that it calls, with its clause. The page of the crate
+//! says what a caller in C has to see to.
+//!
+//! It uses `in_memory` alone, and of the system `malloc`, `realloc` and `free`.
+#![tactic(auto)]
+
+ghost use Rattle.std.specs.Prelude.{[], IsUtf8, ⊤};
+ghost use Rattle.in_memory.specs.CollateCommand.{CollateRun};
+ghost use Rattle.in_memory.specs.Cuts.{IsCut, OfCut};
+ghost use Rattle.in_memory.specs.Effect.{EffectRun};
+ghost use Rattle.in_memory.specs.One.{OneRun};
+ghost use Rattle.in_memory.specs.Order.{OrderRun};
+ghost use Rattle.in_memory.specs.ProjectCommand.{ProjectRun};
+ghost use Rattle.in_memory.specs.Replies.{Puts, Replies};
+ghost use Rattle.in_memory.specs.Runs.{Over};
+ghost use Rattle.in_memory.specs.Show.{ShowRun};
+ghost use Rattle.in_memory.specs.Statements.{Tells};
+
+use in_memory::{
+    Outcome, collate_into, effect_into, one_into, order_into, project_into, show_into,
+    statements_into,
+};
+use std::alloc::Global;
+
+/// Runs `collate` on the bytes of a target document, and on files that lie one after another in one
+/// text.
+#[unsafe(no_mangle)]
+pub extern "C" fn dyncollate_collate(
+    alloc: Global,
+    document: &[u8],
+    lengths: &[usize],
+    files: &[u8],
+    numbers: &mut [usize],
+    text: &mut [u8],
+) -> Outcome
+    ensures { Puts (IsCut lengths.now files.now) (λ reply. OfCut lengths.now files.now
+        (λ given. Replies (Over given (CollateRun document.now)) reply))
+        numbers.old text.old numbers.new text.new result }
+{
+    collate_into(alloc, document, lengths, files, numbers, text)
+}
+
+/// Runs `project` on the bytes of a project document, and on files that lie one after another in
+/// one text.
+#[unsafe(no_mangle)]
+pub extern "C" fn dyncollate_project(
+    alloc: Global,
+    document: &[u8],
+    lengths: &[usize],
+    files: &[u8],
+    numbers: &mut [usize],
+    text: &mut [u8],
+) -> Outcome
+    ensures { Puts (IsCut lengths.now files.now) (λ reply. OfCut lengths.now files.now
+        (λ given. Replies (Over given (ProjectRun document.now)) reply))
+        numbers.old text.old numbers.new text.new result }
+{
+    project_into(alloc, document, lengths, files, numbers, text)
+}
+
+/// Runs `one` on the bytes of a scan document.
+#[unsafe(no_mangle)]
+pub extern "C" fn dyncollate_one(
+    alloc: Global,
+    scan: &[u8],
+    dir: &[u8],
+    ext: &[u8],
+    numbers: &mut [usize],
+    text: &mut [u8],
+) -> Outcome
+    ensures { Puts (IsUtf8 dir.now × IsUtf8 ext.now)
+        (Replies (OneRun scan.now dir.now ext.now []))
+        numbers.old text.old numbers.new text.new result }
+{
+    one_into(alloc, scan, dir, ext, numbers, text)
+}
+
+/// Runs `effect` on a name, and on the bytes of an edge list and of a dyndep file.
+#[unsafe(no_mangle)]
+pub extern "C" fn dyncollate_effect(
+    alloc: Global,
+    name: &[u8],
+    edges: &[u8],
+    dyndep: &[u8],
+    numbers: &mut [usize],
+    text: &mut [u8],
+) -> Outcome
+    ensures { Puts (IsUtf8 name.now) (Replies (EffectRun name.now edges.now dyndep.now []))
+        numbers.old text.old numbers.new text.new result }
+{
+    effect_into(alloc, name, edges, dyndep, numbers, text)
+}
+
+/// Runs `order` on the bytes of an edge list.
+#[unsafe(no_mangle)]
+pub extern "C" fn dyncollate_order(
+    alloc: Global,
+    edges: &[u8],
+    numbers: &mut [usize],
+    text: &mut [u8],
+) -> Outcome
+    ensures { Puts ⊤ (Replies (OrderRun edges.now []))
+        numbers.old text.old numbers.new text.new result }
+{
+    order_into(alloc, edges, numbers, text)
+}
+
+/// Runs `show` on the bytes of a dyndep file.
+#[unsafe(no_mangle)]
+pub extern "C" fn dyncollate_show(
+    alloc: Global,
+    dyndep: &[u8],
+    numbers: &mut [usize],
+    text: &mut [u8],
+) -> Outcome
+    ensures { Puts ⊤ (Replies (ShowRun dyndep.now []))
+        numbers.old text.old numbers.new text.new result }
+{
+    show_into(alloc, dyndep, numbers, text)
+}
+
+/// Reads the statements of a dyndep file.
+#[unsafe(no_mangle)]
+pub extern "C" fn dyncollate_statements(
+    alloc: Global,
+    dyndep: &[u8],
+    numbers: &mut [usize],
+    text: &mut [u8],
+) -> Outcome
+    ensures { Puts ⊤ (Tells dyndep.now) numbers.old text.old numbers.new text.new result }
+{
+    statements_into(alloc, dyndep, numbers, text)
+}
