@@ -191,7 +191,7 @@ class Calls:
     def public(self):
         """The public calls of the libraries whose result may be that memory was refused. Those of `commands` are not among them:
         they are what the program runs in each of its tests."""
-        names = {crate: offered(crate) for crate in CRATES if crate not in ("commands", "in_memory") and (TOP / crate / "src/lib.rt").exists()}
+        names = {crate: offered(crate) for crate in CRATES if crate != "commands" and (TOP / crate / "src/lib.rt").exists()}
         return [one for one in self.functions if one.crate in names and (one.public or one.trait) and
                 (one.type or one.name) in names[one.crate] and re.match(r"Result<.*\b(AllocError|Failure<)", one.result, re.S)]
 
@@ -303,7 +303,7 @@ class Reading(unittest.TestCase):
 
     def test_examples(self):
         """The page of a library quotes its example: python3 -m tests.reading --write"""
-        self.assertEqual(set(EXAMPLES), set(CRATES) - {"c_library", "command_line", "commands", "dyncollate", "in_memory", "library_tests", "table_keys"})
+        self.assertEqual(set(EXAMPLES), set(CRATES) - {"c_library", "command_line", "commands", "dyncollate", "library_tests", "table_keys"})
         for crate, path in EXAMPLES.items():
             with self.subTest(crate):
                 self.assertIn(example(path), QUOTED.findall(page_of(crate).read_text()))

@@ -24,6 +24,8 @@ mod examples;
 #[cfg(test)]
 mod failing;
 #[cfg(test)]
+mod in_memory_tests;
+#[cfg(test)]
 mod module_maps_tests;
 #[cfg(test)]
 mod module_table_tests;
