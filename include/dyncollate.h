@@ -1,0 +1,140 @@
+/* libdyncollate: the commands of `dyncollate` as functions of your program.
+
+   A call gets the bytes of the files that the command reads, and returns what the command prints
+   and the files that it writes. It reads and writes no file itself. This program prints the dyndep
+   file of one scan document:
+
+       #include <dyncollate.h>
+       #include <stdio.h>
+
+       int main(void) {
+           static const char scan[] =
+               "{\"version\":1,\"rules\":[{\"primary-output\":\"obj/b.o\"}]}";
+           size_t numbers[2];
+           uint8_t text[4096];
+           dyncollate_outcome got = dyncollate_one(
+               (const uint8_t *)scan, sizeof scan - 1, (const uint8_t *)"mod", 3,
+               (const uint8_t *)".bmi", 4, numbers, 2, text, sizeof text);
+           if (!got.written)
+               return 1;
+           fwrite(text, 1, numbers[0], stdout);
+           fwrite(text + numbers[0], 1, numbers[1], stderr);
+           return (int)got.status;
+       }
+
+       cc b.c $(pkg-config --cflags --libs dyncollate) && ./a.out
+
+   docs/FORMATS.md of dyncollate describes the formats, and which error is reported.
+
+   WHAT YOU PASS
+     A string is a pointer to bytes and their count. It needs no zero at its end. No pointer may be
+     NULL, not even with the count 0.
+     Several files are one string `files`, in which the name and the bytes of each file follow each
+     other, and `lengths`, which has two numbers per file: the length of its name, and of its bytes.
+     `length_count` counts these numbers. If a name is there twice, its first file is used. A file
+     that a document names and that is not there is a file that cannot be read.
+
+   WHAT YOU GET
+     You provide room for `numbers` and for `text`. The two overlap nothing else that you pass.
+     If both have enough room, the result is at their beginning, `written` is 1, and what follows it
+     is unchanged. Otherwise `written` is 0, both are unchanged, and the outcome says how much room
+     is needed: call again with that much.
+     The text of the six commands is standard output, standard error, and the name and the bytes of
+     each file that the command writes, in that order. Their numbers are the length of standard
+     output, the length of standard error, and three per file: the length of its name, the length of
+     its bytes, and 1 if a file that already has these bytes is to be left alone ("restat":true in
+     the target document), else 0.
+
+   OWNERSHIP
+     All memory that you pass stays yours, and no call keeps a pointer to it. Nothing that you get
+     has to be freed: each call frees what it allocated, also if an allocation fails.
+
+   GUARANTEES
+     The functions are proved against contracts that say byte for byte what they write, in terms of
+     the definitions that also specify the program: same bytes, same order, same errors. In the
+     sources of dyncollate, docs/PROVED.md says what is proved and what is trusted.
+     Your side of the contract is not checked: a pointer that is NULL and a count that is too large
+     are undefined behaviour, as for memcpy.
+     A call allocates with malloc, realloc and free, and calls nothing else of the system. There is
+     no global state, so any number of threads may call at once. The same bytes give the same
+     result. */
+#ifndef DYNCOLLATE_H
+#define DYNCOLLATE_H
+
+#include <stddef.h>
+#include <stdint.h>
+
+#ifdef __cplusplus
+extern "C" {
+#endif
+
+/* The status of an outcome. For each but DYNCOLLATE_DONE no file is to be written. */
+enum {
+    DYNCOLLATE_DONE = 0,      /* the command succeeded */
+    DYNCOLLATE_REJECTED = 1,  /* the input is not valid; the line on standard error says why */
+    DYNCOLLATE_UNREAD = 3,    /* a file that a document names was not passed; the line says which */
+    DYNCOLLATE_NO_MEMORY = 4, /* an allocation failed, so nothing is known about the input */
+    DYNCOLLATE_MISUSED = 5    /* `length_count` is odd, or the lengths do not add up to `files_size`,
+                                 or the name of a file, `dir`, `ext` or `name` is not UTF-8 */
+};
+
+typedef struct dyncollate_outcome {
+    uint32_t status;  /* one of the above */
+    uint32_t written; /* 1 if the result was written to `numbers` and `text`, else 0 */
+    size_t numbers;   /* how many numbers the result has; 0 for DYNCOLLATE_NO_MEMORY and _MISUSED */
+    size_t text;      /* how many bytes its text has; 0 for these two */
+} dyncollate_outcome;
+
+/* dyncollate collate TARGETFILE: `document` has the bytes of the target document, and `files` the
+   files that it names. Write those of the result in their order: the dyndep file comes last. */
+dyncollate_outcome dyncollate_collate(
+    const uint8_t *document, size_t document_size,
+    const size_t *lengths, size_t length_count, const uint8_t *files, size_t files_size,
+    size_t *numbers, size_t numbers_room, uint8_t *text, size_t text_room);
+
+/* dyncollate project FILE: `document` has the bytes of the project document, and `files` the target
+   documents and the files that these name. */
+dyncollate_outcome dyncollate_project(
+    const uint8_t *document, size_t document_size,
+    const size_t *lengths, size_t length_count, const uint8_t *files, size_t files_size,
+    size_t *numbers, size_t numbers_room, uint8_t *text, size_t text_room);
+
+/* dyncollate one SCAN DIR EXT: `scan` has the bytes of the scan document. */
+dyncollate_outcome dyncollate_one(
+    const uint8_t *scan, size_t scan_size,
+    const uint8_t *dir, size_t dir_size, const uint8_t *ext, size_t ext_size,
+    size_t *numbers, size_t numbers_room, uint8_t *text, size_t text_room);
+
+/* dyncollate effect NAME EDGES DYNDEP: `edges` and `dyndep` have the bytes of the files. */
+dyncollate_outcome dyncollate_effect(
+    const uint8_t *name, size_t name_size,
+    const uint8_t *edges, size_t edges_size, const uint8_t *dyndep, size_t dyndep_size,
+    size_t *numbers, size_t numbers_room, uint8_t *text, size_t text_room);
+
+/* dyncollate order EDGES: `edges` has the bytes of the edge list. */
+dyncollate_outcome dyncollate_order(
+    const uint8_t *edges, size_t edges_size,
+    size_t *numbers, size_t numbers_room, uint8_t *text, size_t text_room);
+
+/* dyncollate show DYNDEP: `dyndep` has the bytes of the dyndep file. */
+dyncollate_outcome dyncollate_show(
+    const uint8_t *dyndep, size_t dyndep_size,
+    size_t *numbers, size_t numbers_room, uint8_t *text, size_t text_room);
+
+/* Reads a dyndep file as data, for tools that load such files. The status is DYNCOLLATE_DONE,
+   DYNCOLLATE_REJECTED or DYNCOLLATE_NO_MEMORY.
+   If it is accepted, the text has the paths of each statement, one after another and without
+   escapes: its output, its implicit outputs, its implicit inputs. For each statement the numbers
+   are 1 if it has `restat`, else 0; how many implicit outputs it has; how many implicit inputs; and
+   then the lengths of these paths, in the order of the text.
+   If it is rejected, the one number is the line of the first error, from 1, and the text is its code
+   and name, such as `Y8 BadLine`. */
+dyncollate_outcome dyncollate_statements(
+    const uint8_t *dyndep, size_t dyndep_size,
+    size_t *numbers, size_t numbers_room, uint8_t *text, size_t text_room);
+
+#ifdef __cplusplus
+}
+#endif
+
+#endif
