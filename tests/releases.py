@@ -1,27 +1,44 @@
 """The version, the archive that ./release makes, and what ./install puts where."""
 import gzip
 import hashlib
+import json
 import os
 import re
+import shlex
 import shutil
 import subprocess
+import sys
 import tarfile
 import tempfile
 import time
 import unittest
 from pathlib import Path
 
-from tests import program
+from tests import embedded, program
+from tests.files import DATA, TARGETS
 from tests.tools import tool
 
 TOP = Path(program.TOP)
 VERSION = (TOP / "VERSION").read_text().strip()
 NAME = f"dyncollate-{VERSION}-linux-x86_64"
 # what ./release takes from the commit, and what it needs itself
-SOURCES = ["CHANGELOG.md", "cmake", "docs/GUIDE.md", "docs/FORMATS.md", "docs/dyncollate.1", "docs/project.schema.json",
-           "docs/target.schema.json", "examples", "install"]
-TOOLS = [".gitignore", "ARCHIVE.md", "VERSION", "build", "crates.txt", "release"]
+SOURCES = ["CHANGELOG.md", "VERSION", "cmake", "docs/GUIDE.md", "docs/FORMATS.md", "docs/dyncollate.1", "docs/project.schema.json",
+           "docs/target.schema.json", "examples", "include", "install"]
+TOOLS = [".gitignore", "ARCHIVE.md", "build", "crates.txt", "release"]
+# what ./build and ./build library make, by the directory where they leave it
+BUILT = {"dyncollate": {"dyncollate": program.PROGRAM},
+         "c_library": {"libdyncollate.a": embedded.STATIC, "libdyncollate.so.1": embedded.SHARED}}
+# what ./install puts below its prefix, in this order
+INSTALLED = ["share/dyncollate/installed", "bin/dyncollate", "bin/dyncollate-cmake", "share/man/man1/dyncollate.1", "include/dyncollate.h",
+             "lib/libdyncollate.a", "lib/libdyncollate.so.1", "lib/libdyncollate.so", "lib/pkgconfig/dyncollate.pc"]
 EXAMPLE = "ninja_dyndep_version = 1\nbuild obj/b.o | mod/B.bmi: dyndep\n  restat = 1\n"
+# what examples/embed/collate.c does
+BY_MODULE = """
+import dyncollate, sys
+document, *files = [open(name, "rb").read() for name in sys.argv[1:]]
+for name, text in dyncollate.collate(document, dict(zip(sys.argv[2:], files))).items():
+    print(f"==> {name} <==\\n{text.decode()}", end="")
+"""
 HELLO = ("ninja_dyndep_version = 1\nbuild obj/main.o: dyndep | bmi/greet.pcm\n"
          "build obj/greet.o | bmi/greet.pcm: dyndep | bmi/words.pcm\n  restat = 1\n"
          "build obj/words.o | bmi/words.pcm: dyndep\n  restat = 1\n")
@@ -66,8 +83,9 @@ class Version(unittest.TestCase):
         self.assertIn(git("tag", "--points-at", "HEAD", "--list", "v[0-9]*").split(), ([], [f"v{VERSION}"]))
 
 
+@embedded.needs_library
 class Archive(unittest.TestCase):
-    """An archive of a clone that has the files of this one, and its program."""
+    """An archive of a clone that has the files of this one, its program and its library."""
     seconds = 5
 
     @classmethod
@@ -98,12 +116,15 @@ class Archive(unittest.TestCase):
 
     @staticmethod
     def build(clone):
-        """The program is there as ./build leaves it."""
-        out = clone / "crates/dyncollate/out"
-        out.mkdir(parents=True)
-        shutil.copy2(program.PROGRAM, out / "dyncollate")
+        """The program and the library are there as ./build leaves them."""
+        for crate, files in BUILT.items():
+            out = clone / f"crates/{crate}/out"
+            out.mkdir(parents=True)
+            for name, file in files.items():
+                shutil.copy2(file, out / name)
         time.sleep(0.02)
-        (out / "built").write_bytes(b"crates.txt\0")
+        for crate in BUILT:
+            (clone / f"crates/{crate}/out/built").write_bytes(b"crates.txt\0")
 
     @classmethod
     def release(cls, *words, clone=None, **environment):
@@ -130,7 +151,8 @@ class Archive(unittest.TestCase):
         committed = int(git("log", "-1", "--format=%ct", cwd=self.clone))
         with tarfile.open(self.archive) as tar:
             members = tar.getmembers()
-        wanted = git("ls-files", *SOURCES, cwd=self.clone).splitlines() + ["PROVED.txt", "README.md", "SHA256SUMS", "dyncollate"]
+        wanted = git("ls-files", *SOURCES, cwd=self.clone).splitlines() + ["PROVED.txt", "README.md", "SHA256SUMS"]
+        wanted += [name for files in BUILT.values() for name in files]
         self.assertEqual(sorted(it.name for it in members if it.isfile()), sorted(f"{NAME}/{it}" for it in wanted))
         self.assertEqual([it.name for it in members], sorted(it.name for it in members))
         self.assertEqual({(it.uid, it.gid, it.uname, it.gname, it.mtime) for it in members}, {(0, 0, "", "", committed)})
@@ -223,7 +245,7 @@ class Archive(unittest.TestCase):
         (kit / "bin/rt").chmod(0o755)
         status, out, err = self.release(clone=clone, PATH=f"{kit}/bin:{ENVIRONMENT['PATH']}")
         self.assertEqual((status, out), (1, ""))
-        self.assertRegex(err, r"\Arelease: the toolchain is newer than the program")
+        self.assertRegex(err, r"\Arelease: the toolchain is newer than what it built")
 
     def test_in_an_empty_root(self):
         """With nothing but the C library, the program does what README shows, and collates."""
@@ -260,13 +282,15 @@ class Archive(unittest.TestCase):
                        env=ENVIRONMENT | names, check=True)
         self.assertEqual(call(tool("ninja"), cwd=folder)[0], 0)
         self.assertEqual(call(folder / "app"), (0, "42\n", ""))
+        if shutil.which("gcc") and shutil.which("pkg-config"):
+            self.assertEqual(call(self.home / "install", self.room / "of the build")[0], 0)
+            self.in_memory(self.room / "of the build", folder, [f"dd/{name}.target.json" for name in ("base", "math", "app")])
 
     def test_install(self):
         """It says what it puts where, also a second time, and takes away exactly that."""
         prefix = self.room / "a prefix"
         (prefix / "share/doc").mkdir(parents=True)
-        installed = [prefix / it for it in ("share/dyncollate/installed", "bin/dyncollate", "bin/dyncollate-cmake",
-                                            "share/man/man1/dyncollate.1")]
+        installed = [prefix / it for it in INSTALLED]
         said = "".join(f"{it}\n" for it in installed)
         before = sorted(prefix.rglob("*"))
         for _ in range(2):
@@ -278,7 +302,8 @@ class Archive(unittest.TestCase):
         status, out, err = call(self.home / "install", "--uninstall", prefix)
         self.assertEqual((status, err), (0, ""))
         self.assertEqual(sorted(prefix.rglob("*")), before)
-        removed = [prefix / it for it in ("bin", "share/dyncollate", "share/man", "share/man/man1")] + installed
+        folders = "bin", "include", "lib", "lib/pkgconfig", "share/dyncollate", "share/man", "share/man/man1"
+        removed = [prefix / it for it in folders] + installed
         self.assertEqual(sorted(out.splitlines()), sorted(f"removed {it}" for it in removed))
         self.assertEqual(call(self.home / "install", "--uninstall", prefix),
                          (1, "", f"install: nothing is installed there: there is no {installed[0]}\n"))
@@ -296,10 +321,53 @@ class Archive(unittest.TestCase):
             self.assertEqual((status, out, err.split(":")[:2]), (2, "", ["install", " usage"]), words)
 
     def test_install_from_the_sources(self):
-        """The program is not that of the archive, which is at the top there."""
+        """The program and the library are not those of the archive, which are at the top there."""
         prefix = self.room / "of sources"
         self.assertEqual(call(self.clone / "install", prefix)[0], 0)
         self.assertEqual((prefix / "bin/dyncollate").read_bytes(), Path(program.PROGRAM).read_bytes())
+        self.assertEqual((prefix / "lib/libdyncollate.so").read_bytes(), Path(embedded.SHARED).read_bytes())
+
+    def test_install_for_another_place(self):
+        """With DESTDIR the files are put below it, and speak of the prefix alone."""
+        staged = self.room / "staged"
+        environment = ENVIRONMENT | {"DESTDIR": str(staged)}
+        said = "".join(f"{staged}/no/such/prefix/{it}\n" for it in INSTALLED)
+        self.assertEqual(call(self.home / "install", "/no/such/prefix", env=environment), (0, said, ""))
+        self.assertTrue((staged / "no/such/prefix/lib/pkgconfig/dyncollate.pc").read_text().startswith("prefix=/no/such/prefix\n"))
+        self.assertFalse(Path("/no/such/prefix").exists())
+        self.assertEqual(call(self.home / "install", "prefix", env=environment, cwd=self.room)[0], 2)
+        self.assertEqual(call(self.home / "install", "--uninstall", "/no/such/prefix", env=environment)[0], 0)
+        self.assertEqual(list((staged / "no/such/prefix").iterdir()), [])
+
+    def in_memory(self, prefix, folder, targets):
+        """A C program that pkg-config finds the library for makes of each target what the program wrote, and so does the Python module
+        with the shared object that is installed."""
+        environment = ENVIRONMENT | {"PKG_CONFIG_PATH": f"{prefix}/lib/pkgconfig", "LD_LIBRARY_PATH": f"{prefix}/lib",
+                                     "PYTHONPATH": str(self.home / "examples/embed")}
+        self.assertEqual(call("pkg-config", "--modversion", "dyncollate", env=environment), (0, f"{VERSION}\n", ""))
+        flags = shlex.split(call("pkg-config", "--cflags", "--libs", "dyncollate", env=environment)[1])
+        collate = self.room / f"collate of {folder.name}"
+        self.assertEqual(call("gcc", self.home / "examples/embed/collate.c", *flags, "-o", collate), (0, "", ""))
+        for name in targets:
+            text = json.loads((folder / name).read_text())
+            read = [*text["scans"], *text.get("linked", [])]
+            objects = [rule["primary-output"] for it in text["scans"] for rule in json.loads((folder / it).read_text())["rules"]]
+            made = [*(f"{it}.modmap" for it in objects), text["info"], text["dyndep"]]
+            wanted = "".join(f"==> {it} <==\n{(folder / it).read_text()}" for it in made)
+            self.assertEqual(call(collate, name, *read, cwd=folder, env=environment), (0, wanted, ""), name)
+            self.assertEqual(call(sys.executable, "-c", BY_MODULE, name, *read, cwd=folder, env=environment), (0, wanted, ""), name)
+
+    @embedded.needs_tools("gcc", "pkg-config")
+    def test_embedded(self):
+        prefix, folder = self.room / "with library", self.room / "libs"
+        self.assertEqual(call(self.home / "install", prefix)[0], 0)
+        shutil.copytree(f"{DATA}/libs", folder)
+        for made in folder.glob("expected/*"):
+            shutil.copytree(made, folder / made.name)
+        for file in [*folder.glob("dd/*"), *folder.glob("obj/**/*.modmap")]:
+            file.unlink()
+        self.assertEqual(call(prefix / "bin/dyncollate", "project", "project.json", cwd=folder), (0, "", ""))
+        self.in_memory(prefix, folder, [f"{name}.target.json" for name in TARGETS["libs"]])
 
     def test_install_where_no_file_can_be_made(self):
         (self.room / "file").write_text("")

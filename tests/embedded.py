@@ -1,0 +1,68 @@
+"""libdyncollate, which `./build library` leaves in crates/c_library/out, or in the directory that the environment names as LIBRARY; and
+what a function of it is given for a row."""
+import functools
+import importlib.util
+import os
+import shutil
+import subprocess
+import unittest
+
+from tests.program import TOP
+
+EXAMPLES = f"{TOP}/examples/embed"
+FOLDER = os.path.abspath(os.environ.get("LIBRARY", f"{TOP}/crates/c_library/out"))
+SHARED, STATIC = f"{FOLDER}/libdyncollate.so.1", f"{FOLDER}/libdyncollate.a"
+
+needs_library = unittest.skipUnless(os.path.exists(SHARED) and os.path.exists(STATIC), "there is no library; ./build library makes it")
+
+
+def needs_tools(*names):
+    missing = [name for name in names if not shutil.which(name)]
+    return unittest.skipIf(missing, f"{', '.join(missing)}: not there")
+
+
+@functools.lru_cache(None)
+def module():
+    """The module of examples/embed, with the library that is tested."""
+    os.environ["DYNCOLLATE_LIBRARY"] = SHARED
+    spec = importlib.util.spec_from_file_location("dyncollate", f"{EXAMPLES}/dyncollate.py")
+    loaded = importlib.util.module_from_spec(spec)
+    spec.loader.exec_module(loaded)
+    return loaded
+
+
+def is_opened(row, index):
+    """Whether an argument of the row's command is a file that the command opens first."""
+    return index in ((1, 2) if row.words[0] == "effect" else (0,))
+
+
+def arguments(row):
+    words = list(row.words[1:])
+    if "--" in words:
+        words.remove("--")
+    return words
+
+
+def is_asked(row):
+    """Whether a row is a call of the library too: its command line is valid, the caller can read the files that it names, and can
+    write those that it makes."""
+    return row.status != 2 and not (row.line or b"").startswith(b"cannot write") and all(
+        word in row.files for index, word in enumerate(arguments(row)) if is_opened(row, index))
+
+
+def given(row):
+    """What the function of a row's command is given: strings of bytes, and for files a dictionary. A document may name a file in
+    another way than the row does, and is given it so."""
+    files = row.texts()
+    files |= {f"./{name}": text for name, text in files.items() if any(b'"./%s"' % name.encode() in it for it in files.values())}
+    passed = [files[word] if is_opened(row, index) else os.fsencode(word) for index, word in enumerate(arguments(row))]
+    return passed + [files] * (row.words[0] in ("collate", "project"))
+
+
+def compiled(compiler, *words, to):
+    """Compiles without a warning, and returns the name of the program."""
+    made = subprocess.run([compiler, "-Wall", "-Wextra", "-Werror", "-g", f"-I{TOP}/include", *words, "-o", to], stdout=subprocess.PIPE,
+                          stderr=subprocess.STDOUT, text=True, check=False)
+    if made.returncode:
+        raise AssertionError(made.stdout)
+    return to
