@@ -1,4 +1,4 @@
-"""The tools of a build, which the environment may name: NINJA, CLANG, GCC, SCANNER."""
+"""The tools of a build, which the environment may name: NINJA, CLANG, GCC, SCANNER, FUZZER."""
 import functools
 import os
 import re
@@ -30,6 +30,11 @@ def scans(command, folder):
     return bool(tool("clang")) and '"a"' in output_of(command, "-format=p1689", "--", *compiling, cwd=folder)[1]
 
 
+def fuzzes(command, folder):
+    Path(folder, "fuzz.c").write_text("int LLVMFuzzerTestOneInput(const char *at, long size) { return !at && size; }\n")
+    return not output_of(command, "-fsanitize=fuzzer,address,undefined", "fuzz.c", "-o", "fuzz", cwd=folder)[0]
+
+
 def of_versions(name, *versions):
     return [f"{name}-{it}" for it in versions] + [name]
 
@@ -39,6 +44,7 @@ TOOLS = {
     "ninja": ("ninja-build", ["ninja", "ninja-build"], lambda command, _: True),
     "clang": ("clang-19", of_versions("clang++", 19, 18, 17, 16, 20, 21), makes_modules),
     "scanner": ("clang-tools-19", of_versions("clang-scan-deps", 19, 18, 17, 16, 20, 21), scans),
+    "fuzzer": ("libclang-rt-19-dev", of_versions("clang", 19, 18, 17, 16, 15, 14, 20, 21), fuzzes),
     "gcc": ("g++-12", of_versions("g++", 12, 13, 14, 15, 11), is_gcc),
 }
 
