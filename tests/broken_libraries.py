@@ -1,0 +1,69 @@
+"""The tests of libdyncollate catch libraries that are each broken in one way (broken_library.c)."""
+import functools
+import os
+import re
+import subprocess
+import sys
+import tempfile
+import unittest
+
+from tests import embedded
+from tests.case import each
+from tests.program import TOP
+from tests.side_by_side import SideBySide
+
+# The test that a library without a fault passes, though it accepts no input; and how the library is broken that it catches.
+BROKEN = [
+    ("library.InC.test_each_allocation_fails", "A_LEAK"),
+    ("library.InC.test_each_allocation_fails", "A_LEAK_IF_AN_ALLOCATION_FAILS"),
+    ("library.InC.test_each_allocation_fails", "A_BYTE_BEFORE_THE_ROOM"),
+    ("library.InC.test_threads", "A_BYTE_AFTER_THE_INPUT"),
+    ("library.Rooms", "A_NUMBER_AFTER_THE_RESULT"),
+    ("library.Rooms", "TEXT_IN_TOO_LITTLE_ROOM"),
+    ("library_files.Linked", "A_STATE"),
+    ("library_files.Linked", "A_CALL_OF_THE_SYSTEM"),
+    ("library_files.Linked", "ANOTHER_SYMBOL"),
+    ("fuzzing.Targets.test_show", "A_LEAK"),
+    ("fuzzing.Targets.test_show", "A_BYTE_AFTER_THE_INPUT"),
+]
+# the tests that see that it accepts no input
+OF_RESULTS = ["library.Rows", "library.Misuses", "library_files.Examples"]
+
+
+def built(folder, how):
+    """Puts a library that is broken in this way into a directory, as `./build library` makes one."""
+    commands = [["gcc", "-O1", "-fPIC", f"-D{how}", f"-I{TOP}/include", "-c", f"{TOP}/tests/broken_library.c", "-o", "broken.o"],
+                ["ar", "rcs", "libdyncollate.a", "broken.o"],
+                ["gcc", "-shared", "-Wl,-soname,libdyncollate.so.1", "-o", "libdyncollate.so.1", "broken.o"]]
+    for command in commands:
+        subprocess.run(command, cwd=folder, check=True)
+
+
+@functools.lru_cache(None)
+def tests_with(how, tests):
+    """What tests print if the library is broken in this way."""
+    with tempfile.TemporaryDirectory(prefix="dyncollate-") as folder:
+        built(folder, how)
+        ran = subprocess.run([sys.executable, "-B", "-m", "unittest", f"tests.{tests}"], cwd=TOP, env=os.environ | {"LIBRARY": folder},
+                             stdout=subprocess.PIPE, stderr=subprocess.STDOUT, check=False)
+        return ran.stdout.decode(errors="replace")
+
+
+@embedded.needs_tools("gcc", "ar")
+@each(BROKEN + [(tests, "") for tests in OF_RESULTS], " ".join)
+class BrokenLibraries(unittest.TestCase):
+    """The tests of a row fail if the library is broken, and pass if it is not."""
+    seconds = 10
+
+    def check(self, row):
+        tests, how = row
+        found = tests_with("NOTHING", tests)
+        if re.search(r"OK \(skipped=", found):
+            self.skipTest("a tool is not there")
+        self.assertEqual(bool(re.search(r"\n\nOK", found)), bool(how), found[-3000:])
+        if how:
+            self.assertRegex(tests_with(how, tests), r"\nFAILED \(failures=")
+
+
+def load_tests(_loader, tests, _pattern):
+    return SideBySide(tests)

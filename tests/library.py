@@ -1,0 +1,184 @@
+"""libdyncollate against the program: each row is asked of the shared object, by the Python module of examples/embed. And what a call
+does if there is too little room, if an allocation fails, if it is misused, and on several threads."""
+import ctypes
+import os
+import re
+import subprocess
+import tempfile
+import unittest
+
+from tests import embedded, fuzzing
+from tests.case import each
+from tests.program import TOP
+from tests.rows import V
+from tests.rows.forms import statement
+from tests.side_by_side import side_by_side
+from tests.tables import all_rows, worked
+
+load_tests = side_by_side
+ASKED = [row for row in all_rows() if embedded.is_asked(row)]
+WORKED = [row for row in worked() if embedded.is_asked(row)]
+NO_MEMORY, MISUSED = 4, 5
+SANITIZED = "-std=c11 -D_GNU_SOURCE -O1 -fsanitize=address,undefined -fno-sanitize-recover=all".split()
+
+
+@embedded.needs_library
+@each(ASKED, lambda row: row.name)
+class Rows(unittest.TestCase):
+    def check(self, row):
+        found = embedded.module().run(row.words[0], *embedded.given(row))
+        files = {os.path.normpath(os.fsencode(name)): data for name, data in found.files.items()}
+        self.assertEqual((found.status, found.out, found.err), row.printed())
+        self.assertEqual(files, row.made())
+
+
+@embedded.needs_library
+class Restat(unittest.TestCase):
+    def test_which_files_may_be_left_alone(self):
+        """With `restat`, the maps and the info file; the dyndep file never."""
+        rows = {row.why: row for row in ASKED}
+        for why, flags in ("* an info and GCC's map that may be left alone", [1, 1, 0]), ("GCC's map", [0, 0, 0]):
+            row = rows[why]
+            status, numbers, _ = embedded.module().call("collate", *embedded.given(row))
+            self.assertEqual((status, numbers[4::3]), (0, flags), why)
+
+
+class Asked(unittest.TestCase):
+    def test_all_rows_but_those_of_a_command_line_and_of_files_on_disk(self):
+        for row in all_rows():
+            if not embedded.is_asked(row):
+                self.assertRegex(row.line, rb"\A(usage\Z|cannot (read|write) )", row.name)
+        self.assertEqual({row.words[0] for row in WORKED}, set(embedded.module().COMMANDS) - {"statements"})
+
+
+@embedded.needs_library
+@each([row for row in ASKED if row.words[0] == "show" and not (row.line or b"").startswith(b"Y2 ")], lambda row: row.name)
+class Statements(unittest.TestCase):
+    """The reader has the statements that `show` prints, or its error. It accepts what is too long to be printed."""
+
+    def check(self, row):
+        module = embedded.module()
+        try:
+            statements = module.statements(*embedded.given(row))
+        except module.Error as error:
+            self.assertEqual(row.status, 1)
+            self.assertEqual(error.status, 1)
+            self.assertTrue(row.line.startswith(error.line.encode()), (row.line, error.line))
+        else:
+            self.assertEqual(b"".join([V, *map(statement_line, statements)]), row.out)
+
+
+def statement_line(it):
+    """A statement as `show` prints it."""
+    outputs, inputs = (b"".join(b" " + re.sub(rb"[$ :]", rb"$\g<0>", path) for path in paths) for paths in (it.outputs, it.inputs))
+    output = re.sub(rb"[$ :]", rb"$\g<0>", it.output)
+    return statement(output, outputs[1:], inputs[1:]).replace(b"  restat = 1\n", b"") + b"  restat = 1\n" * it.restat
+
+
+def outcome(command, given, numbers_room, text_room, spare=8):
+    """An outcome in this room, as the fields of the struct, and whether what follows the result is unchanged, also after the room."""
+    module = embedded.module()
+    numbers = (ctypes.c_size_t * (numbers_room + spare))(*[77] * (numbers_room + spare))
+    text = (ctypes.c_char * (text_room + spare))(*b"\x4d" * (text_room + spare))
+    pointer = ctypes.cast(text, ctypes.c_char_p)
+    got = getattr(module.library(), f"dyncollate_{command}")(*given, numbers, numbers_room, pointer, text_room)
+    after = numbers[got.numbers * got.written:], text[got.text * got.written:]
+    unchanged = all(it == 77 for it in after[0]) and not after[1].strip(b"\x4d")
+    return (got.status, got.written, got.numbers, got.text), unchanged
+
+
+@embedded.needs_library
+@each(WORKED, lambda row: row.name)
+class Rooms(unittest.TestCase):
+    """With too little room for a part nothing is written, and the outcome says how much is needed."""
+
+    def check(self, row):
+        module = embedded.module()
+        passed = list(module.arguments(embedded.given(row)))
+        status, numbers, text = module.call(row.words[0], *embedded.given(row))
+        ends = [sum(numbers[:2] + [it for index, it in enumerate(numbers[2:count]) if index % 3 < 2]) for count in range(len(numbers))]
+        for numbers_room in range(len(numbers)):
+            self.assertEqual(outcome(row.words[0], passed, numbers_room, len(text)), ((status, 0, len(numbers), len(text)), True))
+        for text_room in {max(0, end - 1) for end in [*ends, len(text)]} - {len(text)}:
+            self.assertEqual(outcome(row.words[0], passed, len(numbers), text_room), ((status, 0, len(numbers), len(text)), True))
+        for spare in 0, 1:
+            found = outcome(row.words[0], passed, len(numbers) + spare, len(text) + spare)
+            self.assertEqual(found, ((status, 1, len(numbers), len(text)), True))
+
+
+SURROGATE, OVERLONG = b"\xed\xa0\x80", b"\xc0\xaf"
+# why, a call that is misused, and one next to it that is not: the command and what it is given, or for files their lengths and text
+MISUSES = [
+    ("an odd number of lengths", ("collate", b"{}", [1], b"a"), ("collate", b"{}", [1, 0], b"a")),
+    ("lengths that end early", ("collate", b"{}", [1, 1], b"abc"), ("collate", b"{}", [1, 2], b"abc")),
+    ("lengths that end late", ("project", b"{}", [1, 3], b"abc"), ("project", b"{}", [0, 3], b"abc")),
+    ("no lengths of a text", ("project", b"{}", [], b"a"), ("project", b"{}", [], b"")),
+    ("a length above all texts", ("collate", b"{}", [1, 2 ** 64 - 1], b""), ("collate", b"{}", [0, 0], b"")),
+    ("lengths whose sum is beyond 64 bits", ("collate", b"{}", [2 ** 64 - 1, 2], b"a"), ("collate", b"{}", [1, 0], b"a")),
+    ("a name that is not UTF-8", ("collate", b"{}", [1, 0], b"\xff"), ("collate", b"{}", [0, 1], b"\xff")),
+    ("a name that is cut in a character", ("project", b"{}", [1, 1], "ñ".encode()), ("project", b"{}", [2, 0], "ñ".encode())),
+    ("the second name", ("project", b"{}", [1, 0, 3, 0], b"a" + SURROGATE), ("project", b"{}", [1, 0, 1, 2], b"aa" + b"\xff\xff")),
+    ("dir", ("one", b"{}", b"\xff", b""), ("one", b"\xff", b"", b"")),
+    ("ext", ("one", b"{}", b"", OVERLONG), ("one", b"{}", b"", b"/")),
+    ("the name of `effect`", ("effect", SURROGATE, b"", b""), ("effect", "ñ".encode(), SURROGATE, OVERLONG)),
+]
+
+
+@embedded.needs_library
+@each(MISUSES, lambda row: row[0])
+class Misuses(unittest.TestCase):
+    """The status says so if and only if the lengths do not cut the text, or a name is not UTF-8. Nothing is written then."""
+
+    def check(self, row):
+        for (command, *given), is_misused in zip(row[1:], (True, False)):
+            passed = []
+            for it in given:
+                passed += [(ctypes.c_size_t * len(it))(*it) if isinstance(it, list) else it, len(it)]
+            (status, written, numbers, text), unchanged = outcome(command, passed, 64, 4096, spare=0)
+            if is_misused:
+                self.assertEqual((status, written, numbers, text, unchanged), (MISUSED, 0, 0, 0, True), given)
+            else:
+                self.assertNotIn(status, (NO_MEMORY, MISUSED), given)
+
+
+@embedded.needs_library
+@embedded.needs_tools("gcc")
+class InC(unittest.TestCase):
+    """Programs in C that call the library with the worked rows."""
+    seconds = 20
+
+    def setUp(self):
+        folder = tempfile.TemporaryDirectory(prefix="dyncollate-")
+        self.addCleanup(folder.cleanup)
+        self.folder = folder.name
+        self.files = {}
+        for number, row in enumerate(WORKED):
+            name = f"{self.folder}/{number}"
+            self.files.setdefault(row.words[0], []).append(name)
+            with open(name, "wb") as file:
+                file.write(fuzzing.encoded(row))
+        self.files["statements"] = self.files["show"]
+
+    def built(self, source, *words):
+        sources = [f"{TOP}/tests/{source}.c", f"{TOP}/tests/fuzz/calls.c", embedded.STATIC]
+        return embedded.compiled("gcc", *words, *sources, to=f"{self.folder}/{source}")
+
+    def ran(self, *words):
+        """What a program prints, which finds no fault."""
+        ran = subprocess.run(words, stdin=subprocess.DEVNULL, stdout=subprocess.PIPE, stderr=subprocess.STDOUT, text=True, check=False)
+        self.assertEqual(ran.returncode, 0, ran.stdout[-3000:])
+        return ran.stdout
+
+    def test_each_allocation_fails(self):
+        program = self.built("failing_allocations", *SANITIZED, "-Wl,--wrap=malloc,--wrap=realloc,--wrap=free")
+        for command, files in self.files.items():
+            failed = re.fullmatch(r"(\d+) of \d+\n", self.ran(program, command, *files))
+            self.assertGreater(int(failed[1]), 0, command)
+
+    def test_threads(self):
+        program = self.built("threads", "-std=c11", "-D_GNU_SOURCE", "-O1", "-fsanitize=thread", "-pthread")
+        if b"unexpected memory mapping" in subprocess.run([program], stdout=subprocess.PIPE, stderr=subprocess.STDOUT, check=False).stdout:
+            self.skipTest("ThreadSanitizer does not run on this kernel")
+        for command, files in self.files.items():
+            for file in files[:2]:
+                self.assertEqual(self.ran(program, command, file), "all alike\n")

@@ -1,0 +1,196 @@
+"""libdyncollate as it is linked: its header against the exports of crates/c_library, what the archive and the shared object define
+and need, and the examples that embed it."""
+import os
+import re
+import subprocess
+import tempfile
+import unittest
+from pathlib import Path
+
+from tests import embedded
+from tests.case import each, tree
+from tests.files import DATA, TARGETS, document
+from tests.program import TOP
+
+HEADER = Path(TOP, "include/dyncollate.h")
+EXPORTS = Path(TOP, "crates/c_library/src/lib.rt")
+OUTCOME = Path(TOP, "crates/in_memory/src/outcome.rt")
+# the types of parameters in the exports: the pointer in C, and how the name of its count ends
+POINTERS = {"&[u8]": ("const uint8_t *", "_size"), "&[usize]": ("const size_t *", "_count"),
+            "&mut [usize]": ("size_t *", "_room"), "&mut [u8]": ("uint8_t *", "_room")}
+FIELDS = {"u32": "uint32_t", "usize": "size_t"}
+SANITIZED = "-g", "-fsanitize=address,undefined", "-fno-sanitize-recover=all"
+# What the code of the library may call: the heap, and what compilers call by themselves.
+CALLED = {"malloc", "realloc", "free", "memcpy", "memmove", "memset", "memcmp", "bcmp"}
+
+
+def without_comments(text):
+    return re.sub(r"/\*.*?\*/|//[^\n]*", "", text, flags=re.S)
+
+
+def declared():
+    """The functions of the header: the type and the name of each parameter."""
+    found = re.findall(r"dyncollate_outcome (dyncollate_\w+)\((.*?)\);", without_comments(HEADER.read_text()), re.S)
+    return {name: [tuple(re.fullmatch(r"(.*?)(\w+)", it.strip()).groups()) for it in parameters.split(",")] for name, parameters in found}
+
+
+def exported():
+    """The same by the exports. What has no bytes, such as the allocator, is no parameter in C."""
+    functions = {}
+    for name, parameters, returned in re.findall(r'extern "C" fn (\w+)\((.*?)\) -> (\w+)', EXPORTS.read_text(), re.S):
+        functions[name] = []
+        for parameter, kind in re.findall(r"(\w+): ([^,\n]+)", parameters):
+            if kind != "Global":
+                pointer, ending = POINTERS[kind]
+                counted = parameter.removesuffix("s") if ending == "_count" else parameter
+                functions[name] += [(pointer, parameter), ("size_t ", counted + ending)]
+        assert returned == "Outcome", name
+    return functions
+
+
+class Header(unittest.TestCase):
+    def test_functions(self):
+        """Their names, and the order, the names and the types of their parameters."""
+        self.assertEqual(declared(), exported())
+
+    def test_outcome(self):
+        fields = re.search(r"pub struct Outcome \{(.*?)\n\}", OUTCOME.read_text(), re.S)[1]
+        fields = [(FIELDS[kind], name) for name, kind in re.findall(r"pub (\w+): (\w+)", without_comments(fields))]
+        in_c = re.search(r"typedef struct dyncollate_outcome \{(.*?)\}", without_comments(HEADER.read_text()), re.S)[1]
+        self.assertEqual(re.findall(r"(\w+) (\w+);", in_c), fields)
+        self.assertIn("#[repr(C)]", OUTCOME.read_text())
+
+    def test_module(self):
+        """The Python module has each function, and passes what the header declares."""
+        module = embedded.module()
+        self.assertEqual({f"dyncollate_{command}" for command in module.COMMANDS}, set(declared()))
+        kinds = {"const uint8_t *": "STRING", "const size_t *": "NUMBERS"}
+        for command, parameters in module.COMMANDS.items():
+            wanted = [kinds[kind] for kind, _ in declared()[f"dyncollate_{command}"][:-4:2]]
+            self.assertEqual(parameters, [it for kind in wanted for it in getattr(module, kind)], command)
+
+
+@embedded.needs_tools("gcc", "g++")
+@each(["gcc -std=c99 -pedantic -x c", "g++ -std=c++98 -x c++", "gcc -std=c17 -x c", "g++ -std=c++20 -x c++"])
+class Compiles(unittest.TestCase):
+    def check(self, compiler):
+        ran = subprocess.run([*compiler.split(), "-Wall", "-Wextra", "-Werror", "-fsyntax-only", HEADER], capture_output=True, text=True,
+                             check=False)
+        self.assertEqual((ran.returncode, ran.stderr), (0, ""))
+
+
+def printed(*words):
+    return subprocess.run(words, stdout=subprocess.PIPE, text=True, check=True).stdout
+
+
+@embedded.needs_library
+@embedded.needs_tools("nm", "readelf")
+class Linked(unittest.TestCase):
+    def defined(self, *words):
+        return {line.split()[-1] for line in printed("nm", "-g", "--defined-only", *words).splitlines() if len(line.split()) == 3}
+
+    def test_symbols(self):
+        """The functions of the header, and nothing else."""
+        self.assertEqual(self.defined(embedded.STATIC), set(declared()))
+        self.assertEqual({it.split("@")[0] for it in self.defined("-D", embedded.SHARED)}, set(declared()))
+
+    def test_calls(self):
+        """Neither a file nor a socket nor a clock: nothing but the heap."""
+        called = {line.split()[-1] for line in printed("nm", "-u", embedded.STATIC).splitlines() if line.startswith(" ")}
+        self.assertTrue({"malloc", "free"} <= called <= CALLED, called)
+
+    def test_shared_object(self):
+        dynamic = re.findall(r"\((\w+)\)\s+(?:[\w ]+: )?(.*)", printed("readelf", "-W", "-d", embedded.SHARED))
+        self.assertEqual([it for name, it in dynamic if name in ("NEEDED", "SONAME")], ["[libc.so.6]", "[libdyncollate.so.1]"])
+        self.assertEqual([(name, it) for name, it in dynamic if "TEXTREL" in name + it], [])
+        self.assertRegex(printed("readelf", "-W", "-l", embedded.SHARED), r"GNU_STACK.* RW ")
+
+    def test_state(self):
+        """The code has no data that it could change, so calls on several threads share none. The toolchain's heap functions have one
+        byte, `nothing`, whose address is that of an empty block."""
+        sections = re.findall(r"\] (\.\S+) +(?:PROGBITS|NOBITS) +\S+ \S+ (\S+) \S+ +(\w*) ", printed("readelf", "-W", "-S", embedded.STATIC))
+        self.assertTrue([name for name, size, _ in sections if name.startswith(".text") and int(size, 16)])
+        changed = {name: int(size, 16) for name, size, flags in sections if "W" in flags and not name.startswith(".data.rel.ro")}
+        self.assertEqual([name for name, size in changed.items() if size > (name == ".bss")], [])
+        self.assertLessEqual(set(re.findall(r"^\w+ [bBcCdD] (\S+)$", printed("nm", embedded.STATIC), re.M)), {"nothing"})
+
+
+def laid(files):
+    """Files as the examples print them."""
+    return "".join(f"==> {name} <==\n{text.decode()}" for name, text in files.items())
+
+
+def expected(project, *targets):
+    """What the program writes for these targets, in its order."""
+    files = {os.fsdecode(name): text for name, text in tree(os.fsencode(f"{DATA}/{project}/expected")).items()}
+    for target in targets:
+        rules = [rule for scan in target["scans"] for rule in document(f"{DATA}/{project}/{scan}")["rules"]]
+        for name in [*(rule["primary-output"] + ".modmap" for rule in rules), target["info"], target["dyndep"]]:
+            yield name, files[name]
+
+
+def inputs(project):
+    return {name: Path(DATA, project, name).read_bytes() for name in sorted(os.listdir(f"{DATA}/{project}")) if name != "expected"}
+
+
+@embedded.needs_library
+class Examples(unittest.TestCase):
+    seconds = 10
+
+    def setUp(self):
+        folder = tempfile.TemporaryDirectory(prefix="dyncollate-")
+        self.addCleanup(folder.cleanup)
+        self.folder = folder.name
+
+    def ran(self, *words, **given):
+        ran = subprocess.run(words, stdin=subprocess.DEVNULL, capture_output=True, text=True, check=False, **given)
+        return ran.returncode, ran.stdout, ran.stderr
+
+    @embedded.needs_tools("gcc")
+    def test_c(self):
+        program = embedded.compiled("gcc", "-std=c99", *SANITIZED, f"{embedded.EXAMPLES}/collate.c", embedded.STATIC, to=f"{self.folder}/collate")
+        target = document(f"{DATA}/single/app.target.json")
+        printed_files = laid(dict(expected("single", target)))
+        self.assertEqual(self.ran(program, "app.target.json", *target["scans"], cwd=f"{DATA}/single"), (0, printed_files, ""))
+        self.assertEqual(self.ran(program, "app.target.json", *target["scans"][1:], cwd=f"{DATA}/single"),
+                         (3, "", f"dyncollate: cannot read {target['scans'][0]}\n"))
+        self.assertEqual(self.ran(program), (2, "", "usage: collate TARGETFILE FILE..\n"))
+
+    @embedded.needs_tools("g++")
+    def test_cxx(self):
+        program = embedded.compiled("g++", "-std=c++17", "-pthread", *SANITIZED, f"{embedded.EXAMPLES}/background.cpp", embedded.STATIC,
+                                    to=f"{self.folder}/background")
+        self.assertEqual(self.ran(program), (0, (
+            "collating\n"
+            "==> main.o.modmap <==\n-fmodule-file=greet=bmi/greet.pcm\n"
+            "==> greet.o.modmap <==\n-x c++-module\n-fmodule-output=bmi/greet.pcm\n"
+            '==> app.info.json <==\n{"modules":[{"bmi":"bmi/greet.pcm","name":"greet","requires":[],"visibility":"public"}],'
+            '"target":"app","version":2}\n'
+            "==> app.dd <==\nninja_dyndep_version = 1\nbuild main.o: dyndep | bmi/greet.pcm\n"
+            "build greet.o | bmi/greet.pcm: dyndep\n  restat = 1\n"), ""))
+
+    @embedded.needs_tools("gcc")
+    def test_header(self):
+        """The program in the comment of the header."""
+        code = re.search(r"( {7}#include <dyncollate.h>.*?\n {7}\}\n)", HEADER.read_text(), re.S)[1]
+        Path(self.folder, "b.c").write_text(re.sub(r"^ {7}", "", code, flags=re.M))
+        program = embedded.compiled("gcc", "-std=c99", "-pedantic", *SANITIZED, f"{self.folder}/b.c", embedded.STATIC, to=f"{self.folder}/b")
+        self.assertEqual(self.ran(program), (0, "ninja_dyndep_version = 1\nbuild obj/b.o: dyndep\n", ""))
+
+    def test_python(self):
+        module = embedded.module()
+        files = inputs("libs")
+        targets = [document(f"{DATA}/libs/{name}.target.json") for name in TARGETS["libs"]]
+        made = module.project(files["project.json"], files)
+        self.assertEqual(list(made.items()), list(expected("libs", *targets)))
+        for name, target in zip(TARGETS["libs"], targets):
+            made = module.collate(files[f"{name}.target.json"], files | dict(expected("libs", *targets)))
+            self.assertEqual(list(made.items()), list(expected("libs", target)), name)
+        with self.assertRaises(module.Error) as raised:
+            module.collate(files["app.target.json"], {})
+        self.assertEqual((raised.exception.status, raised.exception.line), (3, f"dyncollate: cannot read {targets[-1]['scans'][0]}"))
+        with self.assertRaises(module.Error) as raised:
+            module.one(b"", "mod", ".bmi")
+        self.assertEqual((raised.exception.status, raised.exception.line), (1, "dyncollate: scan 0: S1 NotJson document"))
+        with self.assertRaises(ValueError):
+            module.run("one", b"{}", b"\xff", b"")
