@@ -370,9 +370,9 @@ class Inputs(Devices):
         """The run ends with the fault while the writer still has the pipe open, and more could come."""
         lay({"t.dd": TWO, "t.edges": b"", "edges.json": target(b',"edges":"pipe"')})
         for words, text, answer in (
-                (["show", "pipe"], V + b"rule r\n", b"line 2: Y1 NoStatement"), (["order", "pipe"], b"rule r\n", b"edges: line 1: E3 Form"),
+                (["show", "pipe"], V + b"rule r\n", b"line 2: Y8 BadLine"), (["order", "pipe"], b"rule r\n", b"edges: line 1: E3 Form"),
                 (["effect", "t.dd", "pipe", "t.dd"], b"rule r\n", b"edges: line 1: E3 Form"),
-                (["effect", "t.dd", "t.edges", "pipe"], V + b"rule r\n", b"line 2: Y1 NoStatement"),
+                (["effect", "t.dd", "t.edges", "pipe"], V + b"rule r\n", b"line 2: Y8 BadLine"),
                 (["collate", "edges.json"], b"rule r\n", b"edges: line 1: E3 Form")):
             os.mkfifo("pipe")
             pipe = os.open("pipe", os.O_RDWR)
