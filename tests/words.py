@@ -55,8 +55,6 @@ CHECKED_IN_COMMENTS = len(TURNS) - 1
 # What is written all the same: subjects of commits, and pieces of comments.
 EXCEPTIONS = [
     "tests: a run needs no random bytes but for names of new files", "FORMATS: fewer words once more",
-    "bench/random: random projects beside plain C++",
-    "build_effect: the checks of a graph and the tables of files are one file each",
     # dyndep_file
     "a text of each class, if it may stand", "if a line may not stand", "or else the second", "want of memory, and `Io` at",
     # in_memory
