@@ -10,6 +10,7 @@ import random
 import shutil
 import subprocess
 import sys
+import tempfile
 from collections import Counter
 from pathlib import Path
 
@@ -87,7 +88,7 @@ def main(plain, program, projects, seed):
         write_project(documents)
         ours, theirs = run(program, documents, Path("ours")), run(plain, documents, Path("theirs"))
         if ours != theirs:
-            kept = Path(f"/tmp/dyncollate-differs-{seed}-{number}")
+            kept = tempfile.mkdtemp(prefix="dyncollate-differs-")
             shutil.copytree(documents, kept, dirs_exist_ok=True)
             sys.exit(f"project {number} of seed {seed} differs, its documents are in {kept}: {ours[:3]} and {theirs[:3]}")
         codes = [word for word in ours[2].decode().split() if len(word) == 2 and word[0].isupper() and word[1].isdigit()]
