@@ -62,24 +62,17 @@ fn fault_subject(alloc: Global, fault: &TableFault, makers: Makers) -> Result<Ve
             module_name,
             name,
         } => {
+            let target = target.text().as_bytes();
             let module_name = module_name.text().as_bytes();
-            let parts = [
-                target.text().as_bytes(),
-                b" ",
-                module_name,
-                b" ",
-                name.text().as_bytes(),
-            ];
-            joined(alloc, &parts)
+            let name = name.text().as_bytes();
+            joined(alloc, &[target, b" ", module_name, b" ", name])
         }
         TableFault::ImportCycle { objects } => ring_text(alloc, objects, makers.objects),
         TableFault::ModulePrivate { name, info, user } => {
             let target = target_name(makers.names, *info);
             let (kind, user) = kind_and_name(*user, makers);
-            joined(
-                alloc,
-                &[name.text().as_bytes(), b" of ", target, b" in ", kind, user],
-            )
+            let name = name.text().as_bytes();
+            joined(alloc, &[name, b" of ", target, b" in ", kind, user])
         }
         TableFault::PrivateUnknown { name } => Vec::from_slice(alloc, name.text().as_bytes()),
     }
