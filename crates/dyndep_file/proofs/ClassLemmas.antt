@@ -14,7 +14,6 @@ use Rattle.dyndep_file.specs.Faults.{same_bytes, after_build, value_assigned, ou
 use Rattle.ninja_text.specs.Paths.{is_empty}
 use Rattle.dyndep_file.specs.Faults.{text_fault, text_line_fault, lexical_fault_or}
 use Rattle.dyndep_file.specs.Steps.{ProgressValue, step}
-use Rattle.dyndep_file.specs.declared.fault.LineFault.{LineFault}
 use Rattle.dyndep_file.specs.declared.progress.Stage.{Stage}
 use Rattle.dyndep_file.specs.declared.progress.Stage.TheVariants.{BeforeVersion, NoneOpen, Open}
 use Rattle.ninja_text.specs.declared.token.TokenKind.TheVariants.{Bar, Colon}

@@ -1,6 +1,7 @@
 -- The class and the fault of a line, by its tokens or its assignment.
 use Rattle.std.proofs.Common.{inl, inr, ◌⊎◌, ◌≡◌, ℕ, ◌+◌, ◌==◌, ◌&&◌, Bool, true, false, zero, suc, List, [], ◌∷◌, ◌++◌, length, map, refl, sym, ap, ◌∙◌, subst, Some, None, Ok, Err, arith, eq-eqb}
 use Rattle.std.specs.Prelude.{Option, Result, codes, is_some, slice_set, slice_index_or, if◌then◌else◌, nat_lt, not}
+use Rattle.std.specs.List.{starts_with}
 use Rattle.std.proofs.lemmas.Bool.{cases_Bool, and_parts, eqb-true}
 use Rattle.std.proofs.lemmas.Bool.Decides.{nat_tests}
 use Rattle.ninja_text.specs.Lexical.{lexical_fault}
@@ -19,7 +20,7 @@ use Rattle.dyndep_file.specs.inner.BuildLines.{IsNamed}
 use Rattle.dyndep_file.specs.inner.LineReading.{PassesOr, IsBuildOf, with_name, IsBindingOf, IsVersionLineOf}
 use Rattle.dyndep_file.specs.declared.fault.LineFault.{LineFault}
 use Rattle.dyndep_file.specs.declared.progress.Stage.{Stage}
-use Rattle.dyndep_file.specs.declared.progress.Stage.TheVariants.{NoneOpen, Open}
+use Rattle.dyndep_file.specs.declared.progress.Stage.TheVariants.{BeforeVersion, NoneOpen, Open}
 use Rattle.dyndep_file.proofs.TableLemmas.{same_bytes-refl, same_bytes-true, is_word-true, symbol_is_word, no_indent_at_token, no_version}
 
 -- the same answer, under another reading of the fault and the class
@@ -77,6 +78,17 @@ unindented_version stage build found a h name start =
     ap (λ v. unindented_fault stage v build) (value_named (codes "ninja_dyndep_version") found a h name) ∙ at_zero a.name_start start where
       at_zero : (n : ℕ) → n ≡ 0 → unindented_fault stage (Some (n, value_of a.raw_value)) build ≡ version_fault stage (value_of a.raw_value)
       at_zero n e = rw (eq-eqb n 0 e) refl
+
+-- a blank line changes nothing if no statement is open
+pub blank_stays : (stage : Stage) (ss : List StatementValue) → (stage ≡ Open → ⊥) → step stage ss Blank ≡ Some (record { stage = stage; statements = ss })
+blank_stays BeforeVersion ss h = refl
+blank_stays NoneOpen ss h = refl
+blank_stays Open ss h = absurd (h refl)
+
+-- a text is indented if it starts with a space
+pub starts_with_space : (text : List ℕ) → starts_with (λ a b. a == b) text (32 ∷ []) ≡ begins_with_space text
+starts_with_space [] = refl
+starts_with_space (b ∷ text) = grind (arith, nat_tests)
 
 module _ (text : List ℕ) (sound : lexical_fault text ≡ None) where
   -- the symbols of a text, by its tokens with their bytes

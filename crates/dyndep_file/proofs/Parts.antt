@@ -4,7 +4,10 @@ use Rattle.std.specs.Prelude.{All}
 use Rattle.std.specs.List.{flat_map}
 use Rattle.std.proofs.lemmas.List.{take_more, get_or-map, length-map, append-nil, get_or_append_left, get_or-append-add}
 use Rattle.std.proofs.lemmas.Grind.{flat_map-append}
-use Rattle.dyndep_file.specs.Writing.{spaced, part_text}
+use Rattle.ninja_text.specs.Bytes.{line_feed}
+use Rattle.ninja_text.specs.Escapes.{escaped}
+use Rattle.dyndep_file.specs.StatementValue.{StatementValue}
+use Rattle.dyndep_file.specs.Writing.{spaced, part_text, build_line}
 use Rattle.dyndep_file.specs.inner.Paths.{lent_texts}
 
 -- the bytes of the path at an index
@@ -51,3 +54,13 @@ pub second_part : (P : List ℕ → Type 0) (output : List ℕ) (outputs inputs 
 second_part P output outputs inputs a k d lt =
     subst P (get_or-append-add outputs inputs k d)
     (a (suc (length outputs + k)) d (let both = length-append outputs inputs in omega (arith, both, lt)))
+
+joined : (a b c d e f : List ℕ) → ((((a ++ b) ++ c) ++ d) ++ e) ++ f ≡ a ++ b ++ c ++ d ++ e ++ f
+joined a b c d e f = simp append_assoc
+
+-- the parts of a build line, written one after another
+pub line_written : (s : StatementValue) {a b c d e f g : List ℕ} → a ≡ [] → b ≡ a ++ codes "build " → c ≡ b ++ escaped s.output → d ≡ c ++ part_text s.implicit_outputs
+    → e ≡ d ++ codes ": dyndep" → f ≡ e ++ part_text s.implicit_inputs → g ≡ f ++ line_feed ∷ [] → g ≡ build_line s
+line_written s none word output outputs rule inputs end =
+    rw (end, inputs, rule, outputs, output, word, none)
+    (joined (codes "build ") (escaped s.output) (part_text s.implicit_outputs) (codes ": dyndep") (part_text s.implicit_inputs) (line_feed ∷ []))

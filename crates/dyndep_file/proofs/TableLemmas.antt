@@ -116,7 +116,7 @@ names_apart text t a h start name at word =
     let b : get_or text 0 0 ≡ 98 = slice_first text t.end 98 _ (ap (λ k. slice_range text k t.end) (sym at) ∙ word) in
     omega arith
 
--- a text of each class, if it may stand
+-- a text of each class, at a stage that allows the class
 module _ (text : List ℕ) where
   -- a text that is no comment and has no lexical fault has the fault of its tokens
   without_lexical_fault : (stage : Stage) (comment : Bool) → comment ≡ false → lexical_fault text ≡ None → text_fault stage text ≡ None → text_line_fault stage text comment ≡ None
@@ -185,7 +185,7 @@ module _ (text : List ℕ) where
     | inr e ↦ rw (e, indent) (ap (λ v. indented_fault Open (is_some v)) (value_at (codes "restat") assigns.0 assigns.1 assigns.3))
   ]
 
--- if a line may not stand, no progress comes of it
+-- a line that is not allowed makes no progress
 pub never : {end : ProgressValue} {A : Type 0} → ◌≡◌ {A = Option ProgressValue} None (Some end) → A
 never h = absurd (cc)
 

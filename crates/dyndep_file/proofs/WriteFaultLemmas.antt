@@ -110,7 +110,7 @@ none_faulty index (s ∷ ss) a =
     ap (λ o. option_or o (fault_from (index + 1) ss)) (statement_unfaulty index s (a 0 s (omega arith)))
     ∙ none_faulty (index + 1) ss (tail_of s ss a)
 
--- the first of two results, or else the second
+-- the first of two results, or the second if there is no first
 or_some : {X : Type 0} (a b : Option X) (x : X) → option_or a b ≡ Some x → (a ≡ Some x) ⊎ (b ≡ Some x)
 or_some None b x h = inr h
 or_some (Some a) b x h = inl h

@@ -85,9 +85,9 @@ IsLastCall reads before after NotMade = before ≡ after
 abbrev pub Answer : Type 0
 Answer = Result (List StatementValue) (Failure ReadFault)
 
--- What is returned, by the bytes of the calls before the last one, and by that: at the reader's end
--- what `finish` returns, `Io` for an error, for bytes that are rejected the fault in them or
--- want of memory, and `Io` at 2^64 - 1 bytes.
+-- What is returned, by the bytes of the calls before the last one, and by the last call: at the
+-- reader's end what `finish` returns, for an error `Io`, for bytes that are rejected the fault in
+-- them or that memory ran out, and `Io` at 2^64 - 1 bytes.
 abbrev pub AnswersLastCall : {R : Type 0} → Bytes → LastCall R → Answer → Type 0
 AnswersLastCall front AtEnd result = EndsDyndepFile front result
 AnswersLastCall front Failed result = result ≡ Err (Fault Io)

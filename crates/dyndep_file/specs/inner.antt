@@ -3,4 +3,3 @@ pub mod Paths
 pub mod BuildLines
 pub mod LineReading
 pub mod LineStates
-pub mod Feeding

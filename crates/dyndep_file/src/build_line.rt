@@ -21,7 +21,10 @@ pub(crate) fn statement(alloc: Global, words: Words<'_>) -> Result<Statement, Fa
     let mut words = words;
     let output = output(alloc, &mut words)?;
     let implicit_outputs = implicit_outputs(alloc, &mut words)?;
-    rule(&mut words)?;
+    match words.next() {
+        Some(token) if is_keyword(token, b"dyndep") => {}
+        _ => return Err(Failure::Fault(LineFault::BadRule)),
+    }
     let implicit_inputs = implicit_inputs(alloc, words)?;
     Ok(Statement {
         output,
@@ -90,20 +93,6 @@ fn words_to_colon(alloc: Global, words: &mut Words<'_>) -> Result<Vec<Vec<u8>>, 
         return Err(Failure::Fault(fault));
     }
     Err(Failure::Fault(LineFault::BadLine))
-}
-
-/// Parses the rule, which is the keyword `dyndep`.
-fn rule(words: &mut Words<'_>) -> Result<(), Failure<LineFault>>
-    ensures { TakesOr (rule_fault (symbols_left words.old)) (λ _.
-        symbols_left words.old ≡ WordSymbol (codes "dyndep") ∷ symbols_left words.new) result }
-{
-    let Some(token) = words.next() else {
-        return Err(Failure::Fault(LineFault::BadRule));
-    };
-    if !is_keyword(token, b"dyndep") {
-        return Err(Failure::Fault(LineFault::BadRule));
-    }
-    Ok(())
 }
 
 /// Parses the implicit inputs after `|`, if there are any.

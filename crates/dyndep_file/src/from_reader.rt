@@ -1,8 +1,5 @@
 //! Reads a dyndep file from any reader.
-ghost use Rattle.std.specs.Prelude.{[], MatchResult};
-ghost use Rattle.dyndep_file.specs.Reader.{HasReadDyndep};
-ghost use Rattle.dyndep_file.specs.ReadingAll.{Answer, IsReadFrom};
-ghost use Rattle.dyndep_file.specs.inner.Feeding.{AnswersAtEnd};
+ghost use Rattle.dyndep_file.specs.ReadingAll.{IsReadFrom};
 
 use crate::fault::ReadFault;
 use crate::reader::DyndepReader;
@@ -24,26 +21,10 @@ pub fn read_all<R: ReadCall>(
     ensures { IsReadFrom R.remaining R.reads input.old input.new result }
 {
     let mut reader = DyndepReader::new(alloc);
-    feed_all(input, &mut reader)?;
-    reader.finish()
-}
-
-/// Feeds a new reader all bytes of the input.
-fn feed_all<R: ReadCall>(
-    input: &mut Counted<R>,
-    reader: &mut DyndepReader,
-) -> Result<(), Failure<ReadFault>>
-    requires { HasReadDyndep [] reader.old }
-    // At the end, the result is the one that `finish` returns.
-    ensures { MatchResult result
-        (λ _. (answer : Answer) → AnswersAtEnd reader.new answer →
-        IsReadFrom R.remaining R.reads input.old input.new answer)
-        (λ failure. IsReadFrom R.remaining R.reads input.old input.new (Err failure)) }
-{
     let mut piece = [0; 4096];
     'read: for calls in 0..u64::MAX {
         match input.read(&mut piece) {
-            Ok(0) => return Ok(()),
+            Ok(0) => return reader.finish(),
             Ok(count) => reader.feed(&piece[..count])?,
             Err(_) => return Err(Failure::Fault(ReadFault::Io)),
         }

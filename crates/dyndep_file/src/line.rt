@@ -1,16 +1,13 @@
 //! Reads the lines of a dyndep file.
-ghost use Rattle.std.specs.Prelude.{◌≡◌, ◌==◌, ◌&&◌, codes};
 ghost use Rattle.ninja_text.specs.LineViews.{seen_line};
-ghost use Rattle.ninja_text.specs.TokenViews.{seen_token};
-ghost use Rattle.dyndep_file.specs.Classes.{IsDyndepLine, begins_with_space};
+ghost use Rattle.dyndep_file.specs.Classes.{IsDyndepLine};
 ghost use Rattle.dyndep_file.specs.Faults.{text_line_fault};
-ghost use Rattle.dyndep_file.specs.BuildTokens.{symbol_of, is_this_word};
 ghost use Rattle.dyndep_file.specs.inner.LineReading.{PassesOr};
 
 use crate::build_line::is_keyword;
 use crate::fault::{LineFault, ReadFault};
-use crate::progress::{Progress, blank_line, build_line, indented_line, version_or_other_line};
-use ninja_text::{CutFault, Failure, Line, LineState, Token, assignment, words};
+use crate::progress::{Progress, Stage, build_line, indented_line, unindented_line};
+use ninja_text::{CutFault, Failure, Line, LineState, assignment, words};
 use std::alloc::Global;
 
 impl LineState for Progress {
@@ -65,30 +62,18 @@ fn read_text(
         Err(fault) => return Err(Failure::Fault(LineFault::Lexical(fault))),
     };
     let Some(first) = tokens.next() else {
-        blank_line(progress);
+        // A blank line closes the open statement.
+        if let Stage::Open = progress.stage {
+            progress.stage = Stage::NoneOpen;
+        }
         return Ok(());
     };
-    if begins_build_line(first) {
+    if first.start() == 0 && is_keyword(first, b"build") {
         return build_line(alloc, progress, tokens);
     }
     match assignment(line) {
         Err(fault) => Err(Failure::Fault(LineFault::Lexical(fault))),
-        Ok(found) if begins_with_space(line.text()) => indented_line(alloc, progress, found),
-        Ok(found) => version_or_other_line(alloc, progress, found),
+        Ok(found) if line.text().starts_with(b" ") => indented_line(alloc, progress, found),
+        Ok(found) => unindented_line(alloc, progress, found),
     }
-}
-
-/// Returns whether a line with this first token is a build line.
-fn begins_build_line(first: Token<'_>) -> bool
-    ensures { result ≡ ((seen_token first.entry).start == 0)
-        && is_this_word (codes "build") (symbol_of (seen_token first.entry)) }
-{
-    first.start() == 0 && is_keyword(first, b"build")
-}
-
-/// Returns whether the text of a line is indented.
-fn begins_with_space(text: &[u8]) -> bool
-    ensures { result ≡ begins_with_space text.now }
-{
-    matches!(text, [b' ', ..])
 }

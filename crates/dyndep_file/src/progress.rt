@@ -1,12 +1,11 @@
 //! The statements so far, and the effect of each kind of line.
-ghost use Rattle.std.specs.Prelude.{◌≡◌, codes, is_some, option_map, IfOk, Some};
+ghost use Rattle.std.specs.Prelude.{◌≡◌, codes, is_some, option_map, IfOk};
 ghost use Rattle.ninja_text.specs.Tokens.{value_of};
 ghost use Rattle.ninja_text.specs.AssignmentViews.{seen_assignment};
-ghost use Rattle.dyndep_file.specs.Classes.{Blank, is_version_one, ends_number};
-ghost use Rattle.dyndep_file.specs.Faults.{value_assigned, indented_fault, version_fault, build_fault, other_fault, unindented_fault};
-ghost use Rattle.dyndep_file.specs.Steps.{step};
+ghost use Rattle.dyndep_file.specs.Classes.{is_version_one};
+ghost use Rattle.dyndep_file.specs.Faults.{value_assigned, indented_fault, build_fault, unindented_fault};
 ghost use Rattle.dyndep_file.specs.BuildTokens.{symbols_left};
-ghost use Rattle.dyndep_file.specs.inner.LineReading.{PassesOr, IsBuildOf, IsBindingOf, IsVersionOf, IsVersionLineOf, with_name};
+ghost use Rattle.dyndep_file.specs.inner.LineReading.{PassesOr, IsBuildOf, IsBindingOf, IsVersionLineOf, with_name};
 
 use crate::build_line::{is_same, statement};
 use crate::fault::LineFault;
@@ -39,17 +38,6 @@ impl Model for Progress {
     ghost Value = { ProgressValue };
 
     ghost view = { λ p. record { stage = p.stage; statements = p.statements.items } };
-}
-
-/// A blank line closes the open statement.
-pub(crate) fn blank_line(progress: &mut Progress)
-    ensures { step progress.old.stage progress.old.statements Blank
-        ≡ Some progress.new }
-{
-    match progress.stage {
-        Stage::BeforeVersion | Stage::NoneOpen => {}
-        Stage::Open => progress.stage = Stage::NoneOpen,
-    }
 }
 
 /// An indented line sets the flag of the open statement if it assigns to `restat`, and closes the
@@ -100,8 +88,9 @@ pub(crate) fn build_line(
     Ok(())
 }
 
-/// A line that is neither indented nor a build line is a version line, or it is not allowed.
-pub(crate) fn version_or_other_line(
+/// A line that is neither indented nor a build line is a version line, or it is not allowed. A version
+/// line is allowed once, before all statements, with the value `1` or `1.0`.
+pub(crate) fn unindented_line(
     alloc: Global,
     progress: &mut Progress,
     assignment: Option<Assignment<'_>>,
@@ -111,25 +100,13 @@ pub(crate) fn version_or_other_line(
         PassesOr (unindented_fault progress.old.stage version None)
         (IsVersionLineOf view) progress.old result progress.new }
 {
-    let Some(version) = named(assignment, b"ninja_dyndep_version") else {
-        return Err(Failure::Fault(other_line(progress.stage)));
+    let version = match named(assignment, b"ninja_dyndep_version") {
+        Some(version) if version.name_start() == 0 => version,
+        _ => return Err(Failure::Fault(match progress.stage {
+            Stage::BeforeVersion => LineFault::NoVersion,
+            Stage::NoneOpen | Stage::Open => LineFault::BadLine,
+        })),
     };
-    if version.name_start() != 0 {
-        return Err(Failure::Fault(other_line(progress.stage)));
-    }
-    version_line(alloc, progress, version)
-}
-
-/// A version line is allowed once, before all statements, with the value `1` or `1.0`.
-fn version_line(
-    alloc: Global,
-    progress: &mut Progress,
-    version: Assignment<'_>,
-) -> Result<(), Failure<LineFault>>
-    ensures { let value = value_of (seen_assignment version.entry).raw_value in
-        PassesOr (version_fault progress.old.stage value)
-        (IsVersionOf value) progress.old result progress.new }
-{
     match progress.stage {
         Stage::BeforeVersion => {}
         Stage::NoneOpen | Stage::Open => return Err(Failure::Fault(LineFault::SecondVersion)),
@@ -140,16 +117,6 @@ fn version_line(
     }
     progress.stage = Stage::NoneOpen;
     Ok(())
-}
-
-/// Returns the error of a line that is not allowed at this stage.
-fn other_line(stage: Stage) -> LineFault
-    ensures { result ≡ other_fault stage }
-{
-    match stage {
-        Stage::BeforeVersion => LineFault::NoVersion,
-        Stage::NoneOpen | Stage::Open => LineFault::BadLine,
-    }
 }
 
 /// Returns the assignment if it assigns to this name.
@@ -178,19 +145,9 @@ fn is_version_one(value: &[u8]) -> bool
     ensures { result ≡ is_version_one value.now }
 {
     match value {
-        [b'1', b'.', b'0', rest @ ..] => ends_number(true, rest),
-        [b'1', rest @ ..] => ends_number(false, rest),
+        [b'1'] | [b'1', b'.', b'0'] => true,
+        [b'1', b'.', b'0', byte, ..] => !byte.is_ascii_digit(),
+        [b'1', byte, ..] => !byte.is_ascii_digit() && *byte != b'.',
         _ => false,
-    }
-}
-
-/// Returns whether a number ends before these bytes: no digit follows and, unless `dots` are allowed, no
-/// `.`.
-fn ends_number(dots: bool, rest: &[u8]) -> bool
-    ensures { result ≡ ends_number dots rest.now }
-{
-    match rest {
-        [] => true,
-        [byte, ..] => !byte.is_ascii_digit() && (dots || *byte != b'.'),
     }
 }

@@ -1,16 +1,16 @@
 //! Builds the text of a dyndep file, statement by statement.
-ghost use Rattle.std.specs.Prelude.{◌≡◌, ◌++◌, List, [], ◌∷◌, not, position, All, IfOk, OnOk, OnErr, IfErr, None, Some};
+ghost use Rattle.std.specs.Prelude.{◌≡◌, ◌++◌, List, [], ◌∷◌, All, IfOk, OnOk, OnErr, IfErr, None, Some};
 ghost use Rattle.ninja_text.specs.Failure.{Gives, ForFault};
-ghost use Rattle.ninja_text.specs.Escapes.{is_writable, IsWritable};
+ghost use Rattle.ninja_text.specs.Escapes.{IsWritable};
 ghost use Rattle.dyndep_file.specs.StatementValue.{StatementValue};
 ghost use Rattle.dyndep_file.specs.Reading.{StandsForOnly};
-ghost use Rattle.dyndep_file.specs.Writing.{part_text, build_line};
+ghost use Rattle.dyndep_file.specs.Writing.{part_text};
 ghost use Rattle.dyndep_file.specs.WriteFaults.{text_or_fault, paths_of, statement_fault, write_fault};
 ghost use Rattle.dyndep_file.specs.Texts.{IsTextOf, IsFinished};
 ghost use Rattle.dyndep_file.specs.inner.Paths.{texts, lent_texts};
 
 use crate::fault::WriteFault;
-use crate::statement::{Dyndep, LentStatement, Statement};
+use crate::statement::{Dyndep, LentStatement};
 use ninja_text::{Failure, LINE_LIMIT, escape_into, is_writable};
 use std::alloc::{AllocError, Global};
 use std::marker::Model;
@@ -73,7 +73,12 @@ impl DyndepText {
             statement_fault self.old.count statement.now ≡ Some fault)) }
         ensures unchanged { OnErr result (self.new ≡ self.old) }
     {
-        if let Some(path) = unwritable_path(statement) {
+        let output = [statement.output];
+        let mut paths = output
+            .iter()
+            .chain(statement.implicit_outputs.iter())
+            .chain(statement.implicit_inputs.iter());
+        if let Some(path) = paths.position(|path| !is_writable(*path)) {
             return Err(Failure::Fault(WriteFault::Unwritable {
                 statement: self.count,
                 path,
@@ -97,7 +102,12 @@ impl DyndepText {
         ensures unchanged { OnErr result (self.new ≡ self.old) }
     {
         self.lines.clear();
-        push_build_line(statement, &mut self.lines)?;
+        self.lines.extend_from_slice(b"build ")?;
+        escape_into(statement.output, &mut self.lines)?;
+        push_part(statement.implicit_outputs, &mut self.lines)?;
+        self.lines.extend_from_slice(b": dyndep")?;
+        push_part(statement.implicit_inputs, &mut self.lines)?;
+        self.lines.extend_from_slice(b"\n")?;
         if self.lines.len() > LINE_LIMIT {
             return Err(Failure::Fault(WriteFault::StatementTooLong {
                 statement: self.count,
@@ -110,28 +120,6 @@ impl DyndepText {
         // A text cannot have enough statements to saturate the count.
         self.count = self.count.saturating_add(1);
         Ok(())
-    }
-
-    /// Adds the lines of a statement that owns its paths. The two vectors are reused to borrow them.
-    fn add_lent<'p>(
-        &mut self,
-        statement: &'p Statement,
-        outputs: &mut Vec<&'p [u8]>,
-        inputs: &mut Vec<&'p [u8]>,
-    ) -> Result<(), Failure<WriteFault>>
-        ensures added { OnOk result ((statements : List StatementValue) →
-            IsTextOf statements self.old → IsTextOf (statements ++ statement.now ∷ []) self.new) }
-        ensures fault { IfErr result (ForFault (λ fault.
-            statement_fault self.old.count statement.now ≡ Some fault)) }
-    {
-        lend(&statement.implicit_outputs, outputs)?;
-        lend(&statement.implicit_inputs, inputs)?;
-        self.add(&LentStatement {
-            output: &statement.output,
-            implicit_outputs: outputs,
-            implicit_inputs: inputs,
-            restat: statement.restat,
-        })
     }
 
     /// Returns the text. It stands for the statements that were added, and for no others.
@@ -160,7 +148,14 @@ impl Dyndep {
         let mut outputs = Vec::new(alloc);
         let mut inputs = Vec::new(alloc);
         for statement in &self.statements {
-            text.add_lent(statement, &mut outputs, &mut inputs)?;
+            lend(&statement.implicit_outputs, &mut outputs)?;
+            lend(&statement.implicit_inputs, &mut inputs)?;
+            text.add(&LentStatement {
+                output: &statement.output,
+                implicit_outputs: &outputs,
+                implicit_inputs: &inputs,
+                restat: statement.restat,
+            })?;
         }
         Ok(text.finish())
     }
@@ -175,40 +170,6 @@ fn lend<'p>(paths: &'p [Vec<u8>], lent: &mut Vec<&'p [u8]>) -> Result<(), AllocE
         lent.push(path.as_slice())?;
     }
     Ok(())
-}
-
-/// Returns the index of the first path of a statement that cannot be escaped.
-fn unwritable_path(statement: &LentStatement<'_>) -> Option<usize>
-    ensures { result ≡ position (λ path. not (is_writable path)) (paths_of statement.now) }
-{
-    if !is_writable(statement.output) {
-        return Some(0);
-    }
-    if let Some(index) = first_unwritable(statement.implicit_outputs) {
-        return Some(1 + index);
-    }
-    let index = first_unwritable(statement.implicit_inputs)?;
-    Some(1 + statement.implicit_outputs.len() + index)
-}
-
-/// Returns the index of the first path that cannot be escaped.
-fn first_unwritable(paths: &[&[u8]]) -> Option<usize>
-    ensures { result ≡ position (λ path. not (is_writable path)) (lent_texts paths.now) }
-{
-    paths.iter().position(|path| !is_writable(*path))
-}
-
-/// Appends the build line of a statement.
-fn push_build_line(statement: &LentStatement<'_>, text: &mut Vec<u8>) -> Result<(), AllocError>
-    requires { All IsWritable (paths_of statement.now) }
-    ensures { OnOk result (text.new.items ≡ text.old.items ++ build_line statement.now) }
-{
-    text.extend_from_slice(b"build ")?;
-    escape_into(statement.output, text)?;
-    push_part(statement.implicit_outputs, text)?;
-    text.extend_from_slice(b": dyndep")?;
-    push_part(statement.implicit_inputs, text)?;
-    text.extend_from_slice(b"\n")
 }
 
 /// Appends a part of a build line.

@@ -2,7 +2,7 @@ use Rattle.std.proofs.Common.{◌≡◌, length}
 use Rattle.ninja_text.specs.Counting.{held, failures}
 use Rattle.dyndep_file.specs.ReadingAll.{buffer_len}
 use Rattle.dyndep_file.proofs.ReadLemmas.{ReadSoFar}
-use Rattle.dyndep_file.proofs.from_reader.feed_all.Given as goal
+use Rattle.dyndep_file.proofs.from_reader.read_all.Given as goal
 
 -- each call gave some bytes, the reader of dyndep files was fed all of them, and no call has failed
 abbrev pub invariant-read : goal.invariant-read
