@@ -1,11 +1,12 @@
 -- Rows of indexes, and a list that a loop has gone through.
-use Rattle.std.proofs.Common.{◌≡◌, ◌≤◌, ℕ, zero, suc, List, [], ◌∷◌, Vec, length, map, take, Some, refl, ap, arith, subst, sym, ◌∙◌, slice_get}
+use Rattle.std.proofs.Common.{◌≡◌, ◌≤◌, ◌<◌, ℕ, zero, suc, List, [], ◌∷◌, Vec, length, map, take, Some, refl, ap, arith, subst, sym, ◌∙◌, slice_get}
 use Rattle.std.specs.declared.alloc.Global.{Global}
+use Rattle.std.proofs.lemmas.Option.{slice_get_within}
 use Rattle.scan_docs.specs.Scan.{RuleValue}
 use Rattle.scan_docs.specs.Info.{InfoValue}
 use Rattle.dep_order.specs.Rows.{rows}
 use Rattle.module_table.specs.TableValue.{TableValue}
-use Rattle.module_table.specs.Modules.{provisions}
+use Rattle.module_table.specs.Modules.{Provision, provisions}
 use Rattle.ninja_text.specs.Firsts.{AllDiffer}
 use Rattle.module_table.specs.inner.Views.{names_of}
 use Rattle.module_table.specs.inner.Numbered.{AreIndexes, IsNumbered}
@@ -57,3 +58,12 @@ pub many_rows : (t : TableValue) (rows : List (List ℕ)) → AreIndexes t rows 
 many_rows t rows is =
     sym (length_mapped (λ (rule : RuleValue). map (λ n. Some n) rule.required) t.objects) ∙ ap length (sym is)
     ∙ length_mapped (λ row. map (slice_get (names_of (provisions t))) row) rows
+
+-- what a row has is the index of a module
+pub index_within : (t : TableValue) (vectors : List (Vec ℕ Global)) → AreIndexes t (rows vectors) → (object : ℕ) (row : Vec ℕ Global) → slice_get vectors object ≡ Some row → (k index : ℕ) → slice_get row.items k ≡ Some index → index < length (provisions t)
+index_within t vectors is object row at k index here =
+    let rule = rule_of t (rows vectors) is object row.items (to_map (λ (row : Vec ℕ Global). row.items) vectors object row at) in
+    let name = name_of_index (names_of (provisions t)) row.items rule.0.required rule.2 k index here in
+    let within = slice_get_within (names_of (provisions t)) index name.0 name.2 in
+    let long = length_mapped (λ (p : Provision). p.name) (provisions t) in
+    omega (arith, within, long)

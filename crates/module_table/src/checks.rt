@@ -1,7 +1,7 @@
 //! All checks of a table in the order of their codes, and what a table keeps for look-ups after
 //! they have passed. M1 to M4 are in `repeated.rt`, M5 to M7 in `required.rt`, M8 in `rings.rt`, M9
 //! and M10 in `privacy.rt`.
-ghost use Rattle.std.specs.Prelude.{◌≡◌, ℕ, List, map, IfOk, IfErr, OnOk};
+ghost use Rattle.std.specs.Prelude.{◌≡◌, List, map, IfOk, IfErr, OnOk};
 ghost use Rattle.ninja_text.specs.Bytes.{Name};
 ghost use Rattle.ninja_text.specs.Failure.{ForFault};
 ghost use Rattle.indexmap.specs.IndexSet.{IsEmpty};

@@ -8,28 +8,20 @@ use table_keys::{KeyDigest, TableKey};
 pub(crate) fn table_key(objects: &[Rule], infos: &[Info]) -> TableKey {
     let mut digest = KeyDigest::new();
     for rule in objects {
-        add_rule(&mut digest, rule);
+        add_entry(&mut digest, rule.object.bytes());
+        for pair in &rule.provided {
+            add_entry(&mut digest, pair.0.bytes());
+            add_entry(&mut digest, pair.1.bytes());
+        }
     }
     for info in infos {
-        add_info(&mut digest, info);
+        add_entry(&mut digest, info.target.text().as_bytes());
+        for module in &info.modules {
+            add_entry(&mut digest, module.name.bytes());
+            add_entry(&mut digest, module.file.bytes());
+        }
     }
     digest.key()
-}
-
-fn add_rule(digest: &mut KeyDigest, rule: &Rule) {
-    add_entry(digest, rule.object.bytes());
-    for pair in &rule.provided {
-        add_entry(digest, pair.0.bytes());
-        add_entry(digest, pair.1.bytes());
-    }
-}
-
-fn add_info(digest: &mut KeyDigest, info: &Info) {
-    add_entry(digest, info.target.text().as_bytes());
-    for module in &info.modules {
-        add_entry(digest, module.name.bytes());
-        add_entry(digest, module.file.bytes());
-    }
 }
 
 /// Adds an entry and its end. No entry has a line end, so no two lists of entries have one digest.

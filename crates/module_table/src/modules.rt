@@ -1,15 +1,14 @@
 //! Who provides which module: the modules of a target's objects and of the info files, by index and
 //! by name.
-ghost use Rattle.std.specs.Prelude.{◌≡◌, ◌<◌, ◌++◌, ℕ, map, length, slice_get, Some, IfOk, OnOk, IfSome, IfNone};
-ghost use Rattle.std.specs.List.{flat_map, enumerate_from};
+ghost use Rattle.std.specs.Prelude.{◌≡◌, ◌<◌, ℕ, map, length, slice_get, Some, IfOk, IfSome, IfNone};
 ghost use Rattle.std.specs.Option.{option_map};
 ghost use Rattle.module_table.specs.TableValue.{table_with};
-ghost use Rattle.module_table.specs.Modules.{provisions, object_provisions, info_provisions};
+ghost use Rattle.module_table.specs.Modules.{provisions};
 ghost use Rattle.ninja_text.specs.Firsts.{AllDiffer};
-ghost use Rattle.module_table.specs.inner.Views.{provision_of, names_of, IsAbsent};
+ghost use Rattle.module_table.specs.inner.Views.{provision_of, names_of};
 ghost use Rattle.module_table.specs.inner.Finds.{found};
 ghost use Rattle.module_table.specs.inner.Graph.{index_in};
-ghost use Rattle.module_table.specs.inner.Origins.{origins_of, object_origins, info_origins, origin_of};
+ghost use Rattle.module_table.specs.inner.Origins.{origins_of, origin_of};
 
 use crate::fault::Maker;
 use indexmap::IndexSet;
@@ -164,74 +163,29 @@ pub(crate) fn provided_modules<'t>(
 {
     // most objects provide one module at most
     let mut all = Vec::with_capacity(alloc, objects.len())?;
-    add_objects(objects, &mut all)?;
-    add_infos(infos, &mut all)?;
-    Ok(all)
-}
-
-fn add_objects<'t>(objects: &'t [Rule], all: &mut Vec<Module<'t>>) -> Result<(), AllocError>
-    ensures provisions { OnOk result (map provision_of all.new.items
-        ≡ map provision_of all.old.items
-        ++ flat_map object_provisions (enumerate_from 0 objects.now)) }
-    ensures origins { OnOk result (map origin_of all.new.items
-        ≡ map origin_of all.old.items ++ flat_map object_origins (enumerate_from 0 objects.now)) }
-{
     for (object, rule) in objects.iter().enumerate() {
-        add_object(object, rule, all)?;
+        for (index, pair) in rule.provided.iter().enumerate() {
+            all.push(Module {
+                maker: Maker::Object(object),
+                index,
+                name: &pair.0,
+                file: &pair.1,
+                is_private: false,
+            })?;
+        }
     }
-    Ok(())
-}
-
-fn add_object<'t>(
-    object: usize,
-    rule: &'t Rule,
-    all: &mut Vec<Module<'t>>,
-) -> Result<(), AllocError>
-    ensures provisions { OnOk result (map provision_of all.new.items
-        ≡ map provision_of all.old.items ++ object_provisions (object, rule.now)) }
-    ensures origins { OnOk result (map origin_of all.new.items
-        ≡ map origin_of all.old.items ++ object_origins (object, rule.now)) }
-{
-    for (index, pair) in rule.provided.iter().enumerate() {
-        all.push(Module {
-            maker: Maker::Object(object),
-            index,
-            name: &pair.0,
-            file: &pair.1,
-            is_private: false,
-        })?;
-    }
-    Ok(())
-}
-
-fn add_infos<'t>(infos: &'t [Info], all: &mut Vec<Module<'t>>) -> Result<(), AllocError>
-    ensures provisions { OnOk result (map provision_of all.new.items
-        ≡ map provision_of all.old.items ++ flat_map info_provisions (enumerate_from 0 infos.now)) }
-    ensures origins { OnOk result (map origin_of all.new.items
-        ≡ map origin_of all.old.items ++ flat_map info_origins (enumerate_from 0 infos.now)) }
-{
     for (info, value) in infos.iter().enumerate() {
-        add_info(info, value, all)?;
+        for (index, module) in value.modules.iter().enumerate() {
+            all.push(Module {
+                maker: Maker::Info(info),
+                index,
+                name: &module.name,
+                file: &module.file,
+                is_private: module.is_private,
+            })?;
+        }
     }
-    Ok(())
-}
-
-fn add_info<'t>(info: usize, value: &'t Info, all: &mut Vec<Module<'t>>) -> Result<(), AllocError>
-    ensures provisions { OnOk result (map provision_of all.new.items
-        ≡ map provision_of all.old.items ++ info_provisions (info, value.now)) }
-    ensures origins { OnOk result (map origin_of all.new.items
-        ≡ map origin_of all.old.items ++ info_origins (info, value.now)) }
-{
-    for (index, module) in value.modules.iter().enumerate() {
-        all.push(Module {
-            maker: Maker::Info(info),
-            index,
-            name: &module.name,
-            file: &module.file,
-            is_private: module.is_private,
-        })?;
-    }
-    Ok(())
+    Ok(all)
 }
 
 /// Returns the module of that index.

@@ -1,6 +1,6 @@
 //! The modules that objects require, with their files: by their own names, and directly or through
 //! others.
-ghost use Rattle.std.specs.Prelude.{◌≡◌, ◌<◌, ◌≤◌, ◌+◌, ◌^◌, ℕ, List, All, map, length, slice_get, Some, IfOk};
+ghost use Rattle.std.specs.Prelude.{◌≡◌, ◌<◌, ◌+◌, ◌^◌, All, map, length, slice_get, Some, IfOk};
 ghost use Rattle.std.specs.List.{filter_map};
 ghost use Rattle.ninja_text.specs.Bytes.{PathText, Name};
 ghost use Rattle.module_table.specs.TableValue.{table_with};
@@ -9,16 +9,14 @@ ghost use Rattle.module_table.specs.Sound.{IsSound};
 ghost use Rattle.module_table.specs.Added.{required_of};
 ghost use Rattle.dep_order.specs.Rows.{rows};
 ghost use Rattle.module_table.specs.inner.Numbered.{AreIndexes};
-ghost use Rattle.module_table.specs.inner.Mentioned.{AreFirstPairs};
-ghost use Rattle.module_table.specs.inner.Views.{provision_of};
 ghost use Rattle.module_table.specs.inner.Origins.{origins_of};
 ghost use Rattle.module_table.specs.inner.Indexed.{IsNamedAt};
 ghost use Rattle.module_table.specs.inner.Graph.{IsModuleGraph};
 ghost use Rattle.module_table.specs.Modules.{provisions};
-ghost use Rattle.module_table.specs.inner.Ranks.{pairs_of, AreByName, AreNumbers, AreRanks};
+ghost use Rattle.module_table.specs.inner.Ranks.{pairs_of};
 
 use crate::fault::Maker;
-use crate::modules::{Module, Modules, module_at};
+use crate::modules::{Modules, module_at};
 use dep_order::{Digraph, Reaching};
 use ninja_text::Path;
 use scan_docs::{Info, Name, Rule};
@@ -74,8 +72,15 @@ impl<'t> Needs<'t> {
         requires origins { origins.now ≡ origins_of (table_with objects.now infos.now) }
         ensures { IfOk result (λ needs. needs ≡ table_with objects.now infos.now) }
     {
-        let modules = modules_by_name(alloc, objects, infos, origins)?;
-        let ranks = ranks_of(alloc, modules.as_slice())?;
+        let mut modules = Vec::with_capacity(alloc, origins.len())?;
+        for (index, origin) in origins.iter().enumerate() {
+            modules.push((named_at(objects, infos, *origin), index))?;
+        }
+        modules.sort_unstable();
+        let mut ranks = vec![in alloc; 0; modules.len()]?;
+        for (rank, numbered) in modules.iter().enumerate() {
+            ranks[numbered.1] = rank;
+        }
         let reaching = Reaching::new(alloc, graph)?;
         Ok(Needs {
             objects,
@@ -136,21 +141,6 @@ fn pairs_at<'t>(
     Ok(found)
 }
 
-/// Returns copies of the pairs.
-pub(crate) fn copy_pairs(
-    alloc: Global,
-    pairs: &[(&Name, &Path)],
-) -> Result<Vec<(Name, Path)>, AllocError>
-    ensures { IfOk result (λ copies. copies.items ≡ map lent pairs.now) }
-{
-    let mut copies = Vec::with_capacity(alloc, pairs.len())?;
-    for pair in pairs {
-        let copy = copy_pair(alloc, pair.0, pair.1)?;
-        copies.push(copy)?;
-    }
-    Ok(copies)
-}
-
 /// Returns the name and the file of the module of this origin.
 pub(crate) fn named_at<'t>(
     objects: &'t [Rule],
@@ -175,38 +165,6 @@ pub(crate) fn named_at<'t>(
     }
 }
 
-/// Returns the name, the file and the index of each module, in byte order of names.
-fn modules_by_name<'t>(
-    alloc: Global,
-    objects: &'t [Rule],
-    infos: &'t [Info],
-    origins: &[(Maker, usize)],
-) -> Result<Vec<((&'t Name, &'t Path), usize)>, AllocError>
-    requires sound { IsSound (table_with objects.now infos.now) }
-    requires origins { origins.now ≡ origins_of (table_with objects.now infos.now) }
-    ensures { IfOk result
-        (λ modules. AreByName (provisions (table_with objects.now infos.now)) modules.items) }
-{
-    let mut modules = Vec::with_capacity(alloc, origins.len())?;
-    for (index, origin) in origins.iter().enumerate() {
-        modules.push((named_at(objects, infos, *origin), index))?;
-    }
-    modules.sort_unstable();
-    Ok(modules)
-}
-
-/// Returns the rank of each module, by its index.
-fn ranks_of(alloc: Global, modules: &[((&Name, &Path), usize)]) -> Result<Vec<usize>, AllocError>
-    requires { AreNumbers modules.now }
-    ensures { IfOk result (λ ranks. AreRanks modules.now (length modules.now) ranks.items) }
-{
-    let mut ranks = vec![in alloc; 0; modules.len()]?;
-    for (rank, numbered) in modules.iter().enumerate() {
-        ranks[numbered.1] = rank;
-    }
-    Ok(ranks)
-}
-
 /// Returns the modules that each object requires, each once, in order of first mention.
 /// `required[i]` are the indexes of what object i requires.
 pub(crate) fn all_pairs(
@@ -223,39 +181,17 @@ pub(crate) fn all_pairs(
     let mut marks = vec![in alloc; 0; provided.len()]?;
     let mut all = Vec::with_capacity(alloc, required.len())?;
     for (object, row) in required.iter().enumerate() {
-        let pairs = first_pairs(alloc, provided, row.as_slice(), object + 1, &mut marks)?;
+        let mut pairs = Vec::with_capacity(alloc, row.len())?;
+        for index in row {
+            if marks[*index] != object + 1 {
+                marks[*index] = object + 1;
+                let module = module_at(provided, *index);
+                pairs.push(copy_pair(alloc, module.name, module.file)?)?;
+            }
+        }
         all.push(pairs)?;
     }
     Ok(all)
-}
-
-/// Returns the names and files of the modules of these indexes, each once, in order of first
-/// mention. Marks each of them with `mark`, a fresh value.
-fn first_pairs(
-    alloc: Global,
-    provided: &[Module],
-    indexes: &[usize],
-    mark: usize,
-    marks: &mut Vec<usize>,
-) -> Result<Vec<(Name, Path)>, AllocError>
-    requires within { All (λ index. index < length marks.old.items) indexes.now }
-    requires as_many { length marks.old.items ≡ length provided.now }
-    requires fresh { All (λ old. old < mark) marks.old.items }
-    ensures as_many { length marks.new.items ≡ length marks.old.items }
-    ensures at_most { All (λ new. new ≤ mark) marks.new.items }
-    ensures pairs { IfOk result
-        (λ pairs. AreFirstPairs (map provision_of provided.now) indexes.now pairs.items) }
-{
-    let mut pairs = Vec::with_capacity(alloc, indexes.len())?;
-    for index in indexes {
-        if marks[*index] != mark {
-            marks[*index] = mark;
-            let module = module_at(provided, *index);
-            let pair = copy_pair(alloc, module.name, module.file)?;
-            pairs.push(pair)?;
-        }
-    }
-    Ok(pairs)
 }
 
 /// Returns copies of the name and the file.

@@ -87,7 +87,10 @@ impl Pool {
             }
             None => {
                 infos.push(None)?;
-                related.push(Related::none(alloc))?;
+                related.push(Related {
+                    sources: Vec::new(alloc),
+                    clashes: Vec::new(alloc),
+                })?;
             }
         }
         Ok(Pool {

@@ -7,7 +7,7 @@ ghost use Rattle.module_table.specs.Modules.{provisions};
 ghost use Rattle.module_table.specs.inner.Views.{names_of};
 ghost use Rattle.module_table.specs.inner.Origins.{origins_of};
 ghost use Rattle.module_table.specs.inner.Graph.{indexes_in, object_row, info_rows};
-ghost use Rattle.module_table.specs.inner.Found.{looked_up, lookup_of, lookups_of, AreLookedUp};
+ghost use Rattle.module_table.specs.inner.Found.{looked_up, lookups_of, AreLookedUp};
 
 use crate::fault::Maker;
 use crate::modules::{Module, Modules};
@@ -63,29 +63,12 @@ pub(crate) fn all_required<'m, 't>(
     let infos = modules.infos();
     let mut all = Vec::new(alloc);
     for (info, value) in infos.iter().enumerate() {
-        add_info(alloc, modules, info, value, &mut all, needs)?;
+        for entry in &value.modules {
+            let row = add_module(alloc, modules, info, &value.target, entry, &mut all)?;
+            needs.push(row)?;
+        }
     }
     Ok(all)
-}
-
-fn add_info<'m, 't>(
-    alloc: Global,
-    modules: &'m Modules<'t>,
-    info: usize,
-    value: &'t Info,
-    all: &mut Vec<InfoRequired<'m, 't>>,
-    needs: &mut Vec<Vec<usize>>,
-) -> Result<(), AllocError>
-    ensures required { OnOk result (map looked_up all.new.items ≡ map looked_up all.old.items
-        ++ flat_map (lookups_of (provisions modules.now) info value.now.target) value.now.modules) }
-    ensures needs { OnOk result (rows needs.new.items ≡ rows needs.old.items
-        ++ info_rows (names_of (provisions modules.now)) (info, value.now)) }
-{
-    for entry in &value.modules {
-        let row = add_module(alloc, modules, info, &value.target, entry, all)?;
-        needs.push(row)?;
-    }
-    Ok(())
 }
 
 /// Adds the requirements of a module, and returns the modules of the names.

@@ -14,7 +14,7 @@ use crate::checks::check_all;
 use crate::fault::{Maker, RefusedTable, TableFault};
 use crate::keys::table_key;
 use crate::modules::index_of;
-use crate::needed::{Needs, copy_pairs, named_at};
+use crate::needed::{Needs, copy_pair, named_at};
 use crate::resolved::Resolved;
 use dep_order::Digraph;
 use indexmap::IndexSet;
@@ -202,7 +202,11 @@ impl Table {
     {
         let mut needs = self.needs(alloc)?;
         let pairs = needs.of(alloc, object)?;
-        copy_pairs(alloc, &pairs)
+        let mut copies = Vec::with_capacity(alloc, pairs.len())?;
+        for pair in &pairs {
+            copies.push(copy_pair(alloc, pair.0, pair.1)?)?;
+        }
+        Ok(copies)
     }
 
     /// Returns a value that does the same for one object after another. It sorts the names once, so

@@ -1,20 +1,20 @@
 //! M9 and M10: who requires a module that is private to an info's target, and which modules of the
 //! target are to be private.
-ghost use Rattle.std.specs.Prelude.{◌≡◌, ℕ, List, map, position, not, IfErr, OnOk};
+ghost use Rattle.std.specs.Prelude.{◌≡◌, ℕ, List, IfErr, OnOk};
 ghost use Rattle.ninja_text.specs.Bytes.{Name};
 ghost use Rattle.ninja_text.specs.Failure.{ForFault};
 ghost use Rattle.dep_order.specs.Rows.{rows};
 ghost use Rattle.module_table.specs.Modules.{provisions, info_requirements};
-ghost use Rattle.module_table.specs.inner.Finds.{is_allowed, is_public_at, is_by_object, is_info_at, IsPrivate, IsAllowed, IsByObject, IsPrivateTo, RequiresPublic, AcceptsAll};
+ghost use Rattle.module_table.specs.inner.Finds.{is_allowed, is_by_object, is_info_at, IsPrivate, IsAllowed, IsByObject, IsPrivateTo, RequiresPublic, AcceptsAll};
 ghost use Rattle.module_table.specs.inner.Found.{looked_up, AreLookedUp};
 ghost use Rattle.module_table.specs.inner.Numbered.{AreIndexes};
 ghost use Rattle.ninja_text.specs.Firsts.{AllDiffer};
 ghost use Rattle.module_table.specs.inner.Reported.{Reports};
-ghost use Rattle.module_table.specs.inner.Views.{names_of, provision_of};
+ghost use Rattle.module_table.specs.inner.Views.{names_of};
 ghost use Rattle.module_table.specs.declared.fault.TableFault.TheVariants.{ModulePrivate};
 
 use crate::fault::{Maker, TableFault, failure_of};
-use crate::modules::{Module, Modules, module_at};
+use crate::modules::{Modules, module_at};
 use crate::requirements::InfoRequired;
 use ninja_text::Failure;
 use scan_docs::Name;
@@ -35,11 +35,11 @@ pub(crate) fn check_objects_allowed(
 {
     let provided = modules.provided();
     for (object, row) in required.iter().enumerate() {
-        match first_private(provided, row.as_slice()) {
-            None => {}
-            Some(index) => {
-                let name = module_at(provided, row[index]).name;
-                return Err(requires_private(alloc, modules, name, Maker::Object(object)));
+        for index in row {
+            let module = module_at(provided, *index);
+            if module.is_private {
+                let user = Maker::Object(object);
+                return Err(requires_private(alloc, modules, module.name, user));
             }
         }
     }
@@ -122,16 +122,6 @@ fn info_of(modules: &Modules, name: &Name) -> usize
     }
 }
 
-/// Returns the index in the list of the first of these modules that is private.
-fn first_private(provided: &[Module], indexes: &[usize]) -> Option<usize>
-    ensures { result ≡ position
-        (λ index. not (is_public_at (map provision_of provided.now) index)) indexes.now }
-{
-    indexes
-        .iter()
-        .position(|index| !is_public_at(provided, *index))
-}
-
 /// Returns whether the module of that name is private to no other info file.
 fn is_allowed(required: &InfoRequired) -> bool
     ensures { result ≡ is_allowed (looked_up required.now) }
@@ -149,16 +139,6 @@ fn is_info_at(maker: Maker, index: usize) -> bool
     match maker {
         Maker::Info(info) => info == index,
         Maker::Object(_) => false,
-    }
-}
-
-/// Returns whether the module of that index is private to no info file.
-fn is_public_at(provided: &[Module], index: usize) -> bool
-    ensures { result ≡ is_public_at (map provision_of provided.now) index }
-{
-    match provided.get(index) {
-        Some(module) => !module.is_private,
-        None => true,
     }
 }
 

@@ -1,14 +1,14 @@
 //! M1 to M4: what is twice among the paths of objects, the targets of info files, the names of
 //! modules and the files.
-ghost use Rattle.std.specs.Prelude.{◌≡◌, ◌<◌, ◌+◌, ◌++◌, ℕ, List, map, length, slice_get, Some, IfOk, IfErr, IfSome, IfNone, OnOk};
+ghost use Rattle.std.specs.Prelude.{◌≡◌, ◌<◌, ◌+◌, List, map, length, slice_get, Some, IfOk, IfErr, OnOk};
 ghost use Rattle.ninja_text.specs.Bytes.{Name};
 ghost use Rattle.indexmap.specs.IndexSet.{IsEmpty};
 ghost use Rattle.ninja_text.specs.Failure.{ForFault};
 ghost use Rattle.module_table.specs.TableValue.{TableValue, table_with};
 ghost use Rattle.module_table.specs.Modules.{provisions};
 ghost use Rattle.module_table.specs.Faults.{Claim, claims_of};
-ghost use Rattle.ninja_text.specs.Firsts.{AllDiffer, RepeatsFirst};
-ghost use Rattle.module_table.specs.inner.Views.{provision_of, names_of, files_of, paths_of, IsProvidedTwice, IsMadeTwice};
+ghost use Rattle.ninja_text.specs.Firsts.{AllDiffer};
+ghost use Rattle.module_table.specs.inner.Views.{provision_of, names_of, paths_of};
 ghost use Rattle.module_table.specs.inner.Reported.{Reports};
 
 use crate::fault::{Maker, TableFault, failure_of};
@@ -16,7 +16,7 @@ use crate::modules::{Module, Modules, module_at, provided_modules};
 use indexmap::IndexSet;
 use ninja_text::{Failure, Path};
 use scan_docs::{Info, Name, Rule};
-use std::alloc::{AllocError, Global};
+use std::alloc::Global;
 use table_keys::TableKey;
 
 /// M1: no two objects have the same path. Puts the paths into the empty set, by object.
@@ -85,58 +85,20 @@ pub(crate) fn check_names<'t>(
 {
     let provided = provided_modules(alloc, objects, infos)?;
     let mut names = IndexSet::with_hasher(alloc, key);
-    add_names(alloc, provided.as_slice(), &mut names)?;
-    Ok(Modules::new(objects, infos, provided, names))
-}
-
-/// Puts the modules' names into the empty set, by module, if all differ.
-fn add_names(
-    alloc: Global,
-    provided: &[Module],
-    names: &mut IndexSet<Name, TableKey>,
-) -> Result<(), Failure<Box<TableFault>>>
-    requires { IsEmpty names.old }
-    ensures names { OnOk result (names.new.keys ≡ names_of (map provision_of provided.now)) }
-    ensures differ { OnOk result (AllDiffer names.new.keys) }
-    ensures fault { IfErr result (ForFault (λ fault. (t : TableValue) (kept : List Name) →
-        map provision_of provided.now ≡ provisions t → Reports 3 t kept fault.value)) }
-{
     names.reserve(provided.len())?;
-    for (index, module) in provided.iter().enumerate() {
-        let name = module.name.copy(alloc)?;
-        let (first, is_new) = names.insert_full(name)?;
+    for module in &provided {
+        let (first, is_new) = names.insert_full(module.name.copy(alloc)?)?;
         if !is_new {
-            return Err(provided_twice(alloc, provided, first, index));
-        }
-    }
-    Ok(())
-}
-
-/// Returns the failure that these two modules have the same name.
-fn provided_twice(
-    alloc: Global,
-    provided: &[Module],
-    first: usize,
-    second: usize,
-) -> Failure<Box<TableFault>>
-    requires first { first < length provided.now }
-    requires second { second < length provided.now }
-    ensures { ForFault (λ fault.
-        IsProvidedTwice (map provision_of provided.now) first second fault.value) result }
-{
-    let earlier = module_at(provided, first);
-    let later = module_at(provided, second);
-    match later.name.copy(alloc) {
-        Ok(name) => {
+            let name = module.name.copy(alloc)?;
             let fault = TableFault::ProvidedTwice {
                 name,
-                first: earlier.maker,
-                second: later.maker,
+                first: provided[first].maker,
+                second: module.maker,
             };
-            failure_of(alloc, fault)
+            return Err(failure_of(alloc, fault));
         }
-        Err(_) => Failure::Memory,
     }
+    Ok(Modules::new(objects, infos, provided, names))
 }
 
 /// M4: no two provided modules have the same file, and no module's file is an object. No two
@@ -155,66 +117,21 @@ pub(crate) fn check_files(
         (λ fault. (kept : List Name) → Reports 4 modules.now kept fault.value)) }
 {
     let provided = modules.provided();
-    match add_files(alloc, provided, files)? {
-        None => Ok(()),
-        Some(twice) => {
-            let objects = modules.objects();
-            Err(made_twice(alloc, objects, provided, twice.0, twice.1))
-        }
-    }
-}
-
-/// Puts the modules' files into the set. Returns the first file that is there already, by its index
-/// in the set and the index of the module.
-fn add_files(
-    alloc: Global,
-    provided: &[Module],
-    files: &mut IndexSet<Path, TableKey>,
-) -> Result<Option<(usize, usize)>, AllocError>
-    requires { AllDiffer files.old.keys }
-    ensures files { IfOk result (λ twice. IfNone twice
-        (files.new.keys ≡ files.old.keys ++ files_of (map provision_of provided.now))) }
-    ensures none { IfOk result (λ twice. IfNone twice (AllDiffer files.new.keys)) }
-    ensures some { IfOk result (λ twice. IfSome twice (λ at. RepeatsFirst
-        (files.old.keys ++ files_of (map provision_of provided.now))
-        at.0 (length files.old.keys + at.1))) }
-{
+    let objects = modules.objects();
     files.reserve(provided.len())?;
-    for (index, module) in provided.iter().enumerate() {
+    for module in provided {
         let file = module.file.copy(alloc)?;
         let (first, is_new) = files.insert_full(file)?;
         if !is_new {
-            return Ok(Some((first, index)));
-        }
-    }
-    Ok(None)
-}
-
-/// Returns the failure that a module has the file of an earlier module or object.
-fn made_twice(
-    alloc: Global,
-    objects: &[Rule],
-    provided: &[Module],
-    first: usize,
-    module_index: usize,
-) -> Failure<Box<TableFault>>
-    requires first { first < length objects.now + length provided.now }
-    requires module_index { module_index < length provided.now }
-    ensures { ForFault (λ fault. IsMadeTwice objects.now (map provision_of provided.now) first
-        (length objects.now + module_index) fault.value) result }
-{
-    let later = module_at(provided, module_index);
-    match later.file.copy(alloc) {
-        Ok(path) => {
             let fault = TableFault::BmiTwice {
-                path,
+                path: module.file.copy(alloc)?,
                 first: maker_of(objects, provided, first),
-                second: later.maker,
+                second: module.maker,
             };
-            failure_of(alloc, fault)
+            return Err(failure_of(alloc, fault));
         }
-        Err(_) => Failure::Memory,
     }
+    Ok(())
 }
 
 /// Returns the producer of the file of this index, among objects' paths and then modules' files.

@@ -1,12 +1,10 @@
 //! M5 to M7: what is required is provided. M5 speaks of objects, M6 and M7 of the modules of info
 //! files.
-ghost use Rattle.std.specs.Prelude.{◌≡◌, ℕ, List, map, slice_get, Some, IfOk, IfErr, OnOk};
+ghost use Rattle.std.specs.Prelude.{◌≡◌, List, Some, IfOk, IfErr, OnOk};
 ghost use Rattle.ninja_text.specs.Bytes.{Name};
 ghost use Rattle.ninja_text.specs.Failure.{ForFault};
 ghost use Rattle.dep_order.specs.Rows.{rows};
 ghost use Rattle.module_table.specs.Modules.{provisions, info_requirements};
-ghost use Rattle.ninja_text.specs.Firsts.{IsFirst};
-ghost use Rattle.module_table.specs.inner.Views.{names_of, IsAbsent};
 ghost use Rattle.module_table.specs.inner.Finds.{is_by_info, agrees, IsByInfo, Agrees, AcceptsAll};
 ghost use Rattle.module_table.specs.inner.Found.{looked_up, AreLookedUp};
 ghost use Rattle.module_table.specs.inner.Numbered.{AreIndexes};
@@ -16,11 +14,9 @@ ghost use Rattle.module_table.specs.declared.fault.TableFault.TheVariants.{Modul
 use crate::fault::{Maker, TableFault, failure_of};
 use crate::modules::{Modules, index_of};
 use crate::requirements::InfoRequired;
-use indexmap::IndexSet;
 use ninja_text::Failure;
-use scan_docs::{Name, Rule, TargetName};
+use scan_docs::{Name, TargetName};
 use std::alloc::{AllocError, Global};
-use table_keys::TableKey;
 
 /// M5: each required name is provided. Returns the indexes of the modules that each object
 /// requires.
@@ -34,37 +30,21 @@ pub(crate) fn check_objects_known(
 {
     let names = modules.names();
     let objects = modules.objects();
-    let mut required = Vec::with_capacity(alloc, objects.len())?;
+    let mut indexes = Vec::with_capacity(alloc, objects.len())?;
     for (object, rule) in objects.iter().enumerate() {
-        let row = indexes_of(alloc, names, object, rule)?;
-        required.push(row)?;
-    }
-    Ok(required)
-}
-
-fn indexes_of(
-    alloc: Global,
-    names: &IndexSet<Name, TableKey>,
-    object: usize,
-    rule: &Rule,
-) -> Result<Vec<usize>, Failure<Box<TableFault>>>
-    ensures ok { IfOk result (λ row.
-        map (slice_get names.now.keys) row.items ≡ map (λ name. Some name) rule.now.required) }
-    ensures fault { IfErr result (ForFault (λ fault. (index : ℕ) × (name : Name)
-        × IsFirst (IsAbsent names.now.keys) rule.now.required index name
-        × (fault.value ≡ ModuleUnknown name object))) }
-{
-    let mut row = Vec::with_capacity(alloc, rule.required.len())?;
-    for required in &rule.required {
-        match index_of(names, required) {
-            Some(index) => row.push(index)?,
-            None => {
-                let name = required.copy(alloc)?;
-                return Err(failure_of(alloc, TableFault::ModuleUnknown { name, object }));
+        let mut row = Vec::with_capacity(alloc, rule.required.len())?;
+        for required in &rule.required {
+            match index_of(names, required) {
+                Some(index) => row.push(index)?,
+                None => {
+                    let name = required.copy(alloc)?;
+                    return Err(failure_of(alloc, TableFault::ModuleUnknown { name, object }));
+                }
             }
         }
+        indexes.push(row)?;
     }
-    Ok(row)
+    Ok(indexes)
 }
 
 /// M6: info files provide what the modules of info files require.
@@ -108,7 +88,11 @@ pub(crate) fn check_infos_agree(
         (λ fault. (kept : List Name) → Reports 7 modules.now kept fault.value)) }
 {
     for required in all {
-        if !agrees(required) {
+        let agrees = match required.module {
+            Some((_, module)) => *module.file == *required.file,
+            None => true,
+        };
+        if !agrees {
             let (target, module_name, name) = copy_names(alloc, required)?;
             let fault = TableFault::InfoDisagrees {
                 target,
@@ -146,15 +130,5 @@ fn is_by_info(required: &InfoRequired) -> bool
             Maker::Object(_) => false,
         },
         None => false,
-    }
-}
-
-/// Returns whether the module of that name has the file that the requirement says.
-fn agrees(required: &InfoRequired) -> bool
-    ensures { result ≡ agrees (looked_up required.now) }
-{
-    match required.module {
-        Some((_, module)) => *module.file == *required.file,
-        None => true,
     }
 }

@@ -1,11 +1,11 @@
 //! M8: whether objects need each other's modules in a cycle.
-ghost use Rattle.std.specs.Prelude.{◌≡◌, ◌<◌, ℕ, List, map, length, IfOk, IfErr, OnOk};
+ghost use Rattle.std.specs.Prelude.{◌≡◌, ◌<◌, List, map, length, IfOk, IfErr, OnOk};
 ghost use Rattle.std.specs.List.{filter_map};
 ghost use Rattle.ninja_text.specs.Bytes.{Name};
 ghost use Rattle.ninja_text.specs.Failure.{ForFault};
 ghost use Rattle.dep_order.specs.Needs.{IsOrderable};
 ghost use Rattle.dep_order.specs.Rows.{rows};
-ghost use Rattle.module_table.specs.Modules.{provisions, DependsOn};
+ghost use Rattle.module_table.specs.Modules.{DependsOn};
 ghost use Rattle.module_table.specs.inner.Numbered.{AreIndexes, maker_at};
 ghost use Rattle.module_table.specs.inner.Views.{provision_of};
 ghost use Rattle.module_table.specs.inner.Reported.{Reports};
@@ -28,29 +28,17 @@ pub(crate) fn check_rings(
     ensures fault { IfErr result (ForFault
         (λ fault. (kept : List Name) → Reports 8 modules.now kept fault.value)) }
 {
-    let needs = all_needs(alloc, modules.provided(), required)?;
-    let graph = Digraph::new(needs);
-    match order(alloc, &graph)? {
-        Sorting::Order(_) => Ok(()),
-        Sorting::Cycle(objects) => Err(failure_of(alloc, TableFault::ImportCycle { objects })),
-    }
-}
-
-/// Returns the objects that provide what each object requires.
-fn all_needs(
-    alloc: Global,
-    provided: &[Module],
-    required: &[Vec<usize>],
-) -> Result<Vec<Vec<usize>>, AllocError>
-    ensures { IfOk result (λ needs. rows needs.items
-        ≡ map (filter_map (maker_at (map provision_of provided.now))) (rows required.now)) }
-{
+    let provided = modules.provided();
     let mut needs = Vec::with_capacity(alloc, required.len())?;
     for row in required {
         let objects = makers_of(alloc, provided, row.as_slice())?;
         needs.push(objects)?;
     }
-    Ok(needs)
+    let graph = Digraph::new(needs);
+    match order(alloc, &graph)? {
+        Sorting::Order(_) => Ok(()),
+        Sorting::Cycle(objects) => Err(failure_of(alloc, TableFault::ImportCycle { objects })),
+    }
 }
 
 /// Returns the objects that provide the modules of these indexes.

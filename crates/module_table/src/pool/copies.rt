@@ -2,7 +2,6 @@
 ghost use Rattle.std.specs.Prelude.{◌≡◌, List, IfOk, IfSome, IsTrue};
 ghost use Rattle.scan_docs.specs.Info.{InfoValue};
 ghost use Rattle.module_table.specs.Parts.{AreLinked, IsAlike, IsPartOf, KeepsRequired};
-ghost use Rattle.module_table.specs.inner.Pools.{IsPicked};
 
 use scan_docs::{Info, InfoModule};
 use std::alloc::{AllocError, Global};
@@ -29,26 +28,19 @@ pub(crate) fn part_of(
             Some(indexes) => indexes.as_slice(),
             None => &[],
         };
-        part.push(copy_info(alloc, info, indexes, keeps)?)?;
+        let mut modules = Vec::with_capacity(alloc, indexes.len())?;
+        for index in indexes {
+            match info.modules.get(*index) {
+                Some(module) => modules.push(copy_module(alloc, module, keeps)?)?,
+                None => {}
+            }
+        }
+        part.push(Info {
+            target: info.target.copy(alloc)?,
+            modules,
+        })?;
     }
     Ok(Some(part))
-}
-
-/// Returns the info file with only the modules of these indexes.
-fn copy_info(alloc: Global, info: &Info, indexes: &[usize], keeps: bool) -> Result<Info, AllocError>
-    ensures { IfOk result (IsPicked (IsTrue keeps) info.now) }
-{
-    let mut modules = Vec::with_capacity(alloc, indexes.len())?;
-    for index in indexes {
-        match info.modules.get(*index) {
-            Some(module) => modules.push(copy_module(alloc, module, keeps)?)?,
-            None => {}
-        }
-    }
-    Ok(Info {
-        target: info.target.copy(alloc)?,
-        modules,
-    })
 }
 
 /// Returns a copy of the module, with what it requires or without.

@@ -1,8 +1,7 @@
 //! Whether a part of the linked info files is enough for a target's table.
 ghost use Rattle.std.specs.Prelude.{◌≡◌, ℕ, IfOk, IfSome, IsTrue, slice_get, Some};
-ghost use Rattle.ninja_text.specs.Bytes.{PathText, Name};
 ghost use Rattle.scan_docs.specs.Scan.{RuleValue};
-ghost use Rattle.module_table.specs.inner.Pools.{Has, HasSource, HasClash, ArePlaces, IsLinked, AreFit, IsApart};
+ghost use Rattle.module_table.specs.inner.Pools.{Has, ArePlaces, IsLinked, AreFit, IsApart};
 
 use crate::pool::related::Related;
 use crate::pool::rows::{FileRows, NameRows};
@@ -85,23 +84,16 @@ pub(crate) fn are_apart(
         files.now.rows.items rule }
 {
     for rule in objects {
-        if !is_apart(places, names, files, rule) {
+        if !none_linked(places, files.of(&rule.object)) {
             return false;
+        }
+        for pair in &rule.provided {
+            if !none_linked(places, names.of(&pair.0)) || !none_linked(places, files.of(&pair.1)) {
+                return false;
+            }
         }
     }
     true
-}
-
-fn is_apart(places: &[Option<usize>], names: &NameRows, files: &FileRows, rule: &Rule) -> bool
-    ensures { IsTrue result → IsApart places.now names.now.names.keys names.now.rows.items
-        files.now.files.keys files.now.rows.items rule.now }
-{
-    for pair in &rule.provided {
-        if !none_linked(places, names.of(&pair.0)) || !none_linked(places, files.of(&pair.1)) {
-            return false;
-        }
-    }
-    none_linked(places, files.of(&rule.object))
 }
 
 /// Returns whether no entry is of a linked info file.

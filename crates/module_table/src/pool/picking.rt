@@ -24,24 +24,14 @@ impl Pool {
     ) -> Result<Vec<Vec<usize>>, AllocError> {
         let mut picked = IndexSet::with_hasher(alloc, self.key);
         for rule in objects {
-            self.pick_names(places, &rule.required, &mut picked)?;
+            for name in &rule.required {
+                self.pick_name(places, name, &mut picked)?;
+            }
         }
         if keeps {
             self.pick_required(places, &mut picked)?;
         }
         by_place(alloc, &picked, places, count)
-    }
-
-    fn pick_names(
-        &self,
-        places: &[Option<usize>],
-        names: &[Name],
-        picked: &mut Modules,
-    ) -> Result<(), AllocError> {
-        for name in names {
-            self.pick_name(places, name, picked)?;
-        }
-        Ok(())
     }
 
     /// Picks the first linked module of that name.
@@ -70,27 +60,15 @@ impl Pool {
             let Some(entry) = picked.get_index(next) else {
                 break;
             };
-            let (number, index) = *entry;
-            self.pick_required_by(places, number, index, picked)?;
-        }
-        Ok(())
-    }
-
-    fn pick_required_by(
-        &self,
-        places: &[Option<usize>],
-        number: usize,
-        index: usize,
-        picked: &mut Modules,
-    ) -> Result<(), AllocError> {
-        let Some(info) = self.known(number) else {
-            return Ok(());
-        };
-        let Some(module) = info.modules.get(index) else {
-            return Ok(());
-        };
-        for pair in &module.required {
-            self.pick_name(places, &pair.0, picked)?;
+            let Some(info) = self.known(entry.0) else {
+                continue;
+            };
+            let Some(module) = info.modules.get(entry.1) else {
+                continue;
+            };
+            for pair in &module.required {
+                self.pick_name(places, &pair.0, picked)?;
+            }
         }
         Ok(())
     }
@@ -103,21 +81,16 @@ fn by_place(
     places: &[Option<usize>],
     count: usize,
 ) -> Result<Vec<Vec<usize>>, AllocError> {
-    let mut rows = empty_rows(alloc, count)?;
+    let mut rows = Vec::with_capacity(alloc, count)?;
+    for _ in 0..count {
+        rows.push(Vec::new(alloc))?;
+    }
     for module in picked.iter() {
         if let Some(Some(place)) = places.get(module.0) {
             if *place < rows.len() {
                 rows[*place].push(module.1)?;
             }
         }
-    }
-    Ok(rows)
-}
-
-fn empty_rows(alloc: Global, count: usize) -> Result<Vec<Vec<usize>>, AllocError> {
-    let mut rows = Vec::with_capacity(alloc, count)?;
-    for _ in 0..count {
-        rows.push(Vec::new(alloc))?;
     }
     Ok(rows)
 }

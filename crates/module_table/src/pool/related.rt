@@ -20,14 +20,6 @@ pub(crate) struct Related {
 }
 
 impl Related {
-    /// Returns no relations.
-    pub(crate) fn none(alloc: Global) -> Related {
-        Related {
-            sources: Vec::new(alloc),
-            clashes: Vec::new(alloc),
-        }
-    }
-
     /// Lists the modules of an info file and returns its relations. Returns `None` if a row is full
     /// or if a required module is in no info file.
     pub(crate) fn of(
@@ -99,37 +91,19 @@ fn sources_of(
 {
     let mut sources = Vec::new(alloc);
     for module in &info.modules {
-        if !add_sources(infos, info, names, module, &mut sources)? {
-            return Ok(None);
+        for pair in &module.required {
+            match source_of(infos, info, names, pair) {
+                Some(source) => sources.push(source)?,
+                None => return Ok(None),
+            }
         }
     }
     each_once(&mut sources);
     Ok(Some(sources))
 }
 
-/// Adds the info files that have what a module requires. Returns false if one is missing.
-fn add_sources(
-    infos: &[Option<Info>],
-    info: &Info,
-    names: &NameRows,
-    user: &InfoModule,
-    sources: &mut Vec<usize>,
-) -> Result<bool, AllocError>
-    ensures still { OnOk result ((k : ℕ) → Has sources.old.items k → Has sources.new.items k) }
-    ensures all { IfOk result (λ all. IsTrue all → (pair : Name × PathText)
-        → Has user.now.required pair → (k : ℕ) × Has sources.new.items k
-        × IsSource (infos.now ++ Some info.now ∷ []) (length infos.now) pair k) }
-{
-    for pair in &user.required {
-        match source_of(infos, info, names, pair) {
-            Some(source) => sources.push(source)?,
-            None => return Ok(false),
-        }
-    }
-    Ok(true)
-}
-
-/// Returns the info file that has a module of this name and this file.
+/// Returns the info file that has a module of this name and this file, and may be required: the
+/// module is public or of the info file itself.
 fn source_of(
     infos: &[Option<Info>],
     info: &Info,
@@ -140,32 +114,16 @@ fn source_of(
         (IsSource (infos.now ++ Some info.now ∷ []) (length infos.now) pair.now) }
 {
     for entry in names.of(&pair.0) {
-        if is_source(infos, info, *entry, pair) {
-            return Some(entry.0);
+        if let Some(module) = module_of(infos, info, *entry) {
+            if module.name == pair.0
+                && module.file == pair.1
+                && (!module.is_private || entry.0 == infos.len())
+            {
+                return Some(entry.0);
+            }
         }
     }
     None
-}
-
-/// Returns whether the module of this entry has this name and this file, and whether the info file
-/// may require it: it is public or of the info file itself.
-fn is_source(
-    infos: &[Option<Info>],
-    info: &Info,
-    entry: (usize, usize),
-    pair: &(Name, Path),
-) -> bool
-    ensures { IsTrue result
-        → IsSource (infos.now ++ Some info.now ∷ []) (length infos.now) pair.now entry.0 }
-{
-    match module_of(infos, info, entry) {
-        Some(module) => {
-            module.name == pair.0
-                && module.file == pair.1
-                && (!module.is_private || entry.0 == infos.len())
-        }
-        None => false,
-    }
 }
 
 /// Returns the module of an entry. The info file comes after the known ones.

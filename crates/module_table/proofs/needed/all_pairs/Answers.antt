@@ -1,23 +1,29 @@
-use Rattle.std.proofs.Common.{◌≡◌, ◌≤◌, ◌∙◌, ◌++◌, ◌∷◌, [], ap, arith, get_or, length, map, refl, slice_get, subst, sym, take, List, Vec, ℕ}
+use Rattle.std.proofs.Common.{◌≡◌, ◌≤◌, ◌<◌, ◌+◌, ◌∙◌, ◌++◌, ◌∷◌, [], ap, arith, get_or, length, map, refl, set, slice_get, subst, sym, take, List, Some, Vec, ℕ}
 use Rattle.std.specs.declared.alloc.Global.{Global}
 use Rattle.std.specs.List.{filter_map}
+use Rattle.std.specs.Option.{option_map}
 use Rattle.std.specs.Prelude.{All}
-use Rattle.std.proofs.lemmas.List.{map-append}
+use Rattle.std.proofs.lemmas.List.{length-set, map-append}
 use Rattle.std.proofs.lemmas.List.Elements.{All-replicate}
-use Rattle.std.proofs.lemmas.Option.{slice_get-get_or, slice_get_read, slice_get_within}
+use Rattle.std.proofs.lemmas.Option.{slice_get-get_or, slice_get_read, get_or_from_slice_get}
 use Rattle.dep_order.specs.Rows.{rows}
 use Rattle.module_table.specs.Modules.{Provision, provisions}
 use Rattle.module_table.specs.Added.{first_mentions, pair_of, required_of}
+use Rattle.module_table.specs.inner.Indexed.{pair_at}
 use Rattle.module_table.specs.inner.Views.{names_of, provision_of}
-use Rattle.module_table.specs.inner.Mentioned.{AreFirstPairs}
+use Rattle.module_table.specs.inner.Mentioned.{name_in, ArePairsSoFar}
 use Rattle.module_table.proofs.Rings.{length_mapped}
-use Rattle.module_table.proofs.IndexRows.{take_all, many_rows, rule_of, name_of_index}
-use Rattle.module_table.proofs.Marks.{row_names, pairs_found}
+use Rattle.module_table.proofs.IndexRows.{take_all, many_rows, rule_of, index_within}
+use Rattle.module_table.proofs.Marks.{row_names, pairs_found, no_pairs, pairs_new, pairs_old}
 use Rattle.module_table.proofs.needed.all_pairs.Goals as goal
+use Rattle.module_table.proofs.needed.all_pairs.Goals.{then-index-object+in_ok-copy_pair+in_ok-push, else-index-object}
 use Rattle.ninja_text.proofs.ForCallers.{take_next, to_map}
 
 abbrev items_of : Vec ℕ Global → List ℕ
 items_of row = row.items
+
+abbrev pair : Provision → List ℕ × List ℕ
+pair p = (p.name, p.file)
 
 pub loop-object-init : goal.loop-object-init
 loop-object-init c = record {
@@ -26,25 +32,76 @@ loop-object-init c = record {
   found = ap (map (λ r. r.items)) c.in_ok-all.ensures.items;
 }
 
-pub first_pairs-requires-clause-within : goal.first_pairs-requires-clause-within
-first_pairs-requires-clause-within c = λ k d lt.
-    let t = c.args.modules.now in
-    let names = names_of (provisions t) in
-    let i = c.loop-object.object in
-    let row = c.index-required-object.result in
-    let slice = c.as_slice.result.now in
-    let at = slice_get_read c.args.required.now _ i row refl c.loop-object-test.true c.index-required-object.is in
-    let rule = rule_of t (rows c.args.required.now) c.requires i row.items (to_map items_of c.args.required.now i row at) in
-    let here = ap (λ xs. slice_get xs k) (sym c.as_slice.ensures.value) ∙ slice_get-get_or slice k d lt in
-    let n = name_of_index names row.items rule.0.required rule.2 k (get_or slice k d) here in
-    let inside = slice_get_within names (get_or slice k d) n.0 n.2 in
-    let long = length_mapped (λ (p : Provision). p.name) (provisions t) in
-    let many = c.loop-object.invariant.as_many in
-    omega (arith, inside, long, many)
+pub loop-index-init : goal.loop-index-init
+loop-index-init c = record {
+  as_many = c.loop-object.invariant.as_many;
+  so_far = no_pairs (provisions c.args.modules.now) (c.loop-object.object + 1) c.loop-object.marks.items c.deref-index-items.result.now _ (λ k d lt. let h = c.loop-object.invariant.at_most k d lt in omega (arith, h)) c.in_ok-pairs.ensures.items;
+}
 
-pub first_pairs-requires-clause-as_many : goal.first_pairs-requires-clause-as_many
-first_pairs-requires-clause-as_many c =
-    omega (arith, c.loop-object.invariant.as_many, length_mapped provision_of c.provided-provided.result.now, ap length c.provided-provided.ensures.provisions)
+pub index-requires : goal.index-requires
+index-requires c =
+    let row = c.index-required-object.result in
+    let at = slice_get_read c.args.required.now _ c.loop-object.object row refl c.loop-object-test.true c.index-required-object.is in
+    let i = c.loop-index.index-index in
+    let indexes = c.deref-index-items.result.now in
+    let inside = index_within c.args.modules.now c.args.required.now c.requires c.loop-object.object row at i (get_or indexes i 0) (ap (λ xs. slice_get xs i) (sym c.deref-index-items.ensures.value) ∙ slice_get-get_or indexes i 0 c.loop-index-test.true) in
+    omega (arith, inside, c.loop-index.invariant.as_many, c.loop-index.marks.ok.0)
+
+pub index_mut-requires : goal.index_mut-requires
+index_mut-requires c =
+    let row = c.index-required-object.result in
+    let at = slice_get_read c.args.required.now _ c.loop-object.object row refl c.loop-object-test.true c.index-required-object.is in
+    let i = c.loop-index.index-index in
+    let indexes = c.deref-index-items.result.now in
+    let inside = index_within c.args.modules.now c.args.required.now c.requires c.loop-object.object row at i (get_or indexes i 0) (ap (λ xs. slice_get xs i) (sym c.deref-index-items.ensures.value) ∙ slice_get-get_or indexes i 0 c.loop-index-test.true) in
+    omega (arith, inside, c.loop-index.invariant.as_many, c.loop-index.marks.ok.0)
+
+pub module_at-module-requires : goal.module_at-module-requires
+module_at-module-requires c =
+    let row = c.index-required-object.result in
+    let at = slice_get_read c.args.required.now _ c.loop-object.object row refl c.loop-object-test.true c.index-required-object.is in
+    let i = c.loop-index.index-index in
+    let indexes = c.deref-index-items.result.now in
+    let inside = index_within c.args.modules.now c.args.required.now c.requires c.loop-object.object row at i (get_or indexes i 0) (ap (λ xs. slice_get xs i) (sym c.deref-index-items.ensures.value) ∙ slice_get-get_or indexes i 0 c.loop-index-test.true) in
+    omega (arith, inside, length_mapped provision_of c.provided-provided.result.now, ap length c.provided-provided.ensures.provisions)
+
+pub loop-index-preserved : goal.loop-index-preserved
+loop-index-preserved c =
+    let ps = provisions c.args.modules.now in
+    let mark = c.loop-object.object + 1 in
+    let row = c.index-required-object.result in
+    let there = slice_get_read c.args.required.now _ c.loop-object.object row refl c.loop-object-test.true c.index-required-object.is in
+    let indexes = c.deref-index-items.result.now in
+    let i = c.loop-index.index-index in
+    let v = get_or indexes i 0 in
+    let marks = c.loop-index.marks.items in
+    let pairs = c.loop-index.pairs.items in
+    let h = c.loop-index.invariant in
+    let at = slice_get-get_or indexes i 0 c.loop-index-test.true in
+    let lt : v < length marks = (let inside = index_within c.args.modules.now c.args.required.now c.requires c.loop-object.object row there i v (ap (λ xs. slice_get xs i) (sym c.deref-index-items.ensures.value) ∙ at) in omega (arith, inside, h.as_many)) in
+    let read = c.index.ensures ∙ get_or_from_slice_get marks v (get_or marks v 0) c.index.result.now (slice_get-get_or marks v 0 lt) in
+    elim c.if-index-object.branch [
+      | then-index-object+in_ok-copy_pair+in_ok-push w ↦
+          let marks_now : c.if-index-object.marks.items ≡ set marks v mark = ap (λ u. u.items) w.marks-is in
+          let copied = w.in_ok-copy_pair.field-0 in
+          let module_now = w.module_at-module.result.now in
+          let found = ap (λ xs. slice_get xs v) (sym c.provided-provided.ensures.provisions) ∙ to_map provision_of c.provided-provided.result.now v _ w.module_at-module.ensures in
+          let same : Some copied ≡ pair_at ps v =
+          ap (λ n. Some (n, copied.1)) w.in_ok-copy_pair.ensures.name ∙ ap (λ x. Some (module_now.name.now, x)) w.in_ok-copy_pair.ensures.file ∙ sym (ap (option_map pair) found) in
+          record {
+            as_many = ap length marks_now ∙ length-set marks v mark ∙ h.as_many;
+            so_far = subst (λ ms. ArePairsSoFar ps mark ms (take (i + 1) indexes) c.if-index-object.pairs.items) (sym marks_now)
+                (pairs_new ps mark marks indexes i v at lt pairs h.so_far (λ is. w.if-index-object.true (read ∙ is)) _ copied (ap (λ u. u.items) w.pairs-is ∙ w.in_ok-push.ensures.items) same);
+          }
+      | else-index-object w ↦
+          let marks_now : c.if-index-object.marks.items ≡ marks = ap (λ u. u.items) w.marks-is in
+          let pairs_now : c.if-index-object.pairs.items ≡ pairs = ap (λ u. u.items) w.pairs-is in
+          record {
+            as_many = ap length marks_now ∙ h.as_many;
+            so_far = subst (λ ms. ArePairsSoFar ps mark ms (take (i + 1) indexes) c.if-index-object.pairs.items) (sym marks_now)
+                (subst (ArePairsSoFar ps mark marks (take (i + 1) indexes)) (sym pairs_now) (pairs_old ps mark marks indexes i v at lt pairs h.so_far (sym read ∙ w.if-index-object.false)));
+          }
+    ]
 
 pub loop-object-preserved : goal.loop-object-preserved
 unfolding required_of
@@ -57,15 +114,16 @@ loop-object-preserved c =
     let row = c.index-required-object.result in
     let at = slice_get_read c.args.required.now _ i row refl c.loop-object-test.true c.index-required-object.is in
     let rule = rule_of t (rows c.args.required.now) c.requires i row.items (to_map items_of c.args.required.now i row at) in
-    let pairs = c.in_ok-pairs.pairs.items in
-    let made = subst (λ qs. AreFirstPairs qs row.items pairs) c.provided-provided.ensures.provisions (subst (λ xs. AreFirstPairs (map provision_of c.provided-provided.result.now) xs pairs) c.as_slice.ensures.value c.in_ok-pairs.ensures.pairs) in
-    let firsts = made.1 names differ (length_mapped (λ (p : Provision). p.name) ps) ∙ ap first_mentions (row_names names row.items rule.0.required rule.2) in
-    let same : pairs ≡ required_of t rule.0 = sym (pairs_found ps differ made.0 pairs made.2) ∙ ap (filter_map (pair_of ps)) firsts in
+    let so_far = c.loop-index.invariant.so_far in
+    let pairs = c.loop-index.pairs.items in
+    let whole = take_all c.deref-index-items.result.now c.loop-index.index-index c.loop-index-test.false ∙ c.deref-index-items.ensures.value in
+    let firsts = so_far.firsts names differ (length_mapped (λ (p : Provision). p.name) ps ∙ sym c.loop-index.invariant.as_many) ∙ ap (λ xs. first_mentions (map (name_in names) xs)) whole ∙ ap first_mentions (row_names names row.items rule.0.required rule.2) in
+    let same : pairs ≡ required_of t rule.0 = sym (pairs_found ps differ so_far.mentioned pairs so_far.found) ∙ ap (filter_map (pair_of ps)) firsts in
     record {
-      as_many = c.first_pairs.ensures.as_many ∙ c.loop-object.invariant.as_many;
-      at_most = c.first_pairs.ensures.at_most;
+      as_many = c.loop-index.invariant.as_many;
+      at_most = so_far.marked.at_most;
       found =
-          ap (map (λ r. r.items)) c.in_ok-push.ensures.items ∙ map-append (λ r. r.items) c.loop-object.all.items _
+          ap (map (λ r. r.items)) c.in_ok-push-2.ensures.items ∙ map-append (λ r. r.items) c.loop-object.all.items _
           ∙ ap (λ xs. xs ++ pairs ∷ []) c.loop-object.invariant.found
           ∙ ap (λ x. map (required_of t) (take i t.objects) ++ x ∷ []) same
           ∙ sym (ap (map (required_of t)) (take_next t.objects i rule.0 rule.1) ∙ map-append (required_of t) (take i t.objects) (rule.0 ∷ []));

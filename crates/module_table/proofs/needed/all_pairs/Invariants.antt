@@ -1,7 +1,8 @@
-use Rattle.std.proofs.Common.{◌≡◌, ◌≤◌, length, map, take}
+use Rattle.std.proofs.Common.{◌≡◌, ◌≤◌, ◌+◌, length, map, take}
 use Rattle.std.specs.Prelude.{All}
 use Rattle.module_table.specs.Modules.{provisions}
 use Rattle.module_table.specs.Added.{required_of}
+use Rattle.module_table.specs.inner.Mentioned.{ArePairsSoFar}
 use Rattle.module_table.proofs.needed.all_pairs.Given as goal
 
 abbrev pub invariant-loop-object : goal.invariant-loop-object
@@ -9,4 +10,10 @@ invariant-loop-object l = record {
   as_many : length l.marks.items ≡ length (provisions l.modules);
   at_most : All (λ m. m ≤ l.object) l.marks.items;
   found : map (λ row. row.items) l.all.items ≡ map (required_of l.modules) (take l.object l.modules.objects);
+}
+
+abbrev pub invariant-loop-index : goal.invariant-loop-index
+invariant-loop-index l = record {
+  as_many : length l.marks.items ≡ length (provisions l.modules);
+  so_far : ArePairsSoFar (provisions l.modules) (l.object + 1) l.marks.items (take l.index-index l.index-items) l.pairs.items;
 }

@@ -1,81 +1,120 @@
-use Rattle.std.proofs.Common.{◌≡◌, ◌+◌, ◌<◌, ap, map, arith, length, length-append, subst, sym, ◌∙◌, ◌++◌, List, ℕ, IfSome, IfNone}
-use Rattle.std.proofs.lemmas.Option.{slice_get_within}
+use Rattle.std.proofs.Common.{◌≡◌, ◌+◌, ◌≤◌, ◌<◌, ap, map, refl, arith, append-nil, length, length-append, slice_get, subst, sym, take, true, ◌∙◌, ◌++◌, List, ℕ, Some}
+use Rattle.std.proofs.lemmas.Option.{slice_get_read, slice_get_within}
 use Rattle.scan_docs.specs.Scan.{RuleValue}
+use Rattle.module_table.specs.Faults.{Claim}
 use Rattle.module_table.specs.Modules.{Provision, provisions}
 use Rattle.ninja_text.specs.Firsts.{AllDiffer, RepeatsFirst}
+use Rattle.module_table.specs.inner.Reported.{Reports}
 use Rattle.module_table.specs.inner.Views.{provision_of, files_of, IsMadeTwice}
 use Rattle.module_table.specs.declared.modules.Module.{Module}
+use Rattle.module_table.specs.declared.fault.TableFault.TheVariants.{BmiTwice}
 use Rattle.module_table.proofs.Rings.{length_mapped}
-use Rattle.module_table.proofs.ReportLemmas.{reported_made, for_fault}
-use Rattle.module_table.specs.inner.Reported.{Reports}
+use Rattle.module_table.proofs.IndexRows.{take_all}
+use Rattle.module_table.proofs.Repetitions.{repeats_if_found, keys_if_new, differ_if_new, take_behind, map_same}
+use Rattle.module_table.proofs.ReportLemmas.{reported_made, for_boxed, module_claim_at}
 use Rattle.module_table.proofs.checks.repeated.check_files.Goals as goal
+use Rattle.ninja_text.proofs.ForCallers.{to_map, in_second}
 
 abbrev object_of : RuleValue → List ℕ
 object_of rule = rule.object
 
--- what is repeated after the paths is the file of a module
-module_within : (paths : List (List ℕ)) (provided : List Module) (first i : ℕ) → RepeatsFirst (paths ++ files_of (map provision_of provided)) first (length paths + i) → i < length provided
-module_within paths provided first i r =
-    let files = files_of (map provision_of provided) in
-    let inside = slice_get_within (paths ++ files) (length paths + i) r.repeated r.again in
-    let long = length_mapped (λ (q : Provision). q.file) (map provision_of provided) ∙ length_mapped provision_of provided in
-    let both = length-append (paths) files in
-    omega (arith, inside, long, both)
+-- the file of a module is after the paths that were there
+file_at : (paths : List (List ℕ)) (provided : List Module) (i : ℕ) (p : Module) → slice_get provided i ≡ Some p → slice_get (paths ++ files_of (map provision_of provided)) (length paths + i) ≡ Some p.file.now
+file_at paths provided i p at =
+    in_second paths (files_of (map provision_of provided)) i p.file.now (to_map (λ (q : Provision). q.file) (map provision_of provided) i (provision_of p) (to_map provision_of provided i p at))
 
 -- there are as many paths as objects
 as_many : (paths : List (List ℕ)) (objects : List RuleValue) → paths ≡ map object_of objects → length paths ≡ length objects
 as_many paths objects same = ap length same ∙ length_mapped object_of objects
 
-pub add_files-requires : goal.add_files-requires
-add_files-requires c = subst AllDiffer (sym c.requires.paths) c.requires.differ
+-- at the end the files of all modules are there
+all_files : (paths : List (List ℕ)) (provided : List Module) (i : ℕ) → length provided ≤ i → take (length paths + i) (paths ++ files_of (map provision_of provided)) ≡ paths ++ files_of (map provision_of provided)
+all_files paths provided i over =
+    let files = files_of (map provision_of provided) in
+    let long = length_mapped (λ (q : Provision). q.file) (map provision_of provided) ∙ length_mapped provision_of provided in
+    take_behind paths files i ∙ ap (λ ys. paths ++ ys) (take_all files i (omega (arith, over, long)))
 
-pub made_twice-requires-clause-first : goal.made_twice-requires-clause-first
-made_twice-requires-clause-first c =
+pub loop-module-init : goal.loop-module-init
+loop-module-init c =
+    let paths = c.args.files.now.keys in
+    let none = take_behind paths (files_of (map provision_of c.provided-provided.result.now)) 0 ∙ append-nil paths in
+    record {
+      same = c.in_ok-reserve.ensures.keys ∙ sym none;
+      differ = subst AllDiffer (sym (none ∙ c.requires.paths)) c.requires.differ;
+    }
+
+pub maker_of-requires : goal.maker_of-requires
+maker_of-requires c =
     let paths = c.args.files.now.keys in
     let provided = c.provided-provided.result.now in
-    let twice = c.in-Some.twice in
-    let r = subst (λ o. IfSome o (λ (at : ℕ × ℕ). RepeatsFirst (paths ++ files_of (map provision_of provided)) at.0 (length paths + at.1))) c.in-Some.is c.in_ok-add_files.ensures.some in
-    let within = module_within paths provided twice.0 twice.1 r in
+    let i = c.loop-module.module-index in
+    let p = c.module-item.result in
+    let h = c.in_ok-first.ensures in
+    let stored = h.stored in
+    let r = repeats_if_found (λ n. n) (paths ++ files_of (map provision_of provided)) (length paths + i) _ c.loop-module.files.keys c.insert_full.new.self.keys
+    (file_at paths provided i p (slice_get_read provided _ i p refl c.loop-module-test.true c.module-item.is) ∙ ap (λ z. Some z) (sym c.in_ok-file.ensures))
+    (map_same c.loop-module.files.keys ∙ c.loop-module.invariant.same) c.loop-module.invariant.differ h.keys c.in_ok-first.first (sym c.if-not-is_new.true ∙ h.added) stored.0 stored.1 stored.2 in
     let earlier = r.earlier in
     let many = as_many paths c.args.modules.now.objects c.requires.paths in
     let objects = ap length c.objects-objects.ensures in
-    omega (arith, earlier, within, many, objects)
+    omega (arith, earlier, c.loop-module-test.true, many, objects)
 
-pub made_twice-requires-clause-module_index : goal.made_twice-requires-clause-module_index
-made_twice-requires-clause-module_index c =
-    let paths = c.args.files.now.keys in
-    let provided = c.provided-provided.result.now in
-    let twice = c.in-Some.twice in
-    let r = subst (λ o. IfSome o (λ (at : ℕ × ℕ). RepeatsFirst (paths ++ files_of (map provision_of provided)) at.0 (length paths + at.1))) c.in-Some.is c.in_ok-add_files.ensures.some in
-    module_within paths provided twice.0 twice.1 r
-
-pub returns-in-Some-clause-fault : goal.returns-in-Some-clause-fault
-returns-in-Some-clause-fault c =
+pub returns-then-not-is_new-clause-fault : goal.returns-then-not-is_new-clause-fault
+returns-then-not-is_new-clause-fault c =
     let t = c.args.modules.now in
     let paths = c.args.files.now.keys in
     let provided = c.provided-provided.result.now in
     let objects = c.objects-objects.result.now in
-    let twice = c.in-Some.twice in
-    let r = subst (λ o. IfSome o (λ (at : ℕ × ℕ). RepeatsFirst (paths ++ files_of (map provision_of provided)) at.0 (length paths + at.1))) c.in-Some.is c.in_ok-add_files.ensures.some in
-    let of_objects = subst (λ xs. RepeatsFirst (xs ++ files_of (map provision_of provided)) twice.0 (length paths + twice.1)) c.requires.paths r in
-    let of_modules = subst (λ ps. RepeatsFirst (map object_of t.objects ++ files_of ps) twice.0 (length paths + twice.1)) c.provided-provided.ensures.provisions of_objects in
-    let repeats = subst (λ n. RepeatsFirst (map object_of t.objects ++ files_of (provisions t)) twice.0 (n + twice.1)) (as_many paths t.objects c.requires.paths) of_modules in
-    for_fault _ (λ fault. (kept : List (List ℕ)) → Reports 4 t kept fault.value) _
-    (λ fault is kept. reported_made t kept twice.0 (length t.objects + twice.1) fault.value c.requires.differ repeats
-    (subst (λ os. IsMadeTwice os (provisions t) twice.0 (length os + twice.1) fault.value) c.objects-objects.ensures
-    (subst (λ ps. IsMadeTwice objects ps twice.0 (length objects + twice.1) fault.value) c.provided-provided.ensures.provisions is)))
-    c.made_twice.ensures
+    let i = c.loop-module.module-index in
+    let p = c.module-item.result in
+    let first = c.in_ok-first.first in
+    let there = slice_get_read provided _ i p refl c.loop-module-test.true c.module-item.is in
+    let h = c.in_ok-first.ensures in
+    let stored = h.stored in
+    let r = repeats_if_found (λ n. n) (paths ++ files_of (map provision_of provided)) (length paths + i) _ c.loop-module.files.keys c.insert_full.new.self.keys
+    (file_at paths provided i p there ∙ ap (λ z. Some z) (sym c.in_ok-file.ensures))
+    (map_same c.loop-module.files.keys ∙ c.loop-module.invariant.same) c.loop-module.invariant.differ h.keys first (sym c.if-not-is_new.true ∙ h.added) stored.0 stored.1 stored.2 in
+    let of_objects = subst (λ xs. RepeatsFirst (xs ++ files_of (map provision_of provided)) first (length paths + i)) c.requires.paths r in
+    let of_modules = subst (λ ps. RepeatsFirst (map object_of t.objects ++ files_of ps) first (length paths + i)) c.provided-provided.ensures.provisions of_objects in
+    let repeats = subst (λ n. RepeatsFirst (map object_of t.objects ++ files_of (provisions t)) first (n + i)) (as_many paths t.objects c.requires.paths) of_modules in
+    let claim : Claim = record { maker = p.maker; file = p.file.now; is_module = true } in
+    let earlier = c.maker_of.ensures in
+    let twice : IsMadeTwice objects (map provision_of provided) first (length objects + i) (BmiTwice c.in_ok-copy.field-0 c.maker_of.result p.maker) = (
+      earlier.0,
+      claim,
+      earlier.1,
+      module_claim_at objects (map provision_of provided) i (provision_of p) (to_map provision_of provided i p there),
+      ap (λ file. BmiTwice file c.maker_of.result p.maker) c.in_ok-copy.ensures ∙ ap (λ maker. BmiTwice p.file.now maker p.maker) (sym earlier.2),
+    ) in
+    for_boxed (λ fault. (kept : List (List ℕ)) → Reports 4 t kept fault) _ _
+    (λ kept. reported_made t kept first (length t.objects + i) _ c.requires.differ repeats
+    (subst (λ os. IsMadeTwice os (provisions t) first (length os + i) (BmiTwice c.in_ok-copy.field-0 c.maker_of.result p.maker)) c.objects-objects.ensures
+    (subst (λ ps. IsMadeTwice objects ps first (length objects + i) (BmiTwice c.in_ok-copy.field-0 c.maker_of.result p.maker)) c.provided-provided.ensures.provisions twice)))
+    c.failure_of.ensures
 
-pub returns-in-None-clause-files : goal.returns-in-None-clause-files
-returns-in-None-clause-files c =
-    let keys = c.args.files.now.keys in
-    let new = c.add_files.new.files.keys in
+pub loop-module-preserved : goal.loop-module-preserved
+loop-module-preserved c =
+    let paths = c.args.files.now.keys in
     let provided = c.provided-provided.result.now in
-    subst (λ o. IfNone o (new ≡ keys ++ files_of (map provision_of provided))) c.in-None.is c.in_ok-add_files.ensures.files
+    let i = c.loop-module.module-index in
+    let p = c.module-item.result in
+    let texts = paths ++ files_of (map provision_of provided) in
+    let at = file_at paths provided i p (slice_get_read provided _ i p refl c.loop-module-test.true c.module-item.is) ∙ ap (λ z. Some z) (sym c.in_ok-file.ensures) in
+    let before = map_same c.loop-module.files.keys ∙ c.loop-module.invariant.same in
+    let h = c.in_ok-first.ensures in
+    let fresh = sym c.if-not-is_new.false ∙ h.added in
+    let next : (length paths + i) + 1 ≡ length paths + (i + 1) = omega arith in
+    record {
+      same = sym (map_same c.insert_full.new.self.keys) ∙ keys_if_new (λ n. n) texts (length paths + i) _ c.loop-module.files.keys c.insert_full.new.self.keys at before c.loop-module.invariant.differ h.keys fresh ∙ ap (λ n. take n texts) next;
+      differ = subst (λ n. AllDiffer (take n texts)) next (differ_if_new (λ n. n) texts (length paths + i) _ c.loop-module.files.keys c.insert_full.new.self.keys at before c.loop-module.invariant.differ h.keys fresh);
+    }
+
+pub returns-clause-files : goal.returns-clause-files
+returns-clause-files c =
+    let provided = c.provided-provided.result.now in
+    c.loop-module.invariant.same ∙ all_files c.args.files.now.keys provided c.loop-module.module-index c.loop-module-test.false
     ∙ ap (λ xs. xs ++ files_of (map provision_of provided)) c.requires.paths
     ∙ ap (λ ps. map object_of c.args.modules.now.objects ++ files_of ps) c.provided-provided.ensures.provisions
 
-pub returns-in-None-clause-ok : goal.returns-in-None-clause-ok
-returns-in-None-clause-ok c =
-    subst AllDiffer (returns-in-None-clause-files c)
-    (subst (λ o. IfNone o (AllDiffer c.add_files.new.files.keys)) c.in-None.is c.in_ok-add_files.ensures.none)
+pub returns-clause-ok : goal.returns-clause-ok
+returns-clause-ok c = subst AllDiffer (sym c.loop-module.invariant.same ∙ returns-clause-files c) c.loop-module.invariant.differ

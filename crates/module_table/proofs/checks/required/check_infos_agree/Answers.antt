@@ -1,4 +1,4 @@
-use Rattle.std.proofs.Common.{ℕ, ◌≤◌, List, ◌∙◌, ap, arith, length, sym, refl, subst, MatchBool}
+use Rattle.std.proofs.Common.{◌≡◌, ℕ, ◌≤◌, List, ◌∙◌, ap, arith, length, sym, refl, subst, MatchBool}
 use Rattle.std.proofs.lemmas.Option.{slice_get_read}
 use Rattle.module_table.specs.Modules.{provisions, info_requirements}
 use Rattle.module_table.specs.inner.Views.{requirement_of}
@@ -14,6 +14,7 @@ use Rattle.module_table.proofs.InfoRequirements.{required_there, found_there}
 use Rattle.module_table.proofs.InfoFaults.{reports_info_disagrees}
 use Rattle.module_table.proofs.ReportLemmas.{for_boxed}
 use Rattle.module_table.proofs.checks.required.check_infos_agree.Goals as goal
+use Rattle.module_table.proofs.checks.required.check_infos_agree.Goals.{in-Some, in-None}
 
 pub returns-then-not-agrees-clause-fault : goal.returns-then-not-agrees-clause-fault
 returns-then-not-agrees-clause-fault c =
@@ -24,9 +25,9 @@ returns-then-not-agrees-clause-fault c =
     let r = requirement_of c.required-item.result in
     let at = slice_get_read all _ i c.required-item.result refl c.loop-required-test.true c.required-item.is in
     let there = required_there t all c.requires.all i c.required-item.result at in
-    let tested = sym c.agrees.ensures ∙ c.if-not-agrees.true in
+    let tested : agrees (looked_up c.required-item.result) ≡ c.match-required.agrees = elim c.match-required.branch [ in-Some w ↦ rw w.in-Some.is (sym (w.agrees-is ∙ w.eq-agrees.ensures)) | in-None w ↦ rw w.in-None.is (sym w.agrees-is) ] in
     let found = ap agrees (sym (found_there t all c.requires.all i c.required-item.result at)) in
-    let by = subst (λ b. MatchBool b (Agrees ps r) (Differs ps r)) (found ∙ tested) (agreeing ps c.requires.all.differ r) in
+    let by = subst (λ b. MatchBool b (Agrees ps r) (Differs ps r)) (found ∙ tested ∙ c.if-not-agrees.true) (agreeing ps c.requires.all.differ r) in
     let names = c.in_ok-target.ensures in
     for_boxed (λ fault. (kept : List (List ℕ)) → Reports 7 t kept fault) _ _
     (λ kept. reports_info_disagrees t kept i r _ c.requires.all.differ c.requires.known (refuses_here (Agrees ps) (Differs ps) (info_requirements t) i r there c.loop-required.invariant by) there
@@ -44,9 +45,9 @@ loop-required-preserved c =
     let r = requirement_of c.required-item.result in
     let at = slice_get_read all _ i c.required-item.result refl c.loop-required-test.true c.required-item.is in
     let there = required_there t all c.requires.all i c.required-item.result at in
-    let tested = sym c.agrees.ensures ∙ c.if-not-agrees.false in
+    let tested : agrees (looked_up c.required-item.result) ≡ c.match-required.agrees = elim c.match-required.branch [ in-Some w ↦ rw w.in-Some.is (sym (w.agrees-is ∙ w.eq-agrees.ensures)) | in-None w ↦ rw w.in-None.is (sym w.agrees-is) ] in
     let found = ap agrees (sym (found_there t all c.requires.all i c.required-item.result at)) in
-    let by = subst (λ b. MatchBool b (Agrees ps r) (Differs ps r)) (found ∙ tested) (agreeing ps c.requires.all.differ r) in
+    let by = subst (λ b. MatchBool b (Agrees ps r) (Differs ps r)) (found ∙ tested ∙ c.if-not-agrees.false) (agreeing ps c.requires.all.differ r) in
     accepts_next (Agrees ps) (Differs ps) (info_requirements t) i r there c.loop-required.invariant by
 
 pub returns-clause-ok : goal.returns-clause-ok

@@ -1,28 +1,51 @@
-use Rattle.std.proofs.Common.{◌∙◌, ◌+◌, [], ap, map, refl, slice_get, take, Some, List, Vec, Box, ℕ}
+use Rattle.std.proofs.Common.{◌≡◌, ◌∙◌, ◌+◌, [], ap, map, sym, refl, slice_get, take, Some, List, Vec, ℕ}
 use Rattle.std.specs.declared.alloc.Global.{Global}
 use Rattle.std.proofs.lemmas.Option.{slice_get_read}
-use Rattle.std.proofs.lemmas.Result.{err_from_is_err_and}
 use Rattle.scan_docs.specs.Scan.{RuleValue}
 use Rattle.module_table.specs.inner.Reported.{Reports}
-use Rattle.module_table.specs.declared.fault.TableFault.{TableFault}
+use Rattle.module_table.specs.declared.fault.TableFault.TheVariants.{ModuleUnknown}
 use Rattle.module_table.proofs.IndexRows.{are_indexes, take_all}
 use Rattle.module_table.proofs.Pushes.{pushes_next}
-use Rattle.module_table.proofs.ReportLemmas.{for_fault, reports_unknown}
+use Rattle.module_table.proofs.ReportLemmas.{for_boxed, in_row, reports_unknown}
 use Rattle.module_table.proofs.checks.required.check_objects_known.Goals as goal
-use Rattle.ninja_text.proofs.ForCallers.{take_next}
+use Rattle.ninja_text.proofs.ForCallers.{in_take, take_next}
 
 pub loop-object-init : goal.loop-object-init
-loop-object-init c = ap (map (λ (row : Vec ℕ Global). map (slice_get c.names-names.result.now.keys) row.items)) c.in_ok-required.ensures.items
+loop-object-init c = ap (map (λ (row : Vec ℕ Global). map (slice_get c.names-names.result.now.keys) row.items)) c.in_ok-indexes.ensures.items
 
-pub returns-in_err-row-clause-fault : goal.returns-in_err-row-clause-fault
-returns-in_err-row-clause-fault c =
-    let p = err_from_is_err_and c.from_residual-in_err-row.result c.from_residual-in_err-row.ensures.1 in
+pub loop-required-init : goal.loop-required-init
+loop-required-init c = ap (map (slice_get c.names-names.result.now.keys)) c.in_ok-row.ensures.items
+
+pub returns-in-None-clause-fault : goal.returns-in-None-clause-fault
+returns-in-None-clause-fault c =
+    let t = c.args.modules.now in
+    let keys = c.names-names.result.now.keys in
     let objects = c.objects-objects.result.now in
-    let at = slice_get_read objects _ c.loop-object.object c.index-objects-object.result refl c.loop-object-test.true c.index-objects-object.is in
-    rw (p.1, p.2)
-    (for_fault _ (λ (fault : Box TableFault Global). (kept : List (List ℕ)) → Reports 5 c.args.modules.now kept fault.value) _
-    (λ fault is kept. reports_unknown (λ (row : Vec ℕ Global). row.items) c.names-names.result.now.keys objects c.loop-object.required.items c.loop-object.object c.index-objects-object.result fault.value at c.loop-object.invariant is c.args.modules.now kept c.objects-objects.ensures c.names-names.ensures)
-    c.in_err-row.ensures.fault)
+    let o = c.loop-object.object in
+    let rule = c.index-objects-object.result in
+    let here = slice_get_read objects _ o rule refl c.loop-object-test.true c.index-objects-object.is in
+    let i = c.loop-required.required-index in
+    let name = c.required-item.result in
+    let list : c.deref-required-items.result.now ≡ rule.required = c.deref-required-items.ensures.value ∙ ap (λ (r : RuleValue). r.required) c.rule.view_is in
+    let at = ap (λ xs. slice_get xs i) (sym list) ∙ slice_get_read c.deref-required-items.result.now _ i name refl c.loop-required-test.true c.required-item.is in
+    for_boxed (λ fault. (kept : List (List ℕ)) → Reports 5 t kept fault) _ _ (λ kept. reports_unknown (λ (row : Vec ℕ Global). row.items) keys objects c.loop-object.indexes.items o rule _ here c.loop-object.invariant (
+      i,
+      name,
+      record {
+        here = at;
+        holds = c.in-None.ensures.none;
+        before = λ k y lt at_k absent. let r = in_row keys c.loop-required.row.items (take i c.deref-required-items.result.now) k y c.loop-required.invariant (in_take i c.deref-required-items.result.now k y lt (ap (λ xs. slice_get xs k) list ∙ at_k)) in absent r.0 r.2;
+      },
+      ap (λ n. ModuleUnknown n o) c.in_ok-name-in-None.ensures,
+    ) t kept c.objects-objects.ensures c.names-names.ensures) c.failure_of.ensures
+
+pub loop-required-preserved : goal.loop-required-preserved
+loop-required-preserved c =
+    let required = c.deref-required-items.result.now in
+    let i = c.loop-required.required-index in
+    let name = c.required-item.result in
+    let at = slice_get_read required _ i name refl c.loop-required-test.true c.required-item.is in
+    pushes_next (slice_get c.names-names.result.now.keys) (λ (n : List ℕ). Some n) (take i required) (take (i + 1) required) name [] _ _ _ (take_next required i name at) c.loop-required.invariant c.in_ok-push-in-Some.ensures.items c.in-Some.ensures.found
 
 pub loop-object-preserved : goal.loop-object-preserved
 loop-object-preserved c =
@@ -31,10 +54,12 @@ loop-object-preserved c =
     let i = c.loop-object.object in
     let rule = c.index-objects-object.result in
     let at = slice_get_read objects _ i rule refl c.loop-object-test.true c.index-objects-object.is in
-    pushes_next (λ (row : Vec ℕ Global). map (slice_get keys) row.items) (λ (rule : RuleValue). map (λ name. Some name) rule.required) (take i objects) (take (i + 1) objects) rule [] _ _ _ (take_next objects i rule at) c.loop-object.invariant c.in_ok-push.ensures.items c.in_ok-row.ensures.ok
+    let list : c.deref-required-items.result.now ≡ rule.required = c.deref-required-items.ensures.value ∙ ap (λ (r : RuleValue). r.required) c.rule.view_is in
+    let row = c.loop-required.invariant ∙ ap (map (λ (name : List ℕ). Some name)) (take_all c.deref-required-items.result.now c.loop-required.required-index c.loop-required-test.false ∙ list) in
+    pushes_next (λ (row : Vec ℕ Global). map (slice_get keys) row.items) (λ (rule : RuleValue). map (λ name. Some name) rule.required) (take i objects) (take (i + 1) objects) rule [] _ _ _ (take_next objects i rule at) c.loop-object.invariant c.in_ok-push.ensures.items row
 
 pub returns-clause-ok : goal.returns-clause-ok
 returns-clause-ok c =
     let objects = c.objects-objects.result.now in
-    are_indexes c.args.modules.now c.names-names.result.now.keys c.loop-object.required.items c.names-names.ensures
+    are_indexes c.args.modules.now c.names-names.result.now.keys c.loop-object.indexes.items c.names-names.ensures
     (c.loop-object.invariant ∙ ap (map (λ (rule : RuleValue). map (λ name. Some name) rule.required)) (take_all objects c.loop-object.object c.loop-object-test.false ∙ c.objects-objects.ensures))

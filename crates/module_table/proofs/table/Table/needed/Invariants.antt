@@ -1,6 +1,6 @@
 use Rattle.std.proofs.Common.{◌≡◌, take, map}
 use Rattle.module_table.specs.Needed.{lent}
-use Rattle.module_table.proofs.needed.copy_pairs.Given as goal
+use Rattle.module_table.proofs.table.Table.needed.Given as goal
 
 abbrev pub invariant-loop-pair : goal.invariant-loop-pair
-invariant-loop-pair l = l.copies.items ≡ map lent (take l.pair-index l.pairs)
+invariant-loop-pair l = l.copies.items ≡ map lent (take l.pair-index l.pair-items)

@@ -1,9 +1,0 @@
-use Rattle.std.proofs.Common.{◌++◌, ◌∷◌, [], ℕ, List, Some, length}
-use Rattle.module_table.specs.inner.Pools.{Has, Below, IsSource}
-use Rattle.module_table.proofs.pool.related.add_sources.Given as goal
-
-abbrev pub invariant-loop-pair : goal.invariant-loop-pair
-invariant-loop-pair l = record {
-  still : (k : ℕ) → Has l.initial.sources.items k → Has l.sources.items k;
-  all : Below (λ (pair : List ℕ × List ℕ). (k : ℕ) × Has l.sources.items k × IsSource (l.infos ++ Some l.info ∷ []) (length l.infos) pair k) l.user.required l.pair-index;
-}
