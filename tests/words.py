@@ -55,6 +55,7 @@ CHECKED_IN_COMMENTS = len(TURNS) - 1
 # What is written all the same: subjects of commits, and pieces of comments.
 EXCEPTIONS = [
     "tests: a run needs no random bytes but for names of new files", "FORMATS: fewer words once more",
+    "module_table: loops stand in the functions that need their lists",
     # dyndep_file
     "a text of each class, if it may stand", "if a line may not stand", "or else the second", "want of memory, and `Io` at",
     # in_memory
