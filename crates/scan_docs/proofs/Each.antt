@@ -1,5 +1,5 @@
 -- Checks that are made one after another, and entries that are read one after another, each with its checks.
-use Rattle.std.proofs.Common.{◌≡◌, ℕ, suc, ◌+◌, ◌<◌, ◌≤◌, List, [], ◌∷◌, ◌++◌, map, length, take, drop, get_or, Bool, true, false, cond, Option, Some, None, append_assoc, refl, sym, ap, ◌∙◌, subst, add-one}
+use Rattle.std.proofs.Common.{◌≡◌, ℕ, suc, ◌+◌, ◌<◌, ◌≤◌, List, [], ◌∷◌, ◌++◌, map, length, take, drop, get_or, Bool, true, false, cond, Option, Some, None, refl, sym, ap, ◌∙◌, subst, add-one}
 use Rattle.std.proofs.Math.Seq.{drop-cons}
 use Rattle.std.proofs.lemmas.List.{get_or-map, take_more, take_all, at_drop_all, length-map}
 use Rattle.std.specs.List.{AllZip}
@@ -61,10 +61,6 @@ refusal_after (c ∷ cs) b e = none_step c.holds c.refusal (first_refusal cs) (f
 pub failure_before : (a b : List Check) (f : Failure DocFault) → first_failure a ≡ Some f → first_failure (a ++ b) ≡ Some f
 failure_before [] b f e = absurd (cc)
 failure_before (c ∷ cs) b f e = some_step c.holds (Fault c.refusal) f (first_failure cs) (first_failure (cs ++ b)) e (failure_before cs b f)
-
--- the same of two lists of checks before a third
-pub failure_of_three : (a b c : List Check) → first_failure (a ++ (b ++ c)) ≡ option_or (first_failure (a ++ b)) (first_failure c)
-failure_of_three a b c = ap first_failure (sym (append_assoc a b c)) ∙ failure_of_both (a ++ b) c
 
 -- ---- entries of a list
 

@@ -1,8 +1,9 @@
 -- The parts of a name, read from the front.
-use Rattle.std.proofs.Common.{◌≡◌, ℕ, List, [], ◌∷◌, count_by, nat_le, ◌==◌, Bool, true, false, not, ◌&&◌, ◌||◌, cond, if◌then◌else◌, refl, sym, ap, ◌∙◌, arith}
+use Rattle.std.proofs.Common.{◌≡◌, ℕ, ◌≤◌, ◌<◌, length, List, [], ◌∷◌, count_by, nat_le, ◌==◌, Bool, true, false, not, ◌&&◌, ◌||◌, cond, if◌then◌else◌, refl, sym, ap, ◌∙◌, arith}
 use Rattle.std.specs.List.{list_all, slice_split, onto_first}
+use Rattle.std.proofs.lemmas.Bool.Decides.{nat_tests}
 use Rattle.std.proofs.lemmas.Grind.{common_steps}
-use Rattle.scan_docs.specs.Name.{is_separator, is_not_empty, is_name_byte}
+use Rattle.scan_docs.specs.Name.{name_limit, is_separator, is_not_empty, is_name_byte, is_name}
 
 -- whether no part of the rest is empty, if the part that is being read is empty so far or not
 abbrev full_from : Bool → List ℕ → Bool
@@ -92,5 +93,21 @@ name_from_is colon fresh (x ∷ xs) =
     ∙ parted (is_name_byte x) ((x == 58) && colon) (is_separator x && fresh) few full bytes
     ∙ sym (ap (λ b. b && full_from fresh (x ∷ xs) && list_all is_name_byte (x ∷ xs)) colons ∙ ap (λ b. (not ((x == 58) && colon) && few) && b && list_all is_name_byte (x ∷ xs)) parts)
 
-pub name_parts : (xs : List ℕ) → name_from false true xs ≡ (nat_le (count_by (λ b. b == 58) xs) 1 && list_all is_not_empty (slice_split is_separator xs) && list_all is_name_byte xs)
+name_parts : (xs : List ℕ) → name_from false true xs ≡ (nat_le (count_by (λ b. b == 58) xs) 1 && list_all is_not_empty (slice_split is_separator xs) && list_all is_name_byte xs)
 name_parts xs = name_from_is false true xs ∙ rw (full_parts xs) refl
+
+-- the limit apart, it is the whole test
+pub name_is : (xs : List ℕ) → length xs ≤ name_limit → name_from false true xs ≡ is_name xs
+unfolding is_name
+name_is [] h = refl
+name_is (x ∷ xs) h =
+    let some : nat_le 1 (length (x ∷ xs)) ≡ true = grind (arith, nat_tests) in
+    let small : nat_le (length (x ∷ xs)) name_limit ≡ true = grind (arith, nat_tests) in
+    rw (some, small) (name_parts (x ∷ xs))
+
+pub too_long : (xs : List ℕ) → name_limit < length xs → is_name xs ≡ false
+unfolding is_name
+too_long xs h =
+    let some : nat_le 1 (length xs) ≡ true = grind (arith, nat_tests) in
+    let long : nat_le (length xs) name_limit ≡ false = grind (arith, nat_tests) in
+    rw (some, long) refl

@@ -20,7 +20,6 @@ use crate::document::{read_tree, read_version};
 use crate::fault::{DocFault, Place, bad_shape, path_at};
 use crate::member::Member;
 use crate::name::{Name, SharedNames};
-use crate::rule::read_shared_name;
 use crate::shape;
 use crate::target_document::read_target_name;
 use crate::target_name::TargetName;
@@ -92,26 +91,13 @@ fn read_info(alloc: Global, tree: &Value) -> Result<Info, Failure<DocFault>>
     let version = read_version(tree, &[1, 2])?;
     let target = read_target_name(alloc, tree)?;
     let values = shape::required_entries(tree, Member::Modules, Place::Document)?;
-    let modules = read_all_modules(alloc, version == 2, values)?;
-    Ok(Info { target, modules })
-}
-
-#[tactic(auto, unfolding(crate::specs::InfoChecks::all_module_checks))]
-fn read_all_modules(
-    alloc: Global,
-    with_visibility: bool,
-    values: &[Value],
-) -> Result<Vec<InfoModule>, Failure<DocFault>>
-    ensures { Answers (all_module_checks with_visibility (map view values.now))
-        (λ found. AllZip (IsModule with_visibility) (map view values.now) found.items) result }
-{
     let mut names = SharedNames::new(names_of_modules(alloc, values)?)?;
-    let mut found = Vec::with_capacity(alloc, values.len())?;
+    let mut modules = Vec::with_capacity(alloc, values.len())?;
     for (index, value) in values.iter().enumerate() {
-        let entry = read_module(alloc, &mut names, with_visibility, index, value)?;
-        found.push(entry)?;
+        let entry = read_module(alloc, &mut names, version == 2, index, value)?;
+        modules.push(entry)?;
     }
-    Ok(found)
+    Ok(Info { target, modules })
 }
 
 /// Returns the names of modules and of the modules that they require, in the order of the document.
@@ -121,8 +107,7 @@ fn names_of_modules(alloc: Global, modules: &[Value]) -> Result<Vec<u8>, AllocEr
     let mut names = Vec::new(alloc);
     for module in modules {
         shape::push_text(&mut names, module, Member::Name)?;
-        let required = shape::entries_or_none(module, Member::Requires);
-        shape::push_texts(&mut names, required, Member::Name)?;
+        shape::push_texts(&mut names, module, Member::Requires, Member::Name)?;
     }
     Ok(names)
 }
@@ -142,7 +127,15 @@ fn read_module(
     let requirements = shape::required_entries(value, Member::Requires, place)?;
     let is_private = read_visibility(with_visibility, place, value)?;
     let (name, file) = read_named_file(alloc, names, place, name, path)?;
-    let required = read_all_requirements(alloc, names, index, requirements)?;
+    let mut required = Vec::with_capacity(alloc, requirements.len())?;
+    for (entry, requirement) in requirements.iter().enumerate() {
+        let place = Place::ModuleRequires {
+            number: index,
+            entry,
+        };
+        let pair = read_requirement(alloc, names, place, requirement)?;
+        required.push(pair)?;
+    }
     Ok(InfoModule {
         name,
         file,
@@ -197,31 +190,9 @@ fn read_named_file(
     ensures { Answers (named_file_checks place name.now path.now)
         (λ found. (found.0 ≡ name.now) × (path_of path.now ≡ Ok found.1) × IsText found.1) result }
 {
-    let name = read_shared_name(alloc, names, name, place)?;
+    let name = names.read(alloc, name, place)?;
     let file = path_at(place, Path::of(alloc, path.as_bytes()))?;
     Ok((name, file))
-}
-
-#[tactic(auto, unfolding(crate::specs::InfoChecks::all_requirement_checks))]
-fn read_all_requirements(
-    alloc: Global,
-    names: &mut SharedNames,
-    index: usize,
-    values: &[Value],
-) -> Result<Vec<(Name, Path)>, Failure<DocFault>>
-    ensures { Answers (all_requirement_checks index (map view values.now))
-        (λ found. AllZip IsRequirement (map view values.now) found.items) result }
-{
-    let mut found = Vec::with_capacity(alloc, values.len())?;
-    for (entry, value) in values.iter().enumerate() {
-        let place = Place::ModuleRequires {
-            number: index,
-            entry,
-        };
-        let pair = read_requirement(alloc, names, place, value)?;
-        found.push(pair)?;
-    }
-    Ok(found)
 }
 
 #[tactic(auto, unfolding(crate::specs::InfoChecks::requirement_checks), using(crate::proofs::Each::failure_of_both))]

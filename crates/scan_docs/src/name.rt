@@ -3,8 +3,12 @@
 ghost use Rattle.std.specs.Prelude.{◌≡◌, ◌==◌, ◌&&◌, IfOk, IsTrue, IsUtf8, nat_le, count_by};
 ghost use Rattle.std.specs.Option.{SomeIff};
 ghost use Rattle.std.specs.List.{list_all, slice_split};
+ghost use Rattle.scan_docs.specs.Check.{◌otherwise◌};
+ghost use Rattle.scan_docs.specs.inner.Reading.{Tests};
 ghost use Rattle.scan_docs.specs.Name.{is_name, is_name_byte, is_separator, is_not_empty, IsName};
 
+use crate::fault::{DocFault, Place};
+use ninja_text::Failure;
 use std::alloc::{AllocError, Global};
 use std::cmp::Ordering;
 use std::hash::{Hash, Hasher};
@@ -138,11 +142,20 @@ impl SharedNames {
         Ok(SharedNames { text, start: 0 })
     }
 
-    /// Returns the name of a string. It shares the string of the names if it is the next of them.
-    pub(crate) fn make(&mut self, alloc: Global, text: &str) -> Result<Name, AllocError>
-        requires { IsName text.now }
-        ensures { IfOk result (λ name. name ≡ text.now) }
+    /// Returns the name of a string of the document, which has to be valid. It shares the string of
+    /// the names if it is the next of them.
+    pub(crate) fn read(
+        &mut self,
+        alloc: Global,
+        text: &str,
+        place: Place,
+    ) -> Result<Name, Failure<DocFault>>
+        ensures { Tests (is_name text.now otherwise DocFault.BadName place)
+            (λ name. (name ≡ text.now) × IsName name) result }
     {
+        if !is_name(text.as_bytes()) {
+            return Err(Failure::Fault(DocFault::BadName { place }));
+        }
         let start = self.start;
         let end = start.saturating_add(text.len());
         match self.text.as_slice().get(start..end) {
@@ -151,26 +164,19 @@ impl SharedNames {
                 self.start = end;
                 Ok(Name { shared, start, end })
             }
-            _ => Name::with_own_text(alloc, text.as_bytes()),
+            _ => Ok(Name::with_own_text(alloc, text.as_bytes())?),
         }
     }
 }
 
-#[tactic(auto, unfolding(crate::specs::Name::is_name))]
-pub(crate) fn is_name(text: &[u8]) -> bool
+/// `is_empty` is about the part that is being read.
+#[tactic(auto, using(crate::proofs::Parts::name_is))]
+fn is_name(text: &[u8]) -> bool
     ensures { result ≡ is_name text.now }
 {
-    !text.is_empty() && text.len() <= NAME_LIMIT && has_name_parts(text)
-}
-
-/// Returns whether there is at most one colon, no part is empty, and each byte may be in a name.
-/// `is_empty` is about the current part.
-#[tactic(auto, using(crate::proofs::Parts::name_parts))]
-fn has_name_parts(text: &[u8]) -> bool
-    ensures { result ≡ (nat_le (count_by (λ b. b == 58) text.now) 1
-        && list_all is_not_empty (slice_split is_separator text.now)
-        && list_all is_name_byte text.now) }
-{
+    if text.len() > NAME_LIMIT {
+        return false;
+    }
     let mut has_colon = false;
     let mut is_empty = true;
     for byte in text {

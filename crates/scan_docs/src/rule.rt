@@ -1,6 +1,6 @@
 //! Rules of a scan document.
 
-ghost use Rattle.std.specs.Prelude.{◌≡◌, ◌++◌, map, Some, Ok, IfOk, OnOk, IsUtf8, option_copied, ◌||◌};
+ghost use Rattle.std.specs.Prelude.{◌≡◌, ◌++◌, map, Some, Ok, IfOk, IsUtf8, option_copied, ◌||◌};
 ghost use Rattle.std.specs.List.{AllZip};
 ghost use Rattle.ninja_text.specs.Paths.{placed};
 ghost use Rattle.serde_json.specs.Data.{Data};
@@ -15,7 +15,7 @@ ghost use Rattle.scan_docs.specs.declared.member.Member.TheVariants as m;
 
 use crate::fault::{DocFault, Place, bad_shape, path_at};
 use crate::member::Member;
-use crate::name::{Name, SharedNames, is_name};
+use crate::name::{Name, SharedNames};
 use crate::scan_document::COUNT_LIMIT;
 use crate::setting::Setting;
 use crate::shape;
@@ -45,109 +45,33 @@ impl Model for Rule {
     } };
 }
 
-/// The members of a rule, by their shapes.
-#[derive(Clone, Copy)]
-struct RuleMembers<'v> {
-    primary_output: Option<&'v str>,
-    work_directory: Option<&'v str>,
-    provided: &'v [Value],
-    required: &'v [Value],
-}
-
-#[tactic(auto, unfolding(crate::specs::ScanChecks::rule_checks), using(crate::proofs::Each::failure_of_both))]
 pub(crate) fn read_rule(
     alloc: Global,
     names: &mut SharedNames,
     setting: &Setting,
-    rule: usize,
-    value: &Value,
+    index: usize,
+    rule: &Value,
 ) -> Result<Rule, Failure<DocFault>>
-    ensures { Answers (rule_checks setting.now rule (view value.now))
-        (IsRule setting.now (view value.now)) result }
+    ensures { Answers (rule_checks setting.now index (view rule.now))
+        (IsRule setting.now (view rule.now)) result }
 {
-    let place = Place::Rule { rule };
-    let members = read_members(place, value)?;
-    let object = read_object(alloc, setting, place, members)?;
-    let (provided, required) = read_modules(alloc, names, setting, rule, members)?;
-    Ok(Rule {
-        object,
-        provided,
-        required,
-    })
-}
-
-/// Returns the path of the rule's object file.
-#[tactic(auto, unfolding(crate::specs::ScanChecks::object_checks))]
-fn read_object(
-    alloc: Global,
-    setting: &Setting,
-    place: Place,
-    members: RuleMembers<'_>,
-) -> Result<Path, Failure<DocFault>>
-    ensures { (d : Data) → option_copied members.entry.primary_output ≡ text m.PrimaryOutput d
-        → option_copied members.entry.work_directory ≡ text m.WorkDirectory d
-        → Answers (object_checks setting.now place d)
-        (λ path. (object_of setting.now d ≡ Ok path) × IsText path) result }
-{
-    let Some(output) = members.primary_output else {
-        return Err(Failure::Fault(DocFault::NoPrimaryOutput { place }));
-    };
-    read_path(
-        alloc,
-        setting,
-        members.work_directory,
-        output.as_bytes(),
-        place,
-    )
-}
-
-/// Returns the modules that the rule's source provides and requires.
-fn read_modules(
-    alloc: Global,
-    names: &mut SharedNames,
-    setting: &Setting,
-    rule: usize,
-    members: RuleMembers<'_>,
-) -> Result<(Vec<(Name, Path)>, Vec<Name>), Failure<DocFault>>
-    ensures { Answers (count_checks (Place.Rule rule) (map view members.entry.provided.now)
-        (map view members.entry.required.now)
-        ++ (all_provided_checks setting.now (option_copied members.entry.work_directory) rule
-        (map view members.entry.provided.now)
-        ++ all_required_checks rule (map view members.entry.required.now)))
-        (λ found. AllZip
-        (IsProvidedModule setting.now (option_copied members.entry.work_directory))
-        (map view members.entry.provided.now)
-        found.0.items
-        × AllZip IsRequired (map view members.entry.required.now)
-        found.1.items) result }
-{
-    if members.provided.len() > COUNT_LIMIT || members.required.len() > COUNT_LIMIT {
-        return Err(Failure::Fault(DocFault::TooLarge {
-            place: Place::Rule { rule },
-        }));
-    }
-    let work = members.work_directory;
-    let provided = read_all_provided(alloc, names, setting, work, rule, members.provided)?;
-    let required = read_all_required(alloc, names, rule, members.required)?;
-    Ok((provided, required))
-}
-
-#[tactic(auto, unfolding(crate::specs::ScanChecks::rule_shape_checks))]
-fn read_members<'v>(place: Place, rule: &'v Value) -> Result<RuleMembers<'v>, Failure<DocFault>>
-    ensures { Answers (rule_shape_checks place (view rule.now))
-        (λ found. (option_copied found.primary_output ≡ text m.PrimaryOutput (view rule.now))
-        × (option_copied found.work_directory ≡ text m.WorkDirectory (view rule.now))
-        × (map view found.provided.now ≡ entries_of m.Provides (view rule.now))
-        × (map view found.required.now ≡ entries_of m.Requires (view rule.now))) result }
-{
+    let place = Place::Rule { rule: index };
     shape::check_object(rule, Member::Rule, place)?;
     let primary_output = shape::text(rule, Member::PrimaryOutput, place)?;
-    let work_directory = shape::text(rule, Member::WorkDirectory, place)?;
-    let provided = shape::entries(rule, Member::Provides, place)?;
-    let required = shape::entries(rule, Member::Requires, place)?;
-    Ok(RuleMembers {
-        primary_output,
-        work_directory,
+    let work = shape::text(rule, Member::WorkDirectory, place)?;
+    let provides = shape::entries(rule, Member::Provides, place)?;
+    let requirements = shape::entries(rule, Member::Requires, place)?;
+    let Some(output) = primary_output else {
+        return Err(Failure::Fault(DocFault::NoPrimaryOutput { place }));
+    };
+    let object = read_path(alloc, setting, work, output.as_bytes(), place)?;
+    if provides.len() > COUNT_LIMIT || requirements.len() > COUNT_LIMIT {
+        return Err(Failure::Fault(DocFault::TooLarge { place }));
+    }
+    let provided = read_all_provided(alloc, names, setting, work, index, provides)?;
+    let required = read_all_required(alloc, names, index, requirements)?;
+    Ok(Rule {
+        object,
         provided,
         required,
     })
@@ -197,7 +121,7 @@ fn read_provided(
     if unique == Some(true) {
         return Err(Failure::Fault(DocFault::HeaderUnit { place }));
     }
-    let name = read_shared_name(alloc, names, text, place)?;
+    let name = names.read(alloc, text, place)?;
     let file = read_file(alloc, setting, work, place, text, path)?;
     Ok((name, file))
 }
@@ -259,7 +183,7 @@ fn read_required(
     if unique == Some(true) || header {
         return Err(Failure::Fault(DocFault::HeaderUnit { place }));
     }
-    read_shared_name(alloc, names, name, place)
+    names.read(alloc, name, place)
 }
 
 /// Returns whether a requirement is looked up as a header.
@@ -275,22 +199,6 @@ fn names_header(entry: &Value, place: Place) -> Result<bool, Failure<DocFault>>
             _ => Err(bad_shape(place, Member::LookupMethod)),
         },
     }
-}
-
-/// Returns the name of a module, which has to be accepted. It shares the document's string.
-pub(crate) fn read_shared_name(
-    alloc: Global,
-    names: &mut SharedNames,
-    text: &str,
-    place: Place,
-) -> Result<Name, Failure<DocFault>>
-    ensures { Tests (is_name text.now otherwise DocFault.BadName place)
-        (λ name. (name ≡ text.now) × IsName name) result }
-{
-    if !is_name(text.as_bytes()) {
-        return Err(Failure::Fault(DocFault::BadName { place }));
-    }
-    Ok(names.make(alloc, text)?)
 }
 
 /// Returns the canonical path of a path of the document.
@@ -316,7 +224,6 @@ fn made_file(alloc: Global, setting: &Setting, name: &str) -> Result<Vec<u8>, Al
 {
     let module_dir = setting.module_dir.as_str();
     let module_ext = setting.module_ext.as_str();
-    let name = name.as_bytes();
     let room = module_dir
         .len()
         .saturating_add(name.len())
@@ -326,17 +233,9 @@ fn made_file(alloc: Global, setting: &Setting, name: &str) -> Result<Vec<u8>, Al
         path.extend_from_slice(module_dir.as_bytes())?;
         path.push(b'/')?;
     }
-    push_dashed(&mut path, name)?;
-    path.extend_from_slice(module_ext.as_bytes())?;
-    Ok(path)
-}
-
-/// Appends the bytes of a name, with a dash for each colon.
-fn push_dashed(path: &mut Vec<u8>, name: &[u8]) -> Result<(), AllocError>
-    ensures { OnOk result (path.new.items ≡ path.old.items ++ map dashed name.now) }
-{
-    for byte in name {
+    for byte in name.as_bytes() {
         path.push(if *byte == b':' { b'-' } else { *byte })?;
     }
-    Ok(())
+    path.extend_from_slice(module_ext.as_bytes())?;
+    Ok(path)
 }

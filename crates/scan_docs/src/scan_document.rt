@@ -1,14 +1,14 @@
 //! Scan documents (P1689R5).
 
 ghost use Rattle.std.specs.Prelude.{◌≡◌, map, IfOk, IfErr};
-ghost use Rattle.std.specs.List.{AllZip, All, flat_map};
+ghost use Rattle.std.specs.List.{All, flat_map};
 ghost use Rattle.ninja_text.specs.Failure.{ForFault};
 ghost use Rattle.serde_json.specs.View.{view};
 ghost use Rattle.scan_docs.specs.inner.Reading.{Answers};
 ghost use Rattle.scan_docs.specs.inner.SharedNames.{rule_names};
 ghost use Rattle.scan_docs.specs.Document.{IsAccepted, IsRefused, HasOneAnswer};
-ghost use Rattle.scan_docs.specs.Scan.{IsRule, AreRules, IsRuleText};
-ghost use Rattle.scan_docs.specs.ScanChecks.{all_rule_checks, scan_checks};
+ghost use Rattle.scan_docs.specs.Scan.{AreRules, IsRuleText};
+ghost use Rattle.scan_docs.specs.ScanChecks.{scan_checks};
 ghost use Rattle.scan_docs.specs.Values.{rules_of};
 
 use crate::document::{read_tree, read_version};
@@ -62,18 +62,6 @@ fn read_rules(
     if rules.len() > COUNT_LIMIT {
         return Err(Failure::Fault(DocFault::TooLarge { place }));
     }
-    read_all_rules(alloc, setting, rules)
-}
-
-#[tactic(auto, unfolding(crate::specs::ScanChecks::all_rule_checks))]
-fn read_all_rules(
-    alloc: Global,
-    setting: &Setting,
-    rules: &[Value],
-) -> Result<Vec<Rule>, Failure<DocFault>>
-    ensures { Answers (all_rule_checks setting.now (map view rules.now))
-        (λ found. AllZip (IsRule setting.now) (map view rules.now) found.items) result }
-{
     let mut names = SharedNames::new(names_of_rules(alloc, rules)?)?;
     let mut found = Vec::with_capacity(alloc, rules.len())?;
     for (index, value) in rules.iter().enumerate() {
@@ -89,10 +77,8 @@ fn names_of_rules(alloc: Global, rules: &[Value]) -> Result<Vec<u8>, AllocError>
 {
     let mut names = Vec::new(alloc);
     for rule in rules {
-        let provided = shape::entries_or_none(rule, Member::Provides);
-        shape::push_texts(&mut names, provided, Member::LogicalName)?;
-        let required = shape::entries_or_none(rule, Member::Requires);
-        shape::push_texts(&mut names, required, Member::LogicalName)?;
+        shape::push_texts(&mut names, rule, Member::Provides, Member::LogicalName)?;
+        shape::push_texts(&mut names, rule, Member::Requires, Member::LogicalName)?;
     }
     Ok(names)
 }

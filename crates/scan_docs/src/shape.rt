@@ -1,12 +1,11 @@
 //! Members of an object, by the shape that they should have.
 
-ghost use Rattle.std.specs.Prelude.{◌≡◌, ◌++◌, Some, map, option_map, option_copied, is_some, IfOk, OnOk, string_bytes};
+ghost use Rattle.std.specs.Prelude.{◌≡◌, ◌++◌, Some, map, option_map, option_copied, is_some, OnOk, string_bytes};
 ghost use Rattle.std.specs.List.{flat_map};
 ghost use Rattle.serde_json.specs.View.{view};
 ghost use Rattle.scan_docs.specs.Check.{shape_check};
 ghost use Rattle.scan_docs.specs.inner.Reading.{Tests};
-ghost use Rattle.serde_json.specs.Find.{as_array};
-ghost use Rattle.scan_docs.specs.Shape.{elements, given, text, text_of, entries, entries_of, flag, fits, is_object, texts, texts_of, all_texts};
+ghost use Rattle.scan_docs.specs.Shape.{given, text, text_of, entries, entries_of, flag, fits, is_object, texts, texts_of};
 
 use crate::fault::{DocFault, Place, bad_shape};
 use crate::member::Member;
@@ -39,13 +38,12 @@ pub(crate) fn given<'v>(object: &'v Value, member: Member) -> Option<&'v Value>
     }
 }
 
-/// Returns the elements of an array.
+/// Returns the member's entries, if it is an array.
 #[tactic(auto, using(crate::proofs::Elements::elements_items_of))]
-fn elements<'v>(value: &'v Value) -> Option<&'v [Value]>
-    ensures { option_map (λ vs. map view vs.now) result
-        ≡ option_map elements (as_array (view value.now)) }
+fn array<'v>(object: &'v Value, member: Member) -> Option<&'v [Value]>
+    ensures { option_map (λ vs. map view vs.now) result ≡ entries member (view object.now) }
 {
-    match value.as_array() {
+    match given(object, member).and_then(Value::as_array) {
         Some(list) => Some(list.as_slice()),
         None => None,
     }
@@ -127,10 +125,7 @@ pub(crate) fn entries<'v>(
 {
     match given(object, member) {
         None => Ok(&[]),
-        Some(value) => match elements(value) {
-            Some(list) => Ok(list),
-            None => Err(bad_shape(place, member)),
-        },
+        Some(_) => required_entries(object, member, place),
     }
 }
 
@@ -143,7 +138,7 @@ pub(crate) fn required_entries<'v>(
     ensures { Tests (shape_check place member (is_some (entries member (view object.now))))
         (λ vs. entries member (view object.now) ≡ Some (map view vs.now)) result }
 {
-    match given(object, member).and_then(elements) {
+    match array(object, member) {
         Some(list) => Ok(list),
         None => Err(bad_shape(place, member)),
     }
@@ -175,27 +170,16 @@ pub(crate) fn required_texts(
     ensures { Tests (shape_check place member (is_some (texts member (view object.now))))
         (λ v. texts member (view object.now) ≡ Some (map string_bytes v.items)) result }
 {
-    match given(object, member).and_then(elements) {
-        Some(values) => copy_texts(alloc, values)?.ok_or(bad_shape(place, member)),
-        None => Err(bad_shape(place, member)),
-    }
-}
-
-/// Returns the values as strings, or `None` if one is not a string.
-fn copy_texts(alloc: Global, values: &[Value]) -> Result<Option<Vec<String>>, AllocError>
-    ensures { IfOk result
-        (λ found. option_map (λ v. map string_bytes v.items) found
-        ≡ all_texts (map view values.now)) }
-{
+    let values = required_entries(object, member, place)?;
     let mut found = Vec::with_capacity(alloc, values.len())?;
     for value in values {
         let Some(text) = value.as_str() else {
-            return Ok(None);
+            return Err(bad_shape(place, member));
         };
         let copy = String::from_str(alloc, text)?;
         found.push(copy)?;
     }
-    Ok(Some(found))
+    Ok(found)
 }
 
 /// Appends the member's string, if it has one.
@@ -213,24 +197,19 @@ pub(crate) fn push_text(
     }
 }
 
-/// Returns the member's entries, or none if it is not an array.
-pub(crate) fn entries_or_none<'v>(object: &'v Value, member: Member) -> &'v [Value]
-    ensures { map view result.now ≡ entries_of member (view object.now) }
-{
-    given(object, member).and_then(elements).unwrap_or(&[])
-}
-
-/// Appends the string of the member of each object.
+/// Appends a member's string of each entry of a list, if the object has the list.
 pub(crate) fn push_texts(
     texts: &mut Vec<u8>,
-    objects: &[Value],
+    object: &Value,
+    list: Member,
     member: Member,
 ) -> Result<(), AllocError>
     ensures { OnOk result (texts.new.items
-        ≡ texts.old.items ++ flat_map (text_of member) (map view objects.now)) }
+        ≡ texts.old.items ++ flat_map (text_of member) (entries_of list (view object.now))) }
 {
-    for object in objects {
-        push_text(texts, object, member)?;
+    let entries = array(object, list).unwrap_or(&[]);
+    for entry in entries {
+        push_text(texts, entry, member)?;
     }
     Ok(())
 }

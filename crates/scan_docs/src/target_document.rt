@@ -1,18 +1,18 @@
 //! Target documents.
 
-ghost use Rattle.std.specs.Prelude.{◌≡◌, ◌++◌, Some, None, Ok, true, IfOk, IfErr, is_none, is_some, ◌||◌, map, string_bytes, option_map};
+ghost use Rattle.std.specs.Prelude.{◌≡◌, Some, true, IfOk, IfErr, is_none, is_some, ◌||◌, map, string_bytes, option_map};
 ghost use Rattle.std.specs.List.{list_all};
 ghost use Rattle.std.specs.Option.{ForSome};
 ghost use Rattle.ninja_text.specs.Failure.{ForFault};
-ghost use Rattle.ninja_text.specs.Paths.{is_rooted, placed};
+ghost use Rattle.ninja_text.specs.Paths.{is_rooted};
 ghost use Rattle.serde_json.specs.View.{view};
 ghost use Rattle.scan_docs.specs.Check.{◌otherwise◌, shape_check};
 ghost use Rattle.scan_docs.specs.inner.Reading.{Answers, Tests};
 ghost use Rattle.scan_docs.specs.Document.{IsAccepted, IsRefused, HasOneAnswer};
-ghost use Rattle.scan_docs.specs.Shape.{text, texts_of, given, fits};
+ghost use Rattle.scan_docs.specs.Shape.{text, given};
 ghost use Rattle.scan_docs.specs.Name.{is_name};
 ghost use Rattle.scan_docs.specs.Target.{IsTarget, build_dir, map_form, restat};
-ghost use Rattle.scan_docs.specs.TargetChecks.{name_checks, directory_checks, list_checks, kept_checks, dyndep_checks, file_checks, target_checks, info_check, map_check};
+ghost use Rattle.scan_docs.specs.TargetChecks.{name_checks, directory_checks, file_checks, target_checks, map_check};
 ghost use Rattle.scan_docs.specs.Values.{spec_of};
 ghost use Rattle.scan_docs.specs.declared.member.Member.TheVariants as m;
 
@@ -99,8 +99,14 @@ fn read_spec(alloc: Global, tree: &Value) -> Result<TargetSpec, Failure<DocFault
     read_version(tree, &[1])?;
     let target = read_target_name(alloc, tree)?;
     let setting = read_setting(alloc, tree)?;
-    let (scans, linked, kept) = read_inputs(alloc, tree)?;
-    let (dyndep, dyndep_path) = read_dyndep(alloc, tree, &setting)?;
+    let scans = shape::texts(alloc, tree, Member::Scans, Place::Document)?;
+    let linked = shape::texts(alloc, tree, Member::Linked, Place::Document)?;
+    let private = shape::texts(alloc, tree, Member::Private, Place::Document)?;
+    let kept = read_names(alloc, &private)?;
+    let text = shape::required_text(tree, Member::Dyndep, Place::Document)?;
+    let placed = place(alloc, None, setting.build_dir.as_ref(), text.as_bytes());
+    let dyndep_path = path_at(Place::Document, placed)?;
+    let dyndep = String::from_str(alloc, text)?;
     let (info, map, edges, restat) = read_outputs(alloc, tree)?;
     Ok(TargetSpec {
         target,
@@ -166,64 +172,21 @@ fn read_build_dir(alloc: Global, tree: &Value) -> Result<Option<Path>, Failure<D
     }
 }
 
-/// Returns the members `scans`, `linked` and `private`.
-#[tactic(auto, unfolding(crate::specs::TargetChecks::list_checks, crate::specs::TargetChecks::kept_checks))]
-fn read_inputs(
-    alloc: Global,
-    tree: &Value,
-) -> Result<(Vec<String>, Vec<String>, Vec<Name>), Failure<DocFault>>
-    ensures { Answers (list_checks (view tree.now) ++ kept_checks (view tree.now))
-        (λ found. (texts_of m.Scans (view tree.now) ≡ map string_bytes found.0.items)
-        × (texts_of m.Linked (view tree.now) ≡ map string_bytes found.1.items)
-        × (texts_of m.Private (view tree.now) ≡ found.2.items)) result }
-{
-    let scans = shape::texts(alloc, tree, Member::Scans, Place::Document)?;
-    let linked = shape::texts(alloc, tree, Member::Linked, Place::Document)?;
-    let texts = shape::texts(alloc, tree, Member::Private, Place::Document)?;
-    let kept = read_names(alloc, &texts)?;
-    Ok((scans, linked, kept))
-}
-
-// Not in the loop: there its two errors would be two exits.
-fn read_name(alloc: Global, text: &str) -> Result<Name, Failure<DocFault>>
-    ensures { Tests (is_name text.now otherwise DocFault.BadName Place.Document)
-        (λ name. name ≡ text.now) result }
-{
-    let place = Place::Document;
-    Name::of(alloc, text)?.ok_or(Failure::Fault(DocFault::BadName { place }))
-}
-
 /// Returns the names of the strings, all of which have to be accepted.
 fn read_names(alloc: Global, texts: &[String]) -> Result<Vec<Name>, Failure<DocFault>>
     ensures { Tests
         (list_all is_name (map string_bytes texts.now) otherwise DocFault.BadName Place.Document)
         (λ found. map string_bytes texts.now ≡ found.items) result }
 {
+    let place = Place::Document;
     let mut names = Vec::with_capacity(alloc, texts.len())?;
     for text in texts {
-        let name = read_name(alloc, text.as_str())?;
+        let Some(name) = Name::of(alloc, text.as_str())? else {
+            return Err(Failure::Fault(DocFault::BadName { place }));
+        };
         names.push(name)?;
     }
     Ok(names)
-}
-
-/// Returns the member `dyndep` and its path, which has to be one as Ninja sees it.
-#[tactic(auto, unfolding(crate::specs::TargetChecks::dyndep_checks))]
-fn read_dyndep(
-    alloc: Global,
-    tree: &Value,
-    setting: &Setting,
-) -> Result<(String, Path), Failure<DocFault>>
-    ensures { build_dir (view tree.now) ≡ setting.now.build_dir
-        → Answers (dyndep_checks (view tree.now))
-        (λ found. (text m.Dyndep (view tree.now) ≡ Some (string_bytes found.0))
-        × (placed None setting.now.build_dir (string_bytes found.0) ≡ Ok found.1)) result }
-{
-    let text = shape::required_text(tree, Member::Dyndep, Place::Document)?;
-    let placed = place(alloc, None, setting.build_dir.as_ref(), text.as_bytes());
-    let path = path_at(Place::Document, placed)?;
-    let dyndep = String::from_str(alloc, text)?;
-    Ok((dyndep, path))
 }
 
 /// Returns the members `info`, `map`, `edges` and `restat`.
@@ -238,31 +201,17 @@ fn read_outputs(
         × (text m.Edges (view tree.now) ≡ option_map string_bytes found.2)
         × (restat (view tree.now) ≡ found.3)) result }
 {
-    let info = read_info_file(alloc, tree)?;
+    let info = shape::owned_text(alloc, tree, Member::Info, Place::Document)?;
+    if info.is_empty() {
+        return Err(bad_shape(Place::Document, Member::Info));
+    }
     let map = read_map_form(tree)?;
-    let edges = read_edges(alloc, tree)?;
+    let edges = match shape::text(tree, Member::Edges, Place::Document)? {
+        Some(edges) => Some(String::from_str(alloc, edges)?),
+        None => None,
+    };
     let restat = shape::flag(tree, Member::Restat, Place::Document)?;
     Ok((info, map, edges, restat.unwrap_or(false)))
-}
-
-fn read_info_file(alloc: Global, tree: &Value) -> Result<String, Failure<DocFault>>
-    ensures { Tests (info_check (view tree.now))
-        (λ t. text m.Info (view tree.now) ≡ Some (string_bytes t)) result }
-{
-    match shape::given(tree, Member::Info).and_then(Value::as_str) {
-        Some(text) if !text.is_empty() => Ok(String::from_str(alloc, text)?),
-        _ => Err(bad_shape(Place::Document, Member::Info)),
-    }
-}
-
-fn read_edges(alloc: Global, tree: &Value) -> Result<Option<String>, Failure<DocFault>>
-    ensures { Tests (shape_check Place.Document m.Edges (fits text m.Edges (view tree.now)))
-        (λ t. text m.Edges (view tree.now) ≡ option_map string_bytes t) result }
-{
-    match shape::text(tree, Member::Edges, Place::Document)? {
-        Some(edges) => Ok(Some(String::from_str(alloc, edges)?)),
-        None => Ok(None),
-    }
 }
 
 fn read_map_form(tree: &Value) -> Result<Option<MapForm>, Failure<DocFault>>

@@ -36,10 +36,13 @@ impl TargetName {
     /// # Errors
     ///
     /// Returns an error if an allocation fails.
+    #[tactic(auto, unfolding(crate::specs::Name::is_target_name))]
     pub fn of(alloc: Global, text: &str) -> Result<Option<TargetName>, AllocError>
         ensures { IfOk result (λ name. SomeIff name (IsTrue (is_target_name text.now)) text.now) }
     {
-        if !is_target_name(text.as_bytes()) {
+        let bytes = text.as_bytes();
+        let are_printed = bytes.iter().all(|b| *b >= 32 && *b != 127);
+        if bytes.is_empty() || bytes.len() > NAME_LIMIT || !are_printed {
             return Ok(None);
         }
         let text = String::from_str(alloc, text)?;
@@ -65,19 +68,6 @@ impl TargetName {
         let text = String::from_str(alloc, self.text.as_str())?;
         Ok(TargetName { text })
     }
-}
-
-#[tactic(auto, unfolding(crate::specs::Name::is_target_name))]
-fn is_target_name(text: &[u8]) -> bool
-    ensures { result ≡ is_target_name text.now }
-{
-    !text.is_empty() && text.len() <= NAME_LIMIT && has_printed_bytes(text)
-}
-
-fn has_printed_bytes(text: &[u8]) -> bool
-    ensures { result ≡ list_all (λ b. nat_le 32 b && not (b == 127)) text.now }
-{
-    text.iter().all(|b| *b >= 32 && *b != 127)
 }
 
 impl Clone for TargetName {

@@ -1,9 +1,17 @@
-use Rattle.std.proofs.Common.{Some, sym, ap}
+use Rattle.std.proofs.Common.{◌≡◌, ◌==◌, Bool, List, Some, refl, sym, ap}
 use Rattle.std.proofs.lemmas.Result.{err_from_is_err_and}
-use Rattle.scan_docs.specs.InfoChecks.{modules_check, info_checks}
-use Rattle.scan_docs.proofs.Each.{failure_of_both}
+use Rattle.serde_json.specs.Data.{Data}
+use Rattle.serde_json.specs.View.{view}
+use Rattle.scan_docs.specs.Check.{each_from}
+use Rattle.scan_docs.specs.Info.{IsModule}
+use Rattle.scan_docs.specs.InfoChecks.{modules_check, module_checks, all_module_checks, info_checks}
+use Rattle.scan_docs.proofs.Each.{failure_of_both, one_more, refused_at, all_read}
 use Rattle.scan_docs.proofs.Versions.{info_head}
 use Rattle.scan_docs.proofs.info.read_info.Goals as goal
+
+checks_are : (with_visibility : Bool) (ds : List Data) → all_module_checks with_visibility ds ≡ each_from (module_checks with_visibility) 0 ds
+unfolding all_module_checks
+checks_are with_visibility ds = refl
 
 pub returns-in_err-version : goal.returns-in_err-version
 unfolding info_checks
@@ -23,18 +31,24 @@ returns-in_err-values c =
     let p = err_from_is_err_and c.from_residual-in_err-values.result c.from_residual-in_err-values.ensures.1 in
     rw (p.1, p.2) (λ ne. let h = c.in_err-values.ensures ne in rw (failure_of_both, info_head, c.in_ok-version.ensures.0, failure_of_both, c.in_ok-target.ensures.0, h.0) (ap Some (sym h.1)))
 
-pub returns-in_err-modules : goal.returns-in_err-modules
+pub returns-in_err-entry : goal.returns-in_err-entry
 unfolding modules_check info_checks
-returns-in_err-modules c =
-    let p = err_from_is_err_and c.from_residual-in_err-modules.result c.from_residual-in_err-modules.ensures.1 in
-    rw (p.1, p.2) (λ ne. rw (failure_of_both, info_head, c.in_ok-version.ensures.0, failure_of_both, c.in_ok-target.ensures.0, c.in_ok-values.ensures.0, c.in_ok-values.ensures.1, c.in_ok-version.ensures.1, c.in_err-modules.ensures ne))
+returns-in_err-entry c =
+    let p = err_from_is_err_and c.from_residual-in_err-entry.result c.from_residual-in_err-entry.ensures.1 in
+    rw (p.1, p.2) (λ ne. rw (failure_of_both, info_head, c.in_ok-version.ensures.0, failure_of_both, c.in_ok-target.ensures.0, c.in_ok-values.ensures.0, c.in_ok-values.ensures.1, c.in_ok-version.ensures.1, checks_are)
+    (refused_at view (module_checks (c.in_ok-version.version == 2)) (IsModule (c.in_ok-version.version == 2)) c.in_ok-values.values.now c.loop-index.index c.index-values-index.result _ c.loop-index.modules.items c.loop-index-test.true c.index-values-index.is (c.in_err-entry.ensures ne) c.loop-index.invariant))
+
+pub loop-index-preserved : goal.loop-index-preserved
+loop-index-preserved c =
+    rw c.in_ok-push.ensures.items (one_more view (module_checks (c.in_ok-version.version == 2)) (IsModule (c.in_ok-version.version == 2)) c.in_ok-values.values.now c.loop-index.index c.index-values-index.result c.in_ok-entry.entry c.loop-index.modules.items c.loop-index-test.true c.index-values-index.is c.in_ok-entry.ensures.0 c.in_ok-entry.ensures.1 c.loop-index.invariant)
 
 pub returns : goal.returns
 unfolding modules_check info_checks
-returns c = (
-  rw (failure_of_both, info_head, c.in_ok-version.ensures.0, failure_of_both, c.in_ok-target.ensures.0, c.in_ok-values.ensures.0, c.in_ok-values.ensures.1, c.in_ok-version.ensures.1, c.in_ok-modules.ensures.0),
-  record {
-    target = c.in_ok-target.ensures.1;
-    modules = rw (c.in_ok-version.ensures.1, c.in_ok-values.ensures.1) c.in_ok-modules.ensures.1;
-  },
-)
+returns c =
+    let modules = all_read view (module_checks (c.in_ok-version.version == 2)) (IsModule (c.in_ok-version.version == 2)) c.in_ok-values.values.now c.loop-index.index c.loop-index.modules.items c.loop-index-test.false c.loop-index.invariant in (
+      rw (failure_of_both, info_head, c.in_ok-version.ensures.0, failure_of_both, c.in_ok-target.ensures.0, c.in_ok-values.ensures.0, c.in_ok-values.ensures.1, c.in_ok-version.ensures.1, checks_are) modules.0,
+      record {
+        target = c.in_ok-target.ensures.1;
+        modules = rw (c.in_ok-version.ensures.1, c.in_ok-values.ensures.1) modules.1;
+      },
+    )

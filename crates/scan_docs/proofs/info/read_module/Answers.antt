@@ -1,7 +1,10 @@
 use Rattle.std.proofs.Common.{Some, sym, ap, ◌∙◌}
 use Rattle.std.proofs.lemmas.Result.{err_from_is_err_and}
-use Rattle.scan_docs.specs.InfoChecks.{requires_check, module_checks}
-use Rattle.scan_docs.proofs.Each.{failure_of_both}
+use Rattle.serde_json.specs.View.{view}
+use Rattle.scan_docs.specs.declared.fault.Place.TheVariants as place
+use Rattle.scan_docs.specs.Info.{IsRequirement}
+use Rattle.scan_docs.specs.InfoChecks.{requires_check, requirement_checks, all_requirement_checks, module_checks}
+use Rattle.scan_docs.proofs.Each.{failure_of_both, one_more, refused_at, all_read}
 use Rattle.scan_docs.proofs.info.read_module.Goals as goal
 
 pub returns-in_err-name : goal.returns-in_err-name
@@ -28,21 +31,27 @@ returns-in_err-name-2 c =
     let p = err_from_is_err_and c.from_residual-in_err-name-2.result c.from_residual-in_err-name-2.ensures.1 in
     rw (p.1, p.2) (λ ne. rw (failure_of_both, c.in_ok-name.ensures.0, c.in_ok-requirements.ensures.0, failure_of_both, c.in_ok-is_private.ensures.0, failure_of_both, c.in_ok-name.ensures.1.0, c.in_ok-name.ensures.1.1, c.in_err-name-2.ensures ne))
 
-pub returns-in_err-required : goal.returns-in_err-required
-unfolding requires_check module_checks
-returns-in_err-required c =
-    let p = err_from_is_err_and c.from_residual-in_err-required.result c.from_residual-in_err-required.ensures.1 in
-    rw (p.1, p.2) (λ ne. rw (failure_of_both, c.in_ok-name.ensures.0, c.in_ok-requirements.ensures.0, failure_of_both, c.in_ok-is_private.ensures.0, failure_of_both, c.in_ok-name.ensures.1.0, c.in_ok-name.ensures.1.1, c.in_ok-name-2.ensures.0, c.in_ok-requirements.ensures.1, c.in_err-required.ensures ne))
+pub returns-in_err-pair : goal.returns-in_err-pair
+unfolding requires_check module_checks all_requirement_checks
+returns-in_err-pair c =
+    let p = err_from_is_err_and c.from_residual-in_err-pair.result c.from_residual-in_err-pair.ensures.1 in
+    rw (p.1, p.2) (λ ne. rw (failure_of_both, c.in_ok-name.ensures.0, c.in_ok-requirements.ensures.0, failure_of_both, c.in_ok-is_private.ensures.0, failure_of_both, c.in_ok-name.ensures.1.0, c.in_ok-name.ensures.1.1, c.in_ok-name-2.ensures.0, c.in_ok-requirements.ensures.1)
+    (refused_at view (λ entry d. requirement_checks (place.ModuleRequires c.args.index entry) d) IsRequirement c.in_ok-requirements.requirements.now c.loop-entry.entry c.index-requirements-entry.result _ c.loop-entry.required.items c.loop-entry-test.true c.index-requirements-entry.is (c.in_err-pair.ensures ne) c.loop-entry.invariant))
+
+pub loop-entry-preserved : goal.loop-entry-preserved
+loop-entry-preserved c =
+    rw c.in_ok-push.ensures.items (one_more view (λ entry d. requirement_checks (place.ModuleRequires c.args.index entry) d) IsRequirement c.in_ok-requirements.requirements.now c.loop-entry.entry c.index-requirements-entry.result c.in_ok-pair.pair c.loop-entry.required.items c.loop-entry-test.true c.index-requirements-entry.is c.in_ok-pair.ensures.0 c.in_ok-pair.ensures.1 c.loop-entry.invariant)
 
 pub returns : goal.returns
-unfolding requires_check module_checks
-returns c = (
-  rw (failure_of_both, c.in_ok-name.ensures.0, c.in_ok-requirements.ensures.0, failure_of_both, c.in_ok-is_private.ensures.0, failure_of_both, c.in_ok-name.ensures.1.0, c.in_ok-name.ensures.1.1, c.in_ok-name-2.ensures.0, c.in_ok-requirements.ensures.1, c.in_ok-required.ensures.0),
-  record {
-    name = c.in_ok-name.ensures.1.0 ∙ ap Some (sym c.in_ok-name-2.ensures.1.0);
-    file = rw c.in_ok-name.ensures.1.1 c.in_ok-name-2.ensures.1.1;
-    is_text = c.in_ok-name-2.ensures.1.2;
-    required = rw c.in_ok-requirements.ensures.1 c.in_ok-required.ensures.1;
-    visibility = c.in_ok-is_private.ensures.1;
-  },
-)
+unfolding requires_check module_checks all_requirement_checks
+returns c =
+    let required = all_read view (λ entry d. requirement_checks (place.ModuleRequires c.args.index entry) d) IsRequirement c.in_ok-requirements.requirements.now c.loop-entry.entry c.loop-entry.required.items c.loop-entry-test.false c.loop-entry.invariant in (
+      rw (failure_of_both, c.in_ok-name.ensures.0, c.in_ok-requirements.ensures.0, failure_of_both, c.in_ok-is_private.ensures.0, failure_of_both, c.in_ok-name.ensures.1.0, c.in_ok-name.ensures.1.1, c.in_ok-name-2.ensures.0, c.in_ok-requirements.ensures.1) required.0,
+      record {
+        name = c.in_ok-name.ensures.1.0 ∙ ap Some (sym c.in_ok-name-2.ensures.1.0);
+        file = rw c.in_ok-name.ensures.1.1 c.in_ok-name-2.ensures.1.1;
+        is_text = c.in_ok-name-2.ensures.1.2;
+        required = rw c.in_ok-requirements.ensures.1 required.1;
+        visibility = c.in_ok-is_private.ensures.1;
+      },
+    )

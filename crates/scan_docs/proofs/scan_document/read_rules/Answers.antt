@@ -4,8 +4,9 @@ use Rattle.std.proofs.lemmas.List.{length-map}
 use Rattle.std.proofs.lemmas.Result.{err_from_is_err_and}
 use Rattle.serde_json.specs.Data.{Data}
 use Rattle.serde_json.specs.View.{view}
-use Rattle.scan_docs.specs.ScanChecks.{count_limit, is_short, scan_checks}
-use Rattle.scan_docs.proofs.Each.{failure_of_both}
+use Rattle.scan_docs.specs.Scan.{IsRule}
+use Rattle.scan_docs.specs.ScanChecks.{count_limit, is_short, rule_checks, all_rule_checks, scan_checks}
+use Rattle.scan_docs.proofs.Each.{failure_of_both, one_more, refused_at, all_read}
 use Rattle.scan_docs.proofs.Versions.{scan_head}
 use Rattle.scan_docs.proofs.scan_document.read_rules.Goals as goal
 
@@ -35,9 +36,21 @@ returns-then-rules-gt-COUNT_LIMIT c = λ ne.
     let test = long (map view c.in_ok-rules.rules.now) (rw length-map c.if-rules-gt-COUNT_LIMIT.true) in
     rw (failure_of_both, scan_head, c.in_ok-read_version.ensures.0, rules.0, rules.1, test) refl
 
+pub returns-in_err-rule : goal.returns-in_err-rule
+unfolding scan_checks all_rule_checks
+returns-in_err-rule c =
+    let rules = c.in_ok-rules.ensures in
+    let test = short (map view c.in_ok-rules.rules.now) (rw length-map c.if-rules-gt-COUNT_LIMIT.false) in
+    let p = err_from_is_err_and c.from_residual-in_err-rule.result c.from_residual-in_err-rule.ensures.1 in
+    rw (p.1, p.2) (λ ne. rw (failure_of_both, scan_head, c.in_ok-read_version.ensures.0, rules.0, rules.1, test) (refused_at view (rule_checks c.args.setting.now) (IsRule c.args.setting.now) c.in_ok-rules.rules.now c.loop-index.index c.index-rules-index.result _ c.loop-index.found.items c.loop-index-test.true c.index-rules-index.is (c.in_err-rule.ensures ne) c.loop-index.invariant))
+
+pub loop-index-preserved : goal.loop-index-preserved
+loop-index-preserved c =
+    rw c.in_ok-push.ensures.items (one_more view (rule_checks c.args.setting.now) (IsRule c.args.setting.now) c.in_ok-rules.rules.now c.loop-index.index c.index-rules-index.result c.in_ok-rule.rule c.loop-index.found.items c.loop-index-test.true c.index-rules-index.is c.in_ok-rule.ensures.0 c.in_ok-rule.ensures.1 c.loop-index.invariant)
+
 pub returns : goal.returns
-unfolding scan_checks
+unfolding scan_checks all_rule_checks
 returns c =
     let rules = c.in_ok-rules.ensures in
     let test = short (map view c.in_ok-rules.rules.now) (rw length-map c.if-rules-gt-COUNT_LIMIT.false) in
-    rw (failure_of_both, scan_head, c.in_ok-read_version.ensures.0, rules.0, rules.1, test) c.read_all_rules.ensures
+    rw (failure_of_both, scan_head, c.in_ok-read_version.ensures.0, rules.0, rules.1, test) (all_read view (rule_checks c.args.setting.now) (IsRule c.args.setting.now) c.in_ok-rules.rules.now c.loop-index.index c.loop-index.found.items c.loop-index-test.false c.loop-index.invariant)

@@ -3,7 +3,7 @@ use Rattle.serde_json.specs.View.{view}
 use Rattle.scan_docs.specs.Scan.{IsRule}
 use Rattle.scan_docs.specs.ScanChecks.{rule_checks}
 use Rattle.scan_docs.proofs.Each.{SoFar}
-use Rattle.scan_docs.proofs.scan_document.read_all_rules.Given as goal
+use Rattle.scan_docs.proofs.scan_document.read_rules.Given as goal
 
 abbrev pub invariant-loop-index : goal.invariant-loop-index
 invariant-loop-index l = SoFar (rule_checks l.setting) (IsRule l.setting) (map view l.rules) l.index l.found.items

@@ -1,9 +1,9 @@
-use Rattle.std.proofs.Common.{map}
+use Rattle.std.proofs.Common.{◌==◌, map}
 use Rattle.serde_json.specs.View.{view}
 use Rattle.scan_docs.specs.Info.{IsModule}
 use Rattle.scan_docs.specs.InfoChecks.{module_checks}
 use Rattle.scan_docs.proofs.Each.{SoFar}
-use Rattle.scan_docs.proofs.info.read_all_modules.Given as goal
+use Rattle.scan_docs.proofs.info.read_info.Given as goal
 
 abbrev pub invariant-loop-index : goal.invariant-loop-index
-invariant-loop-index l = SoFar (module_checks l.with_visibility) (IsModule l.with_visibility) (map view l.values) l.index l.found.items
+invariant-loop-index l = SoFar (module_checks (l.version == 2)) (IsModule (l.version == 2)) (map view l.values) l.index l.modules.items

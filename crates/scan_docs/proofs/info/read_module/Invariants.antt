@@ -4,7 +4,7 @@ use Rattle.scan_docs.specs.Info.{IsRequirement}
 use Rattle.scan_docs.specs.InfoChecks.{requirement_checks}
 use Rattle.scan_docs.specs.declared.fault.Place.TheVariants as place
 use Rattle.scan_docs.proofs.Each.{SoFar}
-use Rattle.scan_docs.proofs.info.read_all_requirements.Given as goal
+use Rattle.scan_docs.proofs.info.read_module.Given as goal
 
 abbrev pub invariant-loop-entry : goal.invariant-loop-entry
-invariant-loop-entry l = SoFar (λ entry d. requirement_checks (place.ModuleRequires l.index entry) d) IsRequirement (map view l.values) l.entry l.found.items
+invariant-loop-entry l = SoFar (λ entry d. requirement_checks (place.ModuleRequires l.index entry) d) IsRequirement (map view l.requirements) l.entry l.required.items
