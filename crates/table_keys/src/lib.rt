@@ -1,7 +1,7 @@
 //! Keys for hash tables whose entries strangers choose.
 //!
 //! Whoever knows how a table hashes can choose entries that all hash alike, so that each look-up
-//! searches the whole table. A [`TableKey`] is made of the SHA-256 digest of the entries themselves:
+//! searches the whole table. A [`TableKey`] is made of the SHA-512 digest of the entries themselves:
 //! whoever chooses the entries cannot choose the digest as well. So a table needs no random bytes
 //! from outside, and a program hashes the same way in each run.
 //!
@@ -16,7 +16,7 @@
 //! hashed the digest before it hashes an entry.
 #![tactic(auto)]
 
-use sha2::{Digest, Sha256};
+use sha2::{Digest, Sha512};
 use std::hash::{BuildHasher, DefaultHasher, Hasher};
 
 /// Builds the hashers of a table. All of them start from the digest of the table's entries.
@@ -39,14 +39,14 @@ impl BuildHasher for TableKey {
 /// Computes the digest of a table's entries, one after another.
 #[derive(Drop)]
 pub struct KeyDigest {
-    digest: Sha256,
+    digest: Sha512,
 }
 
 impl KeyDigest {
     /// Returns the digest of no entries.
     pub fn new() -> KeyDigest {
         KeyDigest {
-            digest: Sha256::new(),
+            digest: Sha512::new(),
         }
     }
 
