@@ -29,7 +29,19 @@ impl Pool {
             }
         }
         if keeps {
-            self.pick_required(places, &mut picked)?;
+            // what the picked modules require, directly or through others
+            for next in 0..usize::MAX {
+                let Some(entry) = picked.get_index(next) else {
+                    break;
+                };
+                let known = self.known(entry.0);
+                let Some(module) = known.and_then(|info| info.modules.get(entry.1)) else {
+                    continue;
+                };
+                for pair in &module.required {
+                    self.pick_name(places, &pair.0, &mut picked)?;
+                }
+            }
         }
         by_place(alloc, &picked, places, count)
     }
@@ -45,29 +57,6 @@ impl Pool {
             if matches!(places.get(entry.0), Some(Some(_))) {
                 picked.insert(*entry)?;
                 return Ok(());
-            }
-        }
-        Ok(())
-    }
-
-    /// Picks what the picked modules require, directly or through others.
-    fn pick_required(
-        &self,
-        places: &[Option<usize>],
-        picked: &mut Modules,
-    ) -> Result<(), AllocError> {
-        for next in 0..usize::MAX {
-            let Some(entry) = picked.get_index(next) else {
-                break;
-            };
-            let Some(info) = self.known(entry.0) else {
-                continue;
-            };
-            let Some(module) = info.modules.get(entry.1) else {
-                continue;
-            };
-            for pair in &module.required {
-                self.pick_name(places, &pair.0, picked)?;
             }
         }
         Ok(())
