@@ -24,6 +24,7 @@ pub mod Excluded
 pub mod Faultless
 pub mod RequiredPairs
 pub mod PairLists
+pub mod Names
 pub mod OneReported
 pub mod PartLemmas
 pub mod RowLemmas

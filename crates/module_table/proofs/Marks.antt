@@ -22,7 +22,7 @@ or_true : (b : Bool) → b || true ≡ true
 or_true true = refl
 or_true false = refl
 
-any_true : {X : Type 0} (q : X → Bool) (xs : List X) (k : ℕ) (x : X) → slice_get xs k ≡ Some x → q x ≡ true → list_any q xs ≡ true
+pub any_true : {X : Type 0} (q : X → Bool) (xs : List X) (k : ℕ) (x : X) → slice_get xs k ≡ Some x → q x ≡ true → list_any q xs ≡ true
 any_true q [] k x at e = cc
 any_true q (y ∷ xs) zero x at e = ap (λ b. b || list_any q xs) (ap q (same_some _ _ at) ∙ e)
 any_true q (y ∷ xs) (suc k) x at e = ap (λ b. q y || b) (any_true q xs k x at e) ∙ or_true (q y)

@@ -5,10 +5,10 @@ use Rattle.std.specs.Cmp.Lexicographic.{bytes_decides}
 use Rattle.module_table.specs.Added.{first_mentions}
 use Rattle.ninja_text.proofs.ForCallers.{take_next, found_if, new_if}
 
-abbrev other_than : List ℕ → List ℕ → Bool
+abbrev pub other_than : List ℕ → List ℕ → Bool
 other_than y o = not (bytes_eq y o)
 
-abbrev among : List ℕ → List (List ℕ) → Bool
+abbrev pub among : List ℕ → List (List ℕ) → Bool
 among x xs = list_any (λ k. bytes_eq x k) xs
 
 filter_push : (q : List ℕ → Bool) (xs : List (List ℕ)) (x : List ℕ) → filter q (xs ++ x ∷ []) ≡ filter q xs ++ cond (q x) (x ∷ []) []

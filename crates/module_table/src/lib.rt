@@ -36,10 +36,11 @@
 //!   and `checks/privacy.rt` M9 and M10. M8 calls `order` of `dep_order`. `requirements.rt` looks
 //!   up once what the modules of info files require. M6, M7 and M9 use what it finds.
 //! - `table.rt`: a table has the objects and what each requires with the files (`resolved.rt`).
-//!   Names and paths have numbers, which are their indexes in two hash tables. By these numbers the
-//!   table has the producer of each module and all requirements, as a graph. In the graph an object
-//!   needs the modules that it requires, a module of an object needs the object, and a module of an
-//!   info file needs the modules that it requires.
+//!   Names and paths have numbers, which are their indexes in two hash tables. Names are numbered
+//!   by first mention, the names of provided modules before those that are required. By these
+//!   numbers the table has the producer of each module and all requirements, as a graph. In the
+//!   graph an object needs the modules that it requires, a module of an object needs the object,
+//!   and a module of an info file needs the modules that it requires.
 //! - `needed.rt` lists the modules that each object requires, with their files. [`Needs`] calls
 //!   `Reaching` of `dep_order` in the graph, and sorts what it finds by the ranks of the names, which
 //!   are computed once.

@@ -28,7 +28,8 @@ use table_keys::TableKey;
 #[derive(Drop)]
 pub struct Table {
     resolved: Resolved,
-    /// The names of all provided modules. A name's index is that of its module.
+    /// The names that the table mentions, in order of first mention: first those of the provided
+    /// modules. Each required name is one of them, so a name's index is that of its module.
     names: IndexSet<Name, TableKey>,
     /// The paths of the objects, each at the index of its object, and after them the files of all
     /// provided modules, by module.
@@ -43,6 +44,8 @@ impl Model for Table {
     ghost use Rattle.std.specs.Prelude.{◌≡◌};
     ghost use Rattle.module_table.specs.TableValue.{TableValue};
     ghost use Rattle.module_table.specs.Modules.{provisions};
+    ghost use Rattle.module_table.specs.Added.{first_mentions};
+    ghost use Rattle.module_table.specs.inner.Mentioned.{mentioned_names};
     ghost use Rattle.module_table.specs.inner.Views.{names_of, paths_of};
     ghost use Rattle.module_table.specs.inner.Origins.{origins_of};
     ghost use Rattle.module_table.specs.inner.Graph.{IsModuleGraph};
@@ -54,7 +57,8 @@ impl Model for Table {
     ghost invariant = { λ t. (t.names.keys ≡ names_of (provisions t.resolved))
         × (t.origins.items ≡ origins_of t.resolved)
         × IsModuleGraph t.resolved t.graph
-        × (t.paths.keys ≡ paths_of t.resolved) };
+        × (t.paths.keys ≡ paths_of t.resolved)
+        × (t.names.keys ≡ first_mentions (mentioned_names t.resolved)) };
 }
 
 impl Table {

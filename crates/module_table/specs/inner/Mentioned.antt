@@ -1,8 +1,12 @@
 -- What a list mentions, each once, and the marks that say what was mentioned.
-use Rattle.std.specs.Prelude.{◌≡◌, ℕ, ◌<◌, ◌≤◌, List, [], length, map, All, get_or, slice_get, Some}
-use Rattle.module_table.specs.Modules.{Provision}
+use Rattle.std.specs.Prelude.{◌≡◌, ℕ, ◌<◌, ◌≤◌, List, [], ◌++◌, length, map, All, get_or, slice_get, Some}
+use Rattle.std.specs.List.{flat_map}
+use Rattle.scan_docs.specs.Info.{InfoValue}
+use Rattle.module_table.specs.TableValue.{TableValue}
+use Rattle.module_table.specs.Modules.{Provision, provisions}
 use Rattle.module_table.specs.Added.{first_mentions}
 use Rattle.module_table.specs.inner.Indexed.{pair_at}
+use Rattle.module_table.specs.inner.Views.{names_of}
 use Rattle.ninja_text.specs.Firsts.{AllDiffer}
 
 -- the name of this index
@@ -37,3 +41,13 @@ pub record ArePairsSoFar (provided : List Provision) (mark : ℕ) (marks indexes
   pub marked : AreMarked mark marks mentioned
   pub firsts : AreFirsts (length marks) indexes mentioned
   pub found : map (λ pair. Some pair) pairs ≡ map (pair_at provided) mentioned
+
+-- the names that the modules of an info file require
+abbrev pub info_names : InfoValue → List (List ℕ)
+info_names info = flat_map (λ entry. map (λ pair. pair.0) entry.required) info.modules
+
+-- all names that a table mentions: those of the provided modules by index, then those that objects
+-- require, then those that the modules of info files require
+abbrev pub mentioned_names : TableValue → List (List ℕ)
+mentioned_names t = names_of (provisions t)
+    ++ (flat_map (λ rule. rule.required) t.objects ++ flat_map info_names t.infos)

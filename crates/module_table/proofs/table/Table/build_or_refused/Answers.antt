@@ -1,9 +1,12 @@
 use Rattle.std.proofs.Common.{◌≡◌, ◌∙◌, refl, sym, subst, map, arith}
 use Rattle.module_table.specs.TableValue.{TableValue}
-use Rattle.module_table.specs.Added.{required_of}
+use Rattle.module_table.specs.Added.{first_mentions, required_of}
+use Rattle.module_table.specs.Modules.{provisions}
 use Rattle.module_table.specs.Outcomes.{HasNoFault}
 use Rattle.module_table.specs.inner.LookUps.{AreLookUps}
-use Rattle.module_table.specs.inner.Views.{paths_of}
+use Rattle.module_table.specs.inner.Mentioned.{mentioned_names}
+use Rattle.module_table.specs.inner.Views.{names_of, paths_of}
+use Rattle.module_table.proofs.Names.{all_names}
 use Rattle.module_table.proofs.IndexRows.{same_table}
 use Rattle.module_table.proofs.Faultless.{faultless_is_sound}
 use Rattle.module_table.proofs.table.Table.build_or_refused.Goals as goal
@@ -24,7 +27,11 @@ invariant_of-result c =
     let same = same_table _ _ _ _ c.as_slice-3.ensures.value c.as_slice-4.ensures.value ∙ sym c.new.ensures in
     let index = c.in-Ok.index in
     let h = subst (λ u. AreLookUps u index.names.keys index.origins.items index.graph (map (λ row. row.items) index.required.items)) same c.in-Ok.ensures.index in
-    (h.all_names, h.all_origins, h.is_graph, subst (λ (u : TableValue). c.check_all-checked.new.paths.keys ≡ paths_of u) same c.in-Ok.ensures.paths)
+    let t : TableValue = record { objects = c.args.objects.items; infos = c.args.infos.items } in
+    let given = same_table _ _ _ _ c.as_slice-3.ensures.value c.as_slice-4.ensures.value in
+    let sound = (faultless_is_sound t c.args.kept.now (omega (arith, c.args.objects.ok.0, c.args.objects.ok.1, c.args.objects.small)) (subst (λ u. HasNoFault u c.args.kept.now) given c.in-Ok.ensures.no_fault)).0 in
+    let names = subst (λ (u : TableValue). names_of (provisions u) ≡ first_mentions (mentioned_names u)) (sym c.new.ensures) (all_names t sound) in
+    (h.all_names, h.all_origins, h.is_graph, subst (λ (u : TableValue). c.check_all-checked.new.paths.keys ≡ paths_of u) same c.in-Ok.ensures.paths, h.all_names ∙ names)
 
 pub returns-in-Ok-clause-sound : goal.returns-in-Ok-clause-sound
 returns-in-Ok-clause-sound c =
