@@ -56,12 +56,6 @@ CHECKED_IN_COMMENTS = len(TURNS) - 1
 EXCEPTIONS = [
     "tests: a run needs no random bytes but for names of new files", "FORMATS: fewer words once more",
     "module_table: loops stand in the functions that need their lists",
-    # dyndep_file
-    "a text of each class, if it may stand", "if a line may not stand", "or else the second", "want of memory, and `Io` at",
-    # in_memory
-    "two texts that begin alike go on alike", "what is behind the first file", "Replies of commands, by their answers",
-    "put behind others one after another", "a command that comes to one of", "If it is none, nothing was written",
-    "that has come to one of these outcomes", "what a run comes to over these files", "Of the files that the document",
     # ninja_text
     "if a word goes on, a piece follows", "the directory is a proper beginning", "A word goes on if a piece follows",
     "behind which no piece follows", "wherever the units stand", "one more component behind it", "a piece goes on if one follows",

@@ -16,7 +16,7 @@ abbrev IsSome : List ℕ → Type 0
 IsSome [] = ⊥
 IsSome (n ∷ ns) = ⊤
 
--- two texts that begin alike go on alike
+-- equal texts with fronts of the same length have the same front, and the same rest
 same_start : (xs ys zs ws : Bytes) → length xs ≡ length ys → xs ++ zs ≡ ys ++ ws → (xs ≡ ys) × (zs ≡ ws)
 same_start xs ys zs ws len e = (
   sym (take-append_seam xs zs) ∙ ap₂ take len e ∙ take-append_seam ys ws,
@@ -24,7 +24,7 @@ same_start xs ys zs ws len e = (
 )
 
 module _ (lengths : List ℕ) (text : Bytes) (file : GivenFile) (more : List ℕ) (after : Bytes) (is : BeginsWithFile lengths text file more after) where
-  -- what is behind the first file is cut into files
+  -- if the text after the first file is cut into files, the whole text is
   pub longer : (files : List GivenFile) → AreCut more after files → AreCut lengths text (file ∷ files)
   longer files cut = record {
     lengths_are = is.lengths_are ∙ ap (λ ns. length file.name ∷ length file.bytes ∷ ns) cut.lengths_are;

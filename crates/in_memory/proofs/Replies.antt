@@ -1,12 +1,12 @@
--- Replies of commands, by their answers.
+-- The reply of a command, by its answer.
 use Rattle.std.proofs.Common.{◌≡◌, List, ℕ, subst}
-use Rattle.std.specs.Prelude.{Err, IfOk, Ok, Result, ⊤}
+use Rattle.std.specs.Prelude.{Result, ⊤}
 use Rattle.std.specs.declared.alloc.AllocError.{AllocError}
 use Rattle.ninja_text.specs.Bytes.{Bytes}
 use Rattle.commands.specs.Outcomes as commands
 use Rattle.commands.specs.Outcomes.{OutputValue}
 use Rattle.commands.specs.declared.answer.Answer.{Answer}
-use Rattle.in_memory.specs.Replies.{HasAnswer, Puts, Replies, ReplyValue, no_call, no_memory, replies, answer_reply}
+use Rattle.in_memory.specs.Replies.{HasAnswer, Puts, Replies, ReplyValue, no_call, no_memory, replies}
 use Rattle.in_memory.specs.Runs.{Answers}
 use Rattle.in_memory.specs.declared.outcome.Outcome.{Outcome}
 
@@ -21,8 +21,3 @@ put_as IsCall Has IsReply numbers text new_numbers new_text outcome call are (no
 pub replies_of : (IsOutcome : commands.Outcome OutputValue → Type 0) (answer : Result Answer AllocError) → Answers IsOutcome answer →
     (reply : ReplyValue) → HasAnswer answer reply → Replies IsOutcome reply
 replies_of IsOutcome answer answers reply (it, is, e) = (it, subst (Answers IsOutcome) is answers, e)
-
-pub has_answer : (answer : Answer) (given : Result Answer AllocError) (result : Result ReplyValue AllocError) → given ≡ Ok answer →
-    IfOk result (λ reply. reply ≡ answer_reply answer) → IfOk result (HasAnswer given)
-has_answer answer given (Ok reply) is e = (answer, is, e)
-has_answer answer given (Err none) is e = tt

@@ -10,12 +10,12 @@ use Rattle.dyndep_file.specs.Reading.{StandsFor}
 use Rattle.dyndep_file.specs.StatementValue.{StatementValue}
 use Rattle.dyndep_file.specs.declared.fault.ReadFault.{ReadFault}
 use Rattle.in_memory.specs.Replies.{ReplyValue, as_number}
-use Rattle.in_memory.specs.Statements.{IsFaultOf, Tells, after_number, after_paths, after_statement, fault_reply, faulty, stands, statements_reply}
+use Rattle.in_memory.specs.Statements.{IsFaultOf, Tells, after_paths, after_statement, fault_reply, faulty, stands, statements_reply}
 
 abbrev Paths : Type 0
 Paths = List PathText
 
--- the numbers of a statement, put behind others one after another
+-- the numbers of a statement, appended to others one after another
 numbers_after : (old : List ℕ) (a b c d : ℕ) (xs ys : List ℕ) →
     ((((((old ++ a ∷ []) ++ b ∷ []) ++ c ∷ []) ++ d ∷ []) ++ xs) ++ ys) ≡ old ++ (a ∷ b ∷ c ∷ d ∷ (xs ++ ys))
 numbers_after old a b c d xs ys =
@@ -36,15 +36,15 @@ texts_after old path xs ys =
     ∙ append_assoc old path (x ++ y)
     ∙ ap (λ t. old ++ (path ++ t)) (sym (flat_map-append (λ p. p) xs ys))
 
-pub one_more : (old a b c d e : ReplyValue) (s : StatementValue) (result : Result ReplyValue AllocError) →
-    a ≡ after_number old (as_number s.restat) → b ≡ after_number a (length s.implicit_outputs) → c ≡ after_number b (length s.implicit_inputs) →
-    d ≡ after_paths c (s.output ∷ []) → e ≡ after_paths d s.implicit_outputs →
+pub one_more : (old d e : ReplyValue) (numbers : List ℕ) (s : StatementValue) (result : Result ReplyValue AllocError) →
+    numbers ≡ ((old.numbers ++ as_number s.restat ∷ []) ++ length s.implicit_outputs ∷ []) ++ length s.implicit_inputs ∷ [] →
+    d ≡ after_paths (record { status = old.status; numbers = numbers; text = old.text }) (s.output ∷ []) → e ≡ after_paths d s.implicit_outputs →
     IfOk result (λ r. r ≡ after_paths e s.implicit_inputs) → IfOk result (λ r. r ≡ after_statement old s)
-one_more old a b c d e s (Err none) is_a is_b is_c is_d is_e is = tt
-one_more old a b c d e s (Ok r) is_a is_b is_c is_d is_e is =
+one_more old d e numbers s (Err none) is_n is_d is_e is = tt
+one_more old d e numbers s (Ok r) is_n is_d is_e is =
     is
-    ∙ ap (λ q. after_paths q s.implicit_inputs) (is_e ∙ ap (λ q. after_paths q s.implicit_outputs) (is_d ∙ ap (λ q. after_paths q (s.output ∷ []))
-    (is_c ∙ ap (λ q. after_number q (length s.implicit_inputs)) (is_b ∙ ap (λ q. after_number q (length s.implicit_outputs)) is_a))))
+    ∙ ap (λ q. after_paths q s.implicit_inputs) (is_e ∙ ap (λ q. after_paths q s.implicit_outputs) (is_d
+    ∙ ap (λ ns. after_paths (record { status = old.status; numbers = ns; text = old.text }) (s.output ∷ [])) is_n))
     ∙ ap₂ (λ ns t. record { status = old.status; numbers = ns; text = t })
     (numbers_after old.numbers (as_number s.restat) (length s.implicit_outputs) (length s.implicit_inputs) (length s.output) (map length s.implicit_outputs) (map length s.implicit_inputs)
     ∙ ap (λ ns. old.numbers ++ (as_number s.restat ∷ length s.implicit_outputs ∷ length s.implicit_inputs ∷ length s.output ∷ ns)) (sym (map-append length s.implicit_outputs s.implicit_inputs)))

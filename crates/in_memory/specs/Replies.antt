@@ -41,7 +41,7 @@ answer_reply answer =
       text = answer.out.items ++ answer.err.items ++ flat_map file_text files;
     }
 
--- a command that comes to one of these outcomes has this reply
+-- a command with one of these outcomes has this reply
 abbrev pub Replies : (commands.Outcome OutputValue → Type 0) → ReplyValue → Type 0
 Replies IsOutcome reply =
     (answer : Answer) × Answers IsOutcome (Ok answer) × (reply ≡ answer_reply answer)
@@ -77,7 +77,7 @@ abbrev pub without : ℕ → Outcome
 without number = record { status = number; written = 0; numbers = 0; text = 0 }
 
 -- What a call does. If what was passed is a call, it puts one of these replies, or memory ran out,
--- and nothing was written. If it is none, nothing was written either.
+-- and nothing was written. If it is not a call, nothing was written either.
 pub data Puts (IsCall : Type 0) (IsReply : ReplyValue → Type 0) (old_numbers : Numbers)
     (old_text : Bytes) (new_numbers : Numbers) (new_text : Bytes) (outcome : Outcome) : Type 0 where
   replies : IsCall → (reply : ReplyValue) → IsReply reply →

@@ -14,12 +14,12 @@ use Rattle.commands.specs.ProjectCommand.{HasProject}
 use Rattle.commands.specs.declared.answer.Answer.{Answer}
 use Rattle.in_memory.specs.Given.{GivenFile, IsCallOf}
 
--- what a run returns that has come to one of these outcomes, unless memory runs out
+-- what a run with one of these outcomes returns, unless memory runs out
 abbrev pub Answers : (Outcome OutputValue → Type 0) → Result Answer AllocError → Type 0
 Answers IsOutcome result =
     (outcome : Outcome OutputValue) × IsOutcome outcome × IsAnswered outcome result
 
--- what a run comes to over these files: each of its calls gets what they have
+-- the outcome of a run over these files: each of its calls gets what they have
 abbrev pub Over : List GivenFile → Part OutputValue → Outcome OutputValue → Type 0
 Over files Run outcome =
     (calls : List FileCall) × All (IsCallOf files) calls × Run calls outcome

@@ -10,14 +10,6 @@ use Rattle.dyndep_file.specs.declared.fault.ReadFault.{ReadFault}
 use Rattle.dyndep_file.specs.declared.fault.ReadFault.TheVariants.{AtLine, Io}
 use Rattle.in_memory.specs.Replies.{ReplyValue, as_number}
 
--- a reply with this number after its numbers
-abbrev pub after_number : ReplyValue → ℕ → ReplyValue
-after_number reply number = record {
-  status = reply.status;
-  numbers = reply.numbers ++ number ∷ [];
-  text = reply.text;
-}
-
 -- a reply with the lengths of these paths after its numbers, and the paths after its text
 abbrev pub after_paths : ReplyValue → List PathText → ReplyValue
 after_paths reply paths = record {

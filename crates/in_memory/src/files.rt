@@ -1,8 +1,7 @@
 //! A folder of files that are values.
 
 ghost use Rattle.std.specs.Prelude.{◌≡◌, [], All, Some, option_copied};
-ghost use Rattle.commands.specs.Folder.{up_to};
-ghost use Rattle.in_memory.specs.Given.{IsCallOf, IsReadOf, bytes_named, has_bytes};
+ghost use Rattle.in_memory.specs.Given.{IsCallOf, bytes_named};
 ghost use Rattle.in_memory.specs.inner.Facts.{calls-prop};
 
 use crate::file::File;
@@ -47,7 +46,7 @@ impl Folder for Files<'_, '_> {
             self.history = self.history.then(&Call::Unread(name, error));
             return Err(error);
         };
-        let bytes = first_bytes(bytes, most);
+        let bytes = &bytes[..bytes.len().min(most)];
         match Vec::from_slice(self.alloc, bytes) {
             Ok(copy) => {
                 self.history = self.history.then(&Call::Read(name, bytes, most));
@@ -62,7 +61,7 @@ impl Folder for Files<'_, '_> {
     }
 
     fn has(&mut self, name: &str, bytes: &[u8]) -> bool {
-        let same = has_bytes(bytes_named(self.files, name), bytes);
+        let same = bytes_named(self.files, name).is_some_and(|found| found == bytes);
         self.history = self.history.then(&Call::Compared(name, bytes, same));
         same
     }
@@ -84,25 +83,4 @@ fn bytes_named<'a>(files: &[File<'a>], name: &str) -> Option<&'a [u8]>
         }
     }
     None
-}
-
-/// Returns these bytes, or the first `most` of them if there are more.
-fn first_bytes(bytes: &[u8], most: usize) -> &[u8]
-    ensures { IsReadOf (Some bytes.now) (up_to most result.now) }
-{
-    if bytes.len() > most {
-        &bytes[..most]
-    } else {
-        bytes
-    }
-}
-
-/// Returns whether there is a file, and it has exactly these bytes.
-fn has_bytes(found: Option<&[u8]>, bytes: &[u8]) -> bool
-    ensures { result ≡ has_bytes (option_copied found.entry) bytes.now }
-{
-    match found {
-        Some(found) => found == bytes,
-        None => false,
-    }
 }

@@ -1,6 +1,6 @@
 //! The commands, into memory of the caller.
 
-ghost use Rattle.std.specs.Prelude.{[], IsUtf8, IfOk, ⊤};
+ghost use Rattle.std.specs.Prelude.{[], IsUtf8, ⊤};
 ghost use Rattle.commands.specs.CollateCommand.{CollateRun};
 ghost use Rattle.commands.specs.Effect.{EffectRun};
 ghost use Rattle.commands.specs.One.{OneRun};
@@ -127,15 +127,11 @@ fn put_answer(
 ) -> Outcome
     ensures { Puts ⊤ (HasAnswer answer) numbers.old text.old numbers.new text.new result }
 {
-    match answer_reply(alloc, answer) {
+    let Ok(answer) = answer else {
+        return Outcome::without(4);
+    };
+    match Reply::of(alloc, &answer) {
         Ok(reply) => put(&reply, numbers, text),
         Err(AllocError) => Outcome::without(4),
     }
-}
-
-/// Returns the reply of a command that has this answer.
-fn answer_reply(alloc: Global, answer: Result<Answer, AllocError>) -> Result<Reply, AllocError>
-    ensures { IfOk result (HasAnswer answer) }
-{
-    Reply::of(alloc, &answer?)
 }

@@ -1,6 +1,6 @@
 //! What a call reports, and what it writes into memory of its caller.
 
-ghost use Rattle.std.specs.Prelude.{◌≡◌, ◌≤◌, ◌++◌, drop, length};
+ghost use Rattle.std.specs.Prelude.{◌≡◌};
 ghost use Rattle.in_memory.specs.Replies.{IsStored, without};
 
 use crate::reply::Reply;
@@ -40,8 +40,8 @@ pub(crate) fn put(reply: &Reply, numbers: &mut [usize], text: &mut [u8]) -> Outc
 {
     let fits = reply.numbers.len() <= numbers.len() && reply.text.len() <= text.len();
     if fits {
-        copy_into(&reply.numbers, numbers);
-        copy_into(&reply.text, text);
+        numbers[..reply.numbers.len()].copy_from_slice(&reply.numbers);
+        text[..reply.text.len()].copy_from_slice(&reply.text);
     }
     Outcome {
         status: reply.status,
@@ -49,12 +49,4 @@ pub(crate) fn put(reply: &Reply, numbers: &mut [usize], text: &mut [u8]) -> Outc
         numbers: reply.numbers.len(),
         text: reply.text.len(),
     }
-}
-
-/// Copies these elements to the beginning of others.
-fn copy_into<T: Copy>(from: &[T], to: &mut [T])
-    requires { length from.now ≤ length to.old }
-    ensures { to.new ≡ from.now ++ drop (length from.now) to.old }
-{
-    to[..from.len()].copy_from_slice(from);
 }

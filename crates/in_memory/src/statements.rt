@@ -4,7 +4,7 @@ ghost use Rattle.std.specs.Prelude.{◌≡◌, [], ◌∷◌, map, ⊤, IfOk, If
 ghost use Rattle.ninja_text.specs.Failure.{ForFault};
 ghost use Rattle.dyndep_file.specs.Reading.{StandsFor};
 ghost use Rattle.in_memory.specs.Replies.{Puts};
-ghost use Rattle.in_memory.specs.Statements.{IsFaultOf, Tells, after_number, after_paths, after_statement, fault_reply, statements_reply};
+ghost use Rattle.in_memory.specs.Statements.{IsFaultOf, Tells, after_paths, after_statement, fault_reply, statements_reply};
 
 use crate::outcome::{Outcome, put};
 use crate::reply::Reply;
@@ -70,21 +70,13 @@ fn of_statements(alloc: Global, dyndep: &Dyndep) -> Result<Reply, AllocError>
 fn with_statement(parts: Reply, statement: &Statement) -> Result<Reply, AllocError>
     ensures { IfOk result (λ reply. reply ≡ after_statement parts statement.now) }
 {
-    let parts = with_number(parts, usize::from(statement.restat))?;
-    let parts = with_number(parts, statement.implicit_outputs.len())?;
-    let parts = with_number(parts, statement.implicit_inputs.len())?;
+    let mut parts = parts;
+    parts.numbers.push(usize::from(statement.restat))?;
+    parts.numbers.push(statement.implicit_outputs.len())?;
+    parts.numbers.push(statement.implicit_inputs.len())?;
     let parts = with_path(parts, &statement.output)?;
     let parts = with_paths(parts, &statement.implicit_outputs)?;
     with_paths(parts, &statement.implicit_inputs)
-}
-
-/// Returns the reply with this number after its numbers.
-fn with_number(parts: Reply, number: usize) -> Result<Reply, AllocError>
-    ensures { IfOk result (λ reply. reply ≡ after_number parts number) }
-{
-    let mut parts = parts;
-    parts.numbers.push(number)?;
-    Ok(parts)
 }
 
 /// Returns the reply with these paths after it.

@@ -1,8 +1,8 @@
-use Rattle.std.proofs.Common.{rules, ◌≡◌, ◌∙◌, [], ◌∷◌, ap, length, map, subst, sym}
+use Rattle.std.proofs.Common.{rules, ◌≡◌, ◌∙◌, [], ◌∷◌, ◌++◌, ap, ap₂, length, map, subst, sym}
 use Rattle.std.specs.Prelude.{IfOk}
 use Rattle.std.proofs.lemmas.List.{length-map}
-use Rattle.in_memory.specs.Replies.{as_number}
-use Rattle.in_memory.specs.Statements.{after_number, after_paths}
+use Rattle.in_memory.specs.Replies.{ReplyValue, as_number}
+use Rattle.in_memory.specs.Statements.{after_paths}
 use Rattle.in_memory.proofs.StatementLists.{one_more}
 use Rattle.in_memory.proofs.statements.with_statement.Goals as goal
 
@@ -19,10 +19,10 @@ returns c =
     output_count ∙ sym (length-map c.deref-2.result.now (λ p. p.items)) ∙ ap length output_paths in
     let inputs : c.len-2.result ≡ length s.implicit_inputs =
     input_count ∙ sym (length-map c.deref-3.result.now (λ p. p.items)) ∙ ap length input_paths in
-    one_more c.args.parts c.in_ok-parts.parts c.in_ok-parts-2.parts c.in_ok-parts-3.parts c.in_ok-parts-4.parts c.in_ok-parts-5.parts s c.with_paths-2.result
-    (c.in_ok-parts.ensures ∙ ap (after_number c.args.parts) restat)
-    (c.in_ok-parts-2.ensures ∙ ap (after_number c.in_ok-parts.parts) outputs)
-    (c.in_ok-parts-3.ensures ∙ ap (after_number c.in_ok-parts-2.parts) inputs)
-    (c.in_ok-parts-4.ensures ∙ ap (λ p. after_paths c.in_ok-parts-3.parts (p ∷ [])) output)
-    (c.in_ok-parts-5.ensures ∙ ap (after_paths c.in_ok-parts-4.parts) output_paths)
-    (subst (λ ps. IfOk c.with_paths-2.result (λ r. r ≡ after_paths c.in_ok-parts-5.parts ps)) input_paths c.with_paths-2.ensures)
+    let numbers : c.parts.inside.numbers.items ≡ c.args.parts.numbers = ap (λ (p : ReplyValue). p.numbers) c.parts.view_is in
+    one_more c.args.parts c.in_ok-parts.parts c.in_ok-parts-2.parts c.push-3.new.self.items s c.with_paths-2.result
+    (c.in_ok-push-3.ensures.items ∙ ap (λ ns. ns ++ c.len-2.result ∷ []) (c.in_ok-push-2.ensures.items ∙ ap (λ ns. ns ++ c.len.result ∷ []) (c.in_ok-push.ensures.items ∙ ap₂ (λ ns n. ns ++ n ∷ []) numbers restat))
+    ∙ ap₂ (λ n m. ((c.args.parts.numbers ++ as_number s.restat ∷ []) ++ n ∷ []) ++ m ∷ []) outputs inputs)
+    (c.in_ok-parts.ensures ∙ ap₂ (λ (p : ReplyValue) o. after_paths (record { status = p.status; numbers = c.push-3.new.self.items; text = p.text }) (o ∷ [])) c.parts.view_is output)
+    (c.in_ok-parts-2.ensures ∙ ap (after_paths c.in_ok-parts.parts) output_paths)
+    (subst (λ ps. IfOk c.with_paths-2.result (λ r. r ≡ after_paths c.in_ok-parts-2.parts ps)) input_paths c.with_paths-2.ensures)
