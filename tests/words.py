@@ -52,14 +52,10 @@ TURNS = [
 ]
 # The turns that comments of the sources are checked for, from the first on: they call a `Folder` a folder.
 CHECKED_IN_COMMENTS = len(TURNS) - 1
-# What is written all the same: subjects of commits, and pieces of comments.
+# What is written all the same: subjects of commits.
 EXCEPTIONS = [
     "tests: a run needs no random bytes but for names of new files", "FORMATS: fewer words once more",
     "module_table: loops stand in the functions that need their lists",
-    # ninja_text
-    "if a word goes on, a piece follows", "the directory is a proper beginning", "A word goes on if a piece follows",
-    "behind which no piece follows", "wherever the units stand", "one more component behind it", "a piece goes on if one follows",
-    "What stands behind a gap", "and goes on if a piece follows", "and else the first fault", "and goes on in a piece",
 ]
 # The commit after which subjects are checked.
 CHECKED_SINCE = "dfbbbcd"

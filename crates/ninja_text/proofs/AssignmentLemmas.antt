@@ -14,7 +14,7 @@ use Rattle.ninja_text.proofs.TokenLemmas.{tokens_with, byte_is}
 any_later : (test : LineUnit → Bool) (u : LineUnit) (us : List LineUnit) → list_any test us ≡ true → list_any test (u ∷ us) ≡ true
 any_later test u us h = elim (cases_Bool (test u)) [ inl t ↦ rw t refl | inr f ↦ rw f h ]
 
--- if a word goes on, a piece follows
+-- if a word continues, a piece follows
 goes_on_piece : (us : List LineUnit) → goes_on us ≡ true → list_any is_piece us ≡ true
 goes_on_piece [] h = absurd (let x : false ≡ true = h in cc)
 goes_on_piece (Continuation len ∷ us) h = any_later is_piece (Continuation len) us (goes_on_piece us h)

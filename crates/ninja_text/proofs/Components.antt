@@ -109,7 +109,7 @@ components-some r = go (components r) refl
     go [] h = absurd (never r h)
     go (p ∷ ps) h = (p, ps, h)
 
--- the text begins with the directory and a slash if and only if the directory is a proper beginning
+-- the text begins with the directory and a slash if and only if the directory is a proper prefix
 pub below-text : (d : List ℕ) (ds : List (List ℕ)) (cs : List (List ℕ)) (r : List ℕ) → EachLacksSlash (d ∷ ds) → EachLacksSlash cs → (c : List ℕ) × (l : List (List ℕ)) × (cs ≡ c ∷ l) → list_text cs ≡ list_text (d ∷ ds) ++ 47 ∷ r → below (d ∷ ds) cs ≡ Some (components r)
 below-text d ds cs r each lacks some e =
     let k : cs ≡ (d ∷ ds) ++ components r =

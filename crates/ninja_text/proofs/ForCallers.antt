@@ -36,9 +36,9 @@ pub use Rattle.ninja_text.proofs.SpelledPaths.{path_unit, path_units, path_text,
 pub use Rattle.ninja_text.proofs.SpelledPaths.{has_spelling}
 -- What is read of an escaped path is the path.
 pub use Rattle.ninja_text.proofs.SpelledPaths.{value_of_escaped}
--- A word goes on if a piece follows; pieces behind which no piece follows are one word.
+-- A word continues if a piece follows; pieces after which no piece follows are one word.
 pub use Rattle.ninja_text.proofs.SpelledTokens.{goes_on_piece, word_and, word_token}
--- Units yield tokens, seen by their kinds and bytes, if those are their tokens wherever the units stand.
+-- Units yield tokens, seen by their kinds and bytes, if those are their tokens wherever the units are.
 pub use Rattle.ninja_text.proofs.SpelledTokens.{viewed, Yields}
 -- What no units yield, and what a space, a `:`, a `|` and a path yield in front of others.
 pub use Rattle.ninja_text.proofs.SpelledTokens.{no_units, space_yields, colon_yields, bar_yields, path_yields}

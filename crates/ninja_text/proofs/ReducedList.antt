@@ -303,7 +303,7 @@ behind-pair xs init last c e h k =
     fixed-front (a ∷ []) (b ∷ rest) f = f.0
     fixed-front (a ∷ b ∷ init) rest f = (f.0, f.1, fixed-front (b ∷ init) rest f.2)
 
--- no step applies to a list with one more component behind it, if that one stays
+-- no step applies to a list with a component added at its end, if that component stays
 fixed-snoc : (init : List (List ℕ)) (last c : List ℕ) → IsFixed (init ++ last ∷ []) → is_current c ≡ false → (is_named_component last && is_parent c) ≡ false → IsFixed (init ++ last ∷ c ∷ [])
 fixed-snoc [] last c f h k = (f, k, h)
 fixed-snoc (a ∷ []) last c f h k = (f.0, f.1, (f.2, k, h))

@@ -29,7 +29,7 @@ piece_no_bar (Continuation len) h = refl
 piece_no_bar (Escape b) h = refl
 piece_no_bar (Byte b) h = (or_parts _ (b == 124) (not-true _ h)).1
 
--- a piece goes on if one follows, and ends its word if none does
+-- a piece continues if another follows, and ends its word if none does
 pub piece_alone : (n : ℕ) (u : LineUnit) (vs : List LineUnit) → is_piece u ≡ true → goes_on vs ≡ false
     → tokens_from n (u ∷ vs) ≡ record { kind = Word; start = n; end = n + unit_len u } ∷ tokens_from (n + unit_len u) vs
 piece_alone n u vs p g = tokens_with n u vs (piece_no_bar u p) ∙ rw (p, g) refl

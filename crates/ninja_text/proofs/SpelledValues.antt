@@ -24,7 +24,7 @@ same_piece (d ∷ b ∷ []) (g ∷ c ∷ []) v w x y h k e = let t = tail-of d g
 same_piece (d ∷ b ∷ []) (g ∷ c ∷ f ∷ more) v w x y h k e = absurd k
 same_piece (d ∷ b ∷ f ∷ more) q v w x y h k e = absurd h
 
--- What stands behind a gap: no continuation, and no space if there is one.
+-- What comes after a gap: no continuation, and no space if there is a gap.
 record Behind (parts : List (List ℕ)) (text : List ℕ) : Type 0 where
   no_continuation : (rest : List ℕ) (n : ℕ) → is_escaped n ≡ false → text ≡ 36 ∷ n ∷ rest → ⊥
   no_space : (part : List ℕ) (more : List (List ℕ)) → parts ≡ part ∷ more → (rest : List ℕ) → text ≡ 32 ∷ rest → ⊥

@@ -63,7 +63,7 @@ module _ (text : List ℕ) (s : ℕ) where
       let same : b.0 ≡ u = cc in
       (u, units (drop (s + unit_len u) text), e, piece_else u (ap is_blank (sym same) ∙ b.3) colon bar)
 
--- the word from start that ends here so far, and goes on if a piece follows
+-- the word from start that ends here so far, and continues if a piece follows
 abbrev pub word_so_far : List ℕ → ℕ → ℕ → ℕ → List TokenAt
 word_so_far text start end index = if goes_on (units (drop index text)) then with_first_start start (tokens_at text index) else (record { kind = Word; start = start; end = end } ∷ tokens_at text index)
 

@@ -15,7 +15,7 @@ seen_token token =
 abbrev pub tokens_left : Words → List SeenToken
 tokens_left words = map (with_raw words.text.now) (tokens_at words.text.now words.index)
 
--- all tokens of the line, if it has no lexical fault, and else the first fault
+-- all tokens of the line if it has no lexical fault, and otherwise the first fault
 abbrev pub IsWords : LogicalLine → Result Words LexFault → Type 0
 IsWords line (Ok words) =
     (lexical_fault line.text ≡ None) × (tokens_left words ≡ seen_tokens line.text)

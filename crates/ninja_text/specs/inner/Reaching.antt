@@ -9,7 +9,7 @@ use Rattle.ninja_text.specs.declared.cutter.Phase.TheVariants.{Gathering, Waitin
 abbrev pub IsGoing : Phase → Type 0
 IsGoing phase = (waits_in phase ≡ false) × (failed_in phase ≡ false)
 
--- the end of the line that is in the buffer and goes on in a piece, if it is within the limit
+-- the end of the line that begins in the buffer and continues in a piece, if it is within the limit
 abbrev pub end_within : List ℕ → List ℕ → Option LineEnd
 end_within bytes piece = line_end (take line_limit (bytes ++ piece))
 

@@ -5,7 +5,7 @@ use Rattle.ninja_text.specs.Tokens.{tokens_at, goes_on, with_first_start}
 use Rattle.ninja_text.specs.declared.token.TokenKind.TheVariants.{Word}
 use Rattle.ninja_text.proofs.lexing.word_end.Given as goal
 
--- the word ends here so far, and goes on if a piece follows
+-- the word ends here so far, and continues if a piece follows
 abbrev pub invariant-loop-index : goal.invariant-loop-index
 invariant-loop-index l = record {
   within : l.index ≤ length l.text;
