@@ -1,12 +1,12 @@
 //! The command `effect`: a listing after the effect of a dyndep file.
 
 ghost use Rattle.std.specs.Prelude.{[]};
-ghost use Rattle.commands.specs.Effect.{PrintsListing, EffectOfRead, EffectRun};
+ghost use Rattle.commands.specs.Effect.{EffectOfRead, EffectRun};
 
 use crate::dyndep_text::{DyndepRead, dyndep_of, statements_of};
 use crate::listing::{ListingRead, graph_of, listing_of};
 use crate::stop::{self, Output, Stop};
-use build_effect::{Graph, apply};
+use build_effect::apply;
 use ninja_text::Path;
 use std::alloc::Global;
 
@@ -36,15 +36,8 @@ pub(crate) fn effect_read(
     let old = graph_of(alloc, listing)?;
     let dyndep = statements_of(alloc, dyndep)?;
     let new = apply(alloc, &old, &name, &dyndep).map_err(|f| stop::of_effect(alloc, f))?;
-    print_listing(alloc, &new)
-}
-
-/// Prints the listing of a graph.
-fn print_listing(alloc: Global, graph: &Graph) -> Result<Output, Stop>
-    ensures { PrintsListing graph.now [] result }
-{
-    match graph.to_text(alloc) {
+    match new.to_text(alloc) {
         Ok(text) => Ok(Output::text(alloc, text)),
-        Err(failure) => Err(stop::of_listing_write(alloc, graph, failure)),
+        Err(failure) => Err(stop::of_listing_write(alloc, &new, failure)),
     }
 }

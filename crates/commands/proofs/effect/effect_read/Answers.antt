@@ -1,8 +1,23 @@
-use Rattle.std.proofs.Common.{rules, []}
-use Rattle.commands.specs.EdgeFaults.{name_fault_text, effect_text}
+use Rattle.std.proofs.Common.{rules, ◌≡◌, ℕ, [], Result, Ok, Err, refl}
+use Rattle.std.specs.Prelude.{Vec}
+use Rattle.std.specs.Global.{Global}
+use Rattle.ninja_text.specs.Bytes.{Text}
+use Rattle.ninja_text.specs.Failure.{ForFault, Gives}
+use Rattle.ninja_text.specs.declared.failure.Failure.{Failure}
+use Rattle.ninja_text.specs.declared.failure.Failure.TheVariants.{Memory, Fault}
+use Rattle.build_effect.specs.ListingWriting.{listing_text_or_fault}
+use Rattle.build_effect.specs.declared.fault.ListingWriteFault.{ListingWriteFault}
+use Rattle.commands.specs.EdgeFaults.{name_fault_text, effect_text, listing_write_text}
 use Rattle.commands.specs.Effect.{NameOf, EffectOf}
-use Rattle.commands.proofs.Outcomes.{given, next, last, passed}
+use Rattle.commands.specs.Outcomes.{goes_on, stops}
+use Rattle.commands.proofs.Outcomes.{given, fault_reported, next, last, passed}
 use Rattle.commands.proofs.effect.effect_read.Goals as goal
+
+-- the fault that is there
+its_fault : {T : Type 0} (view : T → Text) (failure : Failure ListingWriteFault) (meaning : Result Text ListingWriteFault) →
+    Gives view (Err failure) meaning → ForFault (λ fault. meaning ≡ Err fault) failure
+its_fault view Memory meaning h = tt
+its_fault view (Fault fault) meaning h = h
 
 pub returns-in_err-name : goal.returns-in_err-name
 returns-in_err-name c =
@@ -31,11 +46,27 @@ returns-in_err-new c =
     next named c.in_ok-name.was (next c.graph_of.ensures c.in_ok-old.was (next c.statements_of.ensures c.in_ok-dyndep.was
     (last effect c.in_err-new.was (passed c.from_residual-in_err-new.ensures))))
 
+pub returns-in-Ok : goal.returns-in-Ok
+returns-in-Ok c =
+    let named : NameOf c.args.name.now [] c.map_err.result =
+    given _ _ name_fault_text _ c.of.result c.map_err.result (λ failure stop h. search rules) (search rules) (search rules) c.map_err.ensures.cases in
+    let effect : EffectOf c.in_ok-old.old c.in_ok-name.name c.in_ok-dyndep.dyndep [] c.map_err-2.result =
+    given _ _ effect_text _ c.apply.result c.map_err-2.result (λ failure stop h. search rules) (search rules) (search rules) c.map_err-2.ensures.cases in
+    next named c.in_ok-name.was (next c.graph_of.ensures c.in_ok-old.was (next c.statements_of.ensures c.in_ok-dyndep.was
+    (next effect c.in_ok-new.was
+    (goes_on c.in-Ok.text.items [] [] refl (refl, c.in-Ok.ensures) (refl, c.text.ensures)))))
+
 pub returns : goal.returns
 returns c =
     let named : NameOf c.args.name.now [] c.map_err.result =
     given _ _ name_fault_text _ c.of.result c.map_err.result (λ failure stop h. search rules) (search rules) (search rules) c.map_err.ensures.cases in
     let effect : EffectOf c.in_ok-old.old c.in_ok-name.name c.in_ok-dyndep.dyndep [] c.map_err-2.result =
     given _ _ effect_text _ c.apply.result c.map_err-2.result (λ failure stop h. search rules) (search rules) (search rules) c.map_err-2.ensures.cases in
+    let stop = c.of_listing_write.result in
+    let graph = c.in_ok-new.new in
     next named c.in_ok-name.was (next c.graph_of.ensures c.in_ok-old.was (next c.statements_of.ensures c.in_ok-dyndep.was
-    (next effect c.in_ok-new.was c.print_listing.ensures)))
+    (next effect c.in_ok-new.was
+    (stops stop
+    (fault_reported (λ text. listing_text_or_fault graph ≡ Ok text) (λ fault. listing_text_or_fault graph ≡ Err fault) (listing_write_text graph) c.in-Err.failure stop
+    (its_fault (λ (text : Vec ℕ Global). text.items) c.in-Err.failure (listing_text_or_fault graph) c.in-Err.ensures) c.of_listing_write.ensures)
+    refl))))
