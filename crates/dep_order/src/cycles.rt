@@ -2,12 +2,12 @@
 //! levels, then its nodes one by one.
 ghost use Rattle.std.specs.Prelude.{◌<◌, ◌≤◌, All, IfOk, length, Some};
 ghost use Rattle.dep_order.specs.Numbers.{Numbers};
-ghost use Rattle.dep_order.specs.Needs.{NodeNeeds, NeedsAreNodes, needs_of};
+ghost use Rattle.dep_order.specs.Needs.{NodeNeeds, NeedsAreNodes};
 ghost use Rattle.dep_order.specs.Cycles.{IsCycle, IsLeastCycle, first_of};
 ghost use Rattle.dep_order.specs.inner.Users.{AreUsers};
 ghost use Rattle.dep_order.specs.Rows.{lists};
-ghost use Rattle.dep_order.specs.inner.Steps.{AreSteps, IsFewest, IsLeastAt, LeadsBack, SomeIsAway};
-ghost use Rattle.dep_order.specs.inner.CyclesFrom.{HasCycle, IsLeastFrom, IsLeastFromIfAny};
+ghost use Rattle.dep_order.specs.inner.Steps.{IsFewest, IsLeastAt, SomeIsAway};
+ghost use Rattle.dep_order.specs.inner.CyclesFrom.{HasCycle, IsLeastFromIfAny};
 
 use crate::components::{components_of, shares_component};
 use crate::levels::steps_from;
@@ -73,14 +73,18 @@ fn cycle_through(
     requires first { first < length needs.now }
     ensures { IfOk result (IsLeastFromIfAny (NodeNeeds (lists needs.now)) first) }
 {
-    let steps = steps_from(alloc, users, first)?;
-    match fewest(row_of(needs, first), steps.as_slice()) {
-        None => Ok(None),
-        Some(count) => {
-            let cycle = cycle_from(alloc, needs, steps.as_slice(), first, count)?;
-            Ok(Some(cycle))
-        }
+    let distances = steps_from(alloc, users, first)?;
+    let steps = distances.as_slice();
+    let Some(count) = fewest(row_of(needs, first), steps) else {
+        return Ok(None);
+    };
+    let mut cycle = vec![in alloc; first]?;
+    let mut node = first;
+    for chosen in 0..count {
+        node = least_at(row_of(needs, node), steps, count - chosen);
+        cycle.push(node)?;
     }
+    Ok(Some(cycle))
 }
 
 /// Returns the smallest distance of a node of the row.
@@ -89,34 +93,6 @@ fn fewest(row: &[usize], steps: &[Option<usize>]) -> Option<usize>
     ensures { IsFewest row.now steps.now result }
 {
     row.iter().filter_map(|node| steps[*node]).min()
-}
-
-/// Returns the least of the shortest cycles that begin with this node. `count` is the distance of its
-/// second node.
-fn cycle_from(
-    alloc: Global,
-    needs: &[&[usize]],
-    steps: &[Option<usize>],
-    first: usize,
-    count: usize,
-) -> Result<Vec<usize>, AllocError>
-    requires nodes { NeedsAreNodes (lists needs.now) }
-    requires first { first < length needs.now }
-    requires steps { AreSteps
-        (length needs.now)
-        (LeadsBack (NodeNeeds (lists needs.now)))
-        first
-        steps.now }
-    requires fewest { IsFewest (needs_of (lists needs.now) first) steps.now (Some count) }
-    ensures { IfOk result (λ cycle. IsLeastFrom (NodeNeeds (lists needs.now)) first cycle.items) }
-{
-    let mut cycle = vec![in alloc; first]?;
-    let mut node = first;
-    for chosen in 0..count {
-        node = least_at(row_of(needs, node), steps, count - chosen);
-        cycle.push(node)?;
-    }
-    Ok(cycle)
 }
 
 /// Returns the least node of the row at this distance. There has to be one.

@@ -1,8 +1,8 @@
 //! Breadth-first search: the distances from a node.
-ghost use Rattle.std.specs.Prelude.{◌≡◌, ◌<◌, All, IfOk, length};
+ghost use Rattle.std.specs.Prelude.{◌<◌, IfOk, length};
 ghost use Rattle.dep_order.specs.Needs.{NodeNeeds, NeedsAreNodes};
 ghost use Rattle.dep_order.specs.Rows.{lists};
-ghost use Rattle.dep_order.specs.inner.Steps.{AreSteps, AreAdvanced};
+ghost use Rattle.dep_order.specs.inner.Steps.{AreSteps};
 
 use crate::marking::mark_row;
 use crate::rows::row_of;
@@ -25,34 +25,12 @@ pub fn steps_from(
     let mut count = 0;
     'levels: while !frontier.is_empty() {
         count += 1;
-        frontier = advance(alloc, slices, frontier.as_slice(), count, &mut steps)?;
+        // The nodes to which the frontier leads and which had no distance.
+        let mut next = Vec::new(alloc);
+        for node in &frontier {
+            mark_row(row_of(slices, *node), count, &mut steps, &mut next)?;
+        }
+        frontier = next;
     }
     Ok(steps)
-}
-
-/// Returns the nodes to which the frontier leads and which had no distance. Their distance is `count`.
-fn advance(
-    alloc: Global,
-    slices: &[&[usize]],
-    frontier: &[usize],
-    count: usize,
-    steps: &mut Vec<Option<usize>>,
-) -> Result<Vec<usize>, AllocError>
-    requires nodes { NeedsAreNodes (lists slices.now) }
-    requires frontier { All (λ node. node < length slices.now) frontier.now }
-    requires as_many { length steps.old.items ≡ length slices.now }
-    ensures { IfOk result
-        (λ next. AreAdvanced
-        (lists slices.now)
-        frontier.now
-        count
-        steps.old.items
-        steps.new.items
-        next.items) }
-{
-    let mut next = Vec::new(alloc);
-    for node in frontier {
-        mark_row(row_of(slices, *node), count, steps, &mut next)?;
-    }
-    Ok(next)
 }

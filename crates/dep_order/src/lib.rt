@@ -19,7 +19,7 @@
 //!   its end on each root takes the nodes that lead to it. The least node that needs a node of its
 //!   own component is the least node on any cycle.
 //! - `steps_from` finds the distance of each node from that node by a breadth-first search along
-//!   users. `cycle_from` then takes the least node that is one step nearer, at each step.
+//!   users. `cycle_through` then takes the least node that is one step nearer, at each step.
 //! - `Reaching` keeps the nodes that it finds in a sparse set, so that nothing has to be cleared
 //!   between two searches.
 //!

@@ -1,40 +1,91 @@
-use Rattle.std.proofs.Common.{arith, ◌≡◌, ◌<◌, ap, sym, ◌∙◌, subst, length, Some, None}
-use Rattle.std.specs.Prelude.{All}
+use Rattle.std.proofs.Common.{arith, ◌≡◌, ◌<◌, ◌+◌, ◌-◌, ℕ, List, Option, sym, ◌∙◌, subst, length, Some, None}
+use Rattle.std.specs.List.{All}
+use Rattle.std.proofs.lemmas.List.Elements.{All-contains}
 use Rattle.dep_order.specs.Rows.{lists}
 use Rattle.dep_order.specs.Needs.{NodeNeeds, needs_of}
-use Rattle.dep_order.specs.inner.Steps.{AreSteps, LeadsBack, IsFewest}
+use Rattle.dep_order.specs.inner.Steps.{AreSteps, LeadsBack, IsFewest, IsLeastAt, SomeIsAway}
 use Rattle.dep_order.proofs.UserCounts.{length_lists}
 use Rattle.dep_order.proofs.Answered.{row_nodes, users_are_nodes, steps_back, no_way_back}
+use Rattle.dep_order.proofs.Greedy.{IsChosen, first_chosen, next_chosen, all_chosen}
 use Rattle.dep_order.proofs.cycles.cycle_through.Goals as goal
 
 pub steps_from-requires-clause-nodes : goal.steps_from-requires-clause-nodes
 steps_from-requires-clause-nodes c = users_are_nodes (lists c.args.needs.now) (lists c.args.users.now) c.requires.users c.requires.nodes
 
--- the nodes of the row have steps
 pub fewest-requires : goal.fewest-requires
 fewest-requires c =
-    let steps : AreSteps (length c.args.users.now) (NodeNeeds (lists c.args.users.now)) c.args.first c.in_ok-steps.steps.items = c.in_ok-steps.ensures in
-    let many : length c.as_slice.result.now ≡ length (lists c.args.needs.now) = ap length c.as_slice.ensures.value ∙ steps.as_many ∙ sym (length_lists c.args.users.now) ∙ c.requires.users.each in
-    subst (All (λ node. node < length c.as_slice.result.now)) (sym c.row_of.ensures)
-    (row_nodes (lists c.args.needs.now) c.args.first (length c.as_slice.result.now) many (omega (arith, c.requires.first, length_lists c.args.needs.now)) c.requires.nodes)
+    let graph = lists c.args.needs.now in
+    let steps : List (Option ℕ) = c.as_slice-steps.result.now in
+    let found : AreSteps (length c.args.users.now) (NodeNeeds (lists c.args.users.now)) c.args.first steps = subst (AreSteps (length c.args.users.now) (NodeNeeds (lists c.args.users.now)) c.args.first) (sym c.as_slice-steps.ensures.value) c.in_ok-distances.ensures in
+    let many : length c.args.users.now ≡ length graph = sym (length_lists c.args.users.now) ∙ c.requires.users.each in
+    subst (All (λ node. node < length steps)) (sym c.row_of.ensures)
+    (row_nodes graph c.args.first (length steps) (found.as_many ∙ many) (omega (arith, c.requires.first, length_lists c.args.needs.now)) c.requires.nodes)
 
-pub returns-in-None : goal.returns-in-None
-returns-in-None c =
-    let s : AreSteps (length c.args.users.now) (LeadsBack (NodeNeeds (lists c.args.needs.now))) c.args.first c.in_ok-steps.steps.items = steps_back (lists c.args.needs.now) (lists c.args.users.now) (length c.args.users.now) c.args.first c.in_ok-steps.steps.items c.requires.users c.in_ok-steps.ensures in
-    let f : IsFewest (needs_of (lists c.args.needs.now) c.args.first) c.in_ok-steps.steps.items None = subst (λ row. IsFewest row c.in_ok-steps.steps.items None) c.row_of.ensures (subst (λ xs. IsFewest c.row_of.result.now xs None) c.as_slice.ensures.value c.in-None.ensures) in
-    no_way_back (length c.args.users.now) (lists c.args.needs.now) c.args.first c.in_ok-steps.steps.items s f
+pub returns-in_default : goal.returns-in_default
+returns-in_default c =
+    let graph = lists c.args.needs.now in
+    let steps : List (Option ℕ) = c.as_slice-steps.result.now in
+    let is : AreSteps (length c.args.users.now) (NodeNeeds (lists c.args.users.now)) c.args.first steps = subst (AreSteps (length c.args.users.now) (NodeNeeds (lists c.args.users.now)) c.args.first) (sym c.as_slice-steps.ensures.value) c.in_ok-distances.ensures in
+    let s : AreSteps (length c.args.users.now) (LeadsBack (NodeNeeds graph)) c.args.first steps = steps_back graph (lists c.args.users.now) (length c.args.users.now) c.args.first steps c.requires.users is in
+    no_way_back (length c.args.users.now) graph c.args.first steps s (subst (λ row. IsFewest row steps None) c.row_of.ensures c.in_default.ensures)
 
-pub cycle_from-requires-clause-steps : goal.cycle_from-requires-clause-steps
-cycle_from-requires-clause-steps c =
-    let many : length c.args.users.now ≡ length c.args.needs.now = omega (arith, c.requires.users.each, length_lists c.args.users.now, length_lists c.args.needs.now) in
-    subst (λ xs. AreSteps (length c.args.needs.now) (LeadsBack (NodeNeeds (lists c.args.needs.now))) c.args.first xs) (sym c.as_slice-in-Some.ensures.value)
-    (subst (λ n. AreSteps n (LeadsBack (NodeNeeds (lists c.args.needs.now))) c.args.first c.in_ok-steps.steps.items) many
-    (steps_back (lists c.args.needs.now) (lists c.args.users.now) (length c.args.users.now) c.args.first c.in_ok-steps.steps.items c.requires.users c.in_ok-steps.ensures))
+pub loop-chosen-init : goal.loop-chosen-init
+loop-chosen-init c =
+    let graph = lists c.args.needs.now in
+    let steps : List (Option ℕ) = c.as_slice-steps.result.now in
+    let some : IsFewest (needs_of graph c.args.first) steps (Some c.in-Some.count) = subst (λ row. IsFewest row steps (Some c.in-Some.count)) c.row_of.ensures c.in-Some.ensures in
+    record {
+      fewest = some;
+      chosen = first_chosen graph c.args.first c.in-Some.count steps c.in_ok-cycle.cycle.items c.in_ok-cycle.ensures.items (omega (arith, c.requires.first, length_lists c.args.needs.now)) some;
+    }
 
-pub cycle_from-requires-clause-fewest : goal.cycle_from-requires-clause-fewest
-cycle_from-requires-clause-fewest c =
-    subst (λ xs. IsFewest (needs_of (lists c.args.needs.now) c.args.first) xs (Some c.in-Some.count)) (c.as_slice.ensures.value ∙ sym c.as_slice-in-Some.ensures.value)
-    (subst (λ row. IsFewest row c.as_slice.result.now (Some c.in-Some.count)) c.row_of.ensures c.in-Some.ensures)
+pub least_at-node-requires-clause-nodes : goal.least_at-node-requires-clause-nodes
+least_at-node-requires-clause-nodes c =
+    let graph = lists c.args.needs.now in
+    let steps : List (Option ℕ) = c.as_slice-steps.result.now in
+    let found : AreSteps (length c.args.users.now) (NodeNeeds (lists c.args.users.now)) c.args.first steps = subst (AreSteps (length c.args.users.now) (NodeNeeds (lists c.args.users.now)) c.args.first) (sym c.as_slice-steps.ensures.value) c.in_ok-distances.ensures in
+    let many : length c.args.users.now ≡ length graph = sym (length_lists c.args.users.now) ∙ c.requires.users.each in
+    subst (All (λ needed. needed < length steps)) (sym c.row_of-in-loop-chosen.ensures)
+    (row_nodes graph c.loop-chosen.node (length steps) (found.as_many ∙ many) c.loop-chosen.invariant.chosen.node_in c.requires.nodes)
+
+pub least_at-node-requires-clause-some : goal.least_at-node-requires-clause-some
+least_at-node-requires-clause-some c =
+    subst (λ row. SomeIsAway row c.as_slice-steps.result.now (c.in-Some.count - c.loop-chosen.chosen)) (sym c.row_of-in-loop-chosen.ensures) c.loop-chosen.invariant.chosen.ahead.0
+
+pub loop-chosen-preserved : goal.loop-chosen-preserved
+loop-chosen-preserved c =
+    let graph = lists c.args.needs.now in
+    let count = c.in-Some.count in
+    let next : ℕ = c.least_at-node.result in
+    let steps : List (Option ℕ) = c.as_slice-steps.result.now in
+    let found : AreSteps (length c.args.users.now) (NodeNeeds (lists c.args.users.now)) c.args.first steps = subst (AreSteps (length c.args.users.now) (NodeNeeds (lists c.args.users.now)) c.args.first) (sym c.as_slice-steps.ensures.value) c.in_ok-distances.ensures in
+    let many : length c.args.users.now ≡ length graph = sym (length_lists c.args.users.now) ∙ c.requires.users.each in
+    let s : AreSteps (length graph) (LeadsBack (NodeNeeds graph)) c.args.first steps = subst (λ n. AreSteps n (LeadsBack (NodeNeeds graph)) c.args.first steps) many
+    (steps_back graph (lists c.args.users.now) (length c.args.users.now) c.args.first steps c.requires.users found) in
+    let at : IsLeastAt (needs_of graph c.loop-chosen.node) steps (count - c.loop-chosen.chosen) next =
+    subst (λ row. IsLeastAt row steps (count - c.loop-chosen.chosen) next) c.row_of-in-loop-chosen.ensures c.least_at-node.ensures in
+    let in' : next < length graph =
+    All-contains (λ needed. needed < length graph) (needs_of graph c.loop-chosen.node) next (row_nodes graph c.loop-chosen.node (length graph) (omega arith) c.loop-chosen.invariant.chosen.node_in c.requires.nodes) at.in_row in
+    record {
+      fewest = c.loop-chosen.invariant.fewest;
+      chosen = subst (λ xs. IsChosen graph c.args.first count steps xs next (c.loop-chosen.chosen + 1)) (sym c.in_ok-push.ensures.items)
+          (next_chosen graph c.args.first count steps c.loop-chosen.cycle.items c.loop-chosen.node c.loop-chosen.chosen next s in' c.loop-chosen-test.true at c.loop-chosen.invariant.chosen);
+    }
 
 pub returns : goal.returns
-returns c = c.in_ok-cycle-in-Some.ensures
+returns c =
+    let graph = lists c.args.needs.now in
+    let steps : List (Option ℕ) = c.as_slice-steps.result.now in
+    let found : AreSteps (length c.args.users.now) (NodeNeeds (lists c.args.users.now)) c.args.first steps = subst (AreSteps (length c.args.users.now) (NodeNeeds (lists c.args.users.now)) c.args.first) (sym c.as_slice-steps.ensures.value) c.in_ok-distances.ensures in
+    let many : length c.args.users.now ≡ length graph = sym (length_lists c.args.users.now) ∙ c.requires.users.each in
+    let s : AreSteps (length graph) (LeadsBack (NodeNeeds graph)) c.args.first steps = subst (λ n. AreSteps n (LeadsBack (NodeNeeds graph)) c.args.first steps) many
+    (steps_back graph (lists c.args.users.now) (length c.args.users.now) c.args.first steps c.requires.users found) in
+    let end : c.loop-chosen.chosen ≡ c.in-Some.count = omega arith in
+    all_chosen graph c.args.first c.in-Some.count steps c.loop-chosen.cycle.items c.loop-chosen.node s c.loop-chosen.invariant.fewest
+    (subst (λ n. IsChosen graph c.args.first c.in-Some.count steps c.loop-chosen.cycle.items c.loop-chosen.node n) end c.loop-chosen.invariant.chosen)
+
+pub overflow_sub-count : goal.overflow_sub-count
+overflow_sub-count c = omega (arith, c.loop-chosen-test.true)
+
+pub row_of-requires-in-loop-chosen : goal.row_of-requires-in-loop-chosen
+row_of-requires-in-loop-chosen c = omega (arith, c.loop-chosen.invariant.chosen.node_in, length_lists c.args.needs.now)
