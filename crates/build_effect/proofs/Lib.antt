@@ -21,6 +21,7 @@ pub mod ListingForms
 pub mod ListingFinds
 pub mod ListingLemmas
 pub mod ListingLaws
+mod ListingStays
 mod WrittenSymbols
 mod WrittenLines
 mod WrittenListings

@@ -1,11 +1,14 @@
--- The law that a written listing reads back.
-use Rattle.std.specs.Prelude.{◌≡◌, IsTrue, List, All, None}
+-- The laws that a written listing reads back, and that a fault stays.
+use Rattle.std.specs.Prelude.{◌≡◌, ◌++◌, IsTrue, List, All, None}
+use Rattle.ninja_text.specs.Bytes.{Bytes}
 use Rattle.ninja_text.specs.Paths.{IsPath}
 use Rattle.build_effect.specs.EdgeValue.{EdgeValue}
 use Rattle.build_effect.specs.Graphs.{made_by, inputs_of, IsGraph}
 use Rattle.build_effect.specs.ListingLines.{is_rule_name}
 use Rattle.build_effect.specs.ListingWriting.{listing_text, first_too_long}
-use Rattle.build_effect.specs.ListingReading.{Lists}
+use Rattle.build_effect.specs.ListingReading.{Lists, HasListingFault}
+use Rattle.build_effect.specs.ListingReaders.{IsListingFaultIn}
+use Rattle.build_effect.specs.declared.fault.LineFault.{LineFault}
 
 -- An edge that a listing can have: its rule has a valid name, and its paths are canonical.
 pub record IsListable (e : EdgeValue) : Type 0 where
@@ -18,3 +21,9 @@ abbrev pub WrittenListing : Type 0
 WrittenListing =
     (g : List EdgeValue) → IsGraph g → All IsListable g → first_too_long g ≡ None
     → Lists (listing_text g) g
+
+-- Law: a fault in the bytes so far is the fault of every text that begins with them.
+abbrev pub ListingFaultStays : Type 0
+ListingFaultStays =
+    (bytes more : Bytes) (fault : LineFault)
+    → IsListingFaultIn bytes fault → HasListingFault (bytes ++ more) fault

@@ -5,7 +5,7 @@ ghost use Rattle.build_effect.specs.Checks.{ChecksSuffice, FaultsExclude};
 ghost use Rattle.build_effect.specs.Files.{AnyOrder, OrdersEndAlike};
 ghost use Rattle.build_effect.specs.Numbering.{FilesOrder, LevelOrders};
 ghost use Rattle.build_effect.specs.ListingReading.{OneListing, ListedIsFaultless, ListingOrFault, OneListingFault, OneClass, LineOrCause, CauseIsFaulty, OneCause, ClassHasForm};
-ghost use Rattle.build_effect.specs.ListingLaws.{WrittenListing};
+ghost use Rattle.build_effect.specs.ListingLaws.{WrittenListing, ListingFaultStays};
 
 /// Statements that add no file twice have exactly one effect on every graph that meets three
 /// premises: no file is made twice, exactly the edges of the statements' outputs name the dyndep
@@ -63,6 +63,12 @@ pub fn listing_or_fault()
 /// a reader reports is the only one of the text.
 pub fn one_listing_fault()
     ensures { OneListingFault }
+{}
+
+/// A fault that [`ListingReader::feed`](crate::ListingReader::feed) reports is the fault of every text
+/// that begins with the bytes fed so far.
+pub fn listing_fault_stays()
+    ensures { ListingFaultStays }
 {}
 
 /// A line has at most one class, and at most one cause for which it is rejected. After lines with

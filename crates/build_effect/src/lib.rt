@@ -26,9 +26,9 @@
 //! - [`level_orders`] and [`files_order`] say when the graph can be ordered after the effects
 //!   (`specs/Numbering.antt`).
 //! - [`one_listing`], [`listing_or_fault`] and [`one_listing_fault`] say that a text either lists
-//!   one list of edges or has one fault. [`listing_lines`] says the same of a line, and
-//!   [`written_listing`] that the text of a graph reads back (`specs/ListingReading.antt`,
-//!   `ListingLaws.antt`).
+//!   one list of edges or has one fault. [`listing_lines`] says the same of a line,
+//!   [`listing_fault_stays`] that what is fed later changes no fault, and [`written_listing`] that the
+//!   text of a graph reads back (`specs/ListingReading.antt`, `ListingLaws.antt`).
 //!
 //! The view of a graph is the list of its edges, and the view of a path is its canonical string.
 //! Definitions that only private clauses use are in `specs/inner/`.
@@ -68,8 +68,8 @@ pub use effect::apply;
 pub use fault::{EffectFault, GraphFault, LineCause, LineFault, ListFault, ListingWriteFault};
 pub use graph::Graph;
 pub use laws::{
-    any_order, checks, files_order, level_orders, listing_lines, listing_or_fault, one_effect,
-    one_listing, one_listing_fault, written_listing,
+    any_order, checks, files_order, level_orders, listing_fault_stays, listing_lines,
+    listing_or_fault, one_effect, one_listing, one_listing_fault, written_listing,
 };
 pub use listing::{ListingReader, listing_write};
 pub use needs::edge_order;

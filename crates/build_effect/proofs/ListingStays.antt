@@ -1,0 +1,86 @@
+-- A fault in the bytes so far is the fault of every text that begins with them.
+use Rattle.std.proofs.Common.{◌≡◌, ℕ, ◌<◌, List, [], ◌∷◌, ◌++◌, length, take, drop, Option, Some, None, inl, inr, ap, sym, subst, ◌∙◌, arith, append_assoc, length-append}
+use Rattle.std.specs.List.{flat_map}
+use Rattle.std.proofs.Math.Seq.{take-append_seam}
+use Rattle.std.proofs.lemmas.List.{take-append-drop, take-append-le}
+use Rattle.std.proofs.lemmas.Bool.{cases_lt}
+use Rattle.ninja_text.specs.Lines.{line_limit, LineEnd, line_end, IsLine, Divides}
+use Rattle.ninja_text.proofs.ForCallers.{line_end-append, divides_some, AllByRecursion-append, one_more_line}
+use Rattle.build_effect.specs.ListingReading.{HasFaultyLine, HasFaultyEnd, HasListingFault}
+use Rattle.build_effect.specs.ListingReaders.{IsListingFaultIn}
+use Rattle.build_effect.specs.declared.fault.LineCause.TheVariants.{LineTooLong}
+use Rattle.build_effect.specs.declared.fault.LineFault.{LineFault}
+
+-- a faulty line stays one
+line_stays : (bytes more : List ℕ) (fault : LineFault) → HasFaultyLine bytes fault → HasFaultyLine (bytes ++ more) fault
+line_stays bytes more fault f = record {
+  before = f.before;
+  line = f.line;
+  after = f.after ++ more;
+  classes = f.classes;
+  whole = ap (λ x. x ++ more) f.whole ∙ append_assoc (flat_map (λ line. line) (f.before ++ f.line ∷ [])) f.after more;
+  each = f.each;
+  classed = f.classed;
+  begun = f.begun;
+  faulty = f.faulty;
+  number = f.number;
+  reason = f.reason;
+}
+
+-- a line that begins with bytes without an end is longer than they are
+longer : (rest more line : List ℕ) (lines : List (List ℕ)) (end : List ℕ) → Divides (rest ++ more) (line ∷ lines) end → line_end rest ≡ None → length rest < length line
+longer rest more line lines end d none = elim (cases_lt (length rest) (length line)) [
+  | inl lt ↦ lt
+  | inr within ↦
+      let after : List ℕ = flat_map (λ x. x) lines ++ end in
+      let same : rest ++ more ≡ line ++ after = d.whole ∙ append_assoc line (flat_map (λ x. x) lines) end in
+      let front : take (length line) rest ≡ line = sym (take-append-le (length line) rest more within) ∙ ap (take (length line)) same ∙ take-append_seam line after in
+      let parts : rest ≡ line ++ drop (length line) rest = sym (take-append-drop (length line) rest) ∙ ap (λ x. x ++ drop (length line) rest) front in
+      let clash : ◌≡◌ {A = Option LineEnd} None (Some _) = sym none ∙ ap line_end parts ∙ line_end-append line (drop (length line) rest) _ d.each.0.1 in
+      absurd (cc)
+]
+
+-- bytes at the end that reach the limit of a line stay so, or become a line that is too long
+end_stays : (bytes more : List ℕ) (line : ℕ) (e : HasFaultyEnd bytes (record { line = line; cause = LineTooLong })) (lines : List (List ℕ)) (rest : List ℕ)
+    → Divides (e.rest ++ more) lines rest → HasListingFault (bytes ++ more) (record { line = line; cause = LineTooLong })
+end_stays bytes more line e [] rest d =
+    inr (record {
+      lines = e.lines;
+      rest = e.rest ++ more;
+      classes = e.classes;
+      divided = record {
+        whole = ap (λ x. x ++ more) e.divided.whole ∙ append_assoc (flat_map (λ l. l) e.lines) e.rest more;
+        each = e.divided.each;
+        partial = ap line_end d.whole ∙ d.partial;
+      };
+      classed = e.classed;
+      begun = e.begun;
+      number = e.number;
+      reason = omega (arith, e.reason, length-append e.rest more);
+    })
+end_stays bytes more line e (l ∷ ls) rest d =
+    let after : List ℕ = flat_map (λ x. x) ls ++ rest in
+    let same : e.rest ++ more ≡ l ++ after = d.whole ∙ append_assoc l (flat_map (λ x. x) ls) rest in
+    let past : line_limit < length l = omega (arith, e.reason, longer e.rest more l ls rest d e.divided.partial) in
+    inl (record {
+      before = e.lines;
+      line = l;
+      after = after;
+      classes = e.classes;
+      whole = one_more_line e.lines l (bytes ++ more) (e.rest ++ more) after (ap (λ x. x ++ more) e.divided.whole ∙ append_assoc (flat_map (λ x. x) e.lines) e.rest more) same;
+      each = AllByRecursion-append IsLine e.lines (l ∷ []) e.divided.each (d.each.0, tt);
+      classed = e.classed;
+      begun = e.begun;
+      faulty = λ c of_class begins. absurd (omega (arith, past, of_class.0));
+      number = e.number;
+      reason = past;
+    })
+
+-- the law
+pub fault_stays : (bytes more : List ℕ) (fault : LineFault) → IsListingFaultIn bytes fault → HasListingFault (bytes ++ more) fault
+fault_stays bytes more fault (inl f) = inl (line_stays bytes more fault f)
+fault_stays bytes more fault (inr h) =
+    let too_long : fault ≡ record { line = fault.line; cause = LineTooLong } = ap (λ cause. record { line = fault.line; cause = cause }) h.1 in
+    let e : HasFaultyEnd bytes (record { line = fault.line; cause = LineTooLong }) = subst (HasFaultyEnd bytes) too_long h.0 in
+    let d = divides_some (e.rest ++ more) in
+    subst (HasListingFault (bytes ++ more)) (sym too_long) (end_stays bytes more fault.line e d.0 d.1 d.2)
