@@ -1,8 +1,9 @@
 -- Tables of producers.
-use Rattle.std.proofs.Common.{◌≡◌, ℕ, zero, suc, ◌+◌, ◌⊎◌, Bool, true, false, List, [], ◌∷◌, ◌++◌, length, take, Option, Some, refl, ap, subst, sym, ◌∙◌, inl, inr, arith, slice_get, bytes_eq, cond, Bor}
+use Rattle.std.proofs.Common.{◌≡◌, ℕ, zero, suc, ◌+◌, ◌⊎◌, Bool, true, false, List, [], ◌∷◌, ◌++◌, length, map, take, Option, Some, refl, ap, subst, sym, ◌∙◌, inl, inr, arith, slice_get, bytes_eq, cond, Bor}
 use Rattle.std.specs.HashMap as hash
 use Rattle.std.specs.HashMap.{HashMap}
 use Rattle.std.specs.Cmp.Lexicographic.{bytes_decides}
+use Rattle.std.proofs.lemmas.List.{map-append}
 use Rattle.std.proofs.lemmas.Map.Text.{hash_map_updates_str}
 use Rattle.build_effect.specs.EdgeValue.{EdgeValue}
 use Rattle.build_effect.specs.Graphs.{made_by, MakesAt}
@@ -67,12 +68,15 @@ more_added xs ys edge a b d p q = record { found = found; kept = kept; added = a
 pub put : {S : Type 0} (file : List ℕ) (edge : ℕ) (m n : HashMap (Bor (List ℕ)) ℕ S) → hash.UpdatesBy (λ x y. bytes_eq x.now y.now) (λ k. bytes_eq file k.now) m n (Some edge) → Updated file edge (maker_in m) (maker_in n)
 put file edge m n u q = hash_map_updates_str file m n (Some edge) u q
 
+abbrev pub text_of : Bor (List ℕ) → List ℕ
+text_of text = text.now
+
 -- one more file in a loop
-pub added_next : {S : Type 0} (files : List (List ℕ)) (i : ℕ) (file : List ℕ) (edge : ℕ) (start : List ℕ → Option ℕ) (m n : HashMap (Bor (List ℕ)) ℕ S) → slice_get files i ≡ Some file →
-    AreAdded (take i files) edge start (maker_in m) → hash.UpdatesBy (λ x y. bytes_eq x.now y.now) (λ k. bytes_eq file k.now) m n (Some edge) → AreAdded (take (i + 1) files) edge start (maker_in n)
-added_next files i file edge start m n at before u =
-    subst (λ fs. AreAdded fs edge start (maker_in n)) (sym (take_next files i file at))
-    (more_added (take i files) (file ∷ []) edge start (maker_in m) (maker_in n) before (one_added file edge (maker_in m) (maker_in n) (put file edge m n u)))
+pub added_next : {S : Type 0} (files : List (Bor (List ℕ))) (file : Bor (List ℕ)) (edge : ℕ) (start : List ℕ → Option ℕ) (m n : HashMap (Bor (List ℕ)) ℕ S) →
+    AreAdded (map text_of files) edge start (maker_in m) → hash.UpdatesBy (λ x y. bytes_eq x.now y.now) (λ k. bytes_eq file.now k.now) m n (Some edge) → AreAdded (map text_of (files ++ file ∷ [])) edge start (maker_in n)
+added_next files file edge start m n before u =
+    subst (λ fs. AreAdded fs edge start (maker_in n)) (sym (map-append text_of files (file ∷ [])))
+    (more_added (map text_of files) (file.now ∷ []) edge start (maker_in m) (maker_in n) before (one_added file.now edge (maker_in m) (maker_in n) (put file.now edge m n u)))
 
 -- one more edge
 pub makers_next : (g : List EdgeValue) (n : ℕ) (e : EdgeValue) (maker new : List ℕ → Option ℕ) → slice_get g n ≡ Some e → AreMakers (take n g) maker → AreAdded (made_by e) n maker new → AreMakers (take (n + 1) g) new

@@ -7,7 +7,8 @@ ghost use Rattle.build_effect.specs.inner.Inputs.{NamesInput};
 
 use crate::edge::Edge;
 use crate::fault::GraphFault;
-use crate::makers::{first_repetition, made_files};
+use crate::makers::{made_files, table_key};
+use indexmap::IndexSet;
 use ninja_text::{Failure, Path};
 use std::alloc::{AllocError, Global};
 use std::marker::Model;
@@ -69,13 +70,15 @@ fn check_made(alloc: Global, edges: &[Edge]) -> Result<(), Failure<GraphFault>>
     ensures fault { IfErr result (ForFault (IsGraphFault edges.now)) }
 {
     let files = made_files(alloc, edges)?;
-    match first_repetition(alloc, files.as_slice())? {
-        None => Ok(()),
-        Some(indices) => {
-            let path = files[indices.1].copy(alloc)?;
-            Err(Failure::Fault(GraphFault::ProducedTwice { path }))
+    let mut seen = IndexSet::with_hasher(alloc, table_key(files.as_slice()));
+    for file in &files {
+        let is_new = seen.insert(*file)?;
+        if !is_new {
+            let path = file.copy(alloc)?;
+            return Err(Failure::Fault(GraphFault::ProducedTwice { path }));
         }
     }
+    Ok(())
 }
 
 /// Checks that each edge that names a dyndep file has it among its inputs (E2).

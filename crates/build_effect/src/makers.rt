@@ -1,12 +1,11 @@
-//! The files that edges make, which edge makes which file, and the first file that is made twice.
-ghost use Rattle.std.specs.Prelude.{◌≡◌, IfOk, OnOk};
+//! The files that edges make, and which edge makes which file.
+ghost use Rattle.std.specs.Prelude.{◌≡◌, IfOk};
 ghost use Rattle.build_effect.specs.Faults.{made_files};
-ghost use Rattle.build_effect.specs.inner.Makers.{maker_in, AreMakers, AreAdded};
+ghost use Rattle.build_effect.specs.inner.Makers.{maker_in, AreMakers};
 ghost use Rattle.dep_order.specs.Rows.{lists};
-ghost use Rattle.ninja_text.specs.Firsts.{FindsRepetition};
 
 use crate::edge::Edge;
-use indexmap::{IndexMap, IndexSet};
+use indexmap::IndexMap;
 use ninja_text::Path;
 use std::alloc::{AllocError, Global};
 use table_keys::{KeyDigest, TableKey};
@@ -25,8 +24,9 @@ impl<'t> Makers<'t> {
         let files = made_files(alloc, edges)?;
         let mut table = IndexMap::with_hasher(alloc, table_key(files.as_slice()));
         for (edge_index, edge) in edges.iter().enumerate() {
-            add_files(&edge.outputs, edge_index, &mut table)?;
-            add_files(&edge.implicit_outputs, edge_index, &mut table)?;
+            for file in edge.outputs.iter().chain(edge.implicit_outputs.iter()) {
+                table.insert(file, edge_index)?;
+            }
         }
         Ok(Makers { table })
     }
@@ -37,21 +37,6 @@ impl<'t> Makers<'t> {
     {
         self.table.get(&file).copied()
     }
-}
-
-/// Adds the edge to the table under these files.
-fn add_files<'t>(
-    files: &'t [Path],
-    edge_index: usize,
-    makers: &mut IndexMap<&'t Path, usize, TableKey>,
-) -> Result<(), AllocError>
-    ensures { OnOk result
-        (AreAdded files.now edge_index (maker_in makers.old) (maker_in makers.new)) }
-{
-    for file in files {
-        makers.insert(file, edge_index)?;
-    }
-    Ok(())
 }
 
 /// Returns the files that the edges make, edge after edge: the outputs of an edge, then its implicit
@@ -72,22 +57,4 @@ pub(crate) fn table_key(files: &[&Path]) -> TableKey {
         digest.update(file.bytes());
     }
     digest.key()
-}
-
-/// Finds the first file that repeats an earlier one. Returns the index of the earlier file and its
-/// own.
-pub(crate) fn first_repetition(
-    alloc: Global,
-    files: &[&Path],
-) -> Result<Option<(usize, usize)>, AllocError>
-    ensures { IfOk result (FindsRepetition (lists files.now)) }
-{
-    let mut seen = IndexSet::with_hasher(alloc, table_key(files));
-    for (file_index, file) in files.iter().enumerate() {
-        let (first, is_new) = seen.insert_full(*file)?;
-        if !is_new {
-            return Ok(Some((first, file_index)));
-        }
-    }
-    Ok(None)
 }

@@ -1,9 +1,7 @@
 //! Which edges need which, and the order of edges.
-ghost use Rattle.std.specs.Prelude.{◌≡◌, ◌++◌, length, IfOk, OnOk};
-ghost use Rattle.std.specs.List.{filter_map};
+ghost use Rattle.std.specs.Prelude.{length, IfOk};
 ghost use Rattle.dep_order.specs.Sortings.{IsSortingOf};
 ghost use Rattle.build_effect.specs.Graphs.{EdgeNeeds};
-ghost use Rattle.build_effect.specs.inner.Makers.{maker_in, makers_row, AreMakers};
 
 use crate::edge::Edge;
 use crate::graph::Graph;
@@ -24,20 +22,15 @@ pub fn edge_order(alloc: Global, graph: &Graph) -> Result<Sorting, AllocError>
     let makers = Makers::of(alloc, edges)?;
     let mut needs = Vec::with_capacity(alloc, edges.len())?;
     for edge in edges {
-        needs.push(edge_needs(alloc, edge, &makers)?)?;
+        let inputs = edge
+            .inputs
+            .iter()
+            .chain(edge.implicit_inputs.iter())
+            .chain(edge.order_only.iter());
+        // A source file has no such edge.
+        let row = inputs.filter_map(|file| makers.maker_of(file));
+        needs.push(row.collect(alloc)?)?;
     }
     let digraph = Digraph::new(needs);
     order(alloc, &digraph)
-}
-
-/// Returns the edges that produce this edge's inputs of all kinds. A source file has none.
-fn edge_needs(alloc: Global, edge: &Edge, makers: &Makers<'_>) -> Result<Vec<usize>, AllocError>
-    ensures { IfOk result (λ row. row.items ≡ makers_row (maker_in makers.now.table) edge.now) }
-{
-    edge.inputs
-        .iter()
-        .chain(edge.implicit_inputs.iter())
-        .chain(edge.order_only.iter())
-        .filter_map(|file| makers.maker_of(file))
-        .collect(alloc)
 }

@@ -1,5 +1,5 @@
 //! The writer of edge listings.
-ghost use Rattle.std.specs.Prelude.{◌≡◌, ◌++◌, codes, MatchResult, OnOk};
+ghost use Rattle.std.specs.Prelude.{◌≡◌, ◌++◌, MatchResult, OnOk};
 ghost use Rattle.std.specs.List.{flat_map};
 ghost use Rattle.ninja_text.specs.Counting.{held, IsWritten};
 ghost use Rattle.ninja_text.specs.Failure.{Gives};
@@ -72,26 +72,15 @@ pub fn listing_write<W: WriteCall>(
 fn push_line(text: &mut Vec<u8>, edge: &Edge) -> Result<(), AllocError>
     ensures { OnOk result (text.new.items ≡ text.old.items ++ edge_line edge.now) }
 {
-    push_side(text, b"build", &edge.outputs, &edge.implicit_outputs)?;
+    text.extend_from_slice(b"build")?;
+    push_spaced(text, &edge.outputs)?;
+    push_part(text, b" |", &edge.implicit_outputs)?;
     text.extend_from_slice(b": ")?;
-    push_side(text, &edge.rule, &edge.inputs, &edge.implicit_inputs)?;
+    text.extend_from_slice(&edge.rule)?;
+    push_spaced(text, &edge.inputs)?;
+    push_part(text, b" |", &edge.implicit_inputs)?;
     push_part(text, b" ||", &edge.order_only)?;
     text.extend_from_slice(b"\n")
-}
-
-/// Appends one side of the colon: a word, the explicit paths and the implicit paths.
-fn push_side(
-    text: &mut Vec<u8>,
-    word: &[u8],
-    explicit: &[Path],
-    implicit: &[Path],
-) -> Result<(), AllocError>
-    ensures { OnOk result (text.new.items ≡ text.old.items
-        ++ (word.now ++ flat_map spaced explicit.now ++ marked_text (codes " |") implicit.now)) }
-{
-    text.extend_from_slice(word)?;
-    push_spaced(text, explicit)?;
-    push_part(text, b" |", implicit)
 }
 
 /// Appends the line of the binding `dyndep`, if the edge has one.

@@ -1,40 +1,41 @@
-use Rattle.std.proofs.Common.{◌≡◌, ℕ, ◌<◌, length, arith, List, Some, map, ap, sym, subst, refl, ◌∙◌, Bor}
+use Rattle.std.proofs.Common.{◌≡◌, ℕ, List, Some, map, refl, sym, subst, ap, ◌∙◌}
 use Rattle.std.specs.Prelude.{slice_get}
-use Rattle.std.proofs.lemmas.Option.{slice_get_read, slice_get_within}
-use Rattle.std.proofs.lemmas.List.{length-map}
+use Rattle.std.proofs.lemmas.Option.{slice_get_read}
+use Rattle.std.proofs.lemmas.List.{take_all}
+use Rattle.build_effect.specs.EdgeValue.{EdgeValue}
 use Rattle.build_effect.specs.Faults.{made_files}
-use Rattle.ninja_text.specs.Firsts.{FindsRepetition, RepeatsFirst}
+use Rattle.ninja_text.specs.Firsts.{AllDiffer, RepeatsFirst}
 use Rattle.ninja_text.proofs.ForCallers.{to_map}
 use Rattle.build_effect.proofs.MadeFiles.{made_once, first_of_repetition}
+use Rattle.build_effect.proofs.Repetitions.{repeats_if_there, keys_if_new, differ_if_new}
+use Rattle.build_effect.proofs.MakerTables.{text_of}
 use Rattle.build_effect.proofs.graph.check_made.Goals as goal
 
--- the index of a file that repeats is within the borrowed files
-repeated_within : (files : List (Bor (List ℕ))) (all : List (List ℕ)) (i j : ℕ) → map (λ (x : Bor (List ℕ)). x.now) files ≡ all → RepeatsFirst all i j → j < length files
-repeated_within files all i j are repeated =
-    let within = slice_get_within all j repeated.repeated repeated.again in
-    omega (arith, within, ap length are, length-map files (λ (x : Bor (List ℕ)). x.now))
+pub loop-file-preserved : goal.loop-file-preserved
+loop-file-preserved c =
+    let files = c.deref-file-items.result.now in
+    let i = c.loop-file.file-index in
+    let h = c.in_ok-is_new.ensures in
+    let at = slice_get_read files _ i c.file-item.result refl c.loop-file-test.true c.file-item.is in
+    record {
+      same = keys_if_new text_of files i c.file-item.result c.loop-file.seen.keys c.insert.new.self.keys at c.loop-file.invariant.same c.loop-file.invariant.differ h.keys (sym c.if-not-is_new.false ∙ h.added);
+      differ = differ_if_new text_of files i c.file-item.result c.loop-file.seen.keys c.insert.new.self.keys at c.loop-file.invariant.same c.loop-file.invariant.differ h.keys (sym c.if-not-is_new.false ∙ h.added);
+    }
 
-pub index-requires : goal.index-requires
-index-requires c =
-    let g = c.args.edges.now in
-    let texts : map (λ (x : Bor (List ℕ)). x.now) c.as_slice.result.now ≡ made_files g = ap (map (λ x. x.now)) c.as_slice.ensures.value ∙ c.in_ok-files.ensures in
-    let found = subst (λ xs. FindsRepetition xs c.in_ok-first_repetition.field-0) texts c.in_ok-first_repetition.ensures in
-    let repeated : RepeatsFirst (made_files g) c.in-Some.indices.0 c.in-Some.indices.1 = subst (FindsRepetition (made_files g)) c.in-Some.is found in
-    omega (arith, repeated_within c.in_ok-files.files.items (made_files g) c.in-Some.indices.0 c.in-Some.indices.1 c.in_ok-files.ensures repeated, c.in_ok-files.files.ok.0)
+pub returns-then-not-is_new-clause-fault : goal.returns-then-not-is_new-clause-fault
+returns-then-not-is_new-clause-fault c =
+    let g : List EdgeValue = c.args.edges.now in
+    let files = c.deref-file-items.result.now in
+    let are : map text_of files ≡ made_files g = ap (map text_of) c.deref-file-items.ensures.value ∙ c.in_ok-files.ensures in
+    let i : ℕ = c.loop-file.file-index in
+    let h = c.in_ok-is_new.ensures in
+    let at = slice_get_read files _ i c.file-item.result refl c.loop-file-test.true c.file-item.is in
+    let found = repeats_if_there text_of files i c.file-item.result c.loop-file.seen.keys c.insert.new.self.keys at c.loop-file.invariant.same c.loop-file.invariant.differ h.keys (sym c.if-not-is_new.true ∙ h.added) in
+    let repeated : RepeatsFirst (made_files g) found.0 i = subst (λ xs. RepeatsFirst xs found.0 i) are found.1 in
+    let here : slice_get (made_files g) i ≡ Some c.in_ok-path.path = ap (λ xs. slice_get xs i) (sym are) ∙ to_map text_of files i c.file-item.result at ∙ ap (λ x. Some x) (sym c.in_ok-path.ensures) in
+    (i, first_of_repetition (made_files g) found.0 i c.in_ok-path.path repeated here)
 
-pub returns-in-None-clause-ok : goal.returns-in-None-clause-ok
-returns-in-None-clause-ok c =
-    let files : map (λ (x : Bor (List ℕ)). x.now) c.as_slice.result.now ≡ made_files c.args.edges.now = ap (map (λ x. x.now)) c.as_slice.ensures.value ∙ c.in_ok-files.ensures in
-    let found = subst (λ xs. FindsRepetition xs c.in_ok-first_repetition.field-0) files c.in_ok-first_repetition.ensures in
-    made_once c.args.edges.now (subst (FindsRepetition (made_files c.args.edges.now)) c.in-None.is found)
-
-pub returns-clause-fault : goal.returns-clause-fault
-returns-clause-fault c =
-    let g = c.args.edges.now in
-    let texts : map (λ (x : Bor (List ℕ)). x.now) c.as_slice.result.now ≡ made_files g = ap (map (λ x. x.now)) c.as_slice.ensures.value ∙ c.in_ok-files.ensures in
-    let found = subst (λ xs. FindsRepetition xs c.in_ok-first_repetition.field-0) texts c.in_ok-first_repetition.ensures in
-    let repeated : RepeatsFirst (made_files g) c.in-Some.indices.0 c.in-Some.indices.1 = subst (FindsRepetition (made_files g)) c.in-Some.is found in
-    let short = repeated_within c.in_ok-files.files.items (made_files g) c.in-Some.indices.0 c.in-Some.indices.1 c.in_ok-files.ensures repeated in
-    let here = to_map (λ (x : Bor (List ℕ)). x.now) c.in_ok-files.files.items c.in-Some.indices.1 c.index.result.now (slice_get_read c.in_ok-files.files.items _ c.in-Some.indices.1 c.index.result.now refl short c.index.ensures) in
-    let at : slice_get (made_files g) c.in-Some.indices.1 ≡ Some c.in_ok-path-in-Some.path = ap (λ xs. slice_get xs c.in-Some.indices.1) (sym c.in_ok-files.ensures) ∙ here ∙ ap (λ x. Some x) (sym c.in_ok-path-in-Some.ensures) in
-    (c.in-Some.indices.1, first_of_repetition (made_files g) c.in-Some.indices.0 c.in-Some.indices.1 c.in_ok-path-in-Some.path repeated at)
+pub returns-clause-ok : goal.returns-clause-ok
+returns-clause-ok c =
+    let files = c.deref-file-items.result.now in
+    made_once c.args.edges.now (subst AllDiffer (ap (map text_of) (take_all c.loop-file.file-index files c.loop-file-test.false ∙ c.deref-file-items.ensures.value) ∙ c.in_ok-files.ensures) c.loop-file.invariant.differ)

@@ -1,8 +1,11 @@
-use Rattle.std.proofs.Common.{◌≡◌, ◌∙◌, List, Vec, ℕ, length, map, ap, refl, sym, subst}
+use Rattle.std.proofs.Common.{rules, tests, ◌≡◌, ◌∙◌, List, Vec, ℕ, Option, IfOk, length, map, ap, refl, sym, subst, append_assoc}
+use Rattle.std.specs.List.{filter_map}
 use Rattle.std.specs.declared.alloc.Global.{Global}
 use Rattle.std.proofs.lemmas.List.{take_all}
 use Rattle.std.proofs.lemmas.Option.{slice_get_read}
 use Rattle.std.proofs.lemmas.Result.{IfOk-weaker}
+use Rattle.std.proofs.lemmas.Iterator.{items_from_collect, YieldsList-from_slice}
+use Rattle.std.proofs.lemmas.Iterator.Consumers.{YieldsList-at, YieldsList-from_chain, YieldsList-from_filter_map}
 use Rattle.dep_order.specs.Needs.{NodeNeeds, NeedsAreNodes}
 use Rattle.dep_order.specs.Rows.{rows}
 use Rattle.dep_order.specs.Sortings.{IsSortingOf}
@@ -17,8 +20,22 @@ loop-edge-preserved c =
     let edges = c.edges-edges.result.now in
     let i = c.loop-edge.edge-index in
     let edge : EdgeValue = c.edge-item.result in
+    let maker : List ℕ → Option ℕ = maker_in c.in_ok-makers.makers.table in
     let at = slice_get_read edges _ i edge refl c.loop-edge-test.true c.edge-item.is in
-    mapped_next (λ (row : Vec ℕ Global). row.items) (makers_row (maker_in c.in_ok-makers.makers.table)) edges i edge c.loop-edge.needs.items c.push.new.self.items c.in_ok-edge_needs.field-0 at c.loop-edge.invariant c.in_ok-push.ensures.items c.in_ok-edge_needs.ensures
+    let inputs = c.iter.ensures.rest ∙ c.deref.ensures.value ∙ ap (λ (x : EdgeValue). x.inputs) c.edge.view_is in
+    let implicit_inputs = c.iter-in-loop-edge.ensures.rest ∙ c.deref-in-loop-edge.ensures.value ∙ ap (λ (x : EdgeValue). x.implicit_inputs) c.edge.view_is in
+    let order_only = c.iter-in-loop-edge-2.ensures.rest ∙ c.deref-in-loop-edge-2.ensures.value ∙ ap (λ (x : EdgeValue). x.order_only) c.edge.view_is in
+    let made : IfOk c.collect.result (λ row. row.items ≡ makers_row maker edge) =
+    subst (λ files. IfOk c.collect.result (λ row. row.items ≡ filter_map maker files)) (append_assoc edge.inputs edge.implicit_inputs edge.order_only)
+    (items_from_collect _ c.collect.ensures.ran (YieldsList-from_filter_map _ maker
+    (YieldsList-at c.filter_map-row.ensures.source (YieldsList-from_chain
+    (YieldsList-at c.chain-inputs.ensures.first (YieldsList-from_chain
+    (YieldsList-at c.chain.ensures.first (YieldsList-from_slice edge.inputs inputs))
+    (YieldsList-at c.chain.ensures.second (YieldsList-from_slice edge.implicit_inputs implicit_inputs)) c.chain.ensures.first_done c.chain.ensures.second_done))
+    (YieldsList-at c.chain-inputs.ensures.second (YieldsList-from_slice edge.order_only order_only)) c.chain-inputs.ensures.first_done c.chain-inputs.ensures.second_done))
+    c.filter_map-row.ensures.closure (λ x r q k. search (rules, tests)))) in
+    let row : c.in_ok-collect.field-0.items ≡ makers_row maker edge = subst (λ r. IfOk r (λ row. row.items ≡ makers_row maker edge)) c.in_ok-collect.was made in
+    mapped_next (λ (row : Vec ℕ Global). row.items) (makers_row maker) edges i edge c.loop-edge.needs.items c.push.new.self.items c.in_ok-collect.field-0 at c.loop-edge.invariant c.in_ok-push.ensures.items row
 
 pub loop-edge-init : goal.loop-edge-init
 loop-edge-init c = ap rows c.in_ok-needs.ensures.items
