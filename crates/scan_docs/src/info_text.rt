@@ -70,13 +70,6 @@ pub fn info_write(alloc: Global, info: &Info) -> Result<Vec<u8>, AllocError>
     ensures text { IfOk result (λ text. text.items ≡ info_text info.now) }
     ensures reads_back { IfOk result (λ text. ReadsBack info.now text.items) }
 {
-    let lent = lent_info(alloc, info)?;
-    lent_info_write(alloc, &lent)
-}
-
-fn lent_info<'i>(alloc: Global, info: &'i Info) -> Result<LentInfo<'i>, AllocError>
-    ensures { IfOk result (λ lent. lent ≡ info.now) }
-{
     let mut modules = Vec::with_capacity(alloc, info.modules.len())?;
     for entry in &info.modules {
         modules.push(LentModule {
@@ -86,10 +79,8 @@ fn lent_info<'i>(alloc: Global, info: &'i Info) -> Result<LentInfo<'i>, AllocErr
             is_private: entry.is_private,
         })?;
     }
-    Ok(LentInfo {
-        target: &info.target,
-        modules,
-    })
+    let target = &info.target;
+    lent_info_write(alloc, &LentInfo { target, modules })
 }
 
 /// Returns the document that [`info_write`] returns for the same info.

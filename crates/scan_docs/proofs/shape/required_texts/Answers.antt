@@ -1,4 +1,4 @@
-use Rattle.std.proofs.Common.{◌≡◌, List, Bool, false, Option, Some, None, is_some, option_and_then, map, string_bytes, rules, refl, sym}
+use Rattle.std.proofs.Common.{◌≡◌, List, false, Option, Some, None, is_some, option_and_then, map, string_bytes, rules, refl, sym}
 use Rattle.std.proofs.lemmas.List.{map-append}
 use Rattle.std.proofs.lemmas.Result.{err_from_is_err_and}
 use Rattle.serde_json.specs.Data.{Data}

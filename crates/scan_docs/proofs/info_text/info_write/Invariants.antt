@@ -1,5 +1,5 @@
 use Rattle.std.proofs.Common.{◌≡◌, take}
-use Rattle.scan_docs.proofs.info_text.lent_info.Given as goal
+use Rattle.scan_docs.proofs.info_text.info_write.Given as goal
 
 -- the modules so far
 abbrev pub invariant-loop-entry : goal.invariant-loop-entry
