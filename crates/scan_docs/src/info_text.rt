@@ -121,27 +121,19 @@ impl Described for InfoDocument<'_> {
 impl Serialize for InfoDocument<'_> {
     fn serialize<S: Serializer>(&self, out: &mut S) -> Result<(), S::Error> {
         let info = self.info;
+        let modules = info.modules.as_slice();
         out.begin_map(Some(3))?;
         out.key("modules")?;
-        send_modules(out, &info.modules)?;
+        out.begin_seq(Some(modules.len()))?;
+        for entry in modules {
+            send_module(out, entry)?;
+        }
+        out.end_seq()?;
         send_text(out, "target", info.target.text())?;
         out.key("version")?;
         out.u64(2)?;
         out.end_map()
     }
-}
-
-fn send_modules<S: Serializer>(out: &mut S, modules: &[LentModule<'_>]) -> Result<(), S::Error>
-    requires { All IsModuleText modules.now }
-    ensures sent { OnOk result (SendsValue (array (items_of (map module_tree modules.now)))
-        (S.written out.old) (S.written out.new)) }
-    ensures sound { OnOk result (All IsSoundModule modules.now) }
-{
-    out.begin_seq(Some(modules.len()))?;
-    for entry in modules {
-        send_module(out, entry)?;
-    }
-    out.end_seq()
 }
 
 fn send_module<S: Serializer>(out: &mut S, entry: &LentModule<'_>) -> Result<(), S::Error>

@@ -5,7 +5,7 @@ use Rattle.serde_json.specs.Events.{SendsItems}
 use Rattle.serde_json.specs.View.{items_of}
 use Rattle.scan_docs.specs.InfoText.{module_tree}
 use Rattle.scan_docs.specs.Sound.{IsSoundModule}
-use Rattle.scan_docs.proofs.info_text.send_modules.Given as goal
+use Rattle.scan_docs.proofs.info_text.InfoDocumentSerialize.serialize.Given as goal
 
 -- whatever ends it well from here ends it well from the start
 abbrev pub invariant-loop-entry : goal.invariant-loop-entry
