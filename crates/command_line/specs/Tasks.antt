@@ -23,15 +23,6 @@ task_value (task.Effect name edges dyndep) = effect name.now edges.now dyndep.no
 task_value (task.Order edges) = order edges.now
 task_value (task.Project document) = project document.now
 
--- the file that a task reads first
-abbrev pub first_file_of : TaskValue → Argument
-first_file_of (one scan dir ext) = scan
-first_file_of (collate target) = target
-first_file_of (show dyndep) = dyndep
-first_file_of (effect name edges dyndep) = edges
-first_file_of (order edges) = edges
-first_file_of (project document) = document
-
 -- two bytes or more that begin with a dash
 abbrev pub is_flag : Argument → Bool
 is_flag (first ∷ _ ∷ _) = first == dash

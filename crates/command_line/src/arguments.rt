@@ -1,9 +1,9 @@
 //! The arguments that the program is called with.
 
-ghost use Rattle.std.specs.Prelude.{◌≡◌, false, map, option_map, string_bytes, IfOk, IsOkAnd};
-ghost use Rattle.clap.specs.Words.{app_of, first_value, found_of, subcommand_rows_of, with_subcommand};
+ghost use Rattle.std.specs.Prelude.{◌≡◌, map, option_map, string_bytes, IfOk, IsOkAnd};
+ghost use Rattle.clap.specs.Words.{app_of, first_value, found_of, with_subcommand};
 ghost use Rattle.command_line.specs.Tasks.{AreCallOf, task_value};
-ghost use Rattle.command_line.specs.inner.Parses.{has_globals, command_app, program, task_by, task_found, texts, three};
+ghost use Rattle.command_line.specs.inner.Parses.{command_app, program, task_by};
 
 use clap::error::ErrorKind;
 use clap::{Arg, ArgMatches, Command};
@@ -42,24 +42,6 @@ pub enum Task<'a> {
     },
 }
 
-impl<'a> Task<'a> {
-    ghost use Rattle.command_line.specs.Tasks.{task_value, first_file_of};
-
-    /// Returns the file that the task reads first.
-    pub fn file(&self) -> &'a str
-        ensures { result.now ≡ first_file_of (task_value self.now) }
-    {
-        match self {
-            Task::One { scan, .. } => *scan,
-            Task::Collate { target } => *target,
-            Task::Show { dyndep } => *dyndep,
-            Task::Effect { edges, .. } => *edges,
-            Task::Order { edges } => *edges,
-            Task::Project { document } => *document,
-        }
-    }
-}
-
 /// Returns the task that the arguments ask for, or `None` if they are not a valid command line. The
 /// first argument is the program's own name.
 ///
@@ -76,20 +58,15 @@ pub fn task_of<'a>(alloc: Global, arguments: &'a [String]) -> Result<Option<Task
 {
     let command = program(alloc)?;
     match command.try_get_matches_from(arguments) {
-        Ok(matches) => Ok(task_found(&matches)),
+        Ok(matches) => match matches.subcommand() {
+            Some((command, given)) => Ok(task_by(command, given)),
+            None => Ok(None),
+        },
         Err(error) => match error.kind() {
             ErrorKind::OutOfMemory => Err(AllocError),
             _ => Ok(None),
         },
     }
-}
-
-/// Returns the task of a parsed command line.
-fn task_found<'a>(matches: &ArgMatches<'a>) -> Option<Task<'a>>
-    ensures { option_map task_value result ≡ task_found (subcommand_rows_of matches.now) }
-{
-    let (command, given) = matches.subcommand()?;
-    task_by(command, given)
 }
 
 /// Returns the program's commands with their operands.
@@ -120,24 +97,11 @@ fn with_command<'a>(
         ≡ with_subcommand (app_of above) (command_app name.now (map (λ o. o.now) operands.now)).top)) }
 {
     let program = program?;
-    program.subcommand(command(alloc, name, operands)?)
-}
-
-/// Returns a command that takes these operands.
-fn command<'a>(
-    alloc: Global,
-    name: &'a str,
-    operands: &[&'a str],
-) -> Result<Command<'a>, AllocError>
-    ensures app { IfOk result (λ c.
-        app_of c ≡ command_app name.now (map (λ o. o.now) operands.now)) }
-    ensures globals { IfOk result (λ c. has_globals c ≡ false) }
-{
     let mut command = Command::new(alloc, name);
     for operand in operands {
         command = command.arg(Arg::new(alloc, *operand).required(true))?;
     }
-    Ok(command)
+    program.subcommand(command)
 }
 
 /// Returns the task of a command, or `None` if an operand is missing.
@@ -146,24 +110,22 @@ fn task_by<'a>(command: &str, given: &ArgMatches<'a>) -> Option<Task<'a>>
         ≡ task_by command.now (first_value (found_of given.now)) }
 {
     match command {
-        "one" => {
-            let (scan, dir, ext) = three(given, "scan", "dir", "ext")?;
-            Some(Task::One { scan, dir, ext })
-        }
+        "one" => Some(Task::One {
+            scan: given.get_str("scan")?,
+            dir: given.get_str("dir")?,
+            ext: given.get_str("ext")?,
+        }),
         "collate" => Some(Task::Collate {
             target: given.get_str("target")?,
         }),
         "show" => Some(Task::Show {
             dyndep: given.get_str("dyndep")?,
         }),
-        "effect" => {
-            let (name, edges, dyndep) = three(given, "name", "edges", "dyndep")?;
-            Some(Task::Effect {
-                name,
-                edges,
-                dyndep,
-            })
-        }
+        "effect" => Some(Task::Effect {
+            name: given.get_str("name")?,
+            edges: given.get_str("edges")?,
+            dyndep: given.get_str("dyndep")?,
+        }),
         "order" => Some(Task::Order {
             edges: given.get_str("edges")?,
         }),
@@ -172,21 +134,4 @@ fn task_by<'a>(command: &str, given: &ArgMatches<'a>) -> Option<Task<'a>>
         }),
         _ => None,
     }
-}
-
-/// Returns the operands of these names, or `None` if one is missing.
-fn three<'a>(
-    given: &ArgMatches<'a>,
-    first: &str,
-    second: &str,
-    third: &str,
-) -> Option<(&'a str, &'a str, &'a str)>
-    ensures { option_map texts result ≡ three (first_value (found_of given.now) first.now)
-        (first_value (found_of given.now) second.now) (first_value (found_of given.now) third.now) }
-{
-    Some((
-        given.get_str(first)?,
-        given.get_str(second)?,
-        given.get_str(third)?,
-    ))
 }

@@ -1,6 +1,5 @@
 -- What the parser of the command line is made of, and what a parse finds.
 use Rattle.std.specs.Prelude.{Bool, true, false, List, [], ◌∷◌, Option, Some, None, option_map, option_and_then, fold, if◌then◌else◌, codes}
-use Rattle.std.specs.Borrow.{Bor}
 use Rattle.std.specs.Str.{bytes_eq}
 use Rattle.clap.specs.Words.{App, Row, Rule, Shape, Text, new_app, new_rule, with_rule, first_of}
 use Rattle.clap.specs.Simple.{new_shape}
@@ -43,9 +42,6 @@ program = record {
 -- the texts of three operands
 abbrev pub Three : Type 0
 Three = Text × Text × Text
-
-abbrev pub texts : Bor Text × Bor Text × Bor Text → Three
-texts operands = (operands.0.now, operands.1.now, operands.2.now)
 
 -- three operands, if all were found
 abbrev pub three : Option Text → Option Text → Option Text → Option Three

@@ -2,7 +2,7 @@ use Rattle.std.proofs.Common.{◌≡◌, false, map, drop}
 use Rattle.std.specs.Prelude.{fold}
 use Rattle.clap.specs.Words.{app_of, with_rule}
 use Rattle.command_line.specs.inner.Parses.{command_app, has_globals, needed}
-use Rattle.command_line.proofs.arguments.command.Given as goal
+use Rattle.command_line.proofs.arguments.with_command.Given as goal
 
 -- with the operands to come it is the whole command
 abbrev pub invariant-loop-operand : goal.invariant-loop-operand
