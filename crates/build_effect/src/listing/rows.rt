@@ -1,7 +1,6 @@
 //! One line of an edge listing: its kind, and the strings in it.
 ghost use Rattle.std.specs.Prelude.{◌≡◌, ◌==◌, ◌&&◌, IfOk, OnOk, codes};
 ghost use Rattle.std.specs.Option.{option_map};
-ghost use Rattle.std.specs.List.{list_all};
 ghost use Rattle.ninja_text.specs.Failure.{Gives};
 ghost use Rattle.ninja_text.specs.LineViews.{seen_line};
 ghost use Rattle.ninja_text.specs.Tokens.{value_of};
@@ -220,14 +219,8 @@ fn is_rule_name(name: &[u8]) -> bool
 {
     match name {
         [] => false,
-        [_, ..] => are_name_bytes(name),
+        [_, ..] => name.iter().all(|b| is_identifier_byte(*b)),
     }
-}
-
-fn are_name_bytes(bytes: &[u8]) -> bool
-    ensures { result ≡ list_all is_identifier_byte bytes.now }
-{
-    bytes.iter().all(|b| is_identifier_byte(*b))
 }
 
 /// Returns whether a byte may be in the name of a rule.
