@@ -109,8 +109,18 @@ pub(crate) fn append_files(
         maps,
     } = collated.into_parts();
     append_maps(alloc, &objects, maps, spec.restat, files)?;
-    append_file(alloc, spec.info.as_str(), info_text, spec.restat, files)?;
-    append_file(alloc, spec.dyndep.as_str(), dyndep_text, false, files)
+    let info = OutputFile {
+        name: String::from_str(alloc, &spec.info)?,
+        bytes: info_text,
+        keeps: spec.restat,
+    };
+    add(files, info)?;
+    let dyndep = OutputFile {
+        name: String::from_str(alloc, &spec.dyndep)?,
+        bytes: dyndep_text,
+        keeps: false,
+    };
+    add(files, dyndep)
 }
 
 /// Appends the map files of these objects, if there are maps.
@@ -148,28 +158,6 @@ fn append_map(
         unreachable!()
     };
     let name = format!(in alloc; "{object}.modmap")?;
-    add(
-        files,
-        OutputFile {
-            name,
-            bytes: text,
-            keeps,
-        },
-    )
-}
-
-/// Appends a file of this name.
-fn append_file(
-    alloc: Global,
-    name: &str,
-    text: Vec<u8>,
-    keeps: bool,
-    files: &mut Vec<OutputFile>,
-) -> Result<(), AllocError>
-    ensures { OnOk result (map file_value files.new.items
-        ≡ map file_value files.old.items ++ output_file keeps name.now text.items ∷ []) }
-{
-    let name = String::from_str(alloc, name)?;
     add(
         files,
         OutputFile {

@@ -2,36 +2,26 @@
 
 ghost use Rattle.std.specs.Prelude.{◌≡◌, ◌++◌, map, IfOk, OnOk, codes};
 ghost use Rattle.std.specs.List.{flat_map};
-ghost use Rattle.commands.specs.TableFaults.{object_path, target_name, maker_text, made_twice_text, ring_text, fault_subject, fault_text};
+ghost use Rattle.commands.specs.TableFaults.{object_path, target_name, maker_text, made_twice_text, ring_text, fault_subject};
 
 use module_table::{Maker, TableFault};
 use scan_docs::{Name, Rule, TargetName};
 use std::alloc::{AllocError, Global};
 
-/// Returns what is reported of a fault of the table of these objects and info files: its code, its
-/// name and what it is about. Objects are named by their paths, and info files by their targets.
-pub(crate) fn fault_text(
-    alloc: Global,
-    fault: &TableFault,
-    objects: &[Rule],
-    names: &[&TargetName],
-) -> Result<Vec<u8>, AllocError>
-    ensures { IfOk result (λ text.
-        text.items ≡ fault_text objects.now (map (λ n. n.now) names.now) fault.now) }
-{
-    let subject = fault_subject(alloc, fault, Makers { objects, names })?;
-    joined(alloc, &[fault.name().as_bytes(), b" ", &subject])
-}
-
 /// The objects, and the names of the targets of info files, whose indexes a fault has.
 #[derive(Clone, Copy)]
-struct Makers<'t> {
-    objects: &'t [Rule],
-    names: &'t [&'t TargetName],
+pub(crate) struct Makers<'t> {
+    pub objects: &'t [Rule],
+    pub names: &'t [&'t TargetName],
 }
 
-/// Returns what a fault is about.
-fn fault_subject(alloc: Global, fault: &TableFault, makers: Makers) -> Result<Vec<u8>, AllocError>
+/// Returns what a fault of the table of these objects and info files is about. Objects are named by
+/// their paths, and info files by their targets.
+pub(crate) fn fault_subject(
+    alloc: Global,
+    fault: &TableFault,
+    makers: Makers,
+) -> Result<Vec<u8>, AllocError>
     ensures { IfOk result (λ text. text.items ≡ fault_subject
         makers.entry.objects.now (map (λ n. n.now) makers.entry.names.now) fault.now) }
 {

@@ -1,9 +1,11 @@
-use Rattle.std.proofs.Common.{◌≡◌, List, [], ◌∷◌, ◌++◌, map, append_assoc, ap, ap₂, subst, sym, ◌∙◌}
+use Rattle.std.proofs.Common.{rules, ◌≡◌, List, [], ◌∷◌, ◌++◌, map, append_assoc, ap, ap₂, string_bytes, subst, sym, ◌∙◌}
 use Rattle.std.specs.Prelude.{All, IsUtf8, OnOk, Result, Ok, Err, false}
+use Rattle.std.specs.declared.alloc.AllocError.{AllocError}
 use Rattle.scan_docs.specs.Target.{TargetDocumentValue}
 use Rattle.commands.specs.Answers.{file_value}
 use Rattle.commands.specs.CollateCommand.{output_file, map_files}
 use Rattle.commands.specs.Outcomes.{FileValue}
+use Rattle.commands.proofs.Commands.{file_more}
 use Rattle.commands.proofs.collate.append_files.Goals as goal
 
 -- what follows from a fact that holds if a call succeeds
@@ -23,12 +25,15 @@ returns c =
     let before : List FileValue = map file_value c.args.files.now.items in
     let maps : List FileValue = map_files spec.restat collated.objects collated.maps in
     let keeps : c.spec.inside.restat ≡ spec.restat = ap (λ (t : TargetDocumentValue). t.restat) c.spec.view_is in
-    let info = ap₂ (output_file c.spec.inside.restat) (c.as_str.ensures.value ∙ ap (λ (t : TargetDocumentValue). t.info) c.spec.view_is) parts.info ∙ ap (λ k. output_file k spec.info collated.info) keeps in
-    let dyndep = ap₂ (output_file false) (c.as_str-2.ensures.value ∙ ap (λ (t : TargetDocumentValue). t.dyndep) c.spec.view_is) parts.dyndep in
+    let info : output_file c.spec.inside.restat (string_bytes c.in_ok-from_str.field-0) c.into_parts-dyndep_text.result.info.items ≡ output_file spec.restat spec.info collated.info =
+    ap₂ (output_file c.spec.inside.restat) (search rules) parts.info ∙ ap (λ k. output_file k spec.info collated.info) keeps in
+    let dyndep : output_file false (string_bytes c.in_ok-from_str-2.field-0) c.into_parts-dyndep_text.result.dyndep.items ≡ output_file false spec.dyndep collated.dyndep =
+    ap₂ (output_file false) (search rules) parts.dyndep in
     let maps_in = c.in_ok-append_maps.ensures ∙ ap₂ (λ objects texts. before ++ map_files c.spec.inside.restat objects texts) (c.deref.ensures.value ∙ parts.objects) parts.maps ∙ ap (λ k. before ++ map_files k collated.objects collated.maps) keeps in
-    let info_in = c.in_ok-append_file.ensures ∙ ap₂ (λ (files : List FileValue) (file : FileValue). files ++ file ∷ []) maps_in info in
-    if_done c.append_file-2.result _ _
-    (λ h. h ∙ ap₂ (λ (files : List FileValue) (file : FileValue). files ++ file ∷ []) info_in dyndep
+    let info_in = file_more {E = AllocError} (Ok tt) _ c.add.new.list.items _ (output_file spec.restat spec.info collated.info) info c.in_ok-add.ensures
+    ∙ ap (λ (files : List FileValue). files ++ output_file spec.restat spec.info collated.info ∷ []) maps_in in
+    if_done c.add-2.result _ _
+    (λ h. h ∙ ap (λ (files : List FileValue). files ++ output_file false spec.dyndep collated.dyndep ∷ []) info_in
     ∙ append_assoc (before ++ maps) (output_file spec.restat spec.info collated.info ∷ []) (output_file false spec.dyndep collated.dyndep ∷ [])
     ∙ append_assoc before maps (output_file spec.restat spec.info collated.info ∷ output_file false spec.dyndep collated.dyndep ∷ []))
-    c.append_file-2.ensures
+    (file_more c.add-2.result c.add.new.list.items c.add-2.new.list.items _ (output_file false spec.dyndep collated.dyndep) dyndep c.add-2.ensures)
