@@ -1,5 +1,5 @@
 -- The reply of a command, by its answer.
-use Rattle.std.proofs.Common.{◌≡◌, List, ℕ, subst}
+use Rattle.std.proofs.Common.{List, ℕ, subst}
 use Rattle.std.specs.Prelude.{Result, ⊤}
 use Rattle.std.specs.declared.alloc.AllocError.{AllocError}
 use Rattle.ninja_text.specs.Bytes.{Bytes}

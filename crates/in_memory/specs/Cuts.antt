@@ -1,5 +1,5 @@
 -- Files that lie one after another in one text.
-use Rattle.std.specs.Prelude.{◌≡◌, ℕ, List, [], ◌∷◌, ◌++◌, length, All, IsUtf8}
+use Rattle.std.specs.Prelude.{◌≡◌, List, [], ◌∷◌, ◌++◌, length, All, IsUtf8}
 use Rattle.std.specs.List.{flat_map}
 use Rattle.dep_order.specs.Numbers.{Numbers}
 use Rattle.ninja_text.specs.Bytes.{Bytes}

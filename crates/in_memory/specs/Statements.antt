@@ -1,5 +1,5 @@
 -- The statements of a dyndep file, as numbers and a text, and what is reported of a faulty one.
-use Rattle.std.specs.Prelude.{◌≡◌, ℕ, List, [], ◌∷◌, ◌++◌, length, map}
+use Rattle.std.specs.Prelude.{◌≡◌, List, [], ◌∷◌, ◌++◌, length, map}
 use Rattle.std.specs.List.{flat_map}
 use Rattle.dep_order.specs.Numbers.{Numbers}
 use Rattle.ninja_text.specs.Bytes.{Text, PathText}
