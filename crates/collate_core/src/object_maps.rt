@@ -3,17 +3,15 @@ ghost use Rattle.std.specs.Prelude.{◌≡◌, ◌<◌, length, map, slice_get, 
 ghost use Rattle.std.specs.Option.{option_copied, option_map};
 ghost use Rattle.ninja_text.specs.Failure.{ForFault};
 ghost use Rattle.scan_docs.specs.Scan.{RuleValue};
-ghost use Rattle.module_table.specs.Needed.{ArePairs, IsNeeded};
 ghost use Rattle.collate_core.specs.Maps.{IsMapOf};
 ghost use Rattle.collate_core.specs.Collation.{AreMaps, IsMapText};
 ghost use Rattle.collate_core.specs.inner.Parts.{IsMapsRefusal, IsObjectRefusal};
 
 use crate::fault::Refusal;
-use crate::pairs::{copy_lent, copy_pairs};
+use crate::pairs::lend_pairs;
 use module_maps::{MapStyle, ModuleMap};
 use module_table::{Needs, Table};
-use ninja_text::{Failure, Path};
-use scan_docs::Name;
+use ninja_text::Failure;
 use std::alloc::{AllocError, Global};
 
 /// Returns the text of each object's map, or the fault of the first that has one. Without a style the
@@ -38,10 +36,10 @@ pub(crate) fn maps_of<M: MapStyle>(
     }
 }
 
-fn map_texts<M: MapStyle>(
+fn map_texts<'t, M: MapStyle>(
     alloc: Global,
-    table: &Table,
-    needs: &mut Needs<'_>,
+    table: &'t Table,
+    needs: &mut Needs<'t>,
     style: &M,
 ) -> Result<Vec<Vec<u8>>, Failure<Refusal>>
     requires { needs.old ≡ table.now }
@@ -57,10 +55,10 @@ fn map_texts<M: MapStyle>(
     Ok(texts)
 }
 
-fn text_of<M: MapStyle>(
+fn text_of<'t, M: MapStyle>(
     alloc: Global,
-    table: &Table,
-    needs: &mut Needs<'_>,
+    table: &'t Table,
+    needs: &mut Needs<'t>,
     object: usize,
     style: &M,
 ) -> Result<Vec<u8>, Failure<Refusal>>
@@ -77,12 +75,12 @@ fn text_of<M: MapStyle>(
     style.write(alloc, &map).map_err(|failure| failure.map(|fault| Refusal::Map { object, fault }))
 }
 
-fn map_of(
+fn map_of<'t>(
     alloc: Global,
-    table: &Table,
-    needs: &mut Needs<'_>,
+    table: &'t Table,
+    needs: &mut Needs<'t>,
     object: usize,
-) -> Result<ModuleMap, AllocError>
+) -> Result<ModuleMap<'t>, AllocError>
     requires object { object < length table.now.objects }
     requires needs { needs.old ≡ table.now }
     ensures same { needs.new ≡ needs.old }
@@ -90,11 +88,7 @@ fn map_of(
         (λ map. (rule : RuleValue) → slice_get table.now.objects object ≡ Some rule →
         IsMapOf table.now object rule map) }
 {
-    let provided = copy_pairs(alloc, table.provided(object))?;
-    let lent = needs.of(alloc, object)?;
-    let needed = copy_lent(alloc, &lent)?;
-    match ModuleMap::new(provided, needed) {
-        Some(map) => Ok(map),
-        None => unreachable!(),
-    }
+    let provided = lend_pairs(alloc, table.provided(object))?;
+    let needed = needs.of(alloc, object)?;
+    Ok(ModuleMap::of_rising(provided, needed))
 }

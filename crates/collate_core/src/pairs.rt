@@ -29,16 +29,16 @@ pub(crate) fn copy_pairs(
     Ok(copy)
 }
 
-/// Returns copies of the borrowed pairs.
-pub(crate) fn copy_lent(
+/// Returns references to the names and the files.
+pub(crate) fn lend_pairs<'p>(
     alloc: Global,
-    pairs: &[(&Name, &Path)],
-) -> Result<Vec<(Name, Path)>, AllocError>
-    ensures { IfOk result (λ copy. copy.items ≡ map lent pairs.now) }
+    pairs: &'p [(Name, Path)],
+) -> Result<Vec<(&'p Name, &'p Path)>, AllocError>
+    ensures { IfOk result (λ found. map lent found.items ≡ pairs.now) }
 {
-    let mut copy = Vec::with_capacity(alloc, pairs.len())?;
+    let mut found = Vec::with_capacity(alloc, pairs.len())?;
     for pair in pairs {
-        copy.push(copy_pair(alloc, pair.0, pair.1)?)?;
+        found.push((&pair.0, &pair.1))?;
     }
-    Ok(copy)
+    Ok(found)
 }

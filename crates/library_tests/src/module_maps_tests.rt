@@ -21,11 +21,26 @@ fn pairs(alloc: Global, texts: &[(&str, &str)]) -> Result<Vec<(Name, Path)>, Fai
     Ok(pairs)
 }
 
-/// The map of an object that provides `A` and needs `B`.
-fn map_of_two(alloc: Global) -> Result<ModuleMap, Fail> {
-    let provided = pairs(alloc, &[("A", "mod/A.bmi")])?;
-    let needed = pairs(alloc, &[("B", "mod/B.bmi")])?;
-    some(ModuleMap::new(provided, needed))
+/// References to the names and paths.
+fn lent<'p>(
+    alloc: Global,
+    pairs: &'p [(Name, Path)],
+) -> Result<Vec<(&'p Name, &'p Path)>, AllocError> {
+    let mut lent = Vec::new(alloc);
+    for pair in pairs {
+        lent.push((&pair.0, &pair.1))?;
+    }
+    Ok(lent)
+}
+
+/// The map of these modules.
+fn map_of<'p>(
+    alloc: Global,
+    provided: &'p [(Name, Path)],
+    needed: &'p [(Name, Path)],
+) -> Result<ModuleMap<'p>, Fail> {
+    let provided = lent(alloc, provided)?;
+    some(ModuleMap::new(provided, lent(alloc, needed)?))
 }
 
 /// The entries, one per line.
@@ -56,12 +71,12 @@ pub(crate) fn entries_of_lines(alloc: Global) -> Result<Vec<u8>, Fail> {
 pub(crate) fn entry_of_pair(alloc: Global) -> Result<Vec<u8>, Fail> {
     let pair = some(pair_in(alloc, b'=', b"M:p=mod/M=p.bmi")?)?;
     let mut entries = Vec::new(alloc);
-    push_named(alloc, &mut entries, &[pair])?;
+    push_named(alloc, &mut entries, &[(&pair.0, &pair.1)])?;
     Ok(entries_text(alloc, &entries)?)
 }
 
 /// The entries that the style keeps of the map.
-fn kept<M: MapStyle>(alloc: Global, style: &M, map: &ModuleMap) -> Result<Vec<u8>, AllocError> {
+fn kept<M: MapStyle>(alloc: Global, style: &M, map: &ModuleMap<'_>) -> Result<Vec<u8>, AllocError> {
     let entries = style.keeps(alloc, map)?;
     entries_text(alloc, &entries)
 }
@@ -77,7 +92,7 @@ fn entries_in<M: MapStyle>(alloc: Global, style: &M, text: &str) -> Result<Vec<u
 fn has_text<M: MapStyle>(
     alloc: Global,
     style: &M,
-    map: &ModuleMap,
+    map: &ModuleMap<'_>,
     text: &str,
     entries: &str,
 ) -> Result<bool, Fail> {
@@ -95,7 +110,9 @@ pub(crate) fn is_read_back<M: MapStyle>(
     text: &str,
     entries: &str,
 ) -> Result<bool, Fail> {
-    has_text(alloc, style, &map_of_two(alloc)?, text, entries)
+    let provided = pairs(alloc, &[("A", "mod/A.bmi")])?;
+    let needed = pairs(alloc, &[("B", "mod/B.bmi")])?;
+    has_text(alloc, style, &map_of(alloc, &provided, &needed)?, text, entries)
 }
 
 /// The number of the first line that the style can't read, if there is one.
@@ -138,7 +155,7 @@ fn a_text_that_is_no_map_is_refused_at_its_first_bad_line(rt: HostRuntime) -> Re
 fn is_unfit<M: MapStyle>(
     alloc: Global,
     style: &M,
-    map: &ModuleMap,
+    map: &ModuleMap<'_>,
     text: &str,
 ) -> Result<bool, AllocError> {
     match style.write(alloc, map) {
@@ -150,17 +167,13 @@ fn is_unfit<M: MapStyle>(
     }
 }
 
-/// Two provided modules, which Clang's maps can't have, and two paths that no map can have.
-fn unfit_map(alloc: Global) -> Result<ModuleMap, Fail> {
-    let provided = pairs(alloc, &[("A", "a"), ("B", "b")])?;
-    let needed = pairs(alloc, &[("C", "my mods/C"), ("D", "it's")])?;
-    some(ModuleMap::new(provided, needed))
-}
-
 #[test]
 fn a_path_that_a_map_cannot_have_fits_no_style(rt: HostRuntime) -> Result<(), Fail> {
     let alloc = rt.alloc();
-    let map = unfit_map(alloc)?;
+    // two provided modules, which Clang's maps can't have, and two paths that no map can have
+    let provided = pairs(alloc, &[("A", "a"), ("B", "b")])?;
+    let needed = pairs(alloc, &[("C", "my mods/C"), ("D", "it's")])?;
+    let map = map_of(alloc, &provided, &needed)?;
     assert!(rt; is_unfit(alloc, &Gcc, &map, "my mods/C")?);
     assert!(rt; is_unfit(alloc, &Clang, &map, "my mods/C")?);
     assert!(rt; is_unfit(alloc, &Bare, &map, "my mods/C")?);
@@ -169,7 +182,8 @@ fn a_path_that_a_map_cannot_have_fits_no_style(rt: HostRuntime) -> Result<(), Fa
 
 /// Whether there is a map of these needed modules.
 fn is_map(alloc: Global, needed: &[(&str, &str)]) -> Result<bool, Fail> {
-    Ok(ModuleMap::new(Vec::new(alloc), pairs(alloc, needed)?).is_some())
+    let needed = pairs(alloc, needed)?;
+    Ok(ModuleMap::new(Vec::new(alloc), lent(alloc, &needed)?).is_some())
 }
 
 #[test]

@@ -1,7 +1,9 @@
 -- Loops that write a text for each element of a list.
-use Rattle.std.proofs.Common.{◌≡◌, ℕ, ◌+◌, ◌<◌, List, [], ◌∷◌, ◌++◌, length, take, get_or, ap, sym, ◌∙◌, append_assoc, append-nil}
+use Rattle.std.proofs.Common.{◌≡◌, ℕ, ◌+◌, ◌<◌, List, [], ◌∷◌, ◌++◌, length, take, map, ◌≤◌, get_or, ap, sym, ◌∙◌, append_assoc, append-nil}
 use Rattle.std.specs.List.{flat_map}
-use Rattle.std.proofs.lemmas.List.{take_more}
+use Rattle.std.proofs.lemmas.List.{take_more, take_all}
+use Rattle.std.proofs.lemmas.List.Folds.{flat_map-map}
+use Rattle.std.proofs.lemmas.Simd.{map-map}
 use Rattle.std.proofs.lemmas.Grind.{flat_map-append}
 
 -- one more element was written
@@ -11,6 +13,13 @@ one-more f start old new xs i x within is before now =
     let last : flat_map f (take (i + 1) xs) ≡ flat_map f (take i xs) ++ f x =
     ap (flat_map f) next ∙ flat_map-append f (take i xs) (x ∷ []) ∙ ap (λ t. flat_map f (take i xs) ++ t) (append-nil (f x)) in
     now ∙ ap (λ t. t ++ f x) before ∙ append_assoc start (flat_map f (take i xs)) (f x) ∙ ap (λ t. start ++ t) (sym last)
+
+-- all were written, of what is seen of the elements
+pub written-all : {A B C : Type 0} (f : B → List C) (v : A → B) (start new : List C) (xs : List A) (i : ℕ) → length xs ≤ i → new ≡ start ++ flat_map (λ x. f (v x)) (take i xs) → new ≡ start ++ flat_map f (map v xs)
+written-all f v start new xs i end is = is ∙ ap (λ ys. start ++ flat_map (λ x. f (v x)) ys) (take_all i xs end) ∙ ap (λ t. start ++ t) (sym (flat_map-map f v xs))
+
+pub pushed-all : {A B C : Type 0} (f : B → C) (v : A → B) (start new : List C) (xs : List A) (i : ℕ) → length xs ≤ i → new ≡ start ++ map (λ x. f (v x)) (take i xs) → new ≡ start ++ map f (map v xs)
+pushed-all f v start new xs i end is = is ∙ ap (λ ys. start ++ map (λ x. f (v x)) ys) (take_all i xs end) ∙ ap (λ t. start ++ t) (sym (map-map f v xs))
 
 -- what is written in three parts
 pub three-parts : (old a b c first middle last : List ℕ) → a ≡ old ++ first → b ≡ a ++ middle → c ≡ b ++ last → c ≡ old ++ ((first ++ middle) ++ last)

@@ -3,5 +3,4 @@ pub mod Maps
 pub mod MapLines
 pub mod GccMaps
 pub mod ClangMaps
-pub mod inner
 pub mod map_laws

@@ -1,6 +1,7 @@
 -- Module maps, and what every style of them keeps to.
 use Rattle.std.specs.Prelude.{◌≡◌, ◌≢◌, ℕ, List, ◌++◌, map, slice_get, Some, Result, Ok, Err, IsTrue, IsUtf8, AllPairs}
 use Rattle.std.specs.List.{All}
+use Rattle.std.specs.Borrow.{Bor}
 use Rattle.ninja_text.specs.Bytes.{Text, PathText, Name, Precedes}
 use Rattle.ninja_text.specs.Paths.{IsPath}
 use Rattle.scan_docs.specs.Name.{is_name}
@@ -8,6 +9,10 @@ use Rattle.module_maps.specs.Values.{ModuleMapValue}
 use Rattle.module_maps.specs.declared.module_map.MapEntry.{MapEntry}
 use Rattle.module_maps.specs.declared.fault.MapFault.{MapFault}
 use Rattle.module_maps.specs.declared.fault.MapFault.TheVariants.{BadMapLine}
+
+-- the names and the paths that are borrowed
+abbrev pub lent_pairs : List (Bor Name × Bor PathText) → List (Name × PathText)
+lent_pairs pairs = map (λ pair. (pair.0.now, pair.1.now)) pairs
 
 -- the pairs of a map, provided ones first
 abbrev pub pairs_of : ModuleMapValue → List (Name × PathText)

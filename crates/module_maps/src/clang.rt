@@ -2,14 +2,13 @@
 ghost use Rattle.std.specs.Prelude.{◌≡◌, ◌++◌, ◌-◌, map, length, slice_get, IfOk, OnOk};
 ghost use Rattle.std.specs.List.{flat_map};
 ghost use Rattle.ninja_text.specs.Failure.{Gives};
-ghost use Rattle.module_maps.specs.Maps.{IsWrittenText};
+ghost use Rattle.module_maps.specs.Maps.{IsWrittenText, lent_pairs};
 ghost use Rattle.module_maps.specs.MapLines.{ended_line, behind, lines_of};
 ghost use Rattle.module_maps.specs.ClangMaps.{file_line, output_flag, output_path, output_text, clang_text, rises_behind, read_provided};
 
 use crate::fault::MapFault;
 use crate::map_lines::{
-    LineForm, cut_line, first_unfit, lines_len, pair_in, path_in, push_named, push_nameless,
-    read_lines,
+    LineForm, cut_line, first_unfit, pair_in, path_in, push_named, push_nameless, read_lines,
 };
 use crate::map_style::MapStyle;
 use crate::module_map::{MapEntry, ModuleMap};
@@ -40,18 +39,18 @@ impl MapStyle for Clang {
 
     ghost keeps_pairs = { λ s m is. clang-pairs m };
 
-    fn fits(&self, map: &ModuleMap) -> bool {
+    fn fits(&self, map: &ModuleMap<'_>) -> bool {
         first_unfit(map).is_none() && map.provided().len() <= 1
     }
 
-    fn keeps(&self, alloc: Global, map: &ModuleMap) -> Result<Vec<MapEntry>, AllocError> {
+    fn keeps(&self, alloc: Global, map: &ModuleMap<'_>) -> Result<Vec<MapEntry>, AllocError> {
         let mut entries = Vec::new(alloc);
         push_nameless(alloc, &mut entries, map.provided())?;
         push_named(alloc, &mut entries, map.needed())?;
         Ok(entries)
     }
 
-    fn write(&self, alloc: Global, map: &ModuleMap) -> Result<Vec<u8>, Failure<MapFault>> {
+    fn write(&self, alloc: Global, map: &ModuleMap<'_>) -> Result<Vec<u8>, Failure<MapFault>> {
         match first_unfit(map) {
             Some(path) => {
                 let path = path.copy(alloc)?;
@@ -126,27 +125,18 @@ impl LineForm for Clang {
 fn read_provided(alloc: Global, text: &[u8]) -> Result<Vec<MapEntry>, Failure<MapFault>>
     ensures { Gives (λ found. found.items) result (read_provided (lines_of text.now)) }
 {
-    match cut_line(text) {
-        Some((line, rest)) => match output_path(alloc, line)? {
-            Some(path) => {
-                let mut entries = Vec::new(alloc);
-                entries.push(MapEntry { name: None, path })?;
-                read_lines(alloc, &Clang, entries, 3, rest)
-            }
-            None => Err(Failure::Fault(MapFault::BadMapLine { line: 2 })),
-        },
-        None => Err(Failure::Fault(MapFault::BadMapLine { line: 2 })),
-    }
-}
-
-/// Returns the path in the line of a provided module, if it is one.
-fn output_path(alloc: Global, line: &[u8]) -> Result<Option<Path>, AllocError>
-    ensures { IfOk result (λ path. path ≡ output_path (behind output_flag line.now)) }
-{
-    match line.strip_prefix(b"-fmodule-output=") {
-        Some(rest) => path_in(alloc, rest),
-        None => Ok(None),
-    }
+    let Some((line, rest)) = cut_line(text) else {
+        return Err(Failure::Fault(MapFault::BadMapLine { line: 2 }));
+    };
+    let Some(output) = line.strip_prefix(b"-fmodule-output=") else {
+        return Err(Failure::Fault(MapFault::BadMapLine { line: 2 }));
+    };
+    let Some(path) = path_in(alloc, output)? else {
+        return Err(Failure::Fault(MapFault::BadMapLine { line: 2 }));
+    };
+    let mut entries = Vec::new(alloc);
+    entries.push(MapEntry { name: None, path })?;
+    read_lines(alloc, &Clang, entries, 3, rest)
 }
 
 /// Returns whether a name comes after the name of the last entry, if it has one.
@@ -163,19 +153,18 @@ fn rises_behind(entries: &[MapEntry], name: &Name) -> bool
 }
 
 /// Returns the text of a map.
-fn text_of(alloc: Global, map: &ModuleMap) -> Result<Vec<u8>, AllocError>
+fn text_of(alloc: Global, map: &ModuleMap<'_>) -> Result<Vec<u8>, AllocError>
     ensures { IfOk result (λ text. text.items ≡ clang_text map.now) }
 {
-    let outputs = lines_len(map.provided(), b"-x c++-module\n-fmodule-output=\n".len());
-    let files = lines_len(map.needed(), b"-fmodule-file==\n".len());
-    let mut text = Vec::with_capacity(alloc, outputs.saturating_add(files))?;
+    let output = b"-x c++-module\n-fmodule-output=\n".len();
+    let mut text = Vec::with_capacity(alloc, map.text_len(output, b"-fmodule-file==\n".len()))?;
     push_outputs(&mut text, map.provided())?;
     push_files(&mut text, map.needed())?;
     Ok(text)
 }
 
-fn push_outputs(text: &mut Vec<u8>, pairs: &[(Name, Path)]) -> Result<(), AllocError>
-    ensures { OnOk result (text.new.items ≡ text.old.items ++ flat_map output_text pairs.now) }
+fn push_outputs(text: &mut Vec<u8>, pairs: &[(&Name, &Path)]) -> Result<(), AllocError>
+    ensures { OnOk result (text.new.items ≡ text.old.items ++ flat_map output_text (lent_pairs pairs.now)) }
 {
     for pair in pairs {
         text.extend_from_slice(b"-x c++-module\n-fmodule-output=")?;
@@ -185,9 +174,9 @@ fn push_outputs(text: &mut Vec<u8>, pairs: &[(Name, Path)]) -> Result<(), AllocE
     Ok(())
 }
 
-fn push_files(text: &mut Vec<u8>, pairs: &[(Name, Path)]) -> Result<(), AllocError>
+fn push_files(text: &mut Vec<u8>, pairs: &[(&Name, &Path)]) -> Result<(), AllocError>
     ensures { OnOk result (text.new.items ≡
-        text.old.items ++ flat_map (λ pair. ended_line (file_line pair)) pairs.now) }
+        text.old.items ++ flat_map (λ pair. ended_line (file_line pair)) (lent_pairs pairs.now)) }
 {
     for pair in pairs {
         text.extend_from_slice(b"-fmodule-file=")?;

@@ -2,13 +2,13 @@
 ghost use Rattle.std.specs.Prelude.{◌≡◌, ◌++◌, Ok, IfOk, OnOk};
 ghost use Rattle.std.specs.List.{flat_map};
 ghost use Rattle.ninja_text.specs.Failure.{Gives};
-ghost use Rattle.module_maps.specs.Maps.{IsWrittenText, pairs_of};
+ghost use Rattle.module_maps.specs.Maps.{IsWrittenText, pairs_of, lent_pairs};
 ghost use Rattle.module_maps.specs.MapLines.{ended_line};
 ghost use Rattle.module_maps.specs.GccMaps.{gcc_line};
 ghost use Rattle.module_maps.specs.declared.module_map.MapEntry.{MapEntry};
 
 use crate::fault::MapFault;
-use crate::map_lines::{LineForm, first_unfit, lines_len, pair_in, push_named, read_lines};
+use crate::map_lines::{LineForm, first_unfit, pair_in, push_named, read_lines};
 use crate::map_style::MapStyle;
 use crate::module_map::{MapEntry, ModuleMap};
 use ninja_text::{Failure, Path};
@@ -37,18 +37,18 @@ impl MapStyle for Gcc {
 
     ghost keeps_pairs = { λ s m is. gcc-pairs m };
 
-    fn fits(&self, map: &ModuleMap) -> bool {
+    fn fits(&self, map: &ModuleMap<'_>) -> bool {
         first_unfit(map).is_none()
     }
 
-    fn keeps(&self, alloc: Global, map: &ModuleMap) -> Result<Vec<MapEntry>, AllocError> {
+    fn keeps(&self, alloc: Global, map: &ModuleMap<'_>) -> Result<Vec<MapEntry>, AllocError> {
         let mut entries = Vec::new(alloc);
         push_named(alloc, &mut entries, map.provided())?;
         push_named(alloc, &mut entries, map.needed())?;
         Ok(entries)
     }
 
-    fn write(&self, alloc: Global, map: &ModuleMap) -> Result<Vec<u8>, Failure<MapFault>> {
+    fn write(&self, alloc: Global, map: &ModuleMap<'_>) -> Result<Vec<u8>, Failure<MapFault>> {
         match first_unfit(map) {
             Some(path) => {
                 let path = path.copy(alloc)?;
@@ -96,21 +96,19 @@ impl LineForm for Gcc {
 }
 
 /// Returns the text of a map.
-fn text_of(alloc: Global, map: &ModuleMap) -> Result<Vec<u8>, AllocError>
+fn text_of(alloc: Global, map: &ModuleMap<'_>) -> Result<Vec<u8>, AllocError>
     ensures { IfOk result (λ text.
         text.items ≡ flat_map (λ pair. ended_line (gcc_line pair)) (pairs_of map.now)) }
 {
-    let provided = lines_len(map.provided(), b" \n".len());
-    let needed = lines_len(map.needed(), b" \n".len());
-    let mut text = Vec::with_capacity(alloc, provided.saturating_add(needed))?;
+    let mut text = Vec::with_capacity(alloc, map.text_len(b" \n".len(), b" \n".len()))?;
     push_lines(&mut text, map.provided())?;
     push_lines(&mut text, map.needed())?;
     Ok(text)
 }
 
-fn push_lines(text: &mut Vec<u8>, pairs: &[(Name, Path)]) -> Result<(), AllocError>
+fn push_lines(text: &mut Vec<u8>, pairs: &[(&Name, &Path)]) -> Result<(), AllocError>
     ensures { OnOk result (text.new.items ≡
-        text.old.items ++ flat_map (λ pair. ended_line (gcc_line pair)) pairs.now) }
+        text.old.items ++ flat_map (λ pair. ended_line (gcc_line pair)) (lent_pairs pairs.now)) }
 {
     for pair in pairs {
         text.extend_from_slice(pair.0.bytes())?;

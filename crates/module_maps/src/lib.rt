@@ -1,8 +1,8 @@
 //! Module maps: texts that tell a compiler, for one object, the files of the modules that the
 //! object provides and needs.
 //!
-//! - [`ModuleMap`] holds the modules that the object provides, in order of provision, and the modules
-//!   that it needs, in byte order of names (`specs/Maps.antt`, `IsModuleMap`).
+//! - [`ModuleMap`] borrows the modules that the object provides, in order of provision, and the
+//!   modules that it needs, in byte order of names (`specs/Maps.antt`, `IsModuleMap`).
 //! - [`Gcc`] and [`Clang`] are styles of maps. A caller can write another [`MapStyle`]; [`map_lines`]
 //!   has what the two share. The contract of a style says which text it writes for a map, and which
 //!   entries it reads in a text (`specs/GccMaps.antt`, `specs/ClangMaps.antt`).
@@ -13,8 +13,8 @@
 //!   they write (`IsWrittenText`).
 //!
 //! `specs/map_laws/` has the lemmas for the laws. They are in `specs/` because the proof of a trait's
-//! law is part of its `impl`, which can only use the crate's `specs/`. `specs/inner/` has definitions
-//! for private contracts. You need neither to read a public contract.
+//! law is part of its `impl`, which can only use the crate's `specs/`. You do not need them to read a
+//! public contract.
 //!
 //! The crate uses `ninja_text` for paths, `scan_docs` for names and `thiserror` for its fault. It does
 //! not know the module table: the caller knows which modules an object needs.

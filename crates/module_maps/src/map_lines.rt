@@ -1,10 +1,8 @@
 //! Helpers for styles of module maps: which paths a map can have, and how its lines are read.
 ghost use Rattle.std.specs.Prelude.{◌≡◌, ◌<◌, ◌≤◌, ◌==◌, ◌++◌, [], ◌∷◌, length, map, Some, None, IfOk, OnOk, IfSome, MatchOption, option_copied, position};
 ghost use Rattle.ninja_text.specs.Failure.{Gives};
-ghost use Rattle.std.specs.List.{sum_by};
-ghost use Rattle.module_maps.specs.Maps.{pairs_of};
+ghost use Rattle.module_maps.specs.Maps.{pairs_of, lent_pairs};
 ghost use Rattle.module_maps.specs.MapLines.{LineForm, is_fit, first_unfit, named, nameless, lines_of, cut, path_in, name_in, pair_in, read_lines};
-ghost use Rattle.module_maps.specs.inner.Lengths.{line_len, capped};
 
 use crate::fault::MapFault;
 use crate::module_map::{MapEntry, ModuleMap};
@@ -105,25 +103,18 @@ fn index_of(text: &[u8], mark: u8) -> Option<usize>
 pub fn pair_in(alloc: Global, mark: u8, text: &[u8]) -> Result<Option<(Name, Path)>, AllocError>
     ensures { IfOk result (λ pair. pair ≡ pair_in mark text.now) }
 {
-    match cut(text, mark) {
-        Some((name, path)) => match name_in(alloc, name)? {
-            Some(name) => match path_in(alloc, path)? {
-                Some(path) => Ok(Some((name, path))),
-                None => Ok(None),
-            },
-            None => Ok(None),
-        },
+    let Some((name, path)) = cut(text, mark) else {
+        return Ok(None);
+    };
+    let Ok(name) = str::from_utf8(name) else {
+        return Ok(None);
+    };
+    let Some(name) = Name::of(alloc, name)? else {
+        return Ok(None);
+    };
+    match path_in(alloc, path)? {
+        Some(path) => Ok(Some((name, path))),
         None => Ok(None),
-    }
-}
-
-#[tactic(auto, unfolding(crate::specs::MapLines::name_in))]
-fn name_in(alloc: Global, text: &[u8]) -> Result<Option<Name>, AllocError>
-    ensures { IfOk result (λ name. name ≡ name_in text.now) }
-{
-    match str::from_utf8(text) {
-        Ok(text) => Name::of(alloc, text),
-        Err(_) => Ok(None),
     }
 }
 
@@ -161,7 +152,7 @@ fn is_fit(path: &[u8]) -> bool
 }
 
 /// Returns the first path with a byte that needs quotes.
-pub fn first_unfit(map: &ModuleMap) -> Option<&Path>
+pub fn first_unfit<'m>(map: &ModuleMap<'m>) -> Option<&'m Path>
     ensures { option_copied result ≡ first_unfit (pairs_of map.now) }
 {
     match unfit_in(map.provided()) {
@@ -170,32 +161,15 @@ pub fn first_unfit(map: &ModuleMap) -> Option<&Path>
     }
 }
 
-fn unfit_in(pairs: &[(Name, Path)]) -> Option<&Path>
-    ensures { option_copied result ≡ first_unfit pairs.now }
+fn unfit_in<'m>(pairs: &[(&'m Name, &'m Path)]) -> Option<&'m Path>
+    ensures { option_copied result ≡ first_unfit (lent_pairs pairs.now) }
 {
     for pair in pairs {
         if !is_fit(pair.1.bytes()) {
-            return Some(&pair.1);
+            return Some(pair.1);
         }
     }
     None
-}
-
-/// Returns the total length of the lines of modules, each with this number of bytes besides name and
-/// path, or `usize::MAX` if it is larger.
-pub(crate) fn lines_len(pairs: &[(Name, Path)], beside: usize) -> usize
-    ensures { result ≡ capped (sum_by (line_len beside) pairs.now) }
-{
-    let mut len: usize = 0;
-    for pair in pairs {
-        let name = pair.0.bytes();
-        let path = pair.1.bytes();
-        len = len
-            .saturating_add(name.len())
-            .saturating_add(path.len())
-            .saturating_add(beside);
-    }
-    len
 }
 
 /// Appends the entries of modules, with their names.
@@ -206,9 +180,9 @@ pub(crate) fn lines_len(pairs: &[(Name, Path)], beside: usize) -> usize
 pub fn push_named(
     alloc: Global,
     entries: &mut Vec<MapEntry>,
-    pairs: &[(Name, Path)],
+    pairs: &[(&Name, &Path)],
 ) -> Result<(), AllocError>
-    ensures { OnOk result (entries.new.items ≡ entries.old.items ++ map named pairs.now) }
+    ensures { OnOk result (entries.new.items ≡ entries.old.items ++ map named (lent_pairs pairs.now)) }
 {
     for pair in pairs {
         let name = pair.0.copy(alloc)?;
@@ -229,9 +203,9 @@ pub fn push_named(
 pub fn push_nameless(
     alloc: Global,
     entries: &mut Vec<MapEntry>,
-    pairs: &[(Name, Path)],
+    pairs: &[(&Name, &Path)],
 ) -> Result<(), AllocError>
-    ensures { OnOk result (entries.new.items ≡ entries.old.items ++ map nameless pairs.now) }
+    ensures { OnOk result (entries.new.items ≡ entries.old.items ++ map nameless (lent_pairs pairs.now)) }
 {
     for pair in pairs {
         let path = pair.1.copy(alloc)?;

@@ -24,7 +24,7 @@ pub trait MapStyle {
     ghost entries: { Self → Text → Result (List MapEntry) MapFault };
 
     /// Returns whether the style can write the map.
-    fn fits(&self, map: &ModuleMap) -> bool
+    fn fits(&self, map: &ModuleMap<'_>) -> bool
         ensures { IsTrue result ↔ IsOk (written self.now map.now) };
 
     /// Returns what is left of the map after it was written and read.
@@ -32,7 +32,7 @@ pub trait MapStyle {
     /// # Errors
     ///
     /// Returns an error if an allocation fails.
-    fn keeps(&self, alloc: Global, map: &ModuleMap) -> Result<Vec<MapEntry>, AllocError>
+    fn keeps(&self, alloc: Global, map: &ModuleMap<'_>) -> Result<Vec<MapEntry>, AllocError>
         ensures { IfOk result (λ found. found.items ≡ kept self.now map.now) };
 
     /// Returns the text of the map.
@@ -41,7 +41,7 @@ pub trait MapStyle {
     ///
     /// Returns K1 or K2 if and only if the map does not fit, or [`Failure::Memory`] if an allocation
     /// fails.
-    fn write(&self, alloc: Global, map: &ModuleMap) -> Result<Vec<u8>, Failure<MapFault>>
+    fn write(&self, alloc: Global, map: &ModuleMap<'_>) -> Result<Vec<u8>, Failure<MapFault>>
         ensures { Gives (λ text. text.items) result (written self.now map.now) };
 
     /// Returns the entries of a text.

@@ -6,17 +6,19 @@ use std::alloc::Global;
 use std::test::Fail;
 
 /// One module and its file.
-fn module(alloc: Global, name: &str, file: &str) -> Result<Vec<(Name, Path)>, Fail> {
+fn module(alloc: Global, name: &str, file: &str) -> Result<(Name, Path), Fail> {
     match Name::of(alloc, name)? {
-        Some(name) => Ok(vec![in alloc; (name, Path::of(alloc, file.as_bytes())?)]?),
+        Some(name) => Ok((name, Path::of(alloc, file.as_bytes())?)),
         None => Err(Fail::new("this is the name of no module")),
     }
 }
 
 #[test]
 fn an_object_that_provides_a_and_needs_b(rt: HostRuntime) -> Result<(), Fail> {
-    let provided = module(rt.alloc(), "A", "mod/A.pcm")?;
-    let needed = module(rt.alloc(), "B", "mod/B.pcm")?;
+    let (a, a_file) = module(rt.alloc(), "A", "mod/A.pcm")?;
+    let (b, b_file) = module(rt.alloc(), "B", "mod/B.pcm")?;
+    let provided = vec![in rt.alloc(); (&a, &a_file)]?;
+    let needed = vec![in rt.alloc(); (&b, &b_file)]?;
     let Some(map) = ModuleMap::new(provided, needed) else {
         return Err(Fail::new("the needed names do not rise"));
     };

@@ -1,7 +1,7 @@
 //! A style of a caller's own: a path per line, and no names.
 ghost use Rattle.std.specs.Prelude.{◌≡◌, ◌++◌, map, IfOk, OnOk};
 ghost use Rattle.std.specs.List.{flat_map};
-ghost use Rattle.module_maps.specs.Maps.{pairs_of};
+ghost use Rattle.module_maps.specs.Maps.{pairs_of, lent_pairs};
 ghost use Rattle.module_maps.specs.MapLines.{ended_line, nameless};
 
 use module_maps::map_lines::{LineForm, first_unfit, path_in, push_nameless, read_lines};
@@ -28,18 +28,18 @@ impl MapStyle for Bare {
 
     ghost keeps_pairs = { λ s m is. bare-pairs m };
 
-    fn fits(&self, map: &ModuleMap) -> bool {
+    fn fits(&self, map: &ModuleMap<'_>) -> bool {
         first_unfit(map).is_none()
     }
 
-    fn keeps(&self, alloc: Global, map: &ModuleMap) -> Result<Vec<MapEntry>, AllocError> {
+    fn keeps(&self, alloc: Global, map: &ModuleMap<'_>) -> Result<Vec<MapEntry>, AllocError> {
         let mut entries = Vec::new(alloc);
         push_nameless(alloc, &mut entries, map.provided())?;
         push_nameless(alloc, &mut entries, map.needed())?;
         Ok(entries)
     }
 
-    fn write(&self, alloc: Global, map: &ModuleMap) -> Result<Vec<u8>, Failure<MapFault>> {
+    fn write(&self, alloc: Global, map: &ModuleMap<'_>) -> Result<Vec<u8>, Failure<MapFault>> {
         match first_unfit(map) {
             Some(path) => {
                 let path = path.copy(alloc)?;
@@ -75,7 +75,7 @@ impl LineForm for Bare {
     }
 }
 
-fn text_of(alloc: Global, map: &ModuleMap) -> Result<Vec<u8>, AllocError>
+fn text_of(alloc: Global, map: &ModuleMap<'_>) -> Result<Vec<u8>, AllocError>
     ensures { IfOk result
         (λ text. text.items ≡ flat_map (λ pair. ended_line pair.1) (pairs_of map.now)) }
 {
@@ -85,9 +85,9 @@ fn text_of(alloc: Global, map: &ModuleMap) -> Result<Vec<u8>, AllocError>
     Ok(text)
 }
 
-fn push_paths(text: &mut Vec<u8>, pairs: &[(Name, Path)]) -> Result<(), AllocError>
+fn push_paths(text: &mut Vec<u8>, pairs: &[(&Name, &Path)]) -> Result<(), AllocError>
     ensures { OnOk result
-        (text.new.items ≡ text.old.items ++ flat_map (λ pair. ended_line pair.1) pairs.now) }
+        (text.new.items ≡ text.old.items ++ flat_map (λ pair. ended_line pair.1) (lent_pairs pairs.now)) }
 {
     for pair in pairs {
         text.extend_from_slice(pair.1.bytes())?;

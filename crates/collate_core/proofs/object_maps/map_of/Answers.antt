@@ -1,14 +1,16 @@
-use Rattle.std.proofs.Common.{rules, ◌∙◌, ap, map, subst, sym}
-use Rattle.module_table.specs.Needed.{ArePairs, IsNeeded, lent}
-use Rattle.std.proofs.lemmas.Bool.{false≢true}
+use Rattle.std.proofs.Common.{◌∙◌, subst}
+use Rattle.module_maps.specs.Maps.{lent_pairs}
+use Rattle.module_table.specs.Needed.{ArePairs, IsNeeded}
 use Rattle.collate_core.proofs.object_maps.map_of.Goals as goal
 
--- said here, so that a body which does something else is rejected soon
-pub returns-clause-map : goal.returns-clause-map
-returns-clause-map c = search rules
+pub of_rising-requires : goal.of_rising-requires
+of_rising-requires c = c.in_ok-needed.ensures.pairs.rising
 
-pub unreachable-requires : goal.unreachable-requires
-unreachable-requires c =
-    let same = c.in_ok-needed.ensures ∙ ap (map lent) c.deref.ensures.value in
-    let are = subst (ArePairs (IsNeeded c.args.needs.now c.args.object)) (sym same) c.in_ok-lent.ensures.pairs in
-    false≢true (c.in-None.ensures.rising.1 are.rising)
+pub returns-clause-map : goal.returns-clause-map
+returns-clause-map c = λ rule here.
+    rw c.of_rising.ensures.map
+    (record {
+      is_map = rw (← c.of_rising.ensures.map) c.of_rising.ensures.is_map;
+      provided = c.in_ok-provided.ensures ∙ c.provided.ensures rule here;
+      needed = subst (λ t. ArePairs (IsNeeded t c.args.object) (lent_pairs c.in_ok-needed.needed.items)) c.requires.needs c.in_ok-needed.ensures.pairs;
+    })

@@ -6,4 +6,4 @@ use Rattle.module_maps.proofs.clang.push_files.Given as goal
 
 -- the lines so far
 abbrev pub invariant-loop-pair : goal.invariant-loop-pair
-invariant-loop-pair l = l.text.items ≡ l.initial.text.items ++ flat_map (λ pair. ended_line (file_line pair)) (take l.pair-index l.pairs)
+invariant-loop-pair l = l.text.items ≡ l.initial.text.items ++ flat_map (λ pair. ended_line (file_line (pair.0.now, pair.1.now))) (take l.pair-index l.pairs)

@@ -1,4 +1,5 @@
-use Rattle.std.proofs.Common.{◌≡◌, ℕ, List, [], ◌∷◌, ◌++◌, Some, None, ap, sym, subst, ◌∙◌}
+use Rattle.std.proofs.Common.{◌≡◌, ℕ, List, [], ◌∷◌, ◌++◌, Some, None, length, take, drop, true, refl, ap, sym, subst, ◌∙◌}
+use Rattle.std.specs.Prelude.{bytes_eq}
 use Rattle.ninja_text.specs.Failure.{Gives}
 use Rattle.module_maps.specs.MapLines.{lines_of, read_lines, behind}
 use Rattle.module_maps.specs.ClangMaps.{output_flag, output_path, clang_form, read_provided}
@@ -6,12 +7,17 @@ use Rattle.module_maps.specs.map_laws.ClangLemmas.{provided-line}
 use Rattle.module_maps.specs.declared.module_map.MapEntry.{MapEntry}
 use Rattle.module_maps.proofs.clang.read_provided.Goals as goal
 
-pub returns-in_ok-push-in-Some-2 : goal.returns-in_ok-push-in-Some-2
-returns-in_ok-push-in-Some-2 c =
+-- what follows the flag
+behind_is : (flag line rest : List ℕ) → bytes_eq (take (length flag) line) flag ≡ true → rest ≡ drop (length flag) line → behind flag line ≡ Some rest
+behind_is flag line rest begins is = rw (begins, is) refl
+
+pub returns : goal.returns
+returns c =
     let line : List ℕ = c.in-Some.line.now in
     let rest : List ℕ = c.in-Some.rest.now in
-    let path : output_path (behind output_flag line) ≡ Some c.in-Some-2.path = sym c.in_ok-path-in-Some.ensures ∙ c.in-Some-2.is in
+    let output : behind output_flag line ≡ Some c.in-Some-strip_prefix.output.now = behind_is output_flag line c.in-Some-strip_prefix.output.now c.in-Some-strip_prefix.ensures.cases.0 c.in-Some-strip_prefix.ensures.cases.1 in
+    let path : output_path (behind output_flag line) ≡ Some c.in-Some-2.path = ap output_path output ∙ sym c.in_ok-path.ensures ∙ c.in-Some-2.is in
     let same : read_lines clang_form c.push.new.self.items 3 (lines_of rest) ≡ read_provided (lines_of c.args.text.now) =
-    ap (λ es. read_lines clang_form es 3 (lines_of rest)) (c.in_ok-push-in-Some-2.ensures.items ∙ ap (λ (es : List MapEntry). es ++ record { name = None; path = c.in-Some-2.path } ∷ []) c.new-entries.ensures.items)
+    ap (λ es. read_lines clang_form es 3 (lines_of rest)) (c.in_ok-push.ensures.items ∙ ap (λ (es : List MapEntry). es ++ record { name = None; path = c.in-Some-2.path } ∷ []) c.new-entries.ensures.items)
     ∙ sym (ap read_provided c.in-Some.ensures.lines ∙ provided-line line rest (Some c.in-Some-2.path) path) in
     subst (Gives (λ found. found.items) c.read_lines.result) same c.read_lines.ensures

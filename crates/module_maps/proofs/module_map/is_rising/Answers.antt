@@ -1,8 +1,11 @@
 use Rattle.std.specs.Ordering.{is_ge}
-use Rattle.std.proofs.Common.{Ordering, Less, Equal, Greater, ◌≡◌, ℕ, zero, suc, ◌+◌, ◌-◌, ◌<◌, ◌≤◌, ◌⊎◌, List, length, Some, arith, ap, subst, sym, ◌∙◌, get_or, true, false, refl, slice_get, inl, inr}
+use Rattle.std.proofs.Common.{Ordering, Less, Equal, Greater, ◌≡◌, ℕ, zero, suc, ◌+◌, ◌-◌, ◌<◌, ◌≤◌, ◌⊎◌, List, length, Some, arith, ap, subst, sym, get_or, true, false, refl, slice_get, inl, inr, Bor}
 use Rattle.std.proofs.lemmas.Cmp.{nat_list_cmp_total}
+use Rattle.std.proofs.lemmas.List.{length-map}
+use Rattle.ninja_text.proofs.Indexed.{to_map}
 use Rattle.std.proofs.lemmas.Option.{slice_get_read, get_or_from_slice_get}
 use Rattle.ninja_text.specs.Bytes.{Precedes}
+use Rattle.module_maps.specs.Maps.{lent_pairs}
 use Rattle.module_maps.proofs.module_map.is_rising.Goals as goal
 
 less_from : (o : Ordering) → is_ge o ≡ false → o ≡ Less
@@ -47,30 +50,36 @@ rise_more xs i x y some at here next rise a b d less within =
       | inr same ↦ subst (λ n. Precedes (get_or xs a d).0 (get_or xs n d).0) (sym same) (to_last xs i d some both rise a (omega (arith, less, same)))
     ]
 
+-- a pair of the list, as it is seen
+seen : (xs : List (Bor (List ℕ) × Bor (List ℕ))) (i : ℕ) (x : Bor (List ℕ) × Bor (List ℕ)) → i < length xs → x ≡ get_or xs i x → slice_get (lent_pairs xs) i ≡ Some (x.0.now, x.1.now)
+seen xs i x within is = to_map (λ pair. (pair.0.now, pair.1.now)) xs i x (slice_get_read _ _ _ _ refl within is)
+
 pub returns-then-ge : goal.returns-then-ge
 returns-then-ge c =
-    let pairs : Pairs = c.args.pairs.now in
+    let pairs : Pairs = lent_pairs c.args.pairs.now in
     let i : ℕ = c.loop-i.i in
-    let x : List ℕ × List ℕ = c.index-pairs-i.result in
-    let y : List ℕ × List ℕ = c.index-pairs-i-in-loop-i.result in
-    let within : i < length pairs = omega arith in
-    let here : slice_get pairs i ≡ Some y = slice_get_read _ _ _ _ refl within c.index-pairs-i-in-loop-i.is in (
+    let x = c.index-pairs-i.result in
+    let y = c.index-pairs-i-in-loop-i.result in
+    let within : i < length c.args.pairs.now = omega arith in
+    let before : i - 1 < length c.args.pairs.now = omega arith in
+    let d : List ℕ × List ℕ = (x.0.now, x.1.now) in
+    let first : get_or pairs (i - 1) d ≡ d = get_or_from_slice_get pairs (i - 1) d d (seen _ (i - 1) x before c.index-pairs-i.is) in
+    let last : get_or pairs i d ≡ (y.0.now, y.1.now) = get_or_from_slice_get pairs i (y.0.now, y.1.now) d (seen _ i y within c.index-pairs-i-in-loop-i.is) in (
       λ h. absurd (let e : false ≡ true = h in cc),
       λ all.
-          let p : Precedes (get_or pairs (i - 1) x).0 (get_or pairs i x).0 = all (i - 1) i x (omega arith) within in
-          absurd (not_less _ (sym c.if-ge.ensures) (subst (λ (z : List ℕ × List ℕ). Precedes (get_or pairs (i - 1) x).0 z.0) (get_or_from_slice_get pairs i y x here ∙ c.index-pairs-i-in-loop-i.is) p)),
+          let p : Precedes (get_or pairs (i - 1) d).0 (get_or pairs i d).0 = all (i - 1) i d (omega arith) (omega (arith, within, length-map {B = List ℕ × List ℕ} c.args.pairs.now (λ pair. (pair.0.now, pair.1.now)))) in
+          let q : Precedes x.0.now y.0.now = subst (λ (z : List ℕ × List ℕ). Precedes z.0 y.0.now) first (subst (λ (z : List ℕ × List ℕ). Precedes (get_or pairs (i - 1) d).0 z.0) last p) in
+          absurd (not_less _ (sym c.if-ge.ensures) (rw (← c.index-pairs-i.is, ← c.index-pairs-i-in-loop-i.is) q)),
     )
 
 pub loop-i-preserved : goal.loop-i-preserved
 loop-i-preserved c =
-    let pairs : Pairs = c.args.pairs.now in
+    let pairs : Pairs = lent_pairs c.args.pairs.now in
     let i : ℕ = c.loop-i.i in
-    let x : List ℕ × List ℕ = c.index-pairs-i.result in
-    let y : List ℕ × List ℕ = c.index-pairs-i-in-loop-i.result in
-    let within : i < length pairs = omega arith in
+    let x = c.index-pairs-i.result in
+    let y = c.index-pairs-i-in-loop-i.result in
+    let within : i < length c.args.pairs.now = omega arith in
     let some : 1 ≤ i = omega arith in
-    let before : i - 1 < length pairs = omega arith in
-    let at : slice_get pairs (i - 1) ≡ Some x = slice_get_read _ _ _ _ refl before c.index-pairs-i.is in
-    let here : slice_get pairs i ≡ Some y = slice_get_read _ _ _ _ refl within c.index-pairs-i-in-loop-i.is in
-    let next : Precedes x.0 y.0 = rw (c.index-pairs-i.is, c.index-pairs-i-in-loop-i.is) (less_from _ (sym c.if-ge.ensures)) in
-    rise_more pairs i x y some at here next c.loop-i.invariant
+    let before : i - 1 < length c.args.pairs.now = omega arith in
+    let next : Precedes x.0.now y.0.now = rw (c.index-pairs-i.is, c.index-pairs-i-in-loop-i.is) (less_from _ (sym c.if-ge.ensures)) in
+    rise_more pairs i (x.0.now, x.1.now) (y.0.now, y.1.now) some (seen _ (i - 1) x before c.index-pairs-i.is) (seen _ i y within c.index-pairs-i-in-loop-i.is) next c.loop-i.invariant

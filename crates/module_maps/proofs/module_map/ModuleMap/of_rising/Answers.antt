@@ -1,0 +1,20 @@
+use Rattle.std.proofs.Common.{subst}
+use Rattle.std.specs.Prelude.{All}
+use Rattle.module_maps.specs.Maps.{IsModulePair, lent_pairs}
+use Rattle.module_maps.proofs.module_map.ModuleMap.of_rising.Goals as goal
+
+pub invariant_of-result : goal.invariant_of-result
+invariant_of-result c =
+    record {
+      provided = subst (λ pairs. All IsModulePair (lent_pairs pairs)) c.deref.ensures.value c.bytes_in.ensures;
+      needed = subst (λ pairs. All IsModulePair (lent_pairs pairs)) c.deref-2.ensures.value c.bytes_in-2.ensures;
+      rising = c.requires;
+    }
+
+pub returns-clause-is_map : goal.returns-clause-is_map
+returns-clause-is_map c =
+    record {
+      provided = subst (λ pairs. All IsModulePair (lent_pairs pairs)) c.deref.ensures.value c.bytes_in.ensures;
+      needed = subst (λ pairs. All IsModulePair (lent_pairs pairs)) c.deref-2.ensures.value c.bytes_in-2.ensures;
+      rising = c.requires;
+    }
