@@ -3,7 +3,6 @@ ghost use Rattle.std.specs.Prelude.{◌≡◌, ◌<◌, length, map, slice_get, 
 ghost use Rattle.std.specs.Option.{option_copied, option_map};
 ghost use Rattle.ninja_text.specs.Failure.{ForFault};
 ghost use Rattle.scan_docs.specs.Scan.{RuleValue};
-ghost use Rattle.collate_core.specs.Maps.{IsMapOf};
 ghost use Rattle.collate_core.specs.Collation.{AreMaps, IsMapText};
 ghost use Rattle.collate_core.specs.inner.Parts.{IsMapsRefusal, IsObjectRefusal};
 
@@ -27,30 +26,13 @@ pub(crate) fn maps_of<M: MapStyle>(
     ensures refused { IfErr result (ForFault (IsMapsRefusal table.now
         (option_map M.written (option_copied style.entry)))) }
 {
-    match style {
-        None => Ok(Vec::new(alloc)),
-        Some(style) => {
-            let mut needs = table.needs(alloc)?;
-            map_texts(alloc, table, &mut needs, style)
-        }
-    }
-}
-
-fn map_texts<'t, M: MapStyle>(
-    alloc: Global,
-    table: &'t Table,
-    needs: &mut Needs<'t>,
-    style: &M,
-) -> Result<Vec<Vec<u8>>, Failure<Refusal>>
-    requires { needs.old ≡ table.now }
-    ensures maps { IfOk result (λ texts.
-        AreMaps table.now (Some (M.written style.now)) (map (λ m. m.items) texts.items)) }
-    ensures refused { IfErr result
-        (ForFault (IsMapsRefusal table.now (Some (M.written style.now)))) }
-{
+    let Some(style) = style else {
+        return Ok(Vec::new(alloc));
+    };
+    let mut needs = table.needs(alloc)?;
     let mut texts = Vec::with_capacity(alloc, table.objects().len())?;
     for object in 0..table.objects().len() {
-        texts.push(text_of(alloc, table, needs, object, style)?)?;
+        texts.push(text_of(alloc, table, &mut needs, object, style)?)?;
     }
     Ok(texts)
 }
@@ -71,24 +53,8 @@ fn text_of<'t, M: MapStyle>(
     ensures refused { IfErr result
         (ForFault (IsObjectRefusal table.now (M.written style.now) object)) }
 {
-    let map = map_of(alloc, table, needs, object)?;
-    style.write(alloc, &map).map_err(|failure| failure.map(|fault| Refusal::Map { object, fault }))
-}
-
-fn map_of<'t>(
-    alloc: Global,
-    table: &'t Table,
-    needs: &mut Needs<'t>,
-    object: usize,
-) -> Result<ModuleMap<'t>, AllocError>
-    requires object { object < length table.now.objects }
-    requires needs { needs.old ≡ table.now }
-    ensures same { needs.new ≡ needs.old }
-    ensures map { IfOk result
-        (λ map. (rule : RuleValue) → slice_get table.now.objects object ≡ Some rule →
-        IsMapOf table.now object rule map) }
-{
     let provided = lend_pairs(alloc, table.provided(object))?;
     let needed = needs.of(alloc, object)?;
-    Ok(ModuleMap::of_rising(provided, needed))
+    let map = ModuleMap::of_rising(provided, needed);
+    style.write(alloc, &map).map_err(|failure| failure.map(|fault| Refusal::Map { object, fault }))
 }

@@ -6,15 +6,6 @@ use ninja_text::Path;
 use scan_docs::Name;
 use std::alloc::{AllocError, Global};
 
-/// Returns copies of the name and of the file.
-pub(crate) fn copy_pair(alloc: Global, name: &Name, file: &Path) -> Result<(Name, Path), AllocError>
-    ensures { IfOk result (λ copy. copy ≡ (name.now, file.now)) }
-{
-    let name = name.copy(alloc)?;
-    let file = file.copy(alloc)?;
-    Ok((name, file))
-}
-
 /// Returns copies of the pairs.
 pub(crate) fn copy_pairs(
     alloc: Global,
@@ -24,7 +15,9 @@ pub(crate) fn copy_pairs(
 {
     let mut copy = Vec::with_capacity(alloc, pairs.len())?;
     for pair in pairs {
-        copy.push(copy_pair(alloc, &pair.0, &pair.1)?)?;
+        let name = pair.0.copy(alloc)?;
+        let file = pair.1.copy(alloc)?;
+        copy.push((name, file))?;
     }
     Ok(copy)
 }

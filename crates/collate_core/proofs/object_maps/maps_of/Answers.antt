@@ -4,20 +4,20 @@ use Rattle.std.proofs.lemmas.Result.{err_from_is_err_and}
 use Rattle.module_table.specs.TableValue.{TableValue}
 use Rattle.module_maps.specs.Maps.{Written}
 use Rattle.collate_core.proofs.Parts.{EachMap, more_maps, object_refused}
-use Rattle.collate_core.proofs.object_maps.map_texts.Goals as goal
+use Rattle.collate_core.proofs.object_maps.maps_of.Goals as goal
 
 pub returns-in_err-text_of-clause-refused : goal.returns-in_err-text_of-clause-refused
 returns-in_err-text_of-clause-refused g c =
     let t : TableValue = c.args.table.now in
-    let written : Written = g.M.MapStyle.written c.args.style.now in
+    let written : Written = g.M.MapStyle.written c.in-Some.style.now in
     let within : c.loop-object.object < length t.objects = rw (← c.objects-object-end.ensures.objects) (omega arith) in
     let p = err_from_is_err_and c.from_residual-in_err-text_of.result c.from_residual-in_err-text_of.ensures.1 in
-    rw (p.1, p.2) (object_refused t written c.loop-object.texts.items c.loop-object.object c.loop-object.invariant.count c.loop-object.invariant.each within c.in_err-text_of.field-0.0 c.in_err-text_of.ensures.refused)
+    rw (c.in-Some.is, p.1, p.2) (object_refused t written c.loop-object.texts.items c.loop-object.object c.loop-object.invariant.count c.loop-object.invariant.each within c.in_err-text_of.field-0.0 c.in_err-text_of.ensures.refused)
 
 pub loop-object-preserved : goal.loop-object-preserved
 loop-object-preserved g c =
     let t : TableValue = c.args.table.now in
-    let written : Written = g.M.MapStyle.written c.args.style.now in
+    let written : Written = g.M.MapStyle.written c.in-Some.style.now in
     let items = c.in_ok-push.ensures.items in
     let text = c.in_ok-text_of.field-0 in
     record {
@@ -28,5 +28,5 @@ loop-object-preserved g c =
     }
 
 pub returns-clause-maps : goal.returns-clause-maps
-returns-clause-maps g c =
+returns-clause-maps g c = rw c.in-Some.is
     (omega (arith, length-map c.loop-object.texts.items (λ m. m.items), c.loop-object.invariant.count, c.loop-object-test.false, c.loop-object.auto.object-end, ap length c.objects-object-end.ensures.objects), c.loop-object.invariant.each)

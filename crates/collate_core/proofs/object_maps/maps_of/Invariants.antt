@@ -1,7 +1,7 @@
 use Rattle.std.proofs.Common.{◌≡◌, ℕ, List, length, map, Some, slice_get}
 use Rattle.scan_docs.specs.Scan.{RuleValue}
 use Rattle.collate_core.specs.Collation.{IsMapText}
-use Rattle.collate_core.proofs.object_maps.map_texts.Given as goal
+use Rattle.collate_core.proofs.object_maps.maps_of.Given as goal
 
 -- the needs are the table's, and the maps of the objects so far
 abbrev pub invariant-loop-object : goal.invariant-loop-object
