@@ -52,15 +52,13 @@ pub(crate) fn push_line(text: &mut Vec<u8>, line: &[u8]) -> Result<(), AllocErro
         ≡ text.old.items ++ map visible line.now ++ line_feed ∷ []) }
 {
     for byte in line {
-        text.push(visible(*byte))?;
+        let visible = if *byte < 32 || *byte == 127 {
+            b'?'
+        } else {
+            *byte
+        };
+        text.push(visible)?;
     }
     text.push(b'\n')?;
     Ok(())
-}
-
-/// Returns a byte as it is printed in a line: `?` for a control byte.
-fn visible(byte: u8) -> u8
-    ensures { result ≡ visible byte }
-{
-    if byte < 32 || byte == 127 { b'?' } else { byte }
 }

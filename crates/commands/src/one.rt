@@ -1,12 +1,12 @@
 //! The command `one`: the dyndep text of one scan document.
 
-ghost use Rattle.std.specs.Prelude.{◌≡◌, [], codes, IfOk};
+ghost use Rattle.std.specs.Prelude.{[]};
 ghost use Rattle.commands.specs.One.{OneRun};
 
 use crate::stop::{self, Output, Stop};
 use collate_core::{Target, collate_dyndep_or_refused};
 use scan_docs::{Setting, TargetName};
-use std::alloc::{AllocError, Global};
+use std::alloc::Global;
 
 /// Runs `one SCAN DIR EXT` on the bytes of the scan document, the directory that modules are
 /// compiled to and the ending of their file names. The document is collated as a target by itself:
@@ -14,7 +14,10 @@ use std::alloc::{AllocError, Global};
 pub fn collate_scan(alloc: Global, scan: &[u8], dir: &str, ext: &str) -> Result<Output, Stop>
     ensures { OneRun scan.now dir.now ext.now [] result }
 {
-    let name = target_name(alloc)?;
+    // Any name would do: it is not printed.
+    let Some(name) = TargetName::of(alloc, "t")? else {
+        unreachable!()
+    };
     let setting = Setting {
         module_dir: String::from_str(alloc, dir)?,
         module_ext: String::from_str(alloc, ext)?,
@@ -30,15 +33,5 @@ pub fn collate_scan(alloc: Global, scan: &[u8], dir: &str, ext: &str) -> Result<
     match collate_dyndep_or_refused(alloc, &target) {
         Ok(text) => Ok(Output::text(alloc, text)),
         Err(failure) => Err(stop::of_target(alloc, failure)),
-    }
-}
-
-/// Returns the name that the target goes by. It is not printed.
-fn target_name(alloc: Global) -> Result<TargetName, AllocError>
-    ensures { IfOk result (λ name. name ≡ codes "t") }
-{
-    match TargetName::of(alloc, "t")? {
-        Some(name) => Ok(name),
-        None => unreachable!(),
     }
 }

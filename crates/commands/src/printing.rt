@@ -1,7 +1,7 @@
 //! How the answer of a run is written to two writers.
 
-ghost use Rattle.std.specs.Prelude.{◌≡◌, ◌⊎◌};
-ghost use Rattle.commands.specs.Printing.{status_of, out_of, err_of, IsPrinted, IsUnprinted};
+ghost use Rattle.std.specs.Prelude.{◌⊎◌};
+ghost use Rattle.commands.specs.Printing.{IsPrinted, IsUnprinted};
 
 use crate::answer::Answer;
 use ninja_text::{Counted, WriteCall};
@@ -18,7 +18,10 @@ pub fn print<O: WriteCall, E: WriteCall>(
     ensures { IsPrinted O.contents E.contents out.old out.new err.old err.new answer.now result
         ⊎ IsUnprinted O.contents E.contents out.old out.new err.old err.new answer.now result }
 {
-    let (status, out_text, err_text) = texts_of(answer);
+    let (status, out_text, err_text) = match answer {
+        Ok(answer) => (answer.status, answer.out.as_slice(), answer.err.as_slice()),
+        Err(AllocError) => (3, b"".as_slice(), b"dyncollate: out of memory\n".as_slice()),
+    };
     match out.write_text(out_text) {
         Ok(()) => {
             let _ = err.write_text(err_text);
@@ -28,17 +31,5 @@ pub fn print<O: WriteCall, E: WriteCall>(
             let _ = err.write_text(b"dyncollate: cannot write standard output\n");
             3
         }
-    }
-}
-
-/// Returns the status of a run, and its bytes for standard output and for standard error.
-fn texts_of(answer: &Result<Answer, AllocError>) -> (u8, &[u8], &[u8])
-    ensures status { result.0 ≡ status_of answer.now }
-    ensures out { result.1.now ≡ out_of answer.now }
-    ensures err { result.2.now ≡ err_of answer.now }
-{
-    match answer {
-        Ok(answer) => (answer.status, answer.out.as_slice(), answer.err.as_slice()),
-        Err(AllocError) => (3, b"".as_slice(), b"dyncollate: out of memory\n".as_slice()),
     }
 }

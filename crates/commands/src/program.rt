@@ -1,16 +1,14 @@
 //! The whole program, except for the calls of the system.
 
-ghost use Rattle.std.specs.Prelude.{[]};
-ghost use Rattle.command_line.specs.Tasks.{task_value};
-ghost use Rattle.commands.specs.Outcomes.{Runs, seen};
-ghost use Rattle.commands.specs.Program.{ArgumentsOf, ArgumentsRun, IsProgramRun, words_of};
+ghost use Rattle.commands.specs.Outcomes.{Runs};
+ghost use Rattle.commands.specs.Program.{ArgumentsRun, IsProgramRun, words_of};
 
 use crate::answer::Answer;
 use crate::folder::Folder;
 use crate::printing::print;
 use crate::run::{task_run, write_files};
 use crate::stop::{self, Output, Stop};
-use command_line::{Task, task_of};
+use command_line::task_of;
 use ninja_text::{Counted, Failure, WriteCall};
 use std::alloc::Global;
 use std::io;
@@ -43,22 +41,14 @@ fn arguments_run<F: Folder>(
     ensures { Runs (F.calls folder.old) (F.calls folder.new)
         (ArgumentsRun (words_of arguments.now)) result }
 {
-    let task = task_in(alloc, arguments)?;
+    let task = match arguments {
+        Ok(words) => task_of(alloc, words)?,
+        Err(error) if error.kind() == ErrorKind::OutOfMemory => return Err(Failure::Memory),
+        Err(_) => None,
+    };
+    let Some(task) = task else {
+        return Err(stop::stopped(2, Vec::from_slice(alloc, b"usage")));
+    };
     let output = task_run(alloc, &task, folder)?;
     write_files(alloc, output, folder)
-}
-
-/// Returns the task of the arguments.
-fn task_in(alloc: Global, arguments: &io::Result<Vec<String>>) -> Result<Task<'_>, Stop>
-    ensures { ArgumentsOf (words_of arguments.now) [] (seen task_value result) }
-{
-    let words = match arguments {
-        Ok(words) => words.as_slice(),
-        Err(error) if error.kind() == ErrorKind::OutOfMemory => return Err(Failure::Memory),
-        Err(_) => return Err(stop::of_usage(alloc)),
-    };
-    match task_of(alloc, words)? {
-        Some(task) => Ok(task),
-        None => Err(stop::of_usage(alloc)),
-    }
 }

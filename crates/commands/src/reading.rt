@@ -1,10 +1,9 @@
 //! How a run reads files: each when its turn comes, and none after one that can't be
 //! read.
 
-ghost use Rattle.std.specs.Prelude.{◌≡◌, ◌++◌, ◌∷◌, [], map, string_bytes, option_map, IfOk, OnOk};
-ghost use Rattle.commands.specs.Listings.{ReadsListing};
+ghost use Rattle.std.specs.Prelude.{◌≡◌, ◌++◌, ◌∷◌, [], map, string_bytes, IfOk, OnOk};
 ghost use Rattle.commands.specs.Files.{FilesOf};
-ghost use Rattle.commands.specs.Outcomes.{Runs, ReadsDocument, ReadsAll, ReadsIfNamed, seen};
+ghost use Rattle.commands.specs.Outcomes.{Runs, ReadsDocument, ReadsAll, seen};
 ghost use Rattle.commands.specs.inner.Parts.{bytes_of, contents};
 
 use crate::folder::Folder;
@@ -45,22 +44,6 @@ fn read_all<F: Folder>(
     Ok(files)
 }
 
-/// Reads the listing of a name, if there is one.
-fn read_if_named<F: Folder>(
-    alloc: Global,
-    name: &Option<String>,
-    folder: &mut F,
-) -> Result<Option<ListingRead>, Stop>
-    ensures { Runs (F.calls folder.old) (F.calls folder.new)
-        (ReadsIfNamed ReadsListing (option_map string_bytes name.now)) result }
-{
-    let Some(name) = name else {
-        return Ok(None);
-    };
-    let listing = read_listing(alloc, name.as_str(), folder)?;
-    Ok(Some(listing))
-}
-
 /// The files of a target.
 #[derive(Drop)]
 pub(crate) struct TargetFiles {
@@ -99,7 +82,10 @@ impl TargetFiles {
     {
         let scans = read_all(alloc, &spec.scans, folder)?;
         let infos = read_all(alloc, infos, folder)?;
-        let listing = read_if_named(alloc, &spec.edges, folder)?;
+        let listing = match &spec.edges {
+            Some(name) => Some(read_listing(alloc, name.as_str(), folder)?),
+            None => None,
+        };
         Ok(TargetFiles {
             scans,
             infos,

@@ -102,13 +102,6 @@ pub(crate) fn stopped(status: u8, message: Result<Vec<u8>, AllocError>) -> Stop
     }
 }
 
-/// Stops the run because its arguments are not a valid command line.
-pub(crate) fn of_usage(alloc: Global) -> Stop
-    ensures { ForFault (λ l. l ≡ failed 2 (codes "usage")) result }
-{
-    stopped(2, Vec::from_slice(alloc, b"usage"))
-}
-
 /// Stops the run at a file that can't be read, or because memory ran out in the call.
 pub(crate) fn of_unread(alloc: Global, name: &str, error: io::Error) -> Stop
     ensures { IsUnread name.now (reading name.now (Err error) ∷ []) result }

@@ -1,14 +1,16 @@
-use Rattle.std.proofs.Common.{rules, ◌≡◌, ◌∙◌, List, Option, map, string_bytes, refl, ap, subst}
-use Rattle.std.specs.Prelude.{Ok, Err, option_map}
+use Rattle.std.proofs.Common.{rules, ◌≡◌, ◌∙◌, List, Option, Some, None, map, string_bytes, refl, ap, sym, subst}
+use Rattle.std.specs.Prelude.{Ok, Err, String, option_map}
+use Rattle.std.specs.Global.{Global}
 use Rattle.ninja_text.specs.Bytes.{Text}
 use Rattle.scan_docs.specs.Target as document
 use Rattle.commands.specs.Files.{TargetFilesValue, FilesOf}
 use Rattle.commands.specs.Folder.{FileCall}
-use Rattle.commands.specs.Listings.{ReadsListing}
+use Rattle.commands.specs.Listings.{ListingRead, ReadsListing}
 use Rattle.commands.specs.Outcomes.{Outcome, Part, Runs, ReadsAll, ReadsIfNamed, Done, ◌>>=◌}
 use Rattle.commands.specs.inner.Parts.{contents}
 use Rattle.commands.proofs.Outcomes.{at_once, run_as, run_next, run_last}
 use Rattle.commands.proofs.reading.TargetFiles.read.Goals as goal
+use Rattle.commands.proofs.reading.TargetFiles.read.Goals.{in-Some+in_ok-read_listing-in-Some, in-None}
 
 -- what comes after the scan documents, and after the info files
 abbrev AfterInfos : document.TargetDocumentValue → List Text → List Text → Part TargetFilesValue
@@ -53,21 +55,30 @@ returns-in_err-infos g c =
     scans_next _ _ _ spec linked _ scans _ named c.in_ok-scans.ensures
     (run_last (ReadsAll linked) (AfterInfos spec scans) _ _ (Err failure) failure _ c.in_err-infos.ensures refl is)
 
-pub returns-in_err-listing : goal.returns-in_err-listing
-returns-in_err-listing g c =
+-- the listing, of this name if there is one
+of_name : (old new : Option (List FileCall)) (given is : Option (String Global)) (edges : Option Text) (s : Outcome (Option ListingRead)) →
+    option_map string_bytes given ≡ edges → given ≡ is →
+    Runs old new (ReadsIfNamed ReadsListing (option_map string_bytes is)) s → Runs old new (ReadsIfNamed ReadsListing edges) s
+of_name old new given is edges s named e h =
+    subst (λ n. Runs old new (ReadsIfNamed ReadsListing n) s) named (subst (λ n. Runs old new (ReadsIfNamed ReadsListing (option_map string_bytes n)) s) (sym e) h)
+
+pub returns-in_err-read_listing-in-Some : goal.returns-in_err-read_listing-in-Some
+returns-in_err-read_listing-in-Some g c =
     let linked = map string_bytes c.args.infos.now in
     let spec = c.args.spec.now in
     let scans = contents c.in_ok-scans.scans in
     let infos = contents c.in_ok-infos.infos in
-    let failure = c.in_err-listing.field-0.0 in
+    let failure = c.in_err-read_listing-in-Some.field-0.0 in
     let named : map string_bytes c.deref.result.now ≡ spec.scans =
     ap (map string_bytes) c.deref.ensures.value ∙ ap (λ (s : document.TargetDocumentValue). s.scans) c.spec.view_is in
     let edges : option_map string_bytes c.spec.inside.edges ≡ spec.edges = ap (λ (s : document.TargetDocumentValue). s.edges) c.spec.view_is in
-    let is : c.from_residual-in_err-listing.result ≡ Err failure = search rules in
+    let is : c.from_residual-in_err-read_listing-in-Some.result ≡ Err failure = search rules in
     scans_next _ _ _ spec linked _ scans _ named c.in_ok-scans.ensures
     (infos_next _ _ _ spec linked scans infos _ c.in_ok-infos.ensures
     (run_last (ReadsIfNamed ReadsListing spec.edges) (λ listing. Done (record { scans = scans; infos = infos; listing = listing })) _ _ (Err failure) failure _
-    (run_as (ReadsIfNamed ReadsListing) _ _ (Err failure) edges c.in_err-listing.ensures) refl is))
+    (of_name _ _ c.spec.inside.edges (Some c.in-Some.name) _ _ edges c.in-Some.is
+    (run_last (ReadsListing (string_bytes c.in-Some.name)) (λ listing. Done (Some listing)) _ _ (Err failure) failure _
+    (run_as ReadsListing _ _ (Err failure) c.as_str.ensures.value c.in_err-read_listing-in-Some.ensures) refl refl)) refl is))
 
 pub returns : goal.returns
 returns g c =
@@ -75,13 +86,26 @@ returns g c =
     let spec = c.args.spec.now in
     let scans = contents c.in_ok-scans.scans in
     let infos = contents c.in_ok-infos.infos in
-    let listing = c.in_ok-listing.listing in
+    let listing = c.match-spec.listing in
     let files : TargetFilesValue = record { scans = scans; infos = infos; listing = listing } in
     let named : map string_bytes c.deref.result.now ≡ spec.scans =
     ap (map string_bytes) c.deref.ensures.value ∙ ap (λ (s : document.TargetDocumentValue). s.scans) c.spec.view_is in
     let edges : option_map string_bytes c.spec.inside.edges ≡ spec.edges = ap (λ (s : document.TargetDocumentValue). s.edges) c.spec.view_is in
+    let read : Runs (g.F.Folder.calls c.read_all-2.new.folder) (g.F.Folder.calls c.match-spec.folder) (ReadsIfNamed ReadsListing spec.edges) (Ok listing) = elim c.match-spec.branch [
+      | in-Some+in_ok-read_listing-in-Some w ↦
+          let its : ListingRead = w.in_ok-read_listing-in-Some.field-0 in
+          subst (λ l. Runs (g.F.Folder.calls c.read_all-2.new.folder) (g.F.Folder.calls c.match-spec.folder) (ReadsIfNamed ReadsListing spec.edges) (Ok l)) (sym w.listing-is)
+          (subst (λ f. Runs (g.F.Folder.calls c.read_all-2.new.folder) (g.F.Folder.calls f) (ReadsIfNamed ReadsListing spec.edges) (Ok (Some its))) (sym w.folder-is)
+          (of_name _ _ c.spec.inside.edges (Some w.in-Some.name) _ _ edges w.in-Some.is
+          (run_next (ReadsListing (string_bytes w.in-Some.name)) (λ listing. Done (Some listing)) _ _ _ (Ok its) its (Ok (Some its))
+          (run_as ReadsListing _ _ (Ok its) w.as_str.ensures.value w.in_ok-read_listing-in-Some.ensures) refl
+          (at_once _ (Done (Some its)) (Ok (Some its)) (refl, refl)))))
+      | in-None w ↦
+          subst (λ l. Runs (g.F.Folder.calls c.read_all-2.new.folder) (g.F.Folder.calls c.match-spec.folder) (ReadsIfNamed ReadsListing spec.edges) (Ok l)) (sym w.listing-is)
+          (subst (λ f. Runs (g.F.Folder.calls c.read_all-2.new.folder) (g.F.Folder.calls f) (ReadsIfNamed ReadsListing spec.edges) (Ok None)) (sym w.folder-is)
+          (of_name _ _ c.spec.inside.edges None _ _ edges w.in-None.is (at_once _ (Done None) (Ok None) (refl, refl))))
+    ] in
     scans_next _ _ _ spec linked _ scans _ named c.in_ok-scans.ensures
     (infos_next _ _ _ spec linked scans infos _ c.in_ok-infos.ensures
     (run_next (ReadsIfNamed ReadsListing spec.edges) (λ listing. Done (record { scans = scans; infos = infos; listing = listing })) _ _ _ (Ok listing) listing _
-    (run_as (ReadsIfNamed ReadsListing) _ _ (Ok listing) edges c.in_ok-listing.ensures) refl
-    (at_once _ (Done files) (Ok files) (refl, refl))))
+    read refl (at_once _ (Done files) (Ok files) (refl, refl))))
