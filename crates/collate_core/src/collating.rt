@@ -18,7 +18,7 @@ use crate::fault::{Refusal, RefusedTarget, nothing_read, refusal_alone};
 use crate::info::info_text_of;
 use crate::laws::headline;
 use crate::object_maps::maps_of;
-use crate::statements::text_of;
+use crate::statements::dyndep_text;
 use crate::table::table_of;
 use crate::target::Target;
 use module_maps::MapStyle;
@@ -109,7 +109,7 @@ pub(crate) fn written_of<M: MapStyle>(
         (option_map M.written (option_copied style.entry)))) }
 {
     added_files();
-    let text = text_of(alloc, table.resolved())?;
+    let text = dyndep_text(alloc, table.resolved())?;
     let maps = maps_of(alloc, table, style)?;
     let info = info_text_of(alloc, target.name, target.kept, table)?;
     let objects = objects_of(alloc, table)?;
@@ -148,7 +148,7 @@ pub fn collate_dyndep_or_refused(
     let _ = target.name.text();
     let table = table_of(alloc, target)?;
     let resolved = table.into_resolved();
-    match text_of(alloc, &resolved) {
+    match dyndep_text(alloc, &resolved) {
         Ok(dyndep) => Ok(dyndep),
         Err(failure) => Err(nothing_read(alloc, failure)),
     }

@@ -84,7 +84,7 @@ fn set_of(alloc: Global, names: &[Name]) -> Result<IndexSet<Name, TableKey>, All
     ensures { IfOk result (λ set. (name : Name) →
         is_private_name set.keys name ≡ is_private_name names.now name) }
 {
-    let mut set = IndexSet::with_hasher(alloc, key_of(names));
+    let mut set = IndexSet::with_hasher(alloc, names_key(names));
     for name in names {
         set.insert(name.copy(alloc)?)?;
     }
@@ -93,7 +93,7 @@ fn set_of(alloc: Global, names: &[Name]) -> Result<IndexSet<Name, TableKey>, All
 
 /// Returns the key of the set of these names. It is made of the names, so whoever chooses them
 /// cannot choose the key as well.
-fn key_of(names: &[Name]) -> TableKey {
+fn names_key(names: &[Name]) -> TableKey {
     let mut digest = KeyDigest::new();
     for name in names {
         digest.update(name.bytes());

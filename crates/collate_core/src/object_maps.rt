@@ -32,12 +32,12 @@ pub(crate) fn maps_of<M: MapStyle>(
     let mut needs = table.needs(alloc)?;
     let mut texts = Vec::with_capacity(alloc, table.objects().len())?;
     for object in 0..table.objects().len() {
-        texts.push(text_of(alloc, table, &mut needs, object, style)?)?;
+        texts.push(map_text(alloc, table, &mut needs, object, style)?)?;
     }
     Ok(texts)
 }
 
-fn text_of<'t, M: MapStyle>(
+fn map_text<'t, M: MapStyle>(
     alloc: Global,
     table: &'t Table,
     needs: &mut Needs<'t>,

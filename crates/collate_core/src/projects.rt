@@ -148,7 +148,7 @@ fn add_outs<M: MapStyle>(
         targets.now refused.0 refused.1.refusal
         (table_with refused.1.objects.items refused.1.infos.items))) }
 {
-    let mut pool = Pool::new(alloc, key_of(targets));
+    let mut pool = Pool::new(alloc, scans_key(targets));
     for (index, target) in targets.iter().enumerate() {
         match collate_linked(alloc, target, outs.as_slice(), &pool, style) {
             Ok((out, info)) => {
@@ -163,7 +163,7 @@ fn add_outs<M: MapStyle>(
 
 /// Returns the key of a table of the modules of these targets. It is made of the documents that name
 /// them, so whoever chooses the names cannot choose the key as well.
-fn key_of(targets: &[ProjectTarget<'_>]) -> TableKey {
+fn scans_key(targets: &[ProjectTarget<'_>]) -> TableKey {
     let mut digest = KeyDigest::new();
     for target in targets {
         for scan in target.scans {

@@ -21,7 +21,7 @@ use std::alloc::{AllocError, Global};
 /// the files of the modules that the object provides, in order of provision, and its implicit inputs
 /// the files of the modules that the object requires, in order of first mention. It has `restat` if
 /// it has implicit outputs.
-pub(crate) fn text_of(alloc: Global, table: &Resolved) -> Result<Vec<u8>, Failure<Refusal>>
+pub(crate) fn dyndep_text(alloc: Global, table: &Resolved) -> Result<Vec<u8>, Failure<Refusal>>
     ensures text { IfOk result (λ text. text_or_fault (statements_of table.now) ≡ Ok text.items) }
     ensures meaning { IfOk result (λ text. StandsForOnly text.items (statements_of table.now)) }
     ensures spelled { OnOk result (All HasSpelled (statements_of table.now)) }

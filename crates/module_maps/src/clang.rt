@@ -60,7 +60,7 @@ impl MapStyle for Clang {
                 if map.provided().len() > 1 {
                     return Err(Failure::Fault(MapFault::TwoProvided));
                 }
-                Ok(text_of(alloc, map)?)
+                Ok(clang_text(alloc, map)?)
             }
         }
     }
@@ -153,7 +153,7 @@ fn rises_behind(entries: &[MapEntry], name: &Name) -> bool
 }
 
 /// Returns the text of a map.
-fn text_of(alloc: Global, map: &ModuleMap<'_>) -> Result<Vec<u8>, AllocError>
+fn clang_text(alloc: Global, map: &ModuleMap<'_>) -> Result<Vec<u8>, AllocError>
     ensures { IfOk result (λ text. text.items ≡ clang_text map.now) }
 {
     let output = b"-x c++-module\n-fmodule-output=\n".len();

@@ -54,7 +54,7 @@ impl MapStyle for Gcc {
                 let path = path.copy(alloc)?;
                 Err(Failure::Fault(MapFault::MapPath { path }))
             }
-            None => Ok(text_of(alloc, map)?),
+            None => Ok(gcc_text(alloc, map)?),
         }
     }
 
@@ -96,7 +96,7 @@ impl LineForm for Gcc {
 }
 
 /// Returns the text of a map.
-fn text_of(alloc: Global, map: &ModuleMap<'_>) -> Result<Vec<u8>, AllocError>
+fn gcc_text(alloc: Global, map: &ModuleMap<'_>) -> Result<Vec<u8>, AllocError>
     ensures { IfOk result (λ text.
         text.items ≡ flat_map (λ pair. ended_line (gcc_line pair)) (pairs_of map.now)) }
 {

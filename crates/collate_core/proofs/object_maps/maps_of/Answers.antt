@@ -6,25 +6,25 @@ use Rattle.module_maps.specs.Maps.{Written}
 use Rattle.collate_core.proofs.Parts.{EachMap, more_maps, object_refused}
 use Rattle.collate_core.proofs.object_maps.maps_of.Goals as goal
 
-pub returns-in_err-text_of-clause-refused : goal.returns-in_err-text_of-clause-refused
-returns-in_err-text_of-clause-refused g c =
+pub returns-in_err-map_text-clause-refused : goal.returns-in_err-map_text-clause-refused
+returns-in_err-map_text-clause-refused g c =
     let t : TableValue = c.args.table.now in
     let written : Written = g.M.MapStyle.written c.in-Some.style.now in
     let within : c.loop-object.object < length t.objects = rw (← c.objects-object-end.ensures.objects) (omega arith) in
-    let p = err_from_is_err_and c.from_residual-in_err-text_of.result c.from_residual-in_err-text_of.ensures.1 in
-    rw (c.in-Some.is, p.1, p.2) (object_refused t written c.loop-object.texts.items c.loop-object.object c.loop-object.invariant.count c.loop-object.invariant.each within c.in_err-text_of.field-0.0 c.in_err-text_of.ensures.refused)
+    let p = err_from_is_err_and c.from_residual-in_err-map_text.result c.from_residual-in_err-map_text.ensures.1 in
+    rw (c.in-Some.is, p.1, p.2) (object_refused t written c.loop-object.texts.items c.loop-object.object c.loop-object.invariant.count c.loop-object.invariant.each within c.in_err-map_text.field-0.0 c.in_err-map_text.ensures.refused)
 
 pub loop-object-preserved : goal.loop-object-preserved
 loop-object-preserved g c =
     let t : TableValue = c.args.table.now in
     let written : Written = g.M.MapStyle.written c.in-Some.style.now in
     let items = c.in_ok-push.ensures.items in
-    let text = c.in_ok-text_of.field-0 in
+    let text = c.in_ok-map_text.field-0 in
     record {
       needs = search rules;
       count = ap length items ∙ omega (arith, length-append c.loop-object.texts.items (text ∷ []), c.loop-object.invariant.count);
       each = subst (λ xs. EachMap t written (map (λ m. m.items) xs)) (sym items)
-          (more_maps t written c.loop-object.texts.items c.loop-object.object text c.loop-object.invariant.count c.loop-object.invariant.each c.in_ok-text_of.ensures.text);
+          (more_maps t written c.loop-object.texts.items c.loop-object.object text c.loop-object.invariant.count c.loop-object.invariant.each c.in_ok-map_text.ensures.text);
     }
 
 pub returns-clause-maps : goal.returns-clause-maps

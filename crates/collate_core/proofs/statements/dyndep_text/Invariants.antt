@@ -3,7 +3,7 @@ use Rattle.dyndep_file.specs.Texts.{IsTextOf}
 use Rattle.module_table.specs.Added.{tasks_of}
 use Rattle.collate_core.specs.Statements.{statement_of}
 use Rattle.collate_core.specs.inner.Parts.{HasSpelled}
-use Rattle.collate_core.proofs.statements.text_of.Given as goal
+use Rattle.collate_core.proofs.statements.dyndep_text.Given as goal
 
 -- the text is that of the statements of the objects so far
 abbrev pub invariant-loop-index : goal.invariant-loop-index

@@ -13,7 +13,7 @@ use Rattle.collate_core.specs.Statements.{statement_of, statements_of}
 use Rattle.collate_core.specs.inner.Parts.{HasSpelled}
 use Rattle.collate_core.proofs.Tasks.{one_more, all_statements}
 use Rattle.collate_core.proofs.Writing.{line_refused}
-use Rattle.collate_core.proofs.statements.text_of.Goals as goal
+use Rattle.collate_core.proofs.statements.dyndep_text.Goals as goal
 
 pub loop-index-preserved : goal.loop-index-preserved
 loop-index-preserved c =
