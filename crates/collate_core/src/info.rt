@@ -79,27 +79,22 @@ fn lent_info<'t>(
     })
 }
 
-/// Returns the set of these names.
+/// Returns the set of these names. Its key is made of the names, so whoever chooses them cannot
+/// choose the key as well.
 fn set_of(alloc: Global, names: &[Name]) -> Result<IndexSet<Name, TableKey>, AllocError>
     ensures { IfOk result (λ set. (name : Name) →
         is_private_name set.keys name ≡ is_private_name names.now name) }
 {
-    let mut set = IndexSet::with_hasher(alloc, names_key(names));
+    let mut digest = KeyDigest::new();
+    for entry in names {
+        digest.update(entry.bytes());
+        digest.update(b"\n".as_slice());
+    }
+    let mut set = IndexSet::with_hasher(alloc, digest.key());
     for name in names {
         set.insert(name.copy(alloc)?)?;
     }
     Ok(set)
-}
-
-/// Returns the key of the set of these names. It is made of the names, so whoever chooses them
-/// cannot choose the key as well.
-fn names_key(names: &[Name]) -> TableKey {
-    let mut digest = KeyDigest::new();
-    for name in names {
-        digest.update(name.bytes());
-        digest.update(b"\n".as_slice());
-    }
-    digest.key()
 }
 
 /// Appends the modules that an object provides. The object requires these modules.
