@@ -1,12 +1,8 @@
 //! The command `collate`: the files of a target.
 
-ghost use Rattle.std.specs.Prelude.{◌≡◌, None, [], ◌∷◌, ◌++◌, map, All, IsUtf8, IfOk, IfErr, OnOk};
-ghost use Rattle.ninja_text.specs.Failure.{ForFault};
-ghost use Rattle.module_table.specs.TableValue.{table_with};
-ghost use Rattle.collate_core.specs.Collation.{Collates};
-ghost use Rattle.collate_core.specs.Refusals.{IsRefusal, WasRead};
+ghost use Rattle.std.specs.Prelude.{◌≡◌, [], ◌++◌, map, All, IsUtf8, OnOk};
 ghost use Rattle.commands.specs.Answers.{file_value};
-ghost use Rattle.commands.specs.CollateCommand.{style_of, map_name, output_file, map_files, files_of, target_with, SpecOf, CollateRun};
+ghost use Rattle.commands.specs.CollateCommand.{style_of, map_files, files_of, target_with, SpecOf, CollateRun};
 ghost use Rattle.commands.specs.Outcomes.{Runs, Writes};
 ghost use Rattle.commands.specs.Targets.{TargetOf};
 
@@ -14,9 +10,9 @@ use crate::edges::pass_edges;
 use crate::folder::Folder;
 use crate::reading::{TargetFiles, add, slices};
 use crate::stop::{self, Output, OutputFile, Stop};
-use collate_core::{Collated, CollatedParts, RefusedTarget, Target, collate_or_refused};
+use collate_core::{Collated, CollatedParts, Target, collate_or_refused};
 use module_maps::{Clang, Gcc};
-use ninja_text::{Failure, Path};
+use ninja_text::Path;
 use scan_docs::{MapForm, TargetSpec, spec_read};
 use std::alloc::{AllocError, Global};
 
@@ -59,26 +55,12 @@ fn collated(alloc: Global, spec: &TargetSpec, files: &TargetFiles) -> Result<Col
         infos: &infos,
         kept: &spec.kept,
     };
-    collate_in(alloc, &target, spec.map).map_err(|f| stop::of_target(alloc, f))
-}
-
-/// Collates a target, with maps of this form, if one is given.
-fn collate_in(
-    alloc: Global,
-    target: &Target<'_>,
-    form: Option<MapForm>,
-) -> Result<Collated, Failure<RefusedTarget>>
-    ensures collated { IfOk result (Collates target.now (style_of form)) }
-    ensures refused { IfErr result
-        (ForFault (λ refused. IsRefusal target.now (style_of form) refused.refusal)) }
-    ensures read { IfErr result (ForFault (λ refused. WasRead target.now refused.refusal
-        (table_with refused.objects.items refused.infos.items))) }
-{
-    match form {
-        None => collate_or_refused(alloc, target, None::<&Gcc>),
-        Some(MapForm::Gcc) => collate_or_refused(alloc, target, Some(&Gcc)),
-        Some(MapForm::Clang) => collate_or_refused(alloc, target, Some(&Clang)),
-    }
+    let collated = match spec.map {
+        None => collate_or_refused(alloc, &target, None::<&Gcc>),
+        Some(MapForm::Gcc) => collate_or_refused(alloc, &target, Some(&Gcc)),
+        Some(MapForm::Clang) => collate_or_refused(alloc, &target, Some(&Clang)),
+    };
+    collated.map_err(|f| stop::of_target(alloc, f))
 }
 
 /// Returns the files of a collated target, to be written.
@@ -136,34 +118,12 @@ fn append_maps(
         ++ map_files keeps objects.now (map (λ m. m.items) maps.items)) }
 {
     files.reserve(maps.len())?;
-    for (object, map) in objects.iter().zip(maps) {
-        append_map(alloc, object, map, keeps, files)?;
+    for (object, bytes) in objects.iter().zip(maps) {
+        let Ok(object) = str::from_utf8(object.bytes()) else {
+            unreachable!()
+        };
+        let name = format!(in alloc; "{object}.modmap")?;
+        add(files, OutputFile { name, bytes, keeps })?;
     }
     Ok(())
-}
-
-/// Appends the map file of an object.
-fn append_map(
-    alloc: Global,
-    object: &Path,
-    text: Vec<u8>,
-    keeps: bool,
-    files: &mut Vec<OutputFile>,
-) -> Result<(), AllocError>
-    requires { IsUtf8 object.now }
-    ensures { OnOk result (map file_value files.new.items
-        ≡ map file_value files.old.items ++ output_file keeps (map_name object.now) text.items ∷ []) }
-{
-    let Ok(object) = str::from_utf8(object.bytes()) else {
-        unreachable!()
-    };
-    let name = format!(in alloc; "{object}.modmap")?;
-    add(
-        files,
-        OutputFile {
-            name,
-            bytes: text,
-            keeps,
-        },
-    )
 }
