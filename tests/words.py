@@ -55,7 +55,6 @@ CHECKED_IN_COMMENTS = len(TURNS) - 1
 # What is written all the same: subjects of commits.
 EXCEPTIONS = [
     "tests: a run needs no random bytes but for names of new files", "FORMATS: fewer words once more",
-    "module_table: loops stand in the functions that need their lists",
 ]
 # The commit after which subjects are checked.
 CHECKED_SINCE = "dfbbbcd"
