@@ -112,7 +112,13 @@ pub(crate) fn is_read_back<M: MapStyle>(
 ) -> Result<bool, Fail> {
     let provided = pairs(alloc, &[("A", "mod/A.bmi")])?;
     let needed = pairs(alloc, &[("B", "mod/B.bmi")])?;
-    has_text(alloc, style, &map_of(alloc, &provided, &needed)?, text, entries)
+    has_text(
+        alloc,
+        style,
+        &map_of(alloc, &provided, &needed)?,
+        text,
+        entries,
+    )
 }
 
 /// The number of the first line that the style can't read, if there is one.
