@@ -189,7 +189,12 @@ fn a_path_that_a_map_cannot_have_fits_no_style(rt: HostRuntime) -> Result<(), Fa
 /// Whether there is a map of these needed modules.
 fn is_map(alloc: Global, needed: &[(&str, &str)]) -> Result<bool, Fail> {
     let needed = pairs(alloc, needed)?;
-    Ok(ModuleMap::new(Vec::new(alloc), lent(alloc, &needed)?).is_some())
+    Ok(is_rising(alloc, &needed)?)
+}
+
+fn is_rising(alloc: Global, needed: &[(Name, Path)]) -> Result<bool, AllocError> {
+    let needed = lent(alloc, needed)?;
+    Ok(ModuleMap::new(Vec::new(alloc), needed).is_some())
 }
 
 #[test]
