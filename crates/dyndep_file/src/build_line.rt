@@ -43,7 +43,7 @@ fn output(alloc: Global, words: &mut Words<'_>) -> Result<Vec<u8>, Failure<LineF
         return Err(Failure::Fault(LineFault::NoOutput));
     };
     match token.kind() {
-        TokenKind::Word => Ok(value(alloc, token)?),
+        TokenKind::Word => Ok(word_value(alloc, token)?),
         TokenKind::Bar | TokenKind::Colon | TokenKind::DoubleBar | TokenKind::BarAt => Err(
             Failure::Fault(LineFault::NoOutput),
         ),
@@ -82,7 +82,7 @@ fn words_to_colon(alloc: Global, words: &mut Words<'_>) -> Result<Vec<Vec<u8>>, 
     while let Some(token) = words.next() {
         let fault = match token.kind() {
             TokenKind::Word => {
-                values.push(value(alloc, token)?)?;
+                values.push(word_value(alloc, token)?)?;
                 continue;
             }
             TokenKind::Colon => return Ok(values),
@@ -123,7 +123,7 @@ fn words_to_end(alloc: Global, words: Words<'_>) -> Result<Vec<Vec<u8>>, Failure
     for token in words {
         let fault = match token.kind() {
             TokenKind::Word => {
-                values.push(value(alloc, token)?)?;
+                values.push(word_value(alloc, token)?)?;
                 continue;
             }
             TokenKind::Bar | TokenKind::Colon => LineFault::BadLine,
@@ -150,7 +150,7 @@ pub(crate) fn is_same(bytes: &[u8], other: &[u8]) -> bool
 }
 
 /// Returns the value of a word.
-fn value(alloc: Global, token: Token<'_>) -> Result<Vec<u8>, AllocError>
+fn word_value(alloc: Global, token: Token<'_>) -> Result<Vec<u8>, AllocError>
     ensures { IfOk result (λ bytes. bytes.items ≡ value_of (seen_token token.entry).raw) }
 {
     let raw = token.raw();

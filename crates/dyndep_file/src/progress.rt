@@ -60,7 +60,7 @@ pub(crate) fn indented_line(
     let Some(binding) = named(assignment, b"restat") else {
         return Err(Failure::Fault(LineFault::BadBinding));
     };
-    let value = value(alloc, binding)?;
+    let value = assigned_value(alloc, binding)?;
     if let Some(statement) = progress.statements.last_mut() {
         statement.restat = !value.is_empty();
     }
@@ -111,7 +111,7 @@ pub(crate) fn unindented_line(
         Stage::BeforeVersion => {}
         Stage::NoneOpen | Stage::Open => return Err(Failure::Fault(LineFault::SecondVersion)),
     }
-    let value = value(alloc, version)?;
+    let value = assigned_value(alloc, version)?;
     if !is_version_one(&value) {
         return Err(Failure::Fault(LineFault::BadVersion));
     }
@@ -131,7 +131,7 @@ fn named<'a>(assignment: Option<Assignment<'a>>, name: &[u8]) -> Option<Assignme
 }
 
 /// Returns the assigned value.
-fn value(alloc: Global, assignment: Assignment<'_>) -> Result<Vec<u8>, AllocError>
+fn assigned_value(alloc: Global, assignment: Assignment<'_>) -> Result<Vec<u8>, AllocError>
     ensures { IfOk result (λ value.
         value.items ≡ value_of (seen_assignment assignment.entry).raw_value) }
 {

@@ -3,8 +3,8 @@ use Rattle.std.specs.List.{list_any}
 use Rattle.ninja_text.specs.Bytes.{dollar}
 use Rattle.ninja_text.specs.Tokens.{value_of}
 use Rattle.dyndep_file.proofs.Values.{plain_value}
-use Rattle.dyndep_file.proofs.build_line.value.Goals as goal
-use Rattle.dyndep_file.proofs.build_line.value.Goals.{then-contains+in_ok-value_into, else-contains+in_ok-extend_from_slice}
+use Rattle.dyndep_file.proofs.build_line.word_value.Goals as goal
+use Rattle.dyndep_file.proofs.build_line.word_value.Goals.{then-contains+in_ok-value_into, else-contains+in_ok-extend_from_slice}
 
 pub returns : goal.returns
 returns c = elim c.if-contains.branch [
