@@ -1,26 +1,137 @@
 -- The laws: a text has one list of statements or one fault, and not both.
-use Rattle.std.proofs.Common.{inl, inr, ◌⊎◌, ◌≡◌, ℕ, ◌≤◌, true, false, List, [], ◌∷◌, ◌++◌, length, refl, sym, ap, ◌∙◌, Some, None, arith}
-use Rattle.std.specs.Prelude.{Option, if◌then◌else◌, nat_le, nat_lt}
-use Rattle.std.specs.Option.{option_and_then}
+use Rattle.std.proofs.Common.{inl, inr, ◌≡◌, false, List, ℕ, ◌<◌, ◌≤◌, [], ◌∷◌, ◌++◌, length, refl, sym, ap, ◌∙◌, subst, Option, Some, None, Ok, Err, ◌⊎◌, true, arith}
 use Rattle.std.specs.List.{list_any}
-use Rattle.std.proofs.lemmas.Bool.{cases_lt, lt-ltb, le-leb, lt-leb}
-use Rattle.ninja_text.specs.Lines.{line_limit, text_of_line, is_comment}
-use Rattle.ninja_text.specs.LineFormats.{IsOfClass, Begins, IsFaultyAfter, IsDecided}
+use Rattle.std.proofs.lemmas.Bool.{cases_Bool, lt-ltb, le-ltb, cases_lt, le-leb, lt-leb}
+use Rattle.dyndep_file.specs.Classes.{DyndepClass, IsDyndepLine, Version}
+use Rattle.dyndep_file.specs.Faults.{is_version, is_open, stage_after, line_fault, text_line_fault}
+use Rattle.dyndep_file.specs.declared.progress.Stage.TheVariants.{BeforeVersion, NoneOpen, Open}
+use Rattle.std.specs.Prelude.{Result, if◌then◌else◌, nat_le, nat_lt, All}
+use Rattle.std.specs.Option.{option_and_then}
+use Rattle.ninja_text.specs.Lines.{line_limit, IsLine, LogicalLine, logical_line, text_of_line, is_comment}
+use Rattle.ninja_text.specs.LineReading.{BeginsWith, IsNextFault, HasLentAll, FeedsLines, EndsLines}
+use Rattle.ninja_text.specs.LineFormats.{AreTextsOfClasses, IsFaultyAfter, FaultyLine, IsOfClass, Begins, IsDecided}
+use Rattle.ninja_text.specs.FormatReading.{AreReadTo}
+use Rattle.ninja_text.specs.declared.failure.Failure.{Failure}
+use Rattle.ninja_text.specs.declared.failure.Failure.TheVariants.{Fault, Memory}
+use Rattle.ninja_text.proofs.ForCallers.{all_lent, faulty_next, faulty_rest, faulty_at_limit}
 use Rattle.ninja_text.proofs.ForCallers as lines
+use Rattle.dyndep_file.specs.Steps.{ProgressValue, step, run}
+use Rattle.dyndep_file.specs.Reading.{dyndep_format, dyndep_faults, StandsFor, FaultAt, IsEndFault, HasReadFault, StandsForOnly}
+use Rattle.dyndep_file.specs.Reader.{LeadToStatements, DyndepReaderState, HasReadDyndep, FeedsDyndep, EndsDyndepFile, IsFaultAtEnd, IsReadFaultIn}
+use Rattle.dyndep_file.specs.inner.LineStates.{fault_of_cutter, PassesLine, RefusesLine, answer_at_end}
 use Rattle.dyndep_file.specs.StatementValue.{StatementValue}
-use Rattle.dyndep_file.specs.Classes.{DyndepClass, Version}
-use Rattle.dyndep_file.specs.Grammar.{IsDyndepFile, comment_first, blank_first, version_line, body_end}
-use Rattle.dyndep_file.specs.Faults.{is_version, stage_after, line_fault, text_line_fault}
-use Rattle.dyndep_file.specs.Steps.{ProgressValue, run}
-use Rattle.dyndep_file.specs.Reading.{dyndep_format, dyndep_faults, StandsFor, FaultAt, IsEndFault, HasReadFault}
+use Rattle.dyndep_file.specs.declared.fault.ReadFault.{ReadFault}
+use Rattle.dyndep_file.specs.declared.fault.ReadFault.TheVariants.{AtLine, Io}
 use Rattle.dyndep_file.specs.declared.fault.LineFault.{LineFault}
 use Rattle.dyndep_file.specs.declared.fault.LineFault.TheVariants.{LineTooLong, Truncated, NoVersion}
 use Rattle.dyndep_file.specs.declared.progress.Stage.{Stage}
-use Rattle.dyndep_file.specs.declared.progress.Stage.TheVariants.{BeforeVersion, NoneOpen, Open}
-use Rattle.dyndep_file.proofs.Runs.{is_past, one_list_of_statements, run_is_file, begins_runs, runs_begin, stage_runs, run_more}
-use Rattle.dyndep_file.proofs.EndLemmas.{no_version}
-use Rattle.dyndep_file.proofs.FaultLemmas.{faulty_after, too_long_is, fault_is}
-use Rattle.dyndep_file.proofs.ClassLemmas.{class_one, can_stand}
+use Rattle.dyndep_file.proofs.TableLemmas.{no_fault}
+use Rattle.dyndep_file.proofs.Runs.{runs_begin, begins_runs, run_more, run_is_file, stage_runs, is_past, one_list_of_statements}
+use Rattle.dyndep_file.specs.Grammar.{IsDyndepFile, comment_first, blank_first, version_line, body_end}
+use Rattle.dyndep_file.proofs.Classes.{class_one, can_stand}
+use Rattle.dyndep_file.specs.Writing.{dyndep_text}
+use Rattle.dyndep_file.specs.WriteFaults.{CanBeWritten}
+use Rattle.dyndep_file.proofs.WrittenText.{stands_for}
+
+-- ---- what a stage says of the version
+
+-- before the version no line is a version line
+pub no_version : (classes : List DyndepClass) → stage_after classes ≡ BeforeVersion → list_any is_version classes ≡ false
+no_version classes h = elim (cases_Bool (list_any is_version classes)) [
+  | inr f ↦ f
+  | inl t ↦ elim (cases_Bool (is_open classes)) [
+    | inl o ↦ absurd (let x : Open ≡ BeforeVersion = rw (t, o) at h in cc)
+    | inr o ↦ absurd (let x : NoneOpen ≡ BeforeVersion = rw (t, o) at h in cc)
+  ]
+]
+
+-- ---- what the reader rejects with is the first fault in the bytes
+
+-- no dyndep file continues with a line that has a fault
+pub faulty_after : (classes : List DyndepClass) (line : List ℕ) (progress : ProgressValue) (f : LineFault) → run BeforeVersion [] classes ≡ Some progress
+    → text_line_fault progress.stage (text_of_line line) (is_comment line) ≡ Some f → IsFaultyAfter dyndep_format classes line
+faulty_after classes line progress f ran fault c is begun =
+    let whole = begins_runs (classes ++ c ∷ []) begun in
+    let last : run progress.stage progress.statements (c ∷ []) ≡ Some whole.0 = sym (run_more classes (c ∷ []) BeforeVersion [] progress ran) ∙ whole.1 in
+    let steps = stepped (step progress.stage progress.statements c) whole.0 last in
+    let clash : ◌≡◌ {A = Option LineFault} None (Some f) = sym (no_fault progress.stage progress.statements (text_of_line line) (is_comment line) c steps.0 is.1 steps.1) ∙ fault in cc where
+      stepped : (o : Option ProgressValue) (end : ProgressValue) → option_and_then (λ s. run s.stage s.statements []) o ≡ Some end → (next : ProgressValue) × (o ≡ Some next)
+      stepped None end h = absurd (let x : ◌≡◌ {A = Option ProgressValue} None (Some end) = h in cc)
+      stepped (Some next) end h = (next, refl)
+
+-- the fault of a line that is too long, and that of one that keeps the limit
+pub too_long_is : (classes : List DyndepClass) (line : List ℕ) → line_limit < length line → line_fault (stage_after classes) line ≡ Some LineTooLong
+too_long_is classes line past = rw (lt-ltb line_limit (length line) past) refl
+
+pub fault_is : (classes : List DyndepClass) (line : List ℕ) (progress : ProgressValue) (f : LineFault) → run BeforeVersion [] classes ≡ Some progress → length line ≤ line_limit
+    → text_line_fault progress.stage (text_of_line line) (is_comment line) ≡ Some f → line_fault (stage_after classes) line ≡ Some f
+fault_is classes line progress f ran short h =
+    rw (le-ltb line_limit (length line) short) (subst (λ s. text_line_fault s (text_of_line line) (is_comment line) ≡ Some f) (stage_runs classes progress ran) h)
+
+-- a line that is rejected is the first faulty one
+fault_of_line : (bytes : List ℕ) (lent : List LogicalLine) (number : ℕ) (rest : List ℕ) (progress : ProgressValue) (read : AreReadTo dyndep_format LeadToStatements lent progress) → BeginsWith bytes lent number rest
+    → (line after : List ℕ) (view : LogicalLine) (n : ℕ) (f : LineFault) → rest ≡ line ++ after → IsLine line → length line ≤ line_limit
+    → view ≡ record (logical_line [] line) { number = number } → n ≡ view.number → text_line_fault progress.stage view.text view.comment ≡ Some f → IsReadFaultIn bytes (AtLine n f)
+fault_of_line bytes lent number rest progress read begins line after view n f split is short same at fault =
+    let faulty : text_line_fault progress.stage (text_of_line line) (is_comment line) ≡ Some f = subst (λ l. text_line_fault progress.stage l.text l.comment ≡ Some f) same fault in
+    let line_is : n ≡ number = at ∙ ap (λ l. l.number) same in
+    let next : FaultyLine dyndep_format dyndep_faults bytes number f = faulty_next dyndep_format dyndep_faults bytes lent number rest read.classes begins read.texts (runs_begin read.classes progress read.led) line after f split is
+    (faulty_after read.classes line progress f read.led faulty) (fault_is read.classes line progress f read.led short faulty) in
+    inl (subst (λ m. FaultyLine dyndep_format dyndep_faults bytes m f) (sym line_is) next)
+
+-- the next line's fault is in the bytes
+fault_of_next : (bytes : List ℕ) (lent : List LogicalLine) (progress : ProgressValue) (f : ReadFault) → AreReadTo dyndep_format LeadToStatements lent progress
+    → IsNextFault RefusesLine fault_of_cutter bytes lent progress f → IsReadFaultIn bytes f
+fault_of_next bytes lent progress f read (number, rest, begins, inl t) =
+    subst (IsReadFaultIn bytes) (sym t.1)
+    (elim (faulty_at_limit dyndep_format dyndep_faults bytes lent number rest read.classes begins read.texts (runs_begin read.classes progress read.led) LineTooLong (too_long_is read.classes) t.0.0 t.0) [
+      | inl line ↦ inl line
+      | inr end ↦ inr (end, refl)
+    ])
+fault_of_next bytes lent progress (AtLine n f) read (number, rest, begins, inr (line, after, split, is, short, view, same, refused)) =
+    fault_of_line bytes lent number rest progress read begins line after view n f split is short same refused.0 refused.1
+fault_of_next bytes lent progress Io read (number, rest, begins, inr (line, after, split, is, short, view, same, refused)) = absurd refused
+
+-- a line that passes is of a class that leads on
+steps_on : (classes : List DyndepClass) (old new : ProgressValue) (line : LogicalLine) → LeadToStatements classes old → PassesLine old line new
+    → (c : DyndepClass) × IsDyndepLine line.text line.comment c × LeadToStatements (classes ++ c ∷ []) new
+steps_on classes old new line led (c, is, steps) =
+    (c, is, run_more classes (c ∷ []) BeforeVersion [] old led ∙ ap (option_and_then (λ (s : ProgressValue). run s.stage s.statements [])) steps)
+
+-- what reading a piece returns and leaves
+pub fed : (bytes all : List ℕ) (old : DyndepReaderState) (result : Result Unit (Failure ReadFault)) (new : DyndepReaderState) → HasReadDyndep bytes old
+    → ((lent : List LogicalLine) → HasLentAll bytes lent old → FeedsLines PassesLine RefusesLine fault_of_cutter all lent old.state result new) → FeedsDyndep all result new
+fed bytes all old result new has feeds = lines.fed dyndep_format LeadToStatements PassesLine RefusesLine fault_of_cutter steps_on IsReadFaultIn fault_of_next bytes all old result new has feeds
+
+-- the result by what the reader of lines ends with
+abbrev pub answer_of : Result (ProgressValue × ℕ) (Failure ReadFault) → Result (List StatementValue) (Failure ReadFault)
+answer_of (Ok end) = answer_at_end end.0.stage end.0.statements end.1
+answer_of (Err failure) = Err failure
+
+-- what is returned once all of the text was fed, and all lines read
+answered : (bytes : List ℕ) (lent : List LogicalLine) (classes : List DyndepClass) (stage : Stage) (statements : List StatementValue) (line : ℕ) → BeginsWith bytes lent line []
+    → AreTextsOfClasses dyndep_format lent classes → LeadToStatements classes (record { stage = stage; statements = statements }) → EndsDyndepFile bytes (answer_at_end stage statements line)
+answered bytes lent classes BeforeVersion statements line begins texts led =
+    let progress : ProgressValue = record { stage = BeforeVersion; statements = statements } in
+    faulty_rest dyndep_format dyndep_faults bytes lent line [] classes begins texts (runs_begin classes progress led) NoVersion refl (refl, no_version classes (sym (stage_runs classes progress led)))
+answered bytes lent classes NoneOpen statements line begins texts led =
+    all_lent dyndep_format bytes lent line classes statements begins texts (run_is_file classes (record { stage = NoneOpen; statements = statements }) led refl)
+answered bytes lent classes Open statements line begins texts led =
+    all_lent dyndep_format bytes lent line classes statements begins texts (run_is_file classes (record { stage = Open; statements = statements }) led refl)
+
+-- what is returned at the end of all bytes fed
+pub ended : (bytes : List ℕ) (r : DyndepReaderState) (result : Result (ProgressValue × ℕ) (Failure ReadFault)) → HasReadDyndep bytes r
+    → ((lent : List LogicalLine) → HasLentAll bytes lent r → EndsLines fault_of_cutter bytes lent r.state result) → EndsDyndepFile bytes (answer_of result)
+ended bytes r (Ok end) has ends =
+    let e = ends has.lent has.has in
+    answered bytes has.lent has.read.classes end.0.stage end.0.statements end.1 e.1 has.read.texts (subst (LeadToStatements has.read.classes) (sym e.0) has.read.led)
+ended bytes r (Err (Fault f)) has ends =
+    let e = ends has.lent has.has in
+    subst (λ (f : ReadFault). IsFaultAtEnd bytes (Fault f)) (sym e.4)
+    (faulty_rest dyndep_format dyndep_faults bytes has.lent e.0 e.1 has.read.classes e.2 has.read.texts (runs_begin has.read.classes r.state has.read.led) Truncated e.3.2 (e.3.0, e.3.1))
+ended bytes r (Err Memory) has ends = absurd (ends has.lent has.has)
+
+-- ---- the laws themselves
 
 -- a dyndep file has a version line
 file_has_version : {classes : List DyndepClass} {ss : List StatementValue} → IsDyndepFile classes ss → list_any is_version classes ≡ true
@@ -127,3 +238,11 @@ found_same a b = rw (a, b) refl
 -- and just one
 pub one_fault : (bytes : List ℕ) (a b : FaultAt) → HasReadFault bytes a → HasReadFault bytes b → a ≡ b
 one_fault bytes a b f g = let same = lines.one_fault dyndep_format dyndep_faults decided bytes a.line b.line a.fault b.fault f g in found_same same.0 same.1
+
+-- ---- the text of statements that can be written stands for them, and for no others
+
+pub stands_for_only : (ss : List StatementValue) → All CanBeWritten ss → StandsForOnly (dyndep_text ss) ss
+stands_for_only ss all = record {
+  stands = stands_for ss all;
+  only = λ others other. one_list (dyndep_text ss) others ss other (stands_for ss all);
+}

@@ -125,10 +125,6 @@ module _ (text : List ℕ) (sound : lexical_fault text ≡ None) where
   with_tokens : (head : SeenToken) (others : List SeenToken) → head ∷ others ≡ seen_tokens text → is_empty (tokens text) ≡ false
   with_tokens head others h = let f = first head others h in ap is_empty f.are
 
-  -- a text without lexical fault has the other one, if any
-  sound_fault : (fault otherwise : Option LineFault) → fault ≡ otherwise → lexical_fault_or (lexical_fault text) fault ≡ otherwise
-  sound_fault fault otherwise e = rw sound e
-
   module _ (stage : Stage) (head : SeenToken) (others : List SeenToken) (all : head ∷ others ≡ seen_tokens text) where
     -- an indented text
     pub indented_text : begins_with_space text ≡ true

@@ -1,14 +1,73 @@
--- The paths of a part, as they are borrowed and as lists, and what is written of the first of them.
-use Rattle.std.proofs.Common.{◌≡◌, ℕ, suc, ◌+◌, ◌<◌, List, [], ◌∷◌, ◌++◌, length, get_or, take, codes, true, false, Bor, ap, refl, sym, ◌∙◌, ◌==◌, subst, arith, append_assoc, length-append}
-use Rattle.std.specs.Prelude.{All}
-use Rattle.std.specs.List.{flat_map}
-use Rattle.std.proofs.lemmas.List.{take_more, get_or-map, length-map, append-nil, get_or_append_left, get_or-append-add}
+-- The parts of a build line: the values of its words, and its paths as they are borrowed, read and written.
+use Rattle.std.proofs.Common.{◌≡◌, ℕ, ◌==◌, ◌||◌, Bool, true, false, List, [], ◌∷◌, refl, ap, ◌+◌, ◌<◌, cond, ◌++◌, length, map, get_or, Some, None, Bor, sym, ◌∙◌, arith, suc, take, codes, subst, append_assoc, length-append, Option, inr, Vec, Global, Ok, Err}
+use Rattle.std.specs.List.{list_any, position_from, flat_map}
+use Rattle.ninja_text.specs.Bytes.{dollar, line_feed}
+use Rattle.ninja_text.specs.Tokens.{value_of}
+use Rattle.std.specs.Prelude.{position, nat_lt, All, Result}
+use Rattle.std.proofs.lemmas.List.Sums.{position_or_len_is}
+use Rattle.std.proofs.lemmas.Bool.{le-ltb}
+use Rattle.std.proofs.lemmas.List.{map-append, take_more, get_or-map, length-map, append-nil, get_or_append_left, get_or-append-add}
+use Rattle.std.proofs.lemmas.Iterator.Adapters.{position_from-zero}
+use Rattle.dyndep_file.specs.inner.Paths.{lent_texts, texts}
 use Rattle.std.proofs.lemmas.Grind.{flat_map-append}
-use Rattle.ninja_text.specs.Bytes.{line_feed}
 use Rattle.ninja_text.specs.Escapes.{escaped}
-use Rattle.dyndep_file.specs.StatementValue.{StatementValue}
+use Rattle.dyndep_file.specs.StatementValue.{StatementValue, statement_with}
 use Rattle.dyndep_file.specs.Writing.{spaced, part_text, build_line}
-use Rattle.dyndep_file.specs.inner.Paths.{lent_texts}
+use Rattle.std.specs.Result.{IsErrAnd}
+use Rattle.ninja_text.specs.TokenViews.{seen_token, tokens_left}
+use Rattle.ninja_text.specs.declared.failure.Failure.{Failure}
+use Rattle.ninja_text.specs.declared.token.Token.{Token}
+use Rattle.ninja_text.specs.declared.token.TokenKind.{TokenKind}
+use Rattle.ninja_text.specs.declared.token.TokenKind.TheVariants.{Word, Bar, Colon}
+use Rattle.ninja_text.specs.declared.token.Words.{Words}
+use Rattle.dyndep_file.specs.Classes.{Symbol, WordSymbol, SignSymbol, symbol}
+use Rattle.dyndep_file.specs.Faults.{output_fault, after_output_fault, implicit_outputs_fault, rule_fault, after_rule_fault, implicit_inputs_fault}
+use Rattle.dyndep_file.specs.BuildTokens.{symbol_of, symbols_left}
+use Rattle.dyndep_file.specs.inner.BuildLines.{IsNamed, IsFailureOf, TakesOr, TakesOutput, TakesWords, TakesOutputs, TakesInputs}
+use Rattle.dyndep_file.specs.declared.fault.LineFault.{LineFault}
+use Rattle.dyndep_file.proofs.TableLemmas.{inputs_pass, outputs_pass, after_output_passes}
+
+-- ---- what bytes without `$` stand for
+
+-- of two tests that both fail, each does
+neither : (a b : Bool) → (a || b) ≡ false → (a ≡ false) × (b ≡ false)
+neither false b h = (refl, h)
+neither true b h = absurd (let x : true ≡ false = h in cc)
+
+-- bytes without `$` stand for themselves
+pub plain_value : (bytes : List ℕ) → list_any (λ b. b == dollar) bytes ≡ false → value_of bytes ≡ bytes
+plain_value [] h = refl
+plain_value (a ∷ []) h = refl
+plain_value (a ∷ b ∷ []) h =
+    let both = neither (a == dollar) (list_any (λ x. x == dollar) (b ∷ [])) h in
+    rw both.0 refl
+plain_value (a ∷ b ∷ c ∷ bytes) h =
+    let both = neither (a == dollar) (list_any (λ x. x == dollar) (b ∷ c ∷ bytes)) h in
+    rw both.0 (ap (λ rest. a ∷ rest) (plain_value (b ∷ c ∷ bytes) both.1))
+
+-- ---- the index of the first element that passes a test, in a list and in a mapped list
+
+-- no element passes
+pub position_none : {X : Type 0} (p : X → Bool) (xs : List X) (d : X) → ((k : ℕ) → k < length xs → p (get_or xs k d) ≡ false) → position p xs ≡ None
+position_none p xs d before =
+    ap (λ n. cond (nat_lt n (length xs)) (Some n) None) (position_or_len_is p xs (length xs) d (omega arith) before (λ lt. absurd (omega (arith, lt))))
+    ∙ ap (λ b. cond b (Some (length xs)) None) (le-ltb (length xs) (length xs) (omega arith))
+
+from_mapped : {A B : Type 0} (f : A → B) (p : B → Bool) (i : ℕ) (xs : List A) → position_from (λ a. p (f a)) i xs ≡ position_from p i (map f xs)
+from_mapped f p i [] = refl
+from_mapped f p i (x ∷ xs) = ap (λ o. cond (p (f x)) (Some i) o) (from_mapped f p (i + 1) xs)
+
+-- the first index is the same in the mapped list
+pub position-map : {A B : Type 0} (f : A → B) (p : B → Bool) (xs : List A) → position (λ a. p (f a)) xs ≡ position p (map f xs)
+position-map f p xs = position_from-zero (λ a. p (f a)) xs ∙ from_mapped f p 0 xs ∙ sym (position_from-zero p (map f xs))
+
+-- the first index in the paths of a statement, as they are borrowed
+pub position-paths : (p : List ℕ → Bool) (output : Bor (List ℕ)) (outputs inputs : List (Bor (List ℕ)))
+    → position (λ path. p path.now) (output ∷ (outputs ++ inputs)) ≡ position p (output.now ∷ (lent_texts outputs ++ lent_texts inputs))
+position-paths p output outputs inputs =
+    position-map (λ path. path.now) p (output ∷ (outputs ++ inputs)) ∙ ap (λ paths. position p (output.now ∷ paths)) (map-append (λ path. path.now) outputs inputs)
+
+-- ---- the paths of a part, and what is written of the first of them
 
 -- the bytes of the path at an index
 pub text_at : (paths : List (Bor (List ℕ))) (i : ℕ) (other : Bor (List ℕ)) (d : List ℕ) → i < length paths → get_or (lent_texts paths) i d ≡ (get_or paths i other).now
@@ -64,3 +123,109 @@ pub line_written : (s : StatementValue) {a b c d e f g : List ℕ} → a ≡ [] 
 line_written s none word output outputs rule inputs end =
     rw (end, inputs, rule, outputs, output, word, none)
     (joined (codes "build ") (escaped s.output) (part_text s.implicit_outputs) (codes ": dyndep") (part_text s.implicit_inputs) (line_feed ∷ []))
+
+-- ---- what reading the parts one after another gives
+
+-- one more word after words that were read
+pub takes_more : (old : List Symbol) (values : List (List ℕ)) (word value : List ℕ) (new : List Symbol)
+    → TakesWords old values (WordSymbol word ∷ new) → value ≡ value_of word → TakesWords old (values ++ value ∷ []) new
+takes_more old values word value new t is = record {
+  words = t.words ++ word ∷ [];
+  are = t.are
+      ∙ sym (append_assoc (map WordSymbol t.words) (WordSymbol word ∷ []) new)
+      ∙ ap (λ s. s ++ new) (sym (map-append WordSymbol t.words (word ∷ [])));
+  is = ap (λ vs. vs ++ value ∷ []) t.is
+      ∙ ap (λ v. map value_of t.words ++ v ∷ []) is
+      ∙ sym (map-append value_of t.words (word ∷ []));
+}
+
+-- statements of equal parts are equal
+same_statement : {o p : List ℕ} {os ps is qs : List (List ℕ)} → o ≡ p → os ≡ ps → is ≡ qs
+    → ◌≡◌ {A = StatementValue} (statement_with o os is false) (statement_with p ps qs false)
+same_statement a b c = rw (a, b, c) refl
+
+-- the tokens of a build line, and what is left after the output, the implicit outputs and the rule
+module _ (all : List Symbol) (output : List ℕ) (after_output : List Symbol) (takes_output : TakesOutput all output after_output) where
+  -- the fault after the output is that of all
+  pub fault_after_output : after_output_fault after_output ≡ output_fault all
+  fault_after_output = sym (ap output_fault takes_output.are)
+
+  module _ (outputs : List (List ℕ)) (at_rule : List Symbol) (takes_outputs : TakesOutputs after_output outputs at_rule) where
+    -- so is the fault after the `:`
+    pub fault_at_rule : rule_fault at_rule ≡ output_fault all
+    fault_at_rule = sym (ap after_output_fault takes_outputs.are ∙ after_output_passes takes_outputs.part takes_outputs.words at_rule takes_outputs.is_part) ∙ fault_after_output
+
+    module _ (after_rule : List Symbol) (takes_rule : at_rule ≡ WordSymbol (codes "dyndep") ∷ after_rule) where
+      -- and the fault after the rule
+      pub fault_after_rule : after_rule_fault after_rule ≡ output_fault all
+      fault_after_rule = sym (ap rule_fault takes_rule) ∙ fault_at_rule
+
+      -- the parts are those of the statement that the tokens name
+      pub named : (inputs : List (List ℕ)) → TakesInputs after_rule inputs → IsNamed all (statement_with output outputs inputs false)
+      named inputs takes_inputs = (
+        takes_output.word,
+        takes_outputs.words,
+        takes_inputs.words,
+        record {
+          before = takes_outputs.part;
+          after = after_rule;
+          is_before = takes_outputs.is_part;
+          is_after = takes_inputs.is_part;
+          are = takes_output.are
+              ∙ ap (λ s. WordSymbol takes_output.word ∷ s) (takes_outputs.are ∙ ap (λ s. takes_outputs.part ++ SignSymbol Colon ∷ s) takes_rule);
+        },
+        same_statement takes_output.is takes_outputs.is takes_inputs.is,
+      )
+
+-- the symbols to come begin with that of the token that was taken
+pub next_is : (words new : Words) (token : Token) (kind : TokenKind) → tokens_left words ≡ seen_token token ∷ tokens_left new → kind ≡ token.kind
+    → symbols_left words ≡ symbol kind token.raw.now ∷ symbols_left new
+next_is words new token kind steps is = ap (map symbol_of) steps ∙ ap (λ k. symbol k token.raw.now ∷ symbols_left new) (sym is)
+
+-- one more word's value after those of the words before it
+pub takes_next : (all : List Symbol) (values new_values : List (Vec ℕ Global)) (value : Vec ℕ Global) (words new : Words) (token : Token)
+    → TakesWords all (texts values) (symbols_left words) → tokens_left words ≡ seen_token token ∷ tokens_left new → Word ≡ token.kind
+    → value.items ≡ value_of token.raw.now → new_values ≡ values ++ value ∷ [] → TakesWords all (texts new_values) (symbols_left new)
+takes_next all values new_values value words new token taken steps is_word is pushed =
+    subst (λ vs. TakesWords all vs (symbols_left new))
+    (sym (ap texts pushed ∙ map-append (λ (v : Vec ℕ Global). v.items) values (value ∷ [])))
+    (takes_more all (texts values) token.raw.now value.items (symbols_left new)
+    (subst (TakesWords all (texts values)) (next_is words new token Word steps is_word) taken) is)
+
+-- the fault after words among the implicit outputs is that of all
+pub fault_in_outputs : (all : List Symbol) (values : List (List ℕ)) (left : List Symbol) → TakesWords all values left → implicit_outputs_fault all ≡ implicit_outputs_fault left
+fault_in_outputs all values left taken = ap implicit_outputs_fault taken.are ∙ outputs_pass taken.words left
+
+-- the same among the implicit inputs
+pub fault_in_inputs : (all : List Symbol) (values : List (List ℕ)) (left : List Symbol) → TakesWords all values left → implicit_inputs_fault all ≡ implicit_inputs_fault left
+fault_in_inputs all values left taken = ap implicit_inputs_fault taken.are ∙ inputs_pass taken.words left
+
+-- what a reading fails with, another fails with that has the same fault
+pub refuses : {T : Type 0} (fault other : Option LineFault) (is : T → Type 0) (failure : Failure LineFault) (result : Result T (Failure LineFault))
+    → IsErrAnd result (λ e. e ≡ failure) → fault ≡ other → IsFailureOf fault failure → TakesOr other is result
+refuses fault other is failure (Ok value) e same h = absurd e
+refuses fault other is failure (Err reason) e same h = subst (IsFailureOf other) (sym e) (subst (λ f. IsFailureOf f failure) same h)
+
+-- `|`, the words after it and a `:` are a part of implicit outputs and that `:`
+pub takes_bar : (old between new : List Symbol) (result : Result (Vec (Vec ℕ Global) Global) (Failure LineFault)) → old ≡ SignSymbol Bar ∷ between
+    → TakesOr (implicit_outputs_fault between) (λ outputs. TakesWords between (texts outputs.items) (SignSymbol Colon ∷ new)) result
+    → TakesOr (after_output_fault old) (λ outputs. TakesOutputs old (texts outputs.items) new) result
+takes_bar old between new (Ok outputs) e t = record {
+  part = SignSymbol Bar ∷ map WordSymbol t.words;
+  words = t.words;
+  is_part = inr refl;
+  are = e ∙ ap (λ s. SignSymbol Bar ∷ s) t.are;
+  is = t.is;
+}
+takes_bar old between new (Err failure) e t = subst (λ f. IsFailureOf f failure) (sym (ap after_output_fault e)) t
+
+-- `|` and the words after it are a part of implicit inputs
+pub takes_rest : (old between : List Symbol) (result : Result (Vec (Vec ℕ Global) Global) (Failure LineFault)) → old ≡ SignSymbol Bar ∷ between
+    → TakesOr (implicit_inputs_fault between) (λ inputs. TakesWords between (texts inputs.items) []) result
+    → TakesOr (after_rule_fault old) (λ inputs. TakesInputs old (texts inputs.items)) result
+takes_rest old between (Ok inputs) e t = record {
+  words = t.words;
+  is_part = inr (e ∙ ap (λ s. SignSymbol Bar ∷ s) (t.are ∙ append-nil (map WordSymbol t.words)));
+  is = t.is;
+}
+takes_rest old between (Err failure) e t = subst (λ f. IsFailureOf f failure) (sym (ap after_rule_fault e)) t

@@ -16,7 +16,7 @@ use Rattle.dyndep_file.specs.Texts.{TextValue, IsTextOf, IsFinished}
 use Rattle.dyndep_file.specs.declared.fault.WriteFault.{WriteFault}
 use Rattle.dyndep_file.specs.declared.fault.WriteFault.TheVariants.{Unwritable, StatementTooLong}
 use Rattle.dyndep_file.proofs.WriteFaultLemmas.{all_written}
-use Rattle.dyndep_file.proofs.WrittenOnly.{stands_for_only}
+use Rattle.dyndep_file.proofs.LawLemmas.{stands_for_only}
 
 -- ---- the first fault
 

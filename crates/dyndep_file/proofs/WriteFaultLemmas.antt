@@ -19,7 +19,7 @@ use Rattle.dyndep_file.specs.Writing.{build_line, dyndep_text}
 use Rattle.dyndep_file.specs.WriteFaults.{text_unless, text_or_fault, LeavesWriter, StopsInTurn, AnswersWriteFault, write_fault, paths_of, statement_fault, fault_from, CanBeWritten}
 use Rattle.dyndep_file.specs.declared.fault.WriteFault.{WriteFault}
 use Rattle.dyndep_file.specs.declared.fault.WriteFault.TheVariants.{Unwritable, StatementTooLong, Io}
-use Rattle.dyndep_file.proofs.Positions.{position_none}
+use Rattle.dyndep_file.proofs.Parts.{position_none}
 
 -- what holds if a choice between some value and another result gives none
 cond_none : {X : Type 0} (b : Bool) (x : X) (o : Option X) → cond b (Some x) o ≡ None → (b ≡ false) × (o ≡ None)

@@ -1,7 +1,7 @@
 use Rattle.std.proofs.Common.{sym, ◌∙◌}
 use Rattle.ninja_text.specs.declared.token.TokenKind.TheVariants.{Bar}
 use Rattle.dyndep_file.specs.BuildTokens.{symbols_left}
-use Rattle.dyndep_file.proofs.PartLemmas.{next_is, takes_rest}
+use Rattle.dyndep_file.proofs.Parts.{next_is, takes_rest}
 use Rattle.dyndep_file.proofs.build_line.implicit_inputs.Goals as goal
 
 -- stated here, so that a body which takes words in place of `|` is rejected soon

@@ -2,7 +2,7 @@ use Rattle.std.proofs.Common.{inl, [], refl, ap}
 use Rattle.ninja_text.specs.declared.token.TokenKind.TheVariants.{Bar, Colon}
 use Rattle.dyndep_file.specs.BuildTokens.{symbols_left}
 use Rattle.dyndep_file.specs.inner.Paths.{texts}
-use Rattle.dyndep_file.proofs.PartLemmas.{next_is, takes_bar}
+use Rattle.dyndep_file.proofs.Parts.{next_is, takes_bar}
 use Rattle.dyndep_file.proofs.build_line.implicit_outputs.Goals as goal
 
 pub returns-in-Bar : goal.returns-in-Bar

@@ -2,7 +2,7 @@ use Rattle.std.proofs.Common.{◌==◌, ◌++◌, ap, sym, ◌∙◌}
 use Rattle.std.specs.List.{list_any}
 use Rattle.ninja_text.specs.Bytes.{dollar}
 use Rattle.ninja_text.specs.Tokens.{value_of}
-use Rattle.dyndep_file.proofs.Values.{plain_value}
+use Rattle.dyndep_file.proofs.Parts.{plain_value}
 use Rattle.dyndep_file.proofs.build_line.word_value.Goals as goal
 use Rattle.dyndep_file.proofs.build_line.word_value.Goals.{then-contains+in_ok-value_into, else-contains+in_ok-extend_from_slice}
 

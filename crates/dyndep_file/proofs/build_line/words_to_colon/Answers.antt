@@ -5,7 +5,7 @@ use Rattle.dyndep_file.specs.Classes.{symbol}
 use Rattle.dyndep_file.specs.BuildTokens.{symbol_of, symbols_left}
 use Rattle.dyndep_file.specs.Faults.{implicit_outputs_fault}
 use Rattle.dyndep_file.specs.inner.Paths.{texts}
-use Rattle.dyndep_file.proofs.PartLemmas.{next_is, takes_next, fault_in_outputs}
+use Rattle.dyndep_file.proofs.Parts.{next_is, takes_next, fault_in_outputs}
 use Rattle.dyndep_file.proofs.build_line.words_to_colon.Goals as goal
 use Rattle.dyndep_file.proofs.build_line.words_to_colon.Goals.{in-Bar, in-DoubleBar, in-BarAt}
 

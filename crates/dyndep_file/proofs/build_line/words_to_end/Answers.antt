@@ -5,7 +5,7 @@ use Rattle.dyndep_file.specs.Classes.{symbol}
 use Rattle.dyndep_file.specs.BuildTokens.{symbols_left}
 use Rattle.dyndep_file.specs.Faults.{implicit_inputs_fault}
 use Rattle.dyndep_file.specs.inner.Paths.{texts}
-use Rattle.dyndep_file.proofs.PartLemmas.{next_is, takes_next, fault_in_inputs}
+use Rattle.dyndep_file.proofs.Parts.{next_is, takes_next, fault_in_inputs}
 use Rattle.dyndep_file.proofs.build_line.words_to_end.Goals as goal
 use Rattle.dyndep_file.proofs.build_line.words_to_end.Goals.{in-Bar, in-DoubleBar, in-BarAt}
 

@@ -1,4 +1,4 @@
-use Rattle.dyndep_file.proofs.WrittenOnly.{stands_for_only}
+use Rattle.dyndep_file.proofs.LawLemmas.{stands_for_only}
 use Rattle.dyndep_file.proofs.laws.written_text.Goals as goal
 
 pub returns : goal.returns

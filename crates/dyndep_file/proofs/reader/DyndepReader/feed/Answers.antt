@@ -1,6 +1,6 @@
 use Rattle.std.proofs.Common.{◌++◌, sym, subst}
 use Rattle.dyndep_file.specs.Reader.{HasReadDyndep}
-use Rattle.dyndep_file.proofs.FaultLemmas.{fed}
+use Rattle.dyndep_file.proofs.LawLemmas.{fed}
 use Rattle.dyndep_file.proofs.reader.DyndepReader.feed.Goals as goal
 
 pub returns-clause-all : goal.returns-clause-all

@@ -7,7 +7,7 @@ use Rattle.dyndep_file.specs.inner.LineStates.{answer_at_end}
 use Rattle.dyndep_file.specs.declared.progress.Stage.{Stage}
 use Rattle.dyndep_file.specs.declared.progress.Stage.TheVariants.{BeforeVersion, NoneOpen, Open}
 use Rattle.dyndep_file.specs.contracts.progress.Progress.{the_view}
-use Rattle.dyndep_file.proofs.FaultLemmas.{ended}
+use Rattle.dyndep_file.proofs.LawLemmas.{ended}
 use Rattle.dyndep_file.proofs.reader.DyndepReader.finish.Goals as goal
 
 pub returns-in_err-progress-clause-all : goal.returns-in_err-progress-clause-all

@@ -6,7 +6,7 @@ use Rattle.std.proofs.lemmas.Iterator.Search.{position_from_yields_List}
 use Rattle.ninja_text.specs.Escapes.{is_writable}
 use Rattle.dyndep_file.specs.WriteFaults.{paths_of}
 use Rattle.dyndep_file.specs.declared.fault.WriteFault.TheVariants.{Unwritable}
-use Rattle.dyndep_file.proofs.Positions.{position-paths}
+use Rattle.dyndep_file.proofs.Parts.{position-paths}
 use Rattle.dyndep_file.proofs.WriteFaultLemmas.{paths_written}
 use Rattle.dyndep_file.proofs.TextLemmas.{unwritable}
 use Rattle.dyndep_file.proofs.text.DyndepText.add.Goals as goal
