@@ -88,6 +88,7 @@ impl Pool {
             None => {
                 infos.push(None)?;
                 related.push(Related {
+                    required: Vec::new(alloc),
                     sources: Vec::new(alloc),
                     clashes: Vec::new(alloc),
                 })?;

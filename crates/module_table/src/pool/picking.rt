@@ -34,12 +34,12 @@ impl Pool {
                 let Some(entry) = picked.get_index(next) else {
                     break;
                 };
-                let known = self.known(entry.0);
-                let Some(module) = known.and_then(|info| info.modules.get(entry.1)) else {
+                let rows = self.related.get(entry.0).map(|related| &related.required);
+                let Some(required) = rows.and_then(|rows| rows.get(entry.1)) else {
                     continue;
                 };
-                for pair in &module.required {
-                    self.pick_name(places, &pair.0, &mut picked)?;
+                for module in required {
+                    picked.insert(*module)?;
                 }
             }
         }

@@ -10,9 +10,12 @@ use ninja_text::Path;
 use scan_docs::{Info, InfoModule, Name};
 use std::alloc::{AllocError, Global};
 
-/// The info files that an info file is related to, by index, each once.
+/// How an info file is related to the others. The info files are listed by index, each once.
 #[derive(Drop)]
 pub(crate) struct Related {
+    /// The modules that each of its modules requires, by the index of the info file and the index of
+    /// the module in it.
+    pub required: Vec<Vec<(usize, usize)>>,
     /// The info files with the modules that it requires.
     pub sources: Vec<usize>,
     /// The info files with a module of the same name or file.
@@ -39,11 +42,15 @@ impl Related {
         if !add_modules(alloc, infos.len(), info, names, files)? {
             return Ok(None);
         }
-        let Some(sources) = sources_of(alloc, infos, info, names)? else {
+        let Some((required, sources)) = sources_of(alloc, infos, info, names)? else {
             return Ok(None);
         };
         let clashes = clashes_of(alloc, infos.len(), info, names, files)?;
-        Ok(Some(Related { sources, clashes }))
+        Ok(Some(Related {
+            required,
+            sources,
+            clashes,
+        }))
     }
 }
 
@@ -77,41 +84,48 @@ fn add_modules(
     Ok(true)
 }
 
-/// Returns the info files that have what the modules of an info file require, each once.
+/// Returns the modules that each module of an info file requires, and the info files that have
+/// them, each once.
 fn sources_of(
     alloc: Global,
     infos: &[Option<Info>],
     info: &Info,
     names: &NameRows,
-) -> Result<Option<Vec<usize>>, AllocError>
-    ensures { IfOk result (λ found. IfSome found (λ sources. (j : ℕ) (m : ModuleValue)
+) -> Result<Option<(Vec<Vec<(usize, usize)>>, Vec<usize>)>, AllocError>
+    ensures { IfOk result (λ found. IfSome found (λ (required, sources). (j : ℕ) (m : ModuleValue)
         (pair : Name × PathText) → slice_get info.now.modules j ≡ Some m → Has m.required pair
         → (k : ℕ) × Has sources.items k
         × IsSource (infos.now ++ Some info.now ∷ []) (length infos.now) pair k)) }
 {
+    let mut required = Vec::with_capacity(alloc, info.modules.len())?;
     let mut sources = Vec::new(alloc);
     for module in &info.modules {
+        let mut row = Vec::with_capacity(alloc, module.required.len())?;
         for pair in &module.required {
             match source_of(infos, info, names, pair) {
-                Some(source) => sources.push(source)?,
+                Some(entry) => {
+                    sources.push(entry.0)?;
+                    row.push(entry)?;
+                }
                 None => return Ok(None),
             }
         }
+        required.push(row)?;
     }
     each_once(&mut sources);
-    Ok(Some(sources))
+    Ok(Some((required, sources)))
 }
 
-/// Returns the info file that has a module of this name and this file, and may be required: the
-/// module is public or of the info file itself.
+/// Returns the module of this name and this file that may be required: it is public or of the info
+/// file itself.
 fn source_of(
     infos: &[Option<Info>],
     info: &Info,
     names: &NameRows,
     pair: &(Name, Path),
-) -> Option<usize>
-    ensures { IfSome result
-        (IsSource (infos.now ++ Some info.now ∷ []) (length infos.now) pair.now) }
+) -> Option<(usize, usize)>
+    ensures { IfSome result (λ entry.
+        IsSource (infos.now ++ Some info.now ∷ []) (length infos.now) pair.now entry.0) }
 {
     for entry in names.of(&pair.0) {
         if let Some(module) = module_of(infos, info, *entry) {
@@ -119,7 +133,7 @@ fn source_of(
                 && module.file == pair.1
                 && (!module.is_private || entry.0 == infos.len())
             {
-                return Some(entry.0);
+                return Some(*entry);
             }
         }
     }

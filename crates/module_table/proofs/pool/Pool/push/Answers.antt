@@ -24,11 +24,11 @@ invariant_of-result c =
           elim c.match-info.branch [
             | in-Some+in_ok-found-in-Some v ↦
                 let known : c.match-found.infos.items ≡ pool.infos.items ++ None ∷ [] = ap (λ vec. vec.items) w.infos-is ∙ w.in_ok-push-in-None-found.ensures.items in
-                let related : c.match-found.related.items ≡ pool.related.items ++ (let none : Related = record { sources = w.new.result; clashes = w.new-in-None-found.result } in none) ∷ [] = ap (λ vec. vec.items) w.related-is ∙ w.in_ok-push-in-None-found-2.ensures.items in
-                rw (known, related, v.names-is, v.files-is) (pool_skipped pool.infos.items pool.names.names.keys pool.names.rows.items pool.files.files.keys pool.files.rows.items pool.related.items c.self.invariant v.of.new.names.names.keys v.of.new.names.rows.items v.of.new.files.files.keys v.of.new.files.rows.items v.in_ok-found-in-Some.ensures.names v.in_ok-found-in-Some.ensures.files (let none : Related = record { sources = w.new.result; clashes = w.new-in-None-found.result } in none))
+                let related : c.match-found.related.items ≡ pool.related.items ++ (let none : Related = record { required = w.new.result; sources = w.new-in-None-found.result; clashes = w.new-in-None-found-2.result } in none) ∷ [] = ap (λ vec. vec.items) w.related-is ∙ w.in_ok-push-in-None-found-2.ensures.items in
+                rw (known, related, v.names-is, v.files-is) (pool_skipped pool.infos.items pool.names.names.keys pool.names.rows.items pool.files.files.keys pool.files.rows.items pool.related.items c.self.invariant v.of.new.names.names.keys v.of.new.names.rows.items v.of.new.files.files.keys v.of.new.files.rows.items v.in_ok-found-in-Some.ensures.names v.in_ok-found-in-Some.ensures.files (let none : Related = record { required = w.new.result; sources = w.new-in-None-found.result; clashes = w.new-in-None-found-2.result } in none))
             | in-None v ↦
                 let known : c.match-found.infos.items ≡ pool.infos.items ++ None ∷ [] = ap (λ vec. vec.items) w.infos-is ∙ w.in_ok-push-in-None-found.ensures.items in
-                let related : c.match-found.related.items ≡ pool.related.items ++ (let none : Related = record { sources = w.new.result; clashes = w.new-in-None-found.result } in none) ∷ [] = ap (λ vec. vec.items) w.related-is ∙ w.in_ok-push-in-None-found-2.ensures.items in
-                rw (known, related, v.names-is, v.files-is) (pool_skipped pool.infos.items pool.names.names.keys pool.names.rows.items pool.files.files.keys pool.files.rows.items pool.related.items c.self.invariant pool.names.names.keys pool.names.rows.items pool.files.files.keys pool.files.rows.items (λ key entry h. h) (λ key entry h. h) (let none : Related = record { sources = w.new.result; clashes = w.new-in-None-found.result } in none))
+                let related : c.match-found.related.items ≡ pool.related.items ++ (let none : Related = record { required = w.new.result; sources = w.new-in-None-found.result; clashes = w.new-in-None-found-2.result } in none) ∷ [] = ap (λ vec. vec.items) w.related-is ∙ w.in_ok-push-in-None-found-2.ensures.items in
+                rw (known, related, v.names-is, v.files-is) (pool_skipped pool.infos.items pool.names.names.keys pool.names.rows.items pool.files.files.keys pool.files.rows.items pool.related.items c.self.invariant pool.names.names.keys pool.names.rows.items pool.files.files.keys pool.files.rows.items (λ key entry h. h) (λ key entry h. h) (let none : Related = record { required = w.new.result; sources = w.new-in-None-found.result; clashes = w.new-in-None-found-2.result } in none))
           ]
     ]

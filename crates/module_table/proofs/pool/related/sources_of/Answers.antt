@@ -15,8 +15,8 @@ loop-pair-preserved c =
     let pushed = c.in_ok-push-in-Some.ensures.items in
     let Found : List ℕ → List ℕ × List ℕ → Type 0 = λ sources pair. (k : ℕ) × Has sources k × IsSource (c.args.infos.now ++ Some c.args.info.now ∷ []) (length c.args.infos.now) pair k in
     record {
-      still = λ k h. has_grown old new c.in-Some.source k pushed (c.loop-pair.invariant.still k h);
-      all = below_next (Found new) required i c.pair-item.result at (below_map (Found old) (Found new) required i (λ pair f. (f.0, has_grown old new c.in-Some.source f.0 pushed f.1, f.2)) c.loop-pair.invariant.all) (c.in-Some.source, has_new old new c.in-Some.source pushed, c.in-Some.ensures);
+      still = λ k h. has_grown old new c.in-Some.entry.0 k pushed (c.loop-pair.invariant.still k h);
+      all = below_next (Found new) required i c.pair-item.result at (below_map (Found old) (Found new) required i (λ pair f. (f.0, has_grown old new c.in-Some.entry.0 f.0 pushed f.1, f.2)) c.loop-pair.invariant.all) (c.in-Some.entry.0, has_new old new c.in-Some.entry.0 pushed, c.in-Some.ensures);
     }
 
 pub loop-module-preserved : goal.loop-module-preserved
