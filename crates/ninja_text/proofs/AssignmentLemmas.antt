@@ -9,7 +9,7 @@ use Rattle.ninja_text.specs.declared.unit.LineUnit.TheVariants.{Continuation, Es
 use Rattle.ninja_text.specs.Tokens.{TokenAt, is_blank, is_piece, goes_on, with_first_start, with_unit, tokens_from, tokens}
 use Rattle.ninja_text.specs.Assignments.{after_run, is_name_unit, begins_with_equals, SeenAssignment, assignment_of}
 use Rattle.ninja_text.specs.Paths.{is_empty}
-use Rattle.ninja_text.proofs.TokenLemmas.{tokens_with, byte_is}
+use Rattle.ninja_text.proofs.Units.{tokens_with, byte_is}
 
 any_later : (test : LineUnit → Bool) (u : LineUnit) (us : List LineUnit) → list_any test us ≡ true → list_any test (u ∷ us) ≡ true
 any_later test u us h = elim (cases_Bool (test u)) [ inl t ↦ rw t refl | inr f ↦ rw f h ]

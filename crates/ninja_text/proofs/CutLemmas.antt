@@ -16,9 +16,7 @@ use Rattle.ninja_text.specs.declared.failure.Failure.TheVariants.{Memory, Fault}
 use Rattle.ninja_text.specs.declared.scan.ScanState.TheVariants.{Start}
 use Rattle.ninja_text.specs.declared.scan.Scanned.{Scanned}
 use Rattle.ninja_text.specs.declared.scan.Scanned.TheVariants.{End, Open}
-use Rattle.ninja_text.proofs.ScanLemmas.{end_of, line_end_scanned}
-use Rattle.ninja_text.proofs.ScanLists.{scan_end_append, scan_end_fits, scan_end_take, EndFits}
-use Rattle.ninja_text.proofs.ReachLemmas.{take_shorter}
+use Rattle.ninja_text.proofs.Scans.{end_of, line_end_scanned, scan_end_append, scan_end_fits, scan_end_take, EndFits, take_shorter}
 
 -- an end that is found was scanned
 end_was : (r : Scanned) (e : LineEnd) → end_of r ≡ Some e → r ≡ End e.text_len e.line_len

@@ -1,19 +1,229 @@
--- The units of a line's text that has no lexical fault.
-use Rattle.std.proofs.Common.{inl, inr, ◌≡◌, ℕ, suc, zero, ◌+◌, Bool, true, false, List, [], ◌∷◌, take, refl, sym, ap, ◌∙◌, subst, arith, ◌==◌, ◌&&◌, ◌||◌, not, Some, None}
-use Rattle.std.specs.Prelude.{Option}
+-- The bytes that a text's units are, and the units of a line without a lexical fault.
+use Rattle.std.proofs.Common.{inl, inr, ◌≡◌, ℕ, suc, zero, ◌+◌, ◌-◌, Bool, true, false, List, [], ◌∷◌, ◌++◌, length, take, drop, replicate, refl, sym, ap, ◌∙◌, subst, arith, ◌==◌, ◌&&◌, length-append, append_assoc, ◌||◌, not, Some, None}
+use Rattle.std.specs.Prelude.{slice_range, Option}
 use Rattle.std.specs.List.{list_all}
+use Rattle.std.proofs.lemmas.List.{drop_at, take_at}
+use Rattle.std.proofs.lemmas.List.Folds.{list_all-append}
 use Rattle.std.proofs.lemmas.Bool.{cases_Bool, eqb-true, and_parts, and_from}
-use Rattle.ninja_text.specs.Units.{units, unit_len, with_continuation}
+use Rattle.ninja_text.specs.Units.{units, unit_len, is_continuation, with_continuation}
 use Rattle.ninja_text.specs.declared.unit.LineUnit.{LineUnit}
 use Rattle.ninja_text.specs.declared.unit.LineUnit.TheVariants.{Continuation, Escape, Byte}
+use Rattle.ninja_text.specs.Escapes.{is_escaped, IsContinuation}
+use Rattle.ninja_text.specs.TokenLists.{total_len, begins_with}
+use Rattle.ninja_text.proofs.Units.{units_byte, units_feed, units_pair, end_continued}
+use Rattle.ninja_text.proofs.SpelledUnits.{is_plain, plain, escaped_only}
 use Rattle.ninja_text.specs.declared.fault.LexFault.{LexFault}
 use Rattle.ninja_text.specs.Lines.{LineEnd, begins_with_line_feed, end_from, text_before, text_of_line}
 use Rattle.ninja_text.specs.Lexical.{begins_variable, is_escapable, unit_fault, earlier, first_fault}
-use Rattle.ninja_text.specs.Escapes.{is_escaped}
 use Rattle.ninja_text.specs.Meanings.{IsFaultless}
-use Rattle.ninja_text.proofs.UnitLemmas.{units_byte, units_feed, end_continued}
-use Rattle.ninja_text.proofs.SpelledUnits.{is_plain}
-use Rattle.ninja_text.proofs.UnitTexts.{is_proper}
+
+-- ---- the bytes that the units of a text are, one unit after another
+
+-- bytes that are this unit
+abbrev pub IsUnitText : LineUnit → List ℕ → Type 0
+IsUnitText (Continuation len) bytes = IsContinuation bytes × (length bytes ≡ len)
+IsUnitText (Escape b) bytes = bytes ≡ 36 ∷ b ∷ []
+IsUnitText (Byte b) bytes = bytes ≡ b ∷ []
+
+-- a continuation, and no space after it
+abbrev TakesSpaces : LineUnit → List LineUnit → Type 0
+TakesSpaces u us = is_continuation u ≡ true → begins_with 32 us ≡ false
+
+-- Bytes that are these units, one after another. Each continuation has all the spaces that follow it.
+abbrev pub AreUnitTexts : List LineUnit → List ℕ → Type 0
+AreUnitTexts [] bytes = bytes ≡ []
+AreUnitTexts (u ∷ us) bytes = (own : List ℕ) × (rest : List ℕ) × IsUnitText u own × TakesSpaces u us × AreUnitTexts us rest × (bytes ≡ own ++ rest)
+
+-- that many spaces, and one more
+abbrev spaces : ℕ → List ℕ
+spaces n = replicate n 32
+
+one_more : (n : ℕ) → spaces n ++ 32 ∷ [] ≡ 32 ∷ spaces n
+one_more zero = refl
+one_more (suc n) = ap (λ xs. 32 ∷ xs) (one_more n)
+
+longer : (own : List ℕ) → IsContinuation own → IsContinuation (own ++ 32 ∷ [])
+longer own c = (
+  suc c.0,
+  elim c.1 [
+    | inl h ↦ inl (ap (λ xs. xs ++ 32 ∷ []) h ∙ ap (λ xs. 36 ∷ 10 ∷ xs) (one_more c.0))
+    | inr h ↦ inr (ap (λ xs. xs ++ 32 ∷ []) h ∙ ap (λ xs. 36 ∷ 13 ∷ 10 ∷ xs) (one_more c.0))
+  ],
+)
+
+-- a continuation in front of units takes the spaces that they begin with
+continued : (len : ℕ) (us : List LineUnit) (own rest : List ℕ) → IsContinuation own → length own ≡ len → AreUnitTexts us rest → AreUnitTexts (with_continuation len us) (own ++ rest)
+continued len [] own rest c is h = (own, [], (c, is), (λ e. refl), refl, ap (λ xs. own ++ xs) h)
+continued len (Byte b ∷ us) own rest c is h = elim (cases_Bool (b == 32)) [
+  | inl s ↦ rw s (subst (AreUnitTexts (with_continuation (len + 1) us)) (sym (joins s))
+      (continued (len + 1) us (own ++ 32 ∷ []) h.1 (longer own c) (omega (arith, length-append own (32 ∷ []))) h.4))
+  | inr s ↦ rw s (own, rest, (c, is), (λ e. s), h, refl)
+] where
+  joins : (b == 32) ≡ true → own ++ rest ≡ (own ++ 32 ∷ []) ++ h.1
+  joins s = ap (λ xs. own ++ xs) (h.5 ∙ ap (λ xs. xs ++ h.1) h.2 ∙ ap (λ n. n ∷ h.1) (eqb-true b 32 s)) ∙ sym (append_assoc own (32 ∷ []) h.1)
+continued len (Escape b ∷ us) own rest c is h = (own, rest, (c, is), (λ e. refl), h, refl)
+continued len (Continuation more ∷ us) own rest c is h = (own, rest, (c, is), (λ e. refl), h, refl)
+
+no_continuation : {A : Type 0} → false ≡ true → A
+no_continuation h = absurd (cc)
+
+escape_text : (a b : ℕ) → (a == 36) ≡ true → IsUnitText (Escape b) (a ∷ b ∷ [])
+escape_text a b d = ap (λ n. n ∷ b ∷ []) (eqb-true a 36 d)
+
+feed_text : (a b : ℕ) → (a == 36) ≡ true → (b == 10) ≡ true → IsContinuation (a ∷ b ∷ [])
+feed_text a b d f = (0, inl (ap (λ n. n ∷ b ∷ []) (eqb-true a 36 d) ∙ ap (λ n. 36 ∷ n ∷ []) (eqb-true b 10 f)))
+
+return_text : (a b c : ℕ) → (a == 36) ≡ true → ((b == 13) && (c == 10)) ≡ true → IsContinuation (a ∷ b ∷ c ∷ [])
+return_text a b c d r =
+    let p = and_parts (b == 13) (c == 10) r in
+    (0, inr (ap (λ n. n ∷ b ∷ c ∷ []) (eqb-true a 36 d) ∙ ap (λ n. 36 ∷ n ∷ c ∷ []) (eqb-true b 13 p.0) ∙ ap (λ n. 36 ∷ 13 ∷ n ∷ []) (eqb-true c 10 p.1)))
+
+-- the units of a text are its bytes
+pub unit_texts : (bytes : List ℕ) → AreUnitTexts (units bytes) bytes
+unit_texts [] = refl
+unit_texts (a ∷ []) = (a ∷ [], [], refl, no_continuation, refl, refl)
+unit_texts (a ∷ b ∷ []) = elim (cases_Bool (a == 36)) [
+  | inl d ↦ elim (cases_Bool (b == 10)) [
+    | inl f ↦ rw (d, f) (a ∷ b ∷ [], [], (feed_text a b d f, refl), (λ e. refl), refl, refl)
+    | inr f ↦ rw (d, f) (a ∷ b ∷ [], [], escape_text a b d, no_continuation, refl, refl)
+  ]
+  | inr d ↦ rw d (a ∷ [], b ∷ [], refl, no_continuation, unit_texts (b ∷ []), refl)
+]
+unit_texts (a ∷ b ∷ c ∷ bytes) = elim (cases_Bool (a == 36)) [
+  | inl d ↦ elim (cases_Bool (b == 10)) [
+    | inl f ↦ rw (d, f) (continued 2 (units (c ∷ bytes)) (a ∷ b ∷ []) (c ∷ bytes) (feed_text a b d f) refl (unit_texts (c ∷ bytes)))
+    | inr f ↦ elim (cases_Bool ((b == 13) && (c == 10))) [
+      | inl r ↦ rw (d, f, r) (continued 3 (units bytes) (a ∷ b ∷ c ∷ []) bytes (return_text a b c d r) refl (unit_texts bytes))
+      | inr r ↦ rw (d, f, r) (a ∷ b ∷ [], c ∷ bytes, escape_text a b d, no_continuation, unit_texts (c ∷ bytes), refl)
+    ]
+  ]
+  | inr d ↦ rw d (a ∷ [], b ∷ c ∷ bytes, refl, no_continuation, unit_texts (b ∷ c ∷ bytes), refl)
+]
+
+-- fewer units begin with a space only if more do
+begins_less : (us vs : List LineUnit) → begins_with 32 (us ++ vs) ≡ false → begins_with 32 us ≡ false
+begins_less [] vs h = refl
+begins_less (u ∷ us) vs h = h
+
+-- the bytes of some units, and those of the units after them
+pub split : (us vs : List LineUnit) (bytes : List ℕ) → AreUnitTexts (us ++ vs) bytes → (x : List ℕ) × (y : List ℕ) × AreUnitTexts us x × AreUnitTexts vs y × (bytes ≡ x ++ y)
+split [] vs bytes h = ([], bytes, refl, h, refl)
+split (u ∷ us) vs bytes h =
+    let later = split us vs h.1 h.4 in
+    (h.0 ++ later.0, later.1, (h.0, later.0, h.2, (λ e. begins_less us vs (h.3 e)), later.2, refl), later.3, h.5 ∙ ap (λ xs. h.0 ++ xs) later.4 ∙ sym (append_assoc h.0 later.0 later.1))
+
+unit_length : (u : LineUnit) (own : List ℕ) → IsUnitText u own → length own ≡ unit_len u
+unit_length (Continuation len) own h = h.1
+unit_length (Escape b) own h = ap length h
+unit_length (Byte b) own h = ap length h
+
+pub texts_length : (us : List LineUnit) (bytes : List ℕ) → AreUnitTexts us bytes → length bytes ≡ total_len us
+texts_length [] bytes h = ap length h
+texts_length (u ∷ us) bytes h =
+    ap length h.5 ∙ length-append h.0 h.1 ∙ ap (λ n. n + length h.1) (unit_length u h.0 h.2) ∙ ap (λ n. unit_len u + n) (texts_length us h.1 h.4)
+
+-- a unit of a text without lexical fault, and without an end: an escaped byte, one that stands for itself, or a continuation
+abbrev pub is_proper : LineUnit → Bool
+is_proper (Continuation len) = true
+is_proper (Escape b) = is_escaped b
+is_proper (Byte b) = is_plain b
+
+-- a continuation takes spaces
+takes : (n k : ℕ) (rest : List ℕ) → with_continuation k (units (spaces n ++ rest)) ≡ with_continuation (k + n) (units rest)
+takes zero k rest = ap (λ m. with_continuation m (units rest)) {x = k} {y = k + 0} (omega arith)
+takes (suc n) k rest =
+    ap (with_continuation k) (units_byte 32 (spaces n ++ rest) refl) ∙ takes n (k + 1) rest
+    ∙ ap (λ m. with_continuation m (units rest)) {x = k + 1 + n} {y = k + suc n} (omega arith)
+
+-- and no other unit
+takes_no_more : (len : ℕ) (us : List LineUnit) → begins_with 32 us ≡ false → with_continuation len us ≡ Continuation len ∷ us
+takes_no_more len [] h = refl
+takes_no_more len (Byte b ∷ us) h = rw h refl
+takes_no_more len (Escape b ∷ us) h = refl
+takes_no_more len (Continuation more ∷ us) h = refl
+
+spaces_length : (n : ℕ) → length (spaces n) ≡ n
+spaces_length zero = refl
+spaces_length (suc n) = ap suc (spaces_length n)
+
+-- a continuation at the front is read back
+continuation_back : (own rest : List ℕ) (us : List LineUnit) → IsContinuation own → begins_with 32 us ≡ false → units rest ≡ us → units (own ++ rest) ≡ Continuation (length own) ∷ us
+continuation_back own rest us c none later = elim c.1 [
+  | inl h ↦ subst (λ xs. units (xs ++ rest) ≡ Continuation (length xs) ∷ us) (sym h)
+      (units_feed (spaces c.0 ++ rest) ∙ after 2 (suc (suc (length (spaces c.0)))) (omega (arith, spaces_length c.0)))
+  | inr h ↦ subst (λ xs. units (xs ++ rest) ≡ Continuation (length xs) ∷ us) (sym h) (after 3 (suc (suc (suc (length (spaces c.0))))) (omega (arith, spaces_length c.0)))
+] where
+  after : (k m : ℕ) → k + c.0 ≡ m → with_continuation k (units (spaces c.0 ++ rest)) ≡ Continuation m ∷ us
+  after k m is = takes c.0 k rest ∙ ap (with_continuation (k + c.0)) later ∙ takes_no_more (k + c.0) us none ∙ ap (λ n. Continuation n ∷ us) is
+
+-- proper units are read back
+pub read_back : (us : List LineUnit) (bytes : List ℕ) → list_all is_proper us ≡ true → AreUnitTexts us bytes → units bytes ≡ us
+read_back [] bytes p h = ap units h
+read_back (Continuation len ∷ us) bytes p h =
+    ap units h.5 ∙ continuation_back h.0 h.1 us h.2.0 (h.3 refl) (read_back us h.1 p h.4) ∙ ap (λ n. Continuation n ∷ us) h.2.1
+read_back (Escape b ∷ us) bytes p h =
+    let q = and_parts (is_escaped b) (list_all is_proper us) p in
+    ap units (h.5 ∙ ap (λ xs. xs ++ h.1) h.2)
+    ∙ escaped_only (λ n. units (36 ∷ n ∷ h.1) ≡ Escape n ∷ units h.1) (units_pair 36 h.1 refl refl) (units_pair 32 h.1 refl refl) (units_pair 58 h.1 refl refl) b q.0
+    ∙ ap (λ vs. Escape b ∷ vs) (read_back us h.1 q.1 h.4)
+read_back (Byte b ∷ us) bytes p h =
+    let q = and_parts (is_plain b) (list_all is_proper us) p in
+    ap units (h.5 ∙ ap (λ xs. xs ++ h.1) h.2) ∙ units_byte b h.1 (plain b q.0).no_dollar ∙ ap (λ vs. Byte b ∷ vs) (read_back us h.1 q.1 h.4)
+
+-- The text from an index on is these units, all of them proper.
+pub record Remains (text : List ℕ) (index : ℕ) (us : List LineUnit) : Type 0 where
+  pub front : List ℕ
+  pub bytes : List ℕ
+  pub whole : text ≡ front ++ bytes
+  pub front_len : length front ≡ index
+  pub texts : AreUnitTexts us bytes
+  pub proper : list_all is_proper us ≡ true
+
+pub remains_all : (text : List ℕ) → list_all is_proper (units text) ≡ true → Remains text 0 (units text)
+remains_all text proper = record { front = []; bytes = text; whole = refl; front_len = refl; texts = unit_texts text; proper = proper }
+
+-- past the first of them, and past more
+pub past_unit : (text : List ℕ) (index : ℕ) (u : LineUnit) (us : List LineUnit) → Remains text index (u ∷ us) → Remains text (index + unit_len u) us
+past_unit text index u us r =
+    let h = r.texts in
+    record {
+      front = r.front ++ h.0;
+      bytes = h.1;
+      whole = r.whole ∙ ap (λ xs. r.front ++ xs) h.5 ∙ sym (append_assoc r.front h.0 h.1);
+      front_len = length-append r.front h.0 ∙ ap (λ n. n + length h.0) r.front_len ∙ ap (λ n. index + n) (unit_length u h.0 h.2);
+      texts = h.4;
+      proper = (and_parts (is_proper u) (list_all is_proper us) r.proper).1;
+    }
+
+pub past_units : (text : List ℕ) (index : ℕ) (us vs : List LineUnit) → Remains text index (us ++ vs) → Remains text (index + total_len us) vs
+past_units text index [] vs r = subst (λ n. Remains text n vs) {x = index} {y = index + 0} (omega arith) r
+past_units text index (u ∷ us) vs r =
+    subst (λ n. Remains text n vs) {x = index + unit_len u + total_len us} {y = index + (unit_len u + total_len us)} (omega arith)
+    (past_units text (index + unit_len u) us vs (past_unit text index u (us ++ vs) r))
+
+-- the bytes of the first of them
+pub record Part (text : List ℕ) (start : ℕ) (us : List LineUnit) : Type 0 where
+  pub bytes : List ℕ
+  pub texts : AreUnitTexts us bytes
+  pub proper : list_all is_proper us ≡ true
+  pub slice : slice_range text start (start + total_len us) ≡ bytes
+
+pub first_part : (text : List ℕ) (start : ℕ) (us vs : List LineUnit) → Remains text start (us ++ vs) → Part text start us
+first_part text start us vs r =
+    let parts = split us vs r.bytes r.texts in
+    record {
+      bytes = parts.0;
+      texts = parts.2;
+      proper = (and_parts (list_all is_proper us) (list_all is_proper vs) (sym (list_all-append is_proper us vs) ∙ r.proper)).0;
+      slice = ap (λ t. slice_range t start (start + total_len us)) r.whole ∙ ap (take (start + total_len us - start)) (drop_at r.front r.bytes start r.front_len ∙ parts.4)
+          ∙ take_at parts.0 parts.1 (start + total_len us - start) (omega (arith, texts_length us parts.0 parts.2));
+    }
+
+-- the rest of the text
+pub rest_is : (text : List ℕ) (index : ℕ) (us : List LineUnit) (r : Remains text index us) → drop index text ≡ r.bytes
+rest_is text index us r = ap (drop index) r.whole ∙ drop_at r.front r.bytes index r.front_len
+
+-- ---- the units of a line without a lexical fault
 
 -- ---- no unit before a line's end is an LF, or a `$` by itself
 

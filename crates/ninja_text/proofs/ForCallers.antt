@@ -14,11 +14,11 @@ pub use Rattle.ninja_text.proofs.CutLemmas.{line_end-append}
 -- Every text is divided into lines and a rest.
 pub use Rattle.ninja_text.proofs.CutLemmas.{divides_some}
 -- In a text that begins with a space, neither a token nor an assignment's name begins at the first byte.
-pub use Rattle.ninja_text.proofs.StartLemmas.{token_indented, name_indented}
+pub use Rattle.ninja_text.proofs.Spans.{token_indented, name_indented}
 -- The name of an assignment is a slice of the text, and begins after the first blank run.
-pub use Rattle.ninja_text.proofs.StartLemmas.{Parts, assignment_parts}
+pub use Rattle.ninja_text.proofs.Spans.{Parts, assignment_parts}
 -- A slice from the front of a text begins with the text's first byte.
-pub use Rattle.ninja_text.proofs.StartLemmas.{slice_first}
+pub use Rattle.ninja_text.proofs.Spans.{slice_first}
 -- A text that is an assignment has a token.
 pub use Rattle.ninja_text.proofs.AssignmentLemmas.{assignment_has_token, assignment_not_empty}
 -- A unit is sound if it is an escape that a path may need, or a byte by itself that neither ends a
@@ -31,11 +31,11 @@ pub use Rattle.ninja_text.proofs.SpelledLines.{units_are, lexical_none}
 -- With an LF after it, such a text is a line, whose text it is.
 pub use Rattle.ninja_text.proofs.SpelledLines.{is_line, text_is}
 -- The units of an escaped path: they are its escaped form, are sound, and are pieces of a word.
-pub use Rattle.ninja_text.proofs.SpelledPaths.{path_unit, path_units, path_text, path_sound, path_pieces}
+pub use Rattle.ninja_text.proofs.EscapedPaths.{path_unit, path_units, path_text, path_sound, path_pieces}
 -- If a path can be escaped, each of its bytes can be escaped.
-pub use Rattle.ninja_text.proofs.SpelledPaths.{has_spelling}
+pub use Rattle.ninja_text.proofs.EscapedPaths.{has_spelling}
 -- What is read of an escaped path is the path.
-pub use Rattle.ninja_text.proofs.SpelledPaths.{value_of_escaped}
+pub use Rattle.ninja_text.proofs.EscapedPaths.{value_of_escaped}
 -- A word continues if a piece follows; pieces after which no piece follows are one word.
 pub use Rattle.ninja_text.proofs.SpelledTokens.{goes_on_piece, word_and, word_token}
 -- Units yield tokens, seen by their kinds and bytes, if those are their tokens wherever the units are.
@@ -53,15 +53,15 @@ pub use Rattle.ninja_text.proofs.SpelledTexts.{written_line, written_text}
 -- The first token of one that begins with a word is at its beginning.
 pub use Rattle.ninja_text.proofs.SpelledTexts.{First, written_first}
 -- The elements of lists, by index: of mapped lists, of two lists, and of the first few of a list.
-pub use Rattle.ninja_text.proofs.Indexed.{same_some, same_cons, element_at, from_map, to_map, in_append, in_first, in_second, from_push, from_take, in_take, map_take, take_next, to_the_end, zip_is_map}
+pub use Rattle.ninja_text.proofs.Lists.{same_some, same_cons, element_at, from_map, to_map, in_append, in_first, in_second, from_push, from_take, in_take, map_take, take_next, to_the_end, zip_is_map}
 -- The elements of lists put one after another: the parts of a list that `flat_map` makes.
-pub use Rattle.ninja_text.proofs.Indexed.{offset, InPart, in_flat_map, FromPart, from_flat_map}
+pub use Rattle.ninja_text.proofs.Lists.{offset, InPart, in_flat_map, FromPart, from_flat_map}
 -- A value whose result had its error mapped.
-pub use Rattle.ninja_text.proofs.Refusals.{with_other_error}
+pub use Rattle.ninja_text.proofs.Lists.{with_other_error}
 -- Numbers in one of three orders; a choice for each number makes a list.
-pub use Rattle.ninja_text.proofs.Indexed.{three_ways, choose}
+pub use Rattle.ninja_text.proofs.Lists.{three_ways, choose}
 -- Lists in which all differ, and what a search for a text says of them.
-pub use Rattle.ninja_text.proofs.Repetitions.{differ_push, not_among, found_if, new_if}
+pub use Rattle.ninja_text.proofs.Lists.{differ_push, not_among, found_if, new_if}
 -- A text of a format whose lines and ends are decided stands for one value or has one fault, not both.
 pub use Rattle.ninja_text.proofs.LineFormats.{one_value, not_both, value_or_fault, one_fault}
 -- Lines of some classes, and after them lines of others; the bytes of one line more.
@@ -71,4 +71,4 @@ pub use Rattle.ninja_text.proofs.FormatReading.{all_lent, faulty_next, faulty_re
 -- What a reader of a format's lines returns and leaves.
 pub use Rattle.ninja_text.proofs.FormatReading.{fed, none_refused}
 -- The test of what can be escaped means what the record says.
-pub use Rattle.ninja_text.proofs.Writable.{writable as is_writable-meaning}
+pub use Rattle.ninja_text.proofs.EscapedPaths.{writable as is_writable-meaning}

@@ -12,8 +12,7 @@ use Rattle.ninja_text.specs.declared.failure.Failure.{Failure}
 use Rattle.ninja_text.specs.declared.failure.Failure.TheVariants.{Fault, Memory}
 use Rattle.ninja_text.specs.declared.fault.CutFault.{CutFault}
 use Rattle.ninja_text.proofs.CutLemmas.{end_fits, front_is_line, AllByRecursion-append, divides_one}
-use Rattle.ninja_text.proofs.FeedLemmas.{too_long}
-use Rattle.ninja_text.proofs.PieceLemmas.{working_cuts, begins_with}
+use Rattle.ninja_text.proofs.Feeds.{too_long, working_cuts, begins_with}
 use Rattle.ninja_text.proofs.LineFormats.{one_more_line, no_faulty_line}
 
 module _ {C V : Type 0} (format : LineFormat C V) where

@@ -5,7 +5,7 @@ use Rattle.std.proofs.lemmas.List.{append-nil}
 use Rattle.std.proofs.lemmas.Grind.{flat_map-append}
 use Rattle.ninja_text.specs.Lines.{line_end, IsLine, Divides, text_of_line, is_comment, number_after}
 use Rattle.ninja_text.specs.LineFormats.{LineFormat, LineFaults, IsOfClass, AreOfClasses, Begins, StandsForValue, FaultyLine, FaultyEnd, HasFault, IsDecided}
-use Rattle.ninja_text.proofs.Indexed.{same_cons}
+use Rattle.ninja_text.proofs.Lists.{same_cons}
 use Rattle.ninja_text.proofs.CutLemmas.{AllByRecursion-append, divides_one, divides_some}
 
 -- the lines continue after these, this one, and perhaps more

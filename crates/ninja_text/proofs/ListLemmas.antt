@@ -9,7 +9,7 @@ use Rattle.ninja_text.specs.declared.token.TokenKind.{TokenKind}
 use Rattle.ninja_text.specs.declared.token.TokenKind.TheVariants.{Word, Bar, DoubleBar, BarAt, Colon}
 use Rattle.ninja_text.specs.Tokens.{TokenAt, is_blank, is_piece, goes_on, with_first_start, with_unit, tokens_from, tokens}
 use Rattle.ninja_text.specs.TokenLists.{total_len, may_follow, is_word, begins_with, IsToken, AreBlank, BeginsWithToken, LexesAs, AreTokens}
-use Rattle.ninja_text.proofs.TokenLemmas.{tokens_with, tokens_blank, tokens_piece, piece_else, goes_on_piece, continuation_blank, byte_is, byte_len}
+use Rattle.ninja_text.proofs.Units.{tokens_with, tokens_blank, tokens_piece, piece_else, goes_on_piece, continuation_blank, byte_is, byte_len}
 
 -- blank units add no token
 blank_first : (gap us : List LineUnit) (index : ℕ) → AreBlank gap → tokens_from index (gap ++ us) ≡ tokens_from (index + total_len gap) us

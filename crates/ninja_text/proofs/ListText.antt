@@ -4,7 +4,7 @@ use Rattle.std.proofs.lemmas.List.{get_or-append-add}
 use Rattle.std.proofs.Math.Seq.{take-append_seam, drop-append_seam}
 use Rattle.std.specs.List.{AllByRecursion}
 use Rattle.ninja_text.proofs.ReducedList.{IsFixed, name-of, reduced-fixed, reduced-each, behind-pair, behind-none, behind-stays, parent-not-name}
-use Rattle.ninja_text.proofs.Indexed.{to_the_end}
+use Rattle.ninja_text.proofs.Lists.{to_the_end}
 use Rattle.ninja_text.specs.Reduction.{is_current, is_parent, is_named_component, reduced}
 use Rattle.ninja_text.specs.inner.ComponentLists.{list_text, appended, LacksSlash, EachLacksSlash}
 

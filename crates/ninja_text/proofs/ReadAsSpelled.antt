@@ -15,16 +15,14 @@ use Rattle.ninja_text.specs.Lines.{text_of_line}
 use Rattle.ninja_text.specs.Tokens.{TokenAt, is_blank, is_piece, unit_value, value_of, with_raw, tokens, seen_tokens}
 use Rattle.ninja_text.specs.TokenLists.{total_len, begins_with, may_follow, is_word, IsToken, LexesAs}
 use Rattle.ninja_text.specs.Escapes.{is_escaped, is_unwritable, IsPiece, IsContinuation, IsGap, Spells}
-use Rattle.ninja_text.specs.Assignments.{after_run, is_name_unit, begins_with_equals, tail_units, SeenAssignment, with_bytes, assignment_of}
-use Rattle.ninja_text.specs.declared.assigning.AssignmentIndexes.{AssignmentIndexes}
+use Rattle.ninja_text.specs.Assignments.{AssignmentIndexes, after_run, is_name_unit, begins_with_equals, tail_units, SeenAssignment, with_bytes, assignment_of}
 use Rattle.ninja_text.specs.Meanings.{IsFaultless, IsReadAsSpelled, is_value_byte, IsValuePiece, SpellsValue, IsValueAsSpelled}
 use Rattle.ninja_text.proofs.ReducedList.{is_true}
 use Rattle.ninja_text.proofs.Spelling.{head-of, dollar-space}
 use Rattle.ninja_text.proofs.ListLemmas.{tokens_are}
-use Rattle.ninja_text.proofs.TokenLemmas.{byte_len}
+use Rattle.ninja_text.proofs.Units.{byte_len}
 use Rattle.ninja_text.proofs.SpelledUnits.{is_plain, plain}
-use Rattle.ninja_text.proofs.UnitTexts.{IsUnitText, AreUnitTexts, is_proper, read_back, Remains, remains_all, past_unit, past_units, Part, first_part, rest_is}
-use Rattle.ninja_text.proofs.FaultlessLines.{faultless_units}
+use Rattle.ninja_text.proofs.FaultlessLines.{IsUnitText, AreUnitTexts, is_proper, read_back, Remains, remains_all, past_unit, past_units, Part, first_part, rest_is, faultless_units}
 
 -- ---- words
 

@@ -14,8 +14,8 @@ use Rattle.ninja_text.specs.Lexical.{lexical_fault}
 use Rattle.ninja_text.specs.Tokens.{TokenAt, is_piece, goes_on, with_first_start, tokens_from, tokens, raw}
 use Rattle.ninja_text.specs.Escapes.{IsWritable, escaped}
 use Rattle.ninja_text.proofs.SpelledUnits.{is_sound, unit_text, text_of_units}
-use Rattle.ninja_text.proofs.SpelledPaths.{path_units, path_text, path_sound, path_pieces, has_spelling}
-pub use Rattle.ninja_text.proofs.SpelledPaths.{value_of_escaped}
+use Rattle.ninja_text.proofs.EscapedPaths.{path_units, path_text, path_sound, path_pieces, has_spelling}
+pub use Rattle.ninja_text.proofs.EscapedPaths.{value_of_escaped}
 use Rattle.ninja_text.proofs.SpelledTokens.{Yields, no_units, word_yields, space_yields, colon_yields, bar_yields, path_yields, goes_on_piece, piece_alone, piece_before}
 use Rattle.ninja_text.proofs.SpelledLines.{units_are, lexical_none, is_line, text_is}
 

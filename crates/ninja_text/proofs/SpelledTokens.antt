@@ -5,18 +5,18 @@ use Rattle.std.specs.List.{list_all}
 use Rattle.std.proofs.lemmas.List.{append-nil, append_assoc, take_at, drop_at}
 use Rattle.std.proofs.lemmas.Grind.{flat_map-append}
 use Rattle.std.proofs.lemmas.Bool.{and_parts, or_parts, not-true}
-pub use Rattle.ninja_text.proofs.TokenLemmas.{goes_on_piece}
-use Rattle.ninja_text.proofs.Indexed.{same_cons}
+pub use Rattle.ninja_text.proofs.Units.{goes_on_piece}
+use Rattle.ninja_text.proofs.Lists.{same_cons}
 use Rattle.ninja_text.specs.Units.{unit_len, is_byte}
 use Rattle.ninja_text.specs.declared.unit.LineUnit.{LineUnit}
 use Rattle.ninja_text.specs.declared.unit.LineUnit.TheVariants.{Continuation, Escape, Byte}
 use Rattle.ninja_text.specs.declared.token.TokenKind.{TokenKind}
 use Rattle.ninja_text.specs.declared.token.TokenKind.TheVariants.{Word, Bar, Colon}
 use Rattle.ninja_text.specs.Tokens.{TokenAt, is_piece, goes_on, with_first_start, tokens_from, raw}
-use Rattle.ninja_text.proofs.TokenLemmas.{tokens_with, tokens_blank}
+use Rattle.ninja_text.proofs.Units.{tokens_with, tokens_blank}
 use Rattle.ninja_text.specs.Escapes.{IsWritable, escaped}
 use Rattle.ninja_text.proofs.SpelledUnits.{unit_text, text_of_units}
-use Rattle.ninja_text.proofs.SpelledPaths.{path_unit, path_units, path_text, path_pieces, has_spelling}
+use Rattle.ninja_text.proofs.EscapedPaths.{path_unit, path_units, path_text, path_pieces, has_spelling}
 
 -- a piece is no continuation and no `|`
 piece_len : (u : LineUnit) → is_piece u ≡ true → unit_len u ≡ length (unit_text u)

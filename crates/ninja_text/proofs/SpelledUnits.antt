@@ -9,7 +9,7 @@ use Rattle.ninja_text.specs.declared.unit.LineUnit.TheVariants.{Continuation, Es
 use Rattle.ninja_text.specs.Lines.{end_from}
 use Rattle.ninja_text.specs.Lexical.{unit_fault, first_fault}
 use Rattle.ninja_text.specs.Escapes.{is_escaped}
-use Rattle.ninja_text.proofs.UnitLemmas.{units_byte, units_pair}
+use Rattle.ninja_text.proofs.Units.{units_byte, units_pair}
 
 -- a byte that is a unit by itself, and neither ends a line nor is a fault: none of `$`, NUL, CR, LF
 abbrev pub is_plain : ℕ → Bool

@@ -6,7 +6,6 @@ use Rattle.ninja_text.specs.Units.{unit_len, is_byte, units, is_digit, is_letter
 use Rattle.ninja_text.specs.declared.unit.LineUnit.{LineUnit}
 use Rattle.ninja_text.specs.declared.unit.LineUnit.TheVariants.{Continuation, Escape, Byte}
 use Rattle.ninja_text.specs.Tokens.{is_blank}
-use Rattle.ninja_text.specs.declared.assigning.AssignmentIndexes.{AssignmentIndexes}
 
 -- letters, digits, `_`, `.`, `-`
 abbrev pub is_identifier_byte : ℕ → Bool
@@ -36,6 +35,12 @@ begins_with_equals (u ∷ us) = is_byte equals_sign u
 abbrev pub tail_units : List LineUnit → List LineUnit
 tail_units [] = []
 tail_units (u ∷ us) = us
+
+-- the indexes of the name and the value of an assignment; the value extends to the end of the text
+pub record AssignmentIndexes : Type 0 where
+  pub name_start : ℕ
+  pub name_end : ℕ
+  pub value_start : ℕ
 
 -- The indexes of the name and the value, if the text is: a blank run, a name, a blank run, `=`,
 -- a blank run, a value. Each run is the longest at its index, the name has at least one byte, and

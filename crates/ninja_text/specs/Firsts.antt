@@ -1,6 +1,6 @@
 -- What comes first in a list: the first element of which something holds, the first pair of
 -- elements that are alike, and the first element that repeats an earlier one.
-use Rattle.std.specs.Prelude.{◌≡◌, ℕ, ◌<◌, List, take, slice_get, Option, Some, None}
+use Rattle.std.specs.Prelude.{◌≡◌, ℕ, ◌<◌, List, take, slice_get, Some}
 
 -- x has the index k in the list, P holds of both, and of no index before k and the element there
 pub record IsFirstAt {X : Type 0} (P : ℕ → X → Type 0) (xs : List X) (k : ℕ) (x : X) : Type 0 where
@@ -37,8 +37,3 @@ pub record RepeatsFirst {X : Type 0} (xs : List X) (i j : ℕ) : Type 0 where
   pub here : slice_get xs i ≡ Some repeated
   pub again : slice_get xs j ≡ Some repeated
   pub before : AllDiffer (take j xs)
-
--- the indexes of the first repetition, or none
-abbrev pub FindsRepetition : {X : Type 0} → List X → Option (ℕ × ℕ) → Type 0
-FindsRepetition xs None = AllDiffer xs
-FindsRepetition xs (Some indexes) = RepeatsFirst xs indexes.0 indexes.1

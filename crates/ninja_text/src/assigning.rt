@@ -2,22 +2,14 @@
 ghost use Rattle.std.specs.Prelude.{◌≡◌, ◌<◌, ◌≤◌, length, false, IfOk, IfSome};
 ghost use Rattle.ninja_text.specs.LineViews.{seen_line};
 ghost use Rattle.ninja_text.specs.AssignmentViews.{IsAssignment, seen_assignment};
-ghost use Rattle.ninja_text.specs.Assignments.{LiesIn, assignment_indexes, is_name_unit};
+ghost use Rattle.ninja_text.specs.Assignments.{LiesIn, is_name_unit};
 ghost use Rattle.ninja_text.specs.inner.Runs.{Run};
 
 use crate::assignments::Assignment;
 use crate::fault::LexFault;
 use crate::lexing::{blank_end, fault_in};
 use crate::line::Line;
-use crate::unit::unit_at;
-
-/// The offsets of the name and the value of an assignment. The value extends to the end of the line.
-#[derive(Drop)]
-pub(crate) struct AssignmentIndexes {
-    pub(crate) name_start: usize,
-    pub(crate) name_end: usize,
-    pub(crate) value_start: usize,
-}
+use crate::unit::{LineUnit, unit_at};
 
 /// Returns the assignment in a line, or `None` if the line is not an assignment. The line must not be
 /// a comment.
@@ -39,39 +31,24 @@ pub fn assignment(line: Line<'_>) -> Result<Option<Assignment<'_>>, LexFault>
     if let Some(fault) = fault_in(text) {
         return Err(fault);
     }
-    match indexes_in(text) {
-        None => Ok(None),
-        Some(indexes) => Ok(Some(Assignment {
-            name_start: indexes.name_start,
-            name: &text[indexes.name_start..indexes.name_end],
-            raw_value: &text[indexes.value_start..],
-        })),
-    }
-}
-
-fn indexes_in(text: &[u8]) -> Option<AssignmentIndexes>
-    ensures value { result ≡ assignment_indexes text.now }
-    ensures within { IfSome result (λ a. (a.name_start < a.name_end)
-        × (a.name_end < a.value_start) × (a.value_start ≤ length text.now)) }
-{
     let name_start = blank_end(text, 0);
     let name_end = name_end(text, name_start);
     let sign = blank_end(text, name_end);
     if name_start == name_end {
-        return None;
+        return Ok(None);
     }
     if sign == text.len() {
-        return None;
+        return Ok(None);
     }
     if !unit_at(text, sign).is_byte(b'=') {
-        return None;
+        return Ok(None);
     }
     let value_start = blank_end(text, sign + 1);
-    Some(AssignmentIndexes {
+    Ok(Some(Assignment {
         name_start,
-        name_end,
-        value_start,
-    })
+        name: &text[name_start..name_end],
+        raw_value: &text[value_start..],
+    }))
 }
 
 /// Returns the end of the name that begins at an offset.
@@ -82,11 +59,13 @@ fn name_end(text: &[u8], from: usize) -> usize
 {
     let mut index = from;
     while index < text.len() {
-        let unit = unit_at(text, index);
-        if !unit.is_name_part() {
+        let LineUnit::Byte(byte) = unit_at(text, index) else {
+            return index;
+        };
+        if !byte.is_ascii_alphanumeric() && !matches!(byte, b'_' | b'.' | b'-') {
             return index;
         }
-        index += unit.len();
+        index += 1;
     }
     index
 }

@@ -13,17 +13,6 @@ fn is_escaped(byte: &u8) -> bool
     matches!(*byte, b'$' | b' ' | b':')
 }
 
-/// Appends a byte, with a `$` before it if it needs one.
-fn push_escaped(out: &mut Vec<u8>, byte: u8) -> Result<(), AllocError>
-    ensures ok { OnOk result (out.new.items ≡ out.old.items ++ escaped_byte byte) }
-    ensures err { OnErr result (out.new.items ≡ out.old.items) }
-{
-    match byte {
-        b'$' | b' ' | b':' => out.extend_from_slice(&[b'$', byte]),
-        _ => out.extend_from_slice(&[byte]),
-    }
-}
-
 /// Returns whether a path can be escaped in a Ninja file.
 pub fn is_writable(path: &[u8]) -> bool
     ensures value { result ≡ is_writable path.now }
@@ -50,7 +39,11 @@ pub fn escape_into(path: &[u8], out: &mut Vec<u8>) -> Result<(), AllocError>
     }
     let start = out.len();
     for byte in path {
-        if let Err(e) = push_escaped(out, *byte) {
+        let appended = match *byte {
+            b'$' | b' ' | b':' => out.extend_from_slice(&[b'$', *byte]),
+            _ => out.extend_from_slice(&[*byte]),
+        };
+        if let Err(e) = appended {
             out.truncate(start);
             return Err(e);
         }

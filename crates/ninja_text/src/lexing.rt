@@ -7,7 +7,7 @@ ghost use Rattle.ninja_text.specs.inner.Runs.{Run};
 ghost use Rattle.ninja_text.specs.Tokens.{is_blank, IsSlice, RiseFrom, tokens_at};
 ghost use Rattle.ninja_text.specs.inner.TokenStarts.{BeginsToken, BeginsPiece, IsFirstToken};
 ghost use Rattle.ninja_text.specs.Lexical.{unit_fault, lexical_fault};
-ghost use Rattle.ninja_text.specs.inner.PlainTexts.{is_suspect, is_plain_piece};
+ghost use Rattle.ninja_text.specs.inner.PlainTexts.{is_suspect};
 
 use crate::fault::LexFault;
 use crate::line::Line;
@@ -89,11 +89,11 @@ pub(crate) fn blank_end(text: &[u8], from: usize) -> usize
 {
     let mut index = from;
     while index < text.len() {
-        let unit = unit_at(text, index);
-        if !unit.is_blank() {
-            return index;
+        match unit_at(text, index) {
+            LineUnit::Continuation(len) => index += len,
+            LineUnit::Byte(b' ') => index += 1,
+            LineUnit::Byte(_) | LineUnit::Escape(_) => return index,
         }
-        index += unit.len();
     }
     index
 }
@@ -138,27 +138,21 @@ fn word_end(text: &[u8], start: usize) -> usize
     let mut index = start + first.len();
     let mut end = index;
     while index < text.len() {
-        if is_plain(text[index]) {
+        // Nearly every byte of a word is a piece of it by itself.
+        if !matches!(text[index], b'$' | b' ' | b':' | b'|') {
             index += 1;
             end = index;
-        } else {
-            let unit = unit_at(text, index);
-            if unit.is_piece() {
+            continue;
+        }
+        let unit = unit_at(text, index);
+        match unit {
+            LineUnit::Byte(b' ' | b':' | b'|') => return end,
+            LineUnit::Continuation(len) => index += len,
+            LineUnit::Byte(_) | LineUnit::Escape(_) => {
                 index += unit.len();
                 end = index;
-            } else if unit.is_continuation() {
-                index += unit.len();
-            } else {
-                break;
             }
         }
     }
     end
-}
-
-/// Returns whether a byte is a piece of a word by itself, as nearly every byte of a word is.
-fn is_plain(byte: u8) -> bool
-    ensures { result ≡ is_plain_piece byte }
-{
-    !matches!(byte, b'$' | b' ' | b':' | b'|')
 }

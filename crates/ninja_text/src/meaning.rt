@@ -19,22 +19,15 @@ pub(crate) fn append_meaning(raw: &[u8], out: &mut Vec<u8>) -> Result<(), AllocE
     let mut index = 0;
     while index < raw.len() {
         let unit = unit_at(raw, index);
-        if let Err(e) = append_unit(unit, out) {
+        let appended = match unit {
+            LineUnit::Continuation(_) => Ok(()),
+            LineUnit::Escape(byte) | LineUnit::Byte(byte) => out.extend_from_slice(&[byte]),
+        };
+        if let Err(e) = appended {
             out.truncate(before);
             return Err(e);
         }
         index += unit.len();
     }
     Ok(())
-}
-
-/// Appends what a unit stands for.
-fn append_unit(unit: LineUnit, out: &mut Vec<u8>) -> Result<(), AllocError>
-    ensures ok { OnOk result (out.new.items ≡ out.old.items ++ unit_value unit) }
-    ensures err { OnErr result (out.new.items ≡ out.old.items) }
-{
-    match unit {
-        LineUnit::Continuation(_) => Ok(()),
-        LineUnit::Escape(byte) | LineUnit::Byte(byte) => out.extend_from_slice(&[byte]),
-    }
 }

@@ -34,7 +34,8 @@ pub(crate) fn scan_bytes(index: usize, from: ScanState, bytes: &[u8]) -> Scanned
 {
     let mut state = from;
     for (i, byte) in bytes.iter().enumerate() {
-        if stays_plain(state, *byte) {
+        // Nearly every byte of a line leaves the state plain.
+        if matches!(state, ScanState::Plain) && !matches!(*byte, b'\n' | b'\r' | b'$') {
             continue;
         }
         let at = index + i;
@@ -46,52 +47,23 @@ pub(crate) fn scan_bytes(index: usize, from: ScanState, bytes: &[u8]) -> Scanned
     Scanned::Open(state)
 }
 
-/// Returns whether a byte leaves the state plain, as nearly every byte of a line does.
-fn stays_plain(state: ScanState, byte: u8) -> bool
-    ensures { result ≡ true → step_of state byte ≡ Some state }
-{
-    match state {
-        ScanState::Plain => !matches!(byte, b'\n' | b'\r' | b'$'),
-        _ => false,
-    }
-}
-
 /// Returns the next state, or `None` if the byte ends the line.
 fn next_state(state: ScanState, byte: u8) -> Option<ScanState>
     ensures { result ≡ step_of state byte }
 {
-    match state {
-        ScanState::Comment | ScanState::CommentReturn => match byte {
-            b'\n' => None,
-            b'\r' => Some(ScanState::CommentReturn),
-            _ => Some(ScanState::Comment),
-        },
-        ScanState::Dollar => match byte {
-            b'\r' => Some(ScanState::DollarReturn),
-            _ => Some(ScanState::Plain),
-        },
-        ScanState::DollarReturn => match byte {
-            b'\n' => Some(ScanState::Plain),
-            _ => plain_state(byte),
-        },
-        ScanState::Start => match byte {
-            b' ' => Some(ScanState::Start),
-            b'#' => Some(ScanState::Comment),
-            _ => plain_state(byte),
-        },
-        ScanState::Plain | ScanState::Return => plain_state(byte),
-    }
-}
-
-/// Returns the state after a byte that begins a unit.
-fn plain_state(byte: u8) -> Option<ScanState>
-    ensures { result ≡ step_of ScanState.Plain byte }
-{
-    match byte {
-        b'\n' => None,
-        b'\r' => Some(ScanState::Return),
-        b'$' => Some(ScanState::Dollar),
-        _ => Some(ScanState::Plain),
+    match (state, byte) {
+        (ScanState::Comment | ScanState::CommentReturn, b'\n') => None,
+        (ScanState::Comment | ScanState::CommentReturn, b'\r') => Some(ScanState::CommentReturn),
+        (ScanState::Comment | ScanState::CommentReturn, _) => Some(ScanState::Comment),
+        (ScanState::Dollar, b'\r') => Some(ScanState::DollarReturn),
+        (ScanState::Dollar, _) | (ScanState::DollarReturn, b'\n') => Some(ScanState::Plain),
+        (ScanState::Start, b' ') => Some(ScanState::Start),
+        (ScanState::Start, b'#') => Some(ScanState::Comment),
+        // All other bytes begin a unit.
+        (_, b'\n') => None,
+        (_, b'\r') => Some(ScanState::Return),
+        (_, b'$') => Some(ScanState::Dollar),
+        (_, _) => Some(ScanState::Plain),
     }
 }
 

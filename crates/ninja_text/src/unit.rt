@@ -15,9 +15,7 @@ pub(crate) enum LineUnit {
 }
 
 impl LineUnit {
-    ghost use Rattle.ninja_text.specs.Units.{is_byte, is_continuation};
-    ghost use Rattle.ninja_text.specs.Tokens.{is_blank, is_piece};
-    ghost use Rattle.ninja_text.specs.Assignments.{is_name_unit};
+    ghost use Rattle.ninja_text.specs.Units.{is_byte};
 
     /// Returns its length in the text.
     pub(crate) fn len(&self) -> usize
@@ -36,40 +34,6 @@ impl LineUnit {
     {
         match self {
             LineUnit::Byte(b) => *b == byte,
-            LineUnit::Escape(_) | LineUnit::Continuation(_) => false,
-        }
-    }
-
-    pub(crate) fn is_continuation(&self) -> bool
-        ensures { result ≡ is_continuation self.now }
-    {
-        matches!(self, LineUnit::Continuation(_))
-    }
-
-    /// Returns whether it may come between two tokens: a space or a continuation.
-    pub(crate) fn is_blank(&self) -> bool
-        ensures { result ≡ is_blank self.now }
-    {
-        matches!(self, LineUnit::Continuation(_) | LineUnit::Byte(b' '))
-    }
-
-    /// Returns whether it can be part of a word.
-    pub(crate) fn is_piece(&self) -> bool
-        ensures { result ≡ is_piece self.now }
-    {
-        !matches!(
-            self,
-            LineUnit::Continuation(_) | LineUnit::Byte(b' ' | b':' | b'|')
-        )
-    }
-
-    /// Returns whether it can be part of a name: a letter, a digit, `_`, `.` or `-`.
-    pub(crate) fn is_name_part(&self) -> bool
-        ensures { result ≡ is_name_unit self.now }
-    {
-        match self {
-            LineUnit::Byte(byte) => byte.is_ascii_alphanumeric()
-                || matches!(*byte, b'_' | b'.' | b'-'),
             LineUnit::Escape(_) | LineUnit::Continuation(_) => false,
         }
     }

@@ -2,7 +2,7 @@ use Rattle.std.specs.Ordering.{is_ge}
 use Rattle.std.proofs.Common.{Ordering, Less, Equal, Greater, ◌≡◌, ℕ, zero, suc, ◌+◌, ◌-◌, ◌<◌, ◌≤◌, ◌⊎◌, List, length, Some, arith, ap, subst, sym, get_or, true, false, refl, slice_get, inl, inr, Bor}
 use Rattle.std.proofs.lemmas.Cmp.{nat_list_cmp_total}
 use Rattle.std.proofs.lemmas.List.{length-map}
-use Rattle.ninja_text.proofs.Indexed.{to_map}
+use Rattle.ninja_text.proofs.ForCallers.{to_map}
 use Rattle.std.proofs.lemmas.Option.{slice_get_read, get_or_from_slice_get}
 use Rattle.ninja_text.specs.Bytes.{Precedes}
 use Rattle.module_maps.specs.Maps.{lent_pairs}

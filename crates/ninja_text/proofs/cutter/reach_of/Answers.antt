@@ -1,5 +1,5 @@
 use Rattle.std.proofs.Common.{sym}
-use Rattle.ninja_text.proofs.ReachLemmas.{past_held, reaches_whole, reaches_past, reaches_part}
+use Rattle.ninja_text.proofs.Scans.{past_held, reaches_whole, reaches_past, reaches_part}
 use Rattle.ninja_text.proofs.cutter.reach_of.Goals as goal
 
 pub overflow_sub-result : goal.overflow_sub-result

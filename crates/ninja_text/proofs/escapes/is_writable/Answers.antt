@@ -1,7 +1,7 @@
 use Rattle.std.proofs.Common.{◌≡◌, IsTrue, ◌↔◌, ap, subst, sym, ◌∙◌}
 use Rattle.std.specs.Prelude.{is_some}
 use Rattle.ninja_text.specs.Escapes.{is_writable, IsWritable}
-use Rattle.ninja_text.proofs.Writable.{writable, none_found}
+use Rattle.ninja_text.proofs.EscapedPaths.{writable, none_found}
 use Rattle.ninja_text.proofs.escapes.is_writable.Goals as goal
 
 pub returns-then-not-is_empty : goal.returns-then-not-is_empty

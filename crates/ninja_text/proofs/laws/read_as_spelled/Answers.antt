@@ -1,5 +1,5 @@
 use Rattle.ninja_text.proofs.ReadAsSpelled.{words_read, values_read}
-use Rattle.ninja_text.proofs.SpelledValues.{value_same}
+use Rattle.ninja_text.proofs.Spelling.{value_same}
 use Rattle.ninja_text.proofs.laws.read_as_spelled.Goals as goal
 
 pub returns-clause-words : goal.returns-clause-words

@@ -1,19 +1,27 @@
-use Rattle.std.proofs.Common.{arith, ◌∙◌, sym}
-use Rattle.std.proofs.Common.{◌≡◌, true}
+use Rattle.std.proofs.Common.{arith, rules, ◌∙◌, refl}
 use Rattle.std.proofs.lemmas.Grind.{common_steps}
-use Rattle.ninja_text.specs.Tokens.{is_blank}
-use Rattle.ninja_text.proofs.TokenLemmas.{stands, blank_adds_none}
+use Rattle.ninja_text.specs.declared.unit.LineUnit.TheVariants.{Byte, Continuation}
+use Rattle.ninja_text.proofs.Units.{stands, blank_adds_none}
 use Rattle.ninja_text.proofs.lexing.blank_end.Goals as goal
 
-blank_known : (c : goal.After-len-index) → is_blank c.unit_at-unit.result ≡ true
-blank_known c = sym c.is_blank.ensures ∙ c.if-not-is_blank.false
+pub loop-index-preserved-in-Continuation-1 : goal.loop-index-preserved-in-Continuation-1
+loop-index-preserved-in-Continuation-1 c =
+    let len = c.in-Continuation.len in
+    let unit = stands c.args.text.now c.loop-index.index len (Continuation len) refl c.in-Continuation.ensures.first in
+    record {
+      within = c.in-Continuation.ensures.within;
+      past = omega (arith, c.loop-index.invariant.past);
+      run = grind (arith, common_steps);
+      same = blank_adds_none c.args.text.now c.loop-index.index len (Continuation len) unit refl ∙ c.loop-index.invariant.same;
+    }
 
 pub loop-index-preserved : goal.loop-index-preserved
 loop-index-preserved c =
-    let unit = stands c.args.text.now c.loop-index.index c.len-index.result c.unit_at-unit.result c.len-index.ensures c.unit_at-unit.ensures.first in
+    let text = c.args.text.now in
+    let unit = stands text c.loop-index.index 1 (Byte c.in-Byte-eq32.field-0) refl c.in-Byte-eq32.ensures.first in
     record {
-      within = omega (arith, c.len-index.ensures, c.unit_at-unit.ensures.within);
+      within = c.in-Byte-eq32.ensures.within;
       past = omega (arith, c.loop-index.invariant.past);
       run = grind (arith, common_steps);
-      same = blank_adds_none c.args.text.now c.loop-index.index c.len-index.result c.unit_at-unit.result unit (blank_known c) ∙ c.loop-index.invariant.same;
+      same = blank_adds_none text c.loop-index.index 1 (Byte c.in-Byte-eq32.field-0) unit (search rules) ∙ c.loop-index.invariant.same;
     }

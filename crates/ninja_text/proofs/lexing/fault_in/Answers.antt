@@ -8,7 +8,7 @@ use Rattle.ninja_text.specs.inner.PlainTexts.{is_suspect}
 use Rattle.ninja_text.specs.Units.{units}
 use Rattle.ninja_text.specs.declared.fault.LexFault.{LexFault}
 use Rattle.ninja_text.specs.Lexical.{unit_fault, earlier, first_fault}
-use Rattle.ninja_text.proofs.UnitLemmas.{no_suspect}
+use Rattle.ninja_text.proofs.Units.{no_suspect}
 use Rattle.ninja_text.proofs.lexing.fault_in.Goals as goal
 
 pub returns-then-not-any : goal.returns-then-not-any

@@ -1,5 +1,5 @@
 use Rattle.std.proofs.Common.{arith, sym}
-use Rattle.ninja_text.proofs.TokenLemmas.{colon_at, at_bar, bar_alone, bar_bar, bar_with_at, bar_single}
+use Rattle.ninja_text.proofs.Units.{colon_at, at_bar, bar_alone, bar_bar, bar_with_at, bar_single}
 use Rattle.ninja_text.proofs.lexing.token_at.Goals as goal
 
 pub returns-then-is_byte-clause-first : goal.returns-then-is_byte-clause-first

@@ -1,8 +1,11 @@
-use Rattle.std.proofs.Common.{arith, ◌≡◌, ◌∙◌, sym, refl, true, get_or}
+use Rattle.std.proofs.Common.{arith, ◌≡◌, ◌∙◌, refl, true, get_or}
+use Rattle.std.proofs.lemmas.Grind.{common_steps}
+use Rattle.ninja_text.specs.Tokens.{is_piece}
 use Rattle.ninja_text.specs.inner.PlainTexts.{is_plain_piece}
-use Rattle.ninja_text.specs.declared.unit.LineUnit.TheVariants.{Byte}
-use Rattle.ninja_text.proofs.TokenLemmas.{stands, blank_adds_none, word_begins, word_goes_on, word_waits, piece_at, continuation_blank, plain_stands, plain_piece}
+use Rattle.ninja_text.specs.declared.unit.LineUnit.TheVariants.{Byte, Continuation}
+use Rattle.ninja_text.proofs.Units.{stands, blank_adds_none, word_begins, word_goes_on, word_waits, piece_at, plain_stands, plain_piece}
 use Rattle.ninja_text.proofs.lexing.word_end.Goals as goal
+use Rattle.ninja_text.proofs.lexing.word_end.Goals.{in-36, in_default}
 
 pub loop-index-init : goal.loop-index-init
 loop-index-init c =
@@ -15,11 +18,11 @@ loop-index-init c =
       same = refl;
     }
 
-pub loop-index-preserved-then-is_plain : goal.loop-index-preserved-then-is_plain
-loop-index-preserved-then-is_plain c =
+pub loop-index-preserved-then-not-matches : goal.loop-index-preserved-then-not-matches
+loop-index-preserved-then-not-matches c =
     let text = c.args.text.now in
     let index = c.loop-index.index in
-    let plain : is_plain_piece (get_or text index 0) ≡ true = sym c.if-is_plain.ensures in
+    let plain : is_plain_piece (get_or text index 0) ≡ true = elim c.match-matches.branch [ in-36 w ↦ absurd (let a = w.matches-is in let b = c.if-not-matches.true in cc) | in_default w ↦ grind (arith, common_steps) ] in
     record {
       within = omega arith;
       ordered = omega arith;
@@ -28,26 +31,29 @@ loop-index-preserved-then-is_plain c =
       same = refl;
     }
 
-pub loop-index-preserved-then-is_piece : goal.loop-index-preserved-then-is_piece
-loop-index-preserved-then-is_piece c =
-    let unit = stands c.args.text.now c.loop-index.index c.len-index.result c.unit_at-unit.result c.len-index.ensures c.unit_at-unit.ensures.first in
+pub loop-index-preserved-in-Continuation-1 : goal.loop-index-preserved-in-Continuation-1
+loop-index-preserved-in-Continuation-1 c =
+    let text = c.args.text.now in
+    let len = c.in-Continuation.len in
+    let unit = stands text c.loop-index.index len (Continuation len) refl c.in-Continuation.ensures.first in
     record {
-      within = omega (arith, c.len-index.ensures, c.unit_at-unit.ensures.within);
-      ordered = omega arith;
-      some = omega (arith, c.loop-index.invariant.ordered, c.loop-index.invariant.some);
-      word = word_goes_on c.args.text.now c.loop-index.index c.len-index.result c.unit_at-unit.result unit c.args.start c.loop-index.end (sym c.if-is_piece.ensures) c.loop-index.invariant.word;
-      same = refl;
+      within = c.in-Continuation.ensures.within;
+      ordered = omega (arith, c.loop-index.invariant.ordered);
+      some = c.loop-index.invariant.some;
+      word = word_waits text c.loop-index.index len (Continuation len) unit c.args.start c.loop-index.end refl c.loop-index.invariant.word;
+      same = blank_adds_none text c.loop-index.index len (Continuation len) unit refl ∙ c.loop-index.invariant.same;
     }
 
 pub loop-index-preserved : goal.loop-index-preserved
 loop-index-preserved c =
-    let n = c.len-index-then-is_continuation.result in
-    let unit = stands c.args.text.now c.loop-index.index n c.unit_at-unit.result c.len-index-then-is_continuation.ensures c.unit_at-unit.ensures.first in
-    let over = sym c.if-is_continuation.ensures in
+    let text = c.args.text.now in
+    let n = c.len-in-Byte.result in
+    let unit = stands text c.loop-index.index n c.unit_at-unit.result c.len-in-Byte.ensures c.unit_at-unit.ensures.first in
+    let piece : is_piece c.unit_at-unit.result ≡ true = grind (arith, common_steps) in
     record {
-      within = omega (arith, c.len-index-then-is_continuation.ensures, c.unit_at-unit.ensures.within);
-      ordered = omega (arith, c.loop-index.invariant.ordered);
-      some = c.loop-index.invariant.some;
-      word = word_waits c.args.text.now c.loop-index.index n c.unit_at-unit.result unit c.args.start c.loop-index.end over c.loop-index.invariant.word;
-      same = blank_adds_none c.args.text.now c.loop-index.index n c.unit_at-unit.result unit (continuation_blank c.unit_at-unit.result over) ∙ c.loop-index.invariant.same;
+      within = omega (arith, c.len-in-Byte.ensures, c.unit_at-unit.ensures.within);
+      ordered = omega arith;
+      some = omega (arith, c.loop-index.invariant.ordered, c.loop-index.invariant.some);
+      word = word_goes_on text c.loop-index.index n c.unit_at-unit.result unit c.args.start c.loop-index.end piece c.loop-index.invariant.word;
+      same = refl;
     }

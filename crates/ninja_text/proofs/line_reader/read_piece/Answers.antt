@@ -4,9 +4,8 @@ use Rattle.ninja_text.specs.Cutting.{Cuts, lent_next}
 use Rattle.ninja_text.specs.LineViews.{seen_line}
 use Rattle.ninja_text.specs.LineReading.{HasLent, HasFailureBehind}
 use Rattle.ninja_text.specs.inner.PieceReading.{failure_of}
-use Rattle.ninja_text.proofs.FeedLemmas.{moves_on, below_limit, lends_none, lends_some, err_waits, never_failed}
-use Rattle.ninja_text.proofs.Indexed.{to_the_end}
-use Rattle.ninja_text.proofs.PieceLemmas.{lead_on, lent_more, failure_fed, line_refused, no_bytes}
+use Rattle.ninja_text.proofs.Feeds.{moves_on, below_limit, lends_none, lends_some, err_waits, never_failed, lead_on, lent_more, failure_fed, line_refused, no_bytes}
+use Rattle.ninja_text.proofs.Lists.{to_the_end}
 use Rattle.ninja_text.proofs.line_reader.read_piece.Goals as goal
 
 pub loop-rest-init : goal.loop-rest-init

@@ -9,7 +9,7 @@ use Rattle.ninja_text.specs.inner.ComponentLists.{reduced_text}
 use Rattle.ninja_text.proofs.ReducedList.{reduced-fixed}
 use Rattle.ninja_text.proofs.Canonical.{nothing-is, is-empty, is-above, is-unwritable, is-long, is-path, canonical-path}
 use Rattle.ninja_text.proofs.Shape.{canonical-text}
-use Rattle.ninja_text.proofs.Refusals.{refused_gives, refused_ok}
+use Rattle.ninja_text.proofs.Lists.{refused_gives, refused_ok}
 use Rattle.ninja_text.proofs.paths.canonical.Goals as goal
 
 -- the list is empty if its text is

@@ -1,4 +1,5 @@
 use Rattle.std.proofs.Common.{◌≡◌, ◌+◌, ◌<◌, ℕ, List, ◌∷◌, length, drop, get_or, Some, None, refl, sym, ap, ◌∙◌, arith}
+use Rattle.std.proofs.lemmas.Grind.{common_steps}
 use Rattle.std.proofs.lemmas.List.{at_drop_more, at_drop_all}
 use Rattle.ninja_text.specs.Scanning.{step_of, scan_end, scan_from}
 use Rattle.ninja_text.specs.declared.scan.ScanState.{ScanState}
@@ -17,9 +18,9 @@ module _ (bytes : List ℕ) (index i : ℕ) (state : ScanState) (within : i < le
       let step : scan_from (index + i) state (get_or bytes i 0 ∷ drop (i + 1) bytes) ≡ scan_end (index + i) state = rw is refl in
       at_drop_more (scan_from (index + i) state) bytes i 0 within ∙ step
 
-pub loop-i-preserved-then-stays_plain : goal.loop-i-preserved-then-stays_plain
-loop-i-preserved-then-stays_plain c =
-    sym (more c.args.bytes.now c.args.index c.loop-i.i c.loop-i.state c.loop-i-test.true c.loop-i.state (c.stays_plain.ensures c.if-stays_plain.true)) ∙ c.loop-i.invariant
+pub loop-i-preserved-then-not-matches : goal.loop-i-preserved-then-not-matches
+loop-i-preserved-then-not-matches c =
+    sym (more c.args.bytes.now c.args.index c.loop-i.i c.loop-i.state c.loop-i-test.true c.loop-i.state (grind (arith, common_steps))) ∙ c.loop-i.invariant
 
 pub loop-i-preserved : goal.loop-i-preserved
 loop-i-preserved c =

@@ -5,8 +5,8 @@ use Rattle.ninja_text.specs.Units.{units}
 use Rattle.ninja_text.specs.inner.Runs.{spaces_at}
 use Rattle.ninja_text.specs.declared.unit.LineUnit.{LineUnit}
 use Rattle.ninja_text.specs.declared.unit.LineUnit.TheVariants.{Byte, Escape}
-use Rattle.ninja_text.proofs.UnitLemmas.{units_byte, units_pair, units_return, continuation_at, return_continuation_at}
-use Rattle.ninja_text.proofs.Indexed.{to_the_end}
+use Rattle.ninja_text.proofs.Units.{units_byte, units_pair, units_return, continuation_at, return_continuation_at}
+use Rattle.ninja_text.proofs.Lists.{to_the_end}
 use Rattle.ninja_text.proofs.unit.unit_at.Goals as goal
 
 -- what a text has from an index on

@@ -1,6 +1,6 @@
 use Rattle.std.proofs.Common.{◌∙◌, ◌++◌, take, ap, sym}
 use Rattle.ninja_text.specs.Cutting.{feed_outcome}
-use Rattle.ninja_text.proofs.ReachLemmas.{feeds_on, feeds_past, is_at_work, refused}
+use Rattle.ninja_text.proofs.Scans.{feeds_on, feeds_past, is_at_work, refused}
 use Rattle.ninja_text.proofs.cutter.LineCutter.gather.Goals as goal
 
 pub go_on-state-requires : goal.go_on-state-requires

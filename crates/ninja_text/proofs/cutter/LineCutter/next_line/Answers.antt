@@ -9,7 +9,7 @@ use Rattle.ninja_text.specs.declared.cutter.Phase.TheVariants.{Waiting}
 use Rattle.ninja_text.specs.declared.scan.ScanState.TheVariants.{Start}
 use Rattle.ninja_text.specs.declared.scan.Scanned.TheVariants.{End}
 use Rattle.ninja_text.proofs.CutLemmas.{lends_all, text_scanned}
-use Rattle.ninja_text.proofs.ScanLists.{scan_end_fits}
+use Rattle.ninja_text.proofs.Scans.{scan_end_fits}
 use Rattle.ninja_text.proofs.cutter.LineCutter.next_line.Goals as goal
 
 scanned : (c : Inside) (text_len : ℕ) → c.phase ≡ Waiting text_len → IsKept c → scan_from 0 Start c.buffer.items ≡ End text_len (length c.buffer.items)

@@ -2,7 +2,7 @@ use Rattle.std.proofs.Common.{[], ap, sym, subst}
 use Rattle.std.specs.Prelude.{Err}
 use Rattle.ninja_text.specs.LineReading.{HasLent, BeginsWith, EndsLines}
 use Rattle.ninja_text.specs.declared.failure.Failure.TheVariants.{Fault}
-use Rattle.ninja_text.proofs.PieceLemmas.{ends_truncated, ends_well}
+use Rattle.ninja_text.proofs.Feeds.{ends_truncated, ends_well}
 use Rattle.ninja_text.proofs.line_reader.LineReader.finish.Goals as goal
 
 pub returns-clause-all : goal.returns-clause-all

@@ -1,9 +1,75 @@
--- The elements of lists, by index.
-use Rattle.std.proofs.Common.{◌≡◌, ℕ, zero, suc, ◌+◌, ◌-◌, ◌<◌, ◌⊎◌, List, [], ◌∷◌, ◌++◌, length, map, take, drop, Some, refl, sym, ap, ap₂, subst, ◌∙◌, inl, inr, ⊎_elim, arith, length-drop}
-use Rattle.std.specs.Prelude.{slice_get}
-use Rattle.std.specs.List.{flat_map, AllZip}
+-- Lists by their indexes, and the results of calls that extend them one after another.
+use Rattle.std.proofs.Common.{◌≡◌, ℕ, ◌<◌, Bool, ◌&&◌, ◌==◌, true, false, cond, List, ◌++◌, ◌∙◌, ap, append_assoc, Option, Some, None, arith, Ok, Err, IfOk, sym, subst, zero, suc, ◌≤◌, ◌+◌, [], ◌∷◌, drop, length, refl, slice_get, ◌-◌, ◌⊎◌, map, take, ap₂, inl, inr, ⊎_elim, length-drop, get_or, true≢false, bytes_eq, not}
+use Rattle.std.specs.Io.KnownBytes.{Appends}
+use Rattle.std.specs.Prelude.{Result, MatchResult, is_ok}
+use Rattle.std.specs.Result.{IsErr, IsErrAnd}
+use Rattle.ninja_text.specs.Failure.{Gives}
+use Rattle.ninja_text.specs.declared.failure.Failure.{Failure}
+use Rattle.ninja_text.specs.declared.failure.Failure.TheVariants.{Memory, Fault}
+use Rattle.std.specs.declared.io.Error.{Error}
+use Rattle.ninja_text.specs.Counting.{Call, write_failed, TakesInTurn, IsTakenInTurn}
+use Rattle.std.specs.List.{flat_map, AllZip, list_any}
 use Rattle.std.proofs.lemmas.List.{take_all, take_more}
 use Rattle.std.proofs.lemmas.Option.{slice_get_within, get_or_from_slice_get}
+use Rattle.std.specs.Cmp.Lexicographic.{bytes_decides}
+use Rattle.std.proofs.lemmas.List.Folds.{list_any_at}
+use Rattle.ninja_text.specs.Firsts.{AllDiffer}
+
+-- ---- known bytes that grow in several writes
+
+-- one extension and then another are one
+pub Appends-trans : (a b c : Option (List ℕ)) (x y : List ℕ) → Appends a b x → Appends b c y → Appends a c (x ++ y)
+Appends-trans None b c x y h k = tt
+Appends-trans (Some p) None c x y h k = absurd h
+Appends-trans (Some p) (Some q) None x y h k = absurd k
+Appends-trans (Some p) (Some q) (Some r) x y h k = k ∙ ap (λ l. l ++ y) h ∙ append_assoc p x y
+
+-- a write that took some bytes did not fail
+pub some-taken : (n : ℕ) (b : Bool) (x y : ℕ) → 0 < n → cond (n == 0 && b) x y ≡ y
+some-taken n true x y h = grind arith
+some-taken n false x y h = grind arith
+
+-- ---- results with an error
+
+pub refused_gives : {T V F : Type 0} (view : T → V) (r : Result T (Failure F)) (meaning : Result V F) → IsErr r → IsErrAnd r (λ e. e ≡ Memory) → Gives view r meaning
+refused_gives view (Ok value) meaning err memory = absurd (let clash : false ≡ true = err in cc)
+refused_gives view (Err Memory) meaning err memory = tt
+refused_gives {F} view (Err (Fault fault)) meaning err memory = absurd (let clash : ◌≡◌ {A = Failure F} (Fault fault) Memory = memory in cc)
+
+pub refused_ok : {T E : Type 0} (P : T → Type 0) (r : Result T E) → IsErr r → IfOk r P
+refused_ok P (Ok value) err = absurd (let clash : false ≡ true = err in cc)
+refused_ok P (Err failure) err = tt
+
+-- what holds of a value holds of it when the error was mapped
+pub with_other_error : {A E D : Type 0} (P : A → Type 0) (Q : E → Type 0) (r : Result A E) (s : Result A D) → MatchResult r (λ x. s ≡ Ok x) Q → is_ok s ≡ is_ok r → IfOk r P → IfOk s P
+with_other_error P Q (Ok x) s h same p = subst (λ t. IfOk t P) (sym h) p
+with_other_error P Q (Err e) (Ok x) h same p = absurd cc
+with_other_error P Q (Err e) (Err d) h same p = tt
+
+-- ---- calls of a writer, one after the other
+
+-- one more call after the others
+takes-one-more : {W : Type 0} (writes : Call W) (text : List ℕ) (out : W) (index : ℕ) (turns : List (W × ℕ)) (last : W) (end : ℕ) (next : W) (n : ℕ)
+    → TakesInTurn writes text out index turns last end → 0 < n → writes last next (Ok n) (drop end text)
+    → TakesInTurn writes text out index (turns ++ (next, n) ∷ []) next (end + n)
+takes-one-more writes text out index [] last end next n h some call =
+    rw (h.0, h.1) (some, call, (refl, refl))
+takes-one-more writes text out index (turn ∷ turns) last end next n h some call =
+    (h.0, h.1, takes-one-more writes text turn.0 (index + turn.1) turns last end next n h.2 some call)
+
+pub taken-one-more : {W : Type 0} (writes : Call W) (text : List ℕ) (out last next : W) (taken n : ℕ)
+    → IsTakenInTurn writes out last text taken → 0 < n → writes last next (Ok n) (drop taken text)
+    → IsTakenInTurn writes out next text (taken + n)
+taken-one-more writes text out last next taken n h some call =
+    (h.0 ++ (next, n) ∷ [], takes-one-more writes text out 0 h.0 last taken next n h.1 some call)
+
+-- a call that took no byte of some failed
+pub none-taken : (n : ℕ) (rest : List ℕ) → n ≤ 0 → 0 < length rest → write_failed {E = Error} (Ok n) rest ≡ true
+none-taken zero [] none some = absurd (omega arith)
+none-taken zero (b ∷ rest) none some = grind arith
+none-taken (suc n) rest none some = absurd (omega arith)
+
+-- ---- the elements of lists, by index
 
 -- Some is injective
 pub same_some : {X : Type 0} (x y : X) → Some x ≡ Some y → x ≡ y
@@ -139,3 +205,38 @@ from_flat_map f (x ∷ xs) k y e =
       | inl h ↦ (0, k, (x, refl, h), omega arith)
       | inr h ↦ let r = from_flat_map f xs h.0 y h.2 in (suc r.0, r.1, (r.2.0, r.2.1, r.2.2), omega (arith, h.1, r.3))
     ]
+
+-- ---- lists in which all differ
+
+-- all differ in a list that is one longer by something new
+pub differ_push : {X : Type 0} (xs : List X) (y : X) → AllDiffer xs → ((k : ℕ) → slice_get xs k ≡ Some y → ⊥) → AllDiffer (xs ++ y ∷ [])
+differ_push xs y all new = record { differ = differ }
+  where
+    differ : (i j : ℕ) (x : _) → i < j → slice_get (xs ++ y ∷ []) i ≡ Some x → slice_get (xs ++ y ∷ []) j ≡ Some x → ⊥
+    differ i j x lt at_i at_j =
+        ⊎_elim
+        (λ in_j. ⊎_elim (λ in_i. all.differ i j x lt in_i in_j) (λ last_i. let within : j < length xs = slice_get_within xs j x in_j in absurd (omega (arith, within, last_i.0, lt))) (from_push xs y i x at_i))
+        (λ last_j.
+        ⊎_elim
+        (λ in_i. new i (in_i ∙ ap (λ z. Some z) (sym last_j.1)))
+        (λ last_i. absurd (omega (arith, last_i.0, last_j.0, lt)))
+        (from_push xs y i x at_i))
+        (from_push xs y j x at_j)
+
+-- what a search by texts does not find is not there
+pub not_among : {X : Type 0} (f : X → List ℕ) (ks : List X) (x : X) → list_any (λ k. bytes_eq (f x) (f k)) ks ≡ false → (k : ℕ) → slice_get (map f ks) k ≡ Some (f x) → ⊥
+not_among f ks x none k at =
+    let from = from_map f ks k (f x) at in
+    let within : k < length ks = slice_get_within ks k from.0 from.1 in
+    let read : get_or ks k from.0 ≡ from.0 = get_or_from_slice_get ks k from.0 from.0 from.1 in
+    let same : bytes_eq (f x) (f (get_or ks k from.0)) ≡ true = (bytes_decides (f x) (f (get_or ks k from.0))).1 (sym from.2 ∙ ap f (sym read)) in
+    true≢false (sym (list_any_at (λ z. bytes_eq (f x) (f z)) ks k from.0 within same) ∙ none)
+
+-- a table says of what it was given whether it was new
+pub found_if : (b : Bool) → false ≡ not b → b ≡ true
+found_if true e = refl
+found_if false e = e
+
+pub new_if : (b : Bool) → true ≡ not b → b ≡ false
+new_if true e = e
+new_if false e = refl
