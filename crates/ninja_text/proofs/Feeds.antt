@@ -288,8 +288,3 @@ ends_truncated of_cutter bytes lent h state e has is =
     let left = finish_err h has.works e is in
     let cuts = working_cuts bytes lent h has in
     (h.number, h.bytes, begins_with bytes lent h.number h.bytes cuts, (omega (arith, left.0), has.short, cuts.divided.partial), ap of_cutter left.1)
-
--- and if none are left, the bytes are whole lines
-pub ends_well : (bytes : List ℕ) (lent : List LogicalLine) (h : CutterState) (u : Unit) → HasLent bytes lent h → Finishes h (Ok u) → BeginsWith bytes lent h.number []
-ends_well bytes lent h u has is =
-    subst (BeginsWith bytes lent h.number) (no_bytes h.bytes (finish_ok h has.works u is)) (begins_with bytes lent h.number h.bytes (working_cuts bytes lent h has))

@@ -1,13 +1,8 @@
 -- Lists by their indexes, and the results of calls that extend them one after another.
-use Rattle.std.proofs.Common.{◌≡◌, ℕ, ◌<◌, Bool, ◌&&◌, ◌==◌, true, false, cond, List, ◌++◌, ◌∙◌, ap, append_assoc, Option, Some, None, arith, Ok, Err, IfOk, sym, subst, zero, suc, ◌≤◌, ◌+◌, [], ◌∷◌, drop, length, refl, slice_get, ◌-◌, ◌⊎◌, map, take, ap₂, inl, inr, ⊎_elim, length-drop, get_or, true≢false, bytes_eq, not}
+use Rattle.std.proofs.Common.{◌≡◌, ℕ, ◌<◌, Bool, ◌&&◌, ◌==◌, true, false, cond, List, ◌++◌, ◌∙◌, ap, append_assoc, Option, Some, None, arith, Ok, Err, IfOk, sym, subst, zero, suc, ◌+◌, [], ◌∷◌, drop, length, refl, slice_get, ◌-◌, ◌⊎◌, map, take, ap₂, inl, inr, ⊎_elim, length-drop, get_or, true≢false, bytes_eq, not}
 use Rattle.std.specs.Io.KnownBytes.{Appends}
 use Rattle.std.specs.Prelude.{Result, MatchResult, is_ok}
-use Rattle.std.specs.Result.{IsErr, IsErrAnd}
-use Rattle.ninja_text.specs.Failure.{Gives}
-use Rattle.ninja_text.specs.declared.failure.Failure.{Failure}
-use Rattle.ninja_text.specs.declared.failure.Failure.TheVariants.{Memory, Fault}
-use Rattle.std.specs.declared.io.Error.{Error}
-use Rattle.ninja_text.specs.Counting.{Call, write_failed, TakesInTurn, IsTakenInTurn}
+use Rattle.ninja_text.specs.Counting.{Call, TakesInTurn, IsTakenInTurn}
 use Rattle.std.specs.List.{flat_map, AllZip, list_any}
 use Rattle.std.proofs.lemmas.List.{take_all, take_more}
 use Rattle.std.proofs.lemmas.Option.{slice_get_within, get_or_from_slice_get}
@@ -31,15 +26,6 @@ some-taken n false x y h = grind arith
 
 -- ---- results with an error
 
-pub refused_gives : {T V F : Type 0} (view : T → V) (r : Result T (Failure F)) (meaning : Result V F) → IsErr r → IsErrAnd r (λ e. e ≡ Memory) → Gives view r meaning
-refused_gives view (Ok value) meaning err memory = absurd (let clash : false ≡ true = err in cc)
-refused_gives view (Err Memory) meaning err memory = tt
-refused_gives {F} view (Err (Fault fault)) meaning err memory = absurd (let clash : ◌≡◌ {A = Failure F} (Fault fault) Memory = memory in cc)
-
-pub refused_ok : {T E : Type 0} (P : T → Type 0) (r : Result T E) → IsErr r → IfOk r P
-refused_ok P (Ok value) err = absurd (let clash : false ≡ true = err in cc)
-refused_ok P (Err failure) err = tt
-
 -- what holds of a value holds of it when the error was mapped
 pub with_other_error : {A E D : Type 0} (P : A → Type 0) (Q : E → Type 0) (r : Result A E) (s : Result A D) → MatchResult r (λ x. s ≡ Ok x) Q → is_ok s ≡ is_ok r → IfOk r P → IfOk s P
 with_other_error P Q (Ok x) s h same p = subst (λ t. IfOk t P) (sym h) p
@@ -62,12 +48,6 @@ pub taken-one-more : {W : Type 0} (writes : Call W) (text : List ℕ) (out last 
     → IsTakenInTurn writes out next text (taken + n)
 taken-one-more writes text out last next taken n h some call =
     (h.0 ++ (next, n) ∷ [], takes-one-more writes text out 0 h.0 last taken next n h.1 some call)
-
--- a call that took no byte of some failed
-pub none-taken : (n : ℕ) (rest : List ℕ) → n ≤ 0 → 0 < length rest → write_failed {E = Error} (Ok n) rest ≡ true
-none-taken zero [] none some = absurd (omega arith)
-none-taken zero (b ∷ rest) none some = grind arith
-none-taken (suc n) rest none some = absurd (omega arith)
 
 -- ---- the elements of lists, by index
 

@@ -1,5 +1,5 @@
 -- The scan of a line: it finds the end that the units have, and how far the line goes into a piece.
-use Rattle.std.proofs.Common.{inl, inr, subst, ◌≡◌, ℕ, ◌+◌, ◌-◌, List, [], ◌∷◌, map, refl, sym, ap, ◌∙◌, true, false, ◌==◌, arith, Some, None, zero, suc, ◌<◌, ◌≤◌, ◌++◌, length, take, add-zero, ◌⊎◌, min, length-append, Ok, Err}
+use Rattle.std.proofs.Common.{inl, inr, subst, ◌≡◌, ℕ, ◌+◌, ◌-◌, List, [], ◌∷◌, map, refl, sym, ap, ◌∙◌, true, false, ◌==◌, arith, Some, None, zero, suc, ◌<◌, ◌≤◌, ◌++◌, length, take, add-zero, ◌⊎◌, min, length-append, Ok}
 use Rattle.std.specs.Prelude.{Option, Result, Bool, nat_le}
 use Rattle.std.proofs.lemmas.Bool.{cases_Bool, eqb-true}
 use Rattle.ninja_text.specs.Units.{units}
@@ -11,15 +11,11 @@ use Rattle.ninja_text.specs.declared.scan.Scanned.{Scanned}
 use Rattle.ninja_text.specs.declared.scan.Scanned.TheVariants.{End, Open}
 use Rattle.ninja_text.proofs.Units.{units_byte, units_feed, units_pair, units_return, units_begin, end_continued}
 use Rattle.ninja_text.specs.declared.scan.ScanState.{ScanState}
-use Rattle.std.specs.Result.{IsErr, IsErrAnd}
 use Rattle.std.proofs.Math.Seq.{take-append-add, take-length}
 use Rattle.std.proofs.lemmas.List.{length-take-le, take_min}
 use Rattle.std.proofs.lemmas.Bool.Decides.{nat_tests}
-use Rattle.ninja_text.specs.Cutting.{CutterState, feed_outcome, Feeds}
-use Rattle.ninja_text.specs.declared.failure.Failure.{Failure}
-use Rattle.ninja_text.specs.declared.failure.Failure.TheVariants.{Memory, Fault}
+use Rattle.ninja_text.specs.Cutting.{CutterState, feed_outcome}
 use Rattle.ninja_text.specs.declared.fault.CutFault.{CutFault}
-use Rattle.ninja_text.specs.declared.fault.CutFault.TheVariants.{LineTooLong}
 use Rattle.ninja_text.specs.inner.Reaching.{Takes, Reaches}
 use Rattle.ninja_text.specs.Phases.{bytes_in}
 use Rattle.ninja_text.specs.CutterViews.{state_in}
@@ -347,16 +343,3 @@ feeds_on number bytes piece new taken (Gathering next) takes is =
     rw (takes.4.1, room, all, takes.4.0) refl
 feeds_on number bytes piece new taken Lent takes is = absurd takes.4
 feeds_on number bytes piece new taken Failed takes is = absurd takes.4
-
--- the piece that leaves none
-pub feeds_past : (number : ℕ) (bytes piece : List ℕ) → Reaches bytes piece None
-    → feed_outcome (at_work number bytes) piece ≡ (Err (LineTooLong number), record { number = number; bytes = bytes; waits = false; failed = true })
-feeds_past number bytes piece reaches =
-    let full : nat_le line_limit (length (bytes ++ piece)) ≡ true = rw length-append (grind (arith, nat_tests)) in
-    rw (reaches.1, full) refl
-
--- a feed for which an allocation failed
-pub refused : (old new : CutterState) (piece : List ℕ) (r : Result ℕ (Failure CutFault)) → IsErr r → IsErrAnd r (λ e. e ≡ Memory) → old.failed ≡ false → old.waits ≡ false → new ≡ old → Feeds old piece r new
-refused old new piece (Ok n) err memory f w is = absurd (let clash : false ≡ true = err in cc)
-refused old new piece (Err Memory) err memory f w is = (f, w, is)
-refused old new piece (Err (Fault fault)) err memory f w is = absurd (let clash : ◌≡◌ {A = Failure CutFault} (Fault fault) Memory = memory in cc)

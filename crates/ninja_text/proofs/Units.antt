@@ -12,7 +12,6 @@ use Rattle.ninja_text.specs.Lexical.{first_fault, lexical_fault}
 use Rattle.ninja_text.specs.inner.PlainTexts.{is_dollar, is_suspect, is_plain_piece}
 use Rattle.std.proofs.Math.Seq.{drop-cons}
 use Rattle.std.specs.Prelude.{if◌then◌else◌}
-use Rattle.std.proofs.lemmas.List.{drop_all}
 use Rattle.ninja_text.specs.declared.token.TokenKind.TheVariants.{Word, Bar, DoubleBar, BarAt, Colon}
 use Rattle.ninja_text.specs.inner.TokenStarts.{BeginsPiece, BeginsBar}
 
@@ -316,11 +315,6 @@ at_bar text s u e bar = e ∙ ap (λ v. v ∷ units (drop (s + unit_len v) text)
 
 -- the token that a bar begins, by the unit after it
 module _ (text : List ℕ) (s : ℕ) (begins : BeginsBar text s) where
-  pub bar_alone : length text ≤ s + 1 → tokens_at text s ≡ record { kind = Bar; start = s; end = s + 1 } ∷ tokens_at text (s + 1)
-  bar_alone over =
-      let none : drop (s + 1) text ≡ [] = drop_all (s + 1) text over in
-      ap (tokens_from s) begins ∙ rw none refl
-
   module _ (v : LineUnit) (e : units (drop (s + 1) text) ≡ v ∷ units (drop (s + 1 + unit_len v) text)) where
     after : (c : ℕ) → is_byte c v ≡ true → units (drop (s + 1) text) ≡ Byte c ∷ units (drop (s + 2) text)
     after c h = e ∙ ap (λ w. w ∷ units (drop (s + 1 + unit_len w) text)) (byte_is c v h) ∙ ap (λ k. Byte c ∷ units (drop k text)) {x = s + 1 + 1} {y = s + 2} (omega arith)

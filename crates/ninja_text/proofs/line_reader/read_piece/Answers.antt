@@ -1,4 +1,4 @@
-use Rattle.std.proofs.Common.{◌≡◌, ◌++◌, ◌∙◌, [], ◌∷◌, length, take, drop, ap, sym, subst, refl, arith, rules, tests}
+use Rattle.std.proofs.Common.{◌≡◌, ◌++◌, ◌∙◌, [], ◌∷◌, length, take, drop, ap, sym, subst, arith, rules, tests}
 use Rattle.std.proofs.lemmas.List.{append-nil}
 use Rattle.ninja_text.specs.Cutting.{Cuts, lent_next}
 use Rattle.ninja_text.specs.LineViews.{seen_line}
@@ -7,12 +7,6 @@ use Rattle.ninja_text.specs.inner.PieceReading.{failure_of}
 use Rattle.ninja_text.proofs.Feeds.{moves_on, below_limit, lends_none, lends_some, err_waits, never_failed, lead_on, lent_more, failure_fed, line_refused, no_bytes}
 use Rattle.ninja_text.proofs.Lists.{to_the_end}
 use Rattle.ninja_text.proofs.line_reader.read_piece.Goals as goal
-
-pub loop-rest-init : goal.loop-rest-init
-loop-rest-init g c = record {
-  waits_not = c.requires;
-  read = λ bytes lent has. (bytes, [], refl, subst (λ l. HasLent bytes l c.args.cutter.now) (sym (append-nil lent)) has, refl);
-}
 
 pub loop-rest-preserved-in-Ok-None : goal.loop-rest-preserved-in-Ok-None
 loop-rest-preserved-in-Ok-None g c =

@@ -9,7 +9,6 @@ use Rattle.ninja_text.specs.inner.ComponentLists.{reduced_text}
 use Rattle.ninja_text.proofs.ReducedList.{reduced-fixed}
 use Rattle.ninja_text.proofs.Canonical.{nothing-is, is-empty, is-above, is-unwritable, is-long, is-path, canonical-path}
 use Rattle.ninja_text.proofs.Shape.{canonical-text}
-use Rattle.ninja_text.proofs.Lists.{refused_gives, refused_ok}
 use Rattle.ninja_text.proofs.paths.canonical.Goals as goal
 
 -- the list is empty if its text is
@@ -62,21 +61,3 @@ returns-clause-text c u = canonical-text (option_copied c.args.build) c.args.tex
     (sym c.first_unwritable.ensures ∙ c.in_default.is)
     (c.in_ok-text.ensures c.args.text.now c.in_ok-list.ensures ∙ ap (λ b. seen_from (option_copied c.args.build) b (reduced (components c.args.text.now))) c.is_rooted.ensures)
     (search rules)) u
-
-pub returns-in_err-list-clause-meaning : goal.returns-in_err-list-clause-meaning
-returns-in_err-list-clause-meaning c = refused_gives _ _ _ c.from_residual.ensures.0 c.from_residual.ensures.1
-
-pub returns-in_err-list-clause-text : goal.returns-in_err-list-clause-text
-returns-in_err-list-clause-text c _ = refused_ok _ _ c.from_residual.ensures.0
-
-pub returns-in_err-text-clause-meaning : goal.returns-in_err-text-clause-meaning
-returns-in_err-text-clause-meaning c = refused_gives _ _ _ c.from_residual-in_err-text.ensures.0 c.from_residual-in_err-text.ensures.1
-
-pub returns-in_err-text-clause-text : goal.returns-in_err-text-clause-text
-returns-in_err-text-clause-text c _ = refused_ok _ _ c.from_residual-in_err-text.ensures.0
-
-pub returns-in_err-text-2-clause-meaning : goal.returns-in_err-text-2-clause-meaning
-returns-in_err-text-2-clause-meaning c = refused_gives _ _ _ c.from_residual-in_err-text-2.ensures.0 c.from_residual-in_err-text-2.ensures.1
-
-pub returns-in_err-text-2-clause-text : goal.returns-in_err-text-2-clause-text
-returns-in_err-text-2-clause-text c _ = refused_ok _ _ c.from_residual-in_err-text-2.ensures.0

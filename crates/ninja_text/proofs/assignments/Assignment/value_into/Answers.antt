@@ -1,4 +1,0 @@
-use Rattle.ninja_text.proofs.assignments.Assignment.value_into.Goals as goal
-
-pub returns-clause-ok : goal.returns-clause-ok
-returns-clause-ok c = c.append_meaning.ensures.ok
