@@ -2,7 +2,7 @@
 use Rattle.std.proofs.Common.{◌≡◌, ◌≢◌, ℕ, zero, suc, ◌+◌, ◌<◌, ◌≤◌, ◌⊎◌, List, [], ◌∷◌, ◌++◌, length, Some, refl, ap, subst, sym, ◌∙◌, inl, inr, arith, append_assoc}
 use Rattle.std.specs.Prelude.{slice_get, slice_index, Contains}
 use Rattle.std.proofs.lemmas.Option.{slice_get_within, get_or_from_slice_get, slice_get_read}
-use Rattle.build_effect.proofs.Decides.{path_option_decides}
+use Rattle.build_effect.proofs.Lists.{path_option_decides}
 use Rattle.dep_order.specs.Needs.{IsOrderable}
 use Rattle.dep_order.proofs.ForCallers.{layered}
 use Rattle.dyndep_file.specs.StatementValue.{StatementValue}

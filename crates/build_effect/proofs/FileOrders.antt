@@ -2,13 +2,12 @@
 use Rattle.std.proofs.Common.{◌≡◌, ◌≢◌, ℕ, zero, suc, ◌<◌, ◌⊎◌, List, [], ◌∷◌, length, Some, refl, ap, subst, sym, ◌∙◌, inl, inr, arith}
 use Rattle.std.specs.Prelude.{slice_get}
 use Rattle.std.proofs.lemmas.Option.{slice_get_within}
-use Rattle.build_effect.proofs.Decides.{path_option_decides}
+use Rattle.build_effect.proofs.Lists.{path_option_decides, same_lists}
 use Rattle.build_effect.specs.EdgeValue.{EdgeValue}
 use Rattle.build_effect.specs.Graphs.{Names}
 use Rattle.build_effect.specs.Effect.{IsTheOneOn, Extends, OnlyEffect, extended}
 use Rattle.build_effect.specs.Premises.{AddsAt, MeetsPremises}
 use Rattle.build_effect.specs.Files.{NamedFile, AreFiles, FilesMeet, Applies, GainsExactly, AreFileIndices, AnyOrder, SameFiles, OrdersEndAlike}
-use Rattle.build_effect.proofs.Lists.{same_lists}
 use Rattle.ninja_text.proofs.ForCallers.{same_some, element_at}
 use Rattle.build_effect.proofs.Effects.{ComesTo, origin_in, one_effect}
 use Rattle.dyndep_file.specs.StatementValue.{StatementValue}

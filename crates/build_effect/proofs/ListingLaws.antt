@@ -1,23 +1,229 @@
--- The laws of lines and of texts: a text lists edges or has a fault, one list or one fault, and not both.
-use Rattle.std.proofs.Common.{inl, inr, ◌⊎◌, ◌≡◌, ℕ, ◌<◌, ◌≤◌, length, List, [], ◌∷◌, ◌++◌, refl, sym, ◌∙◌, arith}
-use Rattle.std.specs.Prelude.{nat_lt}
-use Rattle.std.proofs.lemmas.Bool.{cases_Bool, cases_lt, ltb-true, ltb-false}
-use Rattle.ninja_text.specs.Lines.{line_limit, text_of_line, is_comment}
-use Rattle.ninja_text.specs.LineFormats.{IsOfClass, IsFaultyAfter, IsDecided}
-use Rattle.ninja_text.proofs.ForCallers as lines
+-- The reader of edge listings, line by line, and the laws of lines and of texts.
+use Rattle.std.proofs.Common.{◌≡◌, ◌≢◌, append_assoc, ℕ, ◌+◌, ◌<◌, drop, get_or, Vec, Global, Bool, true, false, zero, suc, List, [], ◌∷◌, ◌++◌, length, refl, sym, ap, ◌∙◌, Some, None, Ok, Err, arith, inl, inr, ◌≤◌, subst, ◌⊎◌}
+use Rattle.std.specs.Prelude.{Result, All, slice_set, slice_index_or, nat_lt}
+use Rattle.std.proofs.lemmas.List.{append-nil, at_drop_more}
+use Rattle.dep_order.specs.Rows.{rows}
+use Rattle.ninja_text.specs.Paths.{path_of}
+use Rattle.ninja_text.specs.declared.fault.PathFault.{PathFault}
 use Rattle.build_effect.specs.EdgeValue.{EdgeValue}
-use Rattle.build_effect.specs.ListingLines.{ListingClass}
-use Rattle.build_effect.specs.ListingGrammar.{IsListing, listing_end, BeginsListing}
+use Rattle.build_effect.specs.ListingLines.{EdgeTexts, ListingClass, Build, Dyndep, Restat, IsListingLine}
+use Rattle.build_effect.specs.inner.ListingWalk.{build_class, dyndep_class, with_path, paths_of, edge_paths, with_last, with_last_dyndep, with_last_restat, step, text_cause, run}
+use Rattle.build_effect.specs.ListingGrammar.{bound, IsListing, listing_end, BeginsListing}
+use Rattle.build_effect.specs.declared.listing.state.Binding.{Binding}
+use Rattle.build_effect.specs.declared.listing.state.Binding.TheVariants.{Open, Closed}
+use Rattle.std.specs.Option.{option_and_then}
+use Rattle.ninja_text.specs.Lines.{line_limit, IsLine, LogicalLine, logical_line, text_of_line, is_comment}
+use Rattle.ninja_text.specs.Failure.{ForFault, Turns}
+use Rattle.ninja_text.specs.LineReading.{BeginsWith, IsNextFault, HasLentAll, FeedsLines, EndsLines}
+use Rattle.ninja_text.specs.FormatReading.{AreReadTo, Reads}
+use Rattle.ninja_text.specs.declared.failure.Failure.{Failure}
+use Rattle.ninja_text.specs.declared.failure.Failure.TheVariants.{Fault, Memory}
+use Rattle.ninja_text.proofs.ForCallers.{all_lent, faulty_next, faulty_rest, faulty_at_limit}
+use Rattle.ninja_text.proofs.ForCallers as lines
 use Rattle.build_effect.specs.ListingFaults.{IsTextCause, IsLineCause}
-use Rattle.build_effect.specs.ListingReading.{listing_format, listing_faults, Lists, IsEndCause, HasListingFault}
+use Rattle.build_effect.specs.ListingSteps.{ListingValue}
+use Rattle.build_effect.specs.ListingReading.{listing_format, listing_faults, Lists, HasFaultyLine, HasFaultyEnd, IsEndCause, HasListingFault}
+use Rattle.build_effect.specs.ListingReaders.{LeadToEdges, ListingReaderState, HasReadListing, FeedsListing, EndsListing, line_failure, IsListingFaultIn}
+use Rattle.build_effect.specs.inner.ReadLines.{fault_of_cutter, PassesLine, RefusesLine}
 use Rattle.build_effect.specs.declared.fault.LineCause.{LineCause}
-use Rattle.build_effect.specs.declared.fault.LineCause.TheVariants.{LineTooLong, Truncated, Lexical, Form, BadPath}
+use Rattle.build_effect.specs.declared.fault.LineCause.TheVariants as causes
 use Rattle.build_effect.specs.declared.fault.LineFault.{LineFault}
-use Rattle.build_effect.proofs.ListingRuns.{one_list_of_edges, begins_runs, run_is_listing}
-use Rattle.build_effect.proofs.ListingFinds.{one_class, goes_on, stops_by, line_cases, cause_stops, one_text_cause, class_has_form}
-use Rattle.build_effect.proofs.ListingLemmas.{cause_of_text}
+use Rattle.build_effect.specs.declared.fault.ListFault.{ListFault}
+use Rattle.build_effect.specs.declared.fault.ListFault.TheVariants.{NoGraph}
+use Rattle.build_effect.specs.Faults.{IsGraphFault}
+use Rattle.build_effect.specs.declared.fault.GraphFault.{GraphFault}
+use Rattle.build_effect.proofs.ListingFinds.{class_holds, cause_holds, cause_stops, one_class, goes_on, stops_by, line_cases, one_text_cause, class_has_form}
+use Rattle.build_effect.proofs.ListingRuns.{runs_begin, run_more, binding_runs, run_is_listing, listing_is_run, one_list_of_edges, begins_runs}
+use Rattle.std.proofs.lemmas.Bool.{cases_Bool, cases_lt, ltb-true, ltb-false}
+use Rattle.ninja_text.specs.LineFormats.{IsOfClass, IsFaultyAfter, IsDecided}
+use Rattle.build_effect.specs.declared.fault.LineCause.TheVariants.{LineTooLong, Truncated, Lexical, Form, BadPath}
 
--- ---- a line has a class with which a listing continues, or a cause
+-- ---- the edges so far: the last one changed, one more, and that each has an output
+
+-- the last edge set
+pub last_set : (change : EdgeValue → EdgeValue) (es : List EdgeValue) (n : ℕ) (e : EdgeValue) → n + 1 ≡ length es → e ≡ slice_index_or es n e
+    → slice_set es n (change e) ≡ with_last change es
+last_set change [] n e len at = absurd (omega arith)
+last_set change (x ∷ []) zero e len at = ap (λ (t : EdgeValue). change t ∷ []) at
+last_set change (x ∷ []) (suc n) e len at = absurd (omega arith)
+last_set change (x ∷ y ∷ es) zero e len at = absurd (omega arith)
+last_set change (x ∷ y ∷ es) (suc n) e len at = ap (λ l. x ∷ l) (last_set change (y ∷ es) n e (omega arith) at)
+
+-- each edge has an output
+abbrev pub HaveOutputs : List EdgeValue → Type 0
+HaveOutputs es = All (λ e. e.outputs ≢ []) es
+
+-- this still holds if the last edge is changed and keeps its outputs
+pub outputs_kept : (change : EdgeValue → EdgeValue) → ((e : EdgeValue) → (change e).outputs ≡ e.outputs) → (es : List EdgeValue) → HaveOutputs es → HaveOutputs (with_last change es)
+outputs_kept change same [] all k d lt = absurd (omega arith)
+outputs_kept change same (e ∷ []) all zero d lt = λ h. all zero d (omega arith) (sym (same e) ∙ h)
+outputs_kept change same (e ∷ []) all (suc k) d lt = absurd (omega arith)
+outputs_kept change same (e ∷ f ∷ es) all zero d lt = all zero d (omega arith)
+outputs_kept change same (e ∷ f ∷ es) all (suc k) d lt = outputs_kept change same (f ∷ es) (λ k d lt. all (suc k) d (omega arith)) k d (omega arith)
+
+-- and if an edge with an output is added
+pub outputs_pushed : (es : List EdgeValue) (e : EdgeValue) → HaveOutputs es → e.outputs ≢ [] → HaveOutputs (es ++ e ∷ [])
+outputs_pushed [] e all some zero d lt = some
+outputs_pushed [] e all some (suc k) d lt = absurd (omega arith)
+outputs_pushed (f ∷ es) e all some zero d lt = all zero d (omega arith)
+outputs_pushed (f ∷ es) e all some (suc k) d lt = outputs_pushed es e (λ k d lt. all (suc k) d (omega arith)) some k d (omega arith)
+
+-- a binding of `dyndep` passes
+pub dyndep_passes : (binding : Binding) (es new : List EdgeValue) (text path : List ℕ) (restat : Bool) → binding ≡ Open false restat → path_of text ≡ Ok path → new ≡ with_last_dyndep path es
+    → (c : ListingClass) × (dyndep_class (path_of text) ≡ Ok c) × (step binding es c ≡ Some (record { edges = new; binding = Open true restat }))
+dyndep_passes binding es new text path restat opened is set = (Dyndep path, ap dyndep_class is, rw (opened, set) refl)
+
+-- a binding of `restat` passes
+pub restat_passes : (binding : Binding) (es new : List EdgeValue) (flag dyndep : Bool) → binding ≡ Open dyndep false → new ≡ with_last_restat flag es
+    → (c : ListingClass) × (◌≡◌ {A = Result ListingClass PathFault} (Ok (Restat flag)) (Ok c)) × (step binding es c ≡ Some (record { edges = new; binding = Open dyndep true }))
+restat_passes binding es new flag dyndep opened set = (Restat flag, refl, rw (opened, set) refl)
+
+-- a build line passes
+pub build_passes : (binding : Binding) (es new : List EdgeValue) (edge : EdgeValue) (paths : Result EdgeTexts PathFault) (t : EdgeTexts) → paths ≡ Ok t → edge ≡ bound t None None
+    → new ≡ es ++ edge ∷ [] → (c : ListingClass) × (build_class paths ≡ Ok c) × (step binding es c ≡ Some (record { edges = new; binding = Open false false }))
+build_passes binding es new edge paths t is same pushed = (Build t, ap build_class is, rw (pushed, same) refl)
+
+-- paths, and then more paths or their fault
+abbrev pub behind : List (List ℕ) → Result (List (List ℕ)) PathFault → Result (List (List ℕ)) PathFault
+behind paths (Ok more) = Ok (paths ++ more)
+behind paths (Err fault) = Err fault
+
+-- one more path
+pub behind_one_more : (paths : List (List ℕ)) (path : List ℕ) (found : Result (List ℕ) PathFault) (more : Result (List (List ℕ)) PathFault) → found ≡ Ok path
+    → behind paths (with_path found more) ≡ behind (paths ++ path ∷ []) more
+behind_one_more paths path found (Ok more) is = rw is (ap Ok (sym (append_assoc paths (path ∷ []) more)))
+behind_one_more paths path found (Err fault) is = rw is refl
+
+-- before the first path all paths are to come
+pub behind_nothing : (more : Result (List (List ℕ)) PathFault) → behind [] more ≡ more
+behind_nothing (Ok more) = refl
+behind_nothing (Err fault) = refl
+
+-- and after the last path none is to come
+pub nothing_behind : (paths : List (List ℕ)) → behind paths (paths_of []) ≡ Ok paths
+nothing_behind paths = ap Ok (append-nil paths)
+
+-- the current string is the first of those to come
+text_at_hand : (texts : List (Vec ℕ Global)) (i : ℕ) (text : Vec ℕ Global) → i < length texts → text ≡ get_or texts i text
+    → paths_of (rows (drop i texts)) ≡ with_path (path_of text.items) (paths_of (rows (drop (i + 1) texts)))
+text_at_hand texts i text within is =
+    at_drop_more (λ ts. paths_of (rows ts)) texts i text within
+    ∙ ap (λ (t : Vec ℕ Global). with_path (path_of t.items) (paths_of (rows (drop (i + 1) texts)))) (sym is)
+
+-- one more path in a loop over the strings
+pub paths_go_on : (texts : List (Vec ℕ Global)) (i : ℕ) (text : Vec ℕ Global) (paths new : List (List ℕ)) (path : List ℕ) → i < length texts → text ≡ get_or texts i text
+    → path_of text.items ≡ Ok path → new ≡ paths ++ path ∷ [] → paths_of (rows texts) ≡ behind paths (paths_of (rows (drop i texts)))
+    → paths_of (rows texts) ≡ behind new (paths_of (rows (drop (i + 1) texts)))
+paths_go_on texts i text paths new path within is found pushed so_far =
+    let more = paths_of (rows (drop (i + 1) texts)) in
+    so_far ∙ ap (behind paths) (text_at_hand texts i text within is) ∙ behind_one_more paths path (path_of text.items) more found ∙ ap (λ ps. behind ps more) (sym pushed)
+
+-- if there are strings, there are paths
+pub paths_somehow : (texts paths : List (List ℕ)) → paths_of texts ≡ Ok paths → texts ≢ [] → paths ≢ []
+paths_somehow [] paths is some = absurd (some refl)
+paths_somehow (text ∷ texts) [] is some = absurd (no_path (path_of text) (paths_of texts) is) where
+  no_path : (found : Result (List ℕ) PathFault) (more : Result (List (List ℕ)) PathFault) → with_path found more ≡ Ok [] → ⊥
+  no_path (Err fault) more h = let x : ◌≡◌ {A = Result (List (List ℕ)) PathFault} (Err fault) (Ok []) = h in cc
+  no_path (Ok path) (Err fault) h = let x : ◌≡◌ {A = Result (List (List ℕ)) PathFault} (Err fault) (Ok []) = h in cc
+  no_path (Ok path) (Ok more) h = let x : ◌≡◌ {A = Result (List (List ℕ)) PathFault} (Ok (path ∷ more)) (Ok []) = h in let y : path ∷ more ≡ [] = cc in cc
+paths_somehow (text ∷ texts) (path ∷ paths) is some = λ h. (let x : path ∷ paths ≡ [] = h in cc)
+
+-- the paths of a build line, by those of its parts
+pub edge_answer : (t : EdgeTexts) (o i n m l : List (List ℕ)) → paths_of t.outputs ≡ Ok o → paths_of t.implicit_outputs ≡ Ok i → paths_of t.inputs ≡ Ok n
+    → paths_of t.implicit_inputs ≡ Ok m → paths_of t.order_only ≡ Ok l
+    → edge_paths t ≡ Ok (record { rule = t.rule; outputs = o; implicit_outputs = i; inputs = n; implicit_inputs = m; order_only = l })
+edge_answer t o i n m l a b c d e = rw (a, b, c, d, e) refl
+
+-- ---- what the reader returns, by the lines that it has read
+
+-- the cause of a text is that of its line, if the line is not too long
+pub cause_of_text : (classes : List ListingClass) (line : List ℕ) (cause : LineCause) → length line ≤ line_limit → IsTextCause classes (text_of_line line) (is_comment line) cause → IsLineCause classes line cause
+cause_of_text classes line causes.LineTooLong short is = absurd is
+cause_of_text classes line causes.Truncated short is = absurd is
+cause_of_text classes line (causes.Lexical fault) short is = (short, is)
+cause_of_text classes line causes.Form short is = (short, is)
+cause_of_text classes line (causes.BadPath fault) short is = (short, is)
+
+-- lines that were read were run over
+ran : (classes : List ListingClass) (value : ListingValue) → LeadToEdges classes value → run Closed [] classes ≡ Some value
+ran classes value led = listing_is_run classes value led.0 led.1
+
+-- a line that is rejected is the first faulty one
+fault_of_line : (bytes : List ℕ) (lent : List LogicalLine) (number : ℕ) (rest : List ℕ) (value : ListingValue) (read : AreReadTo listing_format LeadToEdges lent value) → BeginsWith bytes lent number rest
+    → (line after : List ℕ) (seen : LogicalLine) (f : LineFault) → rest ≡ line ++ after → IsLine line → length line ≤ line_limit
+    → seen ≡ record (logical_line [] line) { number = number } → f.line ≡ seen.number → text_cause value.binding seen.text seen.comment ≡ Some f.cause → HasFaultyLine bytes f
+fault_of_line bytes lent number rest value read begins line after seen f split is short same at fault =
+    let begun = runs_begin read.classes value (ran read.classes value read.led) in
+    let faulty : text_cause value.binding (text_of_line line) (is_comment line) ≡ Some f.cause = subst (λ l. text_cause value.binding l.text l.comment ≡ Some f.cause) same fault in
+    let cause = cause_holds read.classes begun (text_of_line line) (is_comment line) f.cause (subst (λ b. text_cause b (text_of_line line) (is_comment line) ≡ Some f.cause) read.led.1 faulty) in
+    let next : HasFaultyLine bytes (record { line = number; cause = f.cause }) = faulty_next listing_format listing_faults bytes lent number rest read.classes begins read.texts begun line after f.cause split is
+    (λ c of on. cause_stops read.classes begun (text_of_line line) (is_comment line) f.cause c cause of.1 on) (cause_of_text read.classes line f.cause short cause) in
+    subst (λ n. HasFaultyLine bytes (record { line = n; cause = f.cause })) (sym (at ∙ ap (λ l. l.number) same)) next
+
+-- the next line's fault is in the bytes
+fault_of_next : (bytes : List ℕ) (lent : List LogicalLine) (value : ListingValue) (f : LineFault) → AreReadTo listing_format LeadToEdges lent value
+    → IsNextFault RefusesLine fault_of_cutter bytes lent value f → IsListingFaultIn bytes f
+fault_of_next bytes lent value f read (number, rest, begins, inl t) =
+    subst (IsListingFaultIn bytes) (sym t.1)
+    (elim (faulty_at_limit listing_format listing_faults bytes lent number rest read.classes begins read.texts (runs_begin read.classes value (ran read.classes value read.led)) causes.LineTooLong (λ line past. past) t.0.0 t.0) [
+      | inl line ↦ inl line
+      | inr end ↦ inr (end, refl)
+    ])
+fault_of_next bytes lent value f read (number, rest, begins, inr (line, after, split, is, short, seen, same, refused)) =
+    inl (fault_of_line bytes lent number rest value read begins line after seen f split is short same refused.0 refused.1)
+
+-- a line that passes has a class with which the listing continues
+steps_on : (classes : List ListingClass) (old new : ListingValue) (line : LogicalLine) → LeadToEdges classes old → PassesLine old line new
+    → (c : ListingClass) × IsListingLine line.text line.comment c × LeadToEdges (classes ++ c ∷ []) new
+steps_on classes old new line led (c, is, steps) =
+    let on : run Closed [] (classes ++ c ∷ []) ≡ Some new =
+    run_more classes (c ∷ []) Closed [] old (ran classes old led) ∙ ap (option_and_then (λ (s : ListingValue). run s.binding s.edges [])) steps in
+    (c, class_holds line.text line.comment c is, (run_is_listing (classes ++ c ∷ []) new on, binding_runs (classes ++ c ∷ []) Closed [] new on))
+
+-- what reading a piece returns and leaves
+pub fed : (bytes all : List ℕ) (old : ListingReaderState) (result : Result Unit (Failure LineFault)) (new : ListingReaderState) → HasReadListing bytes old
+    → ((lent : List LogicalLine) → HasLentAll bytes lent old → FeedsLines PassesLine RefusesLine fault_of_cutter all lent old.state result new)
+    → Reads HasReadListing IsListingFaultIn all result new
+fed bytes all old result new has feeds = lines.fed listing_format LeadToEdges PassesLine RefusesLine fault_of_cutter steps_on IsListingFaultIn fault_of_next bytes all old result new has feeds
+
+-- a line's failure as one of the listing
+pub fails : (all : List ℕ) (failure : Failure LineFault) (new : ListingReaderState) → Reads HasReadListing IsListingFaultIn all (Err failure) new → FeedsListing all (Err (line_failure failure)) new
+fails all (Fault fault) new is = is
+fails all Memory new is = is.0
+
+-- what the edges are that all lines led to
+pub listed : (bytes : List ℕ) (r : ListingReaderState) (end : ListingValue × ℕ) → HasReadListing bytes r
+    → ((lent : List LogicalLine) → HasLentAll bytes lent r → EndsLines {S = ListingValue} {F = LineFault} fault_of_cutter bytes lent r.state (Ok end)) → Lists bytes end.0.edges
+listed bytes r end has ends =
+    let e = ends has.lent has.has in
+    all_lent listing_format bytes has.lent end.1 has.read.classes end.0.edges e.1 has.read.texts (subst (LeadToEdges has.read.classes) (sym e.0) has.read.led).0
+
+-- which fault the end of all bytes has
+pub ended : (bytes : List ℕ) (r : ListingReaderState) (failure : Failure LineFault) → HasReadListing bytes r
+    → ((lent : List LogicalLine) → HasLentAll bytes lent r → EndsLines {S = ListingValue} {F = LineFault} fault_of_cutter bytes lent r.state (Err failure)) → EndsListing bytes (Err (line_failure failure))
+ended bytes r (Fault f) has ends =
+    let e = ends has.lent has.has in
+    subst (HasFaultyEnd bytes) (sym e.4)
+    (faulty_rest listing_format listing_faults bytes has.lent e.0 e.1 has.read.classes e.2 has.read.texts (runs_begin has.read.classes r.state (ran has.read.classes r.state has.read.led)) causes.Truncated e.3.2 (e.3.0, e.3.1))
+ended bytes r Memory has ends = absurd (ends has.lent has.has)
+
+-- why edges are not a graph, as a failure of the listing
+abbrev pub graph_failure : Failure GraphFault → Failure ListFault
+graph_failure Memory = Memory
+graph_failure (Fault fault) = Fault (NoGraph fault)
+
+-- why the edges listed are not a graph
+pub no_graph : (bytes : List ℕ) (edges : List EdgeValue) (failure : Failure GraphFault) → Lists bytes edges → ForFault (IsGraphFault edges) failure → EndsListing bytes (Err (graph_failure failure))
+no_graph bytes edges (Fault fault) lists is = (edges, lists, is)
+no_graph bytes edges Memory lists is = tt
+
+-- the failure of a call as a fault of the listing
+pub turned_to : {F : Type 0} (turn : F → ListFault) (all : Failure F → Failure ListFault) → all Memory ≡ Memory → ((fault : F) → all (Fault fault) ≡ Fault (turn fault))
+    → (failure : Failure F) (result : Failure ListFault) → Turns (λ fault turned. turned ≡ turn fault) failure result → result ≡ all failure
+turned_to turn all memory faults Memory result is = is ∙ sym memory
+turned_to turn all memory faults (Fault fault) result is = is.2 ∙ ap (λ f. Fault f) is.1 ∙ sym (faults fault)
+
+-- ---- the laws: a line has a class with which a listing continues, or a cause
 
 -- the cause of a line, by whether it is longer than the limit
 cause_parts : (classes : List ListingClass) (line : List ℕ) (cause : LineCause) → IsLineCause classes line cause

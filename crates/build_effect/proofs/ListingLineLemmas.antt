@@ -145,5 +145,3 @@ without_end false false over is = refl
 
 pub is_whole : (none : Bool) (rule over : Bool) → none ≡ false → rule ≡ true → over ≡ true → true ≡ not none && rule && over
 is_whole none rule over n r o = rw (n, r, o) refl
-
--- a list with an element is not the empty one

@@ -1,12 +1,12 @@
 -- What a call that writes a listing returns, by whether its text was made.
-use Rattle.std.proofs.Common.{◌≡◌, ℕ, ◌+◌, ◌<◌, ◌≤◌, suc, Bool, true, false, List, [], ◌∷◌, ◌++◌, length, drop, get_or, add-one, drop-cons, append_assoc, refl, sym, ap, ◌∙◌, Option, Some, None, Ok, Err}
+use Rattle.std.proofs.Common.{◌≡◌, ℕ, ◌+◌, ◌<◌, ◌≤◌, suc, Bool, true, false, List, [], ◌∷◌, ◌++◌, length, drop, get_or, add-one, drop-cons, append_assoc, codes, refl, sym, ap, ◌∙◌, Option, Some, None, Ok, Err}
 use Rattle.std.specs.Prelude.{Result, Vec, OnOk, if◌then◌else◌}
 use Rattle.std.specs.Result.{is_ok}
 use Rattle.std.specs.List.{flat_map}
 use Rattle.std.specs.declared.alloc.Global.{Global}
 use Rattle.std.proofs.lemmas.Bool.{lt-ltb, le-ltb}
 use Rattle.std.proofs.lemmas.List.{at_drop_more}
-use Rattle.ninja_text.specs.Bytes.{space}
+use Rattle.ninja_text.specs.Bytes.{space, line_feed}
 use Rattle.ninja_text.specs.Escapes.{escaped}
 use Rattle.ninja_text.specs.Lines.{line_limit}
 use Rattle.ninja_text.specs.Failure.{Gives}
@@ -66,6 +66,10 @@ made es text h = given (first_too_long es) es text.items h
 -- the current edge is the next one
 pub drop_item : (edges : List EdgeValue) (i : ℕ) (e : EdgeValue) → i < length edges → e ≡ get_or edges i e → drop i edges ≡ e ∷ drop (i + 1) edges
 drop_item edges i e within is = rw add-one (drop-cons edges i e within ∙ ap (λ z. z ∷ drop (suc i) edges) (sym is))
+
+-- the line of the binding `dyndep`, part by part
+pub dyndep_added : (text name value new path : List ℕ) → name ≡ text ++ codes "  dyndep = " → value ≡ name ++ escaped path → new ≡ value ++ line_feed ∷ [] → new ≡ text ++ dyndep_line (Some path)
+dyndep_added text name value new path n v l = rw (l, v, n, append_assoc, append_assoc) refl
 
 -- the text so far, with one more edge's
 pub text_goes_on : (edges : List EdgeValue) (i : ℕ) (e : EdgeValue) (text new : List ℕ) → i < length edges → e ≡ get_or edges i e

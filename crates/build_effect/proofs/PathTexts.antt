@@ -10,7 +10,7 @@ use Rattle.build_effect.specs.Faults.{IsNoPath, HasRefused}
 use Rattle.build_effect.specs.inner.BadPaths.{IsBadText, IsBadTextFrom, IsBadTextOf, IsBadStatement}
 use Rattle.build_effect.specs.declared.fault.EffectFault.{EffectFault}
 use Rattle.ninja_text.proofs.ForCallers.{same_some, in_append, in_first, in_second, from_push, in_take, take_next}
-use Rattle.build_effect.proofs.Exclusion.{path_at, all_paths}
+use Rattle.build_effect.proofs.Effects.{path_at, all_paths}
 
 not_both : (text path : List ℕ) → path_of text ≡ Ok path → IsNoPath text → ⊥
 not_both text path ok refused = let both : Ok path ≡ Err refused.0 = sym ok ∙ refused.1 in cc

@@ -1,13 +1,13 @@
 //! What statements add: their canonical paths (E8), whether the added outputs are new (E7), and the
 //! edges with what is added.
-ghost use Rattle.std.specs.Prelude.{◌≡◌, ◌<◌, ◌+◌, ◌^◌, ℕ, length, Some, Ok, IfSome, IfOk, IfErr, OnOk};
-ghost use Rattle.dep_order.specs.Rows.{rows, lists};
+ghost use Rattle.std.specs.Prelude.{◌≡◌, ◌<◌, ◌+◌, ◌^◌, ℕ, length, Some, Ok, IfOk, IfErr, OnOk};
+ghost use Rattle.dep_order.specs.Rows.{rows};
 ghost use Rattle.ninja_text.specs.Failure.{ForFault};
 ghost use Rattle.ninja_text.specs.Paths.{path_of};
-ghost use Rattle.build_effect.specs.Effect.{ArePaths, IsCanonical, AreCanonical};
-ghost use Rattle.build_effect.specs.inner.BadPaths.{IsBadText, IsBadTextFrom, IsBadTextOf, IsBadStatement};
-ghost use Rattle.build_effect.specs.inner.Added.{AddsFresh, AddsMade, FindsMadeIn};
-ghost use Rattle.build_effect.specs.inner.Extended.{IsEdgeAfter, AreExtended};
+ghost use Rattle.build_effect.specs.Effect.{ArePaths, AreCanonical};
+ghost use Rattle.build_effect.specs.inner.BadPaths.{IsBadText, IsBadTextFrom, IsBadStatement};
+ghost use Rattle.build_effect.specs.inner.Added.{AddsFresh, AddsMade};
+ghost use Rattle.build_effect.specs.inner.Extended.{AreExtended};
 ghost use Rattle.build_effect.specs.inner.Makers.{maker_in};
 ghost use Rattle.build_effect.specs.inner.StatementEdges.{statement_on};
 
@@ -52,42 +52,28 @@ pub(crate) fn canonical_statements(
 {
     let mut additions = Vec::with_capacity(alloc, statements.len())?;
     for (statement_index, statement) in statements.iter().enumerate() {
-        let addition = canonical_statement(alloc, statement, statement_index)?;
-        additions.push(addition)?;
+        let inputs_from = 1 + statement.implicit_outputs.len();
+        let output = canonical_path(alloc, &statement.output, statement_index, 0)?;
+        let implicit_outputs = canonical_paths(
+            alloc,
+            &statement.implicit_outputs,
+            statement_index,
+            1,
+        )?;
+        let implicit_inputs = canonical_paths(
+            alloc,
+            &statement.implicit_inputs,
+            statement_index,
+            inputs_from,
+        )?;
+        additions.push(Addition {
+            output,
+            implicit_outputs,
+            implicit_inputs,
+            restat: statement.restat,
+        })?;
     }
     Ok(additions)
-}
-
-/// Returns the statement with canonical paths. `statement_index` is its index in the file.
-fn canonical_statement(
-    alloc: Global,
-    statement: &Statement,
-    statement_index: usize,
-) -> Result<Addition, Failure<EffectFault>>
-    ensures canonical { IfOk result (IsCanonical statement.now) }
-    ensures fault { IfErr result (ForFault (IsBadTextOf statement.now statement_index)) }
-{
-    let outputs_from = 1;
-    let inputs_from = outputs_from + statement.implicit_outputs.len();
-    let output = canonical_path(alloc, &statement.output, statement_index, 0)?;
-    let implicit_outputs = canonical_paths(
-        alloc,
-        &statement.implicit_outputs,
-        statement_index,
-        outputs_from,
-    )?;
-    let implicit_inputs = canonical_paths(
-        alloc,
-        &statement.implicit_inputs,
-        statement_index,
-        inputs_from,
-    )?;
-    Ok(Addition {
-        output,
-        implicit_outputs,
-        implicit_inputs,
-        restat: statement.restat,
-    })
 }
 
 /// Returns the canonical paths of these strings. `from` is the index of the first of them among all
@@ -145,35 +131,16 @@ pub(crate) fn check_added(
         .iter()
         .flat_map(|addition| addition.implicit_outputs.iter());
     let files: Vec<&Path> = added.collect(alloc)?;
-    match first_made(alloc, makers, files.as_slice())? {
-        None => Ok(()),
-        Some(file_index) => {
-            let path = files[file_index].copy(alloc)?;
-            Err(Failure::Fault(EffectFault::AddedTwice { path }))
-        }
-    }
-}
-
-/// Returns the index of the first file that an edge makes or that repeats an earlier one.
-fn first_made(
-    alloc: Global,
-    makers: &Makers<'_>,
-    files: &[&Path],
-) -> Result<Option<usize>, AllocError>
-    ensures made { IfOk result (FindsMadeIn (maker_in makers.now.table) (lists files.now)) }
-    ensures within { IfOk result (λ found. IfSome found (λ k. k < length files.now)) }
-{
-    let mut seen = IndexSet::with_hasher(alloc, table_key(files));
-    for (file_index, file) in files.iter().enumerate() {
-        if makers.maker_of(*file).is_some() {
-            return Ok(Some(file_index));
-        }
+    let mut seen = IndexSet::with_hasher(alloc, table_key(files.as_slice()));
+    for file in &files {
+        let is_made = makers.maker_of(*file).is_some();
         let is_new = seen.insert(*file)?;
-        if !is_new {
-            return Ok(Some(file_index));
+        if is_made || !is_new {
+            let path = file.copy(alloc)?;
+            return Err(Failure::Fault(EffectFault::AddedTwice { path }));
         }
     }
-    Ok(None)
+    Ok(())
 }
 
 /// Returns the edges, each with what the statement on it adds.
@@ -190,29 +157,16 @@ pub(crate) fn extended_edges(
 {
     let mut new = Vec::with_capacity(alloc, edges.len())?;
     for (edge_index, edge) in edges.iter().enumerate() {
-        let statement = statement_of[edge_index];
-        new.push(edge_after(edge, additions, statement)?)?;
+        let mut after = edge.clone()?;
+        if let Some(statement_index) = statement_of[edge_index] {
+            let addition = &additions[statement_index];
+            let outputs = &mut after.implicit_outputs;
+            outputs.extend_from_slice(&addition.implicit_outputs)?;
+            let inputs = &mut after.implicit_inputs;
+            inputs.extend_from_slice(&addition.implicit_inputs)?;
+            after.restat |= addition.restat;
+        }
+        new.push(after)?;
     }
     Ok(new)
-}
-
-/// Returns the edge with what the statement of this index adds, if there is one.
-fn edge_after(
-    edge: &Edge,
-    additions: &[Addition],
-    statement: Option<usize>,
-) -> Result<Edge, AllocError>
-    requires { IfSome statement (λ k. k < length additions.now) }
-    ensures { IfOk result (IsEdgeAfter edge.now additions.now statement) }
-{
-    let mut after = edge.clone()?;
-    if let Some(statement_index) = statement {
-        let addition = &additions[statement_index];
-        let outputs = &mut after.implicit_outputs;
-        outputs.extend_from_slice(&addition.implicit_outputs)?;
-        let inputs = &mut after.implicit_inputs;
-        inputs.extend_from_slice(&addition.implicit_inputs)?;
-        after.restat |= addition.restat;
-    }
-    Ok(after)
 }

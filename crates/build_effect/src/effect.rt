@@ -1,11 +1,8 @@
 //! The effect of a dyndep file, with its checks in the order of their errors.
 ghost use Rattle.std.specs.Prelude.{IfOk, IfErr};
 ghost use Rattle.ninja_text.specs.Failure.{ForFault};
-ghost use Rattle.build_effect.specs.Graphs.{IsGraph};
 ghost use Rattle.build_effect.specs.Effect.{OnlyEffect, HasNoEffect};
-ghost use Rattle.build_effect.specs.Faults.{IsEffectFault, NoneMadeBefore};
-ghost use Rattle.build_effect.specs.inner.Checked.{AreMatched, IsFaultOf};
-ghost use Rattle.build_effect.specs.inner.Makers.{maker_in, AreMakers};
+ghost use Rattle.build_effect.specs.Faults.{IsEffectFault};
 ghost use Rattle.build_effect.specs.declared.fault.EffectFault.{EffectFault};
 
 use crate::addition::{Addition, canonical_statements, check_added, extended_edges};
@@ -50,31 +47,13 @@ pub fn apply(
 {
     checks();
     let old = graph.edges();
-    let additions = canonical_statements(alloc, &dyndep.statements)?;
+    let canonical = canonical_statements(alloc, &dyndep.statements)?;
+    let additions = canonical.as_slice();
     let makers = Makers::of(alloc, old)?;
-    let statement_of = matched_statements(alloc, old, name, &makers, &additions)?;
-    let edges = extended_edges(alloc, old, &additions, &statement_of)?;
+    let edge_of = edges_of_statements(alloc, old, name, &makers, additions)?;
+    let statement_of = statements_of_edges(alloc, old.len(), &edge_of, additions)?;
+    check_mentioned(alloc, old, name, &statement_of)?;
+    check_added(alloc, &makers, additions)?;
+    let edges = extended_edges(alloc, old, additions, &statement_of)?;
     Ok(Graph { edges })
-}
-
-/// Makes the checks of E5, E4, E6 and E7. Returns for each edge the index of the statement on it.
-fn matched_statements(
-    alloc: Global,
-    edges: &[Edge],
-    name: &Path,
-    makers: &Makers<'_>,
-    additions: &[Addition],
-) -> Result<Vec<Option<usize>>, Failure<EffectFault>>
-    requires graph { IsGraph edges.now }
-    requires makers { AreMakers edges.now (maker_in makers.now.table) }
-    ensures matched { IfOk result (λ statement_of.
-        AreMatched edges.now name.now additions.now statement_of.items) }
-    ensures fresh { IfOk result (λ _. NoneMadeBefore edges.now additions.now) }
-    ensures fault { IfErr result (ForFault (IsFaultOf edges.now name.now additions.now)) }
-{
-    let edge_of = edges_of_statements(alloc, edges, name, makers, additions)?;
-    let statement_of = statements_of_edges(alloc, edges.len(), &edge_of, additions)?;
-    check_mentioned(alloc, edges, name, &statement_of)?;
-    check_added(alloc, makers, additions)?;
-    Ok(statement_of)
 }

@@ -1,9 +1,9 @@
 //! Which statement is on which edge.
-ghost use Rattle.std.specs.Prelude.{◌≡◌, ◌≢◌, ◌<◌, [], Some, None, length, IfOk, IfErr, OnOk, All, MatchBool, MatchOption};
+ghost use Rattle.std.specs.Prelude.{◌≡◌, ◌≢◌, ◌<◌, [], length, IfOk, IfErr, OnOk, All, MatchBool};
 ghost use Rattle.ninja_text.specs.Failure.{ForFault};
 ghost use Rattle.build_effect.specs.Graphs.{MadeOnce, Names};
 ghost use Rattle.build_effect.specs.inner.Makers.{maker_in, AreMakers};
-ghost use Rattle.build_effect.specs.inner.StatementEdges.{IsBoundOutput, IsUnboundOutput, AreEdgesOf, IsFirstUnbound, AreInverse, IsFirstRepeated, HaveStatements, IsFirstUnmentioned};
+ghost use Rattle.build_effect.specs.inner.StatementEdges.{AreEdgesOf, IsFirstUnbound, AreInverse, IsFirstRepeated, HaveStatements, IsFirstUnmentioned};
 
 use crate::addition::Addition;
 use crate::edge::Edge;
@@ -31,34 +31,15 @@ pub(crate) fn edges_of_statements(
 {
     let mut edge_of = Vec::with_capacity(alloc, additions.len())?;
     for addition in additions {
-        match bound_edge(edges, name, makers, &addition.output) {
-            Some(edge) => edge_of.push(edge)?,
-            None => {
+        match makers.maker_of(&addition.output) {
+            Some(edge) if names(&edges[edge], name) => edge_of.push(edge)?,
+            _ => {
                 let output = addition.output.copy(alloc)?;
                 return Err(Failure::Fault(EffectFault::NotBound { output }));
             }
         }
     }
     Ok(edge_of)
-}
-
-/// Returns the edge that makes the output, if that edge names the file.
-fn bound_edge(edges: &[Edge], name: &Path, makers: &Makers<'_>, output: &Path) -> Option<usize>
-    requires makers { AreMakers edges.now (maker_in makers.now.table) }
-    requires made_once { MadeOnce edges.now }
-    ensures { MatchOption result (IsUnboundOutput edges.now name.now output.now)
-        (IsBoundOutput edges.now name.now output.now) }
-{
-    match makers.maker_of(output) {
-        Some(edge) => {
-            if names(&edges[edge], name) {
-                Some(edge)
-            } else {
-                None
-            }
-        }
-        None => None,
-    }
 }
 
 fn names(edge: &Edge, name: &Path) -> bool

@@ -1,5 +1,5 @@
 -- Added outputs that an edge makes or that were added before.
-use Rattle.std.specs.Prelude.{◌≡◌, ℕ, List, slice_get, Option, Some, None}
+use Rattle.std.specs.Prelude.{◌≡◌, ℕ, List, Option}
 use Rattle.dyndep_file.specs.StatementValue.{StatementValue}
 use Rattle.build_effect.specs.EdgeValue.{EdgeValue}
 use Rattle.build_effect.specs.Faults.{IsMadeBefore, NoneMadeBefore, added_outputs}
@@ -7,16 +7,6 @@ use Rattle.ninja_text.specs.Firsts.{IsFirstAt}
 use Rattle.build_effect.specs.inner.Makers.{AreMakers}
 use Rattle.build_effect.specs.declared.fault.EffectFault.{EffectFault}
 use Rattle.build_effect.specs.declared.fault.EffectFault.TheVariants.{AddedTwice}
-
--- the index of the first file that an edge makes or that is earlier in the list, or none
-abbrev pub FindsMade : List EdgeValue → List (List ℕ) → Option ℕ → Type 0
-FindsMade g files None =
-    (k : ℕ) (file : List ℕ) → slice_get files k ≡ Some file → IsMadeBefore g files k file → ⊥
-FindsMade g files (Some k) = (file : List ℕ) × IsFirstAt (IsMadeBefore g files) files k file
-
--- the same in every graph that has these producers
-abbrev pub FindsMadeIn : (List ℕ → Option ℕ) → List (List ℕ) → Option ℕ → Type 0
-FindsMadeIn maker files found = (g : List EdgeValue) → AreMakers g maker → FindsMade g files found
 
 -- in every graph that has these producers, no added output is made by an edge or added twice
 abbrev pub AddsFresh : (List ℕ → Option ℕ) → List StatementValue → Type 0

@@ -6,12 +6,10 @@ ghost use Rattle.ninja_text.specs.LineViews.{seen_line};
 ghost use Rattle.ninja_text.specs.Tokens.{value_of};
 ghost use Rattle.ninja_text.specs.TokenViews.{seen_token};
 ghost use Rattle.ninja_text.specs.AssignmentViews.{seen_assignment};
-ghost use Rattle.dyndep_file.specs.Classes.{begins_with_space};
 ghost use Rattle.dyndep_file.specs.Faults.{same_bytes};
 ghost use Rattle.dyndep_file.specs.BuildTokens.{symbol_of, symbols_left, is_this_word};
 ghost use Rattle.build_effect.specs.ListingLines.{is_rule_name};
-ghost use Rattle.build_effect.specs.inner.ListingWalk.{binding_row, edge_texts, front_words, past_words, is_sign};
-ghost use Rattle.ninja_text.specs.Assignments.{is_identifier_byte};
+ghost use Rattle.build_effect.specs.inner.ListingWalk.{binding_row, edge_texts, front_words, past_words};
 ghost use Rattle.dep_order.specs.Rows.{rows};
 ghost use Rattle.build_effect.specs.inner.ListingRows.{row_value, line_row, words_of_part, symbols_past_part, SignPassed, WordPassed};
 
@@ -75,7 +73,7 @@ pub(crate) fn row_of(alloc: Global, line: Line<'_>) -> Result<Row, Failure<LineC
     let Some(first) = tokens.next() else {
         return Ok(Row::Blank);
     };
-    if begins_with_space(line.text()) {
+    if line.text().starts_with(b" ") {
         return match assignment(line) {
             Ok(found) => binding_row(alloc, found),
             Err(fault) => Err(Failure::Fault(LineCause::Lexical(fault))),
@@ -178,23 +176,16 @@ fn pass_sign(tokens: &mut Words<'_>, sign: TokenKind) -> bool
     let Some(token) = ahead.next() else {
         return false;
     };
-    let is_there = is_sign(sign, token.kind());
+    let is_there = match sign {
+        TokenKind::Bar => matches!(token.kind(), TokenKind::Bar),
+        TokenKind::DoubleBar => matches!(token.kind(), TokenKind::DoubleBar),
+        TokenKind::Colon => matches!(token.kind(), TokenKind::Colon),
+        TokenKind::BarAt | TokenKind::Word => false,
+    };
     if is_there {
         *tokens = ahead;
     }
     is_there
-}
-
-/// Returns whether a token is this sign.
-fn is_sign(sign: TokenKind, kind: TokenKind) -> bool
-    ensures { result ≡ is_sign sign kind }
-{
-    match sign {
-        TokenKind::Bar => matches!(kind, TokenKind::Bar),
-        TokenKind::DoubleBar => matches!(kind, TokenKind::DoubleBar),
-        TokenKind::Colon => matches!(kind, TokenKind::Colon),
-        TokenKind::BarAt | TokenKind::Word => false,
-    }
 }
 
 /// Takes and returns the next token if it is a word.
@@ -219,15 +210,9 @@ fn is_rule_name(name: &[u8]) -> bool
 {
     match name {
         [] => false,
-        [_, ..] => name.iter().all(|b| is_identifier_byte(*b)),
+        [_, ..] => name.iter().all(|b| b.is_ascii_alphanumeric()
+            || matches!(*b, b'_' | b'.' | b'-')),
     }
-}
-
-/// Returns whether a byte may be in the name of a rule.
-fn is_identifier_byte(byte: u8) -> bool
-    ensures { result ≡ is_identifier_byte byte }
-{
-    byte.is_ascii_alphanumeric() || matches!(byte, b'_' | b'.' | b'-')
 }
 
 /// Returns whether a line with this first token is a build line.
@@ -236,13 +221,6 @@ fn begins_build_line(first: Token<'_>) -> bool
         && is_this_word (codes "build") (symbol_of (seen_token first.entry)) }
 {
     first.start() == 0 && first.kind() == TokenKind::Word && is_same(first.raw(), b"build")
-}
-
-/// Returns whether a line is indented.
-fn begins_with_space(text: &[u8]) -> bool
-    ensures { result ≡ begins_with_space text.now }
-{
-    matches!(text, [b' ', ..])
 }
 
 fn is_same(bytes: &[u8], other: &[u8]) -> bool

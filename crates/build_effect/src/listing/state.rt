@@ -55,28 +55,16 @@ pub(crate) fn take_line(
             state.binding = Binding::Closed;
             Ok(())
         }
-        Row::Build(texts) => build_row(alloc, state, texts),
+        Row::Build(texts) => match edge_of(alloc, texts) {
+            Ok(edge) => {
+                state.edges.push(edge)?;
+                state.binding = Binding::Open(false, false);
+                Ok(())
+            }
+            Err(failure) => Err(failure.map(LineCause::BadPath)),
+        },
         Row::Dyndep(text) => dyndep_row(alloc, state, text),
         Row::Restat(flag) => restat_row(state, flag),
-    }
-}
-
-/// Takes a build line, which opens an edge.
-fn build_row(
-    alloc: Global,
-    state: &mut ListingState,
-    texts: EdgeTexts,
-) -> Result<(), Failure<LineCause>>
-    ensures { TakesRow state.old (row_value (Row.Build texts)) result state.new }
-{
-    match edge_of(alloc, texts) {
-        Ok(edge) => {
-            state.edges.push(edge)?;
-            state.binding = Binding::Open(false, false);
-            Ok(())
-        }
-        Err(Failure::Memory) => Err(Failure::Memory),
-        Err(Failure::Fault(fault)) => Err(Failure::Fault(LineCause::BadPath(fault))),
     }
 }
 

@@ -4,7 +4,7 @@ ghost use Rattle.std.specs.List.{flat_map};
 ghost use Rattle.ninja_text.specs.Counting.{held, IsWritten};
 ghost use Rattle.ninja_text.specs.Failure.{Gives};
 ghost use Rattle.dyndep_file.specs.Writing.{spaced};
-ghost use Rattle.build_effect.specs.ListingWriting.{marked_text, edge_line, dyndep_line, restat_line, listing_text, first_too_long, LeavesListingWriter, WritesListingInTurn, AnswersTooLong, listing_text_or_fault};
+ghost use Rattle.build_effect.specs.ListingWriting.{marked_text, edge_line, listing_text, first_too_long, LeavesListingWriter, WritesListingInTurn, AnswersTooLong, listing_text_or_fault};
 
 use crate::edge::Edge;
 use crate::fault::ListingWriteFault;
@@ -31,8 +31,14 @@ impl Graph {
             if text.len() - start > LINE_LIMIT {
                 return Err(Failure::Fault(ListingWriteFault::ListingTooLong { edge: edge_index }));
             }
-            push_dyndep(&mut text, &edge.dyndep)?;
-            push_restat(&mut text, edge.restat)?;
+            if let Some(path) = &edge.dyndep {
+                text.extend_from_slice(b"  dyndep = ")?;
+                escape_into(path.bytes(), &mut text)?;
+                text.extend_from_slice(b"\n")?;
+            }
+            if edge.restat {
+                text.extend_from_slice(b"  restat = 1\n")?;
+            }
         }
         Ok(text)
     }
@@ -81,31 +87,6 @@ fn push_line(text: &mut Vec<u8>, edge: &Edge) -> Result<(), AllocError>
     push_part(text, b" |", &edge.implicit_inputs)?;
     push_part(text, b" ||", &edge.order_only)?;
     text.extend_from_slice(b"\n")
-}
-
-/// Appends the line of the binding `dyndep`, if the edge has one.
-fn push_dyndep(text: &mut Vec<u8>, dyndep: &Option<Path>) -> Result<(), AllocError>
-    ensures { OnOk result (text.new.items ≡ text.old.items ++ dyndep_line dyndep.now) }
-{
-    match dyndep {
-        None => Ok(()),
-        Some(path) => {
-            text.extend_from_slice(b"  dyndep = ")?;
-            escape_into(path.bytes(), text)?;
-            text.extend_from_slice(b"\n")
-        }
-    }
-}
-
-/// Appends the line of the binding `restat`, if it is on.
-fn push_restat(text: &mut Vec<u8>, restat: bool) -> Result<(), AllocError>
-    ensures { OnOk result (text.new.items ≡ text.old.items ++ restat_line restat) }
-{
-    if restat {
-        text.extend_from_slice(b"  restat = 1\n")
-    } else {
-        Ok(())
-    }
 }
 
 /// Appends the mark and each path after a space, if there are paths.

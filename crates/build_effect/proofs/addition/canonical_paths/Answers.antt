@@ -5,7 +5,7 @@ use Rattle.std.proofs.lemmas.Option.{slice_get_read}
 use Rattle.build_effect.specs.inner.BadPaths.{IsBadText, IsBadTextFrom}
 use Rattle.build_effect.specs.Effect.{ArePaths}
 use Rattle.ninja_text.proofs.ForCallers.{to_map}
-use Rattle.build_effect.proofs.Failures.{for_fault}
+use Rattle.build_effect.proofs.Lists.{for_fault}
 use Rattle.build_effect.proofs.PathTexts.{more_paths, first_bad}
 use Rattle.build_effect.proofs.addition.canonical_paths.Goals as goal
 

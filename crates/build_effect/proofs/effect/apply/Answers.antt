@@ -1,99 +1,130 @@
-use Rattle.std.proofs.Common.{◌≡◌, ◌∙◌, ◌<◌, ℕ, List, Option, Some, length, ap, sym, subst}
+use Rattle.std.proofs.Common.{◌≡◌, ◌∙◌, ◌<◌, ℕ, List, All, Option, Some, length, ap, sym, subst, arith}
 use Rattle.std.proofs.lemmas.Option.{slice_get_within}
 use Rattle.std.proofs.lemmas.Result.{err_from_is_err_and}
 use Rattle.dyndep_file.specs.StatementValue.{StatementValue}
 use Rattle.build_effect.specs.EdgeValue.{EdgeValue}
-use Rattle.build_effect.specs.Effect.{AreCanonical, HasNoEffect}
-use Rattle.build_effect.specs.Faults.{IsEffectFault, NoneMadeBefore}
+use Rattle.build_effect.specs.Graphs.{MadeOnce, IsGraph}
+use Rattle.build_effect.specs.Effect.{AreCanonical, OnlyEffect}
 use Rattle.build_effect.specs.inner.BadPaths.{IsBadStatement}
-use Rattle.build_effect.specs.inner.StatementEdges.{statement_on}
-use Rattle.build_effect.specs.inner.Checked.{AreChecked, AreMatched, IsFaultOf}
+use Rattle.build_effect.specs.inner.Makers.{maker_in}
+use Rattle.build_effect.specs.inner.Added.{AddsMade}
+use Rattle.build_effect.specs.inner.StatementEdges.{statement_on, IsFirstUnbound, AreInverse, IsFirstRepeated, HaveStatements, IsFirstUnmentioned}
+use Rattle.build_effect.specs.inner.Checked.{AreMatched}
 use Rattle.build_effect.specs.inner.Extended.{AreExtended}
-use Rattle.build_effect.specs.declared.fault.EffectFault.{EffectFault}
-use Rattle.build_effect.proofs.Failures.{for_fault}
-use Rattle.build_effect.proofs.Extensions.{is_effect, is_graph}
-use Rattle.build_effect.proofs.Reports.{reports_bad_path}
+use Rattle.build_effect.proofs.StatementChecks.{reported, reported_of, passed, canonical_are, reports_bad_path, reports_unbound, reports_repeated, reports_unmentioned, reports_made, all_matched, edges_within, have_outputs}
 use Rattle.build_effect.proofs.effect.apply.Goals as goal
 
-pub returns-in_err-additions-clause-fault : goal.returns-in_err-additions-clause-fault
-returns-in_err-additions-clause-fault c =
-    let g : List EdgeValue = c.args.graph.now in
-    let name : List ℕ = c.args.name.now in
+pub returns-in_err-canonical : goal.returns-in_err-canonical
+returns-in_err-canonical c =
     let ss : List StatementValue = c.args.dyndep.now in
     let p = err_from_is_err_and c.from_residual.result c.from_residual.ensures.1 in
-    rw (p.1, p.2) (for_fault (IsBadStatement c.deref.result.now) (IsEffectFault g name ss)
-    (λ fault h. reports_bad_path g name ss fault (subst (λ xs. IsBadStatement xs fault) (c.deref.ensures.value ∙ c.dyndep.view_is) h)) _ c.in_err-additions.ensures.fault)
+    let r = reported c.args.graph.now c.args.name.now ss c.edges-old.ensures.graph.made_once c.checks.ensures.exclude (IsBadStatement c.deref.result.now)
+    (λ fault h. reports_bad_path c.args.graph.now c.args.name.now ss fault (subst (λ xs. IsBadStatement xs fault) (c.deref.ensures.value ∙ c.dyndep.view_is) h)) _ c.in_err-canonical.ensures.fault in
+    rw (p.1, p.2) (record { effect = tt; fault = r.0; no_effect = r.1 })
 
-pub returns-in_err-additions-clause-no_effect : goal.returns-in_err-additions-clause-no_effect
-returns-in_err-additions-clause-no_effect c =
-    let g : List EdgeValue = c.args.graph.now in
+pub edges_of_statements-requires-clause-made_once : goal.edges_of_statements-requires-clause-made_once
+edges_of_statements-requires-clause-made_once c = subst MadeOnce (sym c.edges-old.ensures.edges) c.edges-old.ensures.graph.made_once
+
+pub returns-in_err-edge_of : goal.returns-in_err-edge_of
+returns-in_err-edge_of c =
+    let old : List EdgeValue = c.edges-old.result.now in
     let name : List ℕ = c.args.name.now in
     let ss : List StatementValue = c.args.dyndep.now in
-    let p = err_from_is_err_and c.from_residual.result c.from_residual.ensures.1 in
-    rw (p.1, p.2) (for_fault (IsBadStatement c.deref.result.now) (λ (_ : EffectFault). HasNoEffect g name ss)
-    (λ fault h. c.checks.ensures.exclude g name ss fault c.edges-old.ensures.graph.made_once (reports_bad_path g name ss fault (subst (λ xs. IsBadStatement xs fault) (c.deref.ensures.value ∙ c.dyndep.view_is) h))) _ c.in_err-additions.ensures.fault)
+    let additions : List StatementValue = c.as_slice-additions.result.now in
+    let canonical : AreCanonical ss additions = canonical_are (c.deref.ensures.value ∙ c.dyndep.view_is) c.as_slice-additions.ensures.value c.in_ok-canonical.ensures.canonical in
+    let p = err_from_is_err_and c.from_residual-in_err-edge_of.result c.from_residual-in_err-edge_of.ensures.1 in
+    let r = reported_of c.args.graph.now old c.edges-old.ensures.edges name ss additions canonical c.edges-old.ensures.graph.made_once c.checks.ensures.exclude (IsFirstUnbound old name additions)
+    (reports_unbound old name additions) _ c.in_err-edge_of.ensures.fault in
+    rw (p.1, p.2) (record { effect = tt; fault = r.0; no_effect = r.1 })
 
-pub returns-in_err-statement_of-clause-fault : goal.returns-in_err-statement_of-clause-fault
-returns-in_err-statement_of-clause-fault c =
-    let g : List EdgeValue = c.args.graph.now in
+pub statements_of_edges-requires-clause-edges : goal.statements_of_edges-requires-clause-edges
+statements_of_edges-requires-clause-edges c =
+    let old : List EdgeValue = c.edges-old.result.now in
+    let once : MadeOnce old = subst MadeOnce (sym c.edges-old.ensures.edges) c.edges-old.ensures.graph.made_once in
+    subst (All (λ edge. edge < length old)) (sym c.deref-2.ensures.value) (edges_within old c.args.name.now c.as_slice-additions.result.now c.in_ok-edge_of.edge_of.items once c.in_ok-edge_of.ensures.edges)
+
+pub returns-in_err-statement_of : goal.returns-in_err-statement_of
+returns-in_err-statement_of c =
+    let old : List EdgeValue = c.edges-old.result.now in
     let name : List ℕ = c.args.name.now in
     let ss : List StatementValue = c.args.dyndep.now in
-    let canonical : AreCanonical ss c.in_ok-additions.additions.items = subst (λ xs. AreCanonical xs c.in_ok-additions.additions.items) (c.deref.ensures.value ∙ c.dyndep.view_is) c.in_ok-additions.ensures.canonical in
+    let additions : List StatementValue = c.as_slice-additions.result.now in
+    let once : MadeOnce old = subst MadeOnce (sym c.edges-old.ensures.edges) c.edges-old.ensures.graph.made_once in
+    let canonical : AreCanonical ss additions = canonical_are (c.deref.ensures.value ∙ c.dyndep.view_is) c.as_slice-additions.ensures.value c.in_ok-canonical.ensures.canonical in
+    let edge_of : List ℕ = c.in_ok-edge_of.edge_of.items in
     let p = err_from_is_err_and c.from_residual-in_err-statement_of.result c.from_residual-in_err-statement_of.ensures.1 in
-    rw (p.1, p.2) (for_fault (IsFaultOf c.edges-old.result.now name c.deref-2.result.now) (IsEffectFault g name ss)
-    (λ fault h. subst (λ es. IsFaultOf es name c.in_ok-additions.additions.items fault) c.edges-old.ensures.edges (subst (λ xs. IsFaultOf c.edges-old.result.now name xs fault) c.deref-2.ensures.value h) ss canonical) _ c.in_err-statement_of.ensures.fault)
+    let r = reported_of c.args.graph.now old c.edges-old.ensures.edges name ss additions canonical c.edges-old.ensures.graph.made_once c.checks.ensures.exclude (IsFirstRepeated c.deref-2.result.now additions)
+    (λ fault h. reports_repeated old name additions edge_of once c.in_ok-edge_of.ensures.edges fault (subst (λ ps. IsFirstRepeated ps additions fault) c.deref-2.ensures.value h)) _ c.in_err-statement_of.ensures.fault in
+    rw (p.1, p.2) (record { effect = tt; fault = r.0; no_effect = r.1 })
 
-pub returns-in_err-statement_of-clause-no_effect : goal.returns-in_err-statement_of-clause-no_effect
-returns-in_err-statement_of-clause-no_effect c =
-    let g : List EdgeValue = c.args.graph.now in
+pub check_mentioned-requires-clause-outputs : goal.check_mentioned-requires-clause-outputs
+check_mentioned-requires-clause-outputs c = have_outputs c.edges-old.result.now (subst IsGraph (sym c.edges-old.ensures.edges) c.edges-old.ensures.graph)
+
+pub returns-in_err-check_mentioned : goal.returns-in_err-check_mentioned
+returns-in_err-check_mentioned c =
+    let old : List EdgeValue = c.edges-old.result.now in
     let name : List ℕ = c.args.name.now in
     let ss : List StatementValue = c.args.dyndep.now in
-    let canonical : AreCanonical ss c.in_ok-additions.additions.items = subst (λ xs. AreCanonical xs c.in_ok-additions.additions.items) (c.deref.ensures.value ∙ c.dyndep.view_is) c.in_ok-additions.ensures.canonical in
-    let p = err_from_is_err_and c.from_residual-in_err-statement_of.result c.from_residual-in_err-statement_of.ensures.1 in
-    rw (p.1, p.2) (for_fault (IsFaultOf c.edges-old.result.now name c.deref-2.result.now) (λ (_ : EffectFault). HasNoEffect g name ss)
-    (λ fault h. c.checks.ensures.exclude g name ss fault c.edges-old.ensures.graph.made_once
-    (subst (λ es. IsFaultOf es name c.in_ok-additions.additions.items fault) c.edges-old.ensures.edges (subst (λ xs. IsFaultOf c.edges-old.result.now name xs fault) c.deref-2.ensures.value h) ss canonical)) _ c.in_err-statement_of.ensures.fault)
+    let additions : List StatementValue = c.as_slice-additions.result.now in
+    let once : MadeOnce old = subst MadeOnce (sym c.edges-old.ensures.edges) c.edges-old.ensures.graph.made_once in
+    let canonical : AreCanonical ss additions = canonical_are (c.deref.ensures.value ∙ c.dyndep.view_is) c.as_slice-additions.ensures.value c.in_ok-canonical.ensures.canonical in
+    let edge_of : List ℕ = c.in_ok-edge_of.edge_of.items in
+    let statement_of : List (Option ℕ) = c.in_ok-statement_of.statement_of.items in
+    let inverse : AreInverse (length old) edge_of statement_of = subst (λ ps. AreInverse (length old) ps statement_of) c.deref-2.ensures.value c.in_ok-statement_of.ensures.statements in
+    let p = err_from_is_err_and c.from_residual-in_err-check_mentioned.result c.from_residual-in_err-check_mentioned.ensures.1 in
+    let r = reported_of c.args.graph.now old c.edges-old.ensures.edges name ss additions canonical c.edges-old.ensures.graph.made_once c.checks.ensures.exclude (IsFirstUnmentioned old name c.deref-3.result.now)
+    (λ fault h. reports_unmentioned old name additions edge_of once c.in_ok-edge_of.ensures.edges statement_of inverse fault (subst (λ o. IsFirstUnmentioned old name o fault) c.deref-3.ensures.value h)) _ c.in_err-check_mentioned.ensures.fault in
+    rw (p.1, p.2) (record { effect = tt; fault = r.0; no_effect = r.1 })
 
-pub extended_edges-requires-clause-each : goal.extended_edges-requires-clause-each
-extended_edges-requires-clause-each c = ap length c.deref-4.ensures.value ∙ c.in_ok-statement_of.ensures.matched.as_many
+pub returns-in_err-check_added : goal.returns-in_err-check_added
+returns-in_err-check_added c =
+    let old : List EdgeValue = c.edges-old.result.now in
+    let name : List ℕ = c.args.name.now in
+    let ss : List StatementValue = c.args.dyndep.now in
+    let additions : List StatementValue = c.as_slice-additions.result.now in
+    let once : MadeOnce old = subst MadeOnce (sym c.edges-old.ensures.edges) c.edges-old.ensures.graph.made_once in
+    let canonical : AreCanonical ss additions = canonical_are (c.deref.ensures.value ∙ c.dyndep.view_is) c.as_slice-additions.ensures.value c.in_ok-canonical.ensures.canonical in
+    let edge_of : List ℕ = c.in_ok-edge_of.edge_of.items in
+    let statement_of : List (Option ℕ) = c.in_ok-statement_of.statement_of.items in
+    let inverse : AreInverse (length old) edge_of statement_of = subst (λ ps. AreInverse (length old) ps statement_of) c.deref-2.ensures.value c.in_ok-statement_of.ensures.statements in
+    let have : HaveStatements old name statement_of = subst (HaveStatements old name) c.deref-3.ensures.value c.in_ok-check_mentioned.ensures.ok in
+    let matched : AreMatched old name additions statement_of = all_matched old name additions edge_of once c.in_ok-edge_of.ensures.edges statement_of inverse have in
+    let p = err_from_is_err_and c.from_residual-in_err-check_added.result c.from_residual-in_err-check_added.ensures.1 in
+    let r = reported_of c.args.graph.now old c.edges-old.ensures.edges name ss additions canonical c.edges-old.ensures.graph.made_once c.checks.ensures.exclude (AddsMade (maker_in c.in_ok-makers.makers.table) additions)
+    (λ fault h. reports_made old name additions statement_of fault matched (h old c.in_ok-makers.ensures)) _ c.in_err-check_added.ensures.fault in
+    rw (p.1, p.2) (record { effect = tt; fault = r.0; no_effect = r.1 })
 
 pub extended_edges-requires-clause-within : goal.extended_edges-requires-clause-within
 extended_edges-requires-clause-within c = λ i k is.
-    let on = c.in_ok-statement_of.ensures.matched.on i k (subst (λ o. statement_on o i ≡ Some k) c.deref-4.ensures.value is) in
-    subst (λ xs. k < length xs) (c.deref-2.ensures.value ∙ sym c.deref-3.ensures.value) (slice_get_within c.deref-2.result.now k on.0 on.1)
+    let from = c.in_ok-statement_of.ensures.statements.from i k (subst (λ o. statement_on o i ≡ Some k) c.deref-4.ensures.value is) in
+    let within = slice_get_within c.deref-2.result.now k i from in
+    omega (arith, within, c.in_ok-edge_of.ensures.edges.count, ap length c.deref-2.ensures.value)
 
 pub invariant_of-result : goal.invariant_of-result
 invariant_of-result c =
-    let g : List EdgeValue = c.args.graph.now in
+    let old : List EdgeValue = c.edges-old.result.now in
     let name : List ℕ = c.args.name.now in
     let ss : List StatementValue = c.args.dyndep.now in
-    let additions : List StatementValue = c.in_ok-additions.additions.items in
+    let additions : List StatementValue = c.as_slice-additions.result.now in
+    let canonical : AreCanonical ss additions = canonical_are (c.deref.ensures.value ∙ c.dyndep.view_is) c.as_slice-additions.ensures.value c.in_ok-canonical.ensures.canonical in
+    let edge_of : List ℕ = c.in_ok-edge_of.edge_of.items in
     let statement_of : List (Option ℕ) = c.in_ok-statement_of.statement_of.items in
-    let checked : AreChecked g name ss additions statement_of = record {
-      canonical = subst (λ xs. AreCanonical xs additions) (c.deref.ensures.value ∙ c.dyndep.view_is) c.in_ok-additions.ensures.canonical;
-      matched = subst (λ es. AreMatched es name additions statement_of) c.edges-old.ensures.edges (subst (λ xs. AreMatched c.edges-old.result.now name xs statement_of) c.deref-2.ensures.value c.in_ok-statement_of.ensures.matched);
-      fresh = subst (λ es. NoneMadeBefore es additions) c.edges-old.ensures.edges (subst (NoneMadeBefore c.edges-old.result.now) c.deref-2.ensures.value c.in_ok-statement_of.ensures.fresh);
-    } in
-    let new : List EdgeValue = c.in_ok-edges.edges.items in
-    let first : AreExtended g c.deref-3.result.now c.deref-4.result.now new = subst (λ es. AreExtended es c.deref-3.result.now c.deref-4.result.now new) c.edges-old.ensures.edges c.in_ok-edges.ensures in
-    let second : AreExtended g additions c.deref-4.result.now new = subst (λ xs. AreExtended g xs c.deref-4.result.now new) c.deref-3.ensures.value first in
-    let are : AreExtended g additions statement_of new = subst (λ o. AreExtended g additions o new) c.deref-4.ensures.value second in
-    is_graph g name ss additions statement_of new checked are c.edges-old.ensures.graph c.checks.ensures.suffice
+    let inverse : AreInverse (length old) edge_of statement_of = subst (λ ps. AreInverse (length old) ps statement_of) c.deref-2.ensures.value c.in_ok-statement_of.ensures.statements in
+    let have : HaveStatements old name statement_of = subst (HaveStatements old name) c.deref-3.ensures.value c.in_ok-check_mentioned.ensures.ok in
+    (passed old name ss additions edge_of statement_of c.in_ok-edges.edges.items (subst IsGraph (sym c.edges-old.ensures.edges) c.edges-old.ensures.graph) c.checks.ensures.suffice canonical c.in_ok-edge_of.ensures.edges inverse have
+    (c.in_ok-check_added.ensures.ok old c.in_ok-makers.ensures) (subst (λ o. AreExtended old additions o c.in_ok-edges.edges.items) c.deref-4.ensures.value c.in_ok-edges.ensures)).0
 
 pub returns-clause-effect : goal.returns-clause-effect
 returns-clause-effect c =
-    let g : List EdgeValue = c.args.graph.now in
+    let old : List EdgeValue = c.edges-old.result.now in
     let name : List ℕ = c.args.name.now in
     let ss : List StatementValue = c.args.dyndep.now in
-    let additions : List StatementValue = c.in_ok-additions.additions.items in
+    let additions : List StatementValue = c.as_slice-additions.result.now in
+    let canonical : AreCanonical ss additions = canonical_are (c.deref.ensures.value ∙ c.dyndep.view_is) c.as_slice-additions.ensures.value c.in_ok-canonical.ensures.canonical in
+    let edge_of : List ℕ = c.in_ok-edge_of.edge_of.items in
     let statement_of : List (Option ℕ) = c.in_ok-statement_of.statement_of.items in
-    let checked : AreChecked g name ss additions statement_of = record {
-      canonical = subst (λ xs. AreCanonical xs additions) (c.deref.ensures.value ∙ c.dyndep.view_is) c.in_ok-additions.ensures.canonical;
-      matched = subst (λ es. AreMatched es name additions statement_of) c.edges-old.ensures.edges (subst (λ xs. AreMatched c.edges-old.result.now name xs statement_of) c.deref-2.ensures.value c.in_ok-statement_of.ensures.matched);
-      fresh = subst (λ es. NoneMadeBefore es additions) c.edges-old.ensures.edges (subst (NoneMadeBefore c.edges-old.result.now) c.deref-2.ensures.value c.in_ok-statement_of.ensures.fresh);
-    } in
-    let new : List EdgeValue = c.in_ok-edges.edges.items in
-    let first : AreExtended g c.deref-3.result.now c.deref-4.result.now new = subst (λ es. AreExtended es c.deref-3.result.now c.deref-4.result.now new) c.edges-old.ensures.edges c.in_ok-edges.ensures in
-    let second : AreExtended g additions c.deref-4.result.now new = subst (λ xs. AreExtended g xs c.deref-4.result.now new) c.deref-3.ensures.value first in
-    let are : AreExtended g additions statement_of new = subst (λ o. AreExtended g additions o new) c.deref-4.ensures.value second in
-    (is_effect g name ss additions statement_of new checked are c.edges-old.ensures.graph c.checks.ensures.suffice).1
+    let inverse : AreInverse (length old) edge_of statement_of = subst (λ ps. AreInverse (length old) ps statement_of) c.deref-2.ensures.value c.in_ok-statement_of.ensures.statements in
+    let have : HaveStatements old name statement_of = subst (HaveStatements old name) c.deref-3.ensures.value c.in_ok-check_mentioned.ensures.ok in
+    subst (λ es. OnlyEffect es name ss c.in_ok-edges.edges.items) c.edges-old.ensures.edges
+    (passed old name ss additions edge_of statement_of c.in_ok-edges.edges.items (subst IsGraph (sym c.edges-old.ensures.edges) c.edges-old.ensures.graph) c.checks.ensures.suffice canonical c.in_ok-edge_of.ensures.edges inverse have
+    (c.in_ok-check_added.ensures.ok old c.in_ok-makers.ensures) (subst (λ o. AreExtended old additions o c.in_ok-edges.edges.items) c.deref-4.ensures.value c.in_ok-edges.ensures)).1

@@ -6,8 +6,7 @@ use Rattle.build_effect.specs.EdgeValue.{EdgeValue}
 use Rattle.build_effect.specs.Faults.{made_files}
 use Rattle.ninja_text.specs.Firsts.{AllDiffer, RepeatsFirst}
 use Rattle.ninja_text.proofs.ForCallers.{to_map}
-use Rattle.build_effect.proofs.MadeFiles.{made_once, first_of_repetition}
-use Rattle.build_effect.proofs.Repetitions.{repeats_if_there, keys_if_new, differ_if_new}
+use Rattle.build_effect.proofs.Lists.{made_once, first_of_repetition, repeats_if_there, keys_if_new, differ_if_new}
 use Rattle.build_effect.proofs.MakerTables.{text_of}
 use Rattle.build_effect.proofs.graph.check_made.Goals as goal
 

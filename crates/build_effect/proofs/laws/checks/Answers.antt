@@ -1,4 +1,4 @@
-use Rattle.build_effect.proofs.Exclusion as lemmas
+use Rattle.build_effect.proofs.Effects as lemmas
 use Rattle.build_effect.proofs.laws.checks.Goals as goal
 
 pub returns-clause-suffice : goal.returns-clause-suffice

@@ -12,7 +12,7 @@ use Rattle.dep_order.specs.Sortings.{IsSortingOf}
 use Rattle.build_effect.specs.EdgeValue.{EdgeValue}
 use Rattle.build_effect.specs.Graphs.{EdgeNeeds}
 use Rattle.build_effect.specs.inner.Makers.{maker_in, makers_row, AreMakers}
-use Rattle.build_effect.proofs.EdgeSorting.{mapped_next, sorting_of, are_nodes}
+use Rattle.build_effect.proofs.MakerTables.{mapped_next, sorting_of, are_nodes}
 use Rattle.build_effect.proofs.needs.edge_order.Goals as goal
 
 pub loop-edge-preserved : goal.loop-edge-preserved

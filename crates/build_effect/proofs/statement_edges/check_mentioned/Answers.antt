@@ -3,7 +3,7 @@ use Rattle.std.specs.Prelude.{not}
 use Rattle.std.specs.Option.{is_some}
 use Rattle.std.proofs.lemmas.Option.{slice_get_read, slice_get_within}
 use Rattle.build_effect.specs.EdgeValue.{EdgeValue}
-use Rattle.build_effect.proofs.Bindings.{more_have}
+use Rattle.build_effect.proofs.StatementChecks.{more_have}
 use Rattle.build_effect.proofs.statement_edges.check_mentioned.Goals as goal
 use Rattle.build_effect.proofs.statement_edges.check_mentioned.Goals.{else-is_none-via-then-is_none+else-names, else-is_none-via-else-is_none}
 

@@ -4,7 +4,7 @@ use Rattle.std.proofs.lemmas.List.{get_or_read, take_all}
 use Rattle.dyndep_file.specs.StatementValue.{StatementValue}
 use Rattle.build_effect.specs.inner.StatementEdges.{statement_on, AreInverse}
 use Rattle.build_effect.specs.declared.fault.EffectFault.TheVariants.{StatementTwice}
-use Rattle.build_effect.proofs.Bindings.{more_inverse, still_differ, repeated_on, is_there}
+use Rattle.build_effect.proofs.StatementChecks.{more_inverse, still_differ, repeated_on, is_there}
 use Rattle.build_effect.proofs.statement_edges.statements_of_edges.Goals as goal
 
 pub returns-then-is_some-clause-fault : goal.returns-then-is_some-clause-fault

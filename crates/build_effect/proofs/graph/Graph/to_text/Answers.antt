@@ -1,11 +1,13 @@
 use Rattle.std.proofs.Common.{refl, ◌≡◌, ◌∙◌, ◌+◌, ◌<◌, ◌≤◌, ◌++◌, List, ℕ, length, Ok, Err, ap, sym, subst, arith, length-append}
 use Rattle.std.proofs.lemmas.List.{append-nil, at_drop_all}
+use Rattle.ninja_text.specs.Escapes.{escaped}
 use Rattle.ninja_text.specs.Lines.{line_limit}
 use Rattle.build_effect.specs.EdgeValue.{EdgeValue}
 use Rattle.build_effect.specs.ListingWriting.{edge_line, dyndep_line, restat_line, listing_text, too_long_from, listing_text_unless, listing_text_or_fault}
 use Rattle.build_effect.specs.declared.fault.ListingWriteFault.TheVariants.{ListingTooLong}
-use Rattle.build_effect.proofs.ListingWrites.{text_goes_on, too_long_here, none_so_far}
+use Rattle.build_effect.proofs.ListingWrites.{dyndep_added, text_goes_on, too_long_here, none_so_far}
 use Rattle.build_effect.proofs.graph.Graph.to_text.Goals as goal
+use Rattle.build_effect.proofs.graph.Graph.to_text.Goals.{in-Some+in_ok-extend_from_slice+in_ok-escape_into+in_ok-extend_from_slice-2, in_default, then-edge+in_ok-extend_from_slice-3, else-edge}
 
 pub loop-edge_index-init : goal.loop-edge_index-init
 loop-edge_index-init c = record { text = ap (λ t. t ++ listing_text c.edges-edge-items.result.now) c.new-text.ensures.items; none = refl }
@@ -29,12 +31,23 @@ loop-edge_index-preserved c =
     let before : List ℕ = c.loop-edge_index.text.items in
     let lengths : length c.push_line.new.text.items ≡ length before + length (edge_line e) = ap length c.in_ok-push_line.ensures ∙ length-append before (edge_line e) in
     let short : length (edge_line e) ≤ line_limit = omega (arith, lengths, c.len.ensures, c.len-start.ensures, c.if-len-start-gt-LINE_LIMIT.false) in
-    let bindings : c.push_restat.new.text.items ≡ ((before ++ edge_line e) ++ dyndep_line c.edge.inside.dyndep) ++ restat_line c.edge.inside.restat =
-    c.in_ok-push_restat.ensures ∙ ap (λ t. t ++ restat_line c.edge.inside.restat) (c.in_ok-push_dyndep.ensures ∙ ap (λ t. t ++ dyndep_line c.edge.inside.dyndep) c.in_ok-push_line.ensures) in
-    let added : c.push_restat.new.text.items ≡ ((before ++ edge_line e) ++ dyndep_line e.dyndep) ++ restat_line e.restat =
-    bindings ∙ ap (λ (v : EdgeValue). ((before ++ edge_line e) ++ dyndep_line v.dyndep) ++ restat_line v.restat) c.edge.view_is in
+    let line = c.push_line.new.text.items in
+    let dyndep : c.match-edge.text.items ≡ line ++ dyndep_line c.edge.inside.dyndep =
+    elim c.match-edge.branch [
+      | in-Some+in_ok-extend_from_slice+in_ok-escape_into+in_ok-extend_from_slice-2 w ↦
+          rw (w.text-is, w.in-Some.is) (dyndep_added line _ _ _ w.in-Some.path w.in_ok-extend_from_slice.ensures.items (w.in_ok-escape_into.ensures.ok ∙ ap (λ p. w.extend_from_slice.new.self.items ++ escaped p) w.bytes.ensures.text)
+          w.in_ok-extend_from_slice-2.ensures.items)
+      | in_default w ↦ rw (w.text-is, w.in_default.is) (sym (append-nil line))
+    ] in
+    let restat : c.if-edge.text.items ≡ c.match-edge.text.items ++ restat_line c.edge.inside.restat =
+    elim c.if-edge.branch [
+      | then-edge+in_ok-extend_from_slice-3 w ↦ rw (w.text-is, w.if-edge.true) w.in_ok-extend_from_slice-3.ensures.items
+      | else-edge w ↦ rw (w.text-is, w.if-edge.false) (sym (append-nil c.match-edge.text.items))
+    ] in
+    let added : c.if-edge.text.items ≡ ((before ++ edge_line e) ++ dyndep_line e.dyndep) ++ restat_line e.restat =
+    restat ∙ ap (λ t. t ++ restat_line c.edge.inside.restat) (dyndep ∙ ap (λ t. t ++ dyndep_line c.edge.inside.dyndep) c.in_ok-push_line.ensures) ∙ ap (λ (v : EdgeValue). ((before ++ edge_line e) ++ dyndep_line v.dyndep) ++ restat_line v.restat) c.edge.view_is in
     record {
-      text = text_goes_on edges i e before c.push_restat.new.text.items c.loop-edge_index-test.true c.edge-item.is added c.loop-edge_index.invariant.text;
+      text = text_goes_on edges i e before c.if-edge.text.items c.loop-edge_index-test.true c.edge-item.is added c.loop-edge_index.invariant.text;
       none = none_so_far edges i e c.loop-edge_index-test.true c.edge-item.is c.loop-edge_index.invariant.none short;
     }
 

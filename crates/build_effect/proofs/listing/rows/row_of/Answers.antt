@@ -4,6 +4,7 @@ use Rattle.ninja_text.specs.Assignments.{SeenAssignment}
 use Rattle.ninja_text.specs.LineViews.{seen_line}
 use Rattle.ninja_text.specs.TokenViews.{seen_token, tokens_left}
 use Rattle.dyndep_file.specs.Classes.{begins_with_space}
+use Rattle.dyndep_file.proofs.LineLemmas.{starts_with_space}
 use Rattle.build_effect.specs.inner.ListingWalk.{binding_row, build_row}
 use Rattle.build_effect.specs.inner.ListingRows.{row_value}
 use Rattle.build_effect.proofs.ListingLineLemmas.{comment_row, faulty_row, blank_row, indented, unindented}
@@ -12,7 +13,7 @@ use Rattle.build_effect.proofs.listing.rows.row_of.Goals as goal
 pub returns-in-Ok-assignment : goal.returns-in-Ok-assignment
 returns-in-Ok-assignment c =
     let line = seen_line c.args.line in
-    let space : begins_with_space line.text ≡ true = ap begins_with_space (sym c.text.ensures) ∙ sym c.begins_with_space.ensures ∙ c.if-begins_with_space.true in
+    let space : begins_with_space line.text ≡ true = ap begins_with_space (sym c.text.ensures) ∙ sym (starts_with_space c.text.result.now) ∙ sym c.starts_with.ensures.value ∙ c.if-starts_with.true in
     subst (Gives row_value c.binding_row.result)
     (sym (indented line.text line.comment (sym c.is_comment.ensures ∙ c.if-is_comment.false) c.in-Ok.ensures.tokens.0 (seen_token c.in-Some.first) (tokens_left c.next.new.self)
     (sym c.in-Some.ensures.steps ∙ c.in-Ok.ensures.tokens.1) space))
@@ -21,14 +22,14 @@ returns-in-Ok-assignment c =
 pub returns-then-not-begins_build_line : goal.returns-then-not-begins_build_line
 returns-then-not-begins_build_line c =
     let line = seen_line c.args.line in
-    let space : begins_with_space line.text ≡ false = ap begins_with_space (sym c.text.ensures) ∙ sym c.begins_with_space.ensures ∙ c.if-begins_with_space.false in
+    let space : begins_with_space line.text ≡ false = ap begins_with_space (sym c.text.ensures) ∙ sym (starts_with_space c.text.result.now) ∙ sym c.starts_with.ensures.value ∙ c.if-starts_with.false in
     unindented line.text line.comment (sym c.is_comment.ensures ∙ c.if-is_comment.false) c.in-Ok.ensures.tokens.0 (seen_token c.in-Some.first) (tokens_left c.next.new.self)
     (sym c.in-Some.ensures.steps ∙ c.in-Ok.ensures.tokens.1) false space (sym c.if-not-begins_build_line.true ∙ c.begins_build_line.ensures)
 
 pub returns-in-Some-2 : goal.returns-in-Some-2
 returns-in-Some-2 c =
     let line = seen_line c.args.line in
-    let space : begins_with_space line.text ≡ false = ap begins_with_space (sym c.text.ensures) ∙ sym c.begins_with_space.ensures ∙ c.if-begins_with_space.false in
+    let space : begins_with_space line.text ≡ false = ap begins_with_space (sym c.text.ensures) ∙ sym (starts_with_space c.text.result.now) ∙ sym c.starts_with.ensures.value ∙ c.if-starts_with.false in
     unindented line.text line.comment (sym c.is_comment.ensures ∙ c.if-is_comment.false) c.in-Ok.ensures.tokens.0 (seen_token c.in-Some.first) (tokens_left c.next.new.self)
     (sym c.in-Some.ensures.steps ∙ c.in-Ok.ensures.tokens.1) true space (sym c.if-not-begins_build_line.false ∙ c.begins_build_line.ensures)
     ∙ ap build_row (sym c.in_ok-texts.ensures ∙ c.in-Some-2.is)
@@ -36,7 +37,7 @@ returns-in-Some-2 c =
 pub returns-in-None : goal.returns-in-None
 returns-in-None c =
     let line = seen_line c.args.line in
-    let space : begins_with_space line.text ≡ false = ap begins_with_space (sym c.text.ensures) ∙ sym c.begins_with_space.ensures ∙ c.if-begins_with_space.false in
+    let space : begins_with_space line.text ≡ false = ap begins_with_space (sym c.text.ensures) ∙ sym (starts_with_space c.text.result.now) ∙ sym c.starts_with.ensures.value ∙ c.if-starts_with.false in
     unindented line.text line.comment (sym c.is_comment.ensures ∙ c.if-is_comment.false) c.in-Ok.ensures.tokens.0 (seen_token c.in-Some.first) (tokens_left c.next.new.self)
     (sym c.in-Some.ensures.steps ∙ c.in-Ok.ensures.tokens.1) true space (sym c.if-not-begins_build_line.false ∙ c.begins_build_line.ensures)
     ∙ ap build_row (sym c.in_ok-texts.ensures ∙ c.in-None.is)

@@ -2,7 +2,7 @@ use Rattle.std.proofs.Common.{◌≡◌, ◌∙◌, sym, ap, subst, refl, false,
 use Rattle.ninja_text.specs.Paths.{path_of}
 use Rattle.build_effect.specs.inner.ListingWalk.{with_last_dyndep}
 use Rattle.build_effect.specs.declared.listing.state.Binding.TheVariants.{Open}
-use Rattle.build_effect.proofs.ListingEdges.{HaveOutputs, outputs_kept, dyndep_passes}
+use Rattle.build_effect.proofs.ListingLaws.{HaveOutputs, outputs_kept, dyndep_passes}
 use Rattle.build_effect.proofs.listing.state.dyndep_row.Goals as goal
 
 pub invariant_of-state : goal.invariant_of-state

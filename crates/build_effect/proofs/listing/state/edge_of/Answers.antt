@@ -3,7 +3,7 @@ use Rattle.dep_order.specs.Rows.{rows}
 use Rattle.build_effect.specs.ListingLines.{EdgeTexts}
 use Rattle.build_effect.specs.inner.ListingWalk.{paths_of}
 use Rattle.build_effect.specs.ListingGrammar.{bound}
-use Rattle.build_effect.proofs.ListingEdges.{edge_answer, paths_somehow}
+use Rattle.build_effect.proofs.ListingLaws.{edge_answer, paths_somehow}
 use Rattle.build_effect.proofs.listing.state.edge_of.Goals as goal
 
 pub returns-clause-edge : goal.returns-clause-edge

@@ -3,7 +3,7 @@ use Rattle.std.proofs.lemmas.List.{at_drop_all}
 use Rattle.dep_order.specs.Rows.{rows}
 use Rattle.ninja_text.specs.Paths.{path_of}
 use Rattle.build_effect.specs.inner.ListingWalk.{paths_of}
-use Rattle.build_effect.proofs.ListingEdges.{behind, behind_nothing, nothing_behind, paths_go_on}
+use Rattle.build_effect.proofs.ListingLaws.{behind, behind_nothing, nothing_behind, paths_go_on}
 use Rattle.build_effect.proofs.listing.state.paths_of.Goals as goal
 
 pub loop-text-init : goal.loop-text-init

@@ -1,7 +1,7 @@
 use Rattle.std.proofs.Common.{◌≡◌, drop}
 use Rattle.dep_order.specs.Rows.{rows}
 use Rattle.build_effect.specs.inner.ListingWalk.{paths_of}
-use Rattle.build_effect.proofs.ListingEdges.{behind}
+use Rattle.build_effect.proofs.ListingLaws.{behind}
 use Rattle.build_effect.proofs.listing.state.paths_of.Given as goal
 
 -- the paths so far come before those of the strings to come

@@ -1,7 +1,7 @@
 use Rattle.std.proofs.Common.{◌≡◌, ◌∙◌, sym, ap, subst, refl, false}
 use Rattle.build_effect.specs.inner.ListingWalk.{with_last_restat}
 use Rattle.build_effect.specs.declared.listing.state.Binding.TheVariants.{Open}
-use Rattle.build_effect.proofs.ListingEdges.{HaveOutputs, outputs_kept, restat_passes}
+use Rattle.build_effect.proofs.ListingLaws.{HaveOutputs, outputs_kept, restat_passes}
 use Rattle.build_effect.proofs.listing.state.restat_row.Goals as goal
 
 pub invariant_of-state : goal.invariant_of-state

@@ -2,7 +2,7 @@ use Rattle.std.proofs.Common.{◌≡◌, ◌<◌, ◌-◌, refl, sym, subst, sli
 use Rattle.std.specs.Vec.{vec_len}
 use Rattle.build_effect.specs.EdgeValue.{EdgeValue}
 use Rattle.build_effect.specs.contracts.edge.Edge.{the_view}
-use Rattle.build_effect.proofs.ListingEdges.{last_set}
+use Rattle.build_effect.proofs.ListingLaws.{last_set}
 use Rattle.build_effect.proofs.listing.state.set_last_dyndep.Goals as goal
 
 pub returns-in-Some : goal.returns-in-Some

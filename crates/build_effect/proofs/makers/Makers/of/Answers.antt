@@ -1,12 +1,11 @@
-use Rattle.std.proofs.Common.{◌≡◌, ◌∙◌, map, ap, refl, subst}
+use Rattle.std.proofs.Common.{◌∙◌, ap, refl, subst}
 use Rattle.std.proofs.lemmas.List.{take_all}
 use Rattle.std.proofs.lemmas.Option.{slice_get_read}
 use Rattle.std.proofs.lemmas.Iterator.{YieldsList-from_slice}
 use Rattle.std.proofs.lemmas.Iterator.Consumers.{YieldsList-at, YieldsList-from_chain, YieldsList-end}
 use Rattle.build_effect.specs.EdgeValue.{EdgeValue}
-use Rattle.build_effect.specs.Graphs.{made_by}
 use Rattle.build_effect.specs.inner.Makers.{maker_in, AreMakers, AreAdded}
-use Rattle.build_effect.proofs.MakerTables.{text_of, none_added, added_next, makers_next}
+use Rattle.build_effect.proofs.MakerTables.{none_added, added_next, makers_next}
 use Rattle.build_effect.proofs.makers.Makers.of.Goals as goal
 
 pub loop-file-init : goal.loop-file-init

@@ -2,7 +2,7 @@ use Rattle.std.proofs.Common.{◌≡◌, ◌∙◌, ◌++◌, List, ℕ, Err, re
 use Rattle.ninja_text.specs.FormatReading.{Reads}
 use Rattle.build_effect.specs.ListingReaders.{HasReadListing, FeedsListing, IsListingFaultIn, line_failure}
 use Rattle.build_effect.specs.declared.fault.ListFault.TheVariants.{AtLine}
-use Rattle.build_effect.proofs.ListingLemmas.{fed, fails, turned_to}
+use Rattle.build_effect.proofs.ListingLaws.{fed, fails, turned_to}
 use Rattle.build_effect.proofs.listing.reader.ListingReader.feed.Goals as goal
 use Rattle.build_effect.proofs.listing.reader.ListingReader.feed.Goals.{in-Ok, in-Err}
 

@@ -2,7 +2,7 @@ use Rattle.std.proofs.Common.{◌≡◌, ◌∙◌, ap, sym, subst, refl, Err}
 use Rattle.build_effect.specs.declared.fault.ListFault.TheVariants.{AtLine, NoGraph}
 use Rattle.build_effect.specs.ListingReading.{Lists}
 use Rattle.build_effect.specs.ListingReaders.{HasReadListing, EndsListing, line_failure}
-use Rattle.build_effect.proofs.ListingLemmas.{listed, ended, graph_failure, no_graph, turned_to}
+use Rattle.build_effect.proofs.ListingLaws.{listed, ended, graph_failure, no_graph, turned_to}
 use Rattle.build_effect.proofs.listing.reader.ListingReader.finish.Goals as goal
 
 pub returns-in-Ok-new-clause-all : goal.returns-in-Ok-new-clause-all
