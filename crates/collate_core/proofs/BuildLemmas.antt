@@ -1,7 +1,6 @@
 -- No race and no false wait, from what the edges of objects gain.
 use Rattle.ninja_text.proofs.ForCallers.{element_at, same_some, from_map, to_map, in_append, in_first, in_second}
-use Rattle.std.proofs.Common.{◌≡◌, ◌⊎◌, ℕ, ◌+◌, ◌<◌, List, ◌++◌, length, Some, subst, sym, ◌∙◌, inl, inr, arith, slice_get, Contains}
-use Rattle.std.specs.Prelude.{slice_index}
+use Rattle.std.proofs.Common.{◌≡◌, ◌⊎◌, ℕ, ◌+◌, ◌<◌, List, ◌++◌, length, Some, subst, sym, ◌∙◌, inl, inr, arith, slice_get, Contains, slice_index}
 use Rattle.std.proofs.lemmas.Option.{slice_get_within, get_or_from_slice_get}
 use Rattle.dep_order.specs.Orders.{IsLeastOrder}
 use Rattle.scan_docs.specs.Scan.{RuleValue}
@@ -13,7 +12,7 @@ use Rattle.module_table.specs.Added.{required_of, RequiredFiles, AllRequired, On
 use Rattle.collate_core.specs.Statements.{module_files}
 use Rattle.collate_core.specs.Headline.{Modules, with_modules}
 use Rattle.collate_core.specs.Builds.{IsMaker, IsReader, RequiresFile, ProvidesFile, IsRunOrder, HasNoRace, HasReason, required, listed, HasNoFalseWait}
-use Rattle.collate_core.proofs.LinkedLemmas.{index_of}
+use Rattle.collate_core.proofs.Linked.{index_of}
 
 -- ---- one edge and what its object adds
 

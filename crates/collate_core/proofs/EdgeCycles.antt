@@ -14,7 +14,7 @@ use Rattle.module_table.specs.TableValue.{TableValue}
 use Rattle.module_table.specs.Added.{required_of, RequiredFiles, AllRequired, OneFile}
 use Rattle.collate_core.specs.Headline.{with_modules}
 use Rattle.collate_core.specs.Builds.{IsMaker, HasReason, HasNoFalseWait, HasSameChains, without_order_only, rebuild_graph, HasNoFalseRebuild, HasNoFalseCycle}
-use Rattle.collate_core.proofs.LinkedLemmas.{index_of, contained}
+use Rattle.collate_core.proofs.Linked.{index_of, contained}
 use Rattle.collate_core.proofs.BuildLemmas.{IsOfObject, Gained, no_false_wait}
 
 -- ---- what can be decided

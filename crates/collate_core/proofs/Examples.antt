@@ -9,7 +9,7 @@ use Rattle.module_table.specs.TableValue.{TableValue}
 use Rattle.module_table.specs.Modules.{Provides, Requires}
 use Rattle.module_table.specs.declared.fault.Maker.TheVariants.{Object}
 use Rattle.collate_core.specs.Builds.{IsMaker, IsReader, IsEdgeOf, RequiresFile, ProvidesFile, ComesAfter, IsRunOrder, HasNoRace, HasReason, required, listed, HasNoFalseWait, HasNoFalseCycle}
-use Rattle.collate_core.proofs.LinkedLemmas.{index_of, contained}
+use Rattle.collate_core.proofs.Linked.{index_of, contained}
 
 -- `a.o` provides `A` and requires `B`, which `b.o` provides
 abbrev two_objects : TableValue

@@ -1,10 +1,20 @@
--- Lemmas on lists.
-use Rattle.std.proofs.Common.{◌≡◌, ℕ, zero, suc, ◌<◌, ◌≤◌, List, [], ◌∷◌, ◌++◌, map, take, Some, refl, ap, ap₂, subst, ◌∙◌, arith, append-nil}
-use Rattle.std.specs.Prelude.{slice_get, All}
-use Rattle.std.specs.List.{flat_map, AllZip, AllByRecursion}
+-- Lemmas on lists: of any elements, of numbers, of what info files are read as, and of the names of private modules.
+use Rattle.std.proofs.Common.{◌≡◌, ℕ, zero, suc, ◌<◌, ◌≤◌, List, [], ◌∷◌, ◌++◌, map, take, Some, refl, ap, ap₂, subst, ◌∙◌, arith, append-nil, slice_get, All, flat_map, ◌+◌, ◌*◌, ◌⊎◌, inl, inr, length, Option, None, IfSome, sym, length-append, ◌||◌, Bool, true, false, cond, bytes_eq}
+use Rattle.std.specs.List.{AllByRecursion, list_any}
 use Rattle.std.proofs.lemmas.List.Elements.{All-get_or, All-nil, All-cons, All-head, All-tail, All-append}
 use Rattle.std.proofs.lemmas.Grind.{flat_map-append}
 use Rattle.std.proofs.lemmas.Option.{slice_get_within, get_or_from_slice_get}
+use Rattle.ninja_text.proofs.ForCallers.{same_some, from_push, take_next}
+use Rattle.std.proofs.Math.Nat.{mul-le-mul_right}
+use Rattle.scan_docs.specs.Info.{InfoValue, ModuleValue}
+use Rattle.collate_core.specs.Values.{CollatedValue}
+use Rattle.module_table.specs.Parts.{IsAdded}
+use Rattle.collate_core.specs.inner.ReadInfos.{IsReadAs, AreKnown}
+use Rattle.std.proofs.lemmas.Slice.Eq.{bytes_eq-Decides}
+use Rattle.indexmap.specs.IndexSet.{insert_key}
+use Rattle.collate_core.specs.Infos.{is_private_name, module_of}
+
+-- ---- lists of any elements
 
 -- what holds of each element holds of one of them
 pub all_at : {X : Type 0} (P : X → Type 0) (xs : List X) (k : ℕ) (x : X) → All P xs → slice_get xs k ≡ Some x → P x
@@ -12,13 +22,6 @@ all_at P xs k x all here = subst P (get_or_from_slice_get xs k x x here) (All-ge
 
 pub flat_map_last : {A B : Type 0} (f : A → List B) (xs : List A) (x : A) → flat_map f (xs ++ x ∷ []) ≡ flat_map f xs ++ f x
 flat_map_last f xs x = flat_map-append f xs (x ∷ []) ∙ ap (λ ys. flat_map f xs ++ ys) (append-nil (f x))
-
--- lists whose elements are in a relation that is a function
-pub zip_map : {A B : Type 0} (R : A → B → Type 0) (f : A → B) → ((a : A) (b : B) → R a b → b ≡ f a) → (xs : List A) (ys : List B) → AllZip R xs ys → ys ≡ map f xs
-zip_map R f same [] [] h = refl
-zip_map R f same [] (y ∷ ys) h = absurd h
-zip_map R f same (x ∷ xs) [] h = absurd h
-zip_map R f same (x ∷ xs) (y ∷ ys) h = ap₂ (λ a b. a ∷ b) (same x y h.0) (zip_map R f same xs ys h.1)
 
 -- what holds of two lists in a row holds of either
 pub all_front : {X : Type 0} (P : X → Type 0) (xs ys : List X) → All P (xs ++ ys) → All P xs
@@ -57,3 +60,79 @@ take_less zero j xs le = refl
 take_less (suc i) zero xs le = absurd (omega arith)
 take_less (suc i) (suc j) [] le = refl
 take_less (suc i) (suc j) (x ∷ xs) le = ap (λ ys. x ∷ ys) (take_less i j xs (omega arith))
+
+-- ---- numbers of two levels
+
+below_of : (y : ℕ) (xs : List ℕ) (n : ℕ) → ((k x : ℕ) → slice_get xs k ≡ Some x → x < n) → (k x : ℕ) → slice_get (y ∷ xs) k ≡ Some x → x < suc y + n
+below_of y xs n rest zero x e = let same : y ≡ x = same_some _ _ e in omega arith
+below_of y xs n rest (suc k) x e = let less : x < n = rest k x e in omega arith
+
+-- a number above all of a list
+pub above : (xs : List ℕ) → (n : ℕ) × ((k x : ℕ) → slice_get xs k ≡ Some x → x < n)
+above [] = (0, λ k x e. cc)
+above (y ∷ xs) = let rest = above xs in (suc y + rest.0, below_of y xs rest.0 rest.1)
+
+-- a first number that falls, or stays while a second falls, is one number that falls
+pub two_levels : (bound r s p q : ℕ) → q < bound → (r < p) ⊎ ((r ≡ p) × (s < q)) → s < bound → r * bound + s < p * bound + q
+two_levels bound r s p q lq (inl less) ls = let step : (r + 1) * bound ≤ p * bound = mul-le-mul_right bound (omega arith) in omega (arith, step)
+two_levels bound r s p q lq (inr same) ls = let first : r * bound ≡ p * bound = ap (λ x. x * bound) same.0 in omega (arith, first, same.1)
+
+-- ---- what the info files of a project's targets are read as: one more target
+
+module _ (outs : List CollatedValue) (known : List (Option InfoValue)) (are : AreKnown outs known) (out : CollatedValue) (entry : Option InfoValue) (read : IfSome entry (IsReadAs out.info)) where
+  -- the target is an earlier one, and so is what is known, or both are the last
+  each_more : (k : ℕ) (o : CollatedValue) (info : InfoValue) → (slice_get outs k ≡ Some o) ⊎ ((k ≡ length outs) × (out ≡ o)) → (slice_get known k ≡ Some (Some info)) ⊎ ((k ≡ length known) × (entry ≡ Some info)) → IsReadAs o.info info
+  each_more k o info (inl at) (inl also) = are.each k o info at also
+  each_more k o info (inl at) (inr also) = absurd (let within : k < length outs = slice_get_within _ _ _ at in omega (arith, also.0, are.count))
+  each_more k o info (inr at) (inl also) = absurd (let within : k < length known = slice_get_within _ _ _ also in omega (arith, at.0, are.count))
+  each_more k o info (inr at) (inr also) = subst (λ (x : CollatedValue). IsReadAs x.info info) at.1 (subst (λ (e : Option InfoValue). IfSome e (IsReadAs out.info)) also.1 read)
+
+  known_push : AreKnown (outs ++ out ∷ []) (known ++ entry ∷ [])
+  known_push = record {
+    count = omega (arith, length-append outs (out ∷ []), length-append known (entry ∷ []), are.count);
+    each = λ k o info at also. each_more k o info (from_push outs out k o at) (from_push known entry k (Some info) also);
+  }
+
+-- so it is when the pool has the info, or nothing in its place
+pub known_added : (outs : List CollatedValue) (known : List (Option InfoValue)) → AreKnown outs known → (out : CollatedValue) (info : Option InfoValue) → IfSome info (IsReadAs out.info) → (new : List (Option InfoValue)) → IsAdded known info new → AreKnown (outs ++ out ∷ []) new
+known_added outs known are out info read new (inl same) = subst (AreKnown (outs ++ out ∷ [])) (sym same) (known_push outs known are out info read)
+known_added outs known are out info read new (inr same) = subst (AreKnown (outs ++ out ∷ [])) (sym same) (known_push outs known are out None tt)
+
+-- ---- the names of private modules, as a set
+
+or_assoc : (a b c : Bool) → ((a || b) || c) ≡ (a || (b || c))
+or_assoc true b c = refl
+or_assoc false b c = refl
+
+or_false : (a : Bool) → (a || false) ≡ a
+or_false true = refl
+or_false false = refl
+
+-- one more name
+any_last : (test : List ℕ → Bool) (names : List (List ℕ)) (last : List ℕ) → list_any test (names ++ last ∷ []) ≡ (list_any test names || test last)
+any_last test [] last = or_false (test last)
+any_last test (x ∷ xs) last = ap (λ t. test x || t) (any_last test xs last) ∙ sym (or_assoc (test x) (list_any test xs) (test last))
+
+absorbed : (a b : Bool) → (b ≡ true → a ≡ true) → a ≡ (a || b)
+absorbed true b from = refl
+absorbed false true from = from refl
+absorbed false false from = refl
+
+-- a name that is inserted is one of the set, and no other comes or goes
+inserted : (keys : List (List ℕ)) (key name : List ℕ) → is_private_name (insert_key bytes_eq keys key) name ≡ (is_private_name keys name || bytes_eq name key)
+inserted keys key name = by (list_any (bytes_eq key) keys) refl
+  where
+    by : (t : Bool) → list_any (bytes_eq key) keys ≡ t → is_private_name (cond t keys (keys ++ key ∷ [])) name ≡ (is_private_name keys name || bytes_eq name key)
+    by true there = absorbed (is_private_name keys name) (bytes_eq name key) (λ same. ap (λ n. list_any (bytes_eq n) keys) ((bytes_eq-Decides name key).0 same) ∙ there)
+    by false absent = any_last (bytes_eq name) keys key
+
+pub one_more_name : (names keys : List (List ℕ)) (k : ℕ) (key : List ℕ) → slice_get names k ≡ Some key → ((name : List ℕ) → is_private_name keys name ≡ is_private_name (take k names) name)
+    → (name : List ℕ) → is_private_name (insert_key bytes_eq keys key) name ≡ is_private_name (take (k + 1) names) name
+one_more_name names keys k key here so_far name =
+    inserted keys key name ∙ ap (λ t. t || bytes_eq name key) (so_far name) ∙ sym (any_last (bytes_eq name) (take k names) key) ∙ ap (λ xs. is_private_name xs name) (sym (take_next names k key here))
+
+-- lists that have the same names make the same modules
+pub modules_same : (kept other : List (List ℕ)) → ((name : List ℕ) → is_private_name kept name ≡ is_private_name other name) → (required pairs : List (List ℕ × List ℕ)) → map (module_of kept required) pairs ≡ map (module_of other required) pairs
+modules_same kept other same required [] = refl
+modules_same kept other same required (pair ∷ pairs) =
+    ap₂ (λ (b : Bool) (ms : List ModuleValue). record { name = pair.0; file = pair.1; required = required; is_private = b } ∷ ms) (same pair.0) (modules_same kept other same required pairs)

@@ -1,11 +1,10 @@
--- A target that collates has no rejection.
-use Rattle.ninja_text.proofs.ForCallers.{element_at, take_next}
-use Rattle.std.proofs.Common.{◌≡◌, ℕ, ◌+◌, ◌<◌, List, ◌++◌, length, take, get_or, Some, None, Ok, Err, ap, ap₂, sym, ◌∙◌, inl, inr, arith, slice_get, length-append}
-use Rattle.std.specs.Prelude.{All}
+-- What collates has no rejection, and nothing has two: targets and projects.
+use Rattle.ninja_text.proofs.ForCallers.{element_at, take_next, same_some, three_ways, in_first, from_push}
+use Rattle.std.proofs.Common.{◌≡◌, ℕ, ◌+◌, ◌<◌, List, ◌++◌, length, take, get_or, Some, None, Ok, Err, ap, ap₂, sym, ◌∙◌, inl, inr, arith, slice_get, length-append, All, ◌⊎◌, subst, suc, ◌≤◌, [], ◌∷◌, map, Option, Result, refl, IfSome, option_map, zero}
 use Rattle.std.proofs.lemmas.List.Folds.{length-flat_map-take}
 use Rattle.std.proofs.lemmas.Option.{slice_get_within, get_or_from_slice_get}
 use Rattle.dyndep_file.specs.declared.fault.WriteFault.TheVariants as write
-use Rattle.scan_docs.specs.Document.{HasOneAnswer}
+use Rattle.scan_docs.specs.Document.{HasOneAnswer, IsRefused}
 use Rattle.scan_docs.specs.Scan.{SettingValue, RuleValue, AreRules}
 use Rattle.scan_docs.specs.ScanChecks.{scan_checks}
 use Rattle.scan_docs.specs.Info.{IsInfo}
@@ -15,25 +14,37 @@ use Rattle.module_table.specs.TableValue.{TableValue}
 use Rattle.module_table.specs.Needed.{IsNeeded}
 use Rattle.module_table.proofs.ForCallers.{one_list_of_pairs}
 use Rattle.module_maps.specs.Values.{ModuleMapValue}
-use Rattle.module_maps.specs.Maps.{Written}
+use Rattle.module_maps.specs.Maps.{Written, AreStyleLaws}
 use Rattle.module_maps.specs.declared.fault.MapFault.{MapFault}
 use Rattle.scan_docs.specs.Values.{rules_of, info_of}
-use Rattle.collate_core.specs.Documents.{all_rules, table_of, IsScanAccepted, IsInfoAccepted, AreScansAccepted}
+use Rattle.collate_core.specs.Documents.{all_rules, table_of, IsScanAccepted, IsInfoAccepted, AreScansAccepted, rule_limit}
 use Rattle.collate_core.specs.Statements.{statements_of}
 use Rattle.collate_core.specs.Maps.{IsMapOf}
-use Rattle.collate_core.specs.Collation.{AreMaps}
-use Rattle.collate_core.specs.Refusals.{IsScanFault, IsScanRefusal, IsInfoRefusal, IsMapFault, IsMapWritten, IsMapRefusal}
-use Rattle.collate_core.specs.Laws.{CollatedIsNotRefused}
+use Rattle.collate_core.specs.Collation.{AreMaps, Collates}
+use Rattle.collate_core.specs.Refusals.{IsScanFault, IsScanRefusal, IsInfoRefusal, IsMapFault, IsMapWritten, IsMapRefusal, IsRefusal}
+use Rattle.collate_core.specs.Laws.{CollatedIsNotRefused, OneRefusal, IsSameRefusal, same_refusal, same_fault, ProjectMaps, OneProjectRefusal}
 use Rattle.collate_core.specs.declared.fault.Refusal.TheVariants.{Scan, Info, Table, StatementTooLong, Map, LinkedLater}
-use Rattle.collate_core.proofs.Lists.{all_at, flat_map_last}
-use Rattle.collate_core.proofs.Writing.{no_fault}
+use Rattle.collate_core.proofs.Lists.{all_at, flat_map_last, in_take, take_less}
+use Rattle.collate_core.proofs.Parts.{no_fault}
+use Rattle.scan_docs.specs.declared.fault.DocFault.TheVariants.{TooLarge}
+use Rattle.scan_docs.specs.declared.fault.Place.TheVariants.{Document}
+use Rattle.module_table.specs.Outcomes.{OneTableFault}
+use Rattle.collate_core.specs.Values.{TargetValue, CollatedValue, ProjectTargetValue}
+use Rattle.collate_core.specs.declared.fault.Refusal.{Refusal}
+use Rattle.std.specs.Option.{option_map_or}
+use Rattle.module_maps.specs.declared.module_map.MapEntry.{MapEntry}
+use Rattle.collate_core.specs.Projects.{target_of, linked_infos, CollatesProject, project_tables, IsLinkedRefusal, IsProjectRefusal}
+use Rattle.collate_core.specs.ProjectNeeds.{MapsReadBack}
+use Rattle.std.proofs.lemmas.List.{map-append, length-take-le}
+use Rattle.scan_docs.specs.InfoText.{info_text}
+use Rattle.collate_core.specs.Infos.{info_of_table}
+
+-- ---- a target that collates has no rejection
 
 -- an object has one map
 pub one_map : (t : TableValue) (o : ℕ) (rule : RuleValue) (m n : ModuleMapValue) → IsMapOf t o rule m → IsMapOf t o rule n → m ≡ n
 one_map t o rule m n p q =
     ap₂ (λ a b. record { provided = a; needed = b }) (p.provided ∙ sym q.provided) (one_list_of_pairs (IsNeeded t o) m.needed n.needed p.needed q.needed)
-
--- ---- rejections
 
 -- documents have one answer at most
 pub record OneAnswer : Type 0 where
@@ -75,3 +86,298 @@ module _ (answers : OneAnswer) where
   not_refused target None c (Map o fault) k r = r
   not_refused target (Some written) c (Map o fault) k r = no_map (table_of target) written c.maps o fault k.maps r.2
   not_refused target style c LinkedLater k r = r
+
+-- ---- a target has one rejection at most
+
+-- equal rejections are one
+pub equal : (refusal other : Refusal) → refusal ≡ other → IsSameRefusal refusal other
+equal refusal other e = subst (IsSameRefusal refusal) e same_refusal
+
+module _ (answers : OneAnswer) (one_fault : OneTableFault) where
+  -- ---- scan documents
+
+  -- the first faulty scan document is so among those before a later one
+  scan_before : (s : SettingValue) (scans : List (List ℕ)) (i j : ℕ) (fault : DocFault) → i < j → IsScanRefusal s scans i fault → IsScanRefusal s (take j scans) i fault
+  scan_before s scans i j fault less r = record {
+    before = subst (AreScansAccepted s) (sym (take_less i j scans (omega arith))) r.before;
+    scan = r.scan;
+    here = in_take scans j i r.scan r.here less;
+    faulty = subst (λ (xs : List (List ℕ)). IsRefused (scan_checks s) r.scan fault ⊎ (IsScanAccepted s r.scan × (rule_limit < length (all_rules s xs)) × (fault ≡ TooLarge Document)))
+        (sym (take_less (i + 1) j scans (omega (arith, less)))) r.faulty;
+  }
+
+  scan_later : (s : SettingValue) (scans : List (List ℕ)) (i j : ℕ) (fault other : DocFault) → i < j → IsScanRefusal s scans i fault → IsScanRefusal s scans j other → ⊥
+  scan_later s scans i j fault other less r q =
+      let first = scan_before s scans i j fault less r in
+      no_scan answers s (take j scans) i fault q.before first first.faulty
+
+  scan_faults : (s : SettingValue) (scans : List (List ℕ)) (i : ℕ) (scan : List ℕ) (fault other : DocFault) → IsScanFault s scans i scan fault → IsScanFault s scans i scan other → fault ≡ other
+  scan_faults s scans i scan fault other (inl a) (inl b) = (answers.scan s scan).one_fault fault other a b
+  scan_faults s scans i scan fault other (inl a) (inr b) = absurd ((answers.scan s scan).not_both (rules_of s scan) fault b.0 a)
+  scan_faults s scans i scan fault other (inr a) (inl b) = absurd ((answers.scan s scan).not_both (rules_of s scan) other a.0 b)
+  scan_faults s scans i scan fault other (inr a) (inr b) = a.2 ∙ sym b.2
+
+  one_scan : (s : SettingValue) (scans : List (List ℕ)) (i j : ℕ) (fault other : DocFault) → IsScanRefusal s scans i fault → IsScanRefusal s scans j other → Scan i fault ≡ Scan j other
+  one_scan s scans i j fault other r q = elim (three_ways i j) [
+    | inl less ↦ absurd (scan_later s scans i j fault other less r q)
+    | inr more ↦ elim more [
+      | inl same ↦
+          let scan : q.scan ≡ r.scan = same_some _ _ (sym q.here ∙ ap (slice_get scans) (sym same) ∙ r.here) in
+          let theirs : IsScanFault s scans i r.scan other = subst (λ x. IsScanFault s scans i x other) scan (subst (λ n. IsScanFault s scans n q.scan other) (sym same) q.faulty) in
+          ap₂ (λ n f. Scan n f) same (scan_faults s scans i r.scan fault other r.faulty theirs)
+      | inr above ↦ absurd (scan_later s scans j i other fault above q r)
+    ]
+  ]
+
+  -- ---- info files
+
+  info_later : (infos : List (List ℕ)) (i j : ℕ) (fault other : DocFault) → i < j → IsInfoRefusal infos i fault → IsInfoRefusal infos j other → ⊥
+  info_later infos i j fault other less r q =
+      no_info answers (take j infos) i fault q.before (record {
+        before = subst (All IsInfoAccepted) (sym (take_less i j infos (omega arith))) r.before;
+        info = r.info;
+        here = in_take infos j i r.info r.here less;
+        faulty = r.faulty;
+      })
+
+  one_info : (infos : List (List ℕ)) (i j : ℕ) (fault other : DocFault) → IsInfoRefusal infos i fault → IsInfoRefusal infos j other → Info i fault ≡ Info j other
+  one_info infos i j fault other r q = elim (three_ways i j) [
+    | inl less ↦ absurd (info_later infos i j fault other less r q)
+    | inr more ↦ elim more [
+      | inl same ↦
+          let info : q.info ≡ r.info = same_some _ _ (sym q.here ∙ ap (slice_get infos) (sym same) ∙ r.here) in
+          ap₂ (λ n f. Info n f) same ((answers.info r.info).one_fault fault other r.faulty (subst (λ x. IsRefused info_checks x other) info q.faulty))
+      | inr above ↦ absurd (info_later infos j i other fault above q r)
+    ]
+  ]
+
+  -- ---- maps
+
+  map_later : (t : TableValue) (written : Written) (o p : ℕ) (fault other : MapFault) → o < p → IsMapRefusal t written o fault → IsMapRefusal t written p other → ⊥
+  map_later t written o p fault other less r q = no_map_fault answers t written o r.rule fault (q.before o r.rule less r.here) r.faulty
+
+  map_faults : (t : TableValue) (written : Written) (o : ℕ) (rule : RuleValue) (fault other : MapFault) → IsMapFault t written o rule fault → IsMapFault t written o rule other → fault ≡ other
+  map_faults t written o rule fault other a b =
+      let both : Err fault ≡ Err other = sym a.2 ∙ ap written (one_map t o rule a.0 b.0 a.1 b.1) ∙ b.2 in
+      cc
+
+  one_map_refusal : (t : TableValue) (written : Written) (o p : ℕ) (fault other : MapFault) → IsMapRefusal t written o fault → IsMapRefusal t written p other → Map o fault ≡ Map p other
+  one_map_refusal t written o p fault other r q = elim (three_ways o p) [
+    | inl less ↦ absurd (map_later t written o p fault other less r q)
+    | inr more ↦ elim more [
+      | inl same ↦
+          let rule : q.rule ≡ r.rule = same_some _ _ (sym q.here ∙ ap (slice_get t.objects) (sym same) ∙ r.here) in
+          let theirs : IsMapFault t written o r.rule other = subst (λ x. IsMapFault t written o x other) rule (subst (λ n. IsMapFault t written n q.rule other) (sym same) q.faulty) in
+          ap₂ (λ n f. Map n f) same (map_faults t written o r.rule fault other r.faulty theirs)
+      | inr above ↦ absurd (map_later t written p o other fault above q r)
+    ]
+  ]
+
+  -- ---- all rejections
+
+  -- with accepted scan documents, none of them is rejected
+  scan_excluded : {X : Type 0} (target : TargetValue) (i : ℕ) (fault : DocFault) → AreScansAccepted target.setting target.scans → IsScanRefusal target.setting target.scans i fault → X
+  scan_excluded target i fault all r = absurd (no_scan answers target.setting target.scans i fault all r r.faulty)
+
+  info_excluded : {X : Type 0} (target : TargetValue) (i : ℕ) (fault : DocFault) → All IsInfoAccepted target.infos → IsInfoRefusal target.infos i fault → X
+  info_excluded target i fault all r = absurd (no_info answers target.infos i fault all r)
+
+  pub one_refusal : OneRefusal
+  one_refusal target style (Scan i f) (Scan j g) r q = equal _ _ (one_scan target.setting target.scans i j f g r q)
+  one_refusal target style (Scan i f) (Info j g) r q = scan_excluded target i f q.0 r
+  one_refusal target style (Scan i f) (Table g) r q = scan_excluded target i f q.0.scans r
+  one_refusal target style (Scan i f) (StatementTooLong k) r q = scan_excluded target i f q.0.documents.scans r
+  one_refusal target None (Scan i f) (Map o g) r q = absurd q
+  one_refusal target (Some written) (Scan i f) (Map o g) r q = scan_excluded target i f q.0.documents.scans r
+  one_refusal target style (Scan i f) LinkedLater r q = absurd q
+  one_refusal target style (Info i f) (Scan j g) r q = scan_excluded target j g r.0 q
+  one_refusal target style (Info i f) (Info j g) r q = equal _ _ (one_info target.infos i j f g r.1 q.1)
+  one_refusal target style (Info i f) (Table g) r q = info_excluded target i f q.0.infos r.1
+  one_refusal target style (Info i f) (StatementTooLong k) r q = info_excluded target i f q.0.documents.infos r.1
+  one_refusal target None (Info i f) (Map o g) r q = absurd q
+  one_refusal target (Some written) (Info i f) (Map o g) r q = info_excluded target i f q.0.documents.infos r.1
+  one_refusal target style (Info i f) LinkedLater r q = absurd q
+  one_refusal target style (Table f) (Scan j g) r q = scan_excluded target j g r.0.scans q
+  one_refusal target style (Table f) (Info j g) r q = info_excluded target j g r.0.infos q.1
+  one_refusal target style (Table f) (Table g) r q = same_fault (one_fault (table_of target) target.kept f g r.1 q.1)
+  one_refusal target style (Table f) (StatementTooLong k) r q = absurd (q.0.no_fault f r.1.present)
+  one_refusal target None (Table f) (Map o g) r q = absurd q
+  one_refusal target (Some written) (Table f) (Map o g) r q = absurd (q.0.no_fault f r.1.present)
+  one_refusal target style (Table f) LinkedLater r q = absurd q
+  one_refusal target style (StatementTooLong k) (Scan j g) r q = scan_excluded target j g r.0.documents.scans q
+  one_refusal target style (StatementTooLong k) (Info j g) r q = info_excluded target j g r.0.documents.infos q.1
+  one_refusal target style (StatementTooLong k) (Table g) r q = absurd (r.0.no_fault g q.1.present)
+  one_refusal target style (StatementTooLong k) (StatementTooLong l) r q = let both : Some (write.StatementTooLong k) ≡ Some (write.StatementTooLong l) = sym r.1 ∙ q.1 in let same : k ≡ l = cc in equal _ _ (ap (λ n. StatementTooLong n) same)
+  one_refusal target None (StatementTooLong k) (Map o g) r q = absurd q
+  one_refusal target (Some written) (StatementTooLong k) (Map o g) r q = absurd (let both : None ≡ Some (write.StatementTooLong k) = sym q.1 ∙ r.1 in cc)
+  one_refusal target style (StatementTooLong k) LinkedLater r q = absurd q
+  one_refusal target None (Map o f) other r q = absurd r
+  one_refusal target (Some written) (Map o f) (Scan j g) r q = scan_excluded target j g r.0.documents.scans q
+  one_refusal target (Some written) (Map o f) (Info j g) r q = info_excluded target j g r.0.documents.infos q.1
+  one_refusal target (Some written) (Map o f) (Table g) r q = absurd (r.0.no_fault g q.1.present)
+  one_refusal target (Some written) (Map o f) (StatementTooLong k) r q = absurd (let both : None ≡ Some (write.StatementTooLong k) = sym r.1 ∙ q.1 in cc)
+  one_refusal target (Some written) (Map o f) (Map p g) r q = equal _ _ (one_map_refusal (table_of target) written o p f g r.2 q.2)
+  one_refusal target (Some written) (Map o f) LinkedLater r q = absurd q
+  one_refusal target style LinkedLater other r q = absurd r
+
+-- ---- one more target of a project
+
+at_first : {X : Type 0} (xs : List X) (x : X) (k : ℕ) (y : X) → k < length xs → slice_get (xs ++ x ∷ []) k ≡ Some y → slice_get xs k ≡ Some y
+at_first xs x k y within e = elim (from_push xs x k y e) [ inl h ↦ h | inr h ↦ absurd (omega (arith, h.0, within)) ]
+
+at_last : {X : Type 0} (xs : List X) (x : X) (k : ℕ) (y : X) → k ≡ length xs → slice_get (xs ++ x ∷ []) k ≡ Some y → x ≡ y
+at_last xs x k y is e = elim (from_push xs x k y e) [ inl h ↦ absurd (let within : k < length xs = slice_get_within _ _ _ h in omega (arith, is)) | inr h ↦ h.1 ]
+
+abbrev pub bytes_at : List CollatedValue → ℕ → List ℕ
+bytes_at outs k = option_map_or (λ (c : CollatedValue). c.info) (slice_get outs k) []
+
+-- what a target wrote stays if more targets follow
+same_bytes : (outs more : List CollatedValue) (k : ℕ) → k < length outs → bytes_at (outs ++ more) k ≡ bytes_at outs k
+same_bytes outs more k within =
+    let c : (x : CollatedValue) × (slice_get outs k ≡ Some x) = element_at outs k within in
+    ap (λ (z : Option CollatedValue). option_map_or (λ (c : CollatedValue). c.info) z []) (in_first outs more k c.0 c.1 ∙ sym c.1)
+
+same_infos : (outs more : List CollatedValue) (linked : List ℕ) → All (λ k. k < length outs) linked → linked_infos (outs ++ more) linked ≡ linked_infos outs linked
+same_infos outs more [] all = refl
+same_infos outs more (k ∷ ks) all =
+    let head : bytes_at (outs ++ more) k ≡ bytes_at outs k = same_bytes outs more k (all 0 0 (omega arith)) in
+    let tail : linked_infos (outs ++ more) ks ≡ linked_infos outs ks = same_infos outs more ks (λ j d within. all (suc j) d (omega (arith, within))) in
+    cc
+
+pub same_target : (outs more : List CollatedValue) (p : ProjectTargetValue) → All (λ k. k < length outs) p.linked → target_of outs p ≡ target_of (outs ++ more) p
+same_target outs more p all = ap (λ infos. record { name = p.name; setting = p.setting; scans = p.scans; infos = infos; kept = p.kept }) (sym (same_infos outs more p.linked all))
+
+pub lower : (a b : ℕ) (linked : List ℕ) → a ≤ b → All (λ k. k < a) linked → All (λ k. k < b) linked
+lower a b linked le all i d within = let less : get_or linked i d < a = all i d within in omega arith
+
+module _ (style : Option Written) (targets : List ProjectTargetValue) (outs : List CollatedValue) (project : CollatesProject style targets outs)
+    (p : ProjectTargetValue) (c : CollatedValue) (all : All (λ k. k < length outs) p.linked) (collates : Collates (target_of outs p) style c) where
+  earlier_more : (n : ℕ) (q : ProjectTargetValue) → (slice_get targets n ≡ Some q) ⊎ ((n ≡ length targets) × (p ≡ q)) → All (λ k. k < n) q.linked
+  earlier_more n q (inl h) = project.earlier n q h
+  earlier_more n q (inr h) = subst (λ (z : ProjectTargetValue). All (λ k. k < n) z.linked) h.1 (lower (length outs) n p.linked (omega (arith, h.0, project.count)) all)
+
+  each_more : (n : ℕ) (q : ProjectTargetValue) (d : CollatedValue) → (slice_get targets n ≡ Some q) ⊎ ((n ≡ length targets) × (p ≡ q)) → slice_get (outs ++ c ∷ []) n ≡ Some d → Collates (target_of (outs ++ c ∷ []) q) style d
+  each_more n q d (inl h) at_d =
+      let within : n < length targets = slice_get_within _ _ _ h in
+      let known = project.each n q d h (at_first outs c n d (omega (arith, project.count, within)) at_d) in
+      let linked : All (λ k. k < length outs) q.linked = lower n (length outs) q.linked (omega (arith, project.count, within)) (project.earlier n q h) in
+      subst (λ z. Collates z style d) (same_target outs (c ∷ []) q linked) known
+  each_more n q d (inr h) at_d =
+      let is_c : c ≡ d = at_last outs c n d (omega (arith, h.0, project.count)) at_d in
+      let here : Collates (target_of (outs ++ c ∷ []) p) style c = subst (λ z. Collates z style c) (same_target outs (c ∷ []) p all) collates in
+      subst (λ (z : ProjectTargetValue). Collates (target_of (outs ++ c ∷ []) z) style d) h.1 (subst (λ z. Collates (target_of (outs ++ c ∷ []) p) style z) is_c here)
+
+  pub project_push : CollatesProject style (targets ++ p ∷ []) (outs ++ c ∷ [])
+  project_push = record {
+    count = omega (arith, length-append outs (c ∷ []), length-append targets (p ∷ []), project.count);
+    earlier = λ n q at. earlier_more n q (from_push targets p n q at);
+    each = λ n q d at at_d. each_more n q d (from_push targets p n q at) at_d;
+  }
+
+-- a style, if one is given, reads the maps back
+pub maps_of_style : {S : Type 0} (o : Option S) (written : S → Written) (kept : S → ModuleMapValue → List MapEntry) (entries : S → List ℕ → Result (List MapEntry) MapFault) →
+    ((s : S) → AreStyleLaws (written s) (kept s) (entries s)) → ProjectMaps → (targets : List ProjectTargetValue) (outs : List CollatedValue) → CollatesProject (option_map written o) targets outs →
+    IfSome o (λ s. MapsReadBack (entries s) targets (project_tables targets outs) outs)
+maps_of_style None written kept entries laws maps targets outs project = tt
+maps_of_style (Some s) written kept entries laws maps targets outs project = maps (written s) (kept s) (entries s) (laws s) targets outs project
+
+pub map_push : {A B : Type 0} (f : A → B) (xs : List A) (x : A) (ys : List B) (y : B) → ys ≡ map f xs → y ≡ f x → ys ++ y ∷ [] ≡ map f (xs ++ x ∷ [])
+map_push f xs x ys y e h = rw (map-append, e, h) refl
+
+-- the rejection of a target whose predecessors all collate is that of the project
+pub refused_here : (style : Option Written) (targets : List ProjectTargetValue) (n : ℕ) (outs : List CollatedValue) (p : ProjectTargetValue) → CollatesProject style (take n targets) outs → slice_get targets n ≡ Some p →
+    (refusal : Refusal) → IsLinkedRefusal style outs (length outs) p refusal → IsProjectRefusal style targets n refusal
+refused_here style targets n outs p project at refusal h =
+    let within : n < length targets = slice_get_within _ _ _ at in
+    let count : length (take n targets) ≡ n = length-take-le n targets (omega (arith, within)) in
+    (outs, p, project, at, subst (λ m. IsLinkedRefusal style outs m p refusal) (project.count ∙ count) h)
+
+-- ---- a project whose targets all collate has no rejection
+
+-- the info files are the same if the linked targets wrote the same
+infos_agree : (outs others : List CollatedValue) (bound : ℕ) → ((k : ℕ) → k < bound → bytes_at outs k ≡ bytes_at others k) → (linked : List ℕ) → All (λ k. k < bound) linked → linked_infos outs linked ≡ linked_infos others linked
+infos_agree outs others bound same [] all = refl
+infos_agree outs others bound same (k ∷ ks) all =
+    let head : bytes_at outs k ≡ bytes_at others k = same k (all 0 0 (omega arith)) in
+    let tail : linked_infos outs ks ≡ linked_infos others ks = infos_agree outs others bound same ks (λ j d within. all (suc j) d (omega (arith, within))) in
+    cc
+
+pub targets_agree : (outs others : List CollatedValue) (bound : ℕ) → ((k : ℕ) → k < bound → bytes_at outs k ≡ bytes_at others k) → (p : ProjectTargetValue) → All (λ k. k < bound) p.linked → target_of others p ≡ target_of outs p
+targets_agree outs others bound same p all = ap (λ infos. record { name = p.name; setting = p.setting; scans = p.scans; infos = infos; kept = p.kept }) (sym (infos_agree outs others bound same p.linked all))
+
+written_at : (outs : List CollatedValue) (k : ℕ) (c : CollatedValue) → slice_get outs k ≡ Some c → bytes_at outs k ≡ c.info
+written_at outs k c at = ap (λ (z : Option CollatedValue). option_map_or (λ (x : CollatedValue). x.info) z []) at
+
+module _ (answers : OneAnswer) (style : Option Written) (targets : List ProjectTargetValue) (outs : List CollatedValue) (project : CollatesProject style targets outs)
+    (n : ℕ) (inside : n ≤ length targets) (others : List CollatedValue) (part : CollatesProject style (take n targets) others) where
+  same_at : (k : ℕ) → k < n → ((j : ℕ) → j < k → bytes_at outs j ≡ bytes_at others j) → bytes_at outs k ≡ bytes_at others k
+  same_at k less before =
+      let count : length (take n targets) ≡ n = length-take-le n targets inside in
+      let p : (x : ProjectTargetValue) × (slice_get targets k ≡ Some x) = element_at targets k (omega (arith, less, inside)) in
+      let c : (x : CollatedValue) × (slice_get outs k ≡ Some x) = element_at outs k (omega (arith, less, inside, project.count)) in
+      let d : (x : CollatedValue) × (slice_get others k ≡ Some x) = element_at others k (omega (arith, less, count, part.count)) in
+      let one = project.each k p.0 c.0 p.1 c.1 in
+      let two = part.each k p.0 d.0 (in_take targets n k p.0 p.1 less) d.1 in
+      let same : target_of others p.0 ≡ target_of outs p.0 = targets_agree outs others k before p.0 (project.earlier k p.0 p.1) in
+      written_at outs k c.0 c.1 ∙ one.info ∙ ap (λ (v : TargetValue). info_text (info_of_table v.name v.kept (table_of v))) (sym same) ∙ sym two.info ∙ sym (written_at others k d.0 d.1)
+
+  pub up_to : (m : ℕ) → m ≤ n → (j : ℕ) → j < m → bytes_at outs j ≡ bytes_at others j
+  up_to zero le j less = absurd (omega arith)
+  up_to (suc m) le j less =
+      elim (three_ways j m) [
+        | inl below ↦ up_to m (omega arith) j below
+        | inr more ↦ elim more [
+          | inl same ↦ subst (λ k. bytes_at outs k ≡ bytes_at others k) (sym same) (same_at m (omega arith) (up_to m (omega arith)))
+          | inr above ↦ absurd (omega arith)
+        ]
+      ]
+
+  not_here : (p : ProjectTargetValue) (refusal : Refusal) → slice_get targets n ≡ Some p → IsLinkedRefusal style others n p refusal → ⊥
+  not_here p refusal at (inl (later, is)) = later (project.earlier n p at)
+  not_here p refusal at (inr (all, refused)) =
+      let within : n < length targets = slice_get_within _ _ _ at in
+      let c : (x : CollatedValue) × (slice_get outs n ≡ Some x) = element_at outs n (omega (arith, within, project.count)) in
+      let same : target_of others p ≡ target_of outs p = targets_agree outs others n (up_to n (omega arith)) p (project.earlier n p at) in
+      not_refused answers (target_of outs p) style c.0 refusal (project.each n p c.0 at c.1) (subst (λ z. IsRefusal z style refusal) same refused)
+
+pub project_not_refused : OneAnswer → (style : Option Written) (targets : List ProjectTargetValue) (outs : List CollatedValue) (n : ℕ) (refusal : Refusal) →
+    CollatesProject style targets outs → IsProjectRefusal style targets n refusal → ⊥
+project_not_refused answers style targets outs n refusal project (others, p, part, at, refused) =
+    let within : n < length targets = slice_get_within _ _ _ at in
+    not_here answers style targets outs project n (omega (arith, within)) others part p refusal at refused
+
+-- ---- a project has one rejection at most
+
+module _ (answers : OneAnswer) (one_fault : OneTableFault) (style : Option Written) (targets : List ProjectTargetValue) where
+  -- the first rejected target is so among those before a later one, which all collate
+  later : (n m : ℕ) (refusal other : Refusal) → n < m → IsProjectRefusal style targets n refusal → IsProjectRefusal style targets m other → ⊥
+  later n m refusal other less (outs, p, project, at, refused) (others, q, part, at_q, refused_q) =
+      let first : IsProjectRefusal style (take m targets) n refusal =
+      (outs, p, subst (λ (xs : List ProjectTargetValue). CollatesProject style xs outs) (sym (take_less n m targets (omega arith))) project, in_take targets m n p at less, refused) in
+      project_not_refused answers style (take m targets) others n refusal part first
+
+  -- the rejections of one target with the info files that the same earlier targets wrote are one
+  linked : (n : ℕ) (p : ProjectTargetValue) (outs others : List CollatedValue) (refusal other : Refusal) → n ≤ length targets → CollatesProject style (take n targets) outs → CollatesProject style (take n targets) others
+      → IsLinkedRefusal style outs n p refusal → IsLinkedRefusal style others n p other → IsSameRefusal refusal other
+  linked n p outs others refusal other inside project part (inl (later, is)) (inl (later_q, is_q)) = equal refusal other (is ∙ sym is_q)
+  linked n p outs others refusal other inside project part (inl (later, is)) (inr (all, refused)) = absurd (later all)
+  linked n p outs others refusal other inside project part (inr (all, refused)) (inl (later, is)) = absurd (later all)
+  linked n p outs others refusal other inside project part (inr (all, refused)) (inr (all_q, refused_q)) =
+      let whole : take n (take n targets) ≡ take n targets = take_less n n targets (omega arith) in
+      let again : CollatesProject style (take n (take n targets)) others = subst (λ (xs : List ProjectTargetValue). CollatesProject style xs others) (sym whole) part in
+      let count : length (take n targets) ≡ n = length-take-le n targets inside in
+      let same : target_of others p ≡ target_of outs p = targets_agree outs others n (up_to answers style (take n targets) outs project n (omega (arith, count)) others again n (omega arith)) p all in
+      one_refusal answers one_fault (target_of outs p) style refusal other refused (subst (λ z. IsRefusal z style other) same refused_q)
+
+pub one_project_refusal : OneAnswer → OneTableFault → OneProjectRefusal
+one_project_refusal answers one_fault style targets n m refusal other r q = elim (three_ways n m) [
+  | inl less ↦ absurd (later answers one_fault style targets n m refusal other less r q)
+  | inr more ↦ elim more [
+    | inl same ↦
+        let there : IsProjectRefusal style targets n other = subst (λ k. IsProjectRefusal style targets k other) (sym same) q in
+        let target : there.1 ≡ r.1 = same_some _ _ (sym there.3 ∙ r.3) in
+        let within : n < length targets = slice_get_within _ _ _ r.3 in
+        (same, linked answers one_fault style targets n r.1 r.0 there.0 refusal other (omega (arith, within)) r.2 there.2 r.4 (subst (λ (p : ProjectTargetValue). IsLinkedRefusal style there.0 n p other) target there.4))
+    | inr above ↦ absurd (later answers one_fault style targets m n other refusal above q r)
+  ]
+]

@@ -1,30 +1,115 @@
--- From the parts of collating to the whole.
-use Rattle.ninja_text.proofs.ForCallers.{element_at, in_append, same_some}
-use Rattle.std.proofs.Common.{◌≡◌, ℕ, zero, suc, ◌+◌, ◌<◌, List, [], ◌∷◌, ◌++◌, length, map, Option, Some, None, Result, Ok, Err, ap, subst, sym, ◌∙◌, inl, inr, arith}
-use Rattle.std.specs.Prelude.{slice_get, Vec, IfOk, OnOk}
-use Rattle.std.specs.declared.alloc.Global.{Global}
-use Rattle.std.proofs.lemmas.List.{map_push, length-map}
-use Rattle.ninja_text.specs.Failure.{ForFault}
+-- From what the parts of collating promise to what a target collates to, and to its rejection.
+use Rattle.std.proofs.Common.{◌≡◌, Result, Ok, Err, subst, sym, IfOk, MatchResult, IsErrAnd, ℕ, List, ◌++◌, [], ◌∷◌, map, Option, Some, None, length, refl, All, zero, suc, ◌+◌, ◌<◌, ap, ◌∙◌, inl, inr, arith, slice_get, Vec, OnOk, IfSome, flat_map}
+use Rattle.ninja_text.specs.Failure.{ForFault, Turns}
 use Rattle.ninja_text.specs.declared.failure.Failure.{Failure}
 use Rattle.ninja_text.specs.declared.failure.Failure.TheVariants.{Memory, Fault}
+use Rattle.dyndep_file.specs.Reading.{HasReadFault, StandsForOnly}
+use Rattle.dyndep_file.specs.Reader.{IsReadFailureIn}
+use Rattle.dyndep_file.specs.Laws.{FaultStays, FirstFault}
+use Rattle.dyndep_file.specs.declared.fault.ReadFault.{ReadFault}
+use Rattle.dyndep_file.specs.declared.fault.ReadFault.TheVariants.{AtLine, Io}
+use Rattle.collate_core.specs.Rehearsal.{IsReadFaultOf}
+use Rattle.std.specs.List.{AllByRecursion}
+use Rattle.std.proofs.lemmas.List.Elements.{All-weaker, recursion_from_All, All-append, All-cons}
+use Rattle.ninja_text.specs.Paths.{IsPath, path_of}
 use Rattle.dyndep_file.specs.StatementValue.{StatementValue}
-use Rattle.dyndep_file.specs.WriteFaults.{write_fault}
+use Rattle.dyndep_file.specs.WriteFaults.{paths_of, text_unless, text_or_fault, statement_fault, write_fault}
+use Rattle.dyndep_file.specs.declared.fault.WriteFault.{WriteFault}
+use Rattle.dyndep_file.specs.declared.fault.WriteFault.TheVariants as write
+use Rattle.collate_core.specs.Collation.{HasPaths, IsMapText, Collates, AreMaps}
+use Rattle.collate_core.specs.inner.Parts.{IsSpelled, HasSpelled, IsLineRefusal, IsWriteRefusal, IsMapsRefusal, IsObjectRefusal, IsTextsRefusal, IsWrittenOf}
+use Rattle.collate_core.specs.declared.fault.Refusal.{Refusal}
+use Rattle.collate_core.specs.declared.fault.Refusal.TheVariants.{Scan, Info, Table, StatementTooLong, Map, LinkedLater}
+use Rattle.ninja_text.proofs.ForCallers.{element_at, in_append, same_some}
+use Rattle.std.specs.declared.alloc.Global.{Global}
+use Rattle.std.proofs.lemmas.List.{map_push, length-map}
 use Rattle.scan_docs.specs.Scan.{RuleValue}
-use Rattle.module_table.specs.TableValue.{TableValue}
+use Rattle.module_table.specs.TableValue.{TableValue, table_with}
 use Rattle.module_table.specs.Faults.{IsFault}
 use Rattle.module_table.specs.Sound.{IsSound, PrivateAreProvided}
 use Rattle.module_table.specs.declared.fault.TableFault.{TableFault}
 use Rattle.module_maps.specs.Maps.{Written}
 use Rattle.collate_core.specs.Values.{TargetValue, CollatedValue}
 use Rattle.collate_core.specs.Documents.{table_of, AreAccepted, IsResolved}
-use Rattle.collate_core.specs.Statements.{statements_of}
-use Rattle.collate_core.specs.Collation.{IsMapText, Collates}
+use Rattle.collate_core.specs.Statements.{statements_of, statement_of}
 use Rattle.collate_core.specs.Refusals.{IsRefusal, IsMapRefusal, WasRead}
-use Rattle.collate_core.specs.inner.Parts.{IsDocumentRefusal, IsWriteRefusal, IsMapsRefusal, IsObjectRefusal, IsTextsRefusal, IsWrittenOf}
-use Rattle.collate_core.specs.declared.fault.Refusal.{Refusal}
 use Rattle.collate_core.specs.declared.fault.RefusedTarget.{RefusedTarget}
-use Rattle.collate_core.specs.declared.fault.Refusal.TheVariants.{Scan, Info, Table, StatementTooLong, Map, LinkedLater}
-use Rattle.collate_core.proofs.Writing.{has_paths}
+use Rattle.scan_docs.specs.Info.{InfoValue}
+use Rattle.scan_docs.specs.InfoText.{info_text, ReadsBack}
+use Rattle.module_table.specs.Outcomes.{SoundHasNoFault}
+use Rattle.module_table.specs.Added.{Task, tasks_of}
+use Rattle.module_table.specs.Needed.{ArePairs, IsNeeded}
+use Rattle.module_table.specs.Parts.{IsEnough, KeepsRequired, PartIsSound, PartHasTasks, PartIsNeeded}
+use Rattle.collate_core.specs.Infos.{modules_of}
+use Rattle.collate_core.specs.inner.PartTables.{IsEnoughFor}
+
+-- ---- failures and errors that are turned into others
+
+-- what holds of what a fault is turned into, by what holds of the fault
+pub turned : {F G : Type 0} (R : F → G → Type 0) (P : F → Type 0) (Q : G → Type 0) → ((fault : F) (other : G) → R fault other → P fault → Q other) →
+    (failure : Failure F) (new : Failure G) → Turns R failure new → ForFault P failure → ForFault Q new
+turned R P Q step Memory new turns h = subst (ForFault Q) (sym turns) tt
+turned R P Q step (Fault fault) new turns h = subst (ForFault Q) (sym turns.2) (step fault turns.0 turns.1 h)
+
+pub turns_weaker : {F G : Type 0} (R S : F → G → Type 0) → ((fault : F) (other : G) → R fault other → S fault other) →
+    (failure : Failure F) (new : Failure G) → Turns R failure new → Turns S failure new
+turns_weaker R S step Memory new turns = turns
+turns_weaker R S step (Fault fault) new turns = (turns.0, step fault turns.0 turns.1, turns.2)
+
+-- what holds of the value stays if the error is turned into another one
+pub value_stays : {T E D : Type 0} (P : T → Type 0) (R : E → D → Type 0) (old : Result T E) (new : Result T D) → MatchResult old (λ x. new ≡ Ok x) (λ e. IsErrAnd new (R e)) → IfOk old P → IfOk new P
+value_stays P R (Ok x) new same h = subst (λ r. IfOk r P) (sym same) h
+value_stays P R (Err e) (Ok x) same h = absurd same
+value_stays P R (Err e) (Err d) same h = tt
+
+-- ---- what a reader of dyndep files reports of the bytes so far is what it reports of the whole text
+
+pub reported : FaultStays → (bytes more text : List ℕ) (failure : Failure ReadFault) → text ≡ bytes ++ more → IsReadFailureIn bytes failure → ForFault (IsReadFaultOf text) failure
+reported stays bytes more text Memory same h = tt
+reported stays bytes more text (Fault (AtLine line fault)) same h = subst (λ x. HasReadFault x (record { line = line; fault = fault })) (sym same) (stays bytes more line fault h)
+reported stays bytes more text (Fault Io) same h = h
+
+-- ---- the paths of statements
+
+-- the paths of an escaped statement
+pub all_spelled : (output : List ℕ) (outputs inputs : List (List ℕ)) → IsSpelled output → All IsSpelled outputs → All IsSpelled inputs → All IsSpelled (output ∷ (outputs ++ inputs))
+all_spelled output outputs inputs a b c = All-cons IsSpelled output (outputs ++ inputs) a (All-append IsSpelled outputs inputs b c)
+
+pub has_paths : (ss : List StatementValue) → All HasSpelled ss → All HasPaths ss
+has_paths ss all = All-weaker HasSpelled HasPaths (λ s h. All-weaker IsSpelled IsPath (λ path p. p.canonical) (paths_of s) h) ss all
+
+images : (xs : List (List ℕ)) → AllByRecursion IsPath xs → map path_of xs ≡ map (λ p. Ok p) xs
+images [] h = refl
+images (x ∷ xs) h = rw (h.0, images xs h.1) refl
+
+-- canonical texts are those of themselves
+pub all_images : (xs : List (List ℕ)) → All IsPath xs → map path_of xs ≡ map (λ p. Ok p) xs
+all_images xs h = images xs (recursion_from_All IsPath xs h)
+
+unless_ok : (o : Option WriteFault) (ss : List StatementValue) (text : List ℕ) → text_unless o ss ≡ Ok text → o ≡ None
+unless_ok None ss text h = refl
+unless_ok (Some fault) ss text h = absurd (cc)
+
+-- statements that have a text have no fault
+pub no_fault : (ss : List StatementValue) (text : List ℕ) → text_or_fault ss ≡ Ok text → write_fault ss ≡ None
+no_fault ss text h = unless_ok (write_fault ss) ss text h
+
+line_refusal : FirstFault → (before : List StatementValue) (s : StatementValue) (after : List StatementValue) (count : ℕ) (refusal : Refusal) → write_fault before ≡ None → count ≡ length before
+    → IsLineRefusal count s refusal → IsWriteRefusal (before ++ s ∷ after) refusal
+line_refusal first before s after count (StatementTooLong k) none is h = first before s after _ none (subst (λ n. statement_fault n s ≡ Some (write.StatementTooLong k)) is h)
+line_refusal first before s after count (Scan i fault) none is h = absurd h
+line_refusal first before s after count (Info i fault) none is h = absurd h
+line_refusal first before s after count (Table fault) none is h = absurd h
+line_refusal first before s after count (Map o fault) none is h = absurd h
+line_refusal first before s after count LinkedLater none is h = absurd h
+
+-- the rejection of a statement's build line, after statements without a fault, is that of all
+pub line_refused : FirstFault → (before : List StatementValue) (s : StatementValue) (after : List StatementValue) (count : ℕ) (failure : Failure Refusal) → write_fault before ≡ None → count ≡ length before
+    → ForFault (IsLineRefusal count s) failure → ForFault (IsWriteRefusal (before ++ s ∷ after)) failure
+line_refused first before s after count Memory none is h = tt
+line_refused first before s after count (Fault refusal) none is h = line_refusal first before s after count refusal none is h
+
+-- ---- from the parts of collating to the whole
 
 of_table : (target : TargetValue) (style : Option Written) (c : CollatedValue) → IsResolved target → IsWrittenOf target style (table_of target) c → Collates target style c
 of_table target style c resolved h = record {
@@ -50,36 +135,10 @@ pub built_resolved : {E : Type 0} (target : TargetValue) (read : TableValue) (bu
 built_resolved target read (Ok t) same documents table no_fault sound kept = resolved target t (table ∙ same) documents no_fault sound kept
 built_resolved target read (Err e) same documents table no_fault sound kept = tt
 
--- a rejection of a document is one whatever the style, and needs nothing of what was read
-pub document_refused : (target : TargetValue) (refusal : Refusal) → IsDocumentRefusal target refusal → (style : Option Written) → IsRefusal target style refusal
-document_refused target (Scan i fault) h style = h
-document_refused target (Info i fault) h style = h
-document_refused target (Table fault) h style = absurd h
-document_refused target (StatementTooLong k) h style = absurd h
-document_refused target (Map o fault) h style = absurd h
-document_refused target LinkedLater h style = absurd h
-
-pub document_read : (target : TargetValue) (refusal : Refusal) → IsDocumentRefusal target refusal → (read : TableValue) → WasRead target refusal read
-document_read target (Scan i fault) h read = tt
-document_read target (Info i fault) h read = tt
-document_read target (Table fault) h read = absurd h
-document_read target (StatementTooLong k) h read = absurd h
-document_read target (Map o fault) h read = absurd h
-document_read target LinkedLater h read = absurd h
-
 pub any_style : (target : TargetValue) (style : Option Written) (failure : Failure RefusedTarget) →
     ForFault (λ (refused : RefusedTarget). (s : Option Written) → IsRefusal target s refused.refusal) failure → ForFault (λ (refused : RefusedTarget). IsRefusal target style refused.refusal) failure
 any_style target style Memory h = tt
 any_style target style (Fault refused) h = h style
-
--- of the table of the target's documents, whatever the rejection
-pub table_read : (target : TargetValue) (refusal : Refusal) (read : TableValue) → read ≡ table_of target → WasRead target refusal read
-table_read target (Scan i fault) read h = tt
-table_read target (Info i fault) read h = tt
-table_read target (Table fault) read h = h
-table_read target (StatementTooLong k) read h = tt
-table_read target (Map o fault) read h = h
-table_read target LinkedLater read h = tt
 
 -- a rejection of the statements' build lines needs nothing of what was read
 pub write_read : (target : TargetValue) (ss : List StatementValue) (refusal : Refusal) → IsWriteRefusal ss refusal → (read : TableValue) → WasRead target refusal read
@@ -168,3 +227,68 @@ object_refused t written texts object count each within (Fault (Info i fault)) h
 object_refused t written texts object count each within (Fault (Table fault)) h = absurd h
 object_refused t written texts object count each within (Fault (StatementTooLong k)) h = absurd h
 object_refused t written texts object count each within (Fault LinkedLater) h = absurd h
+
+-- ---- what a target collates to, by the table of a part of its info files
+
+-- the laws of parts, as a caller has them
+pub record PartLaws : Type 0 where
+  pub sound : PartIsSound
+  pub tasks : PartHasTasks
+  pub needed : PartIsNeeded
+  pub no_fault : SoundHasNoFault
+
+-- the info of these tasks
+abbrev info_with : TargetValue → List Task → InfoValue
+info_with target tasks = record { target = target.name; modules = flat_map (modules_of target.kept) tasks }
+
+module _ (target : TargetValue) (part : List InfoValue) where
+  abbrev t : TableValue
+  t = table_of target
+
+  -- its table with the part in place of the info files
+  abbrev u : TableValue
+  u = table_with t.objects part
+
+  module _ (laws : PartLaws) (is : IsEnough t.objects part t.infos) (sound : IsSound u) where
+    same_tasks : tasks_of u ≡ tasks_of t
+    same_tasks = laws.tasks t.objects part t.infos is sound
+
+    whole : IsSound t
+    whole = laws.sound t.objects part t.infos is sound
+
+    part_resolved : AreAccepted target → PrivateAreProvided u target.kept → IsResolved target
+    part_resolved accepted kept = record { documents = accepted; no_fault = laws.no_fault t target.kept whole kept; sound = whole; kept = kept }
+
+    same_pairs : KeepsRequired part t.infos → (o : ℕ) (pairs : List (List ℕ × List ℕ)) → ArePairs (IsNeeded u o) pairs → ArePairs (IsNeeded t o) pairs
+    same_pairs keeps o pairs are = record {
+      each = λ name file.
+          let needs = laws.needed t.objects part t.infos is keeps sound o name file in
+          (λ has. needs.0 ((are.each name file).0 has), λ needed. (are.each name file).1 (needs.1 needed));
+      rising = are.rising;
+    }
+
+    same_map : KeepsRequired part t.infos → (written : Written) (o : ℕ) (rule : RuleValue) (text : List ℕ) → IsMapText u written o rule text → IsMapText t written o rule text
+    same_map keeps written o rule text h = (h.0, record { is_map = h.1.is_map; provided = h.1.provided; needed = same_pairs keeps o _ h.1.needed }, h.2)
+
+    same_maps : (style : Option Written) (texts : List (List ℕ)) → IfSome style (λ _. KeepsRequired part t.infos) → AreMaps u style texts → AreMaps t style texts
+    same_maps None texts keeps h = h
+    same_maps (Some written) texts keeps h = (h.0, λ o rule text at_rule at_text. same_map keeps written o rule text (h.1 o rule text at_rule at_text))
+
+    -- what is written of the table with the part is what the target collates to
+    part_collates : (style : Option Written) (c : CollatedValue) → IfSome style (λ _. KeepsRequired part t.infos) → AreAccepted target → PrivateAreProvided u target.kept → IsWrittenOf target style u c → Collates target style c
+    part_collates style c keeps accepted kept texts =
+        collates target style t c refl (part_resolved accepted kept) (record {
+          spelled = subst (λ (tasks : List Task). All HasSpelled (map statement_of tasks)) same_tasks texts.spelled;
+          stands = subst (λ (tasks : List Task). StandsForOnly c.dyndep (map statement_of tasks)) same_tasks texts.stands;
+          text = subst (λ (tasks : List Task). text_or_fault (map statement_of tasks) ≡ Ok c.dyndep) same_tasks texts.text;
+          objects = texts.objects;
+          info = subst (λ (tasks : List Task). c.info ≡ info_text (info_with target tasks)) same_tasks texts.info;
+          reads = subst (λ (tasks : List Task). ReadsBack (info_with target tasks) c.info) same_tasks texts.reads;
+          maps = same_maps style c.maps keeps texts.maps;
+        })
+
+-- and so of each table that is enough for the target
+pub table_collates : (target : TargetValue) (style : Option Written) (u : TableValue) → PartLaws → IsEnoughFor target style u → IsSound u → PrivateAreProvided u target.kept → (c : CollatedValue) → IsWrittenOf target style u c → Collates target style c
+table_collates target style u laws is sound kept c texts =
+    let same : u ≡ table_with (table_of target).objects u.infos = ap (λ (objects : List RuleValue). table_with objects u.infos) is.objects in
+    part_collates target u.infos laws is.enough (subst IsSound same sound) style c is.keeps is.accepted (subst (λ v. PrivateAreProvided v target.kept) same kept) (subst (λ v. IsWrittenOf target style v c) same texts)

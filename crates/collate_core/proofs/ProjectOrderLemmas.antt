@@ -1,20 +1,18 @@
 -- One numbering of all objects of a project.
 use Rattle.ninja_text.proofs.ForCallers.{element_at, same_some, choose, offset, in_flat_map}
-use Rattle.std.proofs.Common.{◌≡◌, ℕ, ◌+◌, ◌*◌, ◌<◌, List, length, Option, Some, refl, ap, subst, sym, ◌∙◌, inl, inr, arith, slice_get}
-use Rattle.std.specs.Prelude.{slice_index}
+use Rattle.std.proofs.Common.{◌≡◌, ℕ, ◌+◌, ◌*◌, ◌<◌, List, length, Option, Some, refl, ap, subst, sym, ◌∙◌, inl, inr, arith, slice_get, slice_index, flat_map}
 use Rattle.std.specs.Option.{option_map_or}
-use Rattle.std.specs.List.{flat_map}
 use Rattle.std.proofs.lemmas.Option.{slice_get_within, get_or_from_slice_get}
 use Rattle.build_effect.specs.Numbering.{rank_at}
 use Rattle.module_maps.specs.Maps.{Written}
-use Rattle.collate_core.proofs.Levels.{above, two_levels}
+use Rattle.collate_core.proofs.Lists.{above, two_levels}
 use Rattle.module_table.specs.TableValue.{TableValue}
 use Rattle.module_table.specs.Modules.{Provides, Requires, IsProvided, DependsOn}
 use Rattle.module_table.specs.Added.{RequiredFiles, AllRequired, OneFile, FilesOnce}
 use Rattle.collate_core.specs.Values.{CollatedValue, ProjectTargetValue}
 use Rattle.collate_core.specs.Projects.{CollatesProject, project_tables}
 use Rattle.collate_core.specs.ProjectOrders.{ProjectProvides, IsProjectOrdered}
-use Rattle.collate_core.proofs.LinkedLemmas.{InfoIs, index_of, sound_of}
+use Rattle.collate_core.proofs.Linked.{InfoIs, index_of, sound_of}
 use Rattle.collate_core.proofs.NeededLemmas.{provided_from, same_provides}
 
 -- the ranks of a table's objects

@@ -38,28 +38,15 @@ pub fn check_edges(
 {
     one_effect();
     level_orders();
-    let new = rehearsed(alloc, collated, name, graph)?;
-    let sorting = edge_order(alloc, &new)?;
-    Ok(sorting)
-}
-
-/// Returns the graph after the effect of the collated target's dyndep file. The reader accepts its
-/// text, because the text stands for statements.
-fn rehearsed(
-    alloc: Global,
-    collated: &Collated,
-    name: &Path,
-    graph: &Graph,
-) -> Result<Graph, Failure<EffectFault>>
-    ensures effect { IfOk result (HasEffect collated.now.dyndep name.now graph.now) }
-    ensures fault { IfErr result (ForFault (LacksEffect collated.now.dyndep name.now graph.now)) }
-{
-    match rehearse(alloc, collated.dyndep(), name, graph, &[]) {
-        Ok(new) => Ok(new),
-        Err(Failure::Memory) => Err(Failure::Memory),
+    // the reader accepts the text, because it stands for statements
+    let new = match rehearse(alloc, collated.dyndep(), name, graph, &[]) {
+        Ok(new) => new,
+        Err(Failure::Memory) => return Err(Failure::Memory),
         Err(Failure::Fault(fault)) => match fault {
-            RehearseFault::Effect(fault) => Err(Failure::Fault(fault)),
+            RehearseFault::Effect(fault) => return Err(Failure::Fault(fault)),
             RehearseFault::Read(_) => unreachable!(),
         },
-    }
+    };
+    let sorting = edge_order(alloc, &new)?;
+    Ok(sorting)
 }

@@ -1,21 +1,18 @@
 //! Collating a target.
-ghost use Rattle.std.specs.Prelude.{◌≡◌, map, None, Ok, All, IfOk, OnOk, IfErr, MatchResult, IsErrAnd};
+ghost use Rattle.std.specs.Prelude.{◌≡◌, map, None, Ok, IfOk, IfErr};
 ghost use Rattle.std.specs.Option.{option_copied, option_map};
-ghost use Rattle.ninja_text.specs.Failure.{ForFault, Turns};
-ghost use Rattle.dyndep_file.specs.WriteFaults.{text_or_fault};
-ghost use Rattle.dyndep_file.specs.Reading.{StandsForOnly};
+ghost use Rattle.ninja_text.specs.Failure.{ForFault};
 ghost use Rattle.module_table.specs.TableValue.{table_with};
 ghost use Rattle.module_table.specs.Sound.{IsSound};
-ghost use Rattle.collate_core.specs.Documents.{IsResolved, table_of};
-ghost use Rattle.collate_core.specs.Statements.{statements_of};
-ghost use Rattle.collate_core.specs.Collation.{Collates, AreMaps};
+ghost use Rattle.collate_core.specs.Documents.{table_of};
+ghost use Rattle.collate_core.specs.Collation.{Collates};
 ghost use Rattle.collate_core.specs.Headline.{IsHeadline, IsDyndepOf};
 ghost use Rattle.collate_core.specs.Refusals.{IsRefusal, WasRead};
-ghost use Rattle.collate_core.specs.inner.Parts.{HasSpelled, IsReadFrom, IsTableText, IsTextsRefusal, IsWrittenOf};
+ghost use Rattle.collate_core.specs.inner.Parts.{IsTableText, IsTextsRefusal, IsWrittenOf};
 
 use crate::collated::Collated;
 use crate::fault::{Refusal, RefusedTarget, nothing_read, refusal_alone};
-use crate::info::info_text_of;
+use crate::info::lent_info;
 use crate::laws::headline;
 use crate::object_maps::maps_of;
 use crate::statements::dyndep_text;
@@ -25,6 +22,7 @@ use module_maps::MapStyle;
 use module_table::{Table, added_files};
 use ninja_text::{Failure, Path};
 use scan_docs::laws::info_again;
+use scan_docs::lent_info_write;
 use std::alloc::{AllocError, Global};
 
 /// Collates a target: its documents make a table, and the objects of the table make the dyndep
@@ -70,27 +68,17 @@ pub fn collate_or_refused<M: MapStyle>(
 {
     headline();
     let table = table_of(alloc, target)?;
-    let written = written_of(alloc, target, &table, style);
-    with_table(written, table)
-}
-
-/// Adds what was read of the target, which has this table, to an error.
-fn with_table(
-    collated: Result<Collated, Failure<Refusal>>,
-    table: Table,
-) -> Result<Collated, Failure<RefusedTarget>>
-    ensures { MatchResult collated (λ collated. result ≡ Ok collated)
-        (λ failure. IsErrAnd result (Turns (IsReadFrom table) failure)) }
-{
-    let (objects, infos) = table.into_resolved().into_parts();
-    match collated {
+    match written_of(alloc, target, &table, style) {
         Ok(collated) => Ok(collated),
         Err(Failure::Memory) => Err(Failure::Memory),
-        Err(Failure::Fault(refusal)) => Err(Failure::Fault(RefusedTarget {
-            refusal,
-            objects,
-            infos,
-        })),
+        Err(Failure::Fault(refusal)) => {
+            let (objects, infos) = table.into_resolved().into_parts();
+            Err(Failure::Fault(RefusedTarget {
+                refusal,
+                objects,
+                infos,
+            }))
+        }
     }
 }
 
@@ -111,7 +99,8 @@ pub(crate) fn written_of<M: MapStyle>(
     added_files();
     let text = dyndep_text(alloc, table.resolved())?;
     let maps = maps_of(alloc, table, style)?;
-    let info = info_text_of(alloc, target.name, target.kept, table)?;
+    let info = lent_info(alloc, target.name, target.kept, table)?;
+    let info = lent_info_write(alloc, &info)?;
     let objects = objects_of(alloc, table)?;
     Ok(Collated::new(text, info, objects, maps))
 }

@@ -1,7 +1,7 @@
 //! The info file of a target: its modules, for the targets that link it.
 ghost use Rattle.std.specs.Prelude.{◌≡◌, ◌++◌, IfOk, OnOk, IfSome};
 ghost use Rattle.ninja_text.specs.Bytes.{Name};
-ghost use Rattle.scan_docs.specs.InfoText.{info_text, ReadsBack};
+ghost use Rattle.scan_docs.specs.InfoText.{ReadsBack};
 ghost use Rattle.collate_core.specs.Infos.{is_private_name, modules_of, info_of_table};
 ghost use Rattle.collate_core.specs.inner.Parts.{IsTableText};
 ghost use Rattle.collate_core.specs.inner.ReadInfos.{IsReadAs};
@@ -11,29 +11,9 @@ use indexmap::IndexSet;
 use module_table::{Table, added_files};
 use ninja_text::Path;
 use scan_docs::laws::value_of_bytes;
-use scan_docs::{
-    DOCUMENT_LIMIT, Info, InfoModule, LentInfo, LentModule, Name, Rule, TargetName, lent_info_write,
-};
+use scan_docs::{DOCUMENT_LIMIT, Info, InfoModule, LentInfo, LentModule, Name, Rule, TargetName};
 use std::alloc::{AllocError, Global};
 use table_keys::{KeyDigest, TableKey};
-
-/// Returns the text of the info file of a target of this name. The names in `kept` are private.
-pub(crate) fn info_text_of(
-    alloc: Global,
-    name: &TargetName,
-    kept: &[Name],
-    table: &Table,
-) -> Result<Vec<u8>, AllocError>
-    requires { IsTableText table.now }
-    ensures text { IfOk result
-        (λ text. text.items ≡ info_text (info_of_table name.now kept.now table.now)) }
-    ensures reads_back { IfOk result
-        (λ text. ReadsBack (info_of_table name.now kept.now table.now) text.items) }
-{
-    added_files();
-    let info = lent_info(alloc, name, kept, table)?;
-    lent_info_write(alloc, &info)
-}
 
 /// Returns the info file that this text is read as. It is made from the table, so the text is not
 /// parsed. Returns `None` if the text is longer than a document may be.
@@ -54,11 +34,22 @@ pub(crate) fn info_again(
         return Ok(None);
     }
     let info = lent_info(alloc, name, kept, table)?;
-    Ok(Some(owned_info(alloc, &info)?))
+    let mut modules = Vec::with_capacity(alloc, info.modules.len())?;
+    for entry in &info.modules {
+        modules.push(InfoModule {
+            name: entry.name.copy(alloc)?,
+            file: entry.file.copy(alloc)?,
+            required: copy_pairs(alloc, entry.required)?,
+            is_private: entry.is_private,
+        })?;
+    }
+    let target = name.copy(alloc)?;
+    Ok(Some(Info { target, modules }))
 }
 
-/// Returns the info file of a target of this name, with all parts borrowed.
-fn lent_info<'t>(
+/// Returns the info file of a target of this name, with all parts borrowed. The names in `kept` are
+/// private.
+pub(crate) fn lent_info<'t>(
     alloc: Global,
     name: &'t TargetName,
     kept: &[Name],
@@ -116,30 +107,4 @@ fn add_modules<'t>(
         })?;
     }
     Ok(())
-}
-
-/// Returns the info file with copies of its parts.
-fn owned_info(alloc: Global, info: &LentInfo<'_>) -> Result<Info, AllocError>
-    ensures { IfOk result (λ copy. copy ≡ info.now) }
-{
-    let mut modules = Vec::with_capacity(alloc, info.modules.len())?;
-    for entry in &info.modules {
-        modules.push(owned_module(alloc, entry)?)?;
-    }
-    let target = info.target.copy(alloc)?;
-    Ok(Info { target, modules })
-}
-
-fn owned_module(alloc: Global, entry: &LentModule<'_>) -> Result<InfoModule, AllocError>
-    ensures { IfOk result (λ copy. copy ≡ entry.now) }
-{
-    let required = copy_pairs(alloc, entry.required)?;
-    let name = entry.name.copy(alloc)?;
-    let file = entry.file.copy(alloc)?;
-    Ok(InfoModule {
-        name,
-        file,
-        required,
-        is_private: entry.is_private,
-    })
 }

@@ -1,10 +1,10 @@
 //! Collating a target of a project, which links earlier targets.
-ghost use Rattle.std.specs.Prelude.{◌≡◌, ◌↔◌, ◌<◌, IfOk, IfErr, IfSome, IsTrue, All, map, length};
+ghost use Rattle.std.specs.Prelude.{◌≡◌, ◌<◌, IfOk, IfErr, IfSome, All, map, length};
 ghost use Rattle.std.specs.Option.{option_copied, option_map};
 ghost use Rattle.ninja_text.specs.Failure.{ForFault};
 ghost use Rattle.module_table.specs.TableValue.{table_with};
 ghost use Rattle.module_table.specs.Sound.{IsSound, PrivateAreProvided};
-ghost use Rattle.collate_core.specs.Refusals.{IsRefusal, WasRead};
+ghost use Rattle.collate_core.specs.Refusals.{WasRead};
 ghost use Rattle.collate_core.specs.Projects.{IsLinkedRefusal, target_of, linked_infos};
 ghost use Rattle.collate_core.specs.inner.Parts.{CollatesLinked};
 ghost use Rattle.collate_core.specs.inner.PartTables.{IsEnoughFor};
@@ -20,7 +20,7 @@ use crate::target::Target;
 use module_maps::MapStyle;
 use module_table::{Pool, Table, parts, sound_tables};
 use ninja_text::Failure;
-use scan_docs::{Info, Rule, info_read};
+use scan_docs::{Info, info_read};
 use std::alloc::{AllocError, Global};
 
 /// Collates a target with the info files of the targets that it links, all of which have to be
@@ -43,7 +43,8 @@ pub(crate) fn collate_linked<M: MapStyle>(
         WasRead (target_of outs.now target.now) refused.refusal
         (table_with refused.objects.items refused.infos.items))) }
 {
-    if !are_below(target.linked, outs.len()) {
+    let count = outs.len();
+    if !target.linked.iter().all(|index| *index < count) {
         return Err(Failure::Fault(without_table(alloc, Refusal::LinkedLater)));
     }
     let infos = infos_of(alloc, target.linked, outs)?;
@@ -54,22 +55,15 @@ pub(crate) fn collate_linked<M: MapStyle>(
         infos: &infos,
         kept: target.kept,
     };
-    match collate_by_part(alloc, &with_infos, target.linked, pool, style)? {
-        Some(found) => Ok(found),
-        None => collate_whole(alloc, &with_infos, style),
+    if let Some(found) = collate_by_part(alloc, &with_infos, target.linked, pool, style)? {
+        return Ok(found);
     }
-}
-
-/// Returns whether all indexes are below this one.
-fn are_below(indexes: &[usize], bound: usize) -> bool
-    ensures { IsTrue result ↔ All (λ k. k < bound) indexes.now }
-{
-    for index in indexes {
-        if *index >= bound {
-            return false;
-        }
+    let out = collate_or_refused(alloc, &with_infos, style)?;
+    match info_read(alloc, out.info()) {
+        Ok(info) => Ok((out, Some(info))),
+        Err(Failure::Memory) => Err(Failure::Memory),
+        Err(Failure::Fault(_)) => Ok((out, None)),
     }
-    true
 }
 
 /// Returns the info files that the targets of these indexes wrote.
@@ -107,25 +101,9 @@ fn collate_by_part<M: MapStyle>(
         Err(Failure::Memory) => return Err(AllocError),
         Err(Failure::Fault(_)) => return Ok(None),
     };
-    match pool.part(alloc, &objects, linked, style.is_some())? {
-        Some(part) => collate_part(alloc, target, objects, part, style),
-        None => Ok(None),
-    }
-}
-
-/// Collates a target with these objects by a part of what it links.
-fn collate_part<M: MapStyle>(
-    alloc: Global,
-    target: &Target<'_>,
-    objects: Vec<Rule>,
-    part: Vec<Info>,
-    style: Option<&M>,
-) -> Result<Option<(Collated, Option<Info>)>, AllocError>
-    requires { IsEnoughFor target.now (option_map M.written (option_copied style))
-        (table_with objects.items part.items) }
-    ensures { IfOk result (λ found. IfSome found
-        (CollatesAndReads target.now (option_map M.written (option_copied style.entry)))) }
-{
+    let Some(part) = pool.part(alloc, &objects, linked, style.is_some())? else {
+        return Ok(None);
+    };
     match Table::build(alloc, objects, part, target.kept) {
         Ok(table) => part_collated(alloc, target, &table, style),
         Err(Failure::Memory) => Err(AllocError),
@@ -133,7 +111,7 @@ fn collate_part<M: MapStyle>(
     }
 }
 
-/// Collates a target by the table of such a part.
+/// Collates a target by the table of a part that is enough.
 fn part_collated<M: MapStyle>(
     alloc: Global,
     target: &Target<'_>,
@@ -154,35 +132,6 @@ fn part_collated<M: MapStyle>(
             let info = info_again(alloc, target.name, target.kept, table, out.info())?;
             Ok(Some((out, info)))
         }
-        Err(Failure::Memory) => Err(AllocError),
-        Err(Failure::Fault(_)) => Ok(None),
-    }
-}
-
-/// Collates a target by the table of all that it links.
-fn collate_whole<M: MapStyle>(
-    alloc: Global,
-    target: &Target<'_>,
-    style: Option<&M>,
-) -> Result<(Collated, Option<Info>), Failure<RefusedTarget>>
-    ensures collated { IfOk result
-        (CollatesAndReads target.now (option_map M.written (option_copied style.entry))) }
-    ensures refused { IfErr result (ForFault (λ refused. IsRefusal target.now
-        (option_map M.written (option_copied style.entry)) refused.refusal)) }
-    ensures read { IfErr result (ForFault (λ refused. WasRead target.now refused.refusal
-        (table_with refused.objects.items refused.infos.items))) }
-{
-    let out = collate_or_refused(alloc, target, style)?;
-    let info = read_info(alloc, out.info())?;
-    Ok((out, info))
-}
-
-/// Returns what an info is read as, or `None` if it is longer than a document may be.
-fn read_info(alloc: Global, document: &[u8]) -> Result<Option<Info>, AllocError>
-    ensures { IfOk result (λ known. IfSome known (IsReadAs document.now)) }
-{
-    match info_read(alloc, document) {
-        Ok(info) => Ok(Some(info)),
         Err(Failure::Memory) => Err(AllocError),
         Err(Failure::Fault(_)) => Ok(None),
     }

@@ -1,7 +1,7 @@
 //! Projects: targets that link earlier ones.
-ghost use Rattle.std.specs.Prelude.{◌≡◌, ◌↔◌, ◌<◌, List, [], IfOk, OnOk, IfErr, IfSome, IsTrue, All, map, length};
+ghost use Rattle.std.specs.Prelude.{IfOk, IfErr, IfSome};
 ghost use Rattle.std.specs.Option.{option_copied, option_map};
-ghost use Rattle.ninja_text.specs.Failure.{ForFault, Turns};
+ghost use Rattle.ninja_text.specs.Failure.{ForFault};
 ghost use Rattle.module_table.specs.TableValue.{table_with};
 ghost use Rattle.collate_core.specs.Projects.{CollatesProject, IsProjectRefusal, WasReadAt, project_tables};
 ghost use Rattle.collate_core.specs.ProjectOrders.{AllOrders, IsProjectOrdered, EndIsOrderable};
@@ -125,29 +125,6 @@ pub fn project_or_refused<M: MapStyle>(
     project_orders();
     project_maps();
     let mut outs = Vec::new(alloc);
-    add_outs(alloc, targets, style, &mut outs)?;
-    Ok(ProjectOut { targets: outs })
-}
-
-/// Collates the targets in order into the empty list, up to the first that has a rejection.
-fn add_outs<M: MapStyle>(
-    alloc: Global,
-    targets: &[ProjectTarget<'_>],
-    style: Option<&M>,
-    outs: &mut Vec<Collated>,
-) -> Result<(), Failure<(usize, RefusedTarget)>>
-    requires { outs.old.items ≡ [] }
-    ensures collated { OnOk result
-        (CollatesProject (option_map M.written (option_copied style.entry))
-        targets.now outs.new.items) }
-    ensures refused { IfErr result (ForFault (λ refused.
-        IsProjectRefusal (option_map M.written (option_copied style.entry))
-        targets.now refused.0 refused.1.refusal)) }
-    ensures read { IfErr result (ForFault (λ refused.
-        WasReadAt (option_map M.written (option_copied style.entry))
-        targets.now refused.0 refused.1.refusal
-        (table_with refused.1.objects.items refused.1.infos.items))) }
-{
     let mut pool = Pool::new(alloc, scans_key(targets));
     for (index, target) in targets.iter().enumerate() {
         match collate_linked(alloc, target, outs.as_slice(), &pool, style) {
@@ -155,10 +132,10 @@ fn add_outs<M: MapStyle>(
                 pool = pool.push(alloc, info)?;
                 outs.push(out)?;
             }
-            Err(failure) => return Err(of_target(index, failure)),
+            Err(failure) => return Err(failure.map(|refused| (index, refused))),
         }
     }
-    Ok(())
+    Ok(ProjectOut { targets: outs })
 }
 
 /// Returns the key of a table of the modules of these targets. It is made of the documents that name
@@ -171,11 +148,4 @@ fn scans_key(targets: &[ProjectTarget<'_>]) -> TableKey {
         }
     }
     digest.key()
-}
-
-/// Adds the target's index to a failure.
-fn of_target(index: usize, failure: Failure<RefusedTarget>) -> Failure<(usize, RefusedTarget)>
-    ensures { Turns (λ refused found. found ≡ (index, refused)) failure result }
-{
-    failure.map(|refused| (index, refused))
 }

@@ -1,8 +1,7 @@
 //! What a dyndep text does to a graph.
-ghost use Rattle.std.specs.Prelude.{[], IfOk, OnOk, IfErr};
+ghost use Rattle.std.specs.Prelude.{IfOk, IfErr};
 ghost use Rattle.ninja_text.specs.Failure.{ForFault};
 ghost use Rattle.dyndep_file.specs.Reading.{StandsFor};
-ghost use Rattle.dyndep_file.specs.Reader.{HasReadDyndep};
 ghost use Rattle.collate_core.specs.Rehearsal.{HasEffect, IsReadFaultOf, IsRehearseFault};
 
 use crate::fault::RehearseFault;
@@ -43,22 +42,8 @@ fn read_pieces(alloc: Global, text: &[u8], cuts: &[usize]) -> Result<Dyndep, Fai
     ensures read { IfOk result (StandsFor text.now) }
     ensures refused { IfErr result (ForFault (IsReadFaultOf text.now)) }
 {
-    let mut reader = DyndepReader::new(alloc);
-    feed_pieces(&mut reader, text, cuts)?;
-    reader.finish()
-}
-
-/// Feeds the text to the new reader in pieces of these lengths.
-fn feed_pieces(
-    reader: &mut DyndepReader,
-    text: &[u8],
-    cuts: &[usize],
-) -> Result<(), Failure<ReadFault>>
-    requires { HasReadDyndep [] reader.old }
-    ensures read { OnOk result (HasReadDyndep text.now reader.new) }
-    ensures refused { IfErr result (ForFault (IsReadFaultOf text.now)) }
-{
     laws::fault_stays();
+    let mut reader = DyndepReader::new(alloc);
     let mut rest = text;
     for cut in cuts {
         let len = if *cut < rest.len() { *cut } else { rest.len() };
@@ -67,5 +52,5 @@ fn feed_pieces(
         rest = more;
     }
     reader.feed(rest)?;
-    Ok(())
+    reader.finish()
 }

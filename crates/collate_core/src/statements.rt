@@ -1,19 +1,18 @@
 //! The text of the statements of a table's objects.
-ghost use Rattle.std.specs.Prelude.{◌≡◌, ◌++◌, ◌∷◌, List, ℕ, [], Ok, All, IfOk, OnOk, IfErr};
-ghost use Rattle.ninja_text.specs.Bytes.{PathText};
+ghost use Rattle.std.specs.Prelude.{◌≡◌, ◌++◌, ◌∷◌, List, [], Ok, All, IfOk, OnOk, IfErr};
 ghost use Rattle.ninja_text.specs.Failure.{ForFault};
 ghost use Rattle.dyndep_file.specs.StatementValue.{StatementValue};
 ghost use Rattle.dyndep_file.specs.WriteFaults.{text_or_fault};
 ghost use Rattle.dyndep_file.specs.Reading.{StandsForOnly};
 ghost use Rattle.dyndep_file.specs.Texts.{IsTextOf};
-ghost use Rattle.collate_core.specs.Statements.{module_files, statement_of, statements_of};
+ghost use Rattle.collate_core.specs.Statements.{module_files, statements_of};
 ghost use Rattle.collate_core.specs.inner.Parts.{lent_files, IsSpelled, HasSpelled, IsWriteRefusal, IsLineRefusal};
 
 use crate::fault::Refusal;
 use dyndep_file::{DyndepText, LentStatement, WriteFault, laws};
 use module_table::Resolved;
 use ninja_text::{Failure, Path};
-use scan_docs::{Name, Rule};
+use scan_docs::Name;
 use std::alloc::{AllocError, Global};
 
 /// Returns the text of one statement per object, in the order of the objects, or the first statement
@@ -33,51 +32,17 @@ pub(crate) fn dyndep_text(alloc: Global, table: &Resolved) -> Result<Vec<u8>, Fa
     let mut inputs = Vec::new(alloc);
     let objects = table.objects();
     for (index, rule) in objects.iter().enumerate() {
-        let required = table.required(index);
-        add_object(&mut text, rule, required, &mut outputs, &mut inputs)?;
+        lend_files(&rule.provided, &mut outputs)?;
+        lend_files(table.required(index), &mut inputs)?;
+        let statement = LentStatement {
+            output: rule.object.bytes(),
+            implicit_outputs: &outputs,
+            implicit_inputs: &inputs,
+            restat: !rule.provided.is_empty(),
+        };
+        add(&mut text, &statement)?;
     }
     Ok(text.finish())
-}
-
-/// Adds the statement of an object that requires these modules. The lists borrow the files.
-fn add_object<'t>(
-    text: &mut DyndepText,
-    rule: &'t Rule,
-    required: &'t [(Name, Path)],
-    outputs: &mut Vec<&'t [u8]>,
-    inputs: &mut Vec<&'t [u8]>,
-) -> Result<(), Failure<Refusal>>
-    ensures added { OnOk result ((statements : List StatementValue) →
-        IsTextOf statements text.old →
-        IsTextOf (statements ++ statement_of (rule.now, required.now) ∷ []) text.new) }
-    ensures spelled { OnOk result (HasSpelled (statement_of (rule.now, required.now))) }
-    ensures refused { IfErr result (ForFault
-        (IsLineRefusal text.old.count (statement_of (rule.now, required.now)))) }
-{
-    lend_files(&rule.provided, outputs)?;
-    lend_files(required, inputs)?;
-    add(text, &lent_statement(rule, outputs, inputs))
-}
-
-/// Returns the statement of an object, with these implicit outputs and inputs.
-fn lent_statement<'l>(
-    rule: &'l Rule,
-    outputs: &'l [&'l [u8]],
-    inputs: &'l [&'l [u8]],
-) -> LentStatement<'l>
-    requires outputs { lent_files outputs.now ≡ module_files rule.now.provided }
-    requires spelled { All IsSpelled (lent_files outputs.now)
-        × All IsSpelled (lent_files inputs.now) }
-    ensures statement { (required : List (Name × PathText)) →
-        lent_files inputs.now ≡ module_files required → result ≡ statement_of (rule.now, required) }
-    ensures spelled { HasSpelled result }
-{
-    LentStatement {
-        output: rule.object.bytes(),
-        implicit_outputs: outputs,
-        implicit_inputs: inputs,
-        restat: !rule.provided.is_empty(),
-    }
 }
 
 /// Replaces what is in the list with the files of these modules.

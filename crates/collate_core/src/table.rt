@@ -4,9 +4,9 @@ ghost use Rattle.ninja_text.specs.Failure.{ForFault, Turns};
 ghost use Rattle.scan_docs.specs.Scan.{IsRuleText};
 ghost use Rattle.module_table.specs.TableValue.{table_with};
 ghost use Rattle.module_maps.specs.Maps.{Written};
-ghost use Rattle.collate_core.specs.Documents.{all_rules, table_of, AreScansAccepted, AreAccepted, IsResolved};
+ghost use Rattle.collate_core.specs.Documents.{all_rules, table_of, AreScansAccepted, IsResolved};
 ghost use Rattle.collate_core.specs.Refusals.{IsRefusal, IsScanRefusal, IsInfoRefusal, WasRead};
-ghost use Rattle.collate_core.specs.inner.Parts.{IsTableText, ForScan, ForInfo, IsDocumentRefusal, IsOfTable};
+ghost use Rattle.collate_core.specs.inner.Parts.{IsTableText, ForScan, ForInfo, IsOfTable};
 ghost use Rattle.collate_core.specs.inner.ReadInfos.{AreReadAs};
 
 use crate::fault::{Refusal, RefusedTarget, nothing_read};
@@ -31,8 +31,12 @@ pub(crate) fn table_of(alloc: Global, target: &Target<'_>) -> Result<Table, Fail
     ensures read { IfErr result (ForFault (λ refused. WasRead target.now refused.refusal
         (table_with refused.objects.items refused.infos.items))) }
 {
-    let (objects, infos) = match documents_of(alloc, target) {
-        Ok(read) => read,
+    let objects = match rules_of_all(alloc, target.setting, target.scans) {
+        Ok(objects) => objects,
+        Err(failure) => return Err(nothing_read(alloc, failure)),
+    };
+    let infos = match infos_of_all(alloc, target.infos) {
+        Ok(infos) => infos,
         Err(failure) => return Err(nothing_read(alloc, failure)),
     };
     Table::build_or_refused(alloc, objects, infos, target.kept).map_err(of_table)
@@ -49,23 +53,6 @@ fn of_table(failure: Failure<RefusedTable>) -> Failure<RefusedTarget>
         objects: refused.objects,
         infos: refused.infos,
     })
-}
-
-/// Returns the rules and the info files of the target's documents, or the fault of the first that
-/// has one.
-fn documents_of(
-    alloc: Global,
-    target: &Target<'_>,
-) -> Result<(Vec<Rule>, Vec<Info>), Failure<Refusal>>
-    ensures table { IfOk result
-        (λ read. table_with read.0.items read.1.items ≡ table_of target.now) }
-    ensures accepted { OnOk result (AreAccepted target.now) }
-    ensures text { IfOk result (λ read. IsTableText (table_with read.0.items read.1.items)) }
-    ensures refused { IfErr result (ForFault (IsDocumentRefusal target.now)) }
-{
-    let objects = rules_of_all(alloc, target.setting, target.scans)?;
-    let infos = infos_of_all(alloc, target.infos)?;
-    Ok((objects, infos))
 }
 
 /// Returns the rules of all scan documents, one document after another.

@@ -10,16 +10,16 @@ use Rattle.dyndep_file.specs.declared.fault.WriteFault.TheVariants as write
 use Rattle.scan_docs.specs.Scan.{RuleValue, IsRuleText}
 use Rattle.scan_docs.specs.InfoText.{IsInfoText, info_text, ReadsBack}
 use Rattle.scan_docs.specs.declared.fault.DocFault.{DocFault}
-use Rattle.module_table.specs.TableValue.{TableValue, table_with}
+use Rattle.module_table.specs.TableValue.{TableValue}
 use Rattle.module_table.specs.declared.fault.RefusedTable.{RefusedTable}
 use Rattle.module_maps.specs.Maps.{Written}
 use Rattle.build_effect.specs.declared.fault.EffectFault.{EffectFault}
 use Rattle.collate_core.specs.Values.{TargetValue, CollatedValue, ProjectTargetValue}
-use Rattle.collate_core.specs.Documents.{table_of, AreScansAccepted, IsResolved}
+use Rattle.collate_core.specs.Documents.{table_of, IsResolved}
 use Rattle.collate_core.specs.Statements.{statements_of}
 use Rattle.collate_core.specs.Infos.{info_of_table}
 use Rattle.collate_core.specs.Collation.{AreMaps, Collates}
-use Rattle.collate_core.specs.Refusals.{IsScanRefusal, IsInfoRefusal, IsMapFault, IsMapRefusal, IsRefusal}
+use Rattle.collate_core.specs.Refusals.{IsMapFault, IsMapRefusal, IsRefusal}
 use Rattle.collate_core.specs.Projects.{target_of, LinksEarlier}
 use Rattle.collate_core.specs.declared.fault.Refusal.{Refusal}
 use Rattle.collate_core.specs.declared.fault.RefusedTarget.{RefusedTarget}
@@ -55,14 +55,6 @@ abbrev pub ForInfo : (ℕ → DocFault → Type 0) → Refusal → Type 0
 ForInfo P (Info index fault) = P index fault
 ForInfo P other = ⊥
 
--- the rejection is of a document of the target, and so the same whatever the style
-abbrev pub IsDocumentRefusal : TargetValue → Refusal → Type 0
-IsDocumentRefusal target (Scan index fault) =
-    IsScanRefusal target.setting target.scans index fault
-IsDocumentRefusal target (Info index fault) =
-    AreScansAccepted target.setting target.scans × IsInfoRefusal target.infos index fault
-IsDocumentRefusal target other = ⊥
-
 -- the fault is of the effect, and this holds of it
 abbrev pub ForEffect : (EffectFault → Type 0) → RehearseFault → Type 0
 ForEffect P (Effect fault) = P fault
@@ -95,11 +87,6 @@ IsObjectRefusal t written o refusal = ⊥
 abbrev pub IsOfTable : RefusedTable → RefusedTarget → Type 0
 IsOfTable given refused = (refused.refusal ≡ Table given.fault)
     × (refused.objects ≡ given.objects) × (refused.infos ≡ given.infos)
-
--- the rejection with what was read, which has this table
-abbrev pub IsReadFrom : TableValue → Refusal → RefusedTarget → Type 0
-IsReadFrom t refusal refused = (refused.refusal ≡ refusal)
-    × (table_with refused.objects.items refused.infos.items ≡ t)
 
 -- the rejection is that of each target whose documents have this table
 abbrev pub IsTextsRefusal : TableValue → Option Written → Refusal → Type 0

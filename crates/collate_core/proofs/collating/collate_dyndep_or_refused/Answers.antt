@@ -14,10 +14,8 @@ use Rattle.collate_core.specs.Collation.{HasPaths, Collates}
 use Rattle.collate_core.specs.Refusals.{IsRefusal, WasRead}
 use Rattle.collate_core.specs.declared.fault.RefusedTarget.{RefusedTarget}
 use Rattle.collate_core.specs.inner.Parts.{IsWriteRefusal, HasSpelled}
-use Rattle.collate_core.proofs.Parts.{collates, texts_refused, write_refused, any_style, write_read}
-use Rattle.collate_core.proofs.Texts.{info_is_sound}
-use Rattle.collate_core.proofs.Turning.{turned}
-use Rattle.collate_core.proofs.Writing.{has_paths}
+use Rattle.collate_core.proofs.Parts.{collates, texts_refused, write_refused, any_style, write_read, turned, has_paths}
+use Rattle.collate_core.proofs.Documents.{info_is_sound}
 use Rattle.collate_core.proofs.collating.collate_dyndep_or_refused.Goals as goal
 
 pub returns-in_err-table-clause-refused : goal.returns-in_err-table-clause-refused

@@ -3,7 +3,7 @@ use Rattle.std.proofs.Common.{map, take, ap, refl, sym, ◌∙◌}
 use Rattle.std.proofs.lemmas.List.{take_all}
 use Rattle.std.proofs.lemmas.Option.{slice_get_read}
 use Rattle.scan_docs.specs.Scan.{RuleValue}
-use Rattle.collate_core.proofs.LoopLemmas.{map_push}
+use Rattle.collate_core.proofs.Outcomes.{map_push}
 use Rattle.collate_core.proofs.collating.objects_of.Goals as goal
 
 pub loop-rule-preserved : goal.loop-rule-preserved

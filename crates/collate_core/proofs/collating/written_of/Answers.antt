@@ -1,4 +1,4 @@
-use Rattle.std.proofs.Common.{◌≡◌, List, Ok, ap, subst, All}
+use Rattle.std.proofs.Common.{◌≡◌, List, Ok, ap, subst, sym, All}
 use Rattle.std.proofs.lemmas.Result.{err_from_is_err_and}
 use Rattle.dyndep_file.specs.StatementValue.{StatementValue}
 use Rattle.dyndep_file.specs.WriteFaults.{text_or_fault}
@@ -6,9 +6,10 @@ use Rattle.dyndep_file.specs.Reading.{StandsForOnly}
 use Rattle.collate_core.specs.Statements.{statements_of}
 use Rattle.collate_core.specs.Collation.{HasPaths}
 use Rattle.collate_core.specs.inner.Parts.{HasSpelled}
-use Rattle.collate_core.proofs.HeadlineLemmas.{collated_text}
-use Rattle.collate_core.proofs.Parts.{write_refused, maps_refused}
-use Rattle.collate_core.proofs.Writing.{has_paths, no_fault}
+use Rattle.scan_docs.specs.InfoText.{IsInfoText}
+use Rattle.collate_core.proofs.Documents.{info_is_text}
+use Rattle.collate_core.proofs.Effects.{collated_text}
+use Rattle.collate_core.proofs.Parts.{write_refused, maps_refused, has_paths, no_fault}
 use Rattle.collate_core.proofs.collating.written_of.Goals as goal
 
 pub returns-in_err-text-clause-refused : goal.returns-in_err-text-clause-refused
@@ -22,6 +23,9 @@ returns-in_err-maps-clause-refused g c =
     let statements = statements_of c.resolved.result.now in
     let p = err_from_is_err_and c.from_residual-in_err-maps.result c.from_residual-in_err-maps.ensures.1 in
     rw (p.1, p.2) (maps_refused _ c.args.table.now statements (ap statements_of c.resolved.ensures) (no_fault statements c.in_ok-text.text.items c.in_ok-text.ensures.text) _ c.in_err-maps.ensures.refused)
+
+pub lent_info_write-requires : goal.lent_info_write-requires
+lent_info_write-requires g c = subst IsInfoText (sym c.in_ok-info.ensures) (info_is_text c.args.table.now c.requires.text c.added_files.ensures.required c.target.inside.name.now c.target.inside.kept.now)
 
 pub new-requires : goal.new-requires
 new-requires g c =
@@ -41,7 +45,7 @@ returns-clause-written g c =
       stands = subst (StandsForOnly c.in_ok-text.text.items) are c.in_ok-text.ensures.meaning;
       text = subst (λ (ss : List StatementValue). text_or_fault ss ≡ Ok c.in_ok-text.text.items) are c.in_ok-text.ensures.text;
       objects = c.in_ok-objects.ensures;
-      info = rw (← c.target.view_is) c.in_ok-info.ensures.text;
-      reads = rw (← c.target.view_is) c.in_ok-info.ensures.reads_back;
+      info = rw (← c.target.view_is, ← c.in_ok-info.ensures) c.in_ok-info-2.ensures.text;
+      reads = rw (← c.target.view_is, ← c.in_ok-info.ensures) c.in_ok-info-2.ensures.reads_back;
       maps = c.in_ok-maps.ensures.maps;
     })

@@ -1,6 +1,6 @@
 use Rattle.std.proofs.Common.{rules, ◌≡◌}
 use Rattle.collate_core.specs.declared.fault.RefusedTarget.{RefusedTarget}
-use Rattle.collate_core.proofs.Turning.{turns_weaker}
+use Rattle.collate_core.proofs.Parts.{turns_weaker}
 use Rattle.collate_core.proofs.fault.nothing_read.Goals as goal
 
 pub returns : goal.returns

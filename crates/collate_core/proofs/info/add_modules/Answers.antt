@@ -2,7 +2,7 @@ use Rattle.ninja_text.proofs.ForCallers.{take_next}
 use Rattle.std.proofs.Common.{rules, ◌≡◌, ◌+◌, ◌++◌, ◌∷◌, [], ℕ, List, take, map, ap, refl, append_assoc}
 use Rattle.std.proofs.lemmas.Option.{slice_get_read}
 use Rattle.collate_core.specs.Infos.{module_of}
-use Rattle.collate_core.proofs.LoopLemmas.{map_push}
+use Rattle.collate_core.proofs.Outcomes.{map_push}
 use Rattle.collate_core.proofs.info.add_modules.Goals as goal
 
 -- said here, so that a body which does something else is rejected soon

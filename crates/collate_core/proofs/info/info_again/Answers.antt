@@ -1,17 +1,19 @@
-use Rattle.std.proofs.Common.{◌≡◌, ◌≤◌, length, subst, sym, ◌∙◌, arith}
+use Rattle.std.proofs.Common.{◌≡◌, ◌≤◌, ℕ, List, length, ap, ap₂, subst, sym, ◌∙◌, arith, take_all}
 use Rattle.scan_docs.specs.Document.{IsAccepted}
-use Rattle.scan_docs.specs.Info.{InfoValue, IsInfo}
+use Rattle.scan_docs.specs.Info.{InfoValue, ModuleValue, IsInfo}
 use Rattle.scan_docs.specs.InfoChecks.{info_checks}
 use Rattle.scan_docs.specs.InfoText.{IsInfoText}
 use Rattle.scan_docs.specs.Values.{info_of}
 use Rattle.collate_core.specs.Infos.{info_of_table}
-use Rattle.collate_core.proofs.Texts.{info_is_text}
+use Rattle.collate_core.proofs.Documents.{info_is_text}
 use Rattle.collate_core.proofs.info.info_again.Goals as goal
 
 pub returns : goal.returns
 returns c =
     let info : InfoValue = info_of_table c.args.name.now c.args.kept.now c.args.table.now in
-    let copy : c.in_ok-owned_info.field-0 ≡ info = c.in_ok-owned_info.ensures ∙ c.in_ok-info.ensures in
+    let modules = c.loop-entry.invariant ∙ take_all c.loop-entry.entry-index c.deref-entry-items.result.now c.loop-entry-test.false
+    ∙ c.deref-entry-items.ensures.value ∙ ap (λ (i : InfoValue). i.modules) (c.info.view_is ∙ c.in_ok-info.ensures) in
+    let copy = ap₂ (λ (target : List ℕ) (modules : List ModuleValue). let i : InfoValue = record { target = target; modules = modules } in i) c.in_ok-target.ensures modules in
     let small : length c.args.text.now ≤ 16777216 = omega (arith, c.if-text-gt-DOCUMENT_LIMIT.false) in
     let accepted : IsAccepted info_checks IsInfo c.args.text.now info = c.requires.text.same small in
     let value : info ≡ info_of c.args.text.now = c.value_of_bytes.ensures.info c.args.text.now info accepted in

@@ -1,14 +1,12 @@
-use Rattle.std.proofs.Common.{◌≡◌, ◌≤◌, ◌++◌, ℕ, List, length, take, Some, refl, ap, subst, ◌∙◌}
-use Rattle.std.specs.Prelude.{slice_get}
-use Rattle.std.specs.List.{flat_map}
+use Rattle.std.proofs.Common.{◌≡◌, ◌≤◌, ◌++◌, ℕ, List, length, take, Some, refl, ap, subst, ◌∙◌, slice_get, flat_map}
 use Rattle.std.proofs.lemmas.Option.{slice_get_read}
 use Rattle.scan_docs.specs.Scan.{RuleValue}
 use Rattle.scan_docs.specs.Info.{InfoValue, ModuleValue}
 use Rattle.module_table.specs.TableValue.{TableValue}
 use Rattle.module_table.specs.Added.{tasks_of}
 use Rattle.collate_core.specs.Infos.{modules_of, info_of_table}
-use Rattle.collate_core.proofs.PrivateNames.{modules_same}
-use Rattle.collate_core.proofs.Tasks.{more_modules, all_modules}
+use Rattle.collate_core.proofs.Lists.{modules_same}
+use Rattle.collate_core.proofs.Documents.{more_modules, all_modules}
 use Rattle.collate_core.proofs.info.lent_info.Goals as goal
 
 -- if all objects are done, the modules are those of the table's info

@@ -1,5 +1,4 @@
-use Rattle.std.proofs.Common.{◌≡◌, take}
-use Rattle.std.specs.List.{flat_map}
+use Rattle.std.proofs.Common.{◌≡◌, take, flat_map}
 use Rattle.module_table.specs.Added.{tasks_of}
 use Rattle.collate_core.specs.Infos.{modules_of}
 use Rattle.collate_core.proofs.info.lent_info.Given as goal

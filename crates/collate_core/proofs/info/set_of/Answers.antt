@@ -1,9 +1,8 @@
-use Rattle.std.proofs.Common.{◌≡◌, ℕ, List, Some, refl, ap, sym, ◌∙◌}
-use Rattle.std.specs.Prelude.{slice_get}
+use Rattle.std.proofs.Common.{◌≡◌, ℕ, List, Some, refl, ap, sym, ◌∙◌, slice_get}
 use Rattle.std.proofs.lemmas.List.{take_all}
 use Rattle.std.proofs.lemmas.Option.{slice_get_read}
 use Rattle.collate_core.specs.Infos.{is_private_name}
-use Rattle.collate_core.proofs.PrivateNames.{one_more_name}
+use Rattle.collate_core.proofs.Lists.{one_more_name}
 use Rattle.collate_core.proofs.info.set_of.Goals as goal
 
 pub loop-name-preserved : goal.loop-name-preserved

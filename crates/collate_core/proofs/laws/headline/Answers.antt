@@ -1,4 +1,4 @@
-use Rattle.collate_core.proofs.HeadlineLemmas.{headline}
+use Rattle.collate_core.proofs.Effects.{headline}
 use Rattle.collate_core.proofs.laws.headline.Goals as goal
 
 pub returns : goal.returns

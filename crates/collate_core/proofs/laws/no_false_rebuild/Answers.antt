@@ -1,7 +1,6 @@
 use Rattle.std.proofs.Common.{[], ◌∷◌}
 use Rattle.collate_core.proofs.EdgeCycles.{no_false_rebuild}
-use Rattle.collate_core.proofs.TargetBuilds.{gained_after_target}
-use Rattle.collate_core.proofs.ProjectBuilds.{gained_after_project}
+use Rattle.collate_core.proofs.Gains.{gained_after_target, gained_after_project}
 use Rattle.collate_core.specs.Documents.{table_of}
 use Rattle.collate_core.specs.BuildLaws.{tables_of}
 use Rattle.collate_core.proofs.laws.no_false_rebuild.Goals as goal

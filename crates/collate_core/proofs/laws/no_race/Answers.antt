@@ -1,7 +1,6 @@
 use Rattle.std.proofs.Common.{[], ◌∷◌}
 use Rattle.collate_core.proofs.BuildLemmas as build
-use Rattle.collate_core.proofs.TargetBuilds.{gained_after_target}
-use Rattle.collate_core.proofs.ProjectBuilds.{gained_after_project, all_made}
+use Rattle.collate_core.proofs.Gains.{gained_after_target, gained_after_project, all_made}
 use Rattle.collate_core.specs.Documents.{table_of}
 use Rattle.collate_core.specs.BuildLaws.{tables_of}
 use Rattle.collate_core.proofs.laws.no_race.Goals as goal

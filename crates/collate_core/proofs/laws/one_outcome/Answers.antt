@@ -1,7 +1,4 @@
-use Rattle.collate_core.proofs.Outcomes.{OneAnswer, not_refused}
-use Rattle.collate_core.proofs.OneRefusal.{one_refusal}
-use Rattle.collate_core.proofs.OneProjectRefusal.{one_project_refusal}
-use Rattle.collate_core.proofs.ProjectOutcomes.{project_not_refused}
+use Rattle.collate_core.proofs.Outcomes.{OneAnswer, not_refused, one_refusal, one_project_refusal, project_not_refused}
 use Rattle.collate_core.proofs.laws.one_outcome.Goals as goal
 
 pub returns-clause-collate : goal.returns-clause-collate

@@ -1,8 +1,6 @@
-use Rattle.collate_core.proofs.HeadlineLemmas.{added_once}
-use Rattle.collate_core.proofs.LinkedLemmas.{sound_of}
-use Rattle.collate_core.proofs.ProjectLemmas as lemmas
+use Rattle.collate_core.proofs.Linked.{sound_of}
+use Rattle.collate_core.proofs.Effects as lemmas
 use Rattle.collate_core.proofs.ProjectOrderLemmas as order
-use Rattle.collate_core.proofs.EndLemmas as end
 use Rattle.collate_core.proofs.laws.project_orders.Goals as goal
 
 pub returns-clause-numbered : goal.returns-clause-numbered
@@ -20,5 +18,5 @@ returns-clause-orderable c = λ style targets outs project g names order_of h ra
     let laws = c.added_files.ensures in
     let orders = lemmas.orders laws.orderable laws.once laws.apart laws.required c.any_order.ensures.any_order c.any_order.ensures.end_alike style targets outs project in
     let ordered = order.ordered laws.required laws.all_required laws.one_file laws.once c.value_of_bytes.ensures.info style targets outs project in
-    end.end_orderable c.files_order.ensures laws.required style targets outs project orders ordered
-    (λ n t at. added_once t (sound_of style targets outs project n t at) laws.orderable laws.once laws.apart laws.required) g names count meets order_of h ranks new outputs level all indices applies
+    lemmas.end_orderable c.files_order.ensures laws.required style targets outs project orders ordered
+    (λ n t at. lemmas.added_once t (sound_of style targets outs project n t at) laws.orderable laws.once laws.apart laws.required) g names count meets order_of h ranks new outputs level all indices applies

@@ -1,12 +1,11 @@
 use Rattle.ninja_text.proofs.ForCallers.{element_at, take_next}
-use Rattle.std.proofs.Common.{◌≡◌, ℕ, ◌+◌, ◌<◌, List, [], ◌∷◌, ◌++◌, length, take, get_or, Option, Some, ap, subst, sym, ◌∙◌}
-use Rattle.std.specs.Prelude.{slice_get}
+use Rattle.std.proofs.Common.{◌≡◌, ℕ, ◌+◌, ◌<◌, List, [], ◌∷◌, ◌++◌, length, take, get_or, Option, Some, ap, subst, sym, ◌∙◌, slice_get}
 use Rattle.std.specs.Option.{option_map_or}
 use Rattle.std.proofs.lemmas.List.{map-append, take_all}
 use Rattle.std.proofs.lemmas.Option.{get_or_from_slice_get}
 use Rattle.collate_core.specs.Values.{CollatedValue}
 use Rattle.collate_core.specs.Projects.{linked_infos}
-use Rattle.collate_core.proofs.LoopLemmas.{map_push}
+use Rattle.collate_core.proofs.Outcomes.{map_push}
 use Rattle.collate_core.proofs.linking.infos_of.Goals as goal
 
 pub loop-target-preserved : goal.loop-target-preserved

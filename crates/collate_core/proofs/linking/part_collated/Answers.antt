@@ -1,10 +1,8 @@
-use Rattle.std.proofs.Common.{Option, List, ℕ, subst}
-use Rattle.std.specs.Prelude.{IfSome}
-use Rattle.std.specs.Option.{option_copied, option_map}
+use Rattle.std.proofs.Common.{Option, List, ℕ, subst, IfSome, option_copied, option_map}
 use Rattle.module_maps.specs.Maps.{Written}
 use Rattle.collate_core.specs.Values.{TargetValue}
 use Rattle.collate_core.specs.inner.ReadInfos.{IsReadAs}
-use Rattle.collate_core.proofs.PartTargets.{PartLaws, table_collates}
+use Rattle.collate_core.proofs.Parts.{PartLaws, table_collates}
 use Rattle.collate_core.proofs.linking.part_collated.Goals as goal
 
 pub returns-in-Ok : goal.returns-in-Ok

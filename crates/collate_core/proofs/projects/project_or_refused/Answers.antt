@@ -1,24 +1,80 @@
-use Rattle.std.specs.Option.{option_copied}
-use Rattle.std.proofs.lemmas.Result.{err_from_is_err_and}
-use Rattle.collate_core.proofs.LoopLemmas.{maps_of_style}
+use Rattle.ninja_text.proofs.ForCallers.{take_next}
+use Rattle.std.proofs.Common.{rules, ◌≡◌, ℕ, ◌+◌, List, [], ◌∷◌, ◌++◌, take, length, Option, Some, refl, subst, sym, slice_get, option_copied, option_map}
+use Rattle.std.proofs.lemmas.List.{take_all}
+use Rattle.std.proofs.lemmas.Option.{slice_get_read}
+use Rattle.ninja_text.specs.Failure.{ForFault}
+use Rattle.module_maps.specs.Maps.{Written}
+use Rattle.collate_core.specs.Values.{CollatedValue, ProjectTargetValue}
+use Rattle.module_table.specs.TableValue.{TableValue, table_with}
+use Rattle.collate_core.specs.Refusals.{WasRead}
+use Rattle.collate_core.specs.Projects.{CollatesProject, IsLinkedRefusal, IsProjectRefusal, WasReadAt, target_of}
+use Rattle.collate_core.specs.declared.fault.RefusedTarget.{RefusedTarget}
+use Rattle.collate_core.specs.inner.Parts.{CollatesLinked}
+use Rattle.collate_core.specs.inner.ReadInfos.{AreKnown}
+use Rattle.collate_core.proofs.Lists.{known_added}
+use Rattle.collate_core.proofs.Outcomes.{maps_of_style, project_push, refused_here}
+use Rattle.collate_core.proofs.Parts.{turned, turns_weaker}
 use Rattle.collate_core.proofs.projects.project_or_refused.Goals as goal
 
-pub returns-in_err-add_outs-clause-refused : goal.returns-in_err-add_outs-clause-refused
-returns-in_err-add_outs-clause-refused g c =
-    let p = err_from_is_err_and c.from_residual.result c.from_residual.ensures.1 in
-    rw (p.1, p.2) c.in_err-add_outs.ensures.refused
+pub loop-index-init : goal.loop-index-init
+loop-index-init g c =
+    record {
+      collated = rw c.new-outs.ensures.items (record { count = refl; earlier = λ n p at. absurd (cc); each = λ n p out at also. absurd (cc) });
+      known = rw (c.new-outs.ensures.items, c.new-pool.ensures) (record { count = refl; each = λ n out info at also. absurd (cc) });
+    }
+
+pub returns-in-Err-clause-refused : goal.returns-in-Err-clause-refused
+returns-in-Err-clause-refused g c =
+    let style : Option Written = option_map g.M.MapStyle.written (option_copied c.args.style) in
+    let targets : List ProjectTargetValue = c.args.targets.now in
+    let outs : List CollatedValue = c.loop-index.outs.items in
+    let n : ℕ = c.loop-index.index-counter in
+    let p : ProjectTargetValue = c.index-targets-index.result in
+    let here : slice_get targets n ≡ Some p = slice_get_read targets _ n _ refl c.loop-index-test.true c.index-targets-index.is in
+    turned (λ refused (found : ℕ × RefusedTarget). found ≡ (n, refused)) (λ (refused : RefusedTarget). IsLinkedRefusal style outs (length outs) p refused.refusal) (λ (found : ℕ × RefusedTarget). IsProjectRefusal style targets found.0 found.1.refusal)
+    (λ refused found same h. subst (λ (f : ℕ × RefusedTarget). IsProjectRefusal style targets f.0 f.1.refusal) (sym same) (refused_here style targets n outs p c.loop-index.invariant.collated here refused.refusal h))
+    c.in-Err.failure c.map.result (turns_weaker _ (λ refused (found : ℕ × RefusedTarget). found ≡ (n, refused)) (λ refused found post. search rules) c.in-Err.failure c.map.result c.map.ensures) (subst (λ os. ForFault (λ (refused : RefusedTarget). IsLinkedRefusal style os (length os) p refused.refusal) c.in-Err.failure) c.as_slice.ensures.value c.in-Err.ensures.refused)
+
+pub returns-in-Err-clause-read : goal.returns-in-Err-clause-read
+returns-in-Err-clause-read g c =
+    let style : Option Written = option_map g.M.MapStyle.written (option_copied c.args.style) in
+    let targets : List ProjectTargetValue = c.args.targets.now in
+    let outs : List CollatedValue = c.loop-index.outs.items in
+    let n : ℕ = c.loop-index.index-counter in
+    let p : ProjectTargetValue = c.index-targets-index.result in
+    let here : slice_get targets n ≡ Some p = slice_get_read targets _ n _ refl c.loop-index-test.true c.index-targets-index.is in
+    let read : RefusedTarget → TableValue = λ refused. table_with refused.objects.items refused.infos.items in
+    turned (λ refused (found : ℕ × RefusedTarget). found ≡ (n, refused)) (λ (refused : RefusedTarget). WasRead (target_of outs p) refused.refusal (read refused)) (λ (found : ℕ × RefusedTarget). WasReadAt style targets found.0 found.1.refusal (read found.1))
+    (λ refused found same h. subst (λ (f : ℕ × RefusedTarget). WasReadAt style targets f.0 f.1.refusal (read f.1)) (sym same) (outs, p, c.loop-index.invariant.collated, here, h))
+    c.in-Err.failure c.map.result (turns_weaker _ (λ refused (found : ℕ × RefusedTarget). found ≡ (n, refused)) (λ refused found post. search rules) c.in-Err.failure c.map.result c.map.ensures) (subst (λ os. ForFault (λ (refused : RefusedTarget). WasRead (target_of os p) refused.refusal (read refused)) c.in-Err.failure) c.as_slice.ensures.value c.in-Err.ensures.read)
+
+pub loop-index-preserved : goal.loop-index-preserved
+loop-index-preserved g c =
+    let style : Option Written = option_map g.M.MapStyle.written (option_copied c.args.style) in
+    let targets : List ProjectTargetValue = c.args.targets.now in
+    let n : ℕ = c.loop-index.index-counter in
+    let p : ProjectTargetValue = c.index-targets-index.result in
+    let here : slice_get targets n ≡ Some p = slice_get_read targets _ n _ refl c.loop-index-test.true c.index-targets-index.is in
+    let next : take (n + 1) targets ≡ take n targets ++ p ∷ [] = take_next targets n p here in
+    let outs : List CollatedValue = c.loop-index.outs.items in
+    let linked : CollatesLinked style outs p c.in-Ok.out = subst (λ (os : List CollatedValue). CollatesLinked style os p c.in-Ok.out) c.as_slice.ensures.value c.in-Ok.ensures.collated in
+    record {
+      collated = rw (next, c.in_ok-push-in-Ok.ensures.items) (project_push style (take n targets) outs c.loop-index.invariant.collated p c.in-Ok.out linked.0 linked.1);
+      known = subst (λ (os : List CollatedValue). AreKnown os c.in_ok-pool-in-Ok.pool) (sym c.in_ok-push-in-Ok.ensures.items)
+          (known_added outs c.loop-index.pool c.loop-index.invariant.known c.in-Ok.out c.in-Ok.info c.in-Ok.ensures.known c.in_ok-pool-in-Ok.pool c.in_ok-pool-in-Ok.ensures);
+    }
 
 pub returns-clause-collated : goal.returns-clause-collated
-returns-clause-collated g c = c.in_ok-add_outs.ensures.collated
+returns-clause-collated g c = subst (λ (ts : List ProjectTargetValue). CollatesProject (option_map g.M.MapStyle.written (option_copied c.args.style)) ts c.loop-index.outs.items) (take_all c.loop-index.index-counter c.args.targets.now c.loop-index-test.false) c.loop-index.invariant.collated
 
 pub returns-clause-orders : goal.returns-clause-orders
-returns-clause-orders g c = c.project_orders.ensures.orders _ _ _ c.in_ok-add_outs.ensures.collated
+returns-clause-orders g c = c.project_orders.ensures.orders _ _ _ (returns-clause-collated g c)
 
 pub returns-clause-numbered : goal.returns-clause-numbered
-returns-clause-numbered g c = c.project_orders.ensures.numbered _ _ _ c.in_ok-add_outs.ensures.collated
+returns-clause-numbered g c = c.project_orders.ensures.numbered _ _ _ (returns-clause-collated g c)
 
 pub returns-clause-orderable : goal.returns-clause-orderable
-returns-clause-orderable g c = c.project_orders.ensures.orderable _ _ _ c.in_ok-add_outs.ensures.collated
+returns-clause-orderable g c = c.project_orders.ensures.orderable _ _ _ (returns-clause-collated g c)
 
 pub returns-clause-maps : goal.returns-clause-maps
 returns-clause-maps g c =
@@ -28,4 +84,4 @@ returns-clause-maps g c =
       faults_of_maps = λ m line is. g.met.M.MapStyle.faults_of_maps s m line is;
       keeps_pairs = λ m is. g.met.M.MapStyle.keeps_pairs s m is;
     })
-    c.project_maps.ensures.maps c.args.targets.now c.add_outs.new.outs.items c.in_ok-add_outs.ensures.collated
+    c.project_maps.ensures.maps c.args.targets.now c.loop-index.outs.items (returns-clause-collated g c)

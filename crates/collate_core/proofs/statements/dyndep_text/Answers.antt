@@ -1,7 +1,5 @@
-use Rattle.std.proofs.Common.{◌≡◌, ℕ, ◌+◌, ◌≤◌, List, [], ◌∷◌, ◌++◌, length, map, take, drop, Some, refl, ap, subst, sym, ◌∙◌, append_assoc, All}
-use Rattle.std.specs.Prelude.{slice_get}
+use Rattle.std.proofs.Common.{rules, Bor, ◌≡◌, ℕ, ◌+◌, ◌≤◌, not, List, [], ◌∷◌, ◌++◌, length, map, take, drop, Some, Ok, refl, ap, subst, sym, ◌∙◌, All, slice_get}
 use Rattle.std.proofs.lemmas.Option.{slice_get_read}
-use Rattle.std.proofs.lemmas.List.{map-append, take-append-drop}
 use Rattle.std.proofs.lemmas.List.Elements.{All-push}
 use Rattle.std.proofs.lemmas.Result.{err_from_is_err_and}
 use Rattle.dyndep_file.specs.StatementValue.{StatementValue}
@@ -9,11 +7,18 @@ use Rattle.dyndep_file.specs.Texts.{IsTextOf, IsFinished}
 use Rattle.scan_docs.specs.Scan.{RuleValue}
 use Rattle.module_table.specs.TableValue.{TableValue}
 use Rattle.module_table.specs.Added.{tasks_of}
-use Rattle.collate_core.specs.Statements.{statement_of, statements_of}
-use Rattle.collate_core.specs.inner.Parts.{HasSpelled}
-use Rattle.collate_core.proofs.Tasks.{one_more, all_statements}
-use Rattle.collate_core.proofs.Writing.{line_refused}
+use Rattle.collate_core.specs.Statements.{module_files, statement_of, statements_of}
+use Rattle.collate_core.specs.inner.Parts.{lent_files, HasSpelled, IsSpelled}
+use Rattle.collate_core.proofs.Documents.{built_statement, with_rest, one_more, all_statements}
+use Rattle.collate_core.proofs.Parts.{all_spelled, line_refused}
 use Rattle.collate_core.proofs.statements.dyndep_text.Goals as goal
+
+pub add-requires : goal.add-requires
+add-requires c =
+    let lent = λ (fs : List (Bor (List ℕ))). All IsSpelled (lent_files fs) in
+    all_spelled c.bytes.result.now (lent_files c.deref-in-loop-index.result.now) (lent_files c.deref-in-loop-index-2.result.now)
+    (record { canonical = c.bytes.ensures.canonical ∙ ap Ok (sym c.bytes.ensures.text); writable = c.bytes.ensures.writable })
+    (subst lent (sym c.deref-in-loop-index.ensures.value) c.in_ok-lend_files.ensures.spelled) (subst lent (sym c.deref-in-loop-index-2.ensures.value) c.in_ok-lend_files-2.ensures.spelled)
 
 pub loop-index-preserved : goal.loop-index-preserved
 loop-index-preserved c =
@@ -21,29 +26,45 @@ loop-index-preserved c =
     let index : ℕ = c.loop-index.index in
     let rule : RuleValue = c.index-objects-index.result in
     let here : slice_get t.objects index ≡ Some rule = rw (← c.objects-objects.ensures.objects) (slice_get_read _ _ _ _ refl c.loop-index-test.true c.index-objects-index.is) in
-    let s : StatementValue = statement_of (rule, c.required-required.result.now) in
-    let next : map statement_of (take index (tasks_of t)) ++ s ∷ [] ≡ map statement_of (take (index + 1) (tasks_of t)) =
-    one_more t index rule c.required-required.result.now s (map statement_of (take index (tasks_of t))) here (c.required-required.ensures rule here) refl refl in
+    let lent = λ (fs : List (Bor (List ℕ))). All IsSpelled (lent_files fs) in
+    let so_far : List StatementValue = map statement_of (take index (tasks_of t)) in
+    let s : StatementValue = record {
+      output = c.bytes.result.now;
+      implicit_outputs = lent_files c.deref-in-loop-index.result.now;
+      implicit_inputs = lent_files c.deref-in-loop-index-2.result.now;
+      restat = not c.is_empty.result;
+    } in
+    let same : s ≡ statement_of (rule, c.required.result.now) =
+    built_statement rule c.required.result.now s (c.bytes.ensures.text ∙ ap (λ (r : RuleValue). r.object) c.rule.view_is)
+    (ap lent_files c.deref-in-loop-index.ensures.value ∙ c.in_ok-lend_files.ensures.files ∙ ap module_files (c.deref.ensures.value ∙ ap (λ (r : RuleValue). r.provided) c.rule.view_is))
+    (ap lent_files c.deref-in-loop-index-2.ensures.value ∙ c.in_ok-lend_files-2.ensures.files) (search rules) in
+    let next : so_far ++ s ∷ [] ≡ map statement_of (take (index + 1) (tasks_of t)) = one_more t index rule c.required.result.now s so_far here (c.required.ensures rule here) same refl in
     record {
-      text = subst (λ xs. IsTextOf xs c.add_object.new.text) next (c.in_ok-add_object.ensures.added (map statement_of (take index (tasks_of t))) c.loop-index.invariant.text);
-      spelled = subst (All HasSpelled) next (All-push HasSpelled (map statement_of (take index (tasks_of t))) s c.loop-index.invariant.spelled c.in_ok-add_object.ensures.spelled);
+      text = subst (λ xs. IsTextOf xs c.add.new.text) next (c.in_ok-add.ensures.added so_far c.loop-index.invariant.text);
+      spelled = subst (All HasSpelled) next (All-push HasSpelled so_far s c.loop-index.invariant.spelled
+          (all_spelled s.output s.implicit_outputs s.implicit_inputs (record { canonical = c.bytes.ensures.canonical ∙ ap Ok (sym c.bytes.ensures.text); writable = c.bytes.ensures.writable })
+          (subst lent (sym c.deref-in-loop-index.ensures.value) c.in_ok-lend_files.ensures.spelled) (subst lent (sym c.deref-in-loop-index-2.ensures.value) c.in_ok-lend_files-2.ensures.spelled)));
     }
 
-pub returns-in_err-add_object-clause-refused : goal.returns-in_err-add_object-clause-refused
-returns-in_err-add_object-clause-refused c =
-    let p = err_from_is_err_and c.from_residual-in_err-add_object.result c.from_residual-in_err-add_object.ensures.1 in
+pub returns-in_err-add-clause-refused : goal.returns-in_err-add-clause-refused
+returns-in_err-add-clause-refused c =
+    let p = err_from_is_err_and c.from_residual-in_err-add.result c.from_residual-in_err-add.ensures.1 in
     let t : TableValue = c.args.table.now in
     let index : ℕ = c.loop-index.index in
     let rule : RuleValue = c.index-objects-index.result in
     let here : slice_get t.objects index ≡ Some rule = rw (← c.objects-objects.ensures.objects) (slice_get_read _ _ _ _ refl c.loop-index-test.true c.index-objects-index.is) in
-    let s : StatementValue = statement_of (rule, c.required-required.result.now) in
-    let before : List StatementValue = map statement_of (take index (tasks_of t)) in
-    let after : List StatementValue = map statement_of (drop (index + 1) (tasks_of t)) in
-    let next : before ++ s ∷ [] ≡ map statement_of (take (index + 1) (tasks_of t)) =
-    one_more t index rule c.required-required.result.now s before here (c.required-required.ensures rule here) refl refl in
-    let all : before ++ s ∷ after ≡ statements_of t =
-    sym (append_assoc before (s ∷ []) after) ∙ ap (λ xs. xs ++ after) next ∙ sym (map-append statement_of (take (index + 1) (tasks_of t)) (drop (index + 1) (tasks_of t))) ∙ ap (map statement_of) (take-append-drop (index + 1) (tasks_of t)) in
-    rw (p.1, p.2, ← all) (line_refused c.first_fault.ensures before s after c.loop-index.text.count _ c.loop-index.invariant.text.unfaulted c.loop-index.invariant.text.count c.in_err-add_object.ensures.refused)
+    let s : StatementValue = record {
+      output = c.bytes.result.now;
+      implicit_outputs = lent_files c.deref-in-loop-index.result.now;
+      implicit_inputs = lent_files c.deref-in-loop-index-2.result.now;
+      restat = not c.is_empty.result;
+    } in
+    let same : s ≡ statement_of (rule, c.required.result.now) =
+    built_statement rule c.required.result.now s (c.bytes.ensures.text ∙ ap (λ (r : RuleValue). r.object) c.rule.view_is)
+    (ap lent_files c.deref-in-loop-index.ensures.value ∙ c.in_ok-lend_files.ensures.files ∙ ap module_files (c.deref.ensures.value ∙ ap (λ (r : RuleValue). r.provided) c.rule.view_is))
+    (ap lent_files c.deref-in-loop-index-2.ensures.value ∙ c.in_ok-lend_files-2.ensures.files) (search rules) in
+    rw (p.1, p.2, ← with_rest t index rule c.required.result.now s here (c.required.ensures rule here) same)
+    (line_refused c.first_fault.ensures (map statement_of (take index (tasks_of t))) s (map statement_of (drop (index + 1) (tasks_of t))) c.loop-index.text.count _ c.loop-index.invariant.text.unfaulted c.loop-index.invariant.text.count c.in_err-add.ensures.refused)
 
 -- at the loop's end the statements so far are those of all objects
 at_end : (c : goal.After-drop-outputs-2) → map statement_of (take c.loop-index.index (tasks_of c.args.table.now)) ≡ statements_of c.args.table.now

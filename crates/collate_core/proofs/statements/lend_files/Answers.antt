@@ -1,12 +1,11 @@
 use Rattle.ninja_text.proofs.ForCallers.{take_next}
-use Rattle.std.proofs.Common.{◌≡◌, ◌++◌, ◌∷◌, [], ap, refl, subst, sym, take, ◌∙◌, All, List, Ok, ℕ}
-use Rattle.std.specs.Borrow.{Bor}
+use Rattle.std.proofs.Common.{◌≡◌, ◌++◌, ◌∷◌, [], ap, refl, subst, sym, take, ◌∙◌, All, List, Ok, ℕ, Bor}
 use Rattle.std.proofs.lemmas.List.{map-append, take_all}
 use Rattle.std.proofs.lemmas.List.Elements.{All-push}
 use Rattle.std.proofs.lemmas.Option.{slice_get_read}
 use Rattle.collate_core.specs.Statements.{module_files}
 use Rattle.collate_core.specs.inner.Parts.{lent_files, IsSpelled}
-use Rattle.collate_core.proofs.LoopLemmas.{map_push}
+use Rattle.collate_core.proofs.Outcomes.{map_push}
 use Rattle.collate_core.proofs.statements.lend_files.Goals as goal
 
 pub loop-module-preserved : goal.loop-module-preserved

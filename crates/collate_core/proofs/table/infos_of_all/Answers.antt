@@ -4,7 +4,7 @@ use Rattle.scan_docs.specs.Info.{IsInfo}
 use Rattle.scan_docs.specs.InfoChecks.{info_checks}
 use Rattle.collate_core.specs.Refusals.{IsInfoRefusal}
 use Rattle.collate_core.specs.inner.ReadInfos.{AreReadAs}
-use Rattle.collate_core.proofs.Scans.{all_infos, lent_infos, refused_info}
+use Rattle.collate_core.proofs.Documents.{all_infos, lent_infos, refused_info}
 use Rattle.collate_core.proofs.table.infos_of_all.Goals as goal
 
 pub returns-in-Err-Fault-clause-refused : goal.returns-in-Err-Fault-clause-refused

@@ -5,7 +5,7 @@ use Rattle.scan_docs.specs.ScanChecks.{scan_checks}
 use Rattle.scan_docs.specs.Values.{rules_of}
 use Rattle.collate_core.specs.Documents.{IsScanAccepted}
 use Rattle.collate_core.specs.Refusals.{IsScanRefusal}
-use Rattle.collate_core.proofs.Scans.{ScansSoFar, all_scans, rules_of_scans, lent_scans, past_limit, refused_scan}
+use Rattle.collate_core.proofs.Documents.{ScansSoFar, all_scans, rules_of_scans, lent_scans, past_limit, refused_scan}
 use Rattle.collate_core.proofs.table.rules_of_all.Goals as goal
 
 accepted : (s : SettingValue) (scan : List ℕ) (rules : List RuleValue) → rules ≡ rules_of s scan → IsAccepted (scan_checks s) (AreRules s) scan rules → IsScanAccepted s scan

@@ -1,5 +1,5 @@
 use Rattle.std.proofs.Common.{map}
-use Rattle.collate_core.proofs.Scans.{ScansSoFar}
+use Rattle.collate_core.proofs.Documents.{ScansSoFar}
 use Rattle.collate_core.proofs.table.rules_of_all.Given as goal
 
 abbrev pub invariant-loop-index : goal.invariant-loop-index

@@ -1,16 +1,15 @@
-use Rattle.std.proofs.Common.{◌≡◌, ℕ, List, [], ◌++◌, refl, ap, subst, sym, ◌∙◌, append_assoc, append-nil}
+use Rattle.std.proofs.Common.{◌≡◌, ℕ, List, [], ◌++◌, refl, ap, sym, ◌∙◌, append_assoc, append-nil}
 use Rattle.std.proofs.lemmas.List.{take-append-drop}
 use Rattle.std.proofs.lemmas.Result.{err_from_is_err_and}
-use Rattle.dyndep_file.specs.Reader.{HasReadDyndep}
-use Rattle.collate_core.proofs.Reading.{reported}
-use Rattle.collate_core.proofs.rehearsal.feed_pieces.Goals as goal
+use Rattle.collate_core.proofs.Parts.{reported}
+use Rattle.collate_core.proofs.rehearsal.read_pieces.Goals as goal
 
 -- a piece of the rest, and what comes after it
 whole : (text fed rest piece more : List ℕ) → text ≡ fed ++ rest → rest ≡ piece ++ more → text ≡ (fed ++ piece) ++ more
 whole text fed rest piece more first second = first ∙ ap (λ x. fed ++ x) second ∙ sym (append_assoc fed piece more)
 
 pub loop-cut-init : goal.loop-cut-init
-loop-cut-init c = ([], refl, c.requires)
+loop-cut-init c = ([], refl, c.new-reader.ensures)
 
 pub returns-in_err-feed-clause-refused : goal.returns-in_err-feed-clause-refused
 returns-in_err-feed-clause-refused c =
@@ -36,8 +35,3 @@ returns-in_err-feed-2-clause-refused c =
     let reads = c.in_err-feed-2.ensures.all fed.0 fed.2 in
     let p = err_from_is_err_and c.from_residual-in_err-feed-2.result c.from_residual-in_err-feed-2.ensures.1 in
     rw (p.1, p.2) (reported c.fault_stays.ensures (fed.0 ++ c.loop-cut.rest.now) [] c.args.text.now c.in_err-feed-2.field-0.0 (fed.1 ∙ sym (append-nil (fed.0 ++ c.loop-cut.rest.now))) reads.1)
-
-pub returns-clause-read : goal.returns-clause-read
-returns-clause-read c =
-    let fed = c.loop-cut.invariant in
-    subst (λ text. HasReadDyndep text c.feed-2.new.self) (sym fed.1) (c.in_ok-feed-2.ensures.all fed.0 fed.2)
