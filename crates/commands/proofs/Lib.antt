@@ -1,10 +1,5 @@
-pub mod Commands
-pub mod Loops
 pub mod Examples
-pub mod FileCalls
 pub mod ForCallers
 pub mod Listings
 pub mod Outcomes
-pub mod ProjectRuns
-pub mod ProjectTargets
 pub mod Targets

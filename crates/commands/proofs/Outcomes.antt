@@ -1,18 +1,116 @@
--- What the parts of a run have led to.
-use Rattle.std.proofs.Common.{◌≡◌, ◌∙◌, ℕ, List, [], ◌∷◌, ◌++◌, length, inl, inr, Option, Result, Ok, Err, refl, ap, subst, sym, append_assoc, append-nil}
-use Rattle.std.specs.Prelude.{IfOk, IfErr, IsErr, IsErrAnd, MatchResult, codes}
-use Rattle.std.specs.IoError.{error_kind}
+-- What the parts of a run have led to, the calls that they make, and what their loops make.
+use Rattle.std.proofs.Common.{◌≡◌, ◌∙◌, ℕ, ◌+◌, ◌<◌, List, [], ◌∷◌, ◌++◌, drop, length, get_or, suc, Option, Some, None, Result, Ok, Err, true, false, refl, ap, sym, append_assoc, append-nil, add-one, drop-cons, ◌≤◌, map, take, inl, inr, subst}
+use Rattle.std.specs.Result.{is_err}
 use Rattle.std.specs.declared.io.Error.{Error}
+use Rattle.commands.specs.Folder.{FileCall, Adds, MakesCalls, reading, up_to}
+use Rattle.std.specs.Prelude.{slice_get, Vec, IfOk, IfErr, IsErr, IsErrAnd, MatchResult, codes}
+use Rattle.std.specs.Global.{Global}
+use Rattle.std.specs.declared.alloc.AllocError.{AllocError}
+use Rattle.std.specs.List.{flat_map}
+use Rattle.std.proofs.lemmas.Grind.{flat_map-append}
+use Rattle.std.proofs.lemmas.List.{map-append, map_push, take_all, take_more}
+use Rattle.std.proofs.lemmas.Option.{slice_get_within, get_or_from_slice_get, slice_get-get_or}
+use Rattle.std.specs.IoError.{error_kind}
 use Rattle.std.specs.declared.io.ErrorKind.TheVariants.{OutOfMemory}
 use Rattle.ninja_text.specs.Bytes.{Bytes, Text}
 use Rattle.ninja_text.specs.Failure.{ForFault}
 use Rattle.ninja_text.specs.declared.failure.Failure.{Failure}
 use Rattle.ninja_text.specs.declared.failure.Failure.TheVariants.{Memory, Fault}
 use Rattle.commands.specs.Outcomes.{LineValue, Outcome, Part, InTurn, goes_on, stops, Returns, Reports, Runs, IsUnread, ReadsAll, document_most, seen, failed, refusal}
-use Rattle.commands.specs.Folder.{FileCall, Adds, MakesCalls, reading, up_to}
-use Rattle.commands.proofs.FileCalls.{both_made, none_made}
+use Rattle.commands.specs.inner.Stops.{IsStoppedWith, ReportsPrinted}
+
+-- ---- calls that are made one after another
+
+-- no call
+pub none_made : (known : Option (List FileCall)) → Adds known known []
+none_made None = refl
+none_made (Some before) = ap Some (sym (append-nil before))
+
+-- calls, and more after them
+pub both_made : (old mid new : Option (List FileCall)) (calls more : List FileCall) →
+    Adds old mid calls → Adds mid new more → Adds old new (calls ++ more)
+both_made None mid new calls more so_far next = rw so_far at next
+both_made (Some before) mid new calls more so_far next =
+    (rw so_far at next) ∙ ap Some (append_assoc before calls more)
+
+-- what follows from what holds of the calls
+pub calls_weaker : (old new : Option (List FileCall)) (Holds Then : List FileCall → Type 0) →
+    MakesCalls old new Holds → ((calls : List FileCall) → Holds calls → Then calls) → MakesCalls old new Then
+calls_weaker old new Holds Then (calls, made, h) to = (calls, made, to calls h)
+
+-- of calls and of more after them
+pub continued : (old mid new : Option (List FileCall)) (First Second Both : List FileCall → Type 0) →
+    MakesCalls old mid First → MakesCalls mid new Second →
+    ((calls more : List FileCall) → First calls → Second more → Both (calls ++ more)) →
+    MakesCalls old new Both
+continued old mid new First Second Both (calls, so_far, first) (more, next, second) to =
+    (calls ++ more, both_made old mid new calls more so_far next, to calls more first second)
+
+-- ---- calls that write
+
+-- a call that failed returns an error
+pub error_of : (r : Result (Unit {0}) Error) → true ≡ is_err r → (error : Error) × (r ≡ Err error)
+error_of (Ok done) e = absurd (let no : true ≡ false = e in cc)
+error_of (Err error) e = (error, refl)
+
+-- and one that did not returns nothing
+pub done_of : (r : Result (Unit {0}) Error) → false ≡ is_err r → r ≡ Ok tt
+done_of (Ok done) e = refl
+done_of (Err error) e = absurd (let no : false ≡ true = e in cc)
+
+-- ---- lists that a loop makes, element by element
+
+-- a loop that makes something of each element
+pub made_more : {X Y : Type 0} (f : X → Y) (xs : List X) (i : ℕ) (x : X) (now new : List Y) → i < length xs → x ≡ get_or xs i x → new ≡ now ++ f x ∷ [] → now ≡ map f (take i xs) → new ≡ map f (take (i + 1) xs)
+made_more f xs i x now new within at more before =
+    more ∙ ap (λ ys. ys ++ f x ∷ []) before ∙ ap (λ y. map f (take i xs) ++ f y ∷ []) at
+    ∙ sym (ap (map f) (take_more xs i x within) ∙ map-append f (take i xs) (get_or xs i x ∷ []))
+
+-- and what is made of the elements so far is that of all
+pub of_all : {X Y : Type 0} (f : List X → Y) (xs : List X) (i : ℕ) (now : Y) → length xs ≤ i → now ≡ f (take i xs) → now ≡ f xs
+of_all f xs i now past so_far = so_far ∙ ap f (take_all i xs past)
+
+-- a loop that appends something of each element
+pub appended_more : (f : ℕ → List ℕ) (start xs : List ℕ) (i : ℕ) (now new : List ℕ) → i < length xs → now ≡ start ++ flat_map f (take i xs) → new ≡ now ++ f (get_or xs i 0) → new ≡ start ++ flat_map f (take (i + 1) xs)
+appended_more f start xs i now new within before more =
+    more ∙ ap (λ z. z ++ f (get_or xs i 0)) before
+    ∙ append_assoc start (flat_map f (take i xs)) (f (get_or xs i 0))
+    ∙ ap (λ z. start ++ z) (sym (ap (flat_map f) (take_more xs i 0 within) ∙ flat_map-append f (take i xs) (get_or xs i 0 ∷ []) ∙ ap (λ z. flat_map f (take i xs) ++ z) (append-nil (f (get_or xs i 0)))))
+
+-- ---- elements by index
+
+pub at_index : {X : Type 0} (xs : List X) (i : ℕ) (x : X) → i < length xs → x ≡ get_or xs i x → slice_get xs i ≡ Some x
+at_index xs i x within is = slice_get-get_or xs i x within ∙ ap Some (sym is)
+
+pub take_next : {X : Type 0} (xs : List X) (k : ℕ) (x : X) → slice_get xs k ≡ Some x → take (k + 1) xs ≡ take k xs ++ x ∷ []
+take_next xs k x here = take_more xs k x (slice_get_within xs k x here) ∙ ap (λ z. take k xs ++ z ∷ []) (get_or_from_slice_get xs k x x here)
+
+pub drop_next : {X : Type 0} (xs : List X) (k : ℕ) (x : X) → slice_get xs k ≡ Some x → drop k xs ≡ x ∷ drop (k + 1) xs
+drop_next xs k x here =
+    rw add-one (drop-cons xs k x (slice_get_within xs k x here) ∙ ap (λ z. z ∷ drop (suc k) xs) (get_or_from_slice_get xs k x x here))
+
+-- the elements that are left, from this one on
+pub left : {X : Type 0} (xs : List X) (i : ℕ) (x : X) → i < length xs → x ≡ get_or xs i x → drop i xs ≡ x ∷ drop (i + 1) xs
+left xs i x within is = drop_next xs i x (at_index xs i x within is)
+
+-- one more element, mapped
+pub mapped_next : {X Y : Type 0} (f : X → Y) (xs : List X) (i : ℕ) (x : X) → i < length xs → x ≡ get_or xs i x → map f (take (i + 1) xs) ≡ map f (take i xs) ++ f x ∷ []
+mapped_next f xs i x within is = ap (map f) (take_next xs i x (at_index xs i x within is)) ∙ map_push f (take i xs) x
 
 -- ---- parts that make no call
+
+-- the line of a run that stops with a message, if there was memory for it
+pub its_line : (number : ℕ) (text : Text) (message : Result (Vec ℕ Global) AllocError) (stop : Failure LineValue) →
+    IfOk message (λ m. m.items ≡ text) → IsStoppedWith number message stop → ForFault (λ l. l ≡ failed number text) stop
+its_line number text (Err refused) stop is h = subst (ForFault (λ l. l ≡ failed number text)) (sym h) tt
+its_line number text (Ok message) stop is h = subst (ForFault (λ l. l ≡ failed number text)) (sym h) (ap (failed number) is)
+
+-- a fault that is reported as it is printed
+pub by_print : {F : Type 0} (prefix : Text) (text : F → Text) (failure : Failure F) (stop : Failure LineValue) →
+    ReportsPrinted prefix (λ fault. Some (text fault)) failure stop → Reports (λ fault. prefix ++ text fault) failure stop
+by_print prefix text Memory stop h = h
+by_print prefix text (Fault fault) Memory h = tt
+by_print prefix text (Fault fault) (Fault stop) h = h (text fault) refl
 
 -- the message of a fault, if there was memory for it
 pub fault_reported : {V F : Type 0} (IsValue : V → Type 0) (IsFault : F → Type 0) (text : F → Text) (failure : Failure F) (stop : Failure LineValue) →
@@ -77,10 +175,6 @@ in_words IsValue IsFault text IsOther other calls (Err (Fault l)) to (none, (fau
 pub passed : {V : Type 0} {r : Outcome V} {stop : Failure LineValue} → IsErr r × IsErrAnd r (λ other. other ≡ stop) → r ≡ Err stop
 passed {r = Ok value} h = absurd h.1
 passed {r = Err other} h = ap Err h.1
-
--- and of a failed allocation
-pub passed_memory : {V : Type 0} {r : Outcome V} → IsErr r × IsErrAnd r (λ other. other ≡ Memory) → r ≡ Err Memory
-passed_memory h = passed h
 
 -- a part that gave a value, and what comes after it
 pub next : {A B : Type 0} {First : Part A} {Second : A → Part B} {r : Outcome A} {value : A} {s : Outcome B} →

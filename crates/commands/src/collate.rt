@@ -3,7 +3,7 @@
 ghost use Rattle.std.specs.Prelude.{◌≡◌, [], ◌++◌, map, All, IsUtf8, OnOk};
 ghost use Rattle.commands.specs.Answers.{file_value};
 ghost use Rattle.commands.specs.CollateCommand.{style_of, map_files, files_of, target_with, SpecOf, CollateRun};
-ghost use Rattle.commands.specs.Outcomes.{Runs, Writes};
+ghost use Rattle.commands.specs.Outcomes.{Runs};
 ghost use Rattle.commands.specs.Targets.{TargetOf};
 
 use crate::edges::pass_edges;
@@ -30,20 +30,22 @@ pub fn collate_target<F: Folder>(
 {
     let spec = read_spec(alloc, document)?;
     let files = TargetFiles::read(alloc, &spec, &spec.linked, folder)?;
-    let collated = collated(alloc, &spec, &files)?;
+    let collated = collated_of(alloc, &spec, &files)?;
     pass_edges(alloc, &files.listing, &spec.dyndep_path, &collated)?;
-    write_collated(alloc, collated, &spec)
+    let mut written = Vec::new(alloc);
+    append_files(alloc, collated, &spec, &mut written)?;
+    Ok(Output::files(alloc, written))
 }
 
 /// Reads a target document.
 pub(crate) fn read_spec(alloc: Global, document: &[u8]) -> Result<TargetSpec, Stop>
     ensures { SpecOf document.now [] result }
 {
-    spec_read(alloc, document).map_err(|f| stop::of_document(alloc, "target", f))
+    spec_read(alloc, document).map_err(|f| stop::of_fault(alloc, "target: ", f))
 }
 
 /// Collates the target of a document, of these files.
-fn collated(alloc: Global, spec: &TargetSpec, files: &TargetFiles) -> Result<Collated, Stop>
+fn collated_of(alloc: Global, spec: &TargetSpec, files: &TargetFiles) -> Result<Collated, Stop>
     ensures { TargetOf (target_with spec.now files.now) (style_of spec.now.map_form) [] result }
 {
     let scans = slices(alloc, &files.scans)?;
@@ -61,16 +63,6 @@ fn collated(alloc: Global, spec: &TargetSpec, files: &TargetFiles) -> Result<Col
         Some(MapForm::Clang) => collate_or_refused(alloc, &target, Some(&Clang)),
     };
     collated.map_err(|f| stop::of_target(alloc, f))
-}
-
-/// Returns the files of a collated target, to be written.
-fn write_collated(alloc: Global, collated: Collated, spec: &TargetSpec) -> Result<Output, Stop>
-    requires { All IsUtf8 collated.objects }
-    ensures { Writes (files_of spec.now collated) [] result }
-{
-    let mut files = Vec::new(alloc);
-    append_files(alloc, collated, spec, &mut files)?;
-    Ok(Output::files(alloc, files))
 }
 
 /// Appends the files of a collated target, whose texts are given up and not copied.

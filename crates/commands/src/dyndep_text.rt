@@ -55,5 +55,5 @@ pub(crate) fn dyndep_of(alloc: Global, text: &[u8]) -> DyndepRead
 pub(crate) fn statements_of(alloc: Global, dyndep: DyndepRead) -> Result<Dyndep, Stop>
     ensures { DyndepOf dyndep [] result }
 {
-    dyndep.map_err(|f| stop::of_dyndep(alloc, f))
+    dyndep.map_err(|f| stop::of_fault(alloc, "", f))
 }

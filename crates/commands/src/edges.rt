@@ -3,6 +3,7 @@
 ghost use Rattle.std.specs.Prelude.{[]};
 ghost use Rattle.commands.specs.EdgeChecks.{EdgesPass};
 
+use crate::edge_fault::cycle_text;
 use crate::listing::ListingRead;
 use crate::stop::{self, Stop};
 use collate_core::{Collated, check_edges};
@@ -29,7 +30,10 @@ pub(crate) fn pass_edges(
     };
     match check_edges(alloc, collated, name, graph) {
         Ok(Sorting::Order(_)) => Ok(()),
-        Ok(Sorting::Cycle(cycle)) => Err(stop::of_cycle(alloc, graph.edges(), &cycle)),
+        Ok(Sorting::Cycle(cycle)) => {
+            let message = cycle_text(alloc, graph.edges(), &cycle);
+            Err(stop::stopped(1, message))
+        }
         Err(failure) => Err(stop::of_effect(alloc, failure)),
     }
 }

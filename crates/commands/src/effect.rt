@@ -32,7 +32,7 @@ pub(crate) fn effect_read(
 ) -> Result<Output, Stop>
     ensures { EffectOfRead name.now listing dyndep [] result }
 {
-    let name = Path::of(alloc, name.as_bytes()).map_err(|f| stop::of_name(alloc, f))?;
+    let name = Path::of(alloc, name.as_bytes()).map_err(|f| stop::of_fault(alloc, "name: ", f))?;
     let old = graph_of(alloc, listing)?;
     let dyndep = statements_of(alloc, dyndep)?;
     let new = apply(alloc, &old, &name, &dyndep).map_err(|f| stop::of_effect(alloc, f))?;

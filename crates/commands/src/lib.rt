@@ -19,8 +19,7 @@
 //!   its texts and returns the exit status (`specs/Answers.antt`, `Printing.antt`).
 //! - [`Output`] is what a run leaves that succeeds, and [`Stop`] why a run stops: memory ran out,
 //!   or a [`Line`]. Every part of a run returns a `Result` with a [`Stop`], so `?` passes it on
-//!   (`specs/Outcomes.antt`). `stop` has one function for each type of fault, which makes the
-//!   message.
+//!   (`specs/Outcomes.antt`). `stop` makes its message.
 //! - `reading` reads files, and `project_targets` the targets of a project.
 //! - `listing` and `dyndep_text` read edge lists and dyndep files, and `edges` checks the edges
 //!   that a target document names.

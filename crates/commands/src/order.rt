@@ -4,7 +4,7 @@ ghost use Rattle.std.specs.Prelude.{[]};
 ghost use Rattle.commands.specs.Order.{OrderOfRead, OrderRun};
 
 use crate::answer::push_line;
-use crate::edge_fault::first_output;
+use crate::edge_fault::{cycle_text, first_output};
 use crate::listing::{ListingRead, graph_of, listing_of};
 use crate::stop::{self, Output, Stop};
 use build_effect::edge_order;
@@ -32,6 +32,9 @@ pub(crate) fn order_read(alloc: Global, listing: ListingRead) -> Result<Output, 
             }
             Ok(Output::text(alloc, text))
         }
-        Sorting::Cycle(cycle) => Err(stop::of_cycle(alloc, graph.edges(), &cycle)),
+        Sorting::Cycle(cycle) => {
+            let message = cycle_text(alloc, graph.edges(), &cycle);
+            Err(stop::stopped(1, message))
+        }
     }
 }

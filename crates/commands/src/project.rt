@@ -6,7 +6,7 @@ ghost use Rattle.module_table.specs.TableValue.{table_with};
 ghost use Rattle.collate_core.specs.Projects.{CollatesProject, IsProjectRefusal, WasReadAt};
 ghost use Rattle.commands.specs.CollateCommand.{style_of};
 ghost use Rattle.commands.specs.Outcomes.{Runs, Writes, seen};
-ghost use Rattle.commands.specs.ProjectCommand.{project_target, form_of, names_at, all_files, AllEdgesPass, ProjectOf, ProjectRun, TargetsAfter, TargetsRun};
+ghost use Rattle.commands.specs.ProjectCommand.{project_target, form_of, all_files, AllEdgesPass, ProjectOf, ProjectRun, TargetsAfter};
 ghost use Rattle.commands.specs.inner.ProjectTargets.{LinkEarlier, IsReportable, ReportsAt};
 
 use crate::collate::append_files;
@@ -19,7 +19,7 @@ use crate::stop::{self, Output, Stop};
 use collate_core::{Collated, ProjectOut, ProjectTarget, RefusedTarget, project_or_refused};
 use module_maps::{Clang, Gcc};
 use ninja_text::Failure;
-use scan_docs::{MapForm, TargetName, project_read};
+use scan_docs::{MapForm, project_read};
 use std::alloc::{AllocError, Global};
 
 /// Runs `project FILE` on the bytes of the project document. The files of the targets are read from
@@ -36,11 +36,12 @@ pub fn collate_project<F: Folder>(
 ) -> Result<Output, Stop>
     ensures { Runs (F.calls folder.old) (F.calls folder.new) (ProjectRun document.now) result }
 {
-    let project = project_read(alloc, document).map_err(|f| stop::of_document(
-        alloc, "project", f,
-    ))?;
-    let targets = read_targets(alloc, &project.targets, folder)?;
-    targets_run(alloc, &targets.into_vec())
+    let project = project_read(alloc, document).map_err(|f| stop::of_fault(alloc, "project: ", f))?;
+    let read = read_targets(alloc, &project.targets, folder)?;
+    let targets = read.list.as_slice();
+    let outs = all_collated(alloc, targets)?;
+    all_pass(alloc, targets, &outs)?;
+    write_all(alloc, targets, outs)
 }
 
 /// Reads the targets of the documents of these names, one after another.
@@ -56,18 +57,8 @@ fn read_targets<F: Folder>(alloc: Global, names: &[String], folder: &mut F) -> R
     Ok(targets)
 }
 
-/// Collates targets that were read, and checks the edges that they name.
-fn targets_run(alloc: Global, targets: &[ReadTarget]) -> Result<Output, Stop>
-    requires { LinkEarlier targets.now }
-    ensures { TargetsRun targets.now [] result }
-{
-    let outs = collated(alloc, targets)?;
-    all_pass(alloc, targets, &outs)?;
-    write_all(alloc, targets, outs)
-}
-
 /// Collates the targets, with maps of the form of the first one.
-fn collated(alloc: Global, targets: &[ReadTarget]) -> Result<Vec<Collated>, Stop>
+fn all_collated(alloc: Global, targets: &[ReadTarget]) -> Result<Vec<Collated>, Stop>
     requires { LinkEarlier targets.now }
     ensures { ProjectOf targets.now [] (seen (λ outs. outs.items) result) }
 {
@@ -99,7 +90,11 @@ fn collate_all(
 {
     let scans = scans_of(alloc, targets)?;
     let parts = in_project(alloc, targets, &scans)?;
-    project_in(alloc, &parts, form_of(targets))
+    match form_of(targets) {
+        None => project_or_refused(alloc, &parts, None::<&Gcc>),
+        Some(MapForm::Gcc) => project_or_refused(alloc, &parts, Some(&Gcc)),
+        Some(MapForm::Clang) => project_or_refused(alloc, &parts, Some(&Clang)),
+    }
 }
 
 /// Borrows the scan documents of each target.
@@ -114,27 +109,6 @@ fn scans_of<'t>(alloc: Global, targets: &'t [ReadTarget]) -> Result<Vec<Vec<&'t 
     Ok(scans)
 }
 
-/// Collates targets as a project has them, with maps of this form, if one is given.
-fn project_in(
-    alloc: Global,
-    parts: &[ProjectTarget<'_>],
-    form: Option<MapForm>,
-) -> Result<ProjectOut, Failure<(usize, RefusedTarget)>>
-    ensures collated { IfOk result (λ out.
-        CollatesProject (style_of form) parts.now out.targets.items) }
-    ensures refused { IfErr result (ForFault (λ refused.
-        IsProjectRefusal (style_of form) parts.now refused.0 refused.1.refusal)) }
-    ensures read { IfErr result (ForFault (λ refused.
-        WasReadAt (style_of form) parts.now refused.0 refused.1.refusal
-        (table_with refused.1.objects.items refused.1.infos.items))) }
-{
-    match form {
-        None => project_or_refused(alloc, parts, None::<&Gcc>),
-        Some(MapForm::Gcc) => project_or_refused(alloc, parts, Some(&Gcc)),
-        Some(MapForm::Clang) => project_or_refused(alloc, parts, Some(&Clang)),
-    }
-}
-
 /// Returns the targets as a project has them, with their scan documents.
 fn in_project<'t>(
     alloc: Global,
@@ -147,7 +121,14 @@ fn in_project<'t>(
 {
     let mut parts = Vec::with_capacity(alloc, targets.len())?;
     for (index, target) in targets.iter().enumerate() {
-        parts = pushed(parts, target.in_project(&scans[index]))?;
+        let part = ProjectTarget {
+            name: &target.spec.target,
+            setting: &target.spec.setting,
+            scans: &scans[index],
+            linked: &target.linked,
+            kept: &target.spec.kept,
+        };
+        parts = pushed(parts, part)?;
     }
     Ok(parts)
 }
@@ -173,27 +154,13 @@ fn rejected_text(
     ensures { IfOk result (λ text. ReportsAt targets.now index refused.now text.items) }
 {
     let target = &targets[index];
-    let names = linked_names(alloc, targets, &target.linked)?;
+    let mut names = Vec::with_capacity(alloc, target.linked.len())?;
+    for earlier in &target.linked {
+        let linked = &targets[*earlier];
+        names = pushed(names, &linked.spec.target)?;
+    }
     let text = refusal_line(alloc, &refused.refusal, &refused.objects, &names)?;
     stop::target_text(alloc, index, &text)
-}
-
-/// Returns the names of the targets of these indexes.
-fn linked_names<'t>(
-    alloc: Global,
-    targets: &'t [ReadTarget],
-    linked: &[usize],
-) -> Result<Vec<&'t TargetName>, AllocError>
-    requires { All (λ k. k < length targets.now) linked.now }
-    ensures { IfOk result (λ names.
-        map (λ n. n.now) names.items ≡ names_at targets.now linked.now) }
-{
-    let mut names = Vec::with_capacity(alloc, linked.len())?;
-    for index in linked {
-        let target = &targets[*index];
-        names = pushed(names, &target.spec.target)?;
-    }
-    Ok(names)
 }
 
 /// Checks that the edges that each target names can be put in order after its own dyndep file.

@@ -70,7 +70,9 @@ pub fn write_files<F: Folder>(alloc: Global, output: Output, folder: &mut F) -> 
     let Output { text, files } = output;
     for file in &files {
         if write_file(file, folder).is_err() {
-            return Err(stop::of_unwritten(alloc, file.name.as_str()));
+            let name = file.name.as_str();
+            let message = format!(in alloc; "cannot write {name}");
+            return Err(stop::stopped(3, message.map(String::into_bytes)));
         }
     }
     Ok(Output { text, files })

@@ -20,6 +20,8 @@ pub(crate) fn show_read(alloc: Global, dyndep: DyndepRead) -> Result<Output, Sto
     ensures { ShowOfRead dyndep [] result }
 {
     let dyndep = statements_of(alloc, dyndep)?;
-    let text = dyndep.to_text(alloc).map_err(|f| stop::of_write(alloc, f))?;
+    let text = dyndep
+        .to_text(alloc)
+        .map_err(|f| stop::of_fault(alloc, "", f))?;
     Ok(Output::text(alloc, text))
 }

@@ -1,27 +1,22 @@
-//! What a run leaves that succeeds, and why a run stops. For each type of fault one function makes
-//! the message.
+//! What a run leaves that succeeds, and why a run stops.
 
-ghost use Rattle.std.specs.Prelude.{◌≡◌, ◌∷◌, ◌++◌, [], Err, map, IfOk, codes};
-ghost use Rattle.ninja_text.specs.Failure.{ForFault};
-ghost use Rattle.dyndep_file.specs.FaultTexts.{read_fault_text, write_fault_text};
-ghost use Rattle.scan_docs.specs.FaultTexts.{doc_fault_text};
+ghost use Rattle.std.specs.Prelude.{◌≡◌, ◌∷◌, [], Err, map, IfOk};
 ghost use Rattle.commands.specs.Answers.{file_value};
-ghost use Rattle.commands.specs.EdgeFaults.{edges_fault_text, effect_text, listing_write_text, name_fault_text, cycle_text};
+ghost use Rattle.commands.specs.EdgeFaults.{edges_fault_text, effect_text, listing_write_text};
 ghost use Rattle.commands.specs.Folder.{reading};
-ghost use Rattle.commands.specs.Outcomes.{failed, refusal, printed, written, IsUnread, Reports};
+ghost use Rattle.commands.specs.Outcomes.{printed, written, IsUnread, Reports};
 ghost use Rattle.commands.specs.ProjectCommand.{IsTargetOutcome, target_text};
 ghost use Rattle.commands.specs.inner.Refusals.{refused_line};
-ghost use Rattle.commands.specs.inner.Stops.{IsStoppedWith};
+ghost use Rattle.commands.specs.inner.Stops.{IsStoppedWith, ReportsPrinted};
 
-use crate::edge_fault::{cycle_text, edges_fault_text, effect_text, first_output};
+use crate::edge_fault::{edges_fault_text, effect_text, first_output};
 use crate::refusal::refused_text;
 use crate::table_fault::joined;
-use build_effect::{Edge, EffectFault, Graph, ListFault, ListingWriteFault};
+use build_effect::{EffectFault, Graph, ListFault, ListingWriteFault};
 use collate_core::RefusedTarget;
-use dyndep_file::{ReadFault, WriteFault};
-use ninja_text::{Failure, PathFault};
-use scan_docs::DocFault;
+use ninja_text::Failure;
 use std::alloc::{AllocError, Global};
+use std::fmt::Display;
 use std::io;
 use std::io::ErrorKind;
 use std::marker::Model;
@@ -113,33 +108,14 @@ pub(crate) fn of_unread(alloc: Global, name: &str, error: io::Error) -> Stop
     stopped(3, message.map(String::into_bytes))
 }
 
-/// Stops the run at a file that can't be written.
-pub(crate) fn of_unwritten(alloc: Global, name: &str) -> Stop
-    ensures { ForFault (λ l. l ≡ failed 3 (codes "cannot write " ++ name.now)) result }
-{
-    let message = format!(in alloc; "cannot write {name}");
-    stopped(3, message.map(String::into_bytes))
-}
-
-/// Stops the run at a document of this kind that is rejected.
-pub(crate) fn of_document(alloc: Global, kind: &str, failure: Failure<DocFault>) -> Stop
-    ensures { Reports (λ fault. kind.now ++ codes ": " ++ doc_fault_text fault) failure result }
+/// Stops the run at a fault, which is reported after this prefix.
+pub(crate) fn of_fault<F: Display + Drop>(alloc: Global, prefix: &str, failure: Failure<F>) -> Stop
+    ensures { ReportsPrinted prefix.now F.output failure result }
 {
     let Failure::Fault(fault) = failure else {
         return Failure::Memory;
     };
-    let message = format!(in alloc; "{kind}: {fault}");
-    stopped(1, message.map(String::into_bytes))
-}
-
-/// Stops the run at a name that is not a valid path.
-pub(crate) fn of_name(alloc: Global, failure: Failure<PathFault>) -> Stop
-    ensures { Reports name_fault_text failure result }
-{
-    let Failure::Fault(fault) = failure else {
-        return Failure::Memory;
-    };
-    let message = format!(in alloc; "name: {fault}");
+    let message = format!(in alloc; "{prefix}{fault}");
     stopped(1, message.map(String::into_bytes))
 }
 
@@ -151,17 +127,6 @@ pub(crate) fn of_listing(alloc: Global, failure: &Failure<ListFault>) -> Stop
         Failure::Memory => Failure::Memory,
         Failure::Fault(fault) => stopped(1, edges_fault_text(alloc, fault)),
     }
-}
-
-/// Stops the run at a dyndep text that is rejected.
-pub(crate) fn of_dyndep(alloc: Global, failure: Failure<ReadFault>) -> Stop
-    ensures { Reports read_fault_text failure result }
-{
-    let Failure::Fault(fault) = failure else {
-        return Failure::Memory;
-    };
-    let message = format!(in alloc; "{fault}");
-    stopped(1, message.map(String::into_bytes))
 }
 
 /// Stops the run at statements that have no effect.
@@ -190,24 +155,6 @@ pub(crate) fn of_listing_write(
     stopped(1, joined(alloc, &[b"E9 ListingTooLong ", output]))
 }
 
-/// Stops the run at statements that can't be written.
-pub(crate) fn of_write(alloc: Global, failure: Failure<WriteFault>) -> Stop
-    ensures { Reports write_fault_text failure result }
-{
-    let Failure::Fault(fault) = failure else {
-        return Failure::Memory;
-    };
-    let message = format!(in alloc; "{fault}");
-    stopped(1, message.map(String::into_bytes))
-}
-
-/// Stops the run at edges that need each other.
-pub(crate) fn of_cycle(alloc: Global, edges: &[Edge], cycle: &[usize]) -> Stop
-    ensures { ForFault (λ l. l ≡ refusal (cycle_text edges.now cycle.now)) result }
-{
-    stopped(1, cycle_text(alloc, edges, cycle))
-}
-
 /// Stops the run at a target that is rejected. Its info files are named by the names in them.
 pub(crate) fn of_target(alloc: Global, failure: Failure<RefusedTarget>) -> Stop
     ensures { Reports refused_line failure result }
@@ -216,13 +163,6 @@ pub(crate) fn of_target(alloc: Global, failure: Failure<RefusedTarget>) -> Stop
         return Failure::Memory;
     };
     stopped(1, refused_text(alloc, &refused))
-}
-
-/// Stops the run at a target that links one which is not before it.
-pub(crate) fn of_linked_later(alloc: Global) -> Stop
-    ensures { ForFault (λ l. l ≡ refusal (codes "K3 LinkedLater")) result }
-{
-    stopped(1, Vec::from_slice(alloc, b"K3 LinkedLater"))
 }
 
 /// Returns the outcome of a part about the target of this index, by its outcome for that target

@@ -1,12 +1,21 @@
 -- How the reason is made why a run stops.
-use Rattle.std.specs.Prelude.{◌≡◌, ℕ, Ok, Err, Result, Vec}
+use Rattle.std.specs.Prelude.{◌≡◌, ⊤, ℕ, ◌++◌, Option, Some, Ok, Err, Result, Vec}
 use Rattle.std.specs.Global.{Global}
 use Rattle.std.specs.declared.alloc.AllocError.{AllocError}
+use Rattle.ninja_text.specs.Bytes.{Text}
 use Rattle.ninja_text.specs.declared.failure.Failure.{Failure}
 use Rattle.ninja_text.specs.declared.failure.Failure.TheVariants.{Memory, Fault}
-use Rattle.commands.specs.Outcomes.{LineValue, failed}
+use Rattle.commands.specs.Outcomes.{LineValue, failed, refusal}
 
 -- the run stops with this status and message, or because there was no memory for the message
 abbrev pub IsStoppedWith : ℕ → Result (Vec ℕ Global) AllocError → Failure LineValue → Type 0
 IsStoppedWith number (Err refused) stop = stop ≡ Memory
 IsStoppedWith number (Ok message) stop = stop ≡ Fault (failed number message.items)
+
+-- why the run stops at a failure: memory, or the fault as it is printed, after this prefix
+abbrev pub ReportsPrinted : {F : Type 0} → Text → (F → Option Text) → Failure F → Failure LineValue
+    → Type 0
+ReportsPrinted prefix output Memory stop = stop ≡ Memory
+ReportsPrinted prefix output (Fault fault) Memory = ⊤
+ReportsPrinted prefix output (Fault fault) (Fault stop) =
+    (text : Text) → output fault ≡ Some text → stop ≡ refusal (prefix ++ text)

@@ -5,7 +5,7 @@ use Rattle.scan_docs.specs.Target.{TargetDocumentValue}
 use Rattle.commands.specs.Answers.{file_value}
 use Rattle.commands.specs.CollateCommand.{output_file, map_files}
 use Rattle.commands.specs.Outcomes.{FileValue}
-use Rattle.commands.proofs.Commands.{file_more}
+use Rattle.commands.proofs.Targets.{file_more}
 use Rattle.commands.proofs.collate.append_files.Goals as goal
 
 -- what follows from a fact that holds if a call succeeds

@@ -11,8 +11,8 @@ use Rattle.std.proofs.lemmas.List.Elements.{All-get_or}
 use Rattle.commands.specs.Answers.{file_value}
 use Rattle.commands.specs.CollateCommand.{map_name, output_file}
 use Rattle.commands.specs.Outcomes.{FileValue}
-use Rattle.commands.proofs.Commands.{file_more, first_all, map_file, zip_map}
-use Rattle.commands.proofs.Loops.{mapped_next}
+use Rattle.commands.proofs.Targets.{file_more, first_all, map_file, zip_map}
+use Rattle.commands.proofs.Outcomes.{mapped_next}
 use Rattle.commands.proofs.collate.append_maps.Goals as goal
 
 -- this object is text

@@ -1,6 +1,6 @@
 use Rattle.std.proofs.Common.{◌≡◌, ◌++◌, length, take, map, zip}
 use Rattle.commands.specs.Answers.{file_value}
-use Rattle.commands.proofs.Commands.{map_file}
+use Rattle.commands.proofs.Targets.{map_file}
 use Rattle.commands.proofs.collate.append_maps.Given as goal
 
 -- the files of the objects so far

@@ -3,7 +3,7 @@ use Rattle.std.specs.List.{flat_map}
 use Rattle.std.proofs.lemmas.List.{take_all}
 use Rattle.build_effect.specs.EdgeValue.{EdgeValue}
 use Rattle.commands.specs.EdgeFaults.{first_output, chain_text}
-use Rattle.commands.proofs.Loops.{appended_more}
+use Rattle.commands.proofs.Outcomes.{appended_more}
 use Rattle.commands.proofs.edge_fault.cycle_text.Goals as goal
 
 -- a chain that has a first edge

@@ -3,7 +3,7 @@ use Rattle.std.specs.Prelude.{slice_index_or}
 use Rattle.std.specs.Option.{option_map_or}
 use Rattle.build_effect.specs.EdgeValue.{EdgeValue}
 use Rattle.commands.specs.EdgeFaults.{first_output}
-use Rattle.commands.proofs.Loops.{at_index}
+use Rattle.commands.proofs.Outcomes.{at_index}
 use Rattle.commands.proofs.edge_fault.first_output.Goals as goal
 
 -- the edge is there

@@ -16,7 +16,7 @@ use Rattle.commands.specs.EdgeChecks.{EdgesPass, GraphPasses}
 use Rattle.commands.specs.EdgeFaults.{edges_fault_text, effect_text, cycle_text}
 use Rattle.commands.specs.Listings.{ListingRead, ListingOf}
 use Rattle.commands.specs.Outcomes.{LineValue, Outcome, goes_on, stops, refusal, Reports}
-use Rattle.commands.proofs.Outcomes.{said, fault_reported}
+use Rattle.commands.proofs.Outcomes.{its_line, said, fault_reported}
 use Rattle.commands.proofs.edges.pass_edges.Goals as goal
 
 -- of this listing
@@ -70,10 +70,11 @@ returns-in-Ok-Order c =
 
 pub returns-in-Ok-Cycle : goal.returns-in-Ok-Cycle
 returns-in-Ok-Cycle c =
-    let stop = c.of_cycle.result in
+    let stop = c.stopped.result in
+    let line = its_line 1 _ _ stop c.cycle_text-message.ensures c.stopped.ensures in
     passed_on _ _ _ _ _ (its_value _ _ _ c.in-Some.is c.in-Ok.is)
     (cyclic c.args.name.now c.args.collated.now.dyndep c.in-Ok.graph c.in-Ok-Cycle.cycle stop (rw c.in-Ok-Cycle.field-0-is at c.in-Ok-Cycle.ensures.sorted)
-    (subst (λ t. ForFault (λ l. l ≡ refusal t) stop) (ap₂ cycle_text c.edges.ensures.edges c.deref.ensures.value) c.of_cycle.ensures))
+    (subst (λ t. ForFault (λ l. l ≡ refusal t) stop) (ap₂ cycle_text c.edges.ensures.edges c.deref.ensures.value) line))
 
 pub returns : goal.returns
 returns c =

@@ -1,7 +1,8 @@
-use Rattle.std.proofs.Common.{rules, ◌≡◌, ℕ, [], Result, Ok, Err, refl}
+use Rattle.std.proofs.Common.{rules, ◌≡◌, ℕ, [], Result, Ok, Err, codes, refl}
 use Rattle.std.specs.Prelude.{Vec}
 use Rattle.std.specs.Global.{Global}
 use Rattle.ninja_text.specs.Bytes.{Text}
+use Rattle.ninja_text.specs.FaultTexts.{path_fault_text}
 use Rattle.ninja_text.specs.Failure.{ForFault, Gives}
 use Rattle.ninja_text.specs.declared.failure.Failure.{Failure}
 use Rattle.ninja_text.specs.declared.failure.Failure.TheVariants.{Memory, Fault}
@@ -10,7 +11,7 @@ use Rattle.build_effect.specs.declared.fault.ListingWriteFault.{ListingWriteFaul
 use Rattle.commands.specs.EdgeFaults.{name_fault_text, effect_text, listing_write_text}
 use Rattle.commands.specs.Effect.{NameOf, EffectOf}
 use Rattle.commands.specs.Outcomes.{goes_on, stops}
-use Rattle.commands.proofs.Outcomes.{given, fault_reported, next, last, passed}
+use Rattle.commands.proofs.Outcomes.{by_print, given, fault_reported, next, last, passed}
 use Rattle.commands.proofs.effect.effect_read.Goals as goal
 
 -- the fault that is there
@@ -22,25 +23,25 @@ its_fault view (Fault fault) meaning h = h
 pub returns-in_err-name : goal.returns-in_err-name
 returns-in_err-name c =
     let named : NameOf c.args.name.now [] c.map_err.result =
-    given _ _ name_fault_text _ c.of.result c.map_err.result (λ failure stop h. search rules) (search rules) (search rules) c.map_err.ensures.cases in
+    given _ _ name_fault_text _ c.of.result c.map_err.result (λ failure stop h. by_print (codes "name: ") path_fault_text failure stop (search rules)) (search rules) (search rules) c.map_err.ensures.cases in
     last named c.in_err-name.was (passed c.from_residual.ensures)
 
 pub returns-in_err-old : goal.returns-in_err-old
 returns-in_err-old c =
     let named : NameOf c.args.name.now [] c.map_err.result =
-    given _ _ name_fault_text _ c.of.result c.map_err.result (λ failure stop h. search rules) (search rules) (search rules) c.map_err.ensures.cases in
+    given _ _ name_fault_text _ c.of.result c.map_err.result (λ failure stop h. by_print (codes "name: ") path_fault_text failure stop (search rules)) (search rules) (search rules) c.map_err.ensures.cases in
     next named c.in_ok-name.was (last c.graph_of.ensures c.in_err-old.was (passed c.from_residual-in_err-old.ensures))
 
 pub returns-in_err-dyndep : goal.returns-in_err-dyndep
 returns-in_err-dyndep c =
     let named : NameOf c.args.name.now [] c.map_err.result =
-    given _ _ name_fault_text _ c.of.result c.map_err.result (λ failure stop h. search rules) (search rules) (search rules) c.map_err.ensures.cases in
+    given _ _ name_fault_text _ c.of.result c.map_err.result (λ failure stop h. by_print (codes "name: ") path_fault_text failure stop (search rules)) (search rules) (search rules) c.map_err.ensures.cases in
     next named c.in_ok-name.was (next c.graph_of.ensures c.in_ok-old.was (last c.statements_of.ensures c.in_err-dyndep.was (passed c.from_residual-in_err-dyndep.ensures)))
 
 pub returns-in_err-new : goal.returns-in_err-new
 returns-in_err-new c =
     let named : NameOf c.args.name.now [] c.map_err.result =
-    given _ _ name_fault_text _ c.of.result c.map_err.result (λ failure stop h. search rules) (search rules) (search rules) c.map_err.ensures.cases in
+    given _ _ name_fault_text _ c.of.result c.map_err.result (λ failure stop h. by_print (codes "name: ") path_fault_text failure stop (search rules)) (search rules) (search rules) c.map_err.ensures.cases in
     let effect : EffectOf c.in_ok-old.old c.in_ok-name.name c.in_ok-dyndep.dyndep [] c.map_err-2.result =
     given _ _ effect_text _ c.apply.result c.map_err-2.result (λ failure stop h. search rules) (search rules) (search rules) c.map_err-2.ensures.cases in
     next named c.in_ok-name.was (next c.graph_of.ensures c.in_ok-old.was (next c.statements_of.ensures c.in_ok-dyndep.was
@@ -49,7 +50,7 @@ returns-in_err-new c =
 pub returns-in-Ok : goal.returns-in-Ok
 returns-in-Ok c =
     let named : NameOf c.args.name.now [] c.map_err.result =
-    given _ _ name_fault_text _ c.of.result c.map_err.result (λ failure stop h. search rules) (search rules) (search rules) c.map_err.ensures.cases in
+    given _ _ name_fault_text _ c.of.result c.map_err.result (λ failure stop h. by_print (codes "name: ") path_fault_text failure stop (search rules)) (search rules) (search rules) c.map_err.ensures.cases in
     let effect : EffectOf c.in_ok-old.old c.in_ok-name.name c.in_ok-dyndep.dyndep [] c.map_err-2.result =
     given _ _ effect_text _ c.apply.result c.map_err-2.result (λ failure stop h. search rules) (search rules) (search rules) c.map_err-2.ensures.cases in
     next named c.in_ok-name.was (next c.graph_of.ensures c.in_ok-old.was (next c.statements_of.ensures c.in_ok-dyndep.was
@@ -59,7 +60,7 @@ returns-in-Ok c =
 pub returns : goal.returns
 returns c =
     let named : NameOf c.args.name.now [] c.map_err.result =
-    given _ _ name_fault_text _ c.of.result c.map_err.result (λ failure stop h. search rules) (search rules) (search rules) c.map_err.ensures.cases in
+    given _ _ name_fault_text _ c.of.result c.map_err.result (λ failure stop h. by_print (codes "name: ") path_fault_text failure stop (search rules)) (search rules) (search rules) c.map_err.ensures.cases in
     let effect : EffectOf c.in_ok-old.old c.in_ok-name.name c.in_ok-dyndep.dyndep [] c.map_err-2.result =
     given _ _ effect_text _ c.apply.result c.map_err-2.result (λ failure stop h. search rules) (search rules) (search rules) c.map_err-2.ensures.cases in
     let stop = c.of_listing_write.result in

@@ -10,8 +10,7 @@ use Rattle.commands.specs.Answers.{visible}
 use Rattle.commands.specs.EdgeFaults.{cycle_text, first_output}
 use Rattle.commands.specs.Order.{order_text, PrintsOrder}
 use Rattle.commands.specs.Outcomes.{refusal, printed}
-use Rattle.commands.proofs.Loops.{appended_more, of_all}
-use Rattle.commands.proofs.Outcomes.{next, last, said}
+use Rattle.commands.proofs.Outcomes.{appended_more, its_line, of_all, next, last, said}
 use Rattle.commands.proofs.order.order_read.Goals as goal
 
 pub returns-in_err-graph : goal.returns-in_err-graph
@@ -47,5 +46,7 @@ pub returns : goal.returns
 returns c =
     let graph = c.in_ok-graph.graph in
     let sorting = subst (IsSortingOf (length graph) (EdgeNeeds graph)) c.in-Cycle.is c.in_ok-order.ensures in
-    let stop = subst (λ t. ForFault (λ l. l ≡ refusal t) c.of_cycle.result) (ap₂ cycle_text c.edges-in-Cycle.ensures.edges c.deref.ensures.value) c.of_cycle.ensures in
-    next c.graph_of.ensures c.in_ok-graph.was (said (PrintsOrder graph) _ (λ (cycle : Vec ℕ Global). cycle_text graph cycle.items) c.in-Cycle.cycle c.of_cycle.result sorting stop)
+    let stop = its_line 1 _ _ c.stopped.result c.cycle_text-message.ensures c.stopped.ensures in
+    let same = ap₂ cycle_text c.edges-in-Cycle.ensures.edges c.deref.ensures.value in
+    next c.graph_of.ensures c.in_ok-graph.was (said (PrintsOrder graph) _ (λ (cycle : Vec ℕ Global). cycle_text graph cycle.items) c.in-Cycle.cycle c.stopped.result sorting
+    (subst (λ t. ForFault (λ l. l ≡ refusal t) c.stopped.result) same stop))

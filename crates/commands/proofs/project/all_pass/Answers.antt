@@ -7,9 +7,8 @@ use Rattle.commands.specs.EdgeChecks.{EdgesPass}
 use Rattle.commands.specs.Listings.{ListingRead}
 use Rattle.commands.specs.Outcomes.{Outcome}
 use Rattle.commands.specs.ProjectCommand.{ReadTargetValue, AllEdgesPass, At, IsTargetOutcome}
-use Rattle.commands.proofs.Loops.{at_index, drop_next}
-use Rattle.commands.proofs.Outcomes.{next, last, passed}
-use Rattle.commands.proofs.ProjectRuns.{zip_at, length_zip}
+use Rattle.commands.proofs.Outcomes.{at_index, drop_next, next, last, passed}
+use Rattle.commands.proofs.Targets.{zip_at, length_zip}
 use Rattle.commands.proofs.project.all_pass.Goals as goal
 
 -- the check of one target, as its document has the listing and the path

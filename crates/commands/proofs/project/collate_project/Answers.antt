@@ -1,12 +1,17 @@
-use Rattle.std.proofs.Common.{rules, ◌≡◌, ◌∙◌, List, [], Option, map, string_bytes, refl, ap, subst, sym}
+use Rattle.std.proofs.Common.{rules, ◌≡◌, ◌∙◌, List, [], Option, length, map, string_bytes, zip, codes, refl, ap, subst, sym}
 use Rattle.std.specs.Prelude.{Ok, Err}
-use Rattle.ninja_text.specs.Bytes.{Bytes}
+use Rattle.std.proofs.lemmas.List.{length-map}
+use Rattle.ninja_text.specs.Bytes.{Bytes, PathText}
+use Rattle.scan_docs.specs.FaultTexts.{doc_fault_text}
 use Rattle.scan_docs.specs.Project.{ProjectValue}
+use Rattle.collate_core.specs.Values.{CollatedValue}
+use Rattle.commands.specs.CollateCommand.{style_of}
 use Rattle.commands.specs.Folder.{FileCall}
 use Rattle.commands.specs.Outcomes.{Outcome, OutputValue, Part, Runs, ◌>>=◌}
-use Rattle.commands.specs.ProjectCommand.{ReadTargetValue, ProjectDocumentOf, ProjectRun, project_text, TargetsAfter, TargetsRun}
+use Rattle.commands.specs.ProjectCommand.{ReadTargetValue, AllEdgesPass, ProjectDocumentOf, ProjectRun, form_of, project_target, project_text, TargetsAfter, TargetsRun}
 use Rattle.commands.specs.inner.ProjectTargets.{LinkEarlier}
-use Rattle.commands.proofs.Outcomes.{at_once, given, run_as, run_next, run_last, passed}
+use Rattle.commands.proofs.Outcomes.{at_once, by_print, given, last, next, run_as, run_next, run_last, passed}
+use Rattle.commands.proofs.Targets.{objects_are_text}
 use Rattle.commands.proofs.project.collate_project.Goals as goal
 
 -- what comes after the project document
@@ -14,45 +19,78 @@ abbrev AfterDocument : ProjectValue → Part OutputValue
 AfterDocument project = TargetsAfter [] project.targets >>= TargetsRun
 
 -- the run continues after it
-document_next : (old new : Option (List FileCall)) (bytes : Bytes) (project : ProjectValue) (s : Outcome OutputValue) → ProjectDocumentOf bytes [] (Ok project) →
+document_next : (old new : Option (List FileCall)) (bytes : Bytes) (project : ProjectValue) (r : Outcome ProjectValue) (s : Outcome OutputValue) → ProjectDocumentOf bytes [] r → r ≡ Ok project →
     Runs old new (AfterDocument project) s → Runs old new (ProjectRun bytes) s
-document_next old new bytes project s read rest =
-    run_next (ProjectDocumentOf bytes) AfterDocument old old new (Ok project) project s (at_once old (ProjectDocumentOf bytes) (Ok project) read) refl rest
+document_next old new bytes project r s read is rest = run_next (ProjectDocumentOf bytes) AfterDocument old old new r project s (at_once old (ProjectDocumentOf bytes) r read) is rest
 
-pub targets_run-requires : goal.targets_run-requires
-targets_run-requires g c = subst LinkEarlier (sym c.deref-2.ensures.value) c.into_vec.ensures.links
+-- and after the targets
+targets_next : (old new : Option (List FileCall)) (project : ProjectValue) (names : List PathText) (targets own : List ReadTargetValue) (s : Outcome OutputValue) →
+    names ≡ project.targets → Runs old new (TargetsAfter [] names) (Ok targets) → own ≡ targets → TargetsRun own [] s → Runs old new (AfterDocument project) s
+targets_next old new project names targets own s named read is rest =
+    run_next (TargetsAfter [] project.targets) TargetsRun old new new (Ok targets) targets s (run_as (TargetsAfter []) old new (Ok targets) named read) refl
+    (at_once new (TargetsRun targets) s (subst (λ (ts : List ReadTargetValue). TargetsRun ts [] s) is rest))
 
 pub returns-in_err-project : goal.returns-in_err-project
 returns-in_err-project g c =
-    let read : ProjectDocumentOf c.args.document.now [] c.map_err.result =
-    given _ _ project_text _ c.project_read.result c.map_err.result (λ failure stop h. search rules) (search rules) (search rules) c.map_err.ensures.cases in
+    let document = c.args.document.now in
     let start = g.F.Folder.calls c.args.folder.now in
-    let failure = c.in_err-project.field-0.0 in
-    run_last (ProjectDocumentOf c.args.document.now) AfterDocument start start (Err failure) failure _
-    (at_once start (ProjectDocumentOf c.args.document.now) (Err failure) (subst (ProjectDocumentOf c.args.document.now []) c.in_err-project.was read)) refl (passed c.from_residual.ensures)
+    let read : ProjectDocumentOf document [] c.map_err.result =
+    given _ _ project_text _ c.project_read.result c.map_err.result (λ failure stop h. by_print (codes "project: ") doc_fault_text failure stop (search rules)) (search rules) (search rules) c.map_err.ensures.cases in
+    run_last (ProjectDocumentOf document) AfterDocument start start _ _ _ (at_once start (ProjectDocumentOf document) _ read) c.in_err-project.was (passed c.from_residual.ensures)
 
-pub returns-in_err-targets : goal.returns-in_err-targets
-returns-in_err-targets g c =
+pub returns-in_err-read : goal.returns-in_err-read
+returns-in_err-read g c =
     let read : ProjectDocumentOf c.args.document.now [] c.map_err.result =
-    given _ _ project_text _ c.project_read.result c.map_err.result (λ failure stop h. search rules) (search rules) (search rules) c.map_err.ensures.cases in
+    given _ _ project_text _ c.project_read.result c.map_err.result (λ failure stop h. by_print (codes "project: ") doc_fault_text failure stop (search rules)) (search rules) (search rules) c.map_err.ensures.cases in
     let project = c.in_ok-project.project in
-    let named : map string_bytes c.deref.result.now ≡ project.targets =
-    ap (map string_bytes) c.deref.ensures.value ∙ ap (λ (p : ProjectValue). p.targets) c.project.view_is in
-    let failure = c.in_err-targets.field-0.0 in
-    document_next _ _ c.args.document.now project _ (subst (ProjectDocumentOf c.args.document.now []) c.in_ok-project.was read)
-    (run_last (TargetsAfter [] project.targets) TargetsRun _ _ (Err failure) failure _
-    (run_as (TargetsAfter []) _ _ (Err failure) named c.in_err-targets.ensures) refl (passed c.from_residual-in_err-targets.ensures))
+    let named = ap (map string_bytes) c.deref.ensures.value ∙ ap (λ (p : ProjectValue). p.targets) c.project.view_is in
+    document_next _ _ c.args.document.now project _ _ read c.in_ok-project.was
+    (run_last (TargetsAfter [] project.targets) TargetsRun _ _ _ _ _ (run_as (TargetsAfter []) _ _ (Err c.in_err-read.field-0.0) named c.in_err-read.ensures) refl
+    (passed c.from_residual-in_err-read.ensures))
+
+pub all_collated-requires : goal.all_collated-requires
+all_collated-requires g c = subst LinkEarlier (sym c.as_slice-targets.ensures.value) c.read.invariant.0
+
+pub returns-in_err-outs : goal.returns-in_err-outs
+returns-in_err-outs g c =
+    let read : ProjectDocumentOf c.args.document.now [] c.map_err.result =
+    given _ _ project_text _ c.project_read.result c.map_err.result (λ failure stop h. by_print (codes "project: ") doc_fault_text failure stop (search rules)) (search rules) (search rules) c.map_err.ensures.cases in
+    let project = c.in_ok-project.project in
+    let named = ap (map string_bytes) c.deref.ensures.value ∙ ap (λ (p : ProjectValue). p.targets) c.project.view_is in
+    document_next _ _ c.args.document.now project _ _ read c.in_ok-project.was
+    (targets_next _ _ project _ c.in_ok-read.read _ _ named c.in_ok-read.ensures (c.as_slice-targets.ensures.value ∙ c.read.view_is)
+    (last c.in_err-outs.ensures refl (passed c.from_residual-in_err-outs.ensures)))
+
+pub all_pass-requires : goal.all_pass-requires
+all_pass-requires g c =
+    let targets = c.as_slice-targets.result.now in
+    let count : length c.in_ok-outs.outs.items ≡ length (map project_target targets) = c.in_ok-outs.ensures.1.count in
+    ap length c.deref-2.ensures.value ∙ count ∙ length-map targets project_target
+
+pub returns-in_err-all_pass : goal.returns-in_err-all_pass
+returns-in_err-all_pass g c =
+    let read : ProjectDocumentOf c.args.document.now [] c.map_err.result =
+    given _ _ project_text _ c.project_read.result c.map_err.result (λ failure stop h. by_print (codes "project: ") doc_fault_text failure stop (search rules)) (search rules) (search rules) c.map_err.ensures.cases in
+    let project = c.in_ok-project.project in
+    let named = ap (map string_bytes) c.deref.ensures.value ∙ ap (λ (p : ProjectValue). p.targets) c.project.view_is in
+    let pass = λ (outs : List CollatedValue). AllEdgesPass 0 (zip c.as_slice-targets.result.now outs) [] (Err c.in_err-all_pass.field-0.0) in
+    document_next _ _ c.args.document.now project _ _ read c.in_ok-project.was
+    (targets_next _ _ project _ c.in_ok-read.read _ _ named c.in_ok-read.ensures (c.as_slice-targets.ensures.value ∙ c.read.view_is)
+    (next c.in_ok-outs.ensures refl
+    (last (subst pass c.deref-2.ensures.value c.in_err-all_pass.ensures) refl (passed c.from_residual-in_err-all_pass.ensures))))
+
+pub write_all-requires : goal.write_all-requires
+write_all-requires g c =
+    let targets = c.as_slice-targets.result.now in
+    objects_are_text (style_of (form_of targets)) targets c.in_ok-outs.outs.items c.in_ok-outs.ensures.1
 
 pub returns : goal.returns
 returns g c =
     let read : ProjectDocumentOf c.args.document.now [] c.map_err.result =
-    given _ _ project_text _ c.project_read.result c.map_err.result (λ failure stop h. search rules) (search rules) (search rules) c.map_err.ensures.cases in
+    given _ _ project_text _ c.project_read.result c.map_err.result (λ failure stop h. by_print (codes "project: ") doc_fault_text failure stop (search rules)) (search rules) (search rules) c.map_err.ensures.cases in
     let project = c.in_ok-project.project in
-    let named : map string_bytes c.deref.result.now ≡ project.targets =
-    ap (map string_bytes) c.deref.ensures.value ∙ ap (λ (p : ProjectValue). p.targets) c.project.view_is in
-    let targets = c.in_ok-targets.targets in
-    document_next _ _ c.args.document.now project _ (subst (ProjectDocumentOf c.args.document.now []) c.in_ok-project.was read)
-    (run_next (TargetsAfter [] project.targets) TargetsRun _ _ _ (Ok targets) targets _
-    (run_as (TargetsAfter []) _ _ (Ok targets) named c.in_ok-targets.ensures) refl
-    (at_once _ (TargetsRun targets) c.targets_run.result
-    (subst (λ (ts : List ReadTargetValue). TargetsRun ts [] c.targets_run.result) (c.deref-2.ensures.value ∙ c.into_vec.ensures.targets) c.targets_run.ensures)))
+    let named = ap (map string_bytes) c.deref.ensures.value ∙ ap (λ (p : ProjectValue). p.targets) c.project.view_is in
+    let pass = λ (outs : List CollatedValue). AllEdgesPass 0 (zip c.as_slice-targets.result.now outs) [] (Ok tt) in
+    document_next _ _ c.args.document.now project _ _ read c.in_ok-project.was
+    (targets_next _ _ project _ c.in_ok-read.read _ _ named c.in_ok-read.ensures (c.as_slice-targets.ensures.value ∙ c.read.view_is)
+    (next c.in_ok-outs.ensures refl (next (subst pass c.deref-2.ensures.value c.in_ok-all_pass.ensures) refl c.write_all.ensures)))

@@ -8,8 +8,7 @@ use Rattle.std.proofs.lemmas.List.{drop_all}
 use Rattle.commands.specs.Folder.{FileCall}
 use Rattle.commands.specs.Outcomes.{LineValue, Outcome, Part, Runs, goes_on, stops}
 use Rattle.commands.specs.ProjectCommand.{ReadTargetValue, TargetOfFile, TargetsAfter}
-use Rattle.commands.proofs.FileCalls.{left}
-use Rattle.commands.proofs.Outcomes.{Leads, leads_none, leads_on, leads_end, at_once, passed}
+use Rattle.commands.proofs.Outcomes.{left, Leads, leads_none, leads_on, leads_end, at_once, passed}
 use Rattle.commands.proofs.project.read_targets.Goals as goal
 
 -- all targets of these names, after these

@@ -9,8 +9,8 @@ use Rattle.collate_core.specs.Values.{CollatedValue}
 use Rattle.commands.specs.CollateCommand.{files_of}
 use Rattle.commands.specs.Outcomes.{written}
 use Rattle.commands.specs.ProjectCommand.{ReadTargetValue, all_files}
-use Rattle.commands.proofs.Loops.{at_index}
-use Rattle.commands.proofs.ProjectRuns.{second_all, files_next}
+use Rattle.commands.proofs.Outcomes.{at_index}
+use Rattle.commands.proofs.Targets.{second_all, files_next}
 use Rattle.commands.proofs.project.write_all.Goals as goal
 
 -- the objects of this target are text

@@ -9,9 +9,7 @@ use Rattle.std.proofs.lemmas.Option.{slice_get-map}
 use Rattle.commands.specs.Folder.{FileCall, Adds}
 use Rattle.commands.specs.Outcomes.{LineValue, Runs, ReadsDocument, ReadsAll, stops, seen}
 use Rattle.commands.specs.inner.Parts.{bytes_of, contents}
-use Rattle.commands.proofs.FileCalls.{both_made, none_made}
-use Rattle.commands.proofs.Loops.{at_index, take_next, drop_next}
-use Rattle.commands.proofs.Outcomes.{document_call, reads_of, reads_next, all_read, read_until, read_no_more}
+use Rattle.commands.proofs.Outcomes.{both_made, none_made, at_index, take_next, drop_next, document_call, reads_of, reads_next, all_read, read_until, read_no_more}
 use Rattle.commands.proofs.reading.read_all.Goals as goal
 
 -- the run stops at what is left

@@ -3,7 +3,7 @@ use Rattle.std.specs.Prelude.{Vec}
 use Rattle.std.specs.Borrow.{Bor}
 use Rattle.std.specs.Global.{Global}
 use Rattle.std.proofs.lemmas.List.{map_push}
-use Rattle.commands.proofs.Loops.{mapped_next}
+use Rattle.commands.proofs.Outcomes.{mapped_next}
 use Rattle.commands.proofs.reading.slices.Goals as goal
 
 -- one file more

@@ -7,7 +7,7 @@ use Rattle.std.proofs.lemmas.Result.{IfOk-weaker}
 use Rattle.scan_docs.specs.Info.{InfoValue}
 use Rattle.collate_core.specs.declared.fault.RefusedTarget.{RefusedTarget}
 use Rattle.commands.specs.inner.Refusals.{refusal_line, refused_line}
-use Rattle.commands.proofs.Loops.{made_more, of_all}
+use Rattle.commands.proofs.Outcomes.{made_more, of_all}
 use Rattle.commands.proofs.refusal.refused_text.Goals as goal
 
 abbrev now_of : List (Bor (List ℕ)) → List (List ℕ)

@@ -6,7 +6,7 @@ use Rattle.commands.specs.Answers.{file_value}
 use Rattle.commands.specs.Files.{WritesFile, compared}
 use Rattle.commands.specs.Folder.{FileCall, Adds, MakesCalls, comparing, writing}
 use Rattle.commands.specs.Outcomes.{FileValue}
-use Rattle.commands.proofs.FileCalls.{both_made, none_made}
+use Rattle.commands.proofs.Outcomes.{both_made, none_made}
 use Rattle.commands.proofs.run.write_file.Goals.{else-file-via-then-file+else-has, else-file-via-else-file}
 use Rattle.commands.proofs.run.write_file.Goals as goal
 

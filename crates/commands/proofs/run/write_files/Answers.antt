@@ -1,4 +1,4 @@
-use Rattle.std.proofs.Common.{◌≡◌, ℕ, ◌+◌, ◌<◌, ◌≤◌, [], ◌∷◌, ◌++◌, List, Some, drop, get_or, length, map, take, refl, ap, sym, subst, append_assoc, append-nil, ◌∙◌, arith}
+use Rattle.std.proofs.Common.{rules, ◌≡◌, ℕ, ◌+◌, ◌<◌, ◌≤◌, [], ◌∷◌, ◌++◌, List, Some, drop, get_or, length, map, take, refl, ap, sym, subst, append_assoc, append-nil, ◌∙◌, arith}
 use Rattle.std.specs.Prelude.{Ok, Err, slice_get, option_map}
 use Rattle.std.proofs.lemmas.List.{length-map, take-append-drop, take_all}
 use Rattle.std.proofs.lemmas.Option.{slice_get-map}
@@ -7,8 +7,7 @@ use Rattle.commands.specs.Files.{StopsAt, WritesFile, WritesAll, all_written, on
 use Rattle.commands.specs.Folder.{FileCall}
 use Rattle.commands.specs.Outcomes.{FileValue, OutputValue}
 use Rattle.commands.specs.declared.stop.OutputFile.{OutputFile}
-use Rattle.commands.proofs.FileCalls.{continued, done_of, error_of, held}
-use Rattle.commands.proofs.Loops.{at_index, take_next, drop_next}
+use Rattle.commands.proofs.Outcomes.{continued, done_of, error_of, calls_weaker, at_index, take_next, drop_next}
 use Rattle.commands.proofs.run.write_files.Goals as goal
 
 -- the file at an index
@@ -39,7 +38,7 @@ returns-then-is_err g c =
     (λ calls more so_far is. one_unwritten (take i files) (drop (i + 1) files) (file_value item) failed.0 calls more
     (sym (take-append-drop i files) ∙ ap (λ rest. take i files ++ rest) (drop_next files i (file_value item) here))
     refl so_far (subst (WritesFile (file_value item) more) failed.1 is)
-    (subst (λ n. StopsAt n (Err c.of_unwritten.result)) c.as_str.ensures.value c.of_unwritten.ensures))
+    (subst (λ n. StopsAt n (Err c.stopped.result)) c.as_str-name.ensures.value (search rules)))
 
 pub loop-file-preserved : goal.loop-file-preserved
 loop-file-preserved g c =
@@ -63,5 +62,5 @@ returns g c =
     let same : map file_value items ≡ files = ap (map file_value) c.deref-file-items.ensures.value ∙ ap (λ (o : OutputValue). o.files) c.output.view_is in
     let past : length files ≤ i = let e : length files ≡ length items = ap length (sym same) ∙ length-map items file_value in omega (arith, e, c.loop-file-test.false) in
     let whole : take i files ≡ files = take_all i files past in
-    held (g.F.Folder.calls c.args.folder.now) (g.F.Folder.calls c.loop-file.folder) (WritesAll (take i files)) _ c.loop-file.invariant
+    calls_weaker (g.F.Folder.calls c.args.folder.now) (g.F.Folder.calls c.loop-file.folder) (WritesAll (take i files)) _ c.loop-file.invariant
     (λ calls all. all_written (subst (λ fs. WritesAll fs calls) whole all) (ap Ok c.output.view_is))

@@ -1,7 +1,7 @@
 use Rattle.std.proofs.Common.{[], ap, sym, ◌∙◌}
 use Rattle.std.specs.Option.{option_map_or}
 use Rattle.scan_docs.specs.Scan.{RuleValue}
-use Rattle.commands.proofs.Loops.{at_index}
+use Rattle.commands.proofs.Outcomes.{at_index}
 use Rattle.commands.proofs.table_fault.object_path.Goals as goal
 
 -- the object is there

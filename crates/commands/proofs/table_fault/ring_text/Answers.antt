@@ -3,7 +3,7 @@ use Rattle.std.specs.List.{flat_map}
 use Rattle.std.proofs.lemmas.List.{take_all}
 use Rattle.scan_docs.specs.Scan.{RuleValue}
 use Rattle.commands.specs.TableFaults.{object_path, ring_text}
-use Rattle.commands.proofs.Loops.{appended_more}
+use Rattle.commands.proofs.Outcomes.{appended_more}
 use Rattle.commands.proofs.table_fault.ring_text.Goals as goal
 
 -- a cycle that has a first object

@@ -2,7 +2,7 @@ use Rattle.std.proofs.Common.{ℕ, List, [], ap, sym, ◌∙◌}
 use Rattle.std.specs.Prelude.{option_map, unwrap_or}
 use Rattle.std.specs.Borrow.{Bor}
 use Rattle.std.proofs.lemmas.Option.{slice_get-map}
-use Rattle.commands.proofs.Loops.{at_index}
+use Rattle.commands.proofs.Outcomes.{at_index}
 use Rattle.commands.proofs.table_fault.target_name.Goals as goal
 
 -- the info is there

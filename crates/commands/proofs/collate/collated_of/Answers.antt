@@ -19,8 +19,8 @@ use Rattle.commands.specs.Outcomes.{LineValue, Outcome, Reports}
 use Rattle.commands.specs.Targets.{TargetOf}
 use Rattle.commands.proofs.Targets.{target_given}
 use Rattle.commands.specs.inner.Refusals.{refused_line}
-use Rattle.commands.proofs.collate.collated.Goals.{in-None, in-Some-Gcc, in-Some-Clang}
-use Rattle.commands.proofs.collate.collated.Goals as goal
+use Rattle.commands.proofs.collate.collated_of.Goals.{in-None, in-Some-Gcc, in-Some-Clang}
+use Rattle.commands.proofs.collate.collated_of.Goals as goal
 
 -- the target of these parts
 abbrev target_of : List ℕ → SettingValue → List (List ℕ) → List (List ℕ) → List (List ℕ) → TargetValue

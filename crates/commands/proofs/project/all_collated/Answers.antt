@@ -2,20 +2,21 @@ use Rattle.std.proofs.Common.{◌≡◌, ◌∙◌, ℕ, List, [], map, Option, 
 use Rattle.std.specs.Prelude.{IfOk, Ok, Err, Result, Vec}
 use Rattle.std.specs.Global.{Global}
 use Rattle.std.specs.declared.alloc.AllocError.{AllocError}
+use Rattle.std.proofs.lemmas.Result.{IfOk-weaker}
 use Rattle.ninja_text.specs.Failure.{ForFault}
 use Rattle.ninja_text.specs.declared.failure.Failure.{Failure}
-use Rattle.ninja_text.specs.declared.failure.Failure.TheVariants.{Memory, Fault}
 use Rattle.module_maps.specs.Maps.{Written}
 use Rattle.module_table.specs.TableValue.{table_with}
-use Rattle.collate_core.specs.Projects.{IsProjectRefusal, WasReadAt}
+use Rattle.collate_core.specs.Projects.{CollatesProject, IsProjectRefusal, WasReadAt}
 use Rattle.collate_core.specs.declared.fault.RefusedTarget.{RefusedTarget}
 use Rattle.commands.specs.CollateCommand.{style_of}
 use Rattle.commands.specs.Outcomes.{LineValue}
-use Rattle.commands.specs.ProjectCommand.{ReadTargetValue, ProjectOf, RejectedAt, project_target, form_of, names_at, target_text}
+use Rattle.commands.specs.ProjectCommand.{ReadTargetValue, ProjectOf, RejectedAt, IsRejectedAt, project_target, form_of, names_at, rejected_text, target_text}
 use Rattle.commands.specs.inner.ProjectTargets.{LinkEarlier, ReportsAt}
 use Rattle.commands.specs.inner.Stops.{IsStoppedWith}
-use Rattle.commands.proofs.ProjectRuns.{reported, line_is}
-use Rattle.commands.proofs.project.collated.Goals as goal
+use Rattle.commands.proofs.Outcomes.{its_line, said}
+use Rattle.commands.proofs.Targets.{reported, line_is}
+use Rattle.commands.proofs.project.all_collated.Goals as goal
 
 abbrev style : List ReadTargetValue → Option Written
 style targets = style_of (form_of targets)
@@ -29,17 +30,12 @@ ReadAt targets n r = WasReadAt (style targets) (map project_target targets) n r.
 -- the run stops with the line of the rejected target
 rejected : (targets : List ReadTargetValue) (n : ℕ) (r : RefusedTarget) (message : Result (Vec ℕ Global) AllocError) (stop : Failure LineValue) → LinkEarlier targets →
     IsRefusalAt targets n r → ReadAt targets n r → IfOk message (λ text. ReportsAt targets n r text.items) → IsStoppedWith 1 message stop → ProjectOf targets [] (Err stop)
-rejected targets n r (Err e) Memory links is read says h = refl
-rejected targets n r (Err e) (Fault l) links is read says h = absurd (let bad : Fault l ≡ Memory = h in cc)
-rejected targets n r (Ok text) Memory links is read says h = absurd (let bad : Memory ≡ Fault _ = h in cc)
-rejected targets n r (Ok text) (Fault l) links is read says h =
+rejected targets n r message stop links is read says h =
     let (t, here, within) = reported (style targets) targets n r.refusal links is in
     let line = line_is (style targets) targets n r.refusal (table_with r.objects.items r.infos.items) t (names_at targets t.linked) here read in
     let at : RejectedAt = record { index = n; target = t; refusal = r.refusal } in
-    (refl, (at, (here, is), (let e : Fault l ≡ Fault _ = h in same_fault e) ∙ ap (λ m. record { status = 1; message = m }) (says t here ∙ ap (target_text n) line)))
-  where
-    same_fault : {X : Type 0} {x y : X} → Fault x ≡ Fault y → x ≡ y
-    same_fault e = cc
+    said (CollatesProject (style targets) (map project_target targets)) (IsRejectedAt targets) (rejected_text targets) at stop (here, is)
+    (its_line 1 (rejected_text targets at) message stop (IfOk-weaker message _ _ (λ text says. says t here ∙ ap (target_text n) line) says) h)
 
 pub rejected_text-message-requires : goal.rejected_text-message-requires
 rejected_text-message-requires c =
