@@ -2,7 +2,7 @@
 ghost use Rattle.std.specs.Prelude.{◌≡◌, ◌<◌, ◌≤◌, ◌==◌, ◌++◌, [], ◌∷◌, length, map, Some, None, IfOk, OnOk, IfSome, MatchOption, option_copied, position};
 ghost use Rattle.ninja_text.specs.Failure.{Gives};
 ghost use Rattle.module_maps.specs.Maps.{pairs_of, lent_pairs};
-ghost use Rattle.module_maps.specs.MapLines.{LineForm, is_fit, first_unfit, named, nameless, lines_of, cut, path_in, name_in, pair_in, read_lines};
+ghost use Rattle.module_maps.specs.MapLines.{LineForm, is_map_byte, is_fit, first_unfit, named, nameless, lines_of, cut, path_in, name_in, pair_in, read_lines};
 
 use crate::fault::MapFault;
 use crate::module_map::{MapEntry, ModuleMap};
@@ -144,11 +144,22 @@ pub fn path_in(alloc: Global, text: &[u8]) -> Result<Option<Path>, AllocError>
     }
 }
 
-/// Returns whether a map can have this path.
+/// Returns whether a map can have this path. No byte ends the loop, so the compiler can make it test
+/// 16 bytes at a time.
 fn is_fit(path: &[u8]) -> bool
     ensures { result ≡ is_fit path.now }
 {
-    path.iter().all(|b| *b >= 33 && *b != 127 && *b != b'\'' && *b != b'"' && *b != b'\\')
+    let mut fits = true;
+    for b in path {
+        fits = fits & is_map_byte(*b);
+    }
+    fits
+}
+
+fn is_map_byte(b: u8) -> bool
+    ensures { result ≡ is_map_byte b }
+{
+    b >= 33 && b != 127 && b != b'\'' && b != b'"' && b != b'\\'
 }
 
 /// Returns the first path with a byte that needs quotes.
