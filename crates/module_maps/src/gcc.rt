@@ -54,7 +54,12 @@ impl MapStyle for Gcc {
                 let path = path.copy(alloc)?;
                 Err(Failure::Fault(MapFault::MapPath { path }))
             }
-            None => Ok(gcc_text(alloc, map)?),
+            None => {
+                let mut text = Vec::with_capacity(alloc, map.text_len(b" \n".len(), b" \n".len()))?;
+                push_lines(&mut text, map.provided())?;
+                push_lines(&mut text, map.needed())?;
+                Ok(text)
+            }
         }
     }
 
@@ -93,17 +98,6 @@ impl LineForm for Gcc {
             None => Ok(None),
         }
     }
-}
-
-/// Returns the text of a map.
-fn gcc_text(alloc: Global, map: &ModuleMap<'_>) -> Result<Vec<u8>, AllocError>
-    ensures { IfOk result (λ text.
-        text.items ≡ flat_map (λ pair. ended_line (gcc_line pair)) (pairs_of map.now)) }
-{
-    let mut text = Vec::with_capacity(alloc, map.text_len(b" \n".len(), b" \n".len()))?;
-    push_lines(&mut text, map.provided())?;
-    push_lines(&mut text, map.needed())?;
-    Ok(text)
 }
 
 fn push_lines(text: &mut Vec<u8>, pairs: &[(&Name, &Path)]) -> Result<(), AllocError>

@@ -103,6 +103,11 @@ impl Pool {
         })
     }
 
+    /// Returns the key that names and files are hashed under.
+    pub fn key(&self) -> TableKey {
+        self.key
+    }
+
     /// Returns the info file of that index, if it is known.
     pub fn known(&self, number: usize) -> Option<&Info>
         ensures found { IfSome result (λ info. get_or self.now number None ≡ Some info.now) }

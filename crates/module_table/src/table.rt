@@ -82,18 +82,20 @@ impl Table {
         ensures fault { IfErr result
             (ForFault (IsReported (table_with objects.items infos.items) kept.now)) }
     {
-        Table::build_or_refused(alloc, objects, infos, kept).map_err(|failure| failure.map(
+        Table::build_or_refused(alloc, objects, infos, kept, None).map_err(|failure| failure.map(
             |refused| refused.fault,
         ))
     }
 
     /// Does the same as `build`, and returns the objects and the info files with a fault, because
-    /// the fault has only their indexes.
+    /// the fault has only their indexes. The table hashes under the key. Without one it makes a key
+    /// of its names and paths.
     pub fn build_or_refused(
         alloc: Global,
         objects: Vec<Rule>,
         infos: Vec<Info>,
         kept: &[Name],
+        key: Option<TableKey>,
     ) -> Result<Table, Failure<RefusedTable>>
         ensures table { IfOk result (λ table. table ≡ table_with objects.items infos.items) }
         ensures sound { IfOk result IsSound }
@@ -106,7 +108,10 @@ impl Table {
             table_with refused.objects.items refused.infos.items
             ≡ table_with objects.items infos.items)) }
     {
-        let key = table_key(objects.as_slice(), infos.as_slice());
+        let key = match key {
+            Some(key) => key,
+            None => table_key(objects.as_slice(), infos.as_slice()),
+        };
         let mut paths = IndexSet::with_hasher(alloc, key);
         let checked = check_all(
             alloc,
