@@ -1,7 +1,7 @@
 -- What is found by a name, and what the checks ask of it.
 use Rattle.std.proofs.Common.{◌≡◌, ℕ, zero, suc, Bool, true, false, not, cond, ◌||◌, List, [], ◌∷◌, Option, Some, None, refl, ap, sym, ◌∙◌, map, slice_get, find, MatchBool, bytes_eq, true≢false}
 use Rattle.std.specs.Cmp.Lexicographic.{bytes_decides}
-use Rattle.std.proofs.lemmas.Bool.{eq-eqb, eqb-true}
+use Rattle.std.proofs.lemmas.Bool.{eq-eqb, eqb-true, not-true, not-false}
 use Rattle.module_table.specs.Modules.{Provision, InfoRequirement}
 use Rattle.ninja_text.specs.Firsts.{AllDiffer}
 use Rattle.module_table.specs.inner.Views.{names_of, IsAbsent}
@@ -150,14 +150,6 @@ module _ (ps : List Provision) (differ : AllDiffer (names_of ps)) where
       (λ h. (h.0, h.1, h.2, λ same. true≢false (sym ((bytes_decides h.1.file r.file).1 same) ∙ h.3)))
       (all_decides ps differ r.name (λ p. bytes_eq p.file r.file))
 
-  is_false : (b : Bool) → not b ≡ true → b ≡ false
-  is_false true e = absurd (true≢false (sym e))
-  is_false false e = refl
-
-  is_true : (b : Bool) → not b ≡ false → b ≡ true
-  is_true true e = refl
-  is_true false e = absurd (true≢false e)
-
   abbrev unless_private : Option Provision → Bool
   unless_private p = none_or (λ q. not q.is_private) p
 
@@ -165,13 +157,13 @@ module _ (ps : List Provision) (differ : AllDiffer (names_of ps)) where
   private_of : (index : ℕ) (name : List ℕ) → slice_get (names_of ps) index ≡ Some name → is_public_at ps index ≡ false → IsPrivate ps name
   private_of index name at private =
       let p = from_map (λ (p : Provision). p.name) ps index name at in
-      (index, p.0, (p.1, p.2), is_true p.0.is_private (sym (ap unless_private p.1) ∙ private))
+      (index, p.0, (p.1, p.2), not-false p.0.is_private (sym (ap unless_private p.1) ∙ private))
 
   public_of : (index : ℕ) (name : List ℕ) → slice_get (names_of ps) index ≡ Some name → is_public_at ps index ≡ true → IsPublic ps name
   public_of index name at public k q named =
       let p = from_map (λ (p : Provision). p.name) ps index name at in
       let same = one_module ps name differ k index q p.0 named (p.1, p.2) in
-      ap (λ (p : Provision). p.is_private) same ∙ is_false p.0.is_private (sym (ap unless_private p.1) ∙ public)
+      ap (λ (p : Provision). p.is_private) same ∙ not-true p.0.is_private (sym (ap unless_private p.1) ∙ public)
 
   abbrev pub IsPublicAt : ℕ → Type 0
   IsPublicAt index = is_public_at ps index ≡ true

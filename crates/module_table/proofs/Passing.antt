@@ -4,7 +4,6 @@ use Rattle.std.proofs.lemmas.Bool.{cases_eq}
 use Rattle.std.proofs.lemmas.Option.{slice_get-get_or}
 use Rattle.ninja_text.specs.Failure.{ForFault}
 use Rattle.ninja_text.specs.declared.failure.Failure.{Failure}
-use Rattle.ninja_text.specs.declared.failure.Failure.TheVariants.{Memory, Fault}
 use Rattle.scan_docs.specs.Scan.{RuleValue}
 use Rattle.scan_docs.specs.Info.{InfoValue}
 use Rattle.dep_order.specs.Needs.{IsOrderable}
@@ -23,7 +22,7 @@ use Rattle.module_table.specs.declared.fault.Maker.TheVariants.{Object, Info}
 use Rattle.module_table.specs.declared.fault.TableFault.{TableFault}
 use Rattle.module_table.specs.declared.fault.TableFault.TheVariants.{ObjectTwice, InfoTwice, ProvidedTwice, BmiTwice, ModuleUnknown, InfoUnknown, InfoDisagrees, ImportCycle, ModulePrivate, PrivateUnknown}
 use Rattle.module_table.proofs.Required.{contained}
-use Rattle.module_table.proofs.ReportLemmas.{claimed_files, in_row, provided_numbered}
+use Rattle.module_table.proofs.ReportLemmas.{claimed_files, for_fault, in_row, provided_numbered}
 use Rattle.module_table.proofs.InfoFaults.{known_by, agrees_not, provided_by}
 use Rattle.module_table.proofs.Privacy.{public_rows, allowed_not_private}
 use Rattle.ninja_text.proofs.ForCallers.{to_map, from_map}
@@ -32,15 +31,6 @@ use Rattle.ninja_text.proofs.ForCallers.{to_map, from_map}
 code_within : (fault : TableFault) → (1 ≤ code_number fault) × (code_number fault ≤ 10)
 code_within (ObjectTwice path first second) = (omega arith, omega arith)
 code_within fault = (omega arith, omega arith)
-
--- what is reported of one table whatever names are kept
-pub for_every_kept : (t : TableValue) (P : Box TableFault Global → Type 0) (failure : Failure (Box TableFault Global)) → ((kept : List (List ℕ)) (fault : Box TableFault Global) → P fault → IsReported t kept fault.value) → ForFault P failure → ForFault (λ fault. (kept : List (List ℕ)) → IsReported t kept fault.value) failure
-for_every_kept t P Memory to h = h
-for_every_kept t P (Fault fault) to h = λ kept. to kept fault h
-
-pub for_these_kept : (t : TableValue) (kept : List (List ℕ)) (failure : Failure (Box TableFault Global)) → ForFault (λ fault. (kept : List (List ℕ)) → IsReported t kept fault.value) failure → ForFault (λ fault. IsReported t kept fault.value) failure
-for_these_kept t kept Memory h = h
-for_these_kept t kept (Fault fault) h = h kept
 
 module _ (t : TableValue) (kept : List (List ℕ)) where
   pub none_passed : Passed 1 t kept
@@ -55,6 +45,9 @@ module _ (t : TableValue) (kept : List (List ℕ)) where
   -- a fault of this code is the one that is reported, if the checks below have passed
   pub reported : (n : ℕ) (fault : TableFault) → Reports n t kept fault → Passed n t kept → IsReported t kept fault
   reported n fault is passed = record { present = is.present; lowest = λ other h. subst (λ m. m ≤ code_number other) (sym is.coded) (passed other h) }
+
+  pub fails : (n : ℕ) (failure : Failure (Box TableFault Global)) → Passed n t kept → ForFault (λ fault. (kept : List (List ℕ)) → Reports n t kept fault.value) failure → ForFault (λ fault. IsReported t kept fault.value) failure
+  fails n failure passed h = for_fault _ _ failure (λ fault is. reported n fault.value (is kept) passed) h
 
   pub without_fault : Passed 11 t kept → HasNoFault t kept
   without_fault passed fault is = let low = passed fault is in let high = (code_within fault).1 in absurd (omega (arith, low, high))

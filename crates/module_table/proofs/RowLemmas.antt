@@ -1,9 +1,9 @@
 -- Rows of entries by keys: an entry that is added is listed, and what was listed still is.
-use Rattle.std.proofs.Common.{◌≡◌, ℕ, zero, suc, ◌+◌, ◌<◌, ◌≤◌, ◌⊎◌, Bool, true, false, IsTrue, cond, List, [], ◌∷◌, ◌++◌, length, Option, Some, None, Vec, Global, refl, ap, subst, sym, ◌∙◌, inl, inr, arith, length-append, slice_get, slice_set, bytes_eq, true≢false, is_some, IfSome, MatchOption, Bor, get_or}
-use Rattle.std.specs.List.{position_or_len}
+use Rattle.std.proofs.Common.{◌≡◌, ℕ, zero, suc, ◌+◌, ◌<◌, ◌≤◌, ◌⊎◌, Bool, true, false, cond, List, [], ◌∷◌, ◌++◌, length, Option, Some, None, Vec, Global, refl, ap, subst, sym, ◌∙◌, inl, inr, arith, length-append, slice_get, slice_set, bytes_eq, true≢false, is_some, IfSome, MatchBool, MatchOption, Bor, get_or}
+use Rattle.std.specs.List.{position_or_len, AllWithin}
 use Rattle.std.specs.Cmp.Lexicographic.{bytes_decides}
 use Rattle.std.proofs.lemmas.Bool.{eqb-true}
-use Rattle.std.proofs.lemmas.Option.{slice_get_within, slice_get_read}
+use Rattle.std.proofs.lemmas.Option.{slice_get_within, slice_get_read, get_or_from_slice_get}
 use Rattle.std.proofs.lemmas.List.Folds.{position_or_len_push}
 use Rattle.module_table.specs.inner.Pools.{Has, Rows, Lists, StillLists, Below}
 use Rattle.ninja_text.proofs.ForCallers.{same_some, in_first, in_second, from_push, three_ways}
@@ -121,17 +121,23 @@ below_map P Q xs i weaker before k x lt at = weaker x (before k x lt at)
 pub below_all : {X : Type 0} (P : X → Type 0) (xs : List X) (i : ℕ) → length xs ≤ i → Below P xs i → (x : X) → Has xs x → P x
 below_all P xs i past before x h = each_all (λ k. P) xs i past before h.0 x h.1
 
-pub below_zero : {X : Type 0} (P : X → Type 0) (xs : List X) → Below P xs 0
-below_zero P xs k x lt at = absurd (omega arith)
+-- what `all` or `any` finds out of each element
+each_within : {X : Type 0} (P : X → Type 0) (xs : List X) → AllWithin P xs 0 (length xs) → (x : X) → Has xs x → P x
+each_within P xs all x h = let within = slice_get_within xs h.0 x h.1 in subst P (get_or_from_slice_get xs h.0 x x h.1) (all h.0 x (omega arith) within)
+
+pub all_true : {X : Type 0} (P : X → Type 0) (Q : Type 0) (xs : List X) (r : Bool) → MatchBool r (AllWithin P xs 0 (length xs)) Q → r ≡ true → (x : X) → Has xs x → P x
+all_true P Q xs true h e = each_within P xs h
+all_true P Q xs false h e = absurd (true≢false (sym e))
+
+pub any_false : {X : Type 0} (P : X → Type 0) (Q : Type 0) (xs : List X) (r : Bool) → MatchBool r Q (AllWithin P xs 0 (length xs)) → r ≡ false → (x : X) → Has xs x → P x
+any_false P Q xs true h e = absurd (true≢false e)
+any_false P Q xs false h e = each_within P xs h
 
 pub all_pushed : {X : Type 0} (P : X → Type 0) (xs new : List X) (y : X) → new ≡ xs ++ y ∷ [] → ((x : X) → Has xs x → P x) → P y → (x : X) → Has new x → P x
 all_pushed P xs new y pushed before here x h =
     elim (from_push xs y h.0 x (ap (λ ys. slice_get ys h.0) (sym pushed) ∙ h.1)) [ inl old ↦ before x (h.0, old) | inr last ↦ subst P last.1 here ]
 
 -- ---- truth values
-
-pub is_false : (b : Bool) → b ≡ false → IsTrue b → ⊥
-is_false b e h = true≢false (sym h ∙ e)
 
 pub none_if : {X : Type 0} (o : Option X) → is_some o ≡ false → o ≡ None
 none_if None e = refl

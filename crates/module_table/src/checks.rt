@@ -1,7 +1,7 @@
 //! All checks of a table in the order of their codes, and what a table keeps for look-ups after
 //! they have passed. M1 to M4 are in `repeated.rt`, M5 to M7 in `required.rt`, M8 in `rings.rt`, M9
 //! and M10 in `privacy.rt`.
-ghost use Rattle.std.specs.Prelude.{◌≡◌, List, map, IfOk, IfErr, OnOk};
+ghost use Rattle.std.specs.Prelude.{◌≡◌, map, IfOk, IfErr, OnOk};
 ghost use Rattle.ninja_text.specs.Bytes.{Name};
 ghost use Rattle.ninja_text.specs.Failure.{ForFault};
 ghost use Rattle.indexmap.specs.IndexSet.{IsEmpty};
@@ -9,8 +9,6 @@ ghost use Rattle.dep_order.specs.Rows.{rows};
 ghost use Rattle.module_table.specs.TableValue.{table_with};
 ghost use Rattle.module_table.specs.Faults.{IsReported};
 ghost use Rattle.module_table.specs.Outcomes.{HasNoFault};
-ghost use Rattle.module_table.specs.inner.Origins.{origin_of};
-ghost use Rattle.module_table.specs.inner.Found.{AreLookedUp};
 ghost use Rattle.module_table.specs.inner.Passed.{Passed};
 ghost use Rattle.module_table.specs.inner.Numbered.{AreIndexes};
 ghost use Rattle.module_table.specs.inner.Graph.{AreModuleRows};
@@ -18,9 +16,9 @@ ghost use Rattle.module_table.specs.inner.LookUps.{AreLookUps};
 ghost use Rattle.module_table.specs.inner.Views.{paths_of};
 
 use crate::fault::{Maker, TableFault};
-use crate::modules::{Module, Modules};
+use crate::modules::Modules;
 use crate::needed::all_pairs;
-use crate::requirements::{InfoRequired, all_required, object_rows};
+use crate::requirements::{all_required, object_rows};
 use dep_order::Digraph;
 use indexmap::IndexSet;
 use ninja_text::{Failure, Path};
@@ -65,7 +63,8 @@ impl Index {
             index.origins.items index.graph (map (λ row. row.items) index.required.items)) }
     {
         let required = all_pairs(alloc, &modules, indexes.as_slice())?;
-        let origins = all_origins(alloc, modules.provided())?;
+        let origins = modules.provided().iter().map(|m| (m.maker, m.index));
+        let origins: Vec<(Maker, usize)> = origins.collect(alloc)?;
         let mut needs = needs;
         let mut objects = indexes;
         needs.append(&mut objects)?;
@@ -98,34 +97,13 @@ pub(crate) fn check_all(
     ensures fault { IfErr result (ForFault (λ fault.
         IsReported (table_with objects.now infos.now) kept.now fault.value)) }
 {
-    let modules = check_repetitions(alloc, objects, infos, paths, key)?;
-    let (needs, indexes) = check_requirements(alloc, &modules, kept)?;
-    let index = Index::new(alloc, modules, needs, indexes)?;
-    Ok(index)
-}
-
-/// Checks M1 to M4 and returns the modules by index.
-fn check_repetitions<'t>(
-    alloc: Global,
-    objects: &'t [Rule],
-    infos: &'t [Info],
-    paths: &mut IndexSet<Path, TableKey>,
-    key: TableKey,
-) -> Result<Modules<'t>, Failure<Box<TableFault>>>
-    requires { IsEmpty paths.old }
-    ensures modules { IfOk result
-        (λ modules. modules ≡ table_with objects.now infos.now) }
-    ensures paths { OnOk result (paths.new.keys ≡ paths_of (table_with objects.now infos.now)) }
-    ensures passed { OnOk result ((kept : List Name) →
-        Passed 5 (table_with objects.now infos.now) kept) }
-    ensures fault { IfErr result (ForFault (λ fault. (kept : List Name) →
-        IsReported (table_with objects.now infos.now) kept fault.value)) }
-{
     check_objects(alloc, objects, paths)?;
     check_infos(alloc, infos, key)?;
     let modules = check_names(alloc, objects, infos, key)?;
     check_files(alloc, &modules, paths)?;
-    Ok(modules)
+    let (needs, indexes) = check_requirements(alloc, &modules, kept)?;
+    let index = Index::new(alloc, modules, needs, indexes)?;
+    Ok(index)
 }
 
 /// Checks M5 to M10. Returns what each module needs, and the modules that each object requires.
@@ -143,46 +121,11 @@ fn check_requirements(
     let indexes = check_objects_known(alloc, modules)?;
     let mut needs = object_rows(alloc, modules)?;
     let required = all_required(alloc, modules, &mut needs)?;
-    check_looked_up(
-        alloc,
-        modules,
-        indexes.as_slice(),
-        required.as_slice(),
-        kept,
-    )?;
+    check_infos_known(alloc, modules, &required)?;
+    check_infos_agree(alloc, modules, &required)?;
+    check_rings(alloc, modules, &indexes)?;
+    check_objects_allowed(alloc, modules, &indexes)?;
+    check_infos_allowed(alloc, modules, &required)?;
+    check_kept(alloc, modules, kept)?;
     Ok((needs, indexes))
-}
-
-/// Checks M6 to M10. `indexes[i]` are the modules that object i requires, and `required` is what
-/// the modules of info files require, with the modules of those names.
-fn check_looked_up(
-    alloc: Global,
-    modules: &Modules,
-    indexes: &[Vec<usize>],
-    required: &[InfoRequired],
-    kept: &[Name],
-) -> Result<(), Failure<Box<TableFault>>>
-    requires indexes { AreIndexes modules.now (rows indexes.now) }
-    requires required { AreLookedUp modules.now required.now }
-    requires passed { Passed 6 modules.now kept.now }
-    ensures passed { OnOk result (Passed 11 modules.now kept.now) }
-    ensures fault { IfErr result (ForFault (λ fault. IsReported modules.now kept.now fault.value)) }
-{
-    check_infos_known(alloc, modules, required)?;
-    check_infos_agree(alloc, modules, required)?;
-    check_rings(alloc, modules, indexes)?;
-    check_objects_allowed(alloc, modules, indexes)?;
-    check_infos_allowed(alloc, modules, required)?;
-    check_kept(alloc, modules, kept)
-}
-
-/// Returns the producer of each module, and the index of the module in what the producer provides.
-fn all_origins(alloc: Global, provided: &[Module]) -> Result<Vec<(Maker, usize)>, AllocError>
-    ensures { IfOk result (λ origins. origins.items ≡ map origin_of provided.now) }
-{
-    let mut origins = Vec::with_capacity(alloc, provided.len())?;
-    for module in provided {
-        origins.push((module.maker, module.index))?;
-    }
-    Ok(origins)
 }

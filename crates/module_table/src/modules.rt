@@ -116,13 +116,6 @@ impl<'t> Modules<'t> {
         self.provided.as_slice()
     }
 
-    /// Returns the names of all modules, by index.
-    pub(crate) fn names(&self) -> &IndexSet<Name, TableKey>
-        ensures { result.now.keys ≡ names_of (provisions self.now) }
-    {
-        &self.names
-    }
-
     /// Returns the module of that name and its index, if one is provided.
     pub(crate) fn find(&self, name: &Name) -> Option<(usize, &Module<'t>)>
         ensures module { option_map (λ m. provision_of m.1.now) result

@@ -104,24 +104,17 @@ impl<'t> Needs<'t> {
             (λ pairs. ArePairs (IsNeeded self.old object) (map lent pairs.items)) }
     {
         let nodes = self.reaching.from(alloc, self.ranks.len() + object)?;
-        let mut ranks = ranks_at(alloc, self.ranks.as_slice(), nodes.as_slice())?;
+        let mut ranks = Vec::with_capacity(alloc, nodes.len())?;
+        for node in &nodes {
+            // nodes after all modules are objects
+            match self.ranks.get(*node) {
+                Some(rank) => ranks.push(*rank)?,
+                None => {}
+            }
+        }
         ranks.sort_unstable();
         pairs_at(alloc, self.modules.as_slice(), ranks.as_slice())
     }
-}
-
-/// Returns the ranks of the modules among these nodes. Nodes after all modules are objects.
-fn ranks_at(alloc: Global, ranks: &[usize], nodes: &[usize]) -> Result<Vec<usize>, AllocError>
-    ensures { IfOk result (λ found. found.items ≡ filter_map (slice_get ranks.now) nodes.now) }
-{
-    let mut found = Vec::with_capacity(alloc, nodes.len())?;
-    for node in nodes {
-        match ranks.get(*node) {
-            Some(rank) => found.push(*rank)?,
-            None => {}
-        }
-    }
-    Ok(found)
 }
 
 /// Returns the names and files of the modules at these indexes.

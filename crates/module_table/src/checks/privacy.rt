@@ -5,7 +5,7 @@ ghost use Rattle.ninja_text.specs.Bytes.{Name};
 ghost use Rattle.ninja_text.specs.Failure.{ForFault};
 ghost use Rattle.dep_order.specs.Rows.{rows};
 ghost use Rattle.module_table.specs.Modules.{provisions, info_requirements};
-ghost use Rattle.module_table.specs.inner.Finds.{is_allowed, is_by_object, is_info_at, IsPrivate, IsAllowed, IsByObject, IsPrivateTo, RequiresPublic, AcceptsAll};
+ghost use Rattle.module_table.specs.inner.Finds.{is_allowed, IsPrivate, IsAllowed, IsByObject, IsPrivateTo, RequiresPublic, AcceptsAll};
 ghost use Rattle.module_table.specs.inner.Found.{looked_up, AreLookedUp};
 ghost use Rattle.module_table.specs.inner.Numbered.{AreIndexes};
 ghost use Rattle.ninja_text.specs.Firsts.{AllDiffer};
@@ -79,7 +79,14 @@ pub(crate) fn check_kept(
     ensures fault { IfErr result (ForFault (λ fault. Reports 10 modules.now kept.now fault.value)) }
 {
     for name in kept {
-        if !is_by_object(modules, name) {
+        let is_own = match modules.find(name) {
+            Some((_, module)) => match module.maker {
+                Maker::Object(_) => true,
+                Maker::Info(_) => false,
+            },
+            None => false,
+        };
+        if !is_own {
             let name = name.copy(alloc)?;
             return Err(failure_of(alloc, TableFault::PrivateUnknown { name }));
         }
@@ -100,25 +107,16 @@ fn requires_private(
         × IsPrivateTo (provisions modules.now) name.now info
         × (fault.value ≡ ModulePrivate name.now info user)) result }
 {
-    let info = info_of(modules, name);
-    match name.copy(alloc) {
-        Ok(name) => failure_of(alloc, TableFault::ModulePrivate { name, info, user }),
-        Err(_) => Failure::Memory,
-    }
-}
-
-/// Returns the info file that the module of that name is private to.
-fn info_of(modules: &Modules, name: &Name) -> usize
-    requires differ { AllDiffer (names_of (provisions modules.now)) }
-    requires private { IsPrivate (provisions modules.now) name.now }
-    ensures { IsPrivateTo (provisions modules.now) name.now result }
-{
-    match modules.find(name) {
+    let info = match modules.find(name) {
         Some((_, module)) => match module.maker {
             Maker::Info(info) => info,
             Maker::Object(_) => unreachable!(),
         },
         None => unreachable!(),
+    };
+    match name.copy(alloc) {
+        Ok(name) => failure_of(alloc, TableFault::ModulePrivate { name, info, user }),
+        Err(_) => Failure::Memory,
     }
 }
 
@@ -127,30 +125,10 @@ fn is_allowed(required: &InfoRequired) -> bool
     ensures { result ≡ is_allowed (looked_up required.now) }
 {
     match required.module {
-        Some((_, module)) => !module.is_private || is_info_at(module.maker, required.info),
-        None => true,
-    }
-}
-
-/// Returns whether the producer is the info file of this index.
-fn is_info_at(maker: Maker, index: usize) -> bool
-    ensures { result ≡ is_info_at maker index }
-{
-    match maker {
-        Maker::Info(info) => info == index,
-        Maker::Object(_) => false,
-    }
-}
-
-/// Returns whether an object provides the name.
-fn is_by_object(modules: &Modules, name: &Name) -> bool
-    ensures { result ≡ is_by_object (provisions modules.now) name.now }
-{
-    match modules.find(name) {
         Some((_, module)) => match module.maker {
-            Maker::Object(_) => true,
-            Maker::Info(_) => false,
+            Maker::Info(info) => !module.is_private || info == required.info,
+            Maker::Object(_) => !module.is_private,
         },
-        None => false,
+        None => true,
     }
 }

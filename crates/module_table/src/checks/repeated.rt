@@ -1,18 +1,17 @@
 //! M1 to M4: what is twice among the paths of objects, the targets of info files, the names of
 //! modules and the files.
-ghost use Rattle.std.specs.Prelude.{◌≡◌, ◌<◌, ◌+◌, List, map, length, slice_get, Some, IfOk, IfErr, OnOk};
+ghost use Rattle.std.specs.Prelude.{◌≡◌, List, map, IfOk, IfErr, OnOk};
 ghost use Rattle.ninja_text.specs.Bytes.{Name};
 ghost use Rattle.indexmap.specs.IndexSet.{IsEmpty};
 ghost use Rattle.ninja_text.specs.Failure.{ForFault};
 ghost use Rattle.module_table.specs.TableValue.{TableValue, table_with};
 ghost use Rattle.module_table.specs.Modules.{provisions};
-ghost use Rattle.module_table.specs.Faults.{Claim, claims_of};
 ghost use Rattle.ninja_text.specs.Firsts.{AllDiffer};
-ghost use Rattle.module_table.specs.inner.Views.{provision_of, names_of, paths_of};
+ghost use Rattle.module_table.specs.inner.Views.{names_of, paths_of};
 ghost use Rattle.module_table.specs.inner.Reported.{Reports};
 
 use crate::fault::{Maker, TableFault, failure_of};
-use crate::modules::{Module, Modules, module_at, provided_modules};
+use crate::modules::{Modules, module_at, provided_modules};
 use indexmap::IndexSet;
 use ninja_text::{Failure, Path};
 use scan_docs::{Info, Name, Rule};
@@ -123,27 +122,18 @@ pub(crate) fn check_files(
         let file = module.file.copy(alloc)?;
         let (first, is_new) = files.insert_full(file)?;
         if !is_new {
+            let maker = if first < objects.len() {
+                Maker::Object(first)
+            } else {
+                module_at(provided, first - objects.len()).maker
+            };
             let fault = TableFault::BmiTwice {
                 path: module.file.copy(alloc)?,
-                first: maker_of(objects, provided, first),
+                first: maker,
                 second: module.maker,
             };
             return Err(failure_of(alloc, fault));
         }
     }
     Ok(())
-}
-
-/// Returns the producer of the file of this index, among objects' paths and then modules' files.
-fn maker_of(objects: &[Rule], provided: &[Module], index: usize) -> Maker
-    requires { index < length objects.now + length provided.now }
-    ensures { (claim : Claim)
-        × (slice_get (claims_of objects.now (map provision_of provided.now)) index ≡ Some claim)
-        × (claim.maker ≡ result) }
-{
-    if index < objects.len() {
-        Maker::Object(index)
-    } else {
-        module_at(provided, index - objects.len()).maker
-    }
 }

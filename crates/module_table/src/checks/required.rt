@@ -5,14 +5,14 @@ ghost use Rattle.ninja_text.specs.Bytes.{Name};
 ghost use Rattle.ninja_text.specs.Failure.{ForFault};
 ghost use Rattle.dep_order.specs.Rows.{rows};
 ghost use Rattle.module_table.specs.Modules.{provisions, info_requirements};
-ghost use Rattle.module_table.specs.inner.Finds.{is_by_info, agrees, IsByInfo, Agrees, AcceptsAll};
-ghost use Rattle.module_table.specs.inner.Found.{looked_up, AreLookedUp};
+ghost use Rattle.module_table.specs.inner.Finds.{IsByInfo, Agrees, AcceptsAll};
+ghost use Rattle.module_table.specs.inner.Found.{AreLookedUp};
 ghost use Rattle.module_table.specs.inner.Numbered.{AreIndexes};
 ghost use Rattle.module_table.specs.inner.Reported.{Reports};
 ghost use Rattle.module_table.specs.declared.fault.TableFault.TheVariants.{ModuleUnknown};
 
 use crate::fault::{Maker, TableFault, failure_of};
-use crate::modules::{Modules, index_of};
+use crate::modules::Modules;
 use crate::requirements::InfoRequired;
 use ninja_text::Failure;
 use scan_docs::{Name, TargetName};
@@ -28,14 +28,13 @@ pub(crate) fn check_objects_known(
     ensures fault { IfErr result (ForFault
         (λ fault. (kept : List Name) → Reports 5 modules.now kept fault.value)) }
 {
-    let names = modules.names();
     let objects = modules.objects();
     let mut indexes = Vec::with_capacity(alloc, objects.len())?;
     for (object, rule) in objects.iter().enumerate() {
         let mut row = Vec::with_capacity(alloc, rule.required.len())?;
         for required in &rule.required {
-            match index_of(names, required) {
-                Some(index) => row.push(index)?,
+            match modules.find(required) {
+                Some((index, _)) => row.push(index)?,
                 None => {
                     let name = required.copy(alloc)?;
                     return Err(failure_of(alloc, TableFault::ModuleUnknown { name, object }));
@@ -60,7 +59,14 @@ pub(crate) fn check_infos_known(
         (λ fault. (kept : List Name) → Reports 6 modules.now kept fault.value)) }
 {
     for required in all {
-        if !is_by_info(required) {
+        let is_known = match required.module {
+            Some((_, module)) => match module.maker {
+                Maker::Info(_) => true,
+                Maker::Object(_) => false,
+            },
+            None => false,
+        };
+        if !is_known {
             let (target, module_name, name) = copy_names(alloc, required)?;
             let fault = TableFault::InfoUnknown {
                 target,
@@ -118,17 +124,4 @@ fn copy_names(
     let module_name = required.module_name.copy(alloc)?;
     let name = required.name.copy(alloc)?;
     Ok((target, module_name, name))
-}
-
-/// Returns whether an info file provides what is required.
-fn is_by_info(required: &InfoRequired) -> bool
-    ensures { result ≡ is_by_info (looked_up required.now) }
-{
-    match required.module {
-        Some((_, module)) => match module.maker {
-            Maker::Info(_) => true,
-            Maker::Object(_) => false,
-        },
-        None => false,
-    }
 }

@@ -31,33 +31,14 @@ pub(crate) fn check_rings(
     let provided = modules.provided();
     let mut needs = Vec::with_capacity(alloc, required.len())?;
     for row in required {
-        let objects = makers_of(alloc, provided, row.as_slice())?;
-        needs.push(objects)?;
+        let objects = row.iter().filter_map(|index| maker_at(provided, *index));
+        needs.push(objects.collect(alloc)?)?;
     }
     let graph = Digraph::new(needs);
     match order(alloc, &graph)? {
         Sorting::Order(_) => Ok(()),
         Sorting::Cycle(objects) => Err(failure_of(alloc, TableFault::ImportCycle { objects })),
     }
-}
-
-/// Returns the objects that provide the modules of these indexes.
-fn makers_of(
-    alloc: Global,
-    provided: &[Module],
-    indexes: &[usize],
-) -> Result<Vec<usize>, AllocError>
-    ensures { IfOk result (λ objects. objects.items
-        ≡ filter_map (maker_at (map provision_of provided.now)) indexes.now) }
-{
-    let mut objects = Vec::new(alloc);
-    for index in indexes {
-        match maker_at(provided, *index) {
-            Some(object) => objects.push(object)?,
-            None => {}
-        }
-    }
-    Ok(objects)
 }
 
 /// Returns the object that provides the module of that index, if an object does.

@@ -1,5 +1,5 @@
 //! Whether a part of the linked info files is enough for a target's table.
-ghost use Rattle.std.specs.Prelude.{◌≡◌, ℕ, IfOk, IfSome, IsTrue, slice_get, Some};
+ghost use Rattle.std.specs.Prelude.{◌≡◌, ℕ, IfOk, IfSome, IsTrue, slice_get, Some, true, false};
 ghost use Rattle.scan_docs.specs.Scan.{RuleValue};
 ghost use Rattle.module_table.specs.inner.Pools.{Has, ArePlaces, IsLinked, AreFit, IsApart};
 
@@ -29,8 +29,8 @@ pub(crate) fn places_of(
 
 /// Returns whether the info file of that index is linked.
 fn is_linked(places: &[Option<usize>], number: usize) -> bool
-    ensures linked { IsTrue result → IsLinked places.now number }
-    ensures unlinked { IsLinked places.now number → IsTrue result }
+    ensures linked { result ≡ true → IsLinked places.now number }
+    ensures unlinked { result ≡ false → IsLinked places.now number → ⊥ }
 {
     matches!(places.get(number), Some(Some(_)))
 }
@@ -43,29 +43,15 @@ pub(crate) fn are_fit(linked: &[usize], places: &[Option<usize>], related: &[Rel
         let Some(relations) = related.get(*number) else {
             return false;
         };
-        if !are_linked(places, &relations.sources) || !are_unlinked(places, &relations.clashes) {
-            return false;
-        }
-    }
-    true
-}
-
-fn are_linked(places: &[Option<usize>], numbers: &[usize]) -> bool
-    ensures { IsTrue result → (n : ℕ) → Has numbers.now n → IsLinked places.now n }
-{
-    for number in numbers {
-        if !is_linked(places, *number) {
-            return false;
-        }
-    }
-    true
-}
-
-fn are_unlinked(places: &[Option<usize>], numbers: &[usize]) -> bool
-    ensures { IsTrue result → (n : ℕ) → Has numbers.now n → IsLinked places.now n → ⊥ }
-{
-    for number in numbers {
-        if is_linked(places, *number) {
+        if !relations
+            .sources
+            .iter()
+            .all(|source| is_linked(places, *source))
+            || relations
+                .clashes
+                .iter()
+                .any(|clash| is_linked(places, *clash))
+        {
             return false;
         }
     }
@@ -101,10 +87,5 @@ fn none_linked(places: &[Option<usize>], entries: &[(usize, usize)]) -> bool
     ensures { IsTrue result
         → (entry : ℕ × ℕ) → Has entries.now entry → IsLinked places.now entry.0 → ⊥ }
 {
-    for entry in entries {
-        if is_linked(places, entry.0) {
-            return false;
-        }
-    }
-    true
+    !entries.iter().any(|entry| is_linked(places, entry.0))
 }

@@ -1,4 +1,4 @@
-use Rattle.std.proofs.Common.{◌≡◌, ◌≤◌, ◌∙◌, ap, arith, get_or, Bool, length, map, not, subst, sym, refl, slice_get, take, Some, List, ℕ, Vec}
+use Rattle.std.proofs.Common.{◌≤◌, ◌∙◌, ap, arith, get_or, Bool, length, not, subst, sym, refl, slice_get, take, Some, List, ℕ, Vec}
 use Rattle.std.specs.declared.alloc.Global.{Global}
 use Rattle.std.proofs.lemmas.Option.{slice_get_read, slice_get-get_or}
 use Rattle.dep_order.specs.Rows.{rows}

@@ -1,7 +1,7 @@
-use Rattle.std.proofs.Common.{◌≡◌, ◌+◌, ◌≤◌, ◌<◌, ap, map, refl, arith, append-nil, length, length-append, slice_get, subst, sym, take, true, ◌∙◌, ◌++◌, List, ℕ, Some}
-use Rattle.std.proofs.lemmas.Option.{slice_get_read, slice_get_within}
+use Rattle.std.proofs.Common.{◌≡◌, ◌+◌, ◌-◌, ◌≤◌, ap, map, refl, arith, append-nil, length, slice_get, subst, sym, take, true, ◌∙◌, ◌++◌, List, ℕ, Some}
+use Rattle.std.proofs.lemmas.Option.{slice_get_read}
 use Rattle.scan_docs.specs.Scan.{RuleValue}
-use Rattle.module_table.specs.Faults.{Claim}
+use Rattle.module_table.specs.Faults.{Claim, claims_of}
 use Rattle.module_table.specs.Modules.{Provision, provisions}
 use Rattle.ninja_text.specs.Firsts.{AllDiffer, RepeatsFirst}
 use Rattle.module_table.specs.inner.Reported.{Reports}
@@ -11,9 +11,10 @@ use Rattle.module_table.specs.declared.fault.TableFault.TheVariants.{BmiTwice}
 use Rattle.module_table.proofs.Rings.{length_mapped}
 use Rattle.module_table.proofs.IndexRows.{take_all}
 use Rattle.module_table.proofs.Repetitions.{repeats_if_found, keys_if_new, differ_if_new, take_behind, map_same}
-use Rattle.module_table.proofs.ReportLemmas.{reported_made, for_boxed, module_claim_at}
+use Rattle.module_table.proofs.ReportLemmas.{reported_made, for_boxed, own_claim_at, module_claim_at}
 use Rattle.module_table.proofs.checks.repeated.check_files.Goals as goal
-use Rattle.ninja_text.proofs.ForCallers.{to_map, in_second}
+use Rattle.module_table.proofs.checks.repeated.check_files.Goals.{then-first-objects, else-first-objects}
+use Rattle.ninja_text.proofs.ForCallers.{to_map, in_second, element_at}
 
 abbrev object_of : RuleValue → List ℕ
 object_of rule = rule.object
@@ -43,8 +44,8 @@ loop-module-init c =
       differ = subst AllDiffer (sym (none ∙ c.requires.paths)) c.requires.differ;
     }
 
-pub maker_of-requires : goal.maker_of-requires
-maker_of-requires c =
+pub module_at-requires : goal.module_at-requires
+module_at-requires c =
     let paths = c.args.files.now.keys in
     let provided = c.provided-provided.result.now in
     let i = c.loop-module.module-index in
@@ -57,7 +58,7 @@ maker_of-requires c =
     let earlier = r.earlier in
     let many = as_many paths c.args.modules.now.objects c.requires.paths in
     let objects = ap length c.objects-objects.ensures in
-    omega (arith, earlier, c.loop-module-test.true, many, objects)
+    omega (arith, earlier, c.loop-module-test.true, many, objects, c.objects-objects.type_inv.0)
 
 pub returns-then-not-is_new-clause-fault : goal.returns-then-not-is_new-clause-fault
 returns-then-not-is_new-clause-fault c =
@@ -78,18 +79,25 @@ returns-then-not-is_new-clause-fault c =
     let of_modules = subst (λ ps. RepeatsFirst (map object_of t.objects ++ files_of ps) first (length paths + i)) c.provided-provided.ensures.provisions of_objects in
     let repeats = subst (λ n. RepeatsFirst (map object_of t.objects ++ files_of (provisions t)) first (n + i)) (as_many paths t.objects c.requires.paths) of_modules in
     let claim : Claim = record { maker = p.maker; file = p.file.now; is_module = true } in
-    let earlier = c.maker_of.ensures in
-    let twice : IsMadeTwice objects (map provision_of provided) first (length objects + i) (BmiTwice c.in_ok-copy.field-0 c.maker_of.result p.maker) = (
+    let earlier : (claim : Claim) × (slice_get (claims_of objects (map provision_of provided)) first ≡ Some claim) × (claim.maker ≡ c.if-first-objects.maker) = elim c.if-first-objects.branch [
+      | then-first-objects w ↦ let rule = element_at objects first w.if-first-objects.true in (_, own_claim_at objects (map provision_of provided) first rule.0 rule.1, sym w.maker-is)
+      | else-first-objects w ↦
+          let place : length objects + (first - length objects) ≡ first = omega (arith, w.if-first-objects.false) in
+          let m = w.module_at.result.now in
+          let other : Claim = record { maker = m.maker; file = m.file.now; is_module = true } in
+          (other, subst (λ n. slice_get (claims_of objects (map provision_of provided)) n ≡ Some other) place (module_claim_at objects (map provision_of provided) (first - length objects) (provision_of m) (to_map provision_of provided (first - length objects) m w.module_at.ensures)), sym w.maker-is)
+    ] in
+    let twice : IsMadeTwice objects (map provision_of provided) first (length objects + i) (BmiTwice c.in_ok-copy.field-0 c.if-first-objects.maker p.maker) = (
       earlier.0,
       claim,
       earlier.1,
       module_claim_at objects (map provision_of provided) i (provision_of p) (to_map provision_of provided i p there),
-      ap (λ file. BmiTwice file c.maker_of.result p.maker) c.in_ok-copy.ensures ∙ ap (λ maker. BmiTwice p.file.now maker p.maker) (sym earlier.2),
+      ap (λ file. BmiTwice file c.if-first-objects.maker p.maker) c.in_ok-copy.ensures ∙ ap (λ maker. BmiTwice p.file.now maker p.maker) (sym earlier.2),
     ) in
     for_boxed (λ fault. (kept : List (List ℕ)) → Reports 4 t kept fault) _ _
     (λ kept. reported_made t kept first (length t.objects + i) _ c.requires.differ repeats
-    (subst (λ os. IsMadeTwice os (provisions t) first (length os + i) (BmiTwice c.in_ok-copy.field-0 c.maker_of.result p.maker)) c.objects-objects.ensures
-    (subst (λ ps. IsMadeTwice objects ps first (length objects + i) (BmiTwice c.in_ok-copy.field-0 c.maker_of.result p.maker)) c.provided-provided.ensures.provisions twice)))
+    (subst (λ os. IsMadeTwice os (provisions t) first (length os + i) (BmiTwice c.in_ok-copy.field-0 c.if-first-objects.maker p.maker)) c.objects-objects.ensures
+    (subst (λ ps. IsMadeTwice objects ps first (length objects + i) (BmiTwice c.in_ok-copy.field-0 c.if-first-objects.maker p.maker)) c.provided-provided.ensures.provisions twice)))
     c.failure_of.ensures
 
 pub loop-module-preserved : goal.loop-module-preserved

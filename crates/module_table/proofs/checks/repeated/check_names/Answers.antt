@@ -1,4 +1,4 @@
-use Rattle.std.proofs.Common.{◌≡◌, ◌∙◌, ◌<◌, ◌≤◌, ap, arith, get_or, length, sym, refl, map, subst, List, ℕ, Some, slice_get}
+use Rattle.std.proofs.Common.{◌≡◌, ◌∙◌, ◌<◌, ◌≤◌, ap, arith, length, sym, refl, map, subst, List, ℕ, Some, slice_get}
 use Rattle.std.proofs.lemmas.Option.{slice_get_read}
 use Rattle.ninja_text.specs.Firsts.{AllDiffer}
 use Rattle.module_table.specs.inner.Views.{provision_of, names_of}

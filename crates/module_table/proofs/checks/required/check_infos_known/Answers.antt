@@ -1,4 +1,4 @@
-use Rattle.std.proofs.Common.{ℕ, ◌≤◌, List, ◌∙◌, ap, arith, length, sym, refl, subst, MatchBool}
+use Rattle.std.proofs.Common.{◌≡◌, ℕ, ◌≤◌, List, ◌∙◌, ap, arith, length, sym, refl, subst, MatchBool}
 use Rattle.std.proofs.lemmas.Option.{slice_get_read}
 use Rattle.module_table.specs.Modules.{provisions, info_requirements}
 use Rattle.module_table.specs.inner.Views.{requirement_of}
@@ -14,9 +14,10 @@ use Rattle.module_table.proofs.InfoRequirements.{required_there, found_there}
 use Rattle.module_table.proofs.InfoFaults.{reports_info_unknown}
 use Rattle.module_table.proofs.ReportLemmas.{for_boxed}
 use Rattle.module_table.proofs.checks.required.check_infos_known.Goals as goal
+use Rattle.module_table.proofs.checks.required.check_infos_known.Goals.{in-Some+in-Info, in-Some+in-Object, in-None}
 
-pub returns-then-not-is_by_info-clause-fault : goal.returns-then-not-is_by_info-clause-fault
-returns-then-not-is_by_info-clause-fault c =
+pub returns-then-not-is_known-clause-fault : goal.returns-then-not-is_known-clause-fault
+returns-then-not-is_known-clause-fault c =
     let t = c.args.modules.now in
     let ps = provisions t in
     let all = c.args.all.now in
@@ -24,9 +25,9 @@ returns-then-not-is_by_info-clause-fault c =
     let r = requirement_of c.required-item.result in
     let at = slice_get_read all _ i c.required-item.result refl c.loop-required-test.true c.required-item.is in
     let there = required_there t all c.requires i c.required-item.result at in
-    let tested = sym c.is_by_info.ensures ∙ c.if-not-is_by_info.true in
+    let tested : is_by_info (looked_up c.required-item.result) ≡ c.match-required.is_known = elim c.match-required.branch [ in-Some+in-Info w ↦ rw (w.in-Some.is, w.in-Info.is) (sym w.is_known-is) | in-Some+in-Object w ↦ rw (w.in-Some.is, w.in-Object.is) (sym w.is_known-is) | in-None w ↦ rw w.in-None.is (sym w.is_known-is) ] in
     let found = ap is_by_info (sym (found_there t all c.requires i c.required-item.result at)) in
-    let by = subst (λ b. MatchBool b (IsByInfo ps r) (IsNotByInfo ps r)) (found ∙ tested) (by_info ps c.requires.differ r) in
+    let by = subst (λ b. MatchBool b (IsByInfo ps r) (IsNotByInfo ps r)) (found ∙ tested ∙ c.if-not-is_known.true) (by_info ps c.requires.differ r) in
     let names = c.in_ok-target.ensures in
     for_boxed (λ fault. (kept : List (List ℕ)) → Reports 6 t kept fault) _ _
     (λ kept. reports_info_unknown t kept i r _ (refuses_here (IsByInfo ps) (IsNotByInfo ps) (info_requirements t) i r there c.loop-required.invariant by) there
@@ -44,9 +45,9 @@ loop-required-preserved c =
     let r = requirement_of c.required-item.result in
     let at = slice_get_read all _ i c.required-item.result refl c.loop-required-test.true c.required-item.is in
     let there = required_there t all c.requires i c.required-item.result at in
-    let tested = sym c.is_by_info.ensures ∙ c.if-not-is_by_info.false in
+    let tested : is_by_info (looked_up c.required-item.result) ≡ c.match-required.is_known = elim c.match-required.branch [ in-Some+in-Info w ↦ rw (w.in-Some.is, w.in-Info.is) (sym w.is_known-is) | in-Some+in-Object w ↦ rw (w.in-Some.is, w.in-Object.is) (sym w.is_known-is) | in-None w ↦ rw w.in-None.is (sym w.is_known-is) ] in
     let found = ap is_by_info (sym (found_there t all c.requires i c.required-item.result at)) in
-    let by = subst (λ b. MatchBool b (IsByInfo ps r) (IsNotByInfo ps r)) (found ∙ tested) (by_info ps c.requires.differ r) in
+    let by = subst (λ b. MatchBool b (IsByInfo ps r) (IsNotByInfo ps r)) (found ∙ tested ∙ c.if-not-is_known.false) (by_info ps c.requires.differ r) in
     accepts_next (IsByInfo ps) (IsNotByInfo ps) (info_requirements t) i r there c.loop-required.invariant by
 
 pub returns-clause-ok : goal.returns-clause-ok

@@ -2,24 +2,28 @@ use Rattle.std.proofs.Common.{◌≡◌, ◌∙◌, ◌+◌, [], ap, map, sym, r
 use Rattle.std.specs.declared.alloc.Global.{Global}
 use Rattle.std.proofs.lemmas.Option.{slice_get_read}
 use Rattle.scan_docs.specs.Scan.{RuleValue}
+use Rattle.module_table.specs.Modules.{Provision, provisions}
+use Rattle.module_table.specs.inner.Views.{names_of}
 use Rattle.module_table.specs.inner.Reported.{Reports}
 use Rattle.module_table.specs.declared.fault.TableFault.TheVariants.{ModuleUnknown}
 use Rattle.module_table.proofs.IndexRows.{are_indexes, take_all}
+use Rattle.module_table.proofs.Found.{none_named}
+use Rattle.module_table.proofs.Repetitions.{finds}
 use Rattle.module_table.proofs.Pushes.{pushes_next}
 use Rattle.module_table.proofs.ReportLemmas.{for_boxed, in_row, reports_unknown}
 use Rattle.module_table.proofs.checks.required.check_objects_known.Goals as goal
-use Rattle.ninja_text.proofs.ForCallers.{in_take, take_next}
+use Rattle.ninja_text.proofs.ForCallers.{in_take, take_next, from_map}
 
 pub loop-object-init : goal.loop-object-init
-loop-object-init c = ap (map (λ (row : Vec ℕ Global). map (slice_get c.names-names.result.now.keys) row.items)) c.in_ok-indexes.ensures.items
+loop-object-init c = ap (map (λ (row : Vec ℕ Global). map (slice_get (names_of (provisions c.args.modules.now))) row.items)) c.in_ok-indexes.ensures.items
 
 pub loop-required-init : goal.loop-required-init
-loop-required-init c = ap (map (slice_get c.names-names.result.now.keys)) c.in_ok-row.ensures.items
+loop-required-init c = ap (map (slice_get (names_of (provisions c.args.modules.now)))) c.in_ok-row.ensures.items
 
 pub returns-in-None-clause-fault : goal.returns-in-None-clause-fault
 returns-in-None-clause-fault c =
     let t = c.args.modules.now in
-    let keys = c.names-names.result.now.keys in
+    let keys = (names_of (provisions c.args.modules.now)) in
     let objects = c.objects-objects.result.now in
     let o = c.loop-object.object in
     let rule = c.index-objects-object.result in
@@ -33,11 +37,11 @@ returns-in-None-clause-fault c =
       name,
       record {
         here = at;
-        holds = c.in-None.ensures.none;
+        holds = λ k at. let p = from_map (λ (p : Provision). p.name) (provisions t) k name at in none_named (provisions t) name (sym c.in-None.ensures.module) k p.0 (p.1, p.2);
         before = λ k y lt at_k absent. let r = in_row keys c.loop-required.row.items (take i c.deref-required-items.result.now) k y c.loop-required.invariant (in_take i c.deref-required-items.result.now k y lt (ap (λ xs. slice_get xs k) list ∙ at_k)) in absent r.0 r.2;
       },
       ap (λ n. ModuleUnknown n o) c.in_ok-name-in-None.ensures,
-    ) t kept c.objects-objects.ensures c.names-names.ensures) c.failure_of.ensures
+    ) t kept c.objects-objects.ensures refl) c.failure_of.ensures
 
 pub loop-required-preserved : goal.loop-required-preserved
 loop-required-preserved c =
@@ -45,11 +49,11 @@ loop-required-preserved c =
     let i = c.loop-required.required-index in
     let name = c.required-item.result in
     let at = slice_get_read required _ i name refl c.loop-required-test.true c.required-item.is in
-    pushes_next (slice_get c.names-names.result.now.keys) (λ (n : List ℕ). Some n) (take i required) (take (i + 1) required) name [] _ _ _ (take_next required i name at) c.loop-required.invariant c.in_ok-push-in-Some.ensures.items c.in-Some.ensures.found
+    pushes_next (slice_get (names_of (provisions c.args.modules.now))) (λ (n : List ℕ). Some n) (take i required) (take (i + 1) required) name [] _ _ _ (take_next required i name at) c.loop-required.invariant c.in_ok-push-in-Some.ensures.items (finds (names_of (provisions c.args.modules.now)) name (Some c.in-Some.index) c.in-Some.ensures.index)
 
 pub loop-object-preserved : goal.loop-object-preserved
 loop-object-preserved c =
-    let keys = c.names-names.result.now.keys in
+    let keys = (names_of (provisions c.args.modules.now)) in
     let objects = c.objects-objects.result.now in
     let i = c.loop-object.object in
     let rule = c.index-objects-object.result in
@@ -61,5 +65,5 @@ loop-object-preserved c =
 pub returns-clause-ok : goal.returns-clause-ok
 returns-clause-ok c =
     let objects = c.objects-objects.result.now in
-    are_indexes c.args.modules.now c.names-names.result.now.keys c.loop-object.indexes.items c.names-names.ensures
+    are_indexes c.args.modules.now (names_of (provisions c.args.modules.now)) c.loop-object.indexes.items refl
     (c.loop-object.invariant ∙ ap (map (λ (rule : RuleValue). map (λ name. Some name) rule.required)) (take_all objects c.loop-object.object c.loop-object-test.false ∙ c.objects-objects.ensures))

@@ -1,8 +1,11 @@
-use Rattle.std.proofs.Common.{◌≡◌, ◌∙◌, ap, length, map, refl, subst, sym, List, ℕ, Vec}
+use Rattle.std.proofs.Common.{rules, tests, Ok, ◌≡◌, ◌∙◌, ap, length, map, refl, subst, sym, List, ℕ, Vec}
 use Rattle.std.specs.declared.alloc.Global.{Global}
 use Rattle.std.specs.List.{filter_map}
 use Rattle.std.proofs.lemmas.List.{map-append}
 use Rattle.std.proofs.lemmas.Option.{slice_get_read}
+use Rattle.std.specs.declared.alloc.AllocError.{AllocError}
+use Rattle.std.proofs.lemmas.Iterator.{items_from_collect, YieldsList-from_slice}
+use Rattle.std.proofs.lemmas.Iterator.Consumers.{YieldsList-at, YieldsList-from_filter_map}
 use Rattle.dep_order.specs.Needs.{NeedsAreNodes}
 use Rattle.dep_order.specs.Rows.{rows}
 use Rattle.dep_order.specs.Sortings.{IsSortingOf}
@@ -31,7 +34,9 @@ loop-row-preserved c =
     let i = c.loop-row.row-index in
     let row = c.row-item.result in
     let at = to_map items_of required i row (slice_get_read required _ i row refl c.loop-row-test.true c.row-item.is) in
-    maps_next makers (rows required) i row.items _ _ _ at c.loop-row.invariant (ap rows c.in_ok-push.ensures.items ∙ map-append items_of c.loop-row.needs.items _) (c.in_ok-objects.ensures ∙ ap makers c.as_slice.ensures.value)
+    let maker = maker_at (map provision_of c.provided-provided.result.now) in
+    let made = items_from_collect {E = AllocError} (Ok c.in_ok-collect.field-0) c.in_ok-collect.ensures.ran (YieldsList-from_filter_map _ maker (YieldsList-at c.filter_map-objects.ensures.source (YieldsList-from_slice row.items (c.iter.ensures.rest ∙ c.deref.ensures.value))) c.filter_map-objects.ensures.closure (λ x r q k. search (rules, tests))) in
+    maps_next makers (rows required) i row.items _ _ _ at c.loop-row.invariant (ap rows c.in_ok-push.ensures.items ∙ map-append items_of c.loop-row.needs.items _) made
 
 -- what each object needs
 made_needs : (required : List (Vec ℕ Global)) (t : TableValue) (ps : List Provision) (nodes : List (List ℕ)) → nodes ≡ map (filter_map (maker_at ps)) (rows required) → ps ≡ provisions t → nodes ≡ map (filter_map (maker_at (provisions t))) (rows required)

@@ -1,7 +1,8 @@
-use Rattle.std.proofs.Common.{List, ℕ, get_or, refl, subst, sym}
+use Rattle.std.proofs.Common.{rules, tests, ◌∙◌, ℕ, get_or, refl}
+use Rattle.std.proofs.lemmas.Iterator.{YieldsList-from_slice, cases_from_all, cases_from_any}
 use Rattle.std.proofs.lemmas.Option.{slice_get-get_or, slice_get_read}
-use Rattle.module_table.specs.inner.Pools.{Has, IsFitAt}
-use Rattle.module_table.proofs.RowLemmas.{below_next, below_all}
+use Rattle.module_table.specs.inner.Pools.{IsFitAt, IsLinked}
+use Rattle.module_table.proofs.RowLemmas.{below_next, below_all, all_true, any_false}
 use Rattle.module_table.proofs.PoolLemmas.{all_fit}
 use Rattle.module_table.proofs.pool.fit.are_fit.Goals as goal
 
@@ -10,14 +11,15 @@ loop-number-preserved c =
     let linked = c.args.linked.now in
     let related = c.args.related.now in
     let i = c.loop-number.number-index in
-    let n = get_or linked i 0 in
     let relations = c.in-Some.relations.now in
     let found = c.in-Some.ensures.lookup in
-    below_next (IsFitAt c.args.places.now related) linked i n (slice_get-get_or linked i 0 c.loop-number-test.true) c.loop-number.invariant (
+    let Linked : ℕ → Type 0 = IsLinked c.args.places.now in
+    let Apart : ℕ → Type 0 = λ n. Linked n → ⊥ in
+    below_next (IsFitAt c.args.places.now related) linked i _ (slice_get-get_or linked i 0 c.loop-number-test.true) c.loop-number.invariant (
       relations,
-      slice_get_read related _ n relations refl found.3.0 found.1,
-      λ s h. c.are_linked.ensures c.if-not-are_linked.false s (subst (λ (xs : List ℕ). Has xs s) (sym c.deref.ensures.value) h),
-      λ s h. c.are_unlinked.ensures c.if-not-are_unlinked.false s (subst (λ (xs : List ℕ). Has xs s) (sym c.deref-else-not-are_linked.ensures.value) h),
+      slice_get_read related _ (get_or linked i 0) relations refl found.3.0 found.1,
+      all_true Linked _ relations.sources.items c.all.result (cases_from_all _ _ _ Linked Apart c.all.ensures.ran (YieldsList-from_slice relations.sources.items (c.iter.ensures.rest ∙ c.deref.ensures.value)) (λ x q k. search (rules, tests)) (λ x q k. search (rules, tests))) c.if-not-all.false,
+      any_false Apart _ relations.clashes.items c.any.result (cases_from_any _ _ _ Linked Apart c.any.ensures.ran (YieldsList-from_slice relations.clashes.items (c.iter-else-not-all.ensures.rest ∙ c.deref-else-not-all.ensures.value)) (λ x q k. search (rules, tests)) (λ x q k. search (rules, tests))) c.if-any.false,
     )
 
 pub returns : goal.returns
