@@ -22,9 +22,8 @@ use Rattle.module_table.specs.inner.Ranks.{AreRanked}
 use Rattle.module_table.specs.declared.fault.Maker.TheVariants.{Object, Info}
 use Rattle.module_table.proofs.Places.{neither_less, object_provision, info_provision}
 use Rattle.module_table.proofs.Required.{contained, from_filter_map}
-use Rattle.module_table.proofs.Rings.{in_filter_map, length_mapped}
-use Rattle.module_table.proofs.Numbering.{placed}
-use Rattle.module_table.proofs.GraphParts.{all_from}
+use Rattle.module_table.proofs.IndexRows.{in_filter_map, length_mapped, placed}
+use Rattle.module_table.proofs.Graph.{all_from}
 use Rattle.module_table.proofs.Reaching.{number_at, needed_if_reached, reached_if_needed}
 use Rattle.ninja_text.proofs.ForCallers.{same_some, to_map, from_map, element_at}
 

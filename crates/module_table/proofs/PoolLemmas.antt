@@ -1,5 +1,5 @@
 -- What is looked at of linked info files and of objects, and what is copied of the info files.
-use Rattle.module_table.proofs.Numbering.{placed as index_of}
+use Rattle.module_table.proofs.IndexRows.{placed as index_of}
 use Rattle.std.proofs.Common.{◌≡◌, ℕ, zero, suc, ◌+◌, ◌⊎◌, true, List, [], ◌∷◌, ◌++◌, map, take, Option, Some, None, get_or, refl, ap, subst, sym, ◌∙◌, inl, inr, slice_get, slice_set, bytes_eq, arith, length, length-append, ⊎_elim}
 use Rattle.std.specs.Cmp.Lexicographic.{bytes_decides}
 use Rattle.std.specs.List.{AllZip}

@@ -17,10 +17,9 @@ use Rattle.module_table.specs.declared.fault.Maker.TheVariants.{Object, Info}
 use Rattle.module_table.proofs.Places.{object_provision, info_provision}
 use Rattle.module_table.proofs.Required.{Has, contained, from_provisions}
 use Rattle.module_table.proofs.ReportLemmas.{in_row, numbered_provided}
-use Rattle.module_table.proofs.Zips.{zip_there, zip_length}
-use Rattle.module_table.proofs.ModulePlaces.{IsPlaceOf, module_places, one_at, one_entry}
-use Rattle.module_table.proofs.Numbering.{placed, only_one, one_number, to_numbers, from_numbers}
-use Rattle.module_table.proofs.Rings.{length_mapped}
+use Rattle.module_table.proofs.Lists.{zip_there, zip_length}
+use Rattle.module_table.proofs.Graph.{IsPlaceOf, module_places, one_at, one_entry}
+use Rattle.module_table.proofs.IndexRows.{placed, only_one, one_number, to_numbers, from_numbers, length_mapped}
 use Rattle.ninja_text.proofs.ForCallers.{same_some, to_map, in_first, in_second, from_map}
 
 -- one step, and then the rest

@@ -18,7 +18,7 @@ use Rattle.module_table.specs.declared.fault.TableFault.{TableFault}
 use Rattle.module_table.specs.declared.fault.TableFault.TheVariants.{ProvidedTwice, BmiTwice, ModuleUnknown}
 use Rattle.module_table.proofs.Places.{either, numbered, object_provision, info_provision}
 use Rattle.module_table.proofs.Required.{from_provisions}
-use Rattle.module_table.proofs.Repetitions.{repetition_of}
+use Rattle.module_table.proofs.Lists.{repetition_of}
 use Rattle.ninja_text.proofs.ForCallers.{in_take, same_some, to_map, in_first, in_second, from_map, in_append}
 
 pub for_fault : (P Q : Box TableFault Global → Type 0) (failure : Failure (Box TableFault Global)) → ((fault : Box TableFault Global) → P fault → Q fault) → ForFault P failure → ForFault Q failure

@@ -1,4 +1,4 @@
-use Rattle.module_table.proofs.Excluded as excluded
+use Rattle.module_table.proofs.OneReported as excluded
 use Rattle.module_table.proofs.Faultless as faultless
 use Rattle.module_table.proofs.laws.sound_tables.Goals as goal
 

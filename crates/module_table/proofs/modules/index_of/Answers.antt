@@ -1,4 +1,4 @@
-use Rattle.module_table.proofs.Repetitions.{finds, misses}
+use Rattle.module_table.proofs.Lists.{finds, misses}
 use Rattle.module_table.proofs.modules.index_of.Goals as goal
 
 pub returns-clause-found : goal.returns-clause-found

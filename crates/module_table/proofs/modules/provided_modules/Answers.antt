@@ -8,8 +8,7 @@ use Rattle.module_table.specs.inner.Views.{provision_of}
 use Rattle.module_table.specs.inner.Origins.{Origin, origin_of, object_origins, info_origins}
 use Rattle.module_table.specs.declared.fault.Maker.TheVariants.{Object, Info}
 use Rattle.module_table.proofs.IndexRows.{take_all}
-use Rattle.module_table.proofs.Repetitions.{numbered_next, gathers_next, gathers_all}
-use Rattle.module_table.proofs.Pushes.{pushes_next}
+use Rattle.module_table.proofs.Lists.{numbered_next, gathers_next, gathers_all, pushes_next}
 use Rattle.module_table.proofs.modules.provided_modules.Goals as goal
 use Rattle.ninja_text.proofs.ForCallers.{take_next}
 

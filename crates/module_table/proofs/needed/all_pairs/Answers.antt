@@ -12,9 +12,8 @@ use Rattle.module_table.specs.Added.{first_mentions, pair_of, required_of}
 use Rattle.module_table.specs.inner.Indexed.{pair_at}
 use Rattle.module_table.specs.inner.Views.{names_of, provision_of}
 use Rattle.module_table.specs.inner.Mentioned.{name_in, ArePairsSoFar}
-use Rattle.module_table.proofs.Rings.{length_mapped}
-use Rattle.module_table.proofs.IndexRows.{take_all, many_rows, rule_of, index_within}
-use Rattle.module_table.proofs.Marks.{row_names, pairs_found, no_pairs, pairs_new, pairs_old}
+use Rattle.module_table.proofs.IndexRows.{length_mapped, take_all, many_rows, rule_of, index_within}
+use Rattle.module_table.proofs.Mentions.{row_names, pairs_found, no_pairs, pairs_new, pairs_old}
 use Rattle.module_table.proofs.needed.all_pairs.Goals as goal
 use Rattle.module_table.proofs.needed.all_pairs.Goals.{then-index-object+in_ok-copy_pair+in_ok-push, else-index-object}
 use Rattle.ninja_text.proofs.ForCallers.{take_next, to_map}

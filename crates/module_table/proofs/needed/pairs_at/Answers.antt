@@ -2,7 +2,7 @@ use Rattle.std.proofs.Common.{◌+◌, [], sym, get_or, take, slice_get, Some, �
 use Rattle.std.specs.Borrow.{Bor}
 use Rattle.std.proofs.lemmas.Option.{slice_get-get_or}
 use Rattle.module_table.specs.inner.Ranks.{Numbered, pairs_of}
-use Rattle.module_table.proofs.Pushes.{pushes_next}
+use Rattle.module_table.proofs.Lists.{pushes_next}
 use Rattle.module_table.proofs.needed.pairs_at.Goals as goal
 use Rattle.ninja_text.proofs.ForCallers.{take_next, to_map}
 

@@ -6,9 +6,8 @@ use Rattle.module_table.specs.Modules.{InfoRequirement, provisions}
 use Rattle.module_table.specs.inner.Views.{names_of}
 use Rattle.module_table.specs.inner.Graph.{index_in, indexes_in}
 use Rattle.module_table.specs.inner.Found.{looked_up, lookup_of}
-use Rattle.module_table.proofs.IndexRows.{take_all}
-use Rattle.module_table.proofs.Pushes.{pushes_next}
-use Rattle.module_table.proofs.Rings.{takes_some, takes_none}
+use Rattle.module_table.proofs.IndexRows.{take_all, takes_some, takes_none}
+use Rattle.module_table.proofs.Lists.{pushes_next}
 use Rattle.module_table.proofs.requirements.add_module.Goals as goal
 use Rattle.module_table.proofs.requirements.add_module.Goals.{in-Some+in_ok-push-in-Some, in-None}
 use Rattle.ninja_text.proofs.ForCallers.{take_next}

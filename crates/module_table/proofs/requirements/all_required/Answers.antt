@@ -8,10 +8,8 @@ use Rattle.module_table.specs.inner.Views.{names_of}
 use Rattle.module_table.specs.inner.Graph.{indexes_in, info_rows}
 use Rattle.module_table.specs.inner.Found.{looked_up, lookups_of}
 use Rattle.module_table.proofs.IndexRows.{take_all}
-use Rattle.module_table.proofs.InfoRequirements.{lookups}
-use Rattle.module_table.proofs.Pushes.{pushes_next}
-use Rattle.module_table.proofs.Refusals.{gathers_more}
-use Rattle.module_table.proofs.Repetitions.{gathers_next}
+use Rattle.module_table.proofs.Places.{lookups}
+use Rattle.module_table.proofs.Lists.{pushes_next, gathers_more, gathers_next}
 use Rattle.module_table.proofs.requirements.all_required.Goals as goal
 use Rattle.ninja_text.proofs.ForCallers.{take_next}
 

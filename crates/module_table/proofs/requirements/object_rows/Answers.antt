@@ -7,9 +7,8 @@ use Rattle.module_table.specs.inner.Origins.{origin_of}
 use Rattle.module_table.specs.inner.Graph.{object_row}
 use Rattle.module_table.specs.inner.Views.{provision_of}
 use Rattle.module_table.specs.declared.modules.Module.{Module}
-use Rattle.module_table.proofs.GraphParts.{object_within, filter_map_map}
-use Rattle.module_table.proofs.IndexRows.{take_all}
-use Rattle.module_table.proofs.Rings.{takes_some, takes_none, length_mapped}
+use Rattle.module_table.proofs.Graph.{object_within, filter_map_map}
+use Rattle.module_table.proofs.IndexRows.{take_all, takes_some, takes_none, length_mapped}
 use Rattle.module_table.proofs.requirements.object_rows.Goals as goal
 use Rattle.module_table.proofs.requirements.object_rows.Goals.{in-Object+in_ok-row-in-Object+in_ok-push-in-Object, in-Info}
 use Rattle.ninja_text.proofs.ForCallers.{to_map}

@@ -7,7 +7,7 @@ use Rattle.dep_order.specs.Needs.{NeedsAreNodes}
 use Rattle.dep_order.specs.Rows.{rows}
 use Rattle.module_table.specs.inner.Numbered.{AreIndexes}
 use Rattle.module_table.specs.inner.Origins.{origin_of}
-use Rattle.module_table.proofs.GraphParts.{are_nodes, is_graph}
+use Rattle.module_table.proofs.Graph.{are_nodes, is_graph}
 use Rattle.module_table.proofs.checks.Index.new.Goals as goal
 
 rows_of_append : (needs more all : List (Vec ℕ Global)) → all ≡ needs ++ more → rows all ≡ rows needs ++ rows more

@@ -5,12 +5,11 @@ use Rattle.module_table.specs.inner.Views.{requirement_of}
 use Rattle.module_table.specs.inner.Finds.{is_allowed, IsAllowed, IsNotAllowed, AcceptsAll}
 use Rattle.module_table.specs.inner.Found.{looked_up, with_module}
 use Rattle.module_table.specs.inner.Reported.{Reports}
-use Rattle.module_table.proofs.IndexRows.{take_all}
-use Rattle.module_table.proofs.Rings.{length_mapped}
-use Rattle.module_table.proofs.Refusals.{accepts_next, refuses_here}
+use Rattle.module_table.proofs.IndexRows.{take_all, length_mapped}
+use Rattle.module_table.proofs.Lists.{accepts_next, refuses_here}
 use Rattle.module_table.proofs.Found.{allowed}
-use Rattle.module_table.proofs.InfoRequirements.{required_there, found_there}
-use Rattle.module_table.proofs.Privacy.{reports_private_info}
+use Rattle.module_table.proofs.Places.{required_there, found_there}
+use Rattle.module_table.proofs.Passing.{reports_private_info}
 use Rattle.module_table.proofs.ReportLemmas.{for_fault}
 use Rattle.module_table.proofs.checks.privacy.check_infos_allowed.Goals as goal
 

@@ -4,9 +4,9 @@ use Rattle.module_table.specs.Modules.{provisions}
 use Rattle.module_table.specs.inner.Finds.{is_object, some_and, is_by_object, IsByObject, IsNotByObject}
 use Rattle.module_table.specs.inner.Reported.{Reports}
 use Rattle.module_table.specs.declared.fault.TableFault.TheVariants.{PrivateUnknown}
-use Rattle.module_table.proofs.Refusals.{accepts_next, refuses_here}
+use Rattle.module_table.proofs.Lists.{accepts_next, refuses_here}
 use Rattle.module_table.proofs.Found.{by_object}
-use Rattle.module_table.proofs.InfoFaults.{reports_private_unknown}
+use Rattle.module_table.proofs.Passing.{reports_private_unknown}
 use Rattle.module_table.proofs.ReportLemmas.{for_boxed}
 use Rattle.module_table.proofs.checks.privacy.check_kept.Goals as goal
 use Rattle.module_table.proofs.checks.privacy.check_kept.Goals.{in-Some+in-Object, in-Some+in-Info, in-None}

@@ -6,12 +6,11 @@ use Rattle.module_table.specs.inner.Finds.{is_by_info, IsByInfo, IsNotByInfo, Ac
 use Rattle.module_table.specs.inner.Found.{looked_up, with_module}
 use Rattle.module_table.specs.inner.Reported.{Reports}
 use Rattle.module_table.specs.declared.fault.TableFault.TheVariants.{InfoUnknown}
-use Rattle.module_table.proofs.IndexRows.{take_all}
-use Rattle.module_table.proofs.Rings.{length_mapped}
-use Rattle.module_table.proofs.Refusals.{accepts_next, refuses_here}
+use Rattle.module_table.proofs.IndexRows.{take_all, length_mapped}
+use Rattle.module_table.proofs.Lists.{accepts_next, refuses_here}
 use Rattle.module_table.proofs.Found.{by_info}
-use Rattle.module_table.proofs.InfoRequirements.{required_there, found_there}
-use Rattle.module_table.proofs.InfoFaults.{reports_info_unknown}
+use Rattle.module_table.proofs.Places.{required_there, found_there}
+use Rattle.module_table.proofs.Passing.{reports_info_unknown}
 use Rattle.module_table.proofs.ReportLemmas.{for_boxed}
 use Rattle.module_table.proofs.checks.required.check_infos_known.Goals as goal
 use Rattle.module_table.proofs.checks.required.check_infos_known.Goals.{in-Some+in-Info, in-Some+in-Object, in-None}

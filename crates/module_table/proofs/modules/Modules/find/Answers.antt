@@ -5,7 +5,7 @@ use Rattle.module_table.specs.inner.Finds.{found}
 use Rattle.module_table.specs.Modules.{Provision, provisions}
 use Rattle.module_table.specs.inner.Views.{provision_of, names_of, IsAbsent}
 use Rattle.module_table.specs.inner.Graph.{index_in}
-use Rattle.module_table.proofs.Rings.{length_mapped}
+use Rattle.module_table.proofs.IndexRows.{length_mapped}
 use Rattle.module_table.proofs.Found.{named_found, absent_found}
 use Rattle.module_table.proofs.modules.Modules.find.Goals as goal
 use Rattle.ninja_text.proofs.ForCallers.{same_some, to_map}

@@ -11,9 +11,9 @@ use Rattle.module_table.specs.inner.Graph.{IsModuleGraph}
 use Rattle.module_table.specs.inner.Ranks.{Numbered, pairs_of, AreListed, AreByName, AreNumbers, AreRanks}
 use Rattle.module_table.specs.declared.fault.Maker.{Maker}
 use Rattle.module_table.specs.declared.fault.Maker.TheVariants.{Object}
-use Rattle.module_table.proofs.Zips.{zip_length}
-use Rattle.module_table.proofs.ModulePlaces.{IsPlaceOf, module_places, named_there, pair_there}
-use Rattle.module_table.proofs.ByName.{are_numbers, are_ranked, by_name, module_cmp, lent_modules, listed_more, ranks_more}
+use Rattle.module_table.proofs.Lists.{zip_length}
+use Rattle.module_table.proofs.Graph.{IsPlaceOf, module_places, named_there, pair_there}
+use Rattle.module_table.proofs.Pairs.{are_numbers, are_ranked, by_name, module_cmp, lent_modules, listed_more, ranks_more}
 use Rattle.module_table.proofs.needed.Needs.new.Goals as goal
 
 pub named_at-requires : goal.named_at-requires

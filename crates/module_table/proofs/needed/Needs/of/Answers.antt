@@ -10,11 +10,9 @@ use Rattle.module_table.specs.Needed.{ArePairs, IsNeeded, lent}
 use Rattle.module_table.specs.inner.Graph.{IsModuleGraph}
 use Rattle.module_table.specs.inner.Origins.{origins_of}
 use Rattle.module_table.specs.inner.Ranks.{Numbered, pairs_of}
-use Rattle.module_table.proofs.Zips.{zip_length}
-use Rattle.module_table.proofs.ModulePlaces.{IsPlaceOf, module_places}
-use Rattle.module_table.proofs.GraphParts.{node_within}
-use Rattle.module_table.proofs.Rings.{length_mapped, takes_some, takes_none}
-use Rattle.module_table.proofs.IndexRows.{take_all}
+use Rattle.module_table.proofs.Lists.{zip_length}
+use Rattle.module_table.proofs.Graph.{IsPlaceOf, module_places, node_within}
+use Rattle.module_table.proofs.IndexRows.{length_mapped, takes_some, takes_none, take_all}
 use Rattle.module_table.proofs.NeededPairs.{all_in_range, needed_lent}
 use Rattle.module_table.proofs.needed.Needs.of.Goals as goal
 use Rattle.module_table.proofs.needed.Needs.of.Goals.{in-Some+in_ok-push-in-Some, in-None}

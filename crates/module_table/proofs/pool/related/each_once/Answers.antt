@@ -1,5 +1,5 @@
 use Rattle.module_table.proofs.Required.{contained}
-use Rattle.module_table.proofs.Numbering.{placed}
+use Rattle.module_table.proofs.IndexRows.{placed}
 use Rattle.std.proofs.Common.{eqb}
 use Rattle.std.proofs.lemmas.List.Filters.{dedup_is}
 use Rattle.std.proofs.lemmas.List.Kept.{Contains-dedup_nat}

@@ -1,6 +1,6 @@
 use Rattle.std.proofs.Common.{◌≡◌, ◌∙◌, ap, Some, slice_get}
 use Rattle.module_table.specs.Added.{required_of}
-use Rattle.module_table.proofs.Repetitions.{row_is}
+use Rattle.module_table.proofs.Lists.{row_is}
 use Rattle.module_table.proofs.resolved.Resolved.required.Goals as goal
 
 pub returns : goal.returns

@@ -6,7 +6,7 @@ use Rattle.module_table.specs.Outcomes.{HasNoFault}
 use Rattle.module_table.specs.inner.LookUps.{AreLookUps}
 use Rattle.module_table.specs.inner.Mentioned.{mentioned_names}
 use Rattle.module_table.specs.inner.Views.{names_of, paths_of}
-use Rattle.module_table.proofs.Names.{all_names}
+use Rattle.module_table.proofs.Mentions.{all_names}
 use Rattle.module_table.proofs.IndexRows.{same_table}
 use Rattle.module_table.proofs.Faultless.{faultless_is_sound}
 use Rattle.module_table.proofs.table.Table.build_or_refused.Goals as goal

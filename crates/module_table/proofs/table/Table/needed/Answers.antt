@@ -3,7 +3,7 @@ use Rattle.std.proofs.lemmas.List.{take_all}
 use Rattle.std.proofs.lemmas.Option.{slice_get_read}
 use Rattle.module_table.specs.TableValue.{TableValue}
 use Rattle.module_table.specs.Needed.{ArePairs, IsNeeded, lent}
-use Rattle.module_table.proofs.Pushes.{maps_next}
+use Rattle.module_table.proofs.Lists.{maps_next}
 use Rattle.module_table.proofs.table.Table.needed.Goals as goal
 
 pub loop-pair-preserved : goal.loop-pair-preserved

@@ -1,6 +1,6 @@
 use Rattle.std.proofs.Common.{◌≡◌, ◌∙◌, ℕ, List, ap, map, Some, slice_get}
 use Rattle.scan_docs.specs.Scan.{RuleValue}
-use Rattle.module_table.proofs.Repetitions.{row_is}
+use Rattle.module_table.proofs.Lists.{row_is}
 use Rattle.module_table.proofs.table.Table.provided.Goals as goal
 
 abbrev provided_of : RuleValue → List (List ℕ × List ℕ)

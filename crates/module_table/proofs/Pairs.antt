@@ -1,33 +1,152 @@
--- Modules sorted by name, and their ranks.
-use Rattle.std.proofs.Common.{◌≡◌, ◌≢◌, ℕ, ◌+◌, ◌<◌, Bool, false, List, [], ◌∷◌, ◌++◌, length, map, get_or, set, slice_index, Some, refl, ap, subst, sym, ◌∙◌, ⊎_elim, arith, slice_get, Ordering, true≢false}
-use Rattle.std.specs.Option.{option_map}
+-- Pairs of names and files: which of them an object requires, and their order by name.
+use Rattle.std.proofs.Common.{◌≡◌, ℕ, zero, suc, ◌<◌, ◌⊎◌, List, [], ◌∷◌, Some, None, refl, ap, ap₂, subst, sym, ◌∙◌, inl, inr, ⊎_elim, arith, slice_get, get_or, Bool, true, false, filter, find, cond, not, bytes_eq, ◌≢◌, ◌+◌, ◌++◌, length, map, set, slice_index, Ordering, true≢false}
 use Rattle.std.specs.List.{AllPairs, IsDistinct}
+use Rattle.std.specs.Ordering.{ordering_reverse, nat_cmp, ordering_then, is_lt, is_eq}
+use Rattle.std.specs.declared.cmp.Ordering.TheVariants.{Less, Greater, Equal}
+use Rattle.std.specs.Cmp.Lexicographic.{nat_list_cmp_total, bytes_decides, slice_cmp, on_texts}
+use Rattle.std.proofs.lemmas.Option.{slice_get_within, get_or_from_slice_get, slice_get-get_or}
+use Rattle.module_table.specs.Needed.{ArePairs, lent}
+use Rattle.ninja_text.specs.Bytes.{Precedes}
+use Rattle.module_table.proofs.Required.{Has, contained, has_more, from_option_map}
+use Rattle.module_table.proofs.IndexRows.{placed, in_filter_map}
+use Rattle.ninja_text.proofs.ForCallers.{same_some, from_push, to_map, from_map, element_at}
+use Rattle.std.specs.Option.{option_map}
+use Rattle.module_table.specs.Modules.{Provision, provisions}
+use Rattle.module_table.specs.Added.{first_mentions, pair_of, required_of, AllRequired}
+use Rattle.module_table.proofs.Places.{provision_by, neither_less}
 use Rattle.std.specs.List.Sorted.{IsSorted, IsPermutation}
-use Rattle.std.specs.Ordering.{nat_cmp, ordering_then, ordering_reverse, is_lt, is_eq}
-use Rattle.std.specs.Str.{bytes_eq}
-use Rattle.std.specs.declared.cmp.Ordering.TheVariants.{Less, Equal, Greater}
 use Rattle.std.specs.Cmp.{IsTotalOrder}
-use Rattle.std.specs.Cmp.Lexicographic.{slice_cmp, nat_list_cmp_total, bytes_decides, on_texts}
 use Rattle.std.proofs.lemmas.Bool.{cases_lt, false≢true, false_from_ne_true}
 use Rattle.std.proofs.lemmas.Cmp.{nat_list_eq_equiv, nat_cmp_total, on_total, then_total}
 use Rattle.std.proofs.lemmas.Slice.Eq.{bytes_eq-Decides}
 use Rattle.std.proofs.lemmas.Map.Keys.{IsDistinct-from_apart, IsDistinct-IsPermutation, apart_from_distinct}
 use Rattle.std.proofs.lemmas.Map.Text.{is_eq-slice_cmp}
-use Rattle.std.proofs.lemmas.Option.{slice_get-get_or, slice_get_within, get_or_from_slice_get}
 use Rattle.std.proofs.lemmas.List.{length_push, length-set, get_or-set_same, get_or-set_other}
 use Rattle.std.proofs.lemmas.List.Sorted.{ranks_by, sorted_far, Contains-permutation, IsPermutation-sym}
 use Rattle.module_table.specs.TableValue.{TableValue}
-use Rattle.module_table.specs.Modules.{Provision, provisions}
-use Rattle.module_table.specs.Needed.{lent}
-use Rattle.ninja_text.specs.Bytes.{Precedes}
 use Rattle.module_table.specs.inner.Indexed.{pair_at}
 use Rattle.module_table.specs.Sound.{IsSound}
 use Rattle.module_table.specs.inner.Ranks.{Numbered, AreListed, AreByName, AreNumbers, AreRanks, AreRanked}
-use Rattle.module_table.proofs.Places.{neither_less}
-use Rattle.module_table.proofs.Required.{contained, from_option_map}
-use Rattle.module_table.proofs.Numbering.{placed}
-use Rattle.module_table.proofs.PairLists.{precedes_one_way}
-use Rattle.ninja_text.proofs.ForCallers.{from_push, same_some, to_map, from_map, element_at}
+
+-- ---- at most one list has exactly the pairs of which something holds, in byte order of names
+
+-- each element comes before all that are after it
+abbrev Rises : {X : Type 0} → (X → X → Type 0) → List X → Type 0
+Rises {X} Before xs = (i j : ℕ) (a b : X) → i < j → slice_get xs i ≡ Some a → slice_get xs j ≡ Some b → Before a b
+
+first_or_behind : {X : Type 0} (y : X) (ys : List X) (x : X) → Has (y ∷ ys) x → (y ≡ x) ⊎ Has ys x
+first_or_behind y ys x (zero, e) = inl (same_some _ _ e)
+first_or_behind y ys x (suc k, e) = inr (k, e)
+
+module _ {X : Type 0} (Before : X → X → Type 0) (one_way : (a b : X) → Before a b → Before b a → ⊥) where
+  rest_rises : (x : X) (xs : List X) → Rises Before (x ∷ xs) → Rises Before xs
+  rest_rises x xs rises i j a b lt at_i at_j = rises (suc i) (suc j) a b (omega (arith, lt)) at_i at_j
+
+  before_rest : (x : X) (xs : List X) → Rises Before (x ∷ xs) → (y : X) → Has xs y → Before x y
+  before_rest x xs rises y h = rises 0 (suc h.0) x y (omega arith) refl h.1
+
+  -- the first element of the one list is that of the other
+  same_first : (x y : X) (xs ys : List X) → Rises Before (x ∷ xs) → Rises Before (y ∷ ys) → Has (y ∷ ys) x → Has (x ∷ xs) y → x ≡ y
+  same_first x y xs ys rx ry to back =
+      ⊎_elim
+      (λ e. sym e)
+      (λ x_behind. ⊎_elim
+      (λ e. e)
+      (λ y_behind. absurd (one_way y x (before_rest y ys ry x x_behind) (before_rest x xs rx y y_behind)))
+      (first_or_behind x xs y back))
+      (first_or_behind y ys x to)
+
+  -- what the other list has after the same first element
+  behind_first : (x y : X) (xs ys : List X) → x ≡ y → Rises Before (x ∷ xs) → ((z : X) → Has (x ∷ xs) z → Has (y ∷ ys) z) → (z : X) → Has xs z → Has ys z
+  behind_first x y xs ys e rx to z h =
+      let x_before : Before x z = before_rest x xs rx z h in
+      ⊎_elim
+      (λ y_is. let itself : Before x x = subst (Before x) (sym (e ∙ y_is)) x_before in absurd (one_way x x itself itself))
+      (λ behind. behind)
+      (first_or_behind y ys z (to z (suc h.0, h.1)))
+
+  same_lists : (xs ys : List X) → Rises Before xs → Rises Before ys → ((x : X) → Has xs x → Has ys x) → ((x : X) → Has ys x → Has xs x) → xs ≡ ys
+  same_lists [] [] rx ry to back = refl
+  same_lists [] (y ∷ ys) rx ry to back = let h = back y (0, refl) in let none : None ≡ Some y = h.1 in absurd (cc)
+  same_lists (x ∷ xs) [] rx ry to back = let h = to x (0, refl) in let none : None ≡ Some x = h.1 in absurd (cc)
+  same_lists (x ∷ xs) (y ∷ ys) rx ry to back =
+      let first = same_first x y xs ys rx ry (to x (0, refl)) (back y (0, refl)) in
+      ap₂ (λ z zs. z ∷ zs) first
+      (same_lists xs ys (rest_rises x xs rx) (rest_rises y ys ry) (behind_first x y xs ys first rx to) (behind_first y x ys xs (sym first) ry back))
+
+by_places : {X : Type 0} (Before : X → X → Type 0) (xs : List X) → AllPairs Before xs → Rises Before xs
+by_places Before xs all i j a b lt at_i at_j =
+    subst (λ x. Before x b) (get_or_from_slice_get xs i a a at_i)
+    (subst (Before (get_or xs i a)) (get_or_from_slice_get xs j b a at_j) (all i j a lt (slice_get_within xs j b at_j)))
+
+pub precedes_one_way : (a b : List ℕ) → Precedes a b → Precedes b a → ⊥
+precedes_one_way a b h k = let both : Less ≡ Greater = sym k ∙ nat_list_cmp_total.antisymm b a ∙ ap ordering_reverse h in cc
+
+pub one_list_of_pairs : (P : List ℕ → List ℕ → Type 0) (xs ys : List (List ℕ × List ℕ)) → ArePairs P xs → ArePairs P ys → xs ≡ ys
+one_list_of_pairs P xs ys p q =
+    let Before = λ (x y : List ℕ × List ℕ). Precedes x.0 y.0 in
+    same_lists Before (λ a b. precedes_one_way a.0 b.0) xs ys (by_places Before xs p.rising) (by_places Before ys q.rising)
+    (λ x h. placed ys x ((q.each x.0 x.1).1 ((p.each x.0 x.1).0 (contained xs x h))))
+    (λ x h. placed xs x ((p.each x.0 x.1).1 ((q.each x.0 x.1).0 (contained ys x h))))
+
+-- ---- each name that an object of a sound table requires has its pair
+
+-- ---- a filter keeps what passes its test
+
+in_rest : {X : Type 0} (y : X) (ys : List X) (x : X) (b : Bool) → Has ys x → Has (cond b (y ∷ ys) ys) x
+in_rest y ys x true h = has_more y ys x h
+in_rest y ys x false h = h
+
+in_front : {X : Type 0} (y : X) (ys : List X) (b : Bool) → b ≡ true → Has (cond b (y ∷ ys) ys) y
+in_front y ys true e = (0, refl)
+in_front y ys false e = cc
+
+in_filter : {X : Type 0} (test : X → Bool) (xs : List X) (k : ℕ) (x : X) → slice_get xs k ≡ Some x → test x ≡ true → Has (filter test xs) x
+in_filter test [] k x at passes = cc
+in_filter test (y ∷ xs) zero x at passes =
+    let same : y ≡ x = same_some _ _ at in
+    subst (Has (filter test (y ∷ xs))) same (in_front y (filter test xs) (test y) (ap test same ∙ passes))
+in_filter test (y ∷ xs) (suc k) x at passes = in_rest y (filter test xs) x (test y) (in_filter test xs k x at passes)
+
+-- ---- each name is mentioned
+
+behind_mention : (first : List ℕ) (mentions : List (List ℕ)) (name : List ℕ) → Has mentions name → (b : Bool) → bytes_eq first name ≡ b → Has (first ∷ filter (λ other. not (bytes_eq first other)) mentions) name
+behind_mention first mentions name h true e = (0, ap Some ((bytes_decides first name).0 e))
+behind_mention first mentions name h false e =
+    has_more first (filter (λ other. not (bytes_eq first other)) mentions) name (in_filter (λ other. not (bytes_eq first other)) mentions h.0 name h.1 (ap not e))
+
+in_mentions : (names : List (List ℕ)) (k : ℕ) (name : List ℕ) → slice_get names k ≡ Some name → Has (first_mentions names) name
+in_mentions [] k name at = cc
+in_mentions (first ∷ names) zero name at = (0, at)
+in_mentions (first ∷ names) (suc k) name at = behind_mention first (first_mentions names) name (in_mentions names k name at) (bytes_eq first name) refl
+
+-- ---- a search finds what there is
+
+found_or_behind : {X : Type 0} (test : X → Bool) (y : X) (xs : List X) → ((x : X) × (find test xs ≡ Some x)) → (b : Bool) → (x : X) × (cond b (Some y) (find test xs) ≡ Some x)
+found_or_behind test y xs rest true = (y, refl)
+found_or_behind test y xs rest false = rest
+
+found_first : {X : Type 0} (test : X → Bool) (y : X) (xs : List X) (b : Bool) → b ≡ true → (x : X) × (cond b (Some y) (find test xs) ≡ Some x)
+found_first test y xs true e = (y, refl)
+found_first test y xs false e = cc
+
+found : {X : Type 0} (test : X → Bool) (xs : List X) (k : ℕ) (x : X) → slice_get xs k ≡ Some x → test x ≡ true → (y : X) × (find test xs ≡ Some y)
+found test [] k x at passes = cc
+found test (y ∷ xs) zero x at passes = let same : y ≡ x = same_some _ _ at in found_first test y xs (test y) (ap test same ∙ passes)
+found test (y ∷ xs) (suc k) x at passes = found_or_behind test y xs (found test xs k x at passes) (test y)
+
+pub all_required : AllRequired
+unfolding required_of
+all_required t sound o rule name at has =
+    let known = sound.known o name (rule, at, has) in
+    let provided = provision_by t name known.0 known.1.0 known.1.1 in
+    let entry = found (λ (p : Provision). bytes_eq name p.name) (provisions t) provided.0 provided.1 provided.2 ((bytes_decides name provided.1.name).1 (sym provided.3)) in
+    let there = placed rule.required name has in
+    let mention = in_mentions rule.required there.0 name there.1 in
+    let pair : pair_of (provisions t) name ≡ Some (name, entry.0.file) = ap (λ o. option_map (λ (file : List ℕ). let p : List ℕ × List ℕ = (name, file) in p) (option_map (λ (p : Provision). p.file) o)) entry.1 in
+    (entry.0.file, contained (required_of t rule) (name, entry.0.file) (in_filter_map (pair_of (provisions t)) (first_mentions rule.required) mention.0 name (name, entry.0.file) mention.1 pair))
+
+-- ---- modules sorted by name, and their ranks
 
 abbrev Pair : Type 0
 Pair = List ℕ × List ℕ
