@@ -1,9 +1,9 @@
 -- What the parts of a run have led to, the calls that they make, and what their loops make.
-use Rattle.std.proofs.Common.{◌≡◌, ◌∙◌, ℕ, ◌+◌, ◌<◌, List, [], ◌∷◌, ◌++◌, drop, length, get_or, suc, Option, Some, None, Result, Ok, Err, true, false, refl, ap, sym, append_assoc, append-nil, add-one, drop-cons, ◌≤◌, map, take, inl, inr, subst}
+use Rattle.std.proofs.Common.{◌≡◌, ◌∙◌, ℕ, ◌+◌, ◌<◌, List, [], ◌∷◌, ◌++◌, drop, length, get_or, suc, Option, Some, None, Result, Ok, Err, true, false, refl, ap, sym, append_assoc, append-nil, add-one, drop-cons, ◌≤◌, map, take, inl, inr, string_bytes, subst}
 use Rattle.std.specs.Result.{is_err}
 use Rattle.std.specs.declared.io.Error.{Error}
 use Rattle.commands.specs.Folder.{FileCall, Adds, MakesCalls, reading, up_to}
-use Rattle.std.specs.Prelude.{slice_get, Vec, IfOk, IfErr, IsErr, IsErrAnd, MatchResult, codes}
+use Rattle.std.specs.Prelude.{slice_get, String, Vec, IfOk, IfErr, IsErr, IsErrAnd, MatchResult, codes}
 use Rattle.std.specs.Global.{Global}
 use Rattle.std.specs.declared.alloc.AllocError.{AllocError}
 use Rattle.std.specs.List.{flat_map}
@@ -13,10 +13,10 @@ use Rattle.std.proofs.lemmas.Option.{slice_get_within, get_or_from_slice_get, sl
 use Rattle.std.specs.IoError.{error_kind}
 use Rattle.std.specs.declared.io.ErrorKind.TheVariants.{OutOfMemory}
 use Rattle.ninja_text.specs.Bytes.{Bytes, Text}
-use Rattle.ninja_text.specs.Failure.{ForFault}
+use Rattle.ninja_text.specs.Failure.{ForFault, Gives}
 use Rattle.ninja_text.specs.declared.failure.Failure.{Failure}
 use Rattle.ninja_text.specs.declared.failure.Failure.TheVariants.{Memory, Fault}
-use Rattle.commands.specs.Outcomes.{LineValue, Outcome, Part, InTurn, goes_on, stops, Returns, Reports, Runs, IsUnread, ReadsAll, document_most, seen, failed, refusal}
+use Rattle.commands.specs.Outcomes.{LineValue, Outcome, Part, InTurn, goes_on, stops, Returns, Reports, Runs, IsUnread, ReadsAll, document_most, failed, refusal}
 use Rattle.commands.specs.inner.Stops.{IsStoppedWith, ReportsPrinted}
 
 -- ---- calls that are made one after another
@@ -151,16 +151,11 @@ held text Post r s to h = given (λ value. r ≡ Ok value) (λ fault. r ≡ Err 
     own_fault (Err Memory) = tt
     own_fault (Err (Fault fault)) = refl
 
--- viewed like this
-pub given_seen : {T V F : Type 0} (view : T → V) (IsValue : V → Type 0) (IsFault : F → Type 0) (text : F → Text) (Post : Failure F → Failure LineValue → Type 0)
-    (r : Result T (Failure F)) (s : Outcome T) →
-    ((failure : Failure F) (stop : Failure LineValue) → Post failure stop → Reports text failure stop) →
-    IfOk r (λ value. IsValue (view value)) → IfErr r (ForFault IsFault) →
-    MatchResult r (λ value. s ≡ Ok value) (λ failure. IsErrAnd s (Post failure)) → Returns IsValue IsFault text [] (seen view s)
-given_seen view IsValue IsFault text Post (Ok value) s to ok err h =
-    subst (λ s. Returns IsValue IsFault text [] (seen view s)) (sym h) (refl, ok)
-given_seen view IsValue IsFault text Post (Err failure) (Err stop) to ok err h = fault_reported IsValue IsFault text failure stop err (to failure stop h)
-given_seen view IsValue IsFault text Post (Err failure) (Ok value) to ok err h = absurd h
+-- of a text that can't be written
+pub unwritten : {T F : Type 0} (view : T → Text) (text : F → Text) (failure : Failure F) (stop : Failure LineValue) (meaning : Result Text F) →
+    Gives view (Err failure) meaning → Reports text failure stop → Returns (λ t. meaning ≡ Ok t) (λ fault. meaning ≡ Err fault) text [] (Err stop)
+unwritten view text Memory stop meaning is h = fault_reported (λ t. meaning ≡ Ok t) (λ fault. meaning ≡ Err fault) text Memory stop tt h
+unwritten view text (Fault fault) stop meaning is h = fault_reported (λ t. meaning ≡ Ok t) (λ fault. meaning ≡ Err fault) text (Fault fault) stop is h
 
 -- the same in other words
 pub in_words : {V F G : Type 0} (IsValue : V → Type 0) (IsFault : F → Type 0) (text : F → Text) (IsOther : G → Type 0) (other : G → Text)
@@ -185,15 +180,6 @@ next {First = First} {value = value} first is second = goes_on value [] [] refl 
 pub last : {A B : Type 0} {First : Part A} {Second : A → Part B} {r : Outcome A} {stop : Failure LineValue} {s : Outcome B} →
     First [] r → r ≡ Err stop → s ≡ Err stop → InTurn First Second [] s
 last {First = First} {stop = stop} first is end = stops stop (subst (First []) is first) end
-
--- of a value that is viewed like this
-pub next_seen : {T A B : Type 0} (view : T → A) {First : Part A} {Second : A → Part B} {r : Outcome T} {value : T} {s : Outcome B} →
-    First [] (seen view r) → r ≡ Ok value → Second (view value) [] s → InTurn First Second [] s
-next_seen view first is second = next first (ap (seen view) is) second
-
-pub last_seen : {T A B : Type 0} (view : T → A) {First : Part A} {Second : A → Part B} {r : Outcome T} {stop : Failure LineValue} {s : Outcome B} →
-    First [] (seen view r) → r ≡ Err stop → s ≡ Err stop → InTurn First Second [] s
-last_seen view first is end = last first (ap (seen view) is) end
 
 -- ---- parts that make calls
 
@@ -277,6 +263,11 @@ abbrev pub reads_of : List Text → List Bytes → List FileCall
 reads_of [] files = []
 reads_of (name ∷ names) [] = []
 reads_of (name ∷ names) (file ∷ files) = document_call name file ∷ reads_of names files
+
+-- so far these files were read, as many as the names before this index
+abbrev pub WereRead : Option (List FileCall) → Option (List FileCall) → List (String Global) → ℕ → List Bytes → Type 0
+WereRead old new names i files =
+    (length (take i (map string_bytes names)) ≡ length files) × Adds old new (reads_of (take i (map string_bytes names)) files)
 
 -- and one file more
 pub reads_next : (names : List Text) (files : List Bytes) (name : Text) (file : Bytes) → length names ≡ length files →

@@ -20,8 +20,8 @@ pub(crate) fn show_read(alloc: Global, dyndep: DyndepRead) -> Result<Output, Sto
     ensures { ShowOfRead dyndep [] result }
 {
     let dyndep = statements_of(alloc, dyndep)?;
-    let text = dyndep
-        .to_text(alloc)
-        .map_err(|f| stop::of_fault(alloc, "", f))?;
-    Ok(Output::text(alloc, text))
+    match dyndep.to_text(alloc) {
+        Ok(text) => Ok(Output::text(alloc, text)),
+        Err(failure) => Err(stop::of_fault(alloc, "", failure)),
+    }
 }

@@ -1,24 +1,13 @@
-use Rattle.std.proofs.Common.{rules, ◌≡◌, ℕ, [], Result, Ok, Err, codes, refl}
+use Rattle.std.proofs.Common.{rules, ℕ, [], codes, refl}
 use Rattle.std.specs.Prelude.{Vec}
 use Rattle.std.specs.Global.{Global}
-use Rattle.ninja_text.specs.Bytes.{Text}
 use Rattle.ninja_text.specs.FaultTexts.{path_fault_text}
-use Rattle.ninja_text.specs.Failure.{ForFault, Gives}
-use Rattle.ninja_text.specs.declared.failure.Failure.{Failure}
-use Rattle.ninja_text.specs.declared.failure.Failure.TheVariants.{Memory, Fault}
 use Rattle.build_effect.specs.ListingWriting.{listing_text_or_fault}
-use Rattle.build_effect.specs.declared.fault.ListingWriteFault.{ListingWriteFault}
 use Rattle.commands.specs.EdgeFaults.{name_fault_text, effect_text, listing_write_text}
 use Rattle.commands.specs.Effect.{NameOf, EffectOf}
 use Rattle.commands.specs.Outcomes.{goes_on, stops}
-use Rattle.commands.proofs.Outcomes.{by_print, given, fault_reported, next, last, passed}
+use Rattle.commands.proofs.Outcomes.{by_print, given, next, last, passed, unwritten}
 use Rattle.commands.proofs.effect.effect_read.Goals as goal
-
--- the fault that is there
-its_fault : {T : Type 0} (view : T → Text) (failure : Failure ListingWriteFault) (meaning : Result Text ListingWriteFault) →
-    Gives view (Err failure) meaning → ForFault (λ fault. meaning ≡ Err fault) failure
-its_fault view Memory meaning h = tt
-its_fault view (Fault fault) meaning h = h
 
 pub returns-in_err-name : goal.returns-in_err-name
 returns-in_err-name c =
@@ -68,6 +57,5 @@ returns c =
     next named c.in_ok-name.was (next c.graph_of.ensures c.in_ok-old.was (next c.statements_of.ensures c.in_ok-dyndep.was
     (next effect c.in_ok-new.was
     (stops stop
-    (fault_reported (λ text. listing_text_or_fault graph ≡ Ok text) (λ fault. listing_text_or_fault graph ≡ Err fault) (listing_write_text graph) c.in-Err.failure stop
-    (its_fault (λ (text : Vec ℕ Global). text.items) c.in-Err.failure (listing_text_or_fault graph) c.in-Err.ensures) c.of_listing_write.ensures)
+    (unwritten (λ (text : Vec ℕ Global). text.items) (listing_write_text graph) c.in-Err.failure stop (listing_text_or_fault graph) c.in-Err.ensures c.of_listing_write.ensures)
     refl))))

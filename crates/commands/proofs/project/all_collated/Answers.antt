@@ -1,5 +1,5 @@
-use Rattle.std.proofs.Common.{◌≡◌, ◌∙◌, ℕ, List, [], map, Option, refl, ap, subst}
-use Rattle.std.specs.Prelude.{IfOk, Ok, Err, Result, Vec}
+use Rattle.std.proofs.Common.{◌∙◌, ℕ, List, [], map, Option, refl, ap, subst}
+use Rattle.std.specs.Prelude.{IfOk, Err, Result, Vec}
 use Rattle.std.specs.Global.{Global}
 use Rattle.std.specs.declared.alloc.AllocError.{AllocError}
 use Rattle.std.proofs.lemmas.Result.{IfOk-weaker}

@@ -1,4 +1,4 @@
-use Rattle.std.proofs.Common.{rules, ◌≡◌, ℕ, ◌+◌, List, [], ◌∷◌, ◌++◌, drop, map, string_bytes, refl, inl, subst, sym}
+use Rattle.std.proofs.Common.{◌≡◌, ℕ, ◌+◌, List, [], ◌∷◌, ◌++◌, drop, map, string_bytes, refl, inl, subst, sym}
 use Rattle.std.specs.Prelude.{Ok, Err, String}
 use Rattle.std.specs.Global.{Global}
 use Rattle.ninja_text.specs.Bytes.{Text}
@@ -76,8 +76,7 @@ returns-in_err-targets g c =
     let targets = c.loop-name.targets in
     let target = c.in_ok-target.target in
     let after = targets ++ target ∷ [] in
-    let is : c.from_residual-in_err-targets.result ≡ Err Memory = search rules in
-    subst (Runs _ _ (All [] names)) (sym is)
+    subst (Runs _ _ (All [] names)) (sym (passed {stop = Memory} c.from_residual-in_err-targets.ensures))
     (leads_end _ _ _ (All after (drop (i + 1) names)) (All [] names) (Err Memory)
     (leads_on _ _ _ (All targets (drop i names)) (All after (drop (i + 1) names)) (All [] names)
     (λ calls. TargetOfFile targets c.as_str.result.now calls (Ok target)) c.loop-name.invariant c.in_ok-target.ensures.read

@@ -9,7 +9,6 @@ use Rattle.scan_docs.specs.declared.fault.Place.TheVariants.{Document}
 use Rattle.scan_docs.specs.declared.member.Member.TheVariants.{Map}
 use Rattle.commands.specs.CollateCommand.{spec_text}
 use Rattle.commands.specs.ProjectCommand.{ReadTargetValue, HasFormOf}
-use Rattle.commands.specs.declared.project_targets.ReadTarget.TheInside.{Inside}
 use Rattle.commands.proofs.Outcomes.{by_print, fault_reported}
 use Rattle.commands.proofs.project_targets.pass_form.Goals as goal
 

@@ -1,11 +1,7 @@
-use Rattle.std.proofs.Common.{◌≡◌, take, map, length, string_bytes}
-use Rattle.commands.specs.Folder.{Adds}
 use Rattle.commands.specs.inner.Parts.{contents}
-use Rattle.commands.proofs.Outcomes.{reads_of}
+use Rattle.commands.proofs.Outcomes.{WereRead}
 use Rattle.commands.proofs.reading.read_all.Given as goal
 
--- the calls read the files so far
+-- the files so far were read
 abbrev pub invariant-loop-name : goal.invariant-loop-name
-invariant-loop-name g l =
-    (length (take l.name-index (map string_bytes l.names)) ≡ length (contents l.files))
-    × Adds (g.F.Folder.calls l.fn.folder) (g.F.Folder.calls l.folder) (reads_of (take l.name-index (map string_bytes l.names)) (contents l.files))
+invariant-loop-name g l = WereRead (g.F.Folder.calls l.fn.folder) (g.F.Folder.calls l.folder) l.names l.name-index (contents l.files)

@@ -1,4 +1,4 @@
-use Rattle.std.proofs.Common.{rules, ◌≡◌, ◌∙◌, List, Option, Some, None, map, string_bytes, refl, ap, sym, subst}
+use Rattle.std.proofs.Common.{◌≡◌, ◌∙◌, List, Option, Some, None, map, string_bytes, refl, ap, sym, subst}
 use Rattle.std.specs.Prelude.{Ok, Err, String, option_map}
 use Rattle.std.specs.Global.{Global}
 use Rattle.ninja_text.specs.Bytes.{Text}
@@ -8,7 +8,7 @@ use Rattle.commands.specs.Folder.{FileCall}
 use Rattle.commands.specs.Listings.{ListingRead, ReadsListing}
 use Rattle.commands.specs.Outcomes.{Outcome, Part, Runs, ReadsAll, ReadsIfNamed, Done, ◌>>=◌}
 use Rattle.commands.specs.inner.Parts.{contents}
-use Rattle.commands.proofs.Outcomes.{at_once, run_as, run_next, run_last}
+use Rattle.commands.proofs.Outcomes.{at_once, run_as, run_next, run_last, passed}
 use Rattle.commands.proofs.reading.TargetFiles.read.Goals as goal
 use Rattle.commands.proofs.reading.TargetFiles.read.Goals.{in-Some+in_ok-read_listing-in-Some, in-None}
 
@@ -37,11 +37,9 @@ returns-in_err-scans g c =
     let linked = map string_bytes c.args.infos.now in
     let spec = c.args.spec.now in
     let failure = c.in_err-scans.field-0.0 in
-    let named : map string_bytes c.deref.result.now ≡ spec.scans =
-    ap (map string_bytes) c.deref.ensures.value ∙ ap (λ (s : document.TargetDocumentValue). s.scans) c.spec.view_is in
-    let is : c.from_residual.result ≡ Err failure = search rules in
+    let named = ap (map string_bytes) c.deref.ensures.value ∙ ap (λ (s : document.TargetDocumentValue). s.scans) c.spec.view_is in
     run_last (ReadsAll spec.scans) (AfterScans spec linked) _ _ (Err failure) failure _
-    (run_as ReadsAll _ _ (Err failure) named c.in_err-scans.ensures) refl is
+    (run_as ReadsAll _ _ (Err failure) named c.in_err-scans.ensures) refl (passed c.from_residual.ensures)
 
 pub returns-in_err-infos : goal.returns-in_err-infos
 returns-in_err-infos g c =
@@ -49,11 +47,9 @@ returns-in_err-infos g c =
     let spec = c.args.spec.now in
     let scans = contents c.in_ok-scans.scans in
     let failure = c.in_err-infos.field-0.0 in
-    let named : map string_bytes c.deref.result.now ≡ spec.scans =
-    ap (map string_bytes) c.deref.ensures.value ∙ ap (λ (s : document.TargetDocumentValue). s.scans) c.spec.view_is in
-    let is : c.from_residual-in_err-infos.result ≡ Err failure = search rules in
+    let named = ap (map string_bytes) c.deref.ensures.value ∙ ap (λ (s : document.TargetDocumentValue). s.scans) c.spec.view_is in
     scans_next _ _ _ spec linked _ scans _ named c.in_ok-scans.ensures
-    (run_last (ReadsAll linked) (AfterInfos spec scans) _ _ (Err failure) failure _ c.in_err-infos.ensures refl is)
+    (run_last (ReadsAll linked) (AfterInfos spec scans) _ _ (Err failure) failure _ c.in_err-infos.ensures refl (passed c.from_residual-in_err-infos.ensures))
 
 -- the listing, of this name if there is one
 of_name : (old new : Option (List FileCall)) (given is : Option (String Global)) (edges : Option Text) (s : Outcome (Option ListingRead)) →
@@ -69,16 +65,14 @@ returns-in_err-read_listing-in-Some g c =
     let scans = contents c.in_ok-scans.scans in
     let infos = contents c.in_ok-infos.infos in
     let failure = c.in_err-read_listing-in-Some.field-0.0 in
-    let named : map string_bytes c.deref.result.now ≡ spec.scans =
-    ap (map string_bytes) c.deref.ensures.value ∙ ap (λ (s : document.TargetDocumentValue). s.scans) c.spec.view_is in
+    let named = ap (map string_bytes) c.deref.ensures.value ∙ ap (λ (s : document.TargetDocumentValue). s.scans) c.spec.view_is in
     let edges : option_map string_bytes c.spec.inside.edges ≡ spec.edges = ap (λ (s : document.TargetDocumentValue). s.edges) c.spec.view_is in
-    let is : c.from_residual-in_err-read_listing-in-Some.result ≡ Err failure = search rules in
     scans_next _ _ _ spec linked _ scans _ named c.in_ok-scans.ensures
     (infos_next _ _ _ spec linked scans infos _ c.in_ok-infos.ensures
     (run_last (ReadsIfNamed ReadsListing spec.edges) (λ listing. Done (record { scans = scans; infos = infos; listing = listing })) _ _ (Err failure) failure _
     (of_name _ _ c.spec.inside.edges (Some c.in-Some.name) _ _ edges c.in-Some.is
     (run_last (ReadsListing (string_bytes c.in-Some.name)) (λ listing. Done (Some listing)) _ _ (Err failure) failure _
-    (run_as ReadsListing _ _ (Err failure) c.as_str.ensures.value c.in_err-read_listing-in-Some.ensures) refl refl)) refl is))
+    (run_as ReadsListing _ _ (Err failure) c.as_str.ensures.value c.in_err-read_listing-in-Some.ensures) refl refl)) refl (passed c.from_residual-in_err-read_listing-in-Some.ensures)))
 
 pub returns : goal.returns
 returns g c =
@@ -88,8 +82,7 @@ returns g c =
     let infos = contents c.in_ok-infos.infos in
     let listing = c.match-spec.listing in
     let files : TargetFilesValue = record { scans = scans; infos = infos; listing = listing } in
-    let named : map string_bytes c.deref.result.now ≡ spec.scans =
-    ap (map string_bytes) c.deref.ensures.value ∙ ap (λ (s : document.TargetDocumentValue). s.scans) c.spec.view_is in
+    let named = ap (map string_bytes) c.deref.ensures.value ∙ ap (λ (s : document.TargetDocumentValue). s.scans) c.spec.view_is in
     let edges : option_map string_bytes c.spec.inside.edges ≡ spec.edges = ap (λ (s : document.TargetDocumentValue). s.edges) c.spec.view_is in
     let read : Runs (g.F.Folder.calls c.read_all-2.new.folder) (g.F.Folder.calls c.match-spec.folder) (ReadsIfNamed ReadsListing spec.edges) (Ok listing) = elim c.match-spec.branch [
       | in-Some+in_ok-read_listing-in-Some w ↦
