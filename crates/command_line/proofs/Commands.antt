@@ -88,38 +88,33 @@ by_three leaf none one two three more (x ∷ y ∷ []) = two x y
 by_three leaf none one two three more (x ∷ y ∷ z ∷ []) = three x y z
 by_three leaf none one two three more (w ∷ x ∷ y ∷ z ∷ r) = more w x y z r
 
+-- one that is met has its name, which is not that of the help, and is found by it
+abbrev IsMet : Shape → Type 0
+IsMet leaf =
+    (subcommand_met (names_of (built program)) idle leaf.name ≡ Some leaf.name)
+    × (bytes_eq leaf.name (codes "help") ≡ false)
+    × (find (λ s. answers_to leaf.name (label_of s)) (built program).subs ≡ Some leaf)
+
 -- it is one of the program's
 record IsCommand (leaf : Shape) : Type 0 where
   singles : HasSingles leaf.rules
   reads : (given : List Text) → ReadsTask leaf given
-  met : subcommand_met (names_of (built program)) idle leaf.name ≡ Some leaf.name
-  no_help : bytes_eq leaf.name (codes "help") ≡ false
-  is : find (λ s. answers_to leaf.name (label_of s)) (built program).subs ≡ Some leaf
+  met : IsMet leaf
 
-abbrev one_command : Shape
-one_command = three_leaf (codes "one") (codes "scan") (codes "dir") (codes "ext")
-
-one_is : IsCommand one_command
+one_is : IsCommand (three_leaf (codes "one") (codes "scan") (codes "dir") (codes "ext"))
 unfolding clap_on_literals
 one_is = record {
   singles = three_singles (codes "one") (codes "scan") (codes "dir") (codes "ext");
-  reads = by_three one_command refl (λ x. refl) (λ x y. refl) (λ x y z. refl) (λ w x y z r. refl);
-  met = refl;
-  no_help = refl;
-  is = refl;
+  reads = by_three (three_leaf (codes "one") (codes "scan") (codes "dir") (codes "ext")) refl (λ x. refl) (λ x y. refl) (λ x y z. refl) (λ w x y z r. refl);
+  met = (refl, refl, refl);
 }
 
-abbrev effect_command : Shape
-effect_command = three_leaf (codes "effect") (codes "name") (codes "edges") (codes "dyndep")
-
-effect_is : IsCommand effect_command
+effect_is : IsCommand (three_leaf (codes "effect") (codes "name") (codes "edges") (codes "dyndep"))
 unfolding clap_on_literals
 effect_is = record {
   singles = three_singles (codes "effect") (codes "name") (codes "edges") (codes "dyndep");
-  reads = by_three effect_command refl (λ x. refl) (λ x y. refl) (λ x y z. refl) (λ w x y z r. refl);
-  met = refl;
-  no_help = refl;
-  is = refl;
+  reads = by_three (three_leaf (codes "effect") (codes "name") (codes "edges") (codes "dyndep")) refl (λ x. refl) (λ x y. refl) (λ x y z. refl) (λ w x y z r. refl);
+  met = (refl, refl, refl);
 }
 
 collate_is : IsCommand (one_leaf (codes "collate") (codes "target"))
@@ -127,9 +122,7 @@ unfolding clap_on_literals
 collate_is = record {
   singles = one_singles (codes "collate") (codes "target");
   reads = by_one (one_leaf (codes "collate") (codes "target")) refl (λ x. refl) (λ x y r. refl);
-  met = refl;
-  no_help = refl;
-  is = refl;
+  met = (refl, refl, refl);
 }
 
 show_is : IsCommand (one_leaf (codes "show") (codes "dyndep"))
@@ -137,9 +130,7 @@ unfolding clap_on_literals
 show_is = record {
   singles = one_singles (codes "show") (codes "dyndep");
   reads = by_one (one_leaf (codes "show") (codes "dyndep")) refl (λ x. refl) (λ x y r. refl);
-  met = refl;
-  no_help = refl;
-  is = refl;
+  met = (refl, refl, refl);
 }
 
 order_is : IsCommand (one_leaf (codes "order") (codes "edges"))
@@ -147,9 +138,7 @@ unfolding clap_on_literals
 order_is = record {
   singles = one_singles (codes "order") (codes "edges");
   reads = by_one (one_leaf (codes "order") (codes "edges")) refl (λ x. refl) (λ x y r. refl);
-  met = refl;
-  no_help = refl;
-  is = refl;
+  met = (refl, refl, refl);
 }
 
 project_is : IsCommand (one_leaf (codes "project") (codes "document"))
@@ -157,9 +146,7 @@ unfolding clap_on_literals
 project_is = record {
   singles = one_singles (codes "project") (codes "document");
   reads = by_one (one_leaf (codes "project") (codes "document")) refl (λ x. refl) (λ x y r. refl);
-  met = refl;
-  no_help = refl;
-  is = refl;
+  met = (refl, refl, refl);
 }
 
 -- ---- the first argument after the program's name, and those after it
@@ -171,7 +158,7 @@ Parsed word rest = task_found (answered (built program) (word ∷ rest)) ≡ tas
 named : (leaf : Shape) → IsCommand leaf → (rest : List Text) → All IsUtf8 rest →
     Parsed leaf.name rest
 named leaf command rest text =
-    ap task_found (hit (built program).subs leaf rest command.met command.no_help command.is)
+    ap task_found (hit (built program).subs leaf rest command.met.0 command.met.1 command.met.2)
     ∙ ap (task_read leaf.name) (as_operands leaf command.singles rest text [] None 1)
     ∙ go (operands rest)
   where

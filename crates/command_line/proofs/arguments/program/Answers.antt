@@ -22,22 +22,6 @@ with_more name operands a = with_subcommand a (command_app name operands).top
 abbrev bare : App
 bare = record { top = top; subs = [] }
 
--- the program with one of its commands, with two, and so on
-abbrev with_1 : App
-with_1 = with_more (codes "one") (codes "scan" ∷ codes "dir" ∷ codes "ext" ∷ []) bare
-
-abbrev with_2 : App
-with_2 = with_more (codes "collate") (codes "target" ∷ []) with_1
-
-abbrev with_3 : App
-with_3 = with_more (codes "show") (codes "dyndep" ∷ []) with_2
-
-abbrev with_4 : App
-with_4 = with_more (codes "effect") (codes "name" ∷ codes "edges" ∷ codes "dyndep" ∷ []) with_3
-
-abbrev with_5 : App
-with_5 = with_more (codes "order") (codes "edges" ∷ []) with_4
-
 -- with the settings of the command above the others
 abbrev bare_of : App → App
 bare_of a = record a {
@@ -56,20 +40,11 @@ returns c =
     ∙ ap (λ f. app_of_fields (record f { disable_help_subcommand = true; subcommand_required = true }))
     c.disable_help_flag.ensures
     ∙ ap bare_of c.new.ensures.app in
-    let one = added (with_more (codes "one") (codes "scan" ∷ codes "dir" ∷ codes "ext" ∷ []))
-    (Ok c.subcommand_required-program.result) c.with_command-program.result bare none
+    let one = added (with_more (codes "one") (codes "scan" ∷ codes "dir" ∷ codes "ext" ∷ [])) (Ok c.subcommand_required-program.result) _ bare none
     c.with_command-program.ensures in
-    let collate = added (with_more (codes "collate") (codes "target" ∷ []))
-    c.with_command-program.result c.with_command-program-2.result with_1 one
-    c.with_command-program-2.ensures in
-    let show = added (with_more (codes "show") (codes "dyndep" ∷ []))
-    c.with_command-program-2.result c.with_command-program-3.result with_2 collate
-    c.with_command-program-3.ensures in
-    let effect = added (with_more (codes "effect") (codes "name" ∷ codes "edges" ∷ codes "dyndep" ∷ []))
-    c.with_command-program-3.result c.with_command-program-4.result with_3 show
+    let collate = added (with_more (codes "collate") (codes "target" ∷ [])) _ _ _ one c.with_command-program-2.ensures in
+    let show = added (with_more (codes "show") (codes "dyndep" ∷ [])) _ _ _ collate c.with_command-program-3.ensures in
+    let effect = added (with_more (codes "effect") (codes "name" ∷ codes "edges" ∷ codes "dyndep" ∷ [])) _ _ _ show
     c.with_command-program-4.ensures in
-    let order = added (with_more (codes "order") (codes "edges" ∷ []))
-    c.with_command-program-4.result c.with_command-program-5.result with_4 effect
-    c.with_command-program-5.ensures in
-    added (with_more (codes "project") (codes "document" ∷ []))
-    c.with_command-program-5.result c.with_command.result with_5 order c.with_command.ensures
+    let order = added (with_more (codes "order") (codes "edges" ∷ [])) _ _ _ effect c.with_command-program-5.ensures in
+    added (with_more (codes "project") (codes "document" ∷ [])) _ _ _ order c.with_command.ensures
