@@ -9,7 +9,8 @@ mod EdgeOrders
 pub mod ListingRuns
 pub mod ListingLineLemmas
 pub mod ListingForms
-pub mod ListingFinds
+pub mod ListingClasses
+pub mod ListingCauses
 pub mod ListingLaws
 mod ListingStays
 mod WrittenSymbols

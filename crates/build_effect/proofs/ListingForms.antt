@@ -2,7 +2,7 @@
 use Rattle.std.proofs.Common.{inl, inr, append_assoc, ◌≡◌, ◌≢◌, ℕ, ◌&&◌, Bool, true, false, List, [], ◌∷◌, ◌++◌, map, refl, sym, ap, ◌∙◌, subst, Option, Some, None}
 use Rattle.std.specs.Prelude.{IsTrue, codes, not, if◌then◌else◌}
 use Rattle.std.proofs.lemmas.List.{append-nil}
-use Rattle.std.proofs.lemmas.Bool.{cases_Bool, and_from, and_parts}
+use Rattle.std.proofs.lemmas.Bool.{cases_Bool, and_parts}
 use Rattle.ninja_text.specs.Tokens.{value_of}
 use Rattle.ninja_text.specs.declared.token.TokenKind.{TokenKind}
 use Rattle.ninja_text.specs.declared.token.TokenKind.TheVariants.{Bar, DoubleBar, Colon}
@@ -257,26 +257,16 @@ module _ (words : EdgeTexts) (made needed waited_for : List Symbol) (m : IsPart 
   order_past = ap (λ x. past_part (past_sign DoubleBar x) x) (sym (append-nil waited_for)) ∙ part_past DoubleBar refl [] ends refl waited_for words.order_only w
 
   is_whole : true ≡ not (is_empty (map value_of words.outputs)) && is_rule_name words.rule && is_empty {X = Symbol} []
-  is_whole =
-      sym (and_from (not (is_empty (map value_of words.outputs)) && is_rule_name words.rule) true
-      (and_from (not (is_empty (map value_of words.outputs))) (is_rule_name words.rule) (ap not (some_meant words.outputs some)) named) refl)
+  is_whole = rw (some_meant words.outputs some, named) refl
 
   edge_of_parts : edge_texts left_symbols ≡ Some (meant words)
   edge_of_parts =
-      left_texts left_symbols (made ++ colon_symbols) colon_symbols (map value_of words.outputs) (map value_of words.implicit_outputs)
-      (sym (front_is words.outputs (made ++ colon_symbols) made_stops))
-      (sym (past_is words.outputs (made ++ colon_symbols) made_stops))
-      (sym (part_is Bar refl colon_symbols colon_stops refl made words.implicit_outputs m))
-      (sym (part_past Bar refl colon_symbols colon_stops refl made words.implicit_outputs m))
-      ∙ right_are (map value_of words.outputs) (map value_of words.implicit_outputs) (map value_of words.inputs) (map value_of words.implicit_inputs) (map value_of words.order_only)
-      words.rule words.rule right_symbols (needed ++ waited_for) waited_for [] refl
-      (sym (front_is words.inputs (needed ++ waited_for) needed_stops))
-      (sym (past_is words.inputs (needed ++ waited_for) needed_stops))
-      (sym (part_is Bar refl waited_for order_stops (no_bar waited_for words.order_only w) needed words.implicit_inputs n))
-      (sym (part_past Bar refl waited_for order_stops (no_bar waited_for words.order_only w) needed words.implicit_inputs n))
-      (sym order_is)
-      (sym order_past)
-      true is_whole
+      let bar = no_bar waited_for words.order_only w in
+      left_texts left_symbols (made ++ colon_symbols) colon_symbols _ _ (sym (front_is words.outputs _ made_stops)) (sym (past_is words.outputs _ made_stops))
+      (sym (part_is Bar refl colon_symbols colon_stops refl made _ m)) (sym (part_past Bar refl colon_symbols colon_stops refl made _ m))
+      ∙ right_are (map value_of words.outputs) (map value_of words.implicit_outputs) _ _ _ words.rule words.rule right_symbols (needed ++ waited_for) waited_for [] refl
+      (sym (front_is words.inputs _ needed_stops)) (sym (past_is words.inputs _ needed_stops)) (sym (part_is Bar refl waited_for order_stops bar needed _ n))
+      (sym (part_past Bar refl waited_for order_stops bar needed _ n)) (sym order_is) (sym order_past) true is_whole
 
 -- the walk finds the strings that a build line says
 pub edge_found : (all : List Symbol) (words : EdgeTexts) → IsEdgeLine all words → (more : List Symbol) × (all ≡ WordSymbol (codes "build") ∷ more) × (edge_texts more ≡ Some (meant words))

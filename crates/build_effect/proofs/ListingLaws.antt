@@ -32,7 +32,8 @@ use Rattle.build_effect.specs.declared.fault.ListFault.{ListFault}
 use Rattle.build_effect.specs.declared.fault.ListFault.TheVariants.{NoGraph}
 use Rattle.build_effect.specs.Faults.{IsGraphFault}
 use Rattle.build_effect.specs.declared.fault.GraphFault.{GraphFault}
-use Rattle.build_effect.proofs.ListingFinds.{class_holds, cause_holds, cause_stops, one_class, goes_on, stops_by, line_cases, one_text_cause, class_has_form}
+use Rattle.build_effect.proofs.ListingClasses.{class_holds, one_class}
+use Rattle.build_effect.proofs.ListingCauses.{cause_holds, cause_stops, goes_on, stops_by, line_cases, one_text_cause, class_has_form}
 use Rattle.build_effect.proofs.ListingRuns.{runs_begin, run_more, binding_runs, run_is_listing, listing_is_run, one_list_of_edges, begins_runs}
 use Rattle.std.proofs.lemmas.Bool.{cases_Bool, cases_lt, ltb-true, ltb-false}
 use Rattle.ninja_text.specs.LineFormats.{IsOfClass, IsFaultyAfter, IsDecided}

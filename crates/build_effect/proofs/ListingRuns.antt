@@ -38,20 +38,19 @@ last_restat (e ∷ []) t flag dyndep restat = refl
 last_restat (e ∷ f ∷ es) t flag dyndep restat = ap (λ l. e ∷ l) (last_restat (f ∷ es) t flag dyndep restat)
 
 -- the run over these lines ends with these edges
-record RunsTo (binding : Binding) (start : List EdgeValue) (classes : List ListingClass) (result : List EdgeValue) : Type 0 where
-  final : Binding
-  is : run binding start classes ≡ Some (record { edges = result; binding = final })
+abbrev RunsTo : Binding → List EdgeValue → List ListingClass → List EdgeValue → Type 0
+RunsTo binding start classes result = (final : Binding) × (run binding start classes ≡ Some (record { edges = result; binding = final }))
 
 -- what may follow if no edge is open may follow if one is open
 open_runs : (binding : Binding) (classes : List ListingClass) (start result : List EdgeValue) → RunsTo Closed start classes result → RunsTo binding start classes result
 open_runs binding [] start result r =
-    let same : start ≡ result = ap (λ s. s.edges) (value_same r.is) in
-    record { final = binding; is = ap (λ es. Some (record { edges = es; binding = binding })) same }
-open_runs binding (Comment ∷ classes) start result r = let later = open_runs binding classes start result (record { final = r.final; is = r.is }) in record { final = later.final; is = later.is }
-open_runs binding (Blank ∷ classes) start result r = record { final = r.final; is = r.is }
-open_runs binding (Build t ∷ classes) start result r = record { final = r.final; is = r.is }
-open_runs binding (Dyndep path ∷ classes) start result r = never r.is
-open_runs binding (Restat flag ∷ classes) start result r = never r.is
+    let same : start ≡ result = ap (λ s. s.edges) (value_same r.1) in
+    (binding, ap (λ es. Some (record { edges = es; binding = binding })) same)
+open_runs binding (Comment ∷ classes) start result r = open_runs binding classes start result r
+open_runs binding (Blank ∷ classes) start result r = r
+open_runs binding (Build t ∷ classes) start result r = r
+open_runs binding (Dyndep path ∷ classes) start result r = never r.1
+open_runs binding (Restat flag ∷ classes) start result r = never r.1
 
 -- the one that is there, the first if both are
 abbrev either : {A : Type 0} → Option A → Option A → Option A
@@ -75,34 +74,30 @@ bindings_run : {classes more : List ListingClass} {d : Option (List ℕ)} {r : O
 bindings_run start result t dyndep restat (no_more_bindings {more}) a b runs =
     open_runs (Open (is_some dyndep) (is_some restat)) more (start ++ bound t dyndep restat ∷ []) result
     (subst (λ e. RunsTo Closed (start ++ e ∷ []) more result) (rw (either_none dyndep, either_none restat) refl) runs)
-bindings_run start result t dyndep restat (comment_between h) a b runs =
-    let later = bindings_run start result t dyndep restat h a b runs in record { final = later.final; is = later.is }
+bindings_run start result t dyndep restat (comment_between h) a b runs = bindings_run start result t dyndep restat h a b runs
 bindings_run start result t (Some p) restat (dyndep_binding h) a b runs = absurd a
 bindings_run start result t None restat (dyndep_binding {classes} {more} {path} {restat = r} h) a b runs =
     let later = bindings_run start result t (Some path) restat h tt b runs in
-    record { final = later.final; is = ap (λ es. run (Open true (is_some restat)) es classes) (last_dyndep start t path None restat) ∙ later.is }
+    (later.0, ap (λ es. run (Open true (is_some restat)) es classes) (last_dyndep start t path None restat) ∙ later.1)
 bindings_run start result t dyndep (Some f) (restat_binding h) a b runs = absurd b
 bindings_run start result t dyndep None (restat_binding {classes} {more} {dyndep = d} {flag} h) a b runs =
     let later = bindings_run start result t dyndep (Some flag) h a tt runs in
-    record { final = later.final; is = ap (λ es. run (Open (is_some dyndep) true) es classes) (last_restat start t flag dyndep None) ∙ later.is }
+    (later.0, ap (λ es. run (Open (is_some dyndep) true) es classes) (last_restat start t flag dyndep None) ∙ later.1)
 
 -- the lines of a listing run to its edges
 listing_runs : {classes : List ListingClass} {es : List EdgeValue} (start : List EdgeValue) → IsListing classes es → RunsTo Closed start classes (start ++ es)
-listing_runs start listing_end = record { final = Closed; is = ap (λ es. Some (record { edges = es; binding = Closed })) (sym (append-nil start)) }
-listing_runs start (listing_comment l) = let r = listing_runs start l in record { final = r.final; is = r.is }
-listing_runs start (listing_blank l) = let r = listing_runs start l in record { final = r.final; is = r.is }
+listing_runs start listing_end = (Closed, ap (λ es. Some (record { edges = es; binding = Closed })) (sym (append-nil start)))
+listing_runs start (listing_comment l) = listing_runs start l
+listing_runs start (listing_blank l) = listing_runs start l
 listing_runs start (listing_build {paths} {classes} {more} {dyndep} {restat} {edges} h l) =
     let e = bound paths dyndep restat in
     let later = subst (RunsTo Closed (start ++ e ∷ []) more) (append_assoc start (e ∷ []) edges) (listing_runs (start ++ e ∷ []) l) in
-    let r = bindings_run start (start ++ e ∷ edges) paths None None h tt tt later in
-    record { final = r.final; is = r.is }
+    bindings_run start (start ++ e ∷ edges) paths None None h tt tt later
 
 -- lines of these classes list one list of edges at most
 pub one_list_of_edges : {classes : List ListingClass} {es fs : List EdgeValue} → IsListing classes es → IsListing classes fs → es ≡ fs
 one_list_of_edges {classes} {es} {fs} a b =
-    let r = listing_runs [] a in
-    let q = listing_runs [] b in
-    ap (λ s. s.edges) (value_same (sym r.is ∙ q.is))
+    ap (λ s. s.edges) (value_same (sym (listing_runs [] a).1 ∙ (listing_runs [] b).1))
 
 -- the edges that a run adds, if none is open
 record Added (classes : List ListingClass) (start : List EdgeValue) (end : ListingValue) : Type 0 where
@@ -248,7 +243,7 @@ run_more (c ∷ classes) more binding start mid h = elim (cases_step (step bindi
 pub begins_runs : (classes : List ListingClass) → BeginsListing classes → (end : ListingValue) × (run Closed [] classes ≡ Some end)
 begins_runs classes b =
     let r = listing_runs [] b.2 in
-    let front = run_front classes b.0 Closed [] (record { edges = b.1; binding = r.final }) r.is in
+    let front = run_front classes b.0 Closed [] (record { edges = b.1; binding = r.0 }) r.1 in
     (front.0, front.1)
 
 -- and some listing begins with lines that can be run over
@@ -279,5 +274,5 @@ binding_runs (c ∷ classes) binding es end h = elim (cases_step (step binding e
 pub listing_is_run : (classes : List ListingClass) (value : ListingValue) → IsListing classes value.edges → value.binding ≡ open_from Closed classes → run Closed [] classes ≡ Some value
 listing_is_run classes value grammar left_so =
     let r = listing_runs [] grammar in
-    let end : ListingValue = record { edges = value.edges; binding = r.final } in
-    r.is ∙ ap (λ (b : Binding). Some (record { edges = value.edges; binding = b })) (binding_runs classes Closed [] end r.is ∙ sym left_so)
+    let end : ListingValue = record { edges = value.edges; binding = r.0 } in
+    r.1 ∙ ap (λ (b : Binding). Some (record { edges = value.edges; binding = b })) (binding_runs classes Closed [] end r.1 ∙ sym left_so)

@@ -20,7 +20,7 @@ use Rattle.build_effect.specs.Effect.{ArePaths}
 use Rattle.ninja_text.specs.LineFormats.{IsOfClass}
 use Rattle.build_effect.specs.ListingReading.{listing_format}
 use Rattle.build_effect.specs.ListingLines.{is_rule_name, IsEdgeLine, BuildRow, DyndepRow, RestatRow, TextIsOfRow, ListingClass, Build, Dyndep, Restat, RowIsOfClass, IsListingLine}
-use Rattle.build_effect.specs.ListingWriting.{marked_text, right_text, edge_line, dyndep_line, restat_line}
+use Rattle.build_effect.specs.ListingWriting.{marked_text, edge_line, dyndep_line, restat_line}
 use Rattle.build_effect.proofs.WrittenSymbols.{Spelled, spelled_none, spelled_space, spelled_path, spelled_name, units_both, escaped_units, HasLine, texts_of, edge_symbols, behind_keyword, line_text, line_written, behind_written, words_of, words_meant, line_is_edge}
 
 -- ---- a text that is put together, by itself and as a line
@@ -64,6 +64,10 @@ pub record IsFit (e : EdgeValue) : Type 0 where
   pub implicit_inputs : AllByRecursion IsPath e.implicit_inputs
   pub order_only : AllByRecursion IsPath e.order_only
   pub line : length (edge_line e) ≤ line_limit
+
+-- the parts of a build line, each before all that follows it
+joined : (k o i c r n m w : List ℕ) → k ++ (o ++ (i ++ (c ++ (r ++ (n ++ (m ++ w)))))) ≡ (k ++ o ++ i) ++ c ++ (r ++ n ++ m ++ w)
+joined k o i c r n m w = simp append_assoc
 
 module _ (e : EdgeValue) (fit : IsFit e) where
   has_line : HasLine e
@@ -118,24 +122,16 @@ module _ (e : EdgeValue) (fit : IsFit e) where
   -- the line, its end included
   line_is : line_text e ++ 10 ∷ [] ≡ edge_line e
   line_is =
-      let outputs = flat_map spaced e.outputs in
-      let implicit_outputs = marked_text (codes " |") e.implicit_outputs in
-      let inputs = flat_map spaced e.inputs in
-      let implicit_inputs = marked_text (codes " |") e.implicit_inputs in
-      let order_only = marked_text (codes " ||") e.order_only in
-      ap (λ t. t ++ 10 ∷ []) (sym (
-      append_assoc (codes "build" ++ outputs ++ implicit_outputs) (codes ": ") (right_text e)
-      ∙ append_assoc (codes "build" ++ outputs) implicit_outputs (codes ": " ++ right_text e)
-      ∙ append_assoc (codes "build") outputs (implicit_outputs ++ (codes ": " ++ right_text e))
-      ∙ ap (λ r. codes "build" ++ (outputs ++ (implicit_outputs ++ (codes ": " ++ r)))) (append_assoc (e.rule ++ inputs) implicit_inputs order_only ∙ append_assoc e.rule inputs (implicit_inputs ++ order_only))))
+      ap (λ t. t ++ 10 ∷ []) (joined (codes "build") (flat_map spaced e.outputs) (marked_text (codes " |") e.implicit_outputs) (codes ": ") e.rule (flat_map spaced e.inputs)
+      (marked_text (codes " |") e.implicit_inputs) (marked_text (codes " ||") e.order_only))
 
   pub edge_is_line : IsLine (edge_line e)
-  edge_is_line = subst IsLine line_is (spelled_is_line (line_text e) (WordSymbol (codes "build") ∷ edge_symbols e) (line_written e has_line) refl)
+  edge_is_line = subst IsLine line_is (spelled_is_line (line_text e) line_symbols (line_written e has_line) refl)
 
   pub edge_classed : IsOfClass listing_format (edge_line e) (Build (texts_of e))
   edge_classed =
       subst (λ line. IsOfClass listing_format line (Build (texts_of e))) line_is
-      (spelled_classed (line_text e) (WordSymbol (codes "build") ∷ edge_symbols e) (line_written e has_line) refl (Build (texts_of e))
+      (spelled_classed (line_text e) line_symbols (line_written e has_line) refl (Build (texts_of e))
       (subst (λ line. length line ≤ line_limit) (sym line_is) fit.line) (BuildRow (texts_of e), line_row, line_class))
 
 -- ---- the line of a binding `dyndep`
@@ -193,10 +189,8 @@ module _ (path : List ℕ) (is : IsPath path) where
 
   dyndep_written : Spelled false (dyndep_text path) dyndep_symbols
   dyndep_written =
-      spelled_space (32 ∷ (codes "dyndep" ++ 32 ∷ 61 ∷ 32 ∷ escaped path)) dyndep_symbols
-      (spelled_space (codes "dyndep" ++ 32 ∷ 61 ∷ 32 ∷ escaped path) dyndep_symbols
-      (spelled_name (codes "dyndep") (32 ∷ 61 ∷ 32 ∷ escaped path) (WordSymbol (61 ∷ []) ∷ path_symbols) refl
-      (spelled_space (61 ∷ 32 ∷ escaped path) (WordSymbol (61 ∷ []) ∷ path_symbols) equals_written)))
+      spelled_space _ dyndep_symbols (spelled_space _ dyndep_symbols
+      (spelled_name (codes "dyndep") (32 ∷ 61 ∷ 32 ∷ escaped path) (WordSymbol (61 ∷ []) ∷ path_symbols) refl (spelled_space _ _ equals_written)))
 
   dyndep_row : TextIsOfRow (dyndep_text path) false (DyndepRow path)
   dyndep_row = (

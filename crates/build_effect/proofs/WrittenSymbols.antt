@@ -146,22 +146,17 @@ module _ (text : List ℕ) (xs : List Symbol) (later : Spelled false text xs) wh
   paths_written : (paths : List (List ℕ)) → AllByRecursion IsWritable paths → Spelled false (flat_map spaced paths ++ text) (words paths ++ xs)
   paths_written [] writable = later
   paths_written (path ∷ paths) writable =
-      spelled_space ((escaped path ++ flat_map spaced paths) ++ text) (words (path ∷ paths) ++ xs)
-      (first_path_written path paths writable.0 (paths_written paths writable.1))
+      spelled_space _ (words (path ∷ paths) ++ xs) (first_path_written path paths writable.0 (paths_written paths writable.1))
 
   bar_written : (paths : List (List ℕ)) → AllByRecursion IsWritable paths → Spelled false (marked_text (codes " |") paths ++ text) (part_symbols Bar paths ++ xs)
   bar_written [] writable = later
   bar_written (path ∷ paths) writable =
-      let behind = (escaped path ++ flat_map spaced paths) ++ text in
-      spelled_space (124 ∷ 32 ∷ behind) (SignSymbol Bar ∷ (words (path ∷ paths) ++ xs))
-      (spelled_bar behind (words (path ∷ paths) ++ xs) (first_path_written path paths writable.0 (paths_written paths writable.1)))
+      spelled_space _ _ (spelled_bar _ (words (path ∷ paths) ++ xs) (first_path_written path paths writable.0 (paths_written paths writable.1)))
 
   double_bar_written : (paths : List (List ℕ)) → AllByRecursion IsWritable paths → Spelled false (marked_text (codes " ||") paths ++ text) (part_symbols DoubleBar paths ++ xs)
   double_bar_written [] writable = later
   double_bar_written (path ∷ paths) writable =
-      let behind = flat_map spaced (path ∷ paths) ++ text in
-      spelled_space (124 ∷ 124 ∷ behind) (SignSymbol DoubleBar ∷ (words (path ∷ paths) ++ xs))
-      (spelled_double_bar behind (words (path ∷ paths) ++ xs) (paths_written (path ∷ paths) writable))
+      spelled_space _ _ (spelled_double_bar _ (words (path ∷ paths) ++ xs) (paths_written (path ∷ paths) writable))
 
 -- ---- what such symbols are
 
@@ -170,13 +165,10 @@ part_is : (sign : TokenKind) (paths : List (List ℕ)) → IsPart sign (part_sym
 part_is sign [] = inl (refl, refl)
 part_is sign (path ∷ paths) = inr refl
 
-same_cons : {x y : List ℕ} {xs ys : List (List ℕ)} → x ≡ y → xs ≡ ys → x ∷ xs ≡ y ∷ ys
-same_cons p q = rw (p, q) refl
-
 -- the value of an escaped path is the path
 paths_meant : (paths : List (List ℕ)) → AllByRecursion IsWritable paths → map value_of (map escaped paths) ≡ paths
 paths_meant [] writable = refl
-paths_meant (path ∷ paths) writable = same_cons (value_of_escaped path writable.0) (paths_meant paths writable.1)
+paths_meant (path ∷ paths) writable = rw (value_of_escaped path writable.0, paths_meant paths writable.1) refl
 
 some_spelled : (paths : List (List ℕ)) → is_empty paths ≡ false → map escaped paths ≢ []
 some_spelled [] h = absurd (let x : true ≡ false = h in cc)
@@ -243,24 +235,17 @@ module _ (e : EdgeValue) (has : HasLine e) where
 
   inputs_written : Spelled false (flat_map spaced e.inputs ++ (marked_text (codes " |") e.implicit_inputs ++ marked_text (codes " ||") e.order_only)) (input_symbols e)
   inputs_written =
-      paths_written (marked_text (codes " |") e.implicit_inputs ++ marked_text (codes " ||") e.order_only) (implicit_symbols e)
-      (bar_written (marked_text (codes " ||") e.order_only) (order_symbols e) order_written e.implicit_inputs has.implicit_inputs)
-      e.inputs has.inputs
+      paths_written _ (implicit_symbols e) (bar_written _ (order_symbols e) order_written e.implicit_inputs has.implicit_inputs) e.inputs has.inputs
 
   right_written : Spelled true (behind_colon e) (WordSymbol e.rule ∷ input_symbols e)
-  right_written =
-      spelled_name e.rule (flat_map spaced e.inputs ++ (marked_text (codes " |") e.implicit_inputs ++ marked_text (codes " ||") e.order_only)) (input_symbols e) has.rule inputs_written
+  right_written = spelled_name e.rule _ (input_symbols e) has.rule inputs_written
 
   colon_written : Spelled false (58 ∷ 32 ∷ behind_colon e) (colon_symbols e)
-  colon_written =
-      spelled_colon (32 ∷ behind_colon e) (WordSymbol e.rule ∷ input_symbols e)
-      (spelled_space (behind_colon e) (WordSymbol e.rule ∷ input_symbols e) right_written)
+  colon_written = spelled_colon _ _ (spelled_space (behind_colon e) (WordSymbol e.rule ∷ input_symbols e) right_written)
 
   pub behind_written : Spelled false (behind_keyword e) (edge_symbols e)
   behind_written =
-      paths_written (marked_text (codes " |") e.implicit_outputs ++ (58 ∷ 32 ∷ behind_colon e)) (implicit_output_symbols e)
-      (bar_written (58 ∷ 32 ∷ behind_colon e) (colon_symbols e) colon_written e.implicit_outputs has.implicit_outputs)
-      e.outputs has.outputs
+      paths_written _ (implicit_output_symbols e) (bar_written _ (colon_symbols e) colon_written e.implicit_outputs has.implicit_outputs) e.outputs has.outputs
 
   pub line_written : Spelled true (line_text e) (WordSymbol (codes "build") ∷ edge_symbols e)
   line_written = spelled_name (codes "build") (behind_keyword e) (edge_symbols e) refl behind_written

@@ -64,7 +64,15 @@ pub(crate) fn take_line(
             Err(failure) => Err(failure.map(LineCause::BadPath)),
         },
         Row::Dyndep(text) => dyndep_row(alloc, state, text),
-        Row::Restat(flag) => restat_row(state, flag),
+        // An edge has at most one binding of `restat`.
+        Row::Restat(flag) => match state.binding {
+            Binding::Closed | Binding::Open(_, true) => Err(Failure::Fault(LineCause::Form)),
+            Binding::Open(dyndep, false) => {
+                set_last_restat(&mut state.edges, flag);
+                state.binding = Binding::Open(dyndep, true);
+                Ok(())
+            }
+        },
     }
 }
 
@@ -86,22 +94,7 @@ fn dyndep_row(
             state.binding = Binding::Open(true, restat);
             Ok(())
         }
-        Err(Failure::Memory) => Err(Failure::Memory),
-        Err(Failure::Fault(fault)) => Err(Failure::Fault(LineCause::BadPath(fault))),
-    }
-}
-
-/// Takes a binding of `restat`. An edge has at most one.
-fn restat_row(state: &mut ListingState, flag: bool) -> Result<(), Failure<LineCause>>
-    ensures { TakesRow state.old (row_value (Row.Restat flag)) result state.new }
-{
-    match state.binding {
-        Binding::Closed | Binding::Open(_, true) => Err(Failure::Fault(LineCause::Form)),
-        Binding::Open(dyndep, false) => {
-            set_last_restat(&mut state.edges, flag);
-            state.binding = Binding::Open(dyndep, true);
-            Ok(())
-        }
+        Err(failure) => Err(failure.map(LineCause::BadPath)),
     }
 }
 

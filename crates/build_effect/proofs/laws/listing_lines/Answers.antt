@@ -1,4 +1,4 @@
-use Rattle.build_effect.proofs.ListingFinds.{one_class}
+use Rattle.build_effect.proofs.ListingClasses.{one_class}
 use Rattle.build_effect.proofs.ListingLaws.{line_or_cause, cause_is_faulty, one_cause, line_has_form}
 use Rattle.build_effect.proofs.laws.listing_lines.Goals as goal
 
