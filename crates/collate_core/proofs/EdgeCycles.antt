@@ -1,10 +1,9 @@
 -- No false rebuild and no false cycle, if no wait is false.
 use Rattle.ninja_text.proofs.ForCallers.{element_at, choose, same_some, from_map, to_map}
-use Rattle.std.proofs.Common.{◌≡◌, ◌⊎◌, ℕ, zero, suc, ◌<◌, Bool, true, false, List, [], ◌∷◌, length, Option, Some, None, Contains, get_or, refl, ap, subst, sym, ◌∙◌, inl, inr, arith, slice_get, bytes_eq, true≢false}
+use Rattle.std.proofs.Common.{◌≡◌, ◌⊎◌, ℕ, zero, suc, ◌<◌, List, [], ◌∷◌, length, Option, Some, None, Contains, get_or, refl, ap, subst, sym, ◌∙◌, inl, inr, arith, slice_get}
 use Rattle.std.proofs.lemmas.Bool.{cases_lt}
 use Rattle.std.proofs.lemmas.List.{length-map}
 use Rattle.std.proofs.lemmas.Option.{slice_get_within, slice_get-get_or, get_or_from_slice_get}
-use Rattle.std.proofs.lemmas.Slice.Eq.{bytes_eq-Decides}
 use Rattle.dep_order.specs.Needs.{NodeNeeds, NeedsAreNodes, IsOrderable}
 use Rattle.dep_order.specs.Cycles.{IsCycle}
 use Rattle.dep_order.proofs.ForCallers.{Implies, AreWithin, orderable_or_cycle, orderable_same, cycle_same, chain_same}
@@ -14,6 +13,7 @@ use Rattle.module_table.specs.TableValue.{TableValue}
 use Rattle.module_table.specs.Added.{required_of, RequiredFiles, AllRequired, OneFile}
 use Rattle.collate_core.specs.Headline.{with_modules}
 use Rattle.collate_core.specs.Builds.{IsMaker, HasReason, HasNoFalseWait, HasSameChains, without_order_only, rebuild_graph, HasNoFalseRebuild, HasNoFalseCycle}
+use Rattle.collate_core.proofs.Lists.{same_or_not}
 use Rattle.collate_core.proofs.Linked.{index_of, contained}
 use Rattle.collate_core.proofs.BuildLemmas.{IsOfObject, Gained, no_false_wait}
 
@@ -38,13 +38,6 @@ some_or_none P decide (x ∷ xs) = by (decide x) (some_or_none P decide xs)
         neither : (k : ℕ) (y : _) → slice_get (x ∷ xs) k ≡ Some y → P y → ⊥
         neither zero y at holds = not (subst P (sym (same_some _ _ at)) holds)
         neither (suc k) y at holds = none (k, y, at, holds)
-
-same_or_not : (file other : List ℕ) → Decided (other ≡ file)
-same_or_not file other = by (bytes_eq other file) refl
-  where
-    by : (equal : Bool) → bytes_eq other file ≡ equal → Decided (other ≡ file)
-    by true equal = inl ((bytes_eq-Decides other file).0 equal)
-    by false differ = inr (λ same. absurd (true≢false (sym ((bytes_eq-Decides other file).1 same) ∙ differ)))
 
 makes_or_not : (d : EdgeValue) (file : List ℕ) → Decided (Makes d file)
 makes_or_not d file = by (some_or_none (λ other. other ≡ file) (same_or_not file) (made_by d))

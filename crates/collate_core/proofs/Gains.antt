@@ -1,7 +1,6 @@
 -- What the edges of objects gain, after a target and after targets of a project.
 use Rattle.ninja_text.proofs.ForCallers.{same_some, from_map, to_map, element_at}
-use Rattle.std.proofs.Common.{◌≡◌, ◌≢◌, ◌⊎◌, ℕ, zero, suc, Bool, true, false, List, [], ◌∷◌, map, Option, Some, None, refl, ap, subst, sym, ◌∙◌, inl, inr, slice_get, Contains, bytes_eq, true≢false, ◌<◌, length, arith, zip, filter_map}
-use Rattle.std.proofs.lemmas.Slice.Eq.{bytes_eq-Decides}
+use Rattle.std.proofs.Common.{◌≡◌, ◌≢◌, ◌⊎◌, ℕ, zero, suc, List, [], ◌∷◌, map, Option, Some, None, refl, ap, subst, sym, ◌∙◌, inl, inr, slice_get, Contains, ◌<◌, length, arith, zip, filter_map}
 use Rattle.dyndep_file.specs.StatementValue.{StatementValue}
 use Rattle.scan_docs.specs.Scan.{RuleValue}
 use Rattle.build_effect.specs.EdgeValue.{EdgeValue}
@@ -17,6 +16,7 @@ use Rattle.collate_core.specs.Statements.{statement_of, statements_of}
 use Rattle.collate_core.specs.Headline.{with_modules, AddsExactly}
 use Rattle.collate_core.specs.Builds.{IsMaker, RequiresFile, HasNoRace}
 use Rattle.collate_core.specs.BuildLaws.{IsAfterTarget, IsAfterProject, tables_of}
+use Rattle.collate_core.proofs.Lists.{same_or_not}
 use Rattle.collate_core.proofs.Linked.{index_of, contained, sound_of}
 use Rattle.collate_core.proofs.NeededLemmas.{task_in}
 use Rattle.collate_core.proofs.BuildLemmas.{IsOfObject, Gained}
@@ -34,11 +34,10 @@ names_or_not e name = by e.dyndep
   where
     by : (d : Option (List ℕ)) → (d ≡ Some name) ⊎ (d ≢ Some name)
     by None = inr (λ same. cc)
-    by (Some other) = tested other (bytes_eq other name) refl
-      where
-        tested : (other : List ℕ) (b : Bool) → bytes_eq other name ≡ b → (Some other ≡ Some name) ⊎ (Some other ≢ Some name)
-        tested other true equal = inl (ap Some ((bytes_eq-Decides other name).0 equal))
-        tested other false differ = inr (λ same. absurd (true≢false (sym ((bytes_eq-Decides other name).1 (same_some _ _ same)) ∙ differ)))
+    by (Some other) = elim (same_or_not name other) [
+      | inl same ↦ inl (ap (λ (x : List ℕ). Some x) same)
+      | inr not ↦ inr (λ same. not (same_some _ _ same))
+    ]
 
 -- the rule of an object of the statements
 rule_at : (t : TableValue) (o : ℕ) (object : List ℕ) → slice_get (map (λ (a : StatementValue). a.output) (statements_of t)) o ≡ Some object → (rule : RuleValue) × (slice_get t.objects o ≡ Some rule) × (rule.object ≡ object)

@@ -2,6 +2,7 @@
 use Rattle.ninja_text.proofs.ForCallers.{element_at, from_map, to_map, same_some}
 use Rattle.std.proofs.Common.{◌≡◌, ℕ, ◌<◌, List, [], length, map, Option, Some, refl, ap, subst, sym, ◌∙◌, arith, slice_get, Contains, zero, suc, ◌∷◌, None, get_or, ap₂, Bool, IsTrue, All, IfSome, option_map, option_copied, is_some, Bor}
 use Rattle.std.specs.Option.{option_map_or}
+use Rattle.std.proofs.lemmas.List.Elements.{All-cons}
 use Rattle.std.proofs.lemmas.Option.{slice_get_within, get_or_from_slice_get, slice_get_read}
 use Rattle.scan_docs.specs.Info.{InfoValue, IsInfo, ModuleValue}
 use Rattle.scan_docs.specs.InfoChecks.{info_checks}
@@ -102,10 +103,6 @@ module _ (style : Option Written) (targets : List ProjectTargetValue) (outs : Li
 
 -- ---- a part of what is known of linked info files is enough for the target that links them
 
-all_cons : {X : Type 0} (P : X → Type 0) (x : X) (xs : List X) → P x → All P xs → All P (x ∷ xs)
-all_cons P x xs p all zero d lt = p
-all_cons P x xs p all (suc k) d lt = all k d (omega (arith, lt))
-
 all_from : {X : Type 0} (P : X → Type 0) (xs : List X) → ((k : ℕ) (x : X) → slice_get xs k ≡ Some x → P x) → All P xs
 all_from P xs h k d lt = let e = element_at xs k lt in subst P (sym (get_or_from_slice_get xs k e.0 d e.1)) (h k e.0 e.1)
 
@@ -130,9 +127,9 @@ module _ (outs : List CollatedValue) (known : List (Option InfoValue)) (are : Ar
       let one = linked_one k info (all 0 0 (omega arith)) head in
       let rest = linked_read ks infos tail (λ j d within. all (suc j) d (omega (arith, within))) in
       record {
-        accepted = all_cons IsInfoAccepted _ (linked_infos outs ks) one.accepted rest.accepted;
+        accepted = All-cons IsInfoAccepted _ (linked_infos outs ks) one.accepted rest.accepted;
         values = ap₂ (λ x xs. x ∷ xs) one.value rest.values;
-        text = all_cons IsInfoText info infos one.text rest.text;
+        text = All-cons IsInfoText info infos one.text rest.text;
       }
 
 -- the paths of a part are paths of the info files

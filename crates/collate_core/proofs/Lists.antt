@@ -1,5 +1,5 @@
 -- Lemmas on lists: of any elements, of numbers, of what info files are read as, and of the names of private modules.
-use Rattle.std.proofs.Common.{◌≡◌, ℕ, zero, suc, ◌<◌, ◌≤◌, List, [], ◌∷◌, ◌++◌, map, take, Some, refl, ap, ap₂, subst, ◌∙◌, arith, append-nil, slice_get, All, flat_map, ◌+◌, ◌*◌, ◌⊎◌, inl, inr, length, Option, None, IfSome, sym, length-append, ◌||◌, Bool, true, false, cond, bytes_eq}
+use Rattle.std.proofs.Common.{◌≢◌, true≢false, ◌≡◌, ℕ, zero, suc, ◌<◌, ◌≤◌, List, [], ◌∷◌, ◌++◌, map, take, Some, refl, ap, ap₂, subst, ◌∙◌, arith, append-nil, slice_get, All, flat_map, ◌+◌, ◌*◌, ◌⊎◌, inl, inr, length, Option, None, IfSome, sym, length-append, ◌||◌, Bool, true, false, cond, bytes_eq}
 use Rattle.std.specs.List.{AllByRecursion, list_any}
 use Rattle.std.proofs.lemmas.List.Elements.{All-get_or, All-nil, All-cons, All-head, All-tail, All-append}
 use Rattle.std.proofs.lemmas.Grind.{flat_map-append}
@@ -60,6 +60,14 @@ take_less zero j xs le = refl
 take_less (suc i) zero xs le = absurd (omega arith)
 take_less (suc i) (suc j) [] le = refl
 take_less (suc i) (suc j) (x ∷ xs) le = ap (λ ys. x ∷ ys) (take_less i j xs (omega arith))
+
+-- two files are one, or they are not
+pub same_or_not : (file other : List ℕ) → (other ≡ file) ⊎ (other ≢ file)
+same_or_not file other = by (bytes_eq other file) refl
+  where
+    by : (equal : Bool) → bytes_eq other file ≡ equal → (other ≡ file) ⊎ (other ≢ file)
+    by true equal = inl ((bytes_eq-Decides other file).0 equal)
+    by false differ = inr (λ same. absurd (true≢false (sym ((bytes_eq-Decides other file).1 same) ∙ differ)))
 
 -- ---- numbers of two levels
 

@@ -32,7 +32,7 @@ use Rattle.module_maps.specs.Maps.{Written}
 use Rattle.collate_core.specs.Values.{TargetValue, CollatedValue}
 use Rattle.collate_core.specs.Documents.{table_of, AreAccepted, IsResolved}
 use Rattle.collate_core.specs.Statements.{statements_of, statement_of}
-use Rattle.collate_core.specs.Refusals.{IsRefusal, IsMapRefusal, WasRead}
+use Rattle.collate_core.specs.Refusals.{IsRefusal, IsMapRefusal}
 use Rattle.collate_core.specs.declared.fault.RefusedTarget.{RefusedTarget}
 use Rattle.scan_docs.specs.Info.{InfoValue}
 use Rattle.scan_docs.specs.InfoText.{info_text, ReadsBack}
@@ -140,15 +140,6 @@ pub any_style : (target : TargetValue) (style : Option Written) (failure : Failu
 any_style target style Memory h = tt
 any_style target style (Fault refused) h = h style
 
--- a rejection of the statements' build lines needs nothing of what was read
-pub write_read : (target : TargetValue) (ss : List StatementValue) (refusal : Refusal) → IsWriteRefusal ss refusal → (read : TableValue) → WasRead target refusal read
-write_read target ss (Scan i fault) h read = absurd h
-write_read target ss (Info i fault) h read = absurd h
-write_read target ss (Table fault) h read = absurd h
-write_read target ss (StatementTooLong k) h read = tt
-write_read target ss (Map o fault) h read = absurd h
-write_read target ss LinkedLater h read = absurd h
-
 write_refusal : (target : TargetValue) (style : Option Written) → IsResolved target → (refusal : Refusal) → IsWriteRefusal (statements_of (table_of target)) refusal → IsRefusal target style refusal
 write_refusal target style resolved (StatementTooLong k) h = (resolved, h)
 write_refusal target style resolved (Scan i fault) h = absurd h
@@ -177,12 +168,6 @@ pub maps_refused : (style : Option Written) (t : TableValue) (ss : List Statemen
 maps_refused style t ss same fits Memory h = tt
 maps_refused style t ss same fits (Fault refusal) h = λ target table resolved.
     maps_refusal target style resolved (subst (λ xs. write_fault xs ≡ None) (same ∙ ap statements_of table) fits) refusal (subst (λ u. IsMapsRefusal u style refusal) table h)
-
--- of a target whose documents have this table
-pub texts_refused : (target : TargetValue) (style : Option Written) (t : TableValue) → t ≡ table_of target → IsResolved target →
-    (failure : Failure Refusal) → ForFault (IsTextsRefusal t style) failure → ForFault (IsRefusal target style) failure
-texts_refused target style t table resolved Memory h = tt
-texts_refused target style t table resolved (Fault refusal) h = h target table resolved
 
 -- each text is that of its object's map
 abbrev pub EachMap : TableValue → Written → List (List ℕ) → Type 0
