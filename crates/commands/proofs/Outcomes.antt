@@ -1,5 +1,5 @@
 -- What the parts of a run have led to, the calls that they make, and what their loops make.
-use Rattle.std.proofs.Common.{◌≡◌, ◌∙◌, ℕ, ◌+◌, ◌<◌, List, [], ◌∷◌, ◌++◌, drop, length, get_or, suc, Option, Some, None, Result, Ok, Err, true, false, refl, ap, sym, append_assoc, append-nil, add-one, drop-cons, ◌≤◌, map, take, inl, inr, string_bytes, subst}
+use Rattle.std.proofs.Common.{◌≡◌, ◌∙◌, ℕ, ◌+◌, ◌<◌, List, [], ◌∷◌, ◌++◌, drop, length, get_or, suc, Option, Some, None, Result, Ok, Err, true, false, refl, ap, sym, append_assoc, append-nil, add-one, drop-cons, ◌≤◌, map, take, inl, inr, string_bytes, subst, ◌-◌, arith}
 use Rattle.std.specs.Result.{is_err}
 use Rattle.std.specs.declared.io.Error.{Error}
 use Rattle.commands.specs.Folder.{FileCall, Adds, MakesCalls, reading, up_to}
@@ -76,6 +76,11 @@ appended_more f start xs i now new within before more =
     more ∙ ap (λ z. z ++ f (get_or xs i 0)) before
     ∙ append_assoc start (flat_map f (take i xs)) (f (get_or xs i 0))
     ∙ ap (λ z. start ++ z) (sym (ap (flat_map f) (take_more xs i 0 within) ∙ flat_map-append f (take i xs) (get_or xs i 0 ∷ []) ∙ ap (λ z. flat_map f (take i xs) ++ z) (append-nil (f (get_or xs i 0)))))
+
+-- a list that has a first item
+pub parts : (xs : List ℕ) → 1 ≤ length xs → xs ≡ get_or xs 0 0 ∷ take (length xs - 1) (drop 1 xs)
+parts [] some = absurd (omega (arith, some))
+parts (x ∷ xs) some = ap (λ ys. x ∷ ys) (sym (take_all (length (x ∷ xs) - 1) xs (omega arith)))
 
 -- ---- elements by index
 

@@ -59,7 +59,7 @@ pub(crate) fn first_output(edges: &[Edge], index: usize) -> &[u8]
     ensures { result.now ≡ first_output edges.now index }
 {
     match edges.get(index) {
-        Some(edge) => match edge.outputs.get(0) {
+        Some(edge) => match edge.outputs.first() {
             Some(output) => output.bytes(),
             None => b"",
         },

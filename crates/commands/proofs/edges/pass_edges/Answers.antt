@@ -19,19 +19,10 @@ use Rattle.commands.specs.Outcomes.{LineValue, Outcome, goes_on, stops, refusal,
 use Rattle.commands.proofs.Outcomes.{its_line, said, fault_reported}
 use Rattle.commands.proofs.edges.pass_edges.Goals as goal
 
--- of this listing
-of_listing : (given is : Option ListingRead) (name dyndep : List ℕ) (s : Outcome (Unit {0})) → given ≡ is →
-    EdgesPass is name dyndep [] s → EdgesPass given name dyndep [] s
-of_listing given is name dyndep s e h = subst (λ l. EdgesPass l name dyndep [] s) (sym e) h
-
--- what it is
-its_value : (given : Option ListingRead) (field is : ListingRead) → given ≡ Some field → field ≡ is → given ≡ Some is
-its_value given field is e same = e ∙ ap Some same
-
 -- one that gives a graph
 passed_on : (given : Option ListingRead) (edges : List EdgeValue) (name dyndep : List ℕ) (s : Outcome (Unit {0})) → given ≡ Some (Ok edges) →
     GraphPasses edges name dyndep [] s → EdgesPass given name dyndep [] s
-passed_on given edges name dyndep s e h = of_listing given (Some (Ok edges)) name dyndep s e (goes_on edges [] [] refl (refl, refl) h)
+passed_on given edges name dyndep s e h = subst (λ l. EdgesPass l name dyndep [] s) (sym e) (goes_on edges [] [] refl (refl, refl) h)
 
 -- and one that does not
 reported : (failure : Failure ListFault) (stop : Failure LineValue) → Reports edges_fault_text failure stop → ListingOf (Err failure) [] (Err stop)
@@ -42,7 +33,7 @@ reported (Fault fault) (Fault l) h = (refl, (fault, refl, h))
 
 rejected : (given : Option ListingRead) (failure : Failure ListFault) (name dyndep : List ℕ) (stop : Failure LineValue) → given ≡ Some (Err failure) →
     Reports edges_fault_text failure stop → EdgesPass given name dyndep [] (Err stop)
-rejected given failure name dyndep stop e h = of_listing given (Some (Err failure)) name dyndep (Err stop) e (stops stop (reported failure stop h) refl)
+rejected given failure name dyndep stop e h = subst (λ l. EdgesPass l name dyndep [] (Err stop)) (sym e) (stops stop (reported failure stop h) refl)
 
 -- the edges after the effect have this sorting
 abbrev Sorts : List ℕ → List ℕ → List EdgeValue → Sorting → Type 0
@@ -61,18 +52,18 @@ cyclic name dyndep old cycle stop (new, effect, is) h =
     (λ (c : Vec ℕ Global). cycle_text old c.items) cycle stop is h)
 
 pub returns-in-Err : goal.returns-in-Err
-returns-in-Err c = rejected _ _ _ _ _ (its_value _ _ _ c.in-Some.is c.in-Err.is) c.of_listing.ensures
+returns-in-Err c = rejected _ _ _ _ _ (c.in-Some.is ∙ ap Some c.in-Err.is) c.of_listing.ensures
 
 pub returns-in-Ok-Order : goal.returns-in-Ok-Order
 returns-in-Ok-Order c =
-    passed_on _ _ _ _ _ (its_value _ _ _ c.in-Some.is c.in-Ok.is)
+    passed_on _ _ _ _ _ (c.in-Some.is ∙ ap Some c.in-Ok.is)
     (ordered c.args.name.now c.args.collated.now.dyndep c.in-Ok.graph c.in-Ok-Order.field-0-is c.in-Ok-Order.ensures.sorted)
 
 pub returns-in-Ok-Cycle : goal.returns-in-Ok-Cycle
 returns-in-Ok-Cycle c =
     let stop = c.stopped.result in
     let line = its_line 1 _ _ stop c.cycle_text-message.ensures c.stopped.ensures in
-    passed_on _ _ _ _ _ (its_value _ _ _ c.in-Some.is c.in-Ok.is)
+    passed_on _ _ _ _ _ (c.in-Some.is ∙ ap Some c.in-Ok.is)
     (cyclic c.args.name.now c.args.collated.now.dyndep c.in-Ok.graph c.in-Ok-Cycle.cycle stop (rw c.in-Ok-Cycle.field-0-is at c.in-Ok-Cycle.ensures.sorted)
     (subst (λ t. ForFault (λ l. l ≡ refusal t) stop) (ap₂ cycle_text c.edges.ensures.edges c.deref.ensures.value) line))
 
@@ -80,5 +71,5 @@ pub returns : goal.returns
 returns c =
     let stop = c.of_effect.result in
     let old = c.in-Ok.graph in
-    passed_on _ _ _ _ _ (its_value _ _ _ c.in-Some.is c.in-Ok.is)
+    passed_on _ _ _ _ _ (c.in-Some.is ∙ ap Some c.in-Ok.is)
     (stops stop (fault_reported (HasEffect c.args.collated.now.dyndep c.args.name.now old) (LacksEffect c.args.collated.now.dyndep c.args.name.now old) effect_text c.in-Err-check_edges.failure stop c.in-Err-check_edges.ensures.fault c.of_effect.ensures) refl)

@@ -34,17 +34,10 @@ returns g c =
     let file : FileValue = file_value c.args.file.now in
     elim c.else-file.branch [
       | else-file-via-then-file+else-has w ↦
-          put start (g.F.Folder.calls c.else-file.folder) (g.F.Folder.calls c.write.new.self) file (comparing w.as_str.result.now w.as_slice.result.now w.has.result ∷ [])
-          c.as_str-2.result.now c.as_slice-2.result.now c.write.result
-          (differs file w.as_str.result.now w.as_slice.result.now w.has.result w.if-file.true w.if-has.false w.as_str.ensures.value w.as_slice.ensures.value)
+          put start _ _ file _ _ _ c.write.result (differs file _ _ w.has.result w.if-file.true w.if-has.false w.as_str.ensures.value w.as_slice.ensures.value)
           c.as_str-2.ensures.value c.as_slice-2.ensures.value
-          (subst (λ f. Adds start (g.F.Folder.calls f) (comparing w.as_str.result.now w.as_slice.result.now w.has.result ∷ [])) (sym w.folder-is) w.has.ensures)
-          c.write.ensures
+          (subst (λ f. Adds start (g.F.Folder.calls f) (comparing w.as_str.result.now w.as_slice.result.now w.has.result ∷ [])) (sym w.folder-is) w.has.ensures) c.write.ensures
       | else-file-via-else-file w ↦
-          put start (g.F.Folder.calls c.else-file.folder) (g.F.Folder.calls c.write.new.self) file []
-          c.as_str-2.result.now c.as_slice-2.result.now c.write.result
-          (ap (λ (x : Bool). if x then comparing file.name file.bytes false ∷ [] else []) (sym w.if-file.false))
-          c.as_str-2.ensures.value c.as_slice-2.ensures.value
-          (subst (λ f. Adds start (g.F.Folder.calls f) []) (sym w.folder-is) (none_made start))
-          c.write.ensures
+          put start _ _ file [] _ _ c.write.result (ap (λ (x : Bool). if x then comparing file.name file.bytes false ∷ [] else []) (sym w.if-file.false))
+          c.as_str-2.ensures.value c.as_slice-2.ensures.value (subst (λ f. Adds start (g.F.Folder.calls f) []) (sym w.folder-is) (none_made start)) c.write.ensures
     ]
