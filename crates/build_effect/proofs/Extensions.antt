@@ -1,5 +1,5 @@
 -- The edges with what statements add are the effect.
-use Rattle.std.proofs.Common.{◌≡◌, ◌≢◌, ◌⊎◌, ℕ, ◌+◌, List, [], ◌∷◌, ◌++◌, length, take, Option, Some, None, IfSome, refl, ap, sym, subst, ◌∙◌, inl, inr, arith, slice_get, length-append}
+use Rattle.std.proofs.Common.{◌≡◌, ◌≢◌, ◌⊎◌, ℕ, ◌+◌, List, [], ◌∷◌, ◌++◌, length, take, Option, Some, None, refl, ap, sym, subst, ◌∙◌, inl, inr, arith, slice_get, length-append}
 use Rattle.std.proofs.lemmas.Option.{slice_get_within}
 use Rattle.dyndep_file.specs.StatementValue.{StatementValue}
 use Rattle.build_effect.specs.EdgeValue.{EdgeValue}
@@ -23,11 +23,6 @@ has_second xs ys y h = (length xs + h.0, in_second xs ys h.0 y h.1)
 pub unchanged : (e after : EdgeValue) (additions : List StatementValue) (statement : Option ℕ) → ((k : ℕ) → statement ≡ Some k → ⊥) → after ≡ e → IsEdgeAfter e additions statement after
 unchanged e after additions None none same = same
 unchanged e after additions (Some k) none same = absurd (none k refl)
-
--- what holds of any statement on an edge holds if there is one
-pub within_if : (P : ℕ → Type 0) (o : Option ℕ) → ((k : ℕ) → o ≡ Some k → P k) → IfSome o P
-within_if P None holds = tt
-within_if P (Some k) holds = holds k refl
 
 plain_of : (additions : List StatementValue) (statement : Option ℕ) (e x : EdgeValue) → statement ≡ None → IsEdgeAfter e additions statement x → x ≡ e
 plain_of additions None e x is h = h

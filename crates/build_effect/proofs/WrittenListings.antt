@@ -23,27 +23,23 @@ use Rattle.build_effect.proofs.WrittenLines.{IsFit, edge_is_line, edge_classed, 
 
 -- ---- the lines of an edge, and their classes
 
-abbrev dyndep_lines : Option (List ℕ) → List (List ℕ)
-dyndep_lines None = []
-dyndep_lines (Some path) = dyndep_line (Some path) ∷ []
+abbrev binding_lines : Option (List ℕ) → Bool → List (List ℕ)
+binding_lines None false = []
+binding_lines None true = restat_line true ∷ []
+binding_lines (Some path) false = dyndep_line (Some path) ∷ []
+binding_lines (Some path) true = dyndep_line (Some path) ∷ restat_line true ∷ []
 
-abbrev restat_lines : Bool → List (List ℕ)
-restat_lines true = restat_line true ∷ []
-restat_lines false = []
-
-abbrev dyndep_classes : Option (List ℕ) → List ListingClass
-dyndep_classes None = []
-dyndep_classes (Some path) = Dyndep path ∷ []
-
-abbrev restat_classes : Bool → List ListingClass
-restat_classes true = Restat true ∷ []
-restat_classes false = []
+abbrev binding_classes : Option (List ℕ) → Bool → List ListingClass
+binding_classes None false = []
+binding_classes None true = Restat true ∷ []
+binding_classes (Some path) false = Dyndep path ∷ []
+binding_classes (Some path) true = Dyndep path ∷ Restat true ∷ []
 
 abbrev lines_of : EdgeValue → List (List ℕ)
-lines_of e = edge_line e ∷ (dyndep_lines e.dyndep ++ restat_lines e.restat)
+lines_of e = edge_line e ∷ binding_lines e.dyndep e.restat
 
 abbrev classes_of : EdgeValue → List ListingClass
-classes_of e = Build (texts_of e) ∷ (dyndep_classes e.dyndep ++ restat_classes e.restat)
+classes_of e = Build (texts_of e) ∷ binding_classes e.dyndep e.restat
 
 -- The path of a binding is canonical.
 abbrev DyndepIsPath : Option (List ℕ) → Type 0
@@ -57,43 +53,34 @@ record IsReadBack (e : EdgeValue) : Type 0 where
 
 -- ---- each line is one line, and has its class
 
-dyndep_are_lines : (dyndep : Option (List ℕ)) → DyndepIsPath dyndep → AllByRecursion IsLine (dyndep_lines dyndep)
-dyndep_are_lines None is = tt
-dyndep_are_lines (Some path) is = (dyndep_is_line path is, tt)
+bindings_are_lines : (dyndep : Option (List ℕ)) (restat : Bool) → DyndepIsPath dyndep → AllByRecursion IsLine (binding_lines dyndep restat)
+bindings_are_lines None false is = tt
+bindings_are_lines None true is = (restat_is_line, tt)
+bindings_are_lines (Some path) false is = (dyndep_is_line path is, tt)
+bindings_are_lines (Some path) true is = (dyndep_is_line path is, (restat_is_line, tt))
 
-restat_are_lines : (restat : Bool) → AllByRecursion IsLine (restat_lines restat)
-restat_are_lines true = (restat_is_line, tt)
-restat_are_lines false = tt
-
-dyndep_are_classed : (dyndep : Option (List ℕ)) → DyndepIsPath dyndep → AreOfClasses listing_format (dyndep_lines dyndep) (dyndep_classes dyndep)
-dyndep_are_classed None is = tt
-dyndep_are_classed (Some path) is = (dyndep_classed path is, tt)
-
-restat_are_classed : (restat : Bool) → AreOfClasses listing_format (restat_lines restat) (restat_classes restat)
-restat_are_classed true = (restat_classed, tt)
-restat_are_classed false = tt
+bindings_are_classed : (dyndep : Option (List ℕ)) (restat : Bool) → DyndepIsPath dyndep → AreOfClasses listing_format (binding_lines dyndep restat) (binding_classes dyndep restat)
+bindings_are_classed None false is = tt
+bindings_are_classed None true is = (restat_classed, tt)
+bindings_are_classed (Some path) false is = (dyndep_classed path is, tt)
+bindings_are_classed (Some path) true is = (dyndep_classed path is, (restat_classed, tt))
 
 are_lines : (es : List EdgeValue) → AllByRecursion IsReadBack es → AllByRecursion IsLine (flat_map lines_of es)
 are_lines [] each = tt
 are_lines (e ∷ es) each =
-    AllByRecursion-append IsLine (lines_of e) (flat_map lines_of es)
-    (edge_is_line e (each.0).fit, AllByRecursion-append IsLine (dyndep_lines e.dyndep) (restat_lines e.restat) (dyndep_are_lines e.dyndep (each.0).dyndep) (restat_are_lines e.restat))
-    (are_lines es each.1)
+    AllByRecursion-append IsLine (lines_of e) (flat_map lines_of es) (edge_is_line e (each.0).fit, bindings_are_lines e.dyndep e.restat (each.0).dyndep) (are_lines es each.1)
 
 are_classed : (es : List EdgeValue) → AllByRecursion IsReadBack es → AreOfClasses listing_format (flat_map lines_of es) (flat_map classes_of es)
 are_classed [] each = tt
 are_classed (e ∷ es) each =
-    AreOfClasses-append listing_format (lines_of e) (flat_map lines_of es) (classes_of e) (flat_map classes_of es) (
-      edge_classed e (each.0).fit,
-      AreOfClasses-append listing_format (dyndep_lines e.dyndep) (restat_lines e.restat) (dyndep_classes e.dyndep) (restat_classes e.restat) (dyndep_are_classed e.dyndep (each.0).dyndep) (restat_are_classed e.restat),
-    )
-    (are_classed es each.1)
+    AreOfClasses-append listing_format (lines_of e) (flat_map lines_of es) (classes_of e) (flat_map classes_of es)
+    (edge_classed e (each.0).fit, bindings_are_classed e.dyndep e.restat (each.0).dyndep) (are_classed es each.1)
 
 -- ---- the classes are a listing of the edges
 
 -- the lines of one edge, by its parts, before a listing
 one_more : (t : EdgeTexts) (dyndep : Option (List ℕ)) (restat : Bool) (classes : List ListingClass) (es : List EdgeValue) → IsListing classes es
-    → IsListing (Build t ∷ (dyndep_classes dyndep ++ restat_classes restat ++ classes)) (record {
+    → IsListing (Build t ∷ (binding_classes dyndep restat ++ classes)) (record {
       rule = t.rule;
       outputs = t.outputs;
       implicit_outputs = t.implicit_outputs;
@@ -114,20 +101,14 @@ is_listing (e ∷ es) = one_more (texts_of e) e.dyndep e.restat (flat_map classe
 
 -- ---- the lines, one after another, are the text
 
-dyndep_joined : (dyndep : Option (List ℕ)) → joined (dyndep_lines dyndep) ≡ dyndep_line dyndep
-dyndep_joined None = refl
-dyndep_joined (Some path) = append-nil (dyndep_line (Some path))
-
-restat_joined : (restat : Bool) → joined (restat_lines restat) ≡ restat_line restat
-restat_joined true = refl
-restat_joined false = refl
+bindings_joined : (dyndep : Option (List ℕ)) (restat : Bool) → joined (binding_lines dyndep restat) ≡ dyndep_line dyndep ++ restat_line restat
+bindings_joined None false = refl
+bindings_joined None true = refl
+bindings_joined (Some path) false = refl
+bindings_joined (Some path) true = refl
 
 edge_joined : (e : EdgeValue) → joined (lines_of e) ≡ edge_text e
-edge_joined e =
-    ap (λ t. edge_line e ++ t)
-    (flat_map-append (λ line. line) (dyndep_lines e.dyndep) (restat_lines e.restat) ∙ ap (λ t. t ++ joined (restat_lines e.restat)) (dyndep_joined e.dyndep)
-    ∙ ap (λ t. dyndep_line e.dyndep ++ t) (restat_joined e.restat))
-    ∙ sym (append_assoc (edge_line e) (dyndep_line e.dyndep) (restat_line e.restat))
+edge_joined e = ap (λ t. edge_line e ++ t) (bindings_joined e.dyndep e.restat) ∙ sym (append_assoc (edge_line e) (dyndep_line e.dyndep) (restat_line e.restat))
 
 text_joined : (es : List EdgeValue) → joined (flat_map lines_of es) ≡ listing_text es
 text_joined [] = refl
