@@ -5,8 +5,8 @@ ghost use Rattle.ninja_text.specs.Bytes.{Name};
 ghost use Rattle.ninja_text.specs.Failure.{ForFault};
 ghost use Rattle.dep_order.specs.Rows.{rows};
 ghost use Rattle.module_table.specs.Modules.{provisions, info_requirements};
-ghost use Rattle.module_table.specs.inner.Finds.{is_allowed, IsPrivate, IsAllowed, IsByObject, IsPrivateTo, RequiresPublic, AcceptsAll};
-ghost use Rattle.module_table.specs.inner.Found.{looked_up, AreLookedUp};
+ghost use Rattle.module_table.specs.inner.Finds.{IsPrivate, IsAllowed, IsByObject, IsPrivateTo, RequiresPublic, AcceptsAll};
+ghost use Rattle.module_table.specs.inner.Found.{AreLookedUp};
 ghost use Rattle.module_table.specs.inner.Numbered.{AreIndexes};
 ghost use Rattle.ninja_text.specs.Firsts.{AllDiffer};
 ghost use Rattle.module_table.specs.inner.Reported.{Reports};
@@ -60,7 +60,14 @@ pub(crate) fn check_infos_allowed(
         (λ fault. (kept : List Name) → Reports 9 modules.now kept fault.value)) }
 {
     for required in all {
-        if !is_allowed(required) {
+        let is_allowed = match required.module {
+            Some((_, module)) => match module.maker {
+                Maker::Info(info) => !module.is_private || info == required.info,
+                Maker::Object(_) => !module.is_private,
+            },
+            None => true,
+        };
+        if !is_allowed {
             let user = Maker::Info(required.info);
             return Err(requires_private(alloc, modules, required.name, user));
         }
@@ -117,18 +124,5 @@ fn requires_private(
     match name.copy(alloc) {
         Ok(name) => failure_of(alloc, TableFault::ModulePrivate { name, info, user }),
         Err(_) => Failure::Memory,
-    }
-}
-
-/// Returns whether the module of that name is private to no other info file.
-fn is_allowed(required: &InfoRequired) -> bool
-    ensures { result ≡ is_allowed (looked_up required.now) }
-{
-    match required.module {
-        Some((_, module)) => match module.maker {
-            Maker::Info(info) => !module.is_private || info == required.info,
-            Maker::Object(_) => !module.is_private,
-        },
-        None => true,
     }
 }

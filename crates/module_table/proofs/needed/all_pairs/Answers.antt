@@ -34,42 +34,28 @@ loop-object-init c = record {
 pub loop-index-init : goal.loop-index-init
 loop-index-init c = record {
   as_many = c.loop-object.invariant.as_many;
+  within = λ k lt.
+      let row = c.index-required-object.result in
+      let at = slice_get_read c.args.required.now _ c.loop-object.object row refl c.loop-object-test.true c.index-required-object.is in
+      let indexes = c.deref-index-items.result.now in
+      index_within c.args.modules.now c.args.required.now c.requires c.loop-object.object row at k (get_or indexes k 0) (ap (λ xs. slice_get xs k) (sym c.deref-index-items.ensures.value) ∙ slice_get-get_or indexes k 0 lt);
   so_far = no_pairs (provisions c.args.modules.now) (c.loop-object.object + 1) c.loop-object.marks.items c.deref-index-items.result.now _ (λ k d lt. let h = c.loop-object.invariant.at_most k d lt in omega (arith, h)) c.in_ok-pairs.ensures.items;
 }
 
 pub index-requires : goal.index-requires
-index-requires c =
-    let row = c.index-required-object.result in
-    let at = slice_get_read c.args.required.now _ c.loop-object.object row refl c.loop-object-test.true c.index-required-object.is in
-    let i = c.loop-index.index-index in
-    let indexes = c.deref-index-items.result.now in
-    let inside = index_within c.args.modules.now c.args.required.now c.requires c.loop-object.object row at i (get_or indexes i 0) (ap (λ xs. slice_get xs i) (sym c.deref-index-items.ensures.value) ∙ slice_get-get_or indexes i 0 c.loop-index-test.true) in
-    omega (arith, inside, c.loop-index.invariant.as_many, c.loop-index.marks.ok.0)
+index-requires c = omega (arith, c.loop-index.invariant.within c.loop-index.index-index c.loop-index-test.true, c.loop-index.invariant.as_many, c.loop-index.marks.ok.0)
 
 pub index_mut-requires : goal.index_mut-requires
-index_mut-requires c =
-    let row = c.index-required-object.result in
-    let at = slice_get_read c.args.required.now _ c.loop-object.object row refl c.loop-object-test.true c.index-required-object.is in
-    let i = c.loop-index.index-index in
-    let indexes = c.deref-index-items.result.now in
-    let inside = index_within c.args.modules.now c.args.required.now c.requires c.loop-object.object row at i (get_or indexes i 0) (ap (λ xs. slice_get xs i) (sym c.deref-index-items.ensures.value) ∙ slice_get-get_or indexes i 0 c.loop-index-test.true) in
-    omega (arith, inside, c.loop-index.invariant.as_many, c.loop-index.marks.ok.0)
+index_mut-requires c = omega (arith, c.loop-index.invariant.within c.loop-index.index-index c.loop-index-test.true, c.loop-index.invariant.as_many, c.loop-index.marks.ok.0)
 
 pub module_at-module-requires : goal.module_at-module-requires
 module_at-module-requires c =
-    let row = c.index-required-object.result in
-    let at = slice_get_read c.args.required.now _ c.loop-object.object row refl c.loop-object-test.true c.index-required-object.is in
-    let i = c.loop-index.index-index in
-    let indexes = c.deref-index-items.result.now in
-    let inside = index_within c.args.modules.now c.args.required.now c.requires c.loop-object.object row at i (get_or indexes i 0) (ap (λ xs. slice_get xs i) (sym c.deref-index-items.ensures.value) ∙ slice_get-get_or indexes i 0 c.loop-index-test.true) in
-    omega (arith, inside, length_mapped provision_of c.provided-provided.result.now, ap length c.provided-provided.ensures.provisions)
+    omega (arith, c.loop-index.invariant.within c.loop-index.index-index c.loop-index-test.true, length_mapped provision_of c.provided-provided.result.now, ap length c.provided-provided.ensures.provisions)
 
 pub loop-index-preserved : goal.loop-index-preserved
 loop-index-preserved c =
     let ps = provisions c.args.modules.now in
     let mark = c.loop-object.object + 1 in
-    let row = c.index-required-object.result in
-    let there = slice_get_read c.args.required.now _ c.loop-object.object row refl c.loop-object-test.true c.index-required-object.is in
     let indexes = c.deref-index-items.result.now in
     let i = c.loop-index.index-index in
     let v = get_or indexes i 0 in
@@ -77,7 +63,7 @@ loop-index-preserved c =
     let pairs = c.loop-index.pairs.items in
     let h = c.loop-index.invariant in
     let at = slice_get-get_or indexes i 0 c.loop-index-test.true in
-    let lt : v < length marks = (let inside = index_within c.args.modules.now c.args.required.now c.requires c.loop-object.object row there i v (ap (λ xs. slice_get xs i) (sym c.deref-index-items.ensures.value) ∙ at) in omega (arith, inside, h.as_many)) in
+    let lt : v < length marks = omega (arith, h.within i c.loop-index-test.true, h.as_many) in
     let read = c.index.ensures ∙ get_or_from_slice_get marks v (get_or marks v 0) c.index.result.now (slice_get-get_or marks v 0 lt) in
     elim c.if-index-object.branch [
       | then-index-object+in_ok-copy_pair+in_ok-push w ↦
@@ -89,6 +75,7 @@ loop-index-preserved c =
           ap (λ n. Some (n, copied.1)) w.in_ok-copy_pair.ensures.name ∙ ap (λ x. Some (module_now.name.now, x)) w.in_ok-copy_pair.ensures.file ∙ sym (ap (option_map pair) found) in
           record {
             as_many = ap length marks_now ∙ length-set marks v mark ∙ h.as_many;
+            within = h.within;
             so_far = subst (λ ms. ArePairsSoFar ps mark ms (take (i + 1) indexes) c.if-index-object.pairs.items) (sym marks_now)
                 (pairs_new ps mark marks indexes i v at lt pairs h.so_far (λ is. w.if-index-object.true (read ∙ is)) _ copied (ap (λ u. u.items) w.pairs-is ∙ w.in_ok-push.ensures.items) same);
           }
@@ -97,6 +84,7 @@ loop-index-preserved c =
           let pairs_now : c.if-index-object.pairs.items ≡ pairs = ap (λ u. u.items) w.pairs-is in
           record {
             as_many = ap length marks_now ∙ h.as_many;
+            within = h.within;
             so_far = subst (λ ms. ArePairsSoFar ps mark ms (take (i + 1) indexes) c.if-index-object.pairs.items) (sym marks_now)
                 (subst (ArePairsSoFar ps mark marks (take (i + 1) indexes)) (sym pairs_now) (pairs_old ps mark marks indexes i v at lt pairs h.so_far (sym read ∙ w.if-index-object.false)));
           }

@@ -1,4 +1,4 @@
-use Rattle.std.proofs.Common.{◌≡◌, ◌≤◌, ◌+◌, length, map, take}
+use Rattle.std.proofs.Common.{◌≡◌, ◌≤◌, ◌<◌, ◌+◌, ℕ, get_or, length, map, take}
 use Rattle.std.specs.Prelude.{All}
 use Rattle.module_table.specs.Modules.{provisions}
 use Rattle.module_table.specs.Added.{required_of}
@@ -15,5 +15,6 @@ invariant-loop-object l = record {
 abbrev pub invariant-loop-index : goal.invariant-loop-index
 invariant-loop-index l = record {
   as_many : length l.marks.items ≡ length (provisions l.modules);
+  within : (k : ℕ) → k < length l.index-items → get_or l.index-items k 0 < length (provisions l.modules);
   so_far : ArePairsSoFar (provisions l.modules) (l.object + 1) l.marks.items (take l.index-index l.index-items) l.pairs.items;
 }

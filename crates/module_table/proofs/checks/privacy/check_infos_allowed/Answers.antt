@@ -1,17 +1,17 @@
-use Rattle.std.proofs.Common.{ℕ, ◌≤◌, List, ◌∙◌, ap, arith, length, sym, refl, subst, MatchBool}
+use Rattle.std.proofs.Common.{rules, tests, ◌≡◌, ℕ, List, ◌∙◌, ap, sym, refl}
 use Rattle.std.proofs.lemmas.Option.{slice_get_read}
 use Rattle.module_table.specs.Modules.{provisions, info_requirements}
 use Rattle.module_table.specs.inner.Views.{requirement_of}
-use Rattle.module_table.specs.inner.Finds.{is_allowed, IsAllowed, IsNotAllowed, AcceptsAll}
-use Rattle.module_table.specs.inner.Found.{looked_up, with_module}
+use Rattle.module_table.specs.inner.Finds.{is_allowed, IsAllowed, IsNotAllowed}
+use Rattle.module_table.specs.inner.Found.{looked_up}
 use Rattle.module_table.specs.inner.Reported.{Reports}
-use Rattle.module_table.proofs.IndexRows.{take_all, length_mapped}
 use Rattle.module_table.proofs.Lists.{accepts_next, refuses_here}
 use Rattle.module_table.proofs.Found.{allowed}
-use Rattle.module_table.proofs.Places.{required_there, found_there}
+use Rattle.module_table.proofs.Places.{required_there, decided, accepts_required}
 use Rattle.module_table.proofs.Passing.{reports_private_info}
 use Rattle.module_table.proofs.ReportLemmas.{for_fault}
 use Rattle.module_table.proofs.checks.privacy.check_infos_allowed.Goals as goal
+use Rattle.module_table.proofs.checks.privacy.check_infos_allowed.Goals.{in-Some+in-Info+then-not-module, in-Some+in-Info+else-not-module, in-Some+in-Object, in-None}
 
 pub requires_private-requires-clause-private : goal.requires_private-requires-clause-private
 requires_private-requires-clause-private c =
@@ -22,9 +22,8 @@ requires_private-requires-clause-private c =
     let r = requirement_of c.required-item.result in
     let at = slice_get_read all _ i c.required-item.result refl c.loop-required-test.true c.required-item.is in
     let there = required_there t all c.requires.all i c.required-item.result at in
-    let tested = sym c.is_allowed.ensures ∙ c.if-not-is_allowed.true in
-    let found = ap is_allowed (sym (found_there t all c.requires.all i c.required-item.result at)) in
-    let by = subst (λ b. MatchBool b (IsAllowed ps r) (IsNotAllowed ps r)) (found ∙ tested) (allowed ps c.requires.all.differ r) in
+    let tested : is_allowed (looked_up c.required-item.result) ≡ c.match-required.is_allowed = elim c.match-required.branch [ in-Some+in-Info+then-not-module w ↦ rw (w.in-Some.is, w.in-Info.is) (search (rules, tests)) | in-Some+in-Info+else-not-module w ↦ rw (w.in-Some.is, w.in-Info.is) (search (rules, tests)) | in-Some+in-Object w ↦ rw (w.in-Some.is, w.in-Object.is) (search (rules, tests)) | in-None w ↦ rw w.in-None.is (sym w.is_allowed-is) ] in
+    let by = decided t all c.requires.all i c.required-item.result at is_allowed (IsAllowed ps) (IsNotAllowed ps) (allowed ps c.requires.all.differ) _ (tested ∙ c.if-not-is_allowed.true) in
     (by.0, by.1, by.2, by.3)
 
 pub returns-then-not-is_allowed-clause-fault : goal.returns-then-not-is_allowed-clause-fault
@@ -36,9 +35,8 @@ returns-then-not-is_allowed-clause-fault c =
     let r = requirement_of c.required-item.result in
     let at = slice_get_read all _ i c.required-item.result refl c.loop-required-test.true c.required-item.is in
     let there = required_there t all c.requires.all i c.required-item.result at in
-    let tested = sym c.is_allowed.ensures ∙ c.if-not-is_allowed.true in
-    let found = ap is_allowed (sym (found_there t all c.requires.all i c.required-item.result at)) in
-    let by = subst (λ b. MatchBool b (IsAllowed ps r) (IsNotAllowed ps r)) (found ∙ tested) (allowed ps c.requires.all.differ r) in
+    let tested : is_allowed (looked_up c.required-item.result) ≡ c.match-required.is_allowed = elim c.match-required.branch [ in-Some+in-Info+then-not-module w ↦ rw (w.in-Some.is, w.in-Info.is) (search (rules, tests)) | in-Some+in-Info+else-not-module w ↦ rw (w.in-Some.is, w.in-Info.is) (search (rules, tests)) | in-Some+in-Object w ↦ rw (w.in-Some.is, w.in-Object.is) (search (rules, tests)) | in-None w ↦ rw w.in-None.is (sym w.is_allowed-is) ] in
+    let by = decided t all c.requires.all i c.required-item.result at is_allowed (IsAllowed ps) (IsNotAllowed ps) (allowed ps c.requires.all.differ) _ (tested ∙ c.if-not-is_allowed.true) in
     for_fault _ (λ fault. (kept : List (List ℕ)) → Reports 9 t kept fault.value) _
     (λ fault is kept. reports_private_info t kept i r is.0 fault.value c.requires.all.differ (refuses_here (IsAllowed ps) (IsNotAllowed ps) (info_requirements t) i r there c.loop-required.invariant by) there is.1 is.2 c.requires.public)
     c.requires_private.ensures
@@ -52,14 +50,9 @@ loop-required-preserved c =
     let r = requirement_of c.required-item.result in
     let at = slice_get_read all _ i c.required-item.result refl c.loop-required-test.true c.required-item.is in
     let there = required_there t all c.requires.all i c.required-item.result at in
-    let tested = sym c.is_allowed.ensures ∙ c.if-not-is_allowed.false in
-    let found = ap is_allowed (sym (found_there t all c.requires.all i c.required-item.result at)) in
-    let by = subst (λ b. MatchBool b (IsAllowed ps r) (IsNotAllowed ps r)) (found ∙ tested) (allowed ps c.requires.all.differ r) in
+    let tested : is_allowed (looked_up c.required-item.result) ≡ c.match-required.is_allowed = elim c.match-required.branch [ in-Some+in-Info+then-not-module w ↦ rw (w.in-Some.is, w.in-Info.is) (search (rules, tests)) | in-Some+in-Info+else-not-module w ↦ rw (w.in-Some.is, w.in-Info.is) (search (rules, tests)) | in-Some+in-Object w ↦ rw (w.in-Some.is, w.in-Object.is) (search (rules, tests)) | in-None w ↦ rw w.in-None.is (sym w.is_allowed-is) ] in
+    let by = decided t all c.requires.all i c.required-item.result at is_allowed (IsAllowed ps) (IsNotAllowed ps) (allowed ps c.requires.all.differ) _ (tested ∙ c.if-not-is_allowed.false) in
     accepts_next (IsAllowed ps) (IsNotAllowed ps) (info_requirements t) i r there c.loop-required.invariant by
 
 pub returns-clause-ok : goal.returns-clause-ok
-returns-clause-ok c =
-    let t = c.args.modules.now in
-    let long = sym (length_mapped looked_up c.args.all.now) ∙ ap length c.requires.all.same ∙ length_mapped (with_module (provisions t)) (info_requirements t) in
-    let all : length (info_requirements t) ≤ c.loop-required.required-index = omega (arith, c.loop-required-test.false, long) in
-    subst (AcceptsAll (IsAllowed (provisions t))) (take_all (info_requirements t) c.loop-required.required-index all) c.loop-required.invariant
+returns-clause-ok c = accepts_required c.args.modules.now (IsAllowed (provisions c.args.modules.now)) c.args.all.now c.requires.all c.loop-required.required-index c.loop-required-test.false c.loop-required.invariant

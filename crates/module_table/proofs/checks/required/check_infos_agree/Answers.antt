@@ -1,15 +1,14 @@
-use Rattle.std.proofs.Common.{◌≡◌, ℕ, ◌≤◌, List, ◌∙◌, ap, arith, length, sym, refl, subst, MatchBool}
+use Rattle.std.proofs.Common.{◌≡◌, ℕ, List, ◌∙◌, ap, sym, refl}
 use Rattle.std.proofs.lemmas.Option.{slice_get_read}
 use Rattle.module_table.specs.Modules.{provisions, info_requirements}
 use Rattle.module_table.specs.inner.Views.{requirement_of}
-use Rattle.module_table.specs.inner.Finds.{agrees, Agrees, Differs, AcceptsAll}
-use Rattle.module_table.specs.inner.Found.{looked_up, with_module}
+use Rattle.module_table.specs.inner.Finds.{agrees, Agrees, Differs}
+use Rattle.module_table.specs.inner.Found.{looked_up}
 use Rattle.module_table.specs.inner.Reported.{Reports}
 use Rattle.module_table.specs.declared.fault.TableFault.TheVariants.{InfoDisagrees}
-use Rattle.module_table.proofs.IndexRows.{take_all, length_mapped}
 use Rattle.module_table.proofs.Lists.{accepts_next, refuses_here}
 use Rattle.module_table.proofs.Found.{agreeing}
-use Rattle.module_table.proofs.Places.{required_there, found_there}
+use Rattle.module_table.proofs.Places.{required_there, decided, accepts_required}
 use Rattle.module_table.proofs.Passing.{reports_info_disagrees}
 use Rattle.module_table.proofs.ReportLemmas.{for_boxed}
 use Rattle.module_table.proofs.checks.required.check_infos_agree.Goals as goal
@@ -25,8 +24,7 @@ returns-then-not-agrees-clause-fault c =
     let at = slice_get_read all _ i c.required-item.result refl c.loop-required-test.true c.required-item.is in
     let there = required_there t all c.requires.all i c.required-item.result at in
     let tested : agrees (looked_up c.required-item.result) ≡ c.match-required.agrees = elim c.match-required.branch [ in-Some w ↦ rw w.in-Some.is (sym (w.agrees-is ∙ w.eq-agrees.ensures)) | in-None w ↦ rw w.in-None.is (sym w.agrees-is) ] in
-    let found = ap agrees (sym (found_there t all c.requires.all i c.required-item.result at)) in
-    let by = subst (λ b. MatchBool b (Agrees ps r) (Differs ps r)) (found ∙ tested ∙ c.if-not-agrees.true) (agreeing ps c.requires.all.differ r) in
+    let by = decided t all c.requires.all i c.required-item.result at agrees (Agrees ps) (Differs ps) (agreeing ps c.requires.all.differ) _ (tested ∙ c.if-not-agrees.true) in
     let names = c.in_ok-target.ensures in
     for_boxed (λ fault. (kept : List (List ℕ)) → Reports 7 t kept fault) _ _
     (λ kept. reports_info_disagrees t kept i r _ c.requires.all.differ c.requires.known (refuses_here (Agrees ps) (Differs ps) (info_requirements t) i r there c.loop-required.invariant by) there
@@ -45,13 +43,8 @@ loop-required-preserved c =
     let at = slice_get_read all _ i c.required-item.result refl c.loop-required-test.true c.required-item.is in
     let there = required_there t all c.requires.all i c.required-item.result at in
     let tested : agrees (looked_up c.required-item.result) ≡ c.match-required.agrees = elim c.match-required.branch [ in-Some w ↦ rw w.in-Some.is (sym (w.agrees-is ∙ w.eq-agrees.ensures)) | in-None w ↦ rw w.in-None.is (sym w.agrees-is) ] in
-    let found = ap agrees (sym (found_there t all c.requires.all i c.required-item.result at)) in
-    let by = subst (λ b. MatchBool b (Agrees ps r) (Differs ps r)) (found ∙ tested ∙ c.if-not-agrees.false) (agreeing ps c.requires.all.differ r) in
+    let by = decided t all c.requires.all i c.required-item.result at agrees (Agrees ps) (Differs ps) (agreeing ps c.requires.all.differ) _ (tested ∙ c.if-not-agrees.false) in
     accepts_next (Agrees ps) (Differs ps) (info_requirements t) i r there c.loop-required.invariant by
 
 pub returns-clause-ok : goal.returns-clause-ok
-returns-clause-ok c =
-    let t = c.args.modules.now in
-    let long = sym (length_mapped looked_up c.args.all.now) ∙ ap length c.requires.all.same ∙ length_mapped (with_module (provisions t)) (info_requirements t) in
-    let all : length (info_requirements t) ≤ c.loop-required.required-index = omega (arith, c.loop-required-test.false, long) in
-    subst (AcceptsAll (Agrees (provisions t))) (take_all (info_requirements t) c.loop-required.required-index all) c.loop-required.invariant
+returns-clause-ok c = accepts_required c.args.modules.now (Agrees (provisions c.args.modules.now)) c.args.all.now c.requires.all c.loop-required.required-index c.loop-required-test.false c.loop-required.invariant
