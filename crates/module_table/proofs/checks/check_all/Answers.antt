@@ -1,15 +1,14 @@
-use Rattle.std.proofs.Common.{◌≡◌, ◌∙◌, ℕ, List, ap, map, refl, subst, sym}
+use Rattle.std.proofs.Common.{◌≡◌, ℕ, List, map, refl, subst, sym}
 use Rattle.std.proofs.lemmas.Result.{err_from_is_err_and}
 use Rattle.scan_docs.specs.Scan.{RuleValue}
 use Rattle.module_table.specs.TableValue.{TableValue}
 use Rattle.module_table.specs.Modules.{provisions}
 use Rattle.module_table.specs.Faults.{IsReported}
 use Rattle.module_table.specs.inner.Passed.{Passed}
-use Rattle.module_table.specs.inner.LookUps.{AreLookUps}
 use Rattle.ninja_text.specs.Firsts.{AllDiffer}
-use Rattle.module_table.specs.inner.Views.{names_of, paths_of}
+use Rattle.module_table.specs.inner.Views.{names_of}
 use Rattle.module_table.proofs.ReportLemmas.{for_fault}
-use Rattle.module_table.proofs.Passing.{reported, fails, none_passed, after_objects, after_infos, after_names, after_files, without_fault}
+use Rattle.module_table.proofs.Passing.{reported, fails, none_passed, after_objects, after_infos, after_names, after_files}
 use Rattle.module_table.proofs.checks.check_all.Goals as goal
 
 pub returns-in_err-check_objects-clause-fault : goal.returns-in_err-check_objects-clause-fault
@@ -32,10 +31,6 @@ returns-in_err-modules-clause-fault c =
     let kept = c.args.kept.now in
     let p = err_from_is_err_and c.from_residual-in_err-modules.result c.from_residual-in_err-modules.ensures.1 in
     rw (p.1, p.2) (fails t kept 3 _ (after_infos t kept c.in_ok-check_infos.ensures.ok (after_objects t kept c.in_ok-check_objects.ensures.differ)) c.in_err-modules.ensures.fault)
-
-pub check_files-requires-clause-paths : goal.check_files-requires-clause-paths
-check_files-requires-clause-paths c =
-    c.in_ok-check_objects.ensures.paths ∙ ap (λ (t : TableValue). map (λ (rule : RuleValue). rule.object) t.objects) (sym c.in_ok-modules.ensures.modules)
 
 pub check_files-requires-clause-differ : goal.check_files-requires-clause-differ
 check_files-requires-clause-differ c =
@@ -70,15 +65,3 @@ returns-in_err-needs-clause-fault c =
     let p = err_from_is_err_and c.from_residual-in_err-needs.result c.from_residual-in_err-needs.ensures.1 in
     rw (p.1, p.2) (for_fault _ _ _ (λ fault is. subst (λ t. IsReported t c.args.kept.now fault.value) same is) c.in_err-needs.ensures.fault)
 
-pub returns-clause-no_fault : goal.returns-clause-no_fault
-returns-clause-no_fault c =
-    let t : TableValue = record { objects = c.args.objects.now; infos = c.args.infos.now } in
-    without_fault t c.args.kept.now (subst (λ u. Passed 11 u c.args.kept.now) c.in_ok-modules.ensures.modules c.in_ok-needs.ensures.passed)
-
-pub returns-clause-paths : goal.returns-clause-paths
-returns-clause-paths c = c.in_ok-check_files.ensures.files ∙ ap paths_of c.in_ok-modules.ensures.modules
-
-pub returns-clause-index : goal.returns-clause-index
-returns-clause-index c =
-    let index = c.in_ok-index.index in
-    subst (λ u. AreLookUps u index.names.keys index.origins.items index.graph (map (λ row. row.items) index.required.items)) c.in_ok-modules.ensures.modules c.in_ok-index.ensures

@@ -1,9 +1,7 @@
-use Rattle.std.proofs.Common.{◌∙◌, ◌++◌, ap, subst, sym}
+use Rattle.std.proofs.Common.{◌∙◌, ◌++◌, ap}
 use Rattle.std.specs.List.{flat_map, enumerate_from}
 use Rattle.std.proofs.lemmas.Result.{err_from_is_err_and}
 use Rattle.dep_order.specs.Rows.{rows}
-use Rattle.module_table.specs.inner.Numbered.{AreIndexes}
-use Rattle.module_table.specs.inner.Found.{AreLookedUp}
 use Rattle.module_table.specs.Modules.{provisions}
 use Rattle.module_table.specs.inner.Views.{names_of}
 use Rattle.module_table.specs.inner.Graph.{info_rows}
@@ -19,9 +17,6 @@ returns-in_err-indexes-clause-fault c =
     let p = err_from_is_err_and c.from_residual.result c.from_residual.ensures.1 in
     rw (p.1, p.2) (fails t kept 5 _ c.requires c.in_err-indexes.ensures.fault)
 
-pub check_infos_known-requires : goal.check_infos_known-requires
-check_infos_known-requires c = subst (AreLookedUp c.args.modules.now) (sym c.deref.ensures.value) c.in_ok-required.ensures.required
-
 pub returns-in_err-check_infos_known-clause-fault : goal.returns-in_err-check_infos_known-clause-fault
 returns-in_err-check_infos_known-clause-fault c =
     let t = c.args.modules.now in
@@ -29,9 +24,6 @@ returns-in_err-check_infos_known-clause-fault c =
     let known = after_known t kept (rows c.in_ok-indexes.indexes.items) c.in_ok-indexes.ensures.ok c.requires in
     let p = err_from_is_err_and c.from_residual-in_err-check_infos_known.result c.from_residual-in_err-check_infos_known.ensures.1 in
     rw (p.1, p.2) (fails t kept 6 _ known c.in_err-check_infos_known.ensures.fault)
-
-pub check_infos_agree-requires-clause-all : goal.check_infos_agree-requires-clause-all
-check_infos_agree-requires-clause-all c = subst (AreLookedUp c.args.modules.now) (sym c.deref-2.ensures.value) c.in_ok-required.ensures.required
 
 pub returns-in_err-check_infos_agree-clause-fault : goal.returns-in_err-check_infos_agree-clause-fault
 returns-in_err-check_infos_agree-clause-fault c =
@@ -42,9 +34,6 @@ returns-in_err-check_infos_agree-clause-fault c =
     let p = err_from_is_err_and c.from_residual-in_err-check_infos_agree.result c.from_residual-in_err-check_infos_agree.ensures.1 in
     rw (p.1, p.2) (fails t kept 7 _ by_infos c.in_err-check_infos_agree.ensures.fault)
 
-pub check_rings-requires : goal.check_rings-requires
-check_rings-requires c = subst (λ vectors. AreIndexes c.args.modules.now (rows vectors)) (sym c.deref-3.ensures.value) c.in_ok-indexes.ensures.ok
-
 pub returns-in_err-check_rings-clause-fault : goal.returns-in_err-check_rings-clause-fault
 returns-in_err-check_rings-clause-fault c =
     let t = c.args.modules.now in
@@ -54,9 +43,6 @@ returns-in_err-check_rings-clause-fault c =
     let agree = after_agreement t kept c.in_ok-check_infos_agree.ensures.ok by_infos in
     let p = err_from_is_err_and c.from_residual-in_err-check_rings.result c.from_residual-in_err-check_rings.ensures.1 in
     rw (p.1, p.2) (fails t kept 8 _ agree c.in_err-check_rings.ensures.fault)
-
-pub check_objects_allowed-requires : goal.check_objects_allowed-requires
-check_objects_allowed-requires c = subst (λ vectors. AreIndexes c.args.modules.now (rows vectors)) (sym c.deref-4.ensures.value) c.in_ok-indexes.ensures.ok
 
 pub returns-in_err-check_objects_allowed-clause-fault : goal.returns-in_err-check_objects_allowed-clause-fault
 returns-in_err-check_objects_allowed-clause-fault c =
@@ -69,9 +55,6 @@ returns-in_err-check_objects_allowed-clause-fault c =
     let p = err_from_is_err_and c.from_residual-in_err-check_objects_allowed.result c.from_residual-in_err-check_objects_allowed.ensures.1 in
     rw (p.1, p.2) (fails t kept 9 _ ordered c.in_err-check_objects_allowed.ensures.fault)
 
-pub check_infos_allowed-requires-clause-all : goal.check_infos_allowed-requires-clause-all
-check_infos_allowed-requires-clause-all c = subst (AreLookedUp c.args.modules.now) (sym c.deref-5.ensures.value) c.in_ok-required.ensures.required
-
 pub returns-in_err-check_infos_allowed-clause-fault : goal.returns-in_err-check_infos_allowed-clause-fault
 returns-in_err-check_infos_allowed-clause-fault c =
     let t = c.args.modules.now in
@@ -82,9 +65,6 @@ returns-in_err-check_infos_allowed-clause-fault c =
     let ordered = after_rings t kept c.in_ok-check_rings.ensures.ok agree in
     let p = err_from_is_err_and c.from_residual-in_err-check_infos_allowed.result c.from_residual-in_err-check_infos_allowed.ensures.1 in
     rw (p.1, p.2) (fails t kept 9 _ ordered c.in_err-check_infos_allowed.ensures.fault)
-
-pub check_kept-requires : goal.check_kept-requires
-check_kept-requires c = c.in_ok-required.ensures.required.differ
 
 pub returns-in_err-check_kept-clause-fault : goal.returns-in_err-check_kept-clause-fault
 returns-in_err-check_kept-clause-fault c =

@@ -6,6 +6,3 @@ returns-clause-found c = finds c.args.names.now.keys c.args.name.now c.get_index
 
 pub returns-clause-none : goal.returns-clause-none
 returns-clause-none c = misses c.args.names.now.keys c.args.name.now c.get_index_of.result c.get_index_of.ensures.found
-
-pub returns-clause-index : goal.returns-clause-index
-returns-clause-index c = c.get_index_of.ensures.index

@@ -1,5 +1,5 @@
 use Rattle.std.proofs.Common.{◌≡◌, ◌∙◌, ◌+◌, ◌++◌, [], ap, map, refl, take, slice_get, Some, List, ℕ, false}
-use Rattle.std.specs.List.{flat_map, enumerate_from}
+use Rattle.std.specs.List.{enumerate_from}
 use Rattle.std.proofs.lemmas.Option.{slice_get_read}
 use Rattle.scan_docs.specs.Scan.{RuleValue}
 use Rattle.scan_docs.specs.Info.{ModuleValue, InfoValue}
@@ -8,7 +8,7 @@ use Rattle.module_table.specs.inner.Views.{provision_of}
 use Rattle.module_table.specs.inner.Origins.{Origin, origin_of, object_origins, info_origins}
 use Rattle.module_table.specs.declared.fault.Maker.TheVariants.{Object, Info}
 use Rattle.module_table.proofs.IndexRows.{take_all}
-use Rattle.module_table.proofs.Lists.{numbered_next, gathers_next, gathers_all, pushes_next}
+use Rattle.module_table.proofs.Lists.{numbered_next, gathers_next, pushes_next}
 use Rattle.module_table.proofs.modules.provided_modules.Goals as goal
 use Rattle.ninja_text.proofs.ForCallers.{take_next}
 
@@ -65,12 +65,3 @@ loop-info-preserved c =
       origins = gathers_next info_origins infos i value _ _ _ at c.loop-info.invariant.origins (c.loop-index-2.invariant.origins ∙ ap (λ modules. map origin_of c.loop-info.all.items ++ info_origins (i, record { target = []; modules = modules })) whole);
     }
 
-pub returns-clause-provisions : goal.returns-clause-provisions
-returns-clause-provisions c =
-    gathers_all info_provisions c.args.infos.now c.loop-info.info _ _ c.loop-info-test.false c.loop-info.invariant.provisions
-    ∙ ap (λ front. front ++ flat_map info_provisions (enumerate_from 0 c.args.infos.now)) (c.loop-object.invariant.provisions ∙ ap (λ objects. flat_map object_provisions (enumerate_from 0 objects)) (take_all c.args.objects.now c.loop-object.object c.loop-object-test.false))
-
-pub returns-clause-origins : goal.returns-clause-origins
-returns-clause-origins c =
-    gathers_all info_origins c.args.infos.now c.loop-info.info _ _ c.loop-info-test.false c.loop-info.invariant.origins
-    ∙ ap (λ front. front ++ flat_map info_origins (enumerate_from 0 c.args.infos.now)) (c.loop-object.invariant.origins ∙ ap (λ objects. flat_map object_origins (enumerate_from 0 objects)) (take_all c.args.objects.now c.loop-object.object c.loop-object-test.false))

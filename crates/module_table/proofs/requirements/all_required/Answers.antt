@@ -41,11 +41,6 @@ loop-info-preserved c =
           (c.loop-entry.invariant.needs ∙ ap (λ entries. rows c.loop-info.needs.items ++ map (λ (m : ModuleValue). indexes_in (names_of ps) m.required) entries) whole);
     }
 
-pub returns-clause-needs : goal.returns-clause-needs
-returns-clause-needs c =
-    c.loop-info.invariant.needs
-    ∙ ap (λ infos. rows c.args.needs.now.items ++ flat_map (info_rows (names_of (provisions c.args.modules.now))) (enumerate_from 0 infos)) (take_all c.infos-infos.result.now c.loop-info.info c.loop-info-test.false ∙ c.infos-infos.ensures.infos)
-
 pub returns-clause-required : goal.returns-clause-required
 returns-clause-required c = record {
   same =

@@ -5,16 +5,12 @@ use Rattle.std.proofs.lemmas.Iterator.{items_from_collect, YieldsList-from_map, 
 use Rattle.std.proofs.lemmas.Iterator.Consumers.{YieldsList-at}
 use Rattle.dep_order.specs.Needs.{NeedsAreNodes}
 use Rattle.dep_order.specs.Rows.{rows}
-use Rattle.module_table.specs.inner.Numbered.{AreIndexes}
 use Rattle.module_table.specs.inner.Origins.{origin_of}
 use Rattle.module_table.proofs.Graph.{are_nodes, is_graph}
 use Rattle.module_table.proofs.checks.Index.new.Goals as goal
 
 rows_of_append : (needs more all : List (Vec ℕ Global)) → all ≡ needs ++ more → rows all ≡ rows needs ++ rows more
 rows_of_append needs more all is = ap rows is ∙ map-append (λ (row : Vec ℕ Global). row.items) needs more
-
-pub all_pairs-requires : goal.all_pairs-requires
-all_pairs-requires c = subst (λ vectors. AreIndexes c.args.modules (rows vectors)) (sym c.as_slice.ensures.value) c.requires.indexes
 
 pub new-requires : goal.new-requires
 new-requires c =

@@ -1,4 +1,4 @@
-use Rattle.std.proofs.Common.{rules, tests, ◌≡◌, ℕ, List, ◌∙◌, ap, sym, refl}
+use Rattle.std.proofs.Common.{rules, tests, ◌≡◌, ℕ, List, ◌∙◌, sym, refl}
 use Rattle.std.proofs.lemmas.Option.{slice_get_read}
 use Rattle.module_table.specs.Modules.{provisions, info_requirements}
 use Rattle.module_table.specs.inner.Views.{requirement_of}
@@ -7,7 +7,7 @@ use Rattle.module_table.specs.inner.Found.{looked_up}
 use Rattle.module_table.specs.inner.Reported.{Reports}
 use Rattle.module_table.proofs.Lists.{accepts_next, refuses_here}
 use Rattle.module_table.proofs.Found.{allowed}
-use Rattle.module_table.proofs.Places.{required_there, decided, accepts_required}
+use Rattle.module_table.proofs.Places.{required_there, decided}
 use Rattle.module_table.proofs.Passing.{reports_private_info}
 use Rattle.module_table.proofs.ReportLemmas.{for_fault}
 use Rattle.module_table.proofs.checks.privacy.check_infos_allowed.Goals as goal
@@ -54,5 +54,3 @@ loop-required-preserved c =
     let by = decided t all c.requires.all i c.required-item.result at is_allowed (IsAllowed ps) (IsNotAllowed ps) (allowed ps c.requires.all.differ) _ (tested ∙ c.if-not-is_allowed.false) in
     accepts_next (IsAllowed ps) (IsNotAllowed ps) (info_requirements t) i r there c.loop-required.invariant by
 
-pub returns-clause-ok : goal.returns-clause-ok
-returns-clause-ok c = accepts_required c.args.modules.now (IsAllowed (provisions c.args.modules.now)) c.args.all.now c.requires.all c.loop-required.required-index c.loop-required-test.false c.loop-required.invariant

@@ -123,5 +123,3 @@ returns-clause-files c =
     ∙ ap (λ xs. xs ++ files_of (map provision_of provided)) c.requires.paths
     ∙ ap (λ ps. map object_of c.args.modules.now.objects ++ files_of ps) c.provided-provided.ensures.provisions
 
-pub returns-clause-ok : goal.returns-clause-ok
-returns-clause-ok c = subst AllDiffer (sym c.loop-module.invariant.same ∙ returns-clause-files c) c.loop-module.invariant.differ

@@ -1,6 +1,5 @@
-use Rattle.std.proofs.Common.{◌≡◌, ◌∙◌, ◌<◌, ◌≤◌, ap, arith, length, sym, refl, map, subst, List, ℕ, Some, slice_get}
+use Rattle.std.proofs.Common.{◌≡◌, ◌∙◌, ◌<◌, ◌≤◌, ap, arith, length, sym, refl, map, List, ℕ, Some, slice_get}
 use Rattle.std.proofs.lemmas.Option.{slice_get_read}
-use Rattle.ninja_text.specs.Firsts.{AllDiffer}
 use Rattle.module_table.specs.inner.Views.{provision_of, names_of}
 use Rattle.module_table.specs.Modules.{Provision}
 use Rattle.module_table.specs.TableValue.{TableValue}
@@ -81,5 +80,3 @@ new-requires-clause-names c =
     let all : length (names_of list) ≤ c.loop-module.module-index = omega (arith, c.loop-module-test.false, long) in
     c.loop-module.invariant.same ∙ take_all (names_of list) c.loop-module.module-index all ∙ ap (λ modules. names_of (map provision_of modules)) c.deref-module-items.ensures.value
 
-pub new-requires-clause-differ : goal.new-requires-clause-differ
-new-requires-clause-differ c = subst AllDiffer (sym c.loop-module.invariant.same) c.loop-module.invariant.differ

@@ -1,10 +1,9 @@
 use Rattle.std.proofs.Common.{◌≡◌, ap, map, refl, subst, sym, ◌∙◌, List, ℕ, Some}
 use Rattle.std.proofs.lemmas.Option.{slice_get_read}
 use Rattle.scan_docs.specs.Scan.{RuleValue}
-use Rattle.ninja_text.specs.Firsts.{IsFirstRepetition, AllDiffer}
+use Rattle.ninja_text.specs.Firsts.{IsFirstRepetition}
 use Rattle.module_table.specs.declared.fault.Maker.TheVariants.{Object}
 use Rattle.module_table.specs.declared.fault.TableFault.TheVariants.{ObjectTwice}
-use Rattle.module_table.proofs.IndexRows.{map_take_all}
 use Rattle.module_table.proofs.Lists.{repeats_if_found, keys_if_new, differ_if_new, text_repetition, map_same}
 use Rattle.module_table.proofs.ReportLemmas.{reports_same, for_boxed}
 use Rattle.module_table.specs.inner.Reported.{Reports}
@@ -52,8 +51,3 @@ loop-index-preserved c =
       differ = differ_if_new (λ n. n) (map object_of objects) i _ c.loop-index.paths.keys c.insert_full.new.self.keys at before c.loop-index.invariant.differ h.keys fresh;
     }
 
-pub returns-clause-paths : goal.returns-clause-paths
-returns-clause-paths c = c.loop-index.invariant.same ∙ map_take_all object_of c.args.objects.now c.loop-index.index c.loop-index-test.false
-
-pub returns-clause-differ : goal.returns-clause-differ
-returns-clause-differ c = subst AllDiffer (map_take_all object_of c.args.objects.now c.loop-index.index c.loop-index-test.false) c.loop-index.invariant.differ

@@ -8,7 +8,7 @@ use Rattle.module_table.specs.inner.Reported.{Reports}
 use Rattle.module_table.specs.declared.fault.TableFault.TheVariants.{InfoUnknown}
 use Rattle.module_table.proofs.Lists.{accepts_next, refuses_here}
 use Rattle.module_table.proofs.Found.{by_info}
-use Rattle.module_table.proofs.Places.{required_there, decided, accepts_required}
+use Rattle.module_table.proofs.Places.{required_there, decided}
 use Rattle.module_table.proofs.Passing.{reports_info_unknown}
 use Rattle.module_table.proofs.ReportLemmas.{for_boxed}
 use Rattle.module_table.proofs.checks.required.check_infos_known.Goals as goal
@@ -46,5 +46,3 @@ loop-required-preserved c =
     let by = decided t all c.requires i c.required-item.result at is_by_info (IsByInfo ps) (IsNotByInfo ps) (by_info ps c.requires.differ) _ (tested ∙ c.if-not-is_known.false) in
     accepts_next (IsByInfo ps) (IsNotByInfo ps) (info_requirements t) i r there c.loop-required.invariant by
 
-pub returns-clause-ok : goal.returns-clause-ok
-returns-clause-ok c = accepts_required c.args.modules.now (IsByInfo (provisions c.args.modules.now)) c.args.all.now c.requires c.loop-required.required-index c.loop-required-test.false c.loop-required.invariant

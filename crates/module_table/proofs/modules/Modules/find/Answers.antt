@@ -3,8 +3,7 @@ use Rattle.std.proofs.lemmas.Option.{slice_get_within}
 use Rattle.module_table.specs.TableValue.{TableValue}
 use Rattle.module_table.specs.inner.Finds.{found}
 use Rattle.module_table.specs.Modules.{Provision, provisions}
-use Rattle.module_table.specs.inner.Views.{provision_of, names_of, IsAbsent}
-use Rattle.module_table.specs.inner.Graph.{index_in}
+use Rattle.module_table.specs.inner.Views.{provision_of, IsAbsent}
 use Rattle.module_table.proofs.IndexRows.{length_mapped}
 use Rattle.module_table.proofs.Found.{named_found, absent_found}
 use Rattle.module_table.proofs.modules.Modules.find.Goals as goal
@@ -36,13 +35,3 @@ returns-in-None-clause-module c =
     let t : TableValue = record { objects = c.self.inside.objects.now; infos = c.self.inside.infos.now } in
     subst (λ (u : TableValue). None ≡ found (provisions u) c.args.name.now) c.self.view_is
     (sym (absent_found (provisions t) c.args.name.now (subst (λ keys. IsAbsent keys c.args.name.now) c.self.invariant.2 c.in-None.ensures.none)))
-
-pub returns-in-Some-clause-index : goal.returns-in-Some-clause-index
-returns-in-Some-clause-index c =
-    subst (λ (u : TableValue). Some c.in-Some.index ≡ index_in (names_of (provisions u)) c.args.name.now) c.self.view_is
-    (c.in-Some.ensures.index ∙ ap (λ keys. index_in keys c.args.name.now) c.self.invariant.2)
-
-pub returns-in-None-clause-index : goal.returns-in-None-clause-index
-returns-in-None-clause-index c =
-    subst (λ (u : TableValue). None ≡ index_in (names_of (provisions u)) c.args.name.now) c.self.view_is
-    (c.in-None.ensures.index ∙ ap (λ keys. index_in keys c.args.name.now) c.self.invariant.2)

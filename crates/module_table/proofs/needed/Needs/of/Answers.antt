@@ -7,7 +7,6 @@ use Rattle.dep_order.specs.Needs.{NodeNeeds, AreReached}
 use Rattle.module_table.specs.TableValue.{TableValue}
 use Rattle.module_table.specs.Modules.{provisions}
 use Rattle.module_table.specs.Needed.{ArePairs, IsNeeded, lent}
-use Rattle.module_table.specs.inner.Graph.{IsModuleGraph}
 use Rattle.module_table.specs.inner.Origins.{origins_of}
 use Rattle.module_table.specs.inner.Ranks.{Numbered, pairs_of}
 use Rattle.module_table.proofs.Lists.{zip_length}
@@ -81,17 +80,3 @@ overflow_add-len c =
     omega (arith, within, c.self.invariant.3, c.self.invariant.2.as_many, c.len.ensures, c.self.inside.ranks.ok.0)
 
 -- the invariant, once the workspace has been used
-pub invariant_of-self : goal.invariant_of-self
-invariant_of-self c =
-    let t : TableValue = record { objects = c.self.inside.objects.now; infos = c.self.inside.infos.now } in
-    (c.self.invariant.0, subst (IsModuleGraph t) (sym c.from.ensures.same) c.self.invariant.1, c.self.invariant.2, c.self.invariant.3)
-
-pub invariant_of-self-in_err-ranks : goal.invariant_of-self-in_err-ranks
-invariant_of-self-in_err-ranks c =
-    let t : TableValue = record { objects = c.self.inside.objects.now; infos = c.self.inside.infos.now } in
-    (c.self.invariant.0, subst (IsModuleGraph t) (sym c.from.ensures.same) c.self.invariant.1, c.self.invariant.2, c.self.invariant.3)
-
-pub invariant_of-self-2 : goal.invariant_of-self-2
-invariant_of-self-2 c =
-    let t : TableValue = record { objects = c.self.inside.objects.now; infos = c.self.inside.infos.now } in
-    (c.self.invariant.0, subst (IsModuleGraph t) (sym c.from.ensures.same) c.self.invariant.1, c.self.invariant.2, c.self.invariant.3)

@@ -10,15 +10,3 @@ with_other_error P Q (Err e) (Err d) h same p = tt
 pub returns-clause-kept : goal.returns-clause-kept
 returns-clause-kept c =
     with_other_error _ _ c.build_or_refused.result c.map_err.result c.map_err.ensures.cases c.map_err.ensures.variant c.build_or_refused.ensures.kept
-
-pub returns-clause-table : goal.returns-clause-table
-returns-clause-table c =
-    with_other_error _ _ c.build_or_refused.result c.map_err.result c.map_err.ensures.cases c.map_err.ensures.variant c.build_or_refused.ensures.table
-
-pub returns-clause-sound : goal.returns-clause-sound
-returns-clause-sound c =
-    with_other_error _ _ c.build_or_refused.result c.map_err.result c.map_err.ensures.cases c.map_err.ensures.variant c.build_or_refused.ensures.sound
-
-pub returns-clause-no_fault : goal.returns-clause-no_fault
-returns-clause-no_fault c =
-    with_other_error _ _ c.build_or_refused.result c.map_err.result c.map_err.ensures.cases c.map_err.ensures.variant c.build_or_refused.ensures.no_fault
