@@ -141,9 +141,6 @@ module _ (text : List ℕ) (comment : Bool) where
 
 -- ---- paths
 
-same_ok : {p q : List ℕ} → ◌≡◌ {A = Result (List ℕ) PathFault} (Ok p) (Ok q) → p ≡ q
-same_ok h = cc
-
 -- the walk finds canonical paths
 pub paths_found : (texts paths : List (List ℕ)) → ArePaths texts paths → paths_of texts ≡ Ok paths
 paths_found [] [] are = refl

@@ -1,20 +1,10 @@
-use Rattle.std.proofs.Common.{◌≡◌, ◌∙◌, ℕ, Bool, true, false, Option, Some, None, refl, ap, arith, sym}
+use Rattle.std.proofs.Common.{◌≡◌, ◌∙◌, true, false, Some, None, refl, ap, arith, sym}
 use Rattle.std.specs.Prelude.{not}
-use Rattle.std.specs.Option.{is_some}
 use Rattle.std.proofs.lemmas.Option.{slice_get_read, slice_get_within}
 use Rattle.build_effect.specs.EdgeValue.{EdgeValue}
-use Rattle.build_effect.proofs.StatementChecks.{more_have}
+use Rattle.build_effect.proofs.StatementChecks.{more_have, is_there}
 use Rattle.build_effect.proofs.statement_edges.check_mentioned.Goals as goal
 use Rattle.build_effect.proofs.statement_edges.check_mentioned.Goals.{else-is_none-via-then-is_none+else-names, else-is_none-via-else-is_none}
-
--- if the test for none is false, there is a statement
-has_statement : (statement : Option ℕ) (none : Bool) → is_some statement ≡ not none → none ≡ false → (k : ℕ) × (statement ≡ Some k)
-has_statement None none test is = absurd (let x : false ≡ true = test ∙ ap not is in cc)
-has_statement (Some k) none test is = (k, refl)
-
-no_statement : (statement : Option ℕ) (none : Bool) → is_some statement ≡ not none → none ≡ true → statement ≡ None
-no_statement None none test is = refl
-no_statement (Some k) none test is = absurd (let x : true ≡ false = test ∙ ap not is in cc)
 
 -- stated here, so that `edge_without_statement_passed_over` is rejected early
 pub returns-then-names-clause-fault : goal.returns-then-names-clause-fault
@@ -27,7 +17,7 @@ returns-then-names-clause-fault c =
       c.in_ok-output.output,
       record {
         here = at;
-        holds = (c.if-names.ensures, no_statement _ c.is_none.result c.is_none.ensures c.if-is_none.true);
+        holds = (c.if-names.ensures, is_there _ false (c.is_none.ensures ∙ ap not c.if-is_none.true));
         before = λ k d lt at_k bad.
             let some = c.loop-edge_index.invariant k d lt at_k bad.0 in
             let never : None ≡ Some some.0 = sym bad.1 ∙ some.1 in
@@ -44,7 +34,7 @@ loop-edge_index-preserved c =
     more_have c.args.edges.now c.args.name.now c.args.statement_of.now i e (slice_get_read c.args.edges.now _ i e refl c.loop-edge_index-test.true c.index-edges-edge_index.is) c.loop-edge_index.invariant (λ names.
     elim c.else-is_none.branch [
       | else-is_none-via-then-is_none+else-names w ↦ absurd (w.if-names.ensures names)
-      | else-is_none-via-else-is_none w ↦ has_statement _ c.is_none.result c.is_none.ensures w.if-is_none.false
+      | else-is_none-via-else-is_none w ↦ is_there _ true (c.is_none.ensures ∙ ap not w.if-is_none.false)
     ])
 
 pub returns-clause-ok : goal.returns-clause-ok
