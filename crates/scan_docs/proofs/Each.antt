@@ -1,15 +1,22 @@
 -- Checks that are made one after another, and entries that are read one after another, each with its checks.
-use Rattle.std.proofs.Common.{◌≡◌, ℕ, suc, ◌+◌, ◌<◌, ◌≤◌, List, [], ◌∷◌, ◌++◌, map, length, take, drop, get_or, Bool, true, false, cond, Option, Some, None, refl, sym, ap, ◌∙◌, subst, add-one}
+use Rattle.std.proofs.Common.{◌≡◌, ℕ, suc, ◌+◌, ◌<◌, ◌≤◌, List, [], ◌∷◌, ◌++◌, map, length, take, drop, get_or, Bool, true, false, cond, Option, Some, None, refl, sym, ap, ◌∙◌, subst, add-one, ◌&&◌, option_map, option_and_then, append_assoc, ◌≢◌, Result, Ok, Err, IfOk, IfErr}
 use Rattle.std.proofs.Math.Seq.{drop-cons}
 use Rattle.std.proofs.lemmas.List.{get_or-map, take_more, take_all, at_drop_all, length-map}
-use Rattle.std.specs.List.{AllZip}
+use Rattle.std.specs.List.{AllZip, list_all, All}
 use Rattle.std.specs.Option.{option_or}
 use Rattle.serde_json.specs.Data.{Data}
 use Rattle.ninja_text.specs.declared.failure.Failure.{Failure}
-use Rattle.ninja_text.specs.declared.failure.Failure.TheVariants.{Fault}
+use Rattle.ninja_text.specs.declared.failure.Failure.TheVariants.{Fault, Memory}
 use Rattle.scan_docs.specs.declared.fault.DocFault.{DocFault}
 use Rattle.scan_docs.specs.Check.{Check, first_refusal, each_from}
-use Rattle.scan_docs.specs.inner.Reading.{first_failure}
+use Rattle.scan_docs.specs.inner.Reading.{first_failure, Answers}
+use Rattle.std.proofs.lemmas.List.Elements.{All-more}
+use Rattle.serde_json.specs.View.{items_of, view}
+use Rattle.scan_docs.specs.Shape.{elements, all_texts}
+use Rattle.serde_json.specs.Find.{as_str}
+use Rattle.serde_json.specs.declared.value.Value.{Value}
+use Rattle.ninja_text.specs.Failure.{ForFault}
+use Rattle.scan_docs.specs.Document.{document_limit, IsTree, IsAccepted, IsRefused, false_check}
 
 -- ---- what a call returns, and the rejection
 
@@ -104,3 +111,77 @@ module _ {V T : Type 0} (g : V → Data) (checks : ℕ → Data → List Check) 
   pub all_read : (i : ℕ) (found : List T) → length vs ≤ i → SoFar checks means (map g vs) i found → (first_failure (each_from checks 0 (map g vs)) ≡ None) × AllZip means (map g vs) found
   all_read i found le so_far = let all : length (map g vs) ≤ i = rw length-map le in
       (sym so_far.reported ∙ at_drop_all (λ ds. first_failure (each_from checks i ds)) (map g vs) i all, subst (λ ds. AllZip means ds found) (take_all i (map g vs) all) so_far.read)
+
+-- ---- texts that are looked at one after another, up to the first that fails a test
+
+module _ {V : Type 0} (g : V → List ℕ) (p : List ℕ → Bool) (vs : List V) (i : ℕ) (v : V) (lt : i < length vs) (is : v ≡ get_or vs i v) where
+  opened : list_all p (drop i (map g vs)) ≡ list_all p (map g vs) → p (g v) && list_all p (drop (i + 1) (map g vs)) ≡ list_all p (map g vs)
+  opened h = sym (ap (list_all p) (front g vs i v lt is)) ∙ h
+
+  -- if the next one fails, not all pass
+  pub fails : p (g v) ≡ false → list_all p (drop i (map g vs)) ≡ list_all p (map g vs) → list_all p (map g vs) ≡ false
+  fails e h = sym (opened h) ∙ ap (λ b. b && list_all p (drop (i + 1) (map g vs))) e
+
+  -- if the next one passes, the others decide
+  pub passes : p (g v) ≡ true → list_all p (drop i (map g vs)) ≡ list_all p (map g vs) → list_all p (drop (i + 1) (map g vs)) ≡ list_all p (map g vs)
+  passes e h = sym (ap (λ b. b && list_all p (drop (i + 1) (map g vs))) e) ∙ opened h
+
+  -- one more of them
+  pub more : (found : List (List ℕ)) → found ≡ take i (map g vs) → found ++ g v ∷ [] ≡ take (i + 1) (map g vs)
+  more found h = ap (λ l. l ++ g v ∷ []) h ∙ sym (last g vs i v lt is)
+
+-- ---- elements of a list, one after another
+
+-- the elements of an array are the trees that it was made of
+pub elements_items_of : (ds : List Data) → elements (items_of ds) ≡ ds
+elements_items_of [] = refl
+elements_items_of (d ∷ ds) = ap (λ r. d ∷ r) (elements_items_of ds)
+
+-- what holds of the first i, and of the next one, holds of the first i + 1
+pub All-grow : {A : Type 0} (P : A → Type 0) (xs : List A) (i : ℕ) (x : A) → i < length xs → x ≡ get_or xs i x → P x → All P (take i xs) → All P (take (i + 1) xs)
+All-grow P xs i x lt is p h = All-more P xs i x lt h (subst P is p)
+
+-- what holds of the first i holds of all if there are no more
+pub All-end : {A : Type 0} (P : A → Type 0) (xs : List A) (i : ℕ) → length xs ≤ i → All P (take i xs) → All P xs
+All-end {A} P xs i le h = let Q : List A → Type 0 = All P in subst Q (take_all i xs le) h
+
+-- ---- texts that are copied one after another
+
+-- what has been copied, and then the rest
+abbrev pub onto : List (List ℕ) → Option (List (List ℕ)) → Option (List (List ℕ))
+onto found rest = option_map (λ ts. found ++ ts) rest
+
+onto_cons : (found : List (List ℕ)) (t : List ℕ) (o : Option (List (List ℕ))) → onto found (option_map (λ ts. t ∷ ts) o) ≡ onto (found ++ t ∷ []) o
+onto_cons found t None = refl
+onto_cons found t (Some ts) = ap Some (sym (append_assoc found (t ∷ []) ts))
+
+module _ (found : List (List ℕ)) (vs : List Value) (i : ℕ) (v : Value) where
+  text_opened : i < length vs → v ≡ get_or vs i v → onto found (all_texts (drop i (map view vs))) ≡ all_texts (map view vs)
+      → onto found (option_and_then (λ t. option_map (λ ts. t ∷ ts) (all_texts (drop (i + 1) (map view vs)))) (as_str (view v))) ≡ all_texts (map view vs)
+  text_opened lt is h = sym (ap (λ ds. onto found (all_texts ds)) (front view vs i v lt is)) ∙ h
+
+  pub copy_refused : i < length vs → v ≡ get_or vs i v → as_str (view v) ≡ None → onto found (all_texts (drop i (map view vs))) ≡ all_texts (map view vs) → None ≡ all_texts (map view vs)
+  copy_refused lt is none h = sym (ap (λ o. onto found (option_and_then (λ t. option_map (λ ts. t ∷ ts) (all_texts (drop (i + 1) (map view vs)))) o)) none) ∙ text_opened lt is h
+
+  pub copy_more : (t : List ℕ) → i < length vs → v ≡ get_or vs i v → as_str (view v) ≡ Some t → onto found (all_texts (drop i (map view vs))) ≡ all_texts (map view vs)
+      → onto (found ++ t ∷ []) (all_texts (drop (i + 1) (map view vs))) ≡ all_texts (map view vs)
+  copy_more t lt is some h = sym (onto_cons found t (all_texts (drop (i + 1) (map view vs)))) ∙ sym (ap (λ o. onto found (option_and_then (λ t. option_map (λ ts. t ∷ ts) (all_texts (drop (i + 1) (map view vs)))) o)) some) ∙ text_opened lt is h
+
+-- ---- what a document's reader returns, from what the reader of its tree returns
+
+apart : {F : Type 0} (f : F) → Fault f ≢ Memory
+apart f e = cc
+
+module _ {T V : Type 0} (see : T → V) (checks : Data → List Check) (means : Data → V → Type 0) (bytes : List ℕ) (tree : Data) (small : length bytes ≤ document_limit) (reads : IsTree bytes tree) where
+  -- what follows from an accepted value holds of the result
+  pub holds : (P : V → Type 0) → ((v : V) → IsAccepted checks means bytes v → P v) → (result : Result T (Failure DocFault)) → Answers (checks tree) (λ x. means tree (see x)) result → IfOk result (λ x. P (see x))
+  holds P k (Ok x) h = k (see x) (record { small = small; tree = tree; reads = reads; passes = none_refused (checks tree) h.0; meaning = h.1 })
+  holds P k (Err e) h = tt
+
+  pub accepted : (result : Result T (Failure DocFault)) → Answers (checks tree) (λ x. means tree (see x)) result → IfOk result (λ x. IsAccepted checks means bytes (see x))
+  accepted result h = holds (IsAccepted checks means bytes) (λ v a. a) result h
+
+  pub refused : (result : Result T (Failure DocFault)) → Answers (checks tree) (λ x. means tree (see x)) result → IfErr result (ForFault (IsRefused checks bytes))
+  refused (Ok x) h = tt
+  refused (Err Memory) h = tt
+  refused (Err (Fault f)) h = false_check small tree reads (some_refused (checks tree) f (h (apart f)))

@@ -1,19 +1,117 @@
--- Bytes have one result at most, and the value of an accepted document is that of the function of its bytes.
-use Rattle.std.proofs.Common.{◌≡◌, ℕ, List, Some, None, sym, ap, ◌∙◌, arith}
-use Rattle.serde_json.specs.Data.{Data}
-use Rattle.scan_docs.specs.declared.fault.DocFault.{DocFault}
-use Rattle.scan_docs.specs.Check.{Check, first_refusal}
+-- What a document means: the value of a function of its bytes, one result at most, and paths that are text.
+use Rattle.std.proofs.Common.{◌≡◌, ℕ, List, [], Bool, false, Option, Some, None, Result, Ok, refl, sym, ap, ap₂, unwrap_or, ◌∙◌, arith, ◌∷◌, zero, suc, is_some}
+use Rattle.serde_json.specs.Data.{Data, null}
+use Rattle.ninja_text.specs.Paths.{path_of, placed}
+use Rattle.ninja_text.proofs.ForCallers.{zip_is_map}
+use Rattle.ninja_text.specs.declared.fault.PathFault.{PathFault}
+use Rattle.scan_docs.specs.declared.member.Member.TheVariants as m
+use Rattle.scan_docs.specs.declared.map_form.MapForm.{MapForm}
+use Rattle.scan_docs.specs.Shape.{text, text_of, texts, entries_of, is_object, entries, whole_number}
 use Rattle.scan_docs.specs.Document.{IsTree, IsAccepted, IsRefused, large, no_tree, false_check, HasOneAnswer}
-use Rattle.scan_docs.specs.Scan.{SettingValue, RuleValue, AreRules}
-use Rattle.scan_docs.specs.ScanChecks.{scan_checks}
-use Rattle.scan_docs.specs.Info.{InfoValue, IsInfo}
-use Rattle.scan_docs.specs.InfoChecks.{info_checks}
-use Rattle.scan_docs.specs.Target.{TargetDocumentValue, IsTarget}
-use Rattle.scan_docs.specs.TargetChecks.{target_checks}
+use Rattle.scan_docs.specs.Scan.{SettingValue, RuleValue, object_of, module_file_of, IsProvidedModule, IsRequired, IsRule, AreRules, IsText, IsRuleText}
+use Rattle.scan_docs.specs.Info.{ModuleValue, InfoValue, has_visibility, privacy, IsRequirement, IsModule, IsInfo}
+use Rattle.scan_docs.specs.Target.{TargetDocumentValue, IsTarget, build_dir}
 use Rattle.scan_docs.specs.Project.{ProjectValue, IsProject}
+use Rattle.scan_docs.specs.Values.{tree_of, accepted_path, provided_in, rule_in, rules_in, requirement_in, module_in, info_in, target_setting, target_in, project_in, rules_of, info_of, spec_of, project_of}
+use Rattle.scan_docs.specs.declared.fault.DocFault.{DocFault}
+use Rattle.scan_docs.specs.Check.{Check, first_refusal, ◌otherwise◌, shape_check}
+use Rattle.scan_docs.specs.ScanChecks.{scan_checks}
+use Rattle.scan_docs.specs.InfoChecks.{info_checks}
+use Rattle.scan_docs.specs.TargetChecks.{target_checks}
 use Rattle.scan_docs.specs.ProjectChecks.{project_checks}
-use Rattle.scan_docs.specs.Values.{tree_of, rules_in, rules_of, info_in, info_of, target_in, spec_of, project_in, project_of}
-use Rattle.scan_docs.proofs.Values.{tree_is, rules_are, info_is, target_is, project_is}
+use Rattle.std.specs.List.{AllZip, All, AllByRecursion}
+use Rattle.std.proofs.lemmas.List.Elements.{All-from_recursion}
+use Rattle.scan_docs.specs.Name.{IsName}
+use Rattle.scan_docs.specs.InfoText.{IsModuleText, IsInfoText}
+use Rattle.std.proofs.lemmas.Bool.Decides.{nat_tests}
+use Rattle.std.specs.Option.{option_or}
+use Rattle.scan_docs.specs.declared.fault.DocFault.TheVariants.{BadVersion, TooLarge}
+use Rattle.scan_docs.specs.declared.fault.Place.TheVariants as place
+use Rattle.scan_docs.specs.ScanChecks as scan
+use Rattle.scan_docs.specs.InfoChecks as info
+use Rattle.scan_docs.specs.TargetChecks as target
+use Rattle.scan_docs.specs.inner.Reading.{first_failure, is_one_of, version_checks}
+use Rattle.scan_docs.proofs.Each.{failure_of_both}
+
+pub tree_is : (bytes : List ℕ) (d : Data) → IsTree bytes d → d ≡ tree_of bytes
+tree_is bytes d h = sym (ap (λ (o : Option Data). unwrap_or o null) h.1)
+
+path_is : (r : Result (List ℕ) PathFault) (p : List ℕ) → r ≡ Ok p → p ≡ accepted_path r
+path_is r p e = rw e refl
+
+some_is : {A : Type 0} (o : Option A) (x other : A) → o ≡ Some x → x ≡ unwrap_or o other
+some_is o x other e = rw e refl
+
+-- ---- scan documents
+
+module _ (s : SettingValue) where
+  provided_is : (work : Option (List ℕ)) (d : Data) (pair : List ℕ × List ℕ) → IsProvidedModule s work d pair → pair ≡ provided_in s work d
+  provided_is work d pair h = ap₂ (λ a b. (a, b)) (some_is (text m.LogicalName d) pair.0 [] h.name) (path_is (module_file_of s work d) pair.1 h.file)
+
+  required_is : (d : Data) (name : List ℕ) → IsRequired d name → name ≡ text_of m.LogicalName d
+  required_is d name h = some_is (text m.LogicalName d) name [] h.name
+
+  rule_is : (d : Data) (rule : RuleValue) → IsRule s d rule → rule ≡ rule_in s d
+  rule_is d rule h =
+      let object = path_is (object_of s d) rule.object h.object in
+      let provided = zip_is_map (IsProvidedModule s (text m.WorkDirectory d)) (provided_in s (text m.WorkDirectory d)) (provided_is (text m.WorkDirectory d)) (entries_of m.Provides d) rule.provided h.provided in
+      let required = zip_is_map IsRequired (text_of m.LogicalName) required_is (entries_of m.Requires d) rule.required h.required in
+      ap₂ (λ a (r : List (List ℕ × List ℕ) × List (List ℕ)). record { object = a; provided = r.0; required = r.1 }) object (ap₂ (λ b c. (b, c)) provided required)
+
+  pub rules_are : (d : Data) (rules : List RuleValue) → AreRules s d rules → rules ≡ rules_in s d
+  rules_are d rules h = zip_is_map (IsRule s) (rule_in s) rule_is (entries_of m.Rules d) rules h
+
+-- ---- info documents
+
+requirement_is : (d : Data) (pair : List ℕ × List ℕ) → IsRequirement d pair → pair ≡ requirement_in d
+requirement_is d pair h = ap₂ (λ a b. (a, b)) (some_is (text m.Name d) pair.0 [] h.name) (path_is (path_of (text_of m.Bmi d)) pair.1 h.file)
+
+module_is : (with_visibility : Bool) (d : Data) (entry : ModuleValue) → IsModule with_visibility d entry → entry ≡ module_in with_visibility d
+module_is with_visibility d entry h =
+    let name = some_is (text m.Name d) entry.name [] h.name in
+    let file = path_is (path_of (text_of m.Bmi d)) entry.file h.file in
+    let required = zip_is_map IsRequirement requirement_in requirement_is (entries_of m.Requires d) entry.required h.required in
+    let visibility = some_is (privacy with_visibility d) entry.is_private false h.visibility in
+    ap₂ (λ (p : List ℕ × List ℕ) (r : List (List ℕ × List ℕ) × Bool). record { name = p.0; file = p.1; required = r.0; is_private = r.1 }) (ap₂ (λ a b. (a, b)) name file) (ap₂ (λ a b. (a, b)) required visibility)
+
+pub info_is : (d : Data) (info : InfoValue) → IsInfo d info → info ≡ info_in d
+info_is d info h =
+    ap₂ (λ a b. record { target = a; modules = b }) (some_is (text m.Target d) info.target [] h.target)
+    (zip_is_map (IsModule (has_visibility d)) (module_in (has_visibility d)) (module_is (has_visibility d)) (entries_of m.Modules d) info.modules h.modules)
+
+-- ---- target documents
+
+together : (f : List ℕ → SettingValue → List (List ℕ) → List (List ℕ) → List (List ℕ) → List ℕ → List ℕ → List ℕ → Option MapForm → Option (List ℕ) → Bool → TargetDocumentValue) (x y : TargetDocumentValue)
+    → x.target ≡ y.target → x.setting ≡ y.setting → x.scans ≡ y.scans → x.linked ≡ y.linked → x.kept ≡ y.kept
+    → x.dyndep ≡ y.dyndep → x.dyndep_path ≡ y.dyndep_path → x.info ≡ y.info → x.map_form ≡ y.map_form → x.edges ≡ y.edges → x.restat ≡ y.restat
+    → f x.target x.setting x.scans x.linked x.kept x.dyndep x.dyndep_path x.info x.map_form x.edges x.restat
+    ≡ f y.target y.setting y.scans y.linked y.kept y.dyndep y.dyndep_path y.info y.map_form y.edges y.restat
+together f x y target setting scans linked kept dyndep dyndep_path info map_form edges restat = cc
+
+setting_is : (d : Data) (s : SettingValue) → text m.ModuleDir d ≡ Some s.module_dir → text m.ModuleExt d ≡ Some s.module_ext → build_dir d ≡ s.build_dir → s ≡ target_setting d
+setting_is d s module_dir module_ext directory =
+    ap₂ (λ (a : List ℕ × List ℕ) b. record { module_dir = a.0; module_ext = a.1; build_dir = b })
+    (ap₂ (λ a b. (a, b)) (some_is (text m.ModuleDir d) s.module_dir [] module_dir) (some_is (text m.ModuleExt d) s.module_ext [] module_ext))
+    (sym directory)
+
+pub target_is : (d : Data) (t : TargetDocumentValue) → IsTarget d t → t ≡ target_in d
+target_is d t h =
+    let dyndep = some_is (text m.Dyndep d) t.dyndep [] h.dyndep in
+    let placed_at = path_is (placed None t.setting.build_dir t.dyndep) t.dyndep_path h.dyndep_path in
+    together (λ a b c d e f g h i j k. record { target = a; setting = b; scans = c; linked = d; kept = e; dyndep = f; dyndep_path = g; info = h; map_form = i; edges = j; restat = k }) t (target_in d)
+    (some_is (text m.Target d) t.target [] h.target)
+    (setting_is d t.setting h.module_dir h.module_ext h.directory)
+    (sym h.scans) (sym h.linked) (sym h.kept) dyndep
+    (placed_at ∙ ap₂ (λ build text. accepted_path (placed None build text)) (sym h.directory) dyndep)
+    (some_is (text m.Info d) t.info [] h.info)
+    (sym h.form) (sym h.edges) (sym h.restat)
+
+-- ---- project documents
+
+pub project_is : (d : Data) (p : ProjectValue) → IsProject d p → p ≡ project_in d
+project_is d p h = ap (λ a. record { targets = a }) (some_is (texts m.Targets d) p.targets [] h.targets)
+
+-- ---- bytes have one result at most, and the value of an accepted document is that of the function of its bytes
 
 module _ {V : Type 0} (checks : Data → List Check) (means : Data → V → Type 0) (value : Data → V) (is : (d : Data) (v : V) → means d v → v ≡ value d) (bytes : List ℕ) where
   value_is : (v : V) → IsAccepted checks means bytes v → v ≡ value (tree_of bytes)
@@ -73,3 +171,74 @@ module _ (bytes : List ℕ) where
 
   pub project_one_answer : HasOneAnswer project_checks IsProject bytes
   project_one_answer = one_answer project_checks IsProject project_in project_is bytes
+
+-- ---- the paths of what a document means are text, and the names of its rules are accepted
+
+AllZip-second : {A B : Type 0} → (R : A → B → Type 0) (P : B → Type 0) → ((a : A) (b : B) → R a b → P b) → (xs : List A) (ys : List B) → AllZip R xs ys → AllByRecursion P ys
+AllZip-second R P k [] [] h = tt
+AllZip-second R P k [] (y ∷ ys) h = absurd h
+AllZip-second R P k (x ∷ xs) [] h = absurd h
+AllZip-second R P k (x ∷ xs) (y ∷ ys) h = (k x y h.0, AllZip-second R P k xs ys h.1)
+
+second : {A B : Type 0} → (R : A → B → Type 0) (P : B → Type 0) → ((a : A) (b : B) → R a b → P b) → (xs : List A) (ys : List B) → AllZip R xs ys → All P ys
+second R P k xs ys h = All-from_recursion P ys (AllZip-second R P k xs ys h)
+
+module _ (s : SettingValue) where
+  rule_text : (d : Data) (rule : RuleValue) → IsRule s d rule → IsRuleText rule
+  rule_text d rule h = record {
+    object = h.is_text;
+    names = second (IsProvidedModule s (text m.WorkDirectory d)) (λ pair. IsName pair.0) (λ entry pair k. k.is_name) (entries_of m.Provides d) rule.provided h.provided;
+    provided = second (IsProvidedModule s (text m.WorkDirectory d)) (λ pair. IsText pair.1) (λ entry pair k. k.is_text) (entries_of m.Provides d) rule.provided h.provided;
+    required = second IsRequired IsName (λ entry name k. k.is_name) (entries_of m.Requires d) rule.required h.required;
+  }
+
+  pub rules_text : (ds : List Data) (rules : List RuleValue) → AllZip (IsRule s) ds rules → All IsRuleText rules
+  rules_text ds rules h = second (IsRule s) IsRuleText rule_text ds rules h
+
+module_text : (with_visibility : Bool) (d : Data) (entry : ModuleValue) → IsModule with_visibility d entry → IsModuleText entry
+module_text with_visibility d entry h = record {
+  file = h.is_text;
+  required = second IsRequirement (λ pair. IsText pair.1) (λ requirement pair k. k.is_text) (entries_of m.Requires d) entry.required h.required;
+}
+
+pub info_text : (d : Data) (info : InfoValue) → IsInfo d info → IsInfoText info
+info_text d info h = second (IsModule (has_visibility d)) IsModuleText (module_text (has_visibility d)) (entries_of m.Modules d) info.modules h.modules
+
+-- ---- the versions of each kind of document, as a list and as a condition
+
+scan_versions : (version : Option ℕ) → is_one_of (0 ∷ 1 ∷ []) version ≡ scan.is_scan_version version
+scan_versions None = refl
+scan_versions (Some zero) = refl
+scan_versions (Some (suc zero)) = refl
+scan_versions (Some (suc (suc n))) = grind (arith, nat_tests)
+
+info_versions : (version : Option ℕ) → is_one_of (1 ∷ 2 ∷ []) version ≡ info.is_info_version version
+info_versions None = refl
+info_versions (Some zero) = refl
+info_versions (Some (suc zero)) = refl
+info_versions (Some (suc (suc zero))) = refl
+info_versions (Some (suc (suc (suc n)))) = grind (arith, nat_tests)
+
+target_versions : (version : Option ℕ) → is_one_of (1 ∷ []) version ≡ target.is_target_version version
+target_versions None = refl
+target_versions (Some zero) = refl
+target_versions (Some (suc zero)) = refl
+target_versions (Some (suc (suc n))) = grind (arith, nat_tests)
+
+-- what is checked of a scan document's head after its version
+abbrev pub rules_checks : Data → List Check
+rules_checks d = shape_check place.Document m.Rules (is_some (entries m.Rules d)) ∷ (scan.is_short (entries_of m.Rules d) otherwise TooLarge place.Document) ∷ []
+
+pub scan_head : (d : Data) → first_failure (scan.head_checks d) ≡ option_or (first_failure (version_checks (0 ∷ 1 ∷ []) d)) (first_failure (rules_checks d))
+unfolding scan.head_checks version_checks
+scan_head d =
+    ap (λ holds. first_failure (shape_check place.Document m.Document (is_object d) ∷ (holds otherwise BadVersion) ∷ rules_checks d)) (sym (scan_versions (whole_number m.Version d)))
+    ∙ failure_of_both (version_checks (0 ∷ 1 ∷ []) d) (rules_checks d)
+
+pub info_head : (d : Data) → first_failure (info.head_checks d) ≡ first_failure (version_checks (1 ∷ 2 ∷ []) d)
+unfolding info.head_checks version_checks
+info_head d = ap (λ holds. first_failure (shape_check place.Document m.Document (is_object d) ∷ (holds otherwise BadVersion) ∷ [])) (sym (info_versions (whole_number m.Version d)))
+
+pub target_head : (d : Data) → first_failure (target.head_checks d) ≡ first_failure (version_checks (1 ∷ []) d)
+unfolding target.head_checks version_checks
+target_head d = ap (λ holds. first_failure (shape_check place.Document m.Document (is_object d) ∷ (holds otherwise BadVersion) ∷ [])) (sym (target_versions (whole_number m.Version d)))

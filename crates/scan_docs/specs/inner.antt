@@ -1,4 +1,3 @@
 -- Definitions that private clauses alone speak of.
 pub mod Reading
-pub mod SharedNames
 pub mod Writing

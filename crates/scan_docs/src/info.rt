@@ -1,17 +1,15 @@
 //! Info documents: what a target tells the targets that link it.
 
-ghost use Rattle.std.specs.Prelude.{◌≡◌, map, Some, Ok, IfOk, IfErr};
-ghost use Rattle.std.specs.List.{AllZip, flat_map};
+ghost use Rattle.std.specs.Prelude.{◌≡◌, Some, Ok, IfOk, IfErr};
 ghost use Rattle.ninja_text.specs.Failure.{ForFault};
 ghost use Rattle.ninja_text.specs.Paths.{path_of};
 ghost use Rattle.serde_json.specs.View.{view};
 ghost use Rattle.scan_docs.specs.inner.Reading.{Answers};
-ghost use Rattle.scan_docs.specs.inner.SharedNames.{module_names};
 ghost use Rattle.scan_docs.specs.Document.{IsAccepted, IsRefused, HasOneAnswer};
 ghost use Rattle.scan_docs.specs.Shape.{text};
 ghost use Rattle.scan_docs.specs.Scan.{IsText};
 ghost use Rattle.scan_docs.specs.Info.{privacy, IsRequirement, IsModule, IsInfo};
-ghost use Rattle.scan_docs.specs.InfoChecks.{entry_shape_checks, visibility_check, named_file_checks, requirement_checks, all_requirement_checks, module_checks, all_module_checks, info_checks};
+ghost use Rattle.scan_docs.specs.InfoChecks.{entry_shape_checks, visibility_check, named_file_checks, requirement_checks, module_checks, info_checks};
 ghost use Rattle.scan_docs.specs.InfoText.{IsInfoText};
 ghost use Rattle.scan_docs.specs.Values.{info_of};
 ghost use Rattle.scan_docs.specs.declared.member.Member.TheVariants as m;
@@ -85,6 +83,7 @@ pub fn info_read(alloc: Global, bytes: &[u8]) -> Result<Info, Failure<DocFault>>
     read_info(alloc, &tree)
 }
 
+#[tactic(auto, unfolding(crate::specs::InfoChecks::info_checks, crate::specs::InfoChecks::modules_check), using(crate::proofs::Each::failure_of_both, crate::proofs::Exact::info_head))]
 fn read_info(alloc: Global, tree: &Value) -> Result<Info, Failure<DocFault>>
     ensures { Answers (info_checks (view tree.now)) (λ info. IsInfo (view tree.now) info) result }
 {
@@ -101,9 +100,7 @@ fn read_info(alloc: Global, tree: &Value) -> Result<Info, Failure<DocFault>>
 }
 
 /// Returns the names of modules and of the modules that they require, in the order of the document.
-fn names_of_modules(alloc: Global, modules: &[Value]) -> Result<Vec<u8>, AllocError>
-    ensures { IfOk result (λ names. names.items ≡ flat_map module_names (map view modules.now)) }
-{
+fn names_of_modules(alloc: Global, modules: &[Value]) -> Result<Vec<u8>, AllocError> {
     let mut names = Vec::new(alloc);
     for module in modules {
         shape::push_text(&mut names, module, Member::Name)?;
@@ -112,6 +109,7 @@ fn names_of_modules(alloc: Global, modules: &[Value]) -> Result<Vec<u8>, AllocEr
     Ok(names)
 }
 
+#[tactic(auto, unfolding(crate::specs::InfoChecks::module_checks, crate::specs::InfoChecks::requires_check), using(crate::proofs::Each::failure_of_both))]
 fn read_module(
     alloc: Global,
     names: &mut SharedNames,

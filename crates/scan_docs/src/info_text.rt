@@ -1,10 +1,8 @@
 //! The text of an info document, written from borrowed parts.
 
-ghost use Rattle.std.specs.Prelude.{◌≡◌, map, IfOk, OnOk, Ok};
+ghost use Rattle.std.specs.Prelude.{◌≡◌, IfOk, OnOk, Ok};
 ghost use Rattle.std.specs.List.{All};
-ghost use Rattle.serde_json.specs.Data.{array};
 ghost use Rattle.serde_json.specs.Events.{SendsValue};
-ghost use Rattle.serde_json.specs.View.{items_of};
 ghost use Rattle.scan_docs.specs.Scan.{IsText};
 ghost use Rattle.scan_docs.specs.InfoText.{requirements_tree, module_tree, info_tree, info_text, IsModuleText, IsInfoText, ReadsBack};
 ghost use Rattle.scan_docs.specs.Sound.{IsSoundPair, IsSoundModule, IsSoundInfo};

@@ -16,6 +16,7 @@ ghost use Rattle.scan_docs.specs.Values.{rules_of, info_of, spec_of, project_of}
 
 /// All bytes, read as a document of one kind, have at most one result: one value or one fault, and
 /// never both.
+#[tactic(auto, using(crate::proofs::Exact::scan_one_answer, crate::proofs::Exact::info_one_answer, crate::proofs::Exact::target_one_answer, crate::proofs::Exact::project_one_answer))]
 pub fn one_answer()
     ensures scan { (setting : SettingValue) (bytes : Bytes)
         → HasOneAnswer (scan_checks setting) (AreRules setting) bytes }
@@ -42,6 +43,7 @@ pub fn value_of_bytes()
 
 /// The text of an info whose names and paths are accepted is read as the same info. If the text is
 /// longer than a document may be, and only then, reading it fails.
+#[tactic(auto, using(crate::proofs::InfoTexts::text_again))]
 pub fn info_again()
     ensures { (info : InfoValue) → IsSoundInfo info → ReadsBack info (info_text info) }
 {}

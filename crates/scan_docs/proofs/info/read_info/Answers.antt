@@ -1,4 +1,4 @@
-use Rattle.std.proofs.Common.{◌≡◌, ◌==◌, Bool, List, Some, refl, sym, ap}
+use Rattle.std.proofs.Common.{◌≡◌, ◌==◌, Bool, List, refl}
 use Rattle.std.proofs.lemmas.Result.{err_from_is_err_and}
 use Rattle.serde_json.specs.Data.{Data}
 use Rattle.serde_json.specs.View.{view}
@@ -6,30 +6,12 @@ use Rattle.scan_docs.specs.Check.{each_from}
 use Rattle.scan_docs.specs.Info.{IsModule}
 use Rattle.scan_docs.specs.InfoChecks.{modules_check, module_checks, all_module_checks, info_checks}
 use Rattle.scan_docs.proofs.Each.{failure_of_both, one_more, refused_at, all_read}
-use Rattle.scan_docs.proofs.Versions.{info_head}
+use Rattle.scan_docs.proofs.Exact.{info_head}
 use Rattle.scan_docs.proofs.info.read_info.Goals as goal
 
 checks_are : (with_visibility : Bool) (ds : List Data) → all_module_checks with_visibility ds ≡ each_from (module_checks with_visibility) 0 ds
 unfolding all_module_checks
 checks_are with_visibility ds = refl
-
-pub returns-in_err-version : goal.returns-in_err-version
-unfolding info_checks
-returns-in_err-version c =
-    let p = err_from_is_err_and c.from_residual.result c.from_residual.ensures.1 in
-    rw (p.1, p.2) (λ ne. rw (failure_of_both, info_head, c.in_err-version.ensures ne))
-
-pub returns-in_err-target : goal.returns-in_err-target
-unfolding info_checks
-returns-in_err-target c =
-    let p = err_from_is_err_and c.from_residual-in_err-target.result c.from_residual-in_err-target.ensures.1 in
-    rw (p.1, p.2) (λ ne. rw (failure_of_both, info_head, c.in_ok-version.ensures.0, failure_of_both, c.in_err-target.ensures ne))
-
-pub returns-in_err-values : goal.returns-in_err-values
-unfolding modules_check info_checks
-returns-in_err-values c =
-    let p = err_from_is_err_and c.from_residual-in_err-values.result c.from_residual-in_err-values.ensures.1 in
-    rw (p.1, p.2) (λ ne. let h = c.in_err-values.ensures ne in rw (failure_of_both, info_head, c.in_ok-version.ensures.0, failure_of_both, c.in_ok-target.ensures.0, h.0) (ap Some (sym h.1)))
 
 pub returns-in_err-entry : goal.returns-in_err-entry
 unfolding modules_check info_checks

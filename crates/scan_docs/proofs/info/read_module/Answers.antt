@@ -7,30 +7,6 @@ use Rattle.scan_docs.specs.InfoChecks.{requires_check, requirement_checks, all_r
 use Rattle.scan_docs.proofs.Each.{failure_of_both, one_more, refused_at, all_read}
 use Rattle.scan_docs.proofs.info.read_module.Goals as goal
 
-pub returns-in_err-name : goal.returns-in_err-name
-unfolding module_checks
-returns-in_err-name c =
-    let p = err_from_is_err_and c.from_residual.result c.from_residual.ensures.1 in
-    rw (p.1, p.2) (λ ne. rw (failure_of_both, c.in_err-name.ensures ne))
-
-pub returns-in_err-requirements : goal.returns-in_err-requirements
-unfolding requires_check module_checks
-returns-in_err-requirements c =
-    let p = err_from_is_err_and c.from_residual-in_err-requirements.result c.from_residual-in_err-requirements.ensures.1 in
-    rw (p.1, p.2) (λ ne. let h = c.in_err-requirements.ensures ne in rw (failure_of_both, c.in_ok-name.ensures.0, h.0) (ap Some (sym h.1)))
-
-pub returns-in_err-is_private : goal.returns-in_err-is_private
-unfolding requires_check module_checks
-returns-in_err-is_private c =
-    let p = err_from_is_err_and c.from_residual-in_err-is_private.result c.from_residual-in_err-is_private.ensures.1 in
-    rw (p.1, p.2) (λ ne. rw (failure_of_both, c.in_ok-name.ensures.0, c.in_ok-requirements.ensures.0, failure_of_both, c.in_err-is_private.ensures ne))
-
-pub returns-in_err-name-2 : goal.returns-in_err-name-2
-unfolding requires_check module_checks
-returns-in_err-name-2 c =
-    let p = err_from_is_err_and c.from_residual-in_err-name-2.result c.from_residual-in_err-name-2.ensures.1 in
-    rw (p.1, p.2) (λ ne. rw (failure_of_both, c.in_ok-name.ensures.0, c.in_ok-requirements.ensures.0, failure_of_both, c.in_ok-is_private.ensures.0, failure_of_both, c.in_ok-name.ensures.1.0, c.in_ok-name.ensures.1.1, c.in_err-name-2.ensures ne))
-
 pub returns-in_err-pair : goal.returns-in_err-pair
 unfolding requires_check module_checks all_requirement_checks
 returns-in_err-pair c =

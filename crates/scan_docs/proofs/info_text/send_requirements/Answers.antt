@@ -6,7 +6,7 @@ use Rattle.scan_docs.specs.Scan.{IsText}
 use Rattle.scan_docs.specs.InfoText.{requirement_tree, requirements_tree}
 use Rattle.scan_docs.specs.Sound.{IsSoundPair}
 use Rattle.scan_docs.specs.inner.Writing.{BeginsNamedFile}
-use Rattle.scan_docs.proofs.Elements.{All-grow, All-end}
+use Rattle.scan_docs.proofs.Each.{All-grow, All-end}
 use Rattle.scan_docs.proofs.Sending.{entry_sent, array_sent}
 use Rattle.scan_docs.proofs.info_text.send_requirements.Goals as goal
 

@@ -1,6 +1,6 @@
 use Rattle.std.proofs.Common.{sym, arith}
 use Rattle.std.proofs.lemmas.Grind.{common_steps}
-use Rattle.scan_docs.proofs.Parts.{name_is, too_long}
+use Rattle.scan_docs.proofs.Names.{name_is, too_long}
 use Rattle.scan_docs.proofs.name.is_name.Goals as goal
 
 pub returns-then-text-gt-NAME_LIMIT : goal.returns-then-text-gt-NAME_LIMIT

@@ -1,5 +1,5 @@
 use Rattle.std.proofs.Common.{◌≡◌, drop, true, false}
-use Rattle.scan_docs.proofs.Parts.{name_from}
+use Rattle.scan_docs.proofs.Names.{name_from}
 use Rattle.scan_docs.proofs.name.is_name.Given as goal
 
 abbrev pub invariant-loop-byte : goal.invariant-loop-byte

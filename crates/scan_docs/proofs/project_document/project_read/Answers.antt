@@ -3,12 +3,9 @@ use Rattle.serde_json.specs.View.{view}
 use Rattle.scan_docs.specs.Project.{IsProject}
 use Rattle.scan_docs.specs.ProjectChecks.{project_checks}
 use Rattle.scan_docs.specs.Values.{project_of}
-use Rattle.scan_docs.proofs.Exact.{project_value, project_one_answer}
-use Rattle.scan_docs.proofs.Outcome.{accepted, refused, holds}
+use Rattle.scan_docs.proofs.Exact.{project_value}
+use Rattle.scan_docs.proofs.Each.{accepted, refused, holds}
 use Rattle.scan_docs.proofs.project_document.project_read.Goals as goal
-
-pub returns-in_err-tree-clause-one_answer : goal.returns-in_err-tree-clause-one_answer
-returns-in_err-tree-clause-one_answer c = project_one_answer c.args.bytes.now
 
 pub returns-clause-accepted : goal.returns-clause-accepted
 returns-clause-accepted c =
@@ -19,9 +16,6 @@ pub returns-clause-refused : goal.returns-clause-refused
 returns-clause-refused c =
     let read = c.in_ok-tree.ensures.read in
     refused (λ x. x) project_checks IsProject c.args.bytes.now (view c.in_ok-tree.tree) read.0 read.1 c.read_project.result c.read_project.ensures
-
-pub returns-clause-one_answer : goal.returns-clause-one_answer
-returns-clause-one_answer c = project_one_answer c.args.bytes.now
 
 pub returns-clause-value : goal.returns-clause-value
 returns-clause-value c =

@@ -5,7 +5,7 @@ use Rattle.scan_docs.specs.Scan.{IsProvidedModule}
 use Rattle.scan_docs.specs.ScanChecks.{provided_checks}
 use Rattle.scan_docs.specs.declared.fault.Place.TheVariants as place
 use Rattle.scan_docs.specs.ScanChecks.{all_provided_checks}
-use Rattle.scan_docs.proofs.Each.{one_more, refused_at, all_read}
+use Rattle.scan_docs.proofs.Each.{one_more, refused_at}
 use Rattle.scan_docs.proofs.rule.read_all_provided.Goals as goal
 
 pub returns-in_err-pair : goal.returns-in_err-pair
@@ -17,7 +17,3 @@ returns-in_err-pair c =
 pub loop-entry-preserved : goal.loop-entry-preserved
 loop-entry-preserved c =
     rw c.in_ok-push.ensures.items (one_more view (λ entry d. provided_checks c.args.setting.now (option_copied c.args.work) (place.Provides c.args.rule entry) d) (IsProvidedModule c.args.setting.now (option_copied c.args.work)) c.args.entries.now c.loop-entry.entry c.index-entries-entry.result c.in_ok-pair.pair c.loop-entry.found.items c.loop-entry-test.true c.index-entries-entry.is c.in_ok-pair.ensures.0 c.in_ok-pair.ensures.1 c.loop-entry.invariant)
-
-pub returns : goal.returns
-unfolding all_provided_checks
-returns c = all_read view (λ entry d. provided_checks c.args.setting.now (option_copied c.args.work) (place.Provides c.args.rule entry) d) (IsProvidedModule c.args.setting.now (option_copied c.args.work)) c.args.entries.now c.loop-entry.entry c.loop-entry.found.items c.loop-entry-test.false c.loop-entry.invariant

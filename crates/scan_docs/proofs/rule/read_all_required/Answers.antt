@@ -4,7 +4,7 @@ use Rattle.scan_docs.specs.Scan.{IsRequired}
 use Rattle.scan_docs.specs.ScanChecks.{required_checks}
 use Rattle.scan_docs.specs.declared.fault.Place.TheVariants as place
 use Rattle.scan_docs.specs.ScanChecks.{all_required_checks}
-use Rattle.scan_docs.proofs.Each.{one_more, refused_at, all_read}
+use Rattle.scan_docs.proofs.Each.{one_more, refused_at}
 use Rattle.scan_docs.proofs.rule.read_all_required.Goals as goal
 
 pub returns-in_err-name : goal.returns-in_err-name
@@ -16,7 +16,3 @@ returns-in_err-name c =
 pub loop-entry-preserved : goal.loop-entry-preserved
 loop-entry-preserved c =
     rw c.in_ok-push.ensures.items (one_more view (λ entry d. required_checks (place.Requires c.args.rule entry) d) IsRequired c.args.entries.now c.loop-entry.entry c.index-entries-entry.result c.in_ok-name.name c.loop-entry.found.items c.loop-entry-test.true c.index-entries-entry.is c.in_ok-name.ensures.0 c.in_ok-name.ensures.1 c.loop-entry.invariant)
-
-pub returns : goal.returns
-unfolding all_required_checks
-returns c = all_read view (λ entry d. required_checks (place.Requires c.args.rule entry) d) IsRequired c.args.entries.now c.loop-entry.entry c.loop-entry.found.items c.loop-entry-test.false c.loop-entry.invariant

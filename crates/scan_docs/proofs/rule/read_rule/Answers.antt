@@ -45,52 +45,6 @@ second_long : (p : Place) (ps rs : List Data) → count_limit < length rs → fi
 unfolding count_checks
 second_long p ps rs h = grind (arith, nat_tests)
 
-pub returns-in_err-check_object : goal.returns-in_err-check_object
-unfolding rule_checks rule_shape_checks
-returns-in_err-check_object c =
-    let p = err_from_is_err_and c.from_residual.result c.from_residual.ensures.1 in
-    rw (p.1, p.2) (λ ne. let h = c.in_err-check_object.ensures ne in rw h.0 (ap Some (sym h.1)))
-
-pub returns-in_err-primary_output : goal.returns-in_err-primary_output
-unfolding rule_checks rule_shape_checks
-returns-in_err-primary_output c =
-    let p = err_from_is_err_and c.from_residual-in_err-primary_output.result c.from_residual-in_err-primary_output.ensures.1 in
-    rw (p.1, p.2) (λ ne. let h = c.in_err-primary_output.ensures ne in rw (c.in_ok-check_object.ensures.0, h.0) (ap Some (sym h.1)))
-
-pub returns-in_err-work : goal.returns-in_err-work
-unfolding rule_checks rule_shape_checks
-returns-in_err-work c =
-    let p = err_from_is_err_and c.from_residual-in_err-work.result c.from_residual-in_err-work.ensures.1 in
-    rw (p.1, p.2) (λ ne. let h = c.in_err-work.ensures ne in rw (c.in_ok-check_object.ensures.0, c.in_ok-primary_output.ensures.0, h.0) (ap Some (sym h.1)))
-
-pub returns-in_err-provides : goal.returns-in_err-provides
-unfolding rule_checks rule_shape_checks
-returns-in_err-provides c =
-    let p = err_from_is_err_and c.from_residual-in_err-provides.result c.from_residual-in_err-provides.ensures.1 in
-    rw (p.1, p.2) (λ ne. let h = c.in_err-provides.ensures ne in rw (c.in_ok-check_object.ensures.0, c.in_ok-primary_output.ensures.0, c.in_ok-work.ensures.0, h.0) (ap Some (sym h.1)))
-
-pub returns-in_err-requirements : goal.returns-in_err-requirements
-unfolding rule_checks rule_shape_checks
-returns-in_err-requirements c =
-    let p = err_from_is_err_and c.from_residual-in_err-requirements.result c.from_residual-in_err-requirements.ensures.1 in
-    rw (p.1, p.2) (λ ne. let h = c.in_err-requirements.ensures ne in rw (c.in_ok-check_object.ensures.0, c.in_ok-primary_output.ensures.0, c.in_ok-work.ensures.0, c.in_ok-provides.ensures.0, h.0) (ap Some (sym h.1)))
-
-pub returns-in_default : goal.returns-in_default
-unfolding rule_checks object_checks
-returns-in_default c = λ ne.
-    let shapes = shapes_pass (place.Rule c.args.index) (view c.args.rule.now) c.in_ok-check_object.ensures.0 c.in_ok-primary_output.ensures.0 c.in_ok-work.ensures.0 c.in_ok-provides.ensures.0 c.in_ok-requirements.ensures.0 in
-    let none : None ≡ text m.PrimaryOutput (view c.args.rule.now) = ap option_copied (sym c.in_default.is) ∙ c.in_ok-primary_output.ensures.1 in
-    rw (failure_of_both, shapes, ← none) refl
-
-pub returns-in_err-object : goal.returns-in_err-object
-unfolding rule_checks
-returns-in_err-object c =
-    let shapes = shapes_pass (place.Rule c.args.index) (view c.args.rule.now) c.in_ok-check_object.ensures.0 c.in_ok-primary_output.ensures.0 c.in_ok-work.ensures.0 c.in_ok-provides.ensures.0 c.in_ok-requirements.ensures.0 in
-    let has = ap Some c.as_bytes.ensures.value ∙ ap option_copied (sym c.in-Some.is) ∙ c.in_ok-primary_output.ensures.1 in
-    let object = object_checked c.args.setting.now (place.Rule c.args.index) (view c.args.rule.now) c.as_bytes.result.now (option_copied c.in_ok-work.work) has c.in_ok-work.ensures.1 in
-    let p = err_from_is_err_and c.from_residual-in_err-object.result c.from_residual-in_err-object.ensures.1 in
-    rw (p.1, p.2) (λ ne. rw (failure_of_both, shapes, failure_of_both, object, c.in_err-object.ensures ne))
-
 pub returns-then-provides-gt-COUNT_LIMIT : goal.returns-then-provides-gt-COUNT_LIMIT
 unfolding rule_checks
 returns-then-provides-gt-COUNT_LIMIT c = λ ne.

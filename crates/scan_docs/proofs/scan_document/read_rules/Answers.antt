@@ -1,4 +1,4 @@
-use Rattle.std.proofs.Common.{◌≡◌, ◌≤◌, ◌<◌, List, length, map, true, false, Some, refl, sym, ap, arith}
+use Rattle.std.proofs.Common.{◌≡◌, ◌≤◌, ◌<◌, List, length, map, true, false, refl, arith}
 use Rattle.std.proofs.lemmas.Bool.Decides.{nat_tests}
 use Rattle.std.proofs.lemmas.List.{length-map}
 use Rattle.std.proofs.lemmas.Result.{err_from_is_err_and}
@@ -7,7 +7,7 @@ use Rattle.serde_json.specs.View.{view}
 use Rattle.scan_docs.specs.Scan.{IsRule}
 use Rattle.scan_docs.specs.ScanChecks.{count_limit, is_short, rule_checks, all_rule_checks, scan_checks}
 use Rattle.scan_docs.proofs.Each.{failure_of_both, one_more, refused_at, all_read}
-use Rattle.scan_docs.proofs.Versions.{scan_head}
+use Rattle.scan_docs.proofs.Exact.{scan_head}
 use Rattle.scan_docs.proofs.scan_document.read_rules.Goals as goal
 
 -- a list that is short enough, and one that is not
@@ -16,18 +16,6 @@ short ds h = grind (arith, nat_tests)
 
 long : (ds : List Data) → count_limit < length ds → is_short ds ≡ false
 long ds h = grind (arith, nat_tests)
-
-pub returns-in_err-read_version : goal.returns-in_err-read_version
-unfolding scan_checks
-returns-in_err-read_version c =
-    let p = err_from_is_err_and c.from_residual.result c.from_residual.ensures.1 in
-    rw (p.1, p.2) (λ ne. rw (failure_of_both, scan_head, c.in_err-read_version.ensures ne))
-
-pub returns-in_err-rules : goal.returns-in_err-rules
-unfolding scan_checks
-returns-in_err-rules c =
-    let p = err_from_is_err_and c.from_residual-in_err-rules.result c.from_residual-in_err-rules.ensures.1 in
-    rw (p.1, p.2) (λ ne. let h = c.in_err-rules.ensures ne in rw (failure_of_both, scan_head, c.in_ok-read_version.ensures.0, h.0) (ap Some (sym h.1)))
 
 pub returns-then-rules-gt-COUNT_LIMIT : goal.returns-then-rules-gt-COUNT_LIMIT
 unfolding scan_checks

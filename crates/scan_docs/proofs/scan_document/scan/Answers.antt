@@ -4,9 +4,8 @@ use Rattle.serde_json.specs.View.{view}
 use Rattle.scan_docs.specs.Scan.{AreRules, IsRuleText}
 use Rattle.scan_docs.specs.ScanChecks.{scan_checks}
 use Rattle.scan_docs.specs.Values.{rules_of}
-use Rattle.scan_docs.proofs.Exact.{scan_value, scan_one_answer}
-use Rattle.scan_docs.proofs.Outcome.{accepted, refused, holds}
-use Rattle.scan_docs.proofs.PathTexts.{rules_text}
+use Rattle.scan_docs.proofs.Exact.{scan_value, scan_one_answer, rules_text}
+use Rattle.scan_docs.proofs.Each.{accepted, refused, holds}
 use Rattle.scan_docs.proofs.scan_document.scan.Goals as goal
 
 pub returns-in_err-tree-clause-one_answer : goal.returns-in_err-tree-clause-one_answer

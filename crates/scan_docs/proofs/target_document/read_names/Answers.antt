@@ -1,7 +1,7 @@
 use Rattle.std.proofs.Common.{string_bytes, refl, ap, sym, ◌∙◌}
 use Rattle.std.proofs.lemmas.Bool.{false_from_ne_true}
 use Rattle.scan_docs.specs.Name.{is_name}
-use Rattle.scan_docs.proofs.AllNames.{fails, passes, more, all_pass}
+use Rattle.scan_docs.proofs.Each.{fails, passes, more}
 use Rattle.scan_docs.proofs.target_document.read_names.Goals as goal
 
 pub returns-in_default : goal.returns-in_default
@@ -16,6 +16,3 @@ loop-text-preserved c =
       rest = passes string_bytes is_name c.args.texts.now c.loop-text.text-index c.text-item.result c.loop-text-test.true c.text-item.is (ap is_name (sym c.as_str.ensures.value) ∙ h.0) c.loop-text.invariant.rest;
       read = rw c.in_ok-push.ensures.items (rw (h.1, c.as_str.ensures.value) (more string_bytes is_name c.args.texts.now c.loop-text.text-index c.text-item.result c.loop-text-test.true c.text-item.is c.loop-text.names.items c.loop-text.invariant.read));
     }
-
-pub returns : goal.returns
-returns c = all_pass string_bytes is_name c.args.texts.now c.loop-text.text-index c.loop-text.names.items c.loop-text-test.false c.loop-text.invariant.rest c.loop-text.invariant.read

@@ -4,11 +4,8 @@ use Rattle.scan_docs.specs.Target.{IsTarget}
 use Rattle.scan_docs.specs.TargetChecks.{target_checks}
 use Rattle.scan_docs.specs.Values.{spec_of}
 use Rattle.scan_docs.proofs.Exact.{target_value, target_one_answer}
-use Rattle.scan_docs.proofs.Outcome.{accepted, refused, holds}
+use Rattle.scan_docs.proofs.Each.{accepted, refused, holds}
 use Rattle.scan_docs.proofs.target_document.spec_read.Goals as goal
-
-pub returns-in_err-tree-clause-one_answer : goal.returns-in_err-tree-clause-one_answer
-returns-in_err-tree-clause-one_answer c = target_one_answer c.args.bytes.now
 
 pub returns-clause-accepted : goal.returns-clause-accepted
 returns-clause-accepted c =

@@ -5,7 +5,7 @@ use Rattle.serde_json.specs.Events.{SendsValue}
 use Rattle.scan_docs.specs.Info.{ModuleValue, InfoValue}
 use Rattle.scan_docs.specs.InfoText.{IsModuleText, module_tree, info_tree}
 use Rattle.scan_docs.specs.Sound.{IsSoundModule, IsSoundInfo}
-use Rattle.scan_docs.proofs.Elements.{All-grow, All-end}
+use Rattle.scan_docs.proofs.Each.{All-grow, All-end}
 use Rattle.scan_docs.proofs.Sending.{entry_sent, array_sent}
 use Rattle.scan_docs.proofs.info_text.InfoDocumentSerialize.serialize.Goals as goal
 
