@@ -136,12 +136,6 @@ module _ {X : Type 0} (f : X → List ℕ) (xs : List X) (j : ℕ) (x : X) (keys
     (same : keys ≡ take j xs) (all : AllDiffer (map f (take j xs)))
     (put : new ≡ cond (list_any (λ k. bytes_eq (f x) (f k)) keys) keys (keys ++ x ∷ [])) where
   -- it was there
-  pub repeats_if_found : (i : ℕ) → false ≡ not (list_any (λ k. bytes_eq (f x) (f k)) keys) → (y : X) → slice_get new i ≡ Some y → bytes_eq (f x) (f y) ≡ true → RepeatsFirst (map f xs) i j
-  repeats_if_found i old y stored alike =
-      let found = found_if _ old in
-      let kept : new ≡ take j xs = put ∙ ap (λ b. cond b keys (keys ++ x ∷ [])) found ∙ same in
-      repeats f xs i j x y at all (ap (λ ks. slice_get ks i) (sym kept) ∙ stored) alike
-
   pub repeats_if_there : false ≡ not (list_any (λ k. bytes_eq (f x) (f k)) keys) → (i : ℕ) × RepeatsFirst (map f xs) i j
   repeats_if_there old =
       let y = found_at f keys x (found_if _ old) in

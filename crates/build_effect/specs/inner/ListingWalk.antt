@@ -3,7 +3,6 @@
 -- `specs/ListingFaults.antt` and `specs/ListingGrammar.antt` say.
 use Rattle.std.specs.Prelude.{◌≡◌, ℕ, Bool, true, false, ◌&&◌, not, nat_lt, if◌then◌else◌, List, [], ◌∷◌, ◌++◌, length, codes, Option, Some, None, Result, Ok, Err}
 use Rattle.std.specs.Option.{option_and_then}
-use Rattle.ninja_text.specs.Lines.{line_limit, text_of_line, is_comment}
 use Rattle.ninja_text.specs.Lexical.{lexical_fault}
 use Rattle.ninja_text.specs.Tokens.{tokens, value_of}
 use Rattle.ninja_text.specs.Assignments.{SeenAssignment, assignment_of}
@@ -19,7 +18,7 @@ use Rattle.build_effect.specs.EdgeValue.{EdgeValue}
 use Rattle.build_effect.specs.ListingGrammar.{bound}
 use Rattle.build_effect.specs.ListingSteps.{ListingValue}
 use Rattle.build_effect.specs.declared.fault.LineCause.{LineCause}
-use Rattle.build_effect.specs.declared.fault.LineCause.TheVariants.{LineTooLong, Lexical, Form, BadPath}
+use Rattle.build_effect.specs.declared.fault.LineCause.TheVariants.{Lexical, Form, BadPath}
 use Rattle.build_effect.specs.declared.listing.state.Binding.{Binding}
 use Rattle.build_effect.specs.declared.listing.state.Binding.TheVariants.{Closed, Open}
 
@@ -210,12 +209,6 @@ row_cause binding (Ok row) =
 -- the cause of a line, given its text without the end, and whether it is a comment
 abbrev pub text_cause : Binding → List ℕ → Bool → Option LineCause
 text_cause binding text comment = row_cause binding (row_of text comment)
-
--- the cause of a line, its end included; None if it has no cause
-abbrev pub line_cause : Binding → List ℕ → Option LineCause
-line_cause binding line =
-    if nat_lt line_limit (length line) then Some LineTooLong
-    else text_cause binding (text_of_line line) (is_comment line)
 
 -- ---- what one more line does to the edges so far
 
