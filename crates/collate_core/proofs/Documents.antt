@@ -108,19 +108,6 @@ refused_scan bytes documents i other s rules failure fault within so_far is refu
   faulty = inl (subst (ForFault (IsRefused (scan_checks s) (bytes (get_or documents i other)))) is refused);
 }
 
--- all documents are among the first ones
-all_taken : {X : Type 0} (bytes : X → List ℕ) (documents : List X) (i : ℕ) → length documents ≤ i → take i (map bytes documents) ≡ map bytes documents
-all_taken bytes documents i past = take_all i (map bytes documents) (subst (λ n. n ≤ i) (sym (length-map documents bytes)) past)
-
-pub all_scans : {X : Type 0} (bytes : X → List ℕ) (documents : List X) (i : ℕ) (s : SettingValue) (rules : List RuleValue) → length documents ≤ i → ScansSoFar s (map bytes documents) i rules → AreScansAccepted s (map bytes documents)
-all_scans bytes documents i s rules past so_far = subst (AreScansAccepted s) (all_taken bytes documents i past) so_far.accepted
-
-pub rules_of_scans : {X : Type 0} (bytes : X → List ℕ) (documents : List X) (i : ℕ) (s : SettingValue) (rules : List RuleValue) → length documents ≤ i → ScansSoFar s (map bytes documents) i rules → rules ≡ all_rules s (map bytes documents)
-rules_of_scans bytes documents i s rules past so_far = so_far.same ∙ ap (all_rules s) (all_taken bytes documents i past)
-
-pub all_infos : {X : Type 0} (bytes : X → List ℕ) (documents : List X) (i : ℕ) (infos : List InfoValue) → length documents ≤ i → AreReadAs (take i (map bytes documents)) infos → AreReadAs (map bytes documents) infos
-all_infos bytes documents i infos past so_far = subst (λ (ds : List (List ℕ)). AreReadAs ds infos) (all_taken bytes documents i past) so_far
-
 pub refused_info : {X : Type 0} (bytes : X → List ℕ) (documents : List X) (i : ℕ) (other : X) (infos : List InfoValue) (failure : Failure DocFault) (fault : DocFault) → i < length documents →
     AreReadAs (take i (map bytes documents)) infos → failure ≡ Fault fault → ForFault (IsRefused info_checks (bytes (get_or documents i other))) failure → IsInfoRefusal (map bytes documents) i fault
 refused_info bytes documents i other infos failure fault within so_far is refused = record {
@@ -181,10 +168,6 @@ pub more_modules : (kept : List (List ℕ)) (t : TableValue) (index : ℕ) (rule
 more_modules kept t index rule required modules here same so_far =
     ap (λ xs. xs ++ modules_of kept (rule, required)) so_far ∙ sym (flat_map_last (modules_of kept) (take index (tasks_of t)) (rule, required))
     ∙ ap (flat_map (modules_of kept)) (sym (take_next (tasks_of t) index (rule, required) (task_here t index rule required here same)))
-
--- the modules of all objects
-pub all_modules : (kept : List (List ℕ)) (t : TableValue) (index : ℕ) → length t.objects ≤ index → flat_map (modules_of kept) (take index (tasks_of t)) ≡ flat_map (modules_of kept) (tasks_of t)
-all_modules kept t index past = ap (flat_map (modules_of kept)) (all_tasks t index past)
 
 -- ---- the info of a table: its paths are text, if those of the table are, and it can be read again
 

@@ -1,5 +1,5 @@
 -- From what the parts of collating promise to what a target collates to, and to its rejection.
-use Rattle.std.proofs.Common.{◌≡◌, Result, Ok, Err, subst, sym, IfOk, MatchResult, IsErrAnd, ℕ, List, ◌++◌, [], ◌∷◌, map, Option, Some, None, length, refl, All, zero, suc, ◌+◌, ◌<◌, ap, ◌∙◌, inl, inr, arith, slice_get, Vec, OnOk, IfSome, flat_map}
+use Rattle.std.proofs.Common.{◌≡◌, Result, Ok, Err, subst, sym, IfOk, MatchResult, IsErrAnd, ℕ, List, ◌++◌, [], ◌∷◌, map, Option, Some, None, length, refl, All, zero, suc, ◌+◌, ◌<◌, ap, ◌∙◌, inl, inr, arith, slice_get, Vec, OnOk, IfSome, flat_map, IfErr}
 use Rattle.ninja_text.specs.Failure.{ForFault, Turns}
 use Rattle.ninja_text.specs.declared.failure.Failure.{Failure}
 use Rattle.ninja_text.specs.declared.failure.Failure.TheVariants.{Memory, Fault}
@@ -61,6 +61,13 @@ pub value_stays : {T E D : Type 0} (P : T → Type 0) (R : E → D → Type 0) (
 value_stays P R (Ok x) new same h = subst (λ r. IfOk r P) (sym same) h
 value_stays P R (Err e) (Ok x) same h = absurd same
 value_stays P R (Err e) (Err d) same h = tt
+
+-- what holds of what the error is turned into, by what holds of the error
+pub error_turned : {T E D : Type 0} (R : E → D → Type 0) (P : E → Type 0) (Q : D → Type 0) → ((e : E) (d : D) → R e d → P e → Q d) →
+    (old : Result T E) (new : Result T D) → MatchResult old (λ x. new ≡ Ok x) (λ e. IsErrAnd new (R e)) → IfErr old P → IfErr new Q
+error_turned R P Q step (Ok x) new same h = subst (λ r. IfErr r Q) (sym same) tt
+error_turned R P Q step (Err e) (Ok x) same h = absurd same
+error_turned R P Q step (Err e) (Err d) same h = step e d same h
 
 -- ---- what a reader of dyndep files reports of the bytes so far is what it reports of the whole text
 
@@ -168,6 +175,12 @@ pub maps_refused : (style : Option Written) (t : TableValue) (ss : List Statemen
 maps_refused style t ss same fits Memory h = tt
 maps_refused style t ss same fits (Fault refusal) h = λ target table resolved.
     maps_refusal target style resolved (subst (λ xs. write_fault xs ≡ None) (same ∙ ap statements_of table) fits) refusal (subst (λ u. IsMapsRefusal u style refusal) table h)
+
+-- of a target whose documents have this table
+pub texts_refused : (target : TargetValue) (style : Option Written) (t : TableValue) → t ≡ table_of target → IsResolved target →
+    (failure : Failure Refusal) → ForFault (IsTextsRefusal t style) failure → ForFault (IsRefusal target style) failure
+texts_refused target style t table resolved Memory h = tt
+texts_refused target style t table resolved (Fault refusal) h = h target table resolved
 
 -- each text is that of its object's map
 abbrev pub EachMap : TableValue → Written → List (List ℕ) → Type 0

@@ -1,4 +1,4 @@
-use Rattle.std.proofs.Common.{◌≡◌, List, [], map, None, Ok, refl, ap, subst, IsUtf8, All}
+use Rattle.std.proofs.Common.{◌≡◌, List, [], map, None, Ok, refl, ap, subst, IsUtf8, All, sym}
 use Rattle.std.proofs.lemmas.Result.{err_from_is_err_and}
 use Rattle.dyndep_file.specs.StatementValue.{StatementValue}
 use Rattle.dyndep_file.specs.WriteFaults.{text_or_fault}
@@ -12,7 +12,9 @@ use Rattle.collate_core.specs.Statements.{statements_of}
 use Rattle.collate_core.specs.Infos.{info_of_table}
 use Rattle.collate_core.specs.Collation.{HasPaths, Collates}
 use Rattle.collate_core.specs.inner.Parts.{HasSpelled}
-use Rattle.collate_core.proofs.Parts.{collates, any_style, has_paths}
+use Rattle.collate_core.specs.Refusals.{IsRefusal}
+use Rattle.collate_core.specs.declared.fault.RefusedTarget.{RefusedTarget}
+use Rattle.collate_core.proofs.Parts.{collates, any_style, has_paths, texts_refused, write_refused, turned}
 use Rattle.collate_core.proofs.Documents.{info_is_sound}
 use Rattle.collate_core.proofs.collating.collate_dyndep_or_refused.Goals as goal
 
@@ -20,6 +22,15 @@ pub returns-in_err-table-clause-refused : goal.returns-in_err-table-clause-refus
 returns-in_err-table-clause-refused c =
     let p = err_from_is_err_and c.from_residual.result c.from_residual.ensures.1 in
     rw (p.1, p.2) (any_style c.args.target.now None _ c.in_err-table.ensures.refused)
+
+pub returns-clause-refused : goal.returns-clause-refused
+returns-clause-refused c =
+    let target : TargetValue = c.args.target.now in
+    let table = c.in_ok-table.ensures in
+    let refused = texts_refused target None c.in_ok-table.table table.table table.resolved _
+    (write_refused None c.in_ok-table.table (statements_of c.into_resolved-resolved.result) (ap statements_of c.into_resolved-resolved.ensures) _ c.in-Err.ensures.refused) in
+    turned (λ refusal (refused : RefusedTarget). refused.refusal ≡ refusal) (IsRefusal target None) (λ (refused : RefusedTarget). IsRefusal target None refused.refusal)
+    (λ refusal refused same h. subst (IsRefusal target None) (sym same) h) c.in-Err.failure c.nothing_read.result c.nothing_read.ensures refused
 
 -- what the target collates to has the text, and the info that is not written
 pub returns-in-Ok-clause-dyndep : goal.returns-in-Ok-clause-dyndep

@@ -1,5 +1,4 @@
 use Rattle.std.proofs.Common.{rules, ◌<◌, [], ◌∷◌, length, map, subst, sym, ap, ◌∙◌, arith, length-append}
-use Rattle.std.proofs.lemmas.List.{length-map}
 use Rattle.std.proofs.lemmas.Result.{err_from_is_err_and}
 use Rattle.module_table.specs.TableValue.{TableValue}
 use Rattle.module_maps.specs.Maps.{Written}
@@ -26,7 +25,3 @@ loop-object-preserved g c =
       each = subst (λ xs. EachMap t written (map (λ m. m.items) xs)) (sym items)
           (more_maps t written c.loop-object.texts.items c.loop-object.object text c.loop-object.invariant.count c.loop-object.invariant.each c.in_ok-map_text.ensures.text);
     }
-
-pub returns-clause-maps : goal.returns-clause-maps
-returns-clause-maps g c = rw c.in-Some.is
-    (omega (arith, length-map c.loop-object.texts.items (λ m. m.items), c.loop-object.invariant.count, c.loop-object-test.false, c.loop-object.auto.object-end, ap length c.objects-object-end.ensures.objects), c.loop-object.invariant.each)

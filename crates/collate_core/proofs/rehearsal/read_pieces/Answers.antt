@@ -1,4 +1,4 @@
-use Rattle.std.proofs.Common.{◌≡◌, ℕ, List, [], ◌++◌, refl, ap, sym, ◌∙◌, append_assoc, append-nil}
+use Rattle.std.proofs.Common.{◌≡◌, ℕ, List, [], ◌++◌, ap, sym, ◌∙◌, append_assoc, append-nil}
 use Rattle.std.proofs.lemmas.List.{take-append-drop}
 use Rattle.std.proofs.lemmas.Result.{err_from_is_err_and}
 use Rattle.collate_core.proofs.Parts.{reported}
@@ -7,9 +7,6 @@ use Rattle.collate_core.proofs.rehearsal.read_pieces.Goals as goal
 -- a piece of the rest, and what comes after it
 whole : (text fed rest piece more : List ℕ) → text ≡ fed ++ rest → rest ≡ piece ++ more → text ≡ (fed ++ piece) ++ more
 whole text fed rest piece more first second = first ∙ ap (λ x. fed ++ x) second ∙ sym (append_assoc fed piece more)
-
-pub loop-cut-init : goal.loop-cut-init
-loop-cut-init c = ([], refl, c.new-reader.ensures)
 
 pub returns-in_err-feed-clause-refused : goal.returns-in_err-feed-clause-refused
 returns-in_err-feed-clause-refused c =

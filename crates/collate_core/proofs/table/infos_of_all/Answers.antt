@@ -4,7 +4,7 @@ use Rattle.scan_docs.specs.Info.{IsInfo}
 use Rattle.scan_docs.specs.InfoChecks.{info_checks}
 use Rattle.collate_core.specs.Refusals.{IsInfoRefusal}
 use Rattle.collate_core.specs.inner.ReadInfos.{AreReadAs}
-use Rattle.collate_core.proofs.Documents.{all_infos, lent_infos, refused_info}
+use Rattle.collate_core.proofs.Documents.{lent_infos, refused_info}
 use Rattle.collate_core.proofs.table.infos_of_all.Goals as goal
 
 pub returns-in-Err-Fault-clause-refused : goal.returns-in-Err-Fault-clause-refused
@@ -22,6 +22,3 @@ loop-index-preserved c =
       value = c.in-Ok.ensures.value;
       text = c.in-Ok.ensures.text;
     }))
-
-pub returns-clause-read : goal.returns-clause-read
-returns-clause-read c = all_infos (λ info. info.now) c.args.documents.now c.loop-index.index c.loop-index.infos.items c.loop-index-test.false c.loop-index.invariant

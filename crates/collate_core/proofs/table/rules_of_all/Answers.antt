@@ -5,7 +5,7 @@ use Rattle.scan_docs.specs.ScanChecks.{scan_checks}
 use Rattle.scan_docs.specs.Values.{rules_of}
 use Rattle.collate_core.specs.Documents.{IsScanAccepted}
 use Rattle.collate_core.specs.Refusals.{IsScanRefusal}
-use Rattle.collate_core.proofs.Documents.{ScansSoFar, all_scans, rules_of_scans, lent_scans, past_limit, refused_scan}
+use Rattle.collate_core.proofs.Documents.{ScansSoFar, lent_scans, past_limit, refused_scan}
 use Rattle.collate_core.proofs.table.rules_of_all.Goals as goal
 
 accepted : (s : SettingValue) (scan : List ℕ) (rules : List RuleValue) → rules ≡ rules_of s scan → IsAccepted (scan_checks s) (AreRules s) scan rules → IsScanAccepted s scan
@@ -32,12 +32,3 @@ loop-index-preserved c =
     let short : length (rules ++ more) ≤ 65536 = omega (arith, length-append rules more, c.loop-index.invariant.short, c.if-len.false, c.len.ensures, c.len-in-Ok.ensures) in
     subst (ScansSoFar c.args.setting.now (map (λ scan. scan.now) c.args.scans.now) (i + 1)) (sym c.in_ok-append-in-Ok.ensures.items)
     (lent_scans (λ scan. scan.now) c.args.scans.now i _ c.args.setting.now rules more c.loop-index-test.true c.loop-index.invariant (accepted c.args.setting.now _ more c.in-Ok.ensures.value c.in-Ok.ensures.accepted) c.in-Ok.ensures.value c.in-Ok.ensures.text short)
-
-pub returns-clause-accepted : goal.returns-clause-accepted
-returns-clause-accepted c = all_scans (λ scan. scan.now) c.args.scans.now c.loop-index.index c.args.setting.now c.loop-index.rules.items c.loop-index-test.false c.loop-index.invariant
-
-pub returns-clause-rules : goal.returns-clause-rules
-returns-clause-rules c = rules_of_scans (λ scan. scan.now) c.args.scans.now c.loop-index.index c.args.setting.now c.loop-index.rules.items c.loop-index-test.false c.loop-index.invariant
-
-pub returns-clause-text : goal.returns-clause-text
-returns-clause-text c = c.loop-index.invariant.text
