@@ -12,7 +12,7 @@ from collections import defaultdict
 
 from tests.reading import CRATES, TOP, functions
 
-SHARES = {"ninja_text": 23, "dep_order": 37, "dyndep_file": 31, "table_keys": 0, "scan_docs": 31, "module_maps": 32, "module_table": 46,
+SHARES = {"ninja_text": 23, "dep_order": 37, "dyndep_file": 31, "table_keys": 0, "scan_docs": 31, "module_maps": 30, "module_table": 46,
           "build_effect": 37, "collate_core": 33, "command_line": 75, "commands": 35, "dyncollate": 56, "in_memory": 20, "c_library": 0}
 
 

@@ -28,18 +28,15 @@ use Rattle.module_maps.specs.map_laws.ClangLemmas.{RisesBehind, last-entry, map_
 use Rattle.module_maps.proofs.LinesOnly.{pair-is, EachBehind, IsLineOf, lines-only, none-unfit, some-module, path-is}
 
 -- what follows a prefix
-behind-is : (prefix text rest : List ℕ) → behind prefix text ≡ Some rest →
-    text ≡ prefix ++ rest
-behind-is prefix text rest e = by (bytes_eq (take (length prefix) text) prefix) refl e
-  where
-    by : (t : Bool) → bytes_eq (take (length prefix) text) prefix ≡ t →
-        cond t (Some (drop (length prefix) text)) None ≡ Some rest → text ≡ prefix ++ rest
-    by false is found = absurd cc
-    by true is found =
-        let front : take (length prefix) text ≡ prefix =
-        (bytes_eq-Decides (take (length prefix) text) prefix).0 is in
-        let back : drop (length prefix) text ≡ rest = cc in
-        sym (take-append-drop (length prefix) text) ∙ ap₂ (λ (a b : List ℕ). a ++ b) front back
+behind-is : (prefix text rest : List ℕ) → behind prefix text ≡ Some rest → text ≡ prefix ++ rest
+behind-is prefix text rest e = by (bytes_eq (take (length prefix) text) prefix) refl e where
+  by : (t : Bool) → bytes_eq (take (length prefix) text) prefix ≡ t →
+      cond t (Some (drop (length prefix) text)) None ≡ Some rest → text ≡ prefix ++ rest
+  by false is found = absurd cc
+  by true is found =
+      let front : take (length prefix) text ≡ prefix = (bytes_eq-Decides (take (length prefix) text) prefix).0 is in
+      let back : drop (length prefix) text ≡ rest = cc in
+      sym (take-append-drop (length prefix) text) ∙ ap₂ (λ (a b : List ℕ). a ++ b) front back
 
 -- a line that is read is that of a module which fits, and whose name rises
 abbrev IsFile : List MapEntry → List ℕ × List ℕ → Type 0
@@ -49,49 +46,40 @@ IsFile entries x = IsModulePair x × (is_fit x.1 ≡ true) × RisesBehind entrie
 abbrev IsFileLine : List MapEntry → List ℕ → MapEntry → Type 0
 IsFileLine entries text e = IsLineOf file_line named IsFile entries text e
 
-file-only : (entries : List MapEntry) (text : List ℕ) (e : MapEntry) →
-    clang_form entries text ≡ Some e → IsFileLine entries text e
-file-only entries text e read = by (behind file_flag text) refl read
-  where
-    rising : (rest : List ℕ) (x : List ℕ × List ℕ) → behind file_flag text ≡ Some rest →
-        pair_in 61 rest ≡ Some x →
-        (t : Bool) → rises_behind (slice_get entries (length entries - 1)) x.0 ≡ t →
-        cond t (Some (named x)) None ≡ Some e → IsFileLine entries text e
-    rising rest x is pair false up found = absurd cc
-    rising rest x is pair true up found =
-        let facts = pair-is 61 rest x pair in
-        let same : named x ≡ e = cc in
-        let whole : text ≡ file_line x =
-        behind-is file_flag text rest is ∙ ap (λ t. file_flag ++ t) facts.0 in
-        (x, whole, sym same, (facts.1, facts.2, up))
+file-only : (entries : List MapEntry) (text : List ℕ) (e : MapEntry) → clang_form entries text ≡ Some e → IsFileLine entries text e
+file-only entries text e read = by (behind file_flag text) refl read where
+  rising : (rest : List ℕ) (x : List ℕ × List ℕ) → behind file_flag text ≡ Some rest → pair_in 61 rest ≡ Some x →
+      (t : Bool) → rises_behind (slice_get entries (length entries - 1)) x.0 ≡ t →
+      cond t (Some (named x)) None ≡ Some e → IsFileLine entries text e
+  rising rest x is pair false up found = absurd cc
+  rising rest x is pair true up found =
+      let facts = pair-is 61 rest x pair in
+      let same : named x ≡ e = cc in
+      let whole : text ≡ file_line x = behind-is file_flag text rest is ∙ ap (λ t. file_flag ++ t) facts.0 in
+      (x, whole, sym same, (facts.1, facts.2, up))
 
-    paired : (rest : List ℕ) (o : Option (List ℕ × List ℕ)) →
-        behind file_flag text ≡ Some rest → pair_in 61 rest ≡ o →
-        file_entry entries o ≡ Some e → IsFileLine entries text e
-    paired rest None is pair found = absurd cc
-    paired rest (Some x) is pair found =
-        rising rest x is pair
-        (rises_behind (slice_get entries (length entries - 1)) x.0) refl found
+  paired : (rest : List ℕ) (o : Option (List ℕ × List ℕ)) → behind file_flag text ≡ Some rest → pair_in 61 rest ≡ o →
+      file_entry entries o ≡ Some e → IsFileLine entries text e
+  paired rest None is pair found = absurd cc
+  paired rest (Some x) is pair found =
+      rising rest x is pair
+      (rises_behind (slice_get entries (length entries - 1)) x.0) refl found
 
-    by : (o : Option (List ℕ)) → behind file_flag text ≡ o →
-        file_entry entries (file_pair o) ≡ Some e → IsFileLine entries text e
-    by None is found = absurd cc
-    by (Some rest) is found = paired rest (pair_in 61 rest) is refl found
+  by : (o : Option (List ℕ)) → behind file_flag text ≡ o → file_entry entries (file_pair o) ≡ Some e → IsFileLine entries text e
+  by None is found = absurd cc
+  by (Some rest) is found = paired rest (pair_in 61 rest) is refl found
 
 -- the names of modules that were read rise
 before : (a b : List ℕ) → is_lt (slice_cmp nat_cmp a b) ≡ true → Precedes a b
-before a b e = by (slice_cmp nat_cmp a b) e
-  where
-    by : (o : Ordering) → is_lt o ≡ true → o ≡ Less
-    by Less e = refl
-    by Equal e = absurd cc
-    by Greater e = absurd cc
+before a b e = by (slice_cmp nat_cmp a b) e where
+  by : (o : Ordering) → is_lt o ≡ true → o ≡ Less
+  by Less e = refl
+  by Equal e = absurd cc
+  by Greater e = absurd cc
 
-next-is : (entries : List MapEntry) (x y : List ℕ × List ℕ) →
-    IsFile (entries ++ named x ∷ []) y → Precedes x.0 y.0
+next-is : (entries : List MapEntry) (x y : List ℕ × List ℕ) → IsFile (entries ++ named x ∷ []) y → Precedes x.0 y.0
 next-is entries x y is =
-    let behind_x : rises_behind (Some (named x)) y.0 ≡ true =
-    ap (λ o. rises_behind o y.0) (sym (last-entry entries (named x))) ∙ is.2 in
+    let behind_x : rises_behind (Some (named x)) y.0 ≡ true = ap (λ o. rises_behind o y.0) (sym (last-entry entries (named x))) ∙ is.2 in
     before x.0 y.0 behind_x
 
 -- the name comes before all of these
@@ -103,8 +91,7 @@ rest-rises : (first x : List ℕ × List ℕ) (entries : List MapEntry) (xs : Pa
     PrecedesAll first.0 xs
 rest-rises first x entries [] less each = tt
 rest-rises first x entries (y ∷ ys) less each =
-    let next : Precedes first.0 y.0 =
-    nat_list_cmp_total.trans first.0 x.0 y.0 less (next-is entries x y each.0) in
+    let next : Precedes first.0 y.0 = nat_list_cmp_total.trans first.0 x.0 y.0 less (next-is entries x y each.0) in
     (next, rest-rises first y (entries ++ named x ∷ []) ys next each.1)
 
 rises-from : (entries : List MapEntry) (x : List ℕ × List ℕ) (xs : Pairs) →
@@ -114,16 +101,14 @@ rises-from entries x (y ∷ ys) each =
     let next : Precedes x.0 y.0 = next-is entries x y each.0 in
     (next, rest-rises x y (entries ++ named x ∷ []) ys next each.1)
 
-rising-only : (entries : List MapEntry) (xs : Pairs) → EachBehind named IsFile entries xs →
-    IsRising xs
+rising-only : (entries : List MapEntry) (xs : Pairs) → EachBehind named IsFile entries xs → IsRising xs
 rising-only entries [] each = λ i j d less within. absurd (omega (arith, less, within))
 rising-only entries (x ∷ xs) each =
     AllPairs-cons (λ (a b : List ℕ × List ℕ). Precedes a.0 b.0) x xs
     (All-from_recursion (λ (y : List ℕ × List ℕ). Precedes x.0 y.0) xs (rises-from entries x xs each.1))
     (rising-only (entries ++ named x ∷ []) xs each.1)
 
-modules-of : (entries : List MapEntry) (xs : Pairs) → EachBehind named IsFile entries xs →
-    AreModules xs × AreFit xs
+modules-of : (entries : List MapEntry) (xs : Pairs) → EachBehind named IsFile entries xs → AreModules xs × AreFit xs
 modules-of entries [] each = (tt, tt)
 modules-of entries (x ∷ xs) each =
     let rest = modules-of (entries ++ named x ∷ []) xs each.1 in
@@ -155,8 +140,7 @@ files-only lines found e =
 abbrev provided_text : List ℕ → List ℕ → List ℕ
 provided_text path rest = module_flag ++ 10 ∷ (output_flag ++ path) ++ 10 ∷ rest
 
-provided-only : (path : List ℕ) (lines : List (List ℕ)) (found : List MapEntry) →
-    IsPath path → is_fit path ≡ true →
+provided-only : (path : List ℕ) (lines : List (List ℕ)) (found : List MapEntry) → IsPath path → is_fit path ≡ true →
     read_lines clang_form (record { name = None; path = path } ∷ []) 3 lines ≡ Ok found →
     IsWritten (provided_text path (join_with_byte 10 lines)) found
 provided-only path lines found is fit e =
@@ -167,8 +151,7 @@ provided-only path lines found is fit e =
     let m : ModuleMapValue = map_with (x ∷ []) w.xs in
     let fits : first_unfit (x ∷ w.xs) ≡ None = none-unfit (x ∷ w.xs) (fit, both.1) in
     let same : clang_text m ≡ provided_text path (join_with_byte 10 lines) =
-    ap (λ t. module_flag ++ 10 ∷ (output_flag ++ t)) (one-text path (lines_text file_line w.xs))
-    ∙ ap (provided_text path) (sym w.text) in
+    ap (λ t. module_flag ++ 10 ∷ (output_flag ++ t)) (one-text path (lines_text file_line w.xs)) ∙ ap (provided_text path) (sym w.text) in
     record {
       value = m;
       is_map = record {
@@ -184,50 +167,42 @@ provided-only path lines found is fit e =
 abbrev IsOutputLine : List ℕ → List ℕ → Type 0
 IsOutputLine line path = (line ≡ output_flag ++ path) × IsPath path × (is_fit path ≡ true)
 
-output-is : (line path : List ℕ) → output_path (behind output_flag line) ≡ Some path →
-    IsOutputLine line path
-output-is line path e = by (behind output_flag line) refl e
-  where
-    by : (o : Option (List ℕ)) → behind output_flag line ≡ o → output_path o ≡ Some path →
-        IsOutputLine line path
-    by None is found = absurd cc
-    by (Some rest) is found =
-        let facts = path-is rest path found in (
-          behind-is output_flag line rest is ∙ ap (λ t. output_flag ++ t) (sym facts.0),
-          subst IsPath (sym facts.0) facts.1,
-          subst (λ t. is_fit t ≡ true) (sym facts.0) facts.2,
-        )
+output-is : (line path : List ℕ) → output_path (behind output_flag line) ≡ Some path → IsOutputLine line path
+output-is line path e = by (behind output_flag line) refl e where
+  by : (o : Option (List ℕ)) → behind output_flag line ≡ o → output_path o ≡ Some path → IsOutputLine line path
+  by None is found = absurd cc
+  by (Some rest) is found =
+      let facts = path-is rest path found in (
+        behind-is output_flag line rest is ∙ ap (λ t. output_flag ++ t) (sym facts.0),
+        subst IsPath (sym facts.0) facts.1,
+        subst (λ t. is_fit t ≡ true) (sym facts.0) facts.2,
+      )
 
 behind-only : (lines : List (List ℕ)) (found : List MapEntry) →
     read_provided lines ≡ Ok found → IsWritten (module_flag ++ 10 ∷ join_with_byte 10 lines) found
 behind-only [] found e = absurd cc
 behind-only (last ∷ []) found e = absurd cc
-behind-only (line ∷ next ∷ lines) found e = by (output_path (behind output_flag line)) refl e
-  where
-    by : (o : Option (List ℕ)) → output_path (behind output_flag line) ≡ o →
-        read_behind o (next ∷ lines) ≡ Ok found →
-        IsWritten (module_flag ++ 10 ∷ join_with_byte 10 (line ∷ next ∷ lines)) found
-    by None is read = absurd cc
-    by (Some path) is read =
-        let facts = output-is line path is in
-        let rest : List ℕ = join_with_byte 10 (next ∷ lines) in
-        subst (λ t. IsWritten (module_flag ++ 10 ∷ t ++ 10 ∷ rest) found) (sym facts.0)
-        (provided-only path (next ∷ lines) found facts.1 facts.2 read)
+behind-only (line ∷ next ∷ lines) found e = by (output_path (behind output_flag line)) refl e where
+  by : (o : Option (List ℕ)) → output_path (behind output_flag line) ≡ o → read_behind o (next ∷ lines) ≡ Ok found →
+      IsWritten (module_flag ++ 10 ∷ join_with_byte 10 (line ∷ next ∷ lines)) found
+  by None is read = absurd cc
+  by (Some path) is read =
+      let facts = output-is line path is in
+      let rest : List ℕ = join_with_byte 10 (next ∷ lines) in
+      subst (λ t. IsWritten (module_flag ++ 10 ∷ t ++ 10 ∷ rest) found) (sym facts.0)
+      (provided-only path (next ∷ lines) found facts.1 facts.2 read)
 
-read-only : (lines : List (List ℕ)) (found : List MapEntry) → clang_read lines ≡ Ok found →
-    IsWritten (join_with_byte 10 lines) found
+read-only : (lines : List (List ℕ)) (found : List MapEntry) → clang_read lines ≡ Ok found → IsWritten (join_with_byte 10 lines) found
 read-only [] found e = files-only [] found e
 read-only (last ∷ []) found e = files-only (last ∷ []) found e
-read-only (first ∷ next ∷ lines) found e = by (bytes_eq first module_flag) refl e
-  where
-    by : (t : Bool) → bytes_eq first module_flag ≡ t →
-        read_behind_first first (next ∷ lines) t ≡ Ok found →
-        IsWritten (join_with_byte 10 (first ∷ next ∷ lines)) found
-    by false is read = files-only (first ∷ next ∷ lines) found read
-    by true is read =
-        let flag : first ≡ module_flag = (bytes_eq-Decides first module_flag).0 is in
-        subst (λ t. IsWritten (t ++ 10 ∷ join_with_byte 10 (next ∷ lines)) found) (sym flag)
-        (behind-only (next ∷ lines) found read)
+read-only (first ∷ next ∷ lines) found e = by (bytes_eq first module_flag) refl e where
+  by : (t : Bool) → bytes_eq first module_flag ≡ t → read_behind_first first (next ∷ lines) t ≡ Ok found →
+      IsWritten (join_with_byte 10 (first ∷ next ∷ lines)) found
+  by false is read = files-only (first ∷ next ∷ lines) found read
+  by true is read =
+      let flag : first ≡ module_flag = (bytes_eq-Decides first module_flag).0 is in
+      subst (λ t. IsWritten (t ++ 10 ∷ join_with_byte 10 (next ∷ lines)) found) (sym flag)
+      (behind-only (next ∷ lines) found read)
 
 pub clang-only : (text : List ℕ) (found : List MapEntry) → clang_entries text ≡ Ok found →
     IsWrittenText clang_written clang_kept text found

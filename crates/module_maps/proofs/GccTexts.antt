@@ -21,26 +21,23 @@ IsGccModule entries pair = IsModulePair pair × (is_fit pair.1 ≡ true)
 
 line-only : (entries : List MapEntry) (text : List ℕ) (e : MapEntry) →
     gcc_form entries text ≡ Some e → IsLineOf gcc_line named IsGccModule entries text e
-line-only entries text e read = by (pair_in 32 text) refl read
-  where
-    by : (o : Option (List ℕ × List ℕ)) → pair_in 32 text ≡ o → option_map named o ≡ Some e →
-        IsLineOf gcc_line named IsGccModule entries text e
-    by None is found = absurd cc
-    by (Some x) is found =
-        let facts = pair-is 32 text x is in
-        let same : named x ≡ e = cc in
-        (x, facts.0, sym same, (facts.1, facts.2))
+line-only entries text e read = by (pair_in 32 text) refl read where
+  by : (o : Option (List ℕ × List ℕ)) → pair_in 32 text ≡ o → option_map named o ≡ Some e →
+      IsLineOf gcc_line named IsGccModule entries text e
+  by None is found = absurd cc
+  by (Some x) is found =
+      let facts = pair-is 32 text x is in
+      let same : named x ≡ e = cc in
+      (x, facts.0, sym same, (facts.1, facts.2))
 
-modules-of : (entries : List MapEntry) (xs : Pairs) → EachBehind named IsGccModule entries xs →
-    AreModules xs × AreFit xs
+modules-of : (entries : List MapEntry) (xs : Pairs) → EachBehind named IsGccModule entries xs → AreModules xs × AreFit xs
 modules-of entries [] each = (tt, tt)
 modules-of entries (x ∷ xs) each =
     let rest = modules-of (entries ++ named x ∷ []) xs each.1 in
     ((each.0.0, rest.0), (each.0.1, rest.1))
 
 -- what is read was written
-pub gcc-only : (text : List ℕ) (found : List MapEntry) → gcc_entries text ≡ Ok found →
-    IsWrittenText gcc_written gcc_kept text found
+pub gcc-only : (text : List ℕ) (found : List MapEntry) → gcc_entries text ≡ Ok found → IsWrittenText gcc_written gcc_kept text found
 gcc-only text found e =
     let w = lines-only gcc_form gcc_line named IsGccModule line-only [] 1 (lines_of text) found e in
     let m : ModuleMapValue = record { provided = w.xs; needed = [] } in
@@ -54,8 +51,7 @@ gcc-only text found e =
         needed = All-nil IsModulePair;
         rising = λ i j d less within. absurd (omega (arith, less, within));
       };
-      is_written = ap (λ ps. gcc_text ps (first_unfit ps)) pairs
-          ∙ ap (gcc_text w.xs) (none-unfit w.xs both.1) ∙ ap (λ t. Ok t) same;
+      is_written = ap (λ ps. gcc_text ps (first_unfit ps)) pairs ∙ ap (gcc_text w.xs) (none-unfit w.xs both.1) ∙ ap (λ t. Ok t) same;
       is_kept = w.all ∙ sym (ap (map named) pairs);
     }
 

@@ -4,7 +4,7 @@ ghost use Rattle.std.specs.List.{flat_map};
 ghost use Rattle.ninja_text.specs.Failure.{Gives};
 ghost use Rattle.module_maps.specs.Maps.{IsWrittenText, lent_pairs};
 ghost use Rattle.module_maps.specs.MapLines.{ended_line, behind, lines_of};
-ghost use Rattle.module_maps.specs.ClangMaps.{file_line, output_flag, output_path, output_text, clang_text, rises_behind, read_provided};
+ghost use Rattle.module_maps.specs.ClangMaps.{file_line, output_flag, output_path, output_text, rises_behind, read_provided};
 
 use crate::fault::MapFault;
 use crate::map_lines::{
@@ -60,7 +60,12 @@ impl MapStyle for Clang {
                 if map.provided().len() > 1 {
                     return Err(Failure::Fault(MapFault::TwoProvided));
                 }
-                Ok(clang_text(alloc, map)?)
+                let output = b"-x c++-module\n-fmodule-output=\n".len();
+                let len = map.text_len(output, b"-fmodule-file==\n".len());
+                let mut text = Vec::with_capacity(alloc, len)?;
+                push_outputs(&mut text, map.provided())?;
+                push_files(&mut text, map.needed())?;
+                Ok(text)
             }
         }
     }
@@ -150,17 +155,6 @@ fn rises_behind(entries: &[MapEntry], name: &Name) -> bool
         },
         None => true,
     }
-}
-
-/// Returns the text of a map.
-fn clang_text(alloc: Global, map: &ModuleMap<'_>) -> Result<Vec<u8>, AllocError>
-    ensures { IfOk result (λ text. text.items ≡ clang_text map.now) }
-{
-    let output = b"-x c++-module\n-fmodule-output=\n".len();
-    let mut text = Vec::with_capacity(alloc, map.text_len(output, b"-fmodule-file==\n".len()))?;
-    push_outputs(&mut text, map.provided())?;
-    push_files(&mut text, map.needed())?;
-    Ok(text)
 }
 
 fn push_outputs(text: &mut Vec<u8>, pairs: &[(&Name, &Path)]) -> Result<(), AllocError>

@@ -1,5 +1,6 @@
 use Rattle.std.specs.Ordering.{is_ge}
-use Rattle.std.proofs.Common.{Ordering, Less, Equal, Greater, ◌≡◌, ℕ, zero, suc, ◌+◌, ◌-◌, ◌<◌, ◌≤◌, ◌⊎◌, List, length, Some, arith, ap, subst, sym, get_or, true, false, refl, slice_get, inl, inr, Bor}
+use Rattle.std.proofs.Common.{Ordering, Less, Equal, Greater, ◌≡◌, ℕ, ◌+◌, ◌-◌, ◌<◌, ◌≤◌, ◌⊎◌, List, length, Some, arith, subst, sym, get_or, true, false, refl, slice_get, inl, inr, Bor}
+use Rattle.std.proofs.lemmas.Bool.{cases_lt}
 use Rattle.std.proofs.lemmas.Cmp.{nat_list_cmp_total}
 use Rattle.std.proofs.lemmas.List.{length-map}
 use Rattle.ninja_text.proofs.ForCallers.{to_map}
@@ -20,10 +21,7 @@ not_less Greater h e = cc
 
 -- a number up to another is below it, or is it
 up_to : (a n : ℕ) → a < n + 1 → (a < n) ⊎ (a ≡ n)
-up_to zero zero h = inr refl
-up_to zero (suc n) h = inl (omega arith)
-up_to (suc a) zero h = absurd (omega (arith, h))
-up_to (suc a) (suc n) h = elim (up_to a n (omega (arith, h))) [ inl less ↦ inl (omega (arith, less)) | inr same ↦ inr (ap suc same) ]
+up_to a n h = elim (cases_lt a n) [ inl less ↦ inl less | inr past ↦ inr (omega (arith, h, past)) ]
 
 abbrev Pairs : Type 0
 Pairs = List (List ℕ × List ℕ)

@@ -12,9 +12,4 @@ invariant_of-result c =
     }
 
 pub returns-clause-is_map : goal.returns-clause-is_map
-returns-clause-is_map c =
-    record {
-      provided = subst (λ pairs. All IsModulePair (lent_pairs pairs)) c.deref.ensures.value c.bytes_in.ensures;
-      needed = subst (λ pairs. All IsModulePair (lent_pairs pairs)) c.deref-2.ensures.value c.bytes_in-2.ensures;
-      rising = c.requires;
-    }
+returns-clause-is_map c = invariant_of-result c
